@@ -1,0 +1,48 @@
+-- Replies as the program prints them.
+use Rattle.std.specs.Prelude.{ℕ, List, [], ◌∷◌, ◌++◌, codes}
+use Rattle.std.specs.List.{flat_map}
+use Rattle.hac_model.specs.declared.limits.LimitWord.{LimitWord}
+use Rattle.hac_model.specs.declared.limits.LimitWord.TheVariants as limit
+use Rattle.hac_model.specs.declared.replies.Refusal.{Refusal}
+use Rattle.hac_model.specs.declared.replies.Refusal.TheVariants.{BadLine, BadName, Limit}
+use Rattle.hac_model.specs.declared.replies.Reply.{Reply}
+use Rattle.hac_model.specs.declared.replies.Reply.TheVariants.{Lines, Refused}
+
+-- bytes and a line end
+abbrev pub ended : List ℕ → List ℕ
+ended bytes = bytes ++ 10 ∷ []
+
+abbrev pub limit_word : LimitWord → List ℕ
+limit_word limit.Line = codes "line"
+limit_word limit.Name = codes "name"
+limit_word limit.Target = codes "target"
+limit_word limit.Text = codes "text"
+limit_word limit.Query = codes "query"
+limit_word limit.Terms = codes "terms"
+limit_word limit.Nesting = codes "nesting"
+limit_word limit.Texts = codes "texts"
+limit_word limit.Dirs = codes "dirs"
+limit_word limit.Semantics = codes "semantics"
+limit_word limit.Mounts = codes "mounts"
+limit_word limit.Symlinks = codes "symlinks"
+limit_word limit.Path = codes "path"
+limit_word limit.Sessions = codes "sessions"
+limit_word limit.Docs = codes "docs"
+limit_word limit.Items = codes "items"
+limit_word limit.Numbers = codes "numbers"
+limit_word limit.Answers = codes "answers"
+limit_word limit.Store = codes "store"
+
+-- a cause and its detail
+abbrev pub refusal_text : Refusal → List ℕ
+refusal_text BadLine = codes "bad-line"
+refusal_text BadName = codes "bad-name"
+refusal_text (Limit word) = codes "limit " ++ limit_word word
+
+-- data lines and then `ok`, or one line `no CAUSE DETAIL`
+abbrev pub reply_text : Reply → List ℕ
+reply_text (Lines lines) = flat_map ended lines ++ ended (codes "ok")
+reply_text (Refused refusal) = ended (codes "no " ++ refusal_text refusal)
+
+abbrev pub text : List Reply → List ℕ
+text told = flat_map reply_text told

@@ -1,0 +1,9 @@
+//! The language of scripts: lines out of a stream of bytes, commands out of lines, and replies as text.
+//! It knows nothing of what a command does.
+#![tactic(auto)]
+
+mod parsing;
+mod printing;
+
+pub use parsing::{Taken, parse_line};
+pub use printing::print_reply;
