@@ -6,3 +6,4 @@ pub mod Tree
 pub mod Play
 pub mod Printed
 pub mod Answers
+pub mod Laws
