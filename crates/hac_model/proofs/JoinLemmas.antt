@@ -22,17 +22,17 @@ ended_or_not : (a : List ℕ) → (position_or_len is_line_end a < length a) ⊎
 ended_or_not a = elim (eqb (position_or_len is_line_end a) (length a)) as (λ b. eqb (position_or_len is_line_end a) (length a) ≡ b → (position_or_len is_line_end a < length a) ⊎ (position_or_len is_line_end a ≡ length a)) [ true ↦ (λ same. inr (eqb-true _ _ same)) | false ↦ (λ other. inl (grind (arith, prefix_len-le-length (λ b. not (is_line_end b)) a, eqb-false (position_or_len is_line_end a) (length a) other))) ] refl
 
 -- a first line that has its end stays the first line, whatever follows
-position-ended : (a more : List ℕ) → position_or_len is_line_end a < length a → position_or_len is_line_end (a ++ more) ≡ position_or_len is_line_end a
+pub position-ended : (a more : List ℕ) → position_or_len is_line_end a < length a → position_or_len is_line_end (a ++ more) ≡ position_or_len is_line_end a
 position-ended a more h = grind (arith, common_steps, prefix_len-append (λ b. not (is_line_end b)) a more)
 
 -- bytes without a line end end where the next line end stands
-position-unended : (a b : List ℕ) → position_or_len is_line_end a ≡ length a → position_or_len is_line_end (a ++ 10 ∷ b) ≡ length a
+pub position-unended : (a b : List ℕ) → position_or_len is_line_end a ≡ length a → position_or_len is_line_end (a ++ 10 ∷ b) ≡ length a
 position-unended a b e = grind (arith, common_steps, prefix_len-append (λ x. not (is_line_end x)) a (10 ∷ b))
 
-first_line-ended : (a more : List ℕ) → position_or_len is_line_end a < length a → take (position_or_len is_line_end (a ++ more)) (a ++ more) ≡ take (position_or_len is_line_end a) a
+pub first_line-ended : (a more : List ℕ) → position_or_len is_line_end a < length a → take (position_or_len is_line_end (a ++ more)) (a ++ more) ≡ take (position_or_len is_line_end a) a
 first_line-ended a more ended = rw (position-ended a more ended) (take-append-le (position_or_len is_line_end a) a more (omega arith))
 
-after_line-ended : (a more : List ℕ) → position_or_len is_line_end a < length a → drop (position_or_len is_line_end (a ++ more) + 1) (a ++ more) ≡ drop (position_or_len is_line_end a + 1) a ++ more
+pub after_line-ended : (a more : List ℕ) → position_or_len is_line_end a < length a → drop (position_or_len is_line_end (a ++ more) + 1) (a ++ more) ≡ drop (position_or_len is_line_end a + 1) a ++ more
 after_line-ended a more ended = rw (position-ended a more ended) (drop-append-le (position_or_len is_line_end a + 1) a more (omega arith))
 
 -- where the first line has its end, and what is behind it joins
@@ -45,10 +45,10 @@ joined_at_end n a b ended behind =
     ∙ sym (append_assoc (items_of (first_line a)) (script (after_line a)) (script b))
     ∙ ap (λ (items : List Item). items ++ script b) (sym (script-step a))
 
-first_line-unended : (a b : List ℕ) → position_or_len is_line_end a ≡ length a → take (position_or_len is_line_end (a ++ 10 ∷ b)) (a ++ 10 ∷ b) ≡ a
+pub first_line-unended : (a b : List ℕ) → position_or_len is_line_end a ≡ length a → take (position_or_len is_line_end (a ++ 10 ∷ b)) (a ++ 10 ∷ b) ≡ a
 first_line-unended a b unended = rw (position-unended a b unended) (take-append_seam a (10 ∷ b))
 
-after_line-unended : (a b : List ℕ) → position_or_len is_line_end a ≡ length a → drop (position_or_len is_line_end (a ++ 10 ∷ b) + 1) (a ++ 10 ∷ b) ≡ b
+pub after_line-unended : (a b : List ℕ) → position_or_len is_line_end a ≡ length a → drop (position_or_len is_line_end (a ++ 10 ∷ b) + 1) (a ++ 10 ∷ b) ≡ b
 after_line-unended a b unended = rw (position-unended a b unended) (drop-append-add a (10 ∷ b) 1)
 
 -- bytes without a line end are one line
@@ -82,7 +82,7 @@ script-joined-within (suc n) (x ∷ a) b h =
 pub script-joined : (a b : List ℕ) → script (a ++ 10 ∷ b) ≡ script a ++ script b
 script-joined a b = script-joined-within (length a) a b (omega arith)
 
-replies-append : (xs ys : List Item) (tree : Tree) → replies (xs ++ ys) tree ≡ replies xs tree ++ replies ys (tree_after_all xs tree)
+pub replies-append : (xs ys : List Item) (tree : Tree) → replies (xs ++ ys) tree ≡ replies xs tree ++ replies ys (tree_after_all xs tree)
 replies-append [] ys tree = refl
 replies-append (x ∷ xs) ys tree = ap (λ (told : List Reply). reply_of x tree ∷ told) (replies-append xs ys (tree_after x tree))
 

@@ -1,0 +1,3 @@
+pub mod Reading
+pub mod ReaderShape
+pub mod Pieces

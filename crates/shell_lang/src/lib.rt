@@ -4,6 +4,8 @@
 
 mod parsing;
 mod printing;
+mod reading;
 
 pub use parsing::{Taken, parse_line};
 pub use printing::print_reply;
+pub use reading::{LineFault, Piece, Reader};

@@ -1,0 +1,3 @@
+pub mod PrefixLemmas
+pub mod ReaderLemmas
+pub mod GiveLemmas

@@ -1,0 +1,118 @@
+-- A reader at the limit of a script, and a reader that has taken one more piece.
+use Rattle.std.proofs.Common.{◌≡◌, ℕ, ◌+◌, ◌-◌, ◌<◌, ◌≤◌, Bool, true, false, List, [], ◌∷◌, ◌++◌, length, take, refl, ap, sym, ◌∙◌, arith, rules, append_assoc, length-append, append-nil, subst, Option, Some, None}
+use Rattle.std.proofs.lemmas.Bool.{eqb-true}
+use Rattle.std.specs.Prelude.{nat_eq, ⊤, position, not}
+use Rattle.std.proofs.lemmas.List.Folds.{prefix_len-append}
+use Rattle.std.specs.List.{position_or_len}
+use Rattle.std.specs.Io.KnownBytes.{prepend_known, Keeps, Consumes, IsAtEnd}
+use Rattle.std.proofs.lemmas.List.Sums.{prefix_len-le-length}
+use Rattle.std.proofs.lemmas.Grind.{common_steps}
+use Rattle.hac_model.specs.Bytes.{is_line_end}
+use Rattle.hac_model.specs.declared.limits.TheConstants.{SCRIPT_LIMIT}
+use Rattle.shell_lang.specs.Reading.{Reading, IsReading, IsUnended, SameTotal, ReadsOn, ReadsPiece}
+use Rattle.shell_lang.specs.Pieces.{IsPastLimit}
+use Rattle.shell_lang.proofs.PrefixLemmas.{unended-take, position-none}
+
+-- a source that was read beyond the limit has not ended
+not_ended : (ended : Bool) (taken : ℕ) → (ended ≡ true → taken ≤ SCRIPT_LIMIT) → SCRIPT_LIMIT < taken → ended ≡ false
+not_ended true taken within beyond = absurd (omega (arith, within refl))
+not_ended false taken within beyond = refl
+
+-- a line end beyond the limit is the last byte that is held
+pub past_at : (r : Reading) (end : ℕ) → end ≡ position_or_len is_line_end r.held → end < length r.held → IsReading r → SCRIPT_LIMIT ≤ (r.taken - length r.held) + end → IsPastLimit r
+past_at r end place inside sound beyond =
+    let taken : r.taken ≡ SCRIPT_LIMIT + 1 = omega (arith, sound.kept, sound.limit, sound.given) in
+    record {
+      taken = taken;
+      ended = not_ended r.ended r.taken sound.ended (omega arith);
+      held = omega arith;
+      unended = unended-take is_line_end (length r.held - 1) r.held (omega (arith, sound.kept, sound.limit, sound.given));
+    }
+
+-- nor is a line held where there is no line end
+pub past_all : (r : Reading) → IsReading r → IsUnended r.held → SCRIPT_LIMIT < r.taken → IsPastLimit r
+past_all r sound unended beyond =
+    record {
+      taken = omega (arith, sound.limit);
+      ended = not_ended r.ended r.taken sound.ended beyond;
+      held = omega (arith, sound.given);
+      unended = unended-take is_line_end (length r.held - 1) r.held (omega arith);
+    }
+
+pending_piece : (held piece : List ℕ) (before after : Option (List ℕ)) → Consumes before after piece → Keeps (prepend_known held before) (prepend_known (held ++ piece) after)
+pending_piece held piece None after consumed = search rules
+pending_piece held piece (Some left) None consumed = absurd consumed
+pending_piece held piece (Some left) (Some rest) consumed = append_assoc held piece rest ∙ ap (λ (more : List ℕ). held ++ more) (sym consumed)
+
+total_piece : (taken : ℕ) (piece : List ℕ) (before after : Option (List ℕ)) → Consumes before after piece → SameTotal taken before (taken + length piece) after
+total_piece taken piece None after consumed = search rules
+total_piece taken piece (Some left) None consumed = absurd consumed
+total_piece taken piece (Some left) (Some rest) consumed = omega (arith, ap length consumed, length-append piece rest)
+
+-- a piece that was put behind what is held
+pub reads-piece : (old : Reading) (bytes : List ℕ) (count most : ℕ) (before after : Option (List ℕ)) → old.ended ≡ false → length old.held ≤ old.taken →
+    ReadsPiece old.held bytes before after count most → ReadsOn old (record { held = bytes; taken = old.taken + count; ended = nat_eq count 0 }) before after
+reads-piece old bytes count most before after unended kept read =
+    record {
+      pending = subst (λ (all : List ℕ). Keeps (prepend_known old.held before) (prepend_known all after)) (sym read.bytes) (pending_piece old.held read.piece before after read.source);
+      held = (read.piece, read.bytes);
+      taken = omega arith;
+      given = omega (arith, ap length read.bytes, length-append old.held read.piece, read.length_is);
+      total = subst (λ (n : ℕ). SameTotal old.taken before (old.taken + n) after) read.length_is (total_piece old.taken read.piece before after read.source);
+      ended = λ e. read.end (eqb-true count 0 e);
+      stays = λ e. cc;
+    }
+
+keeps_on : (a b c : Option (List ℕ)) → Keeps a b → Keeps b c → Keeps a c
+keeps_on None b c first second = search rules
+keeps_on (Some x) None c first second = absurd first
+keeps_on (Some x) (Some y) None first second = absurd second
+keeps_on (Some x) (Some y) (Some z) first second = second ∙ first
+
+total_on : (m n o : ℕ) (a b c : Option (List ℕ)) → SameTotal m a n b → SameTotal n b o c → SameTotal m a o c
+total_on m n o None b c first second = search rules
+total_on m n o (Some x) None c first second = absurd first
+total_on m n o (Some x) (Some y) None first second = absurd second
+total_on m n o (Some x) (Some y) (Some z) first second = omega arith
+
+-- reading nothing
+pub reads-nothing : (r : Reading) (left : Option (List ℕ)) → (r.ended ≡ true → IsAtEnd left) → ReadsOn r r left left
+reads-nothing r left end =
+    record {
+      pending = keeps_same (prepend_known r.held left);
+      held = ([], sym (append-nil r.held));
+      taken = omega arith;
+      given = refl;
+      total = total_same r.taken left;
+      ended = end;
+      stays = λ e. e;
+    }
+  where
+    keeps_same : (known : Option (List ℕ)) → Keeps known known
+    keeps_same None = search rules
+    keeps_same (Some x) = refl
+
+    total_same : (n : ℕ) (known : Option (List ℕ)) → SameTotal n known n known
+    total_same n None = search rules
+    total_same n (Some x) = refl
+
+-- reading once and once more
+pub reads-on : (r s t : Reading) (a b c : Option (List ℕ)) → ReadsOn r s a b → ReadsOn s t b c → ReadsOn r t a c
+reads-on r s t a b c first second =
+    record {
+      pending = keeps_on (prepend_known r.held a) (prepend_known s.held b) (prepend_known t.held c) first.pending second.pending;
+      held = (first.held.0 ++ second.held.0, second.held.1 ∙ ap (λ (xs : List ℕ). xs ++ second.held.0) first.held.1 ∙ append_assoc r.held first.held.0 second.held.0);
+      taken = omega (arith, first.taken, second.taken);
+      given = second.given ∙ first.given;
+      total = total_on r.taken s.taken t.taken a b c first.total second.total;
+      ended = second.ended;
+      stays = λ e. second.stays (first.stays e);
+    }
+
+-- no line end is found
+pub unended-told : (bytes held : List ℕ) → bytes ≡ held → None ≡ position is_line_end bytes → IsUnended held
+unended-told bytes held same none = subst (λ (xs : List ℕ). IsUnended xs) same (position-none is_line_end bytes (sym none))
+
+-- what has no line end has none after more was read
+pub scanned-piece : (held more : List ℕ) → IsUnended held → length held ≤ position_or_len is_line_end (held ++ more)
+scanned-piece held more unended = grind (arith, common_steps, prefix_len-append (λ b. not (is_line_end b)) held more)

@@ -1,0 +1,64 @@
+-- What a reader gives of the bytes that are pending.
+use Rattle.std.specs.Prelude.{◌≡◌, ℕ, ◌+◌, ◌-◌, ◌<◌, ◌≤◌, Bool, true, false, if◌then◌else◌, nat_le, ⊤, List, [], length, take, Option, None, Some}
+use Rattle.hac_model.specs.Lines.{is_quiet}
+use Rattle.hac_model.specs.Script.{first_line, after_line, is_first_ended}
+use Rattle.hac_model.specs.declared.limits.TheConstants.{LINE_LIMIT, SCRIPT_LIMIT}
+use Rattle.shell_lang.specs.declared.reading.Piece.{Piece}
+use Rattle.shell_lang.specs.declared.reading.Piece.TheVariants.{Blank, Bytes, LongLine, End, PastLimit}
+use Rattle.std.specs.List.{position_or_len}
+use Rattle.hac_model.specs.Bytes.{is_line_end}
+use Rattle.shell_lang.specs.declared.reading.Found.{Found}
+use Rattle.shell_lang.specs.declared.reading.Found.TheVariants.{Ended, Last, Past}
+use Rattle.shell_lang.specs.Reading.{Reading, given, IsUnended}
+
+-- the piece that a line is given as
+abbrev pub piece_of : List ℕ → Piece
+piece_of line = if is_quiet line then Blank else (if nat_le (length line) LINE_LIMIT then Bytes line else LongLine)
+
+-- the piece is the first line of these bytes, which is not the last of a stream that goes on; then the rest is pending
+pub record GivesLine (piece : Piece) (ended : Bool) (bytes rest : List ℕ) : Type 0 where
+  pub line : piece ≡ piece_of (first_line bytes)
+  pub some : 0 < length bytes
+  pub behind : rest ≡ after_line bytes
+  pub whole : ended ≡ false → is_first_ended bytes ≡ true
+
+-- of pending bytes the piece is given, and the rest is pending then
+abbrev pub GivesFrom : Piece → Bool → List ℕ → List ℕ → Type 0
+GivesFrom End ended bytes rest = (bytes ≡ []) × (rest ≡ [])
+GivesFrom PastLimit ended bytes rest = rest ≡ bytes
+GivesFrom Blank ended bytes rest = GivesLine Blank ended bytes rest
+GivesFrom (Bytes line) ended bytes rest = GivesLine (Bytes line) ended bytes rest
+GivesFrom LongLine ended bytes rest = GivesLine LongLine ended bytes rest
+
+-- the same, where the source tells what it has left
+abbrev pub Gives : Piece → Bool → Option (List ℕ) → Option (List ℕ) → Type 0
+Gives piece ended None new = ⊤
+Gives piece ended (Some bytes) None = ⊥
+Gives piece ended (Some bytes) (Some rest) = GivesFrom piece ended bytes rest
+
+-- one byte more than the limit of a script was taken, and no line that ends within the limit is held
+pub record IsPastLimit (reading : Reading) : Type 0 where
+  pub taken : reading.taken ≡ SCRIPT_LIMIT + 1
+  pub ended : reading.ended ≡ false
+  pub held : 0 < length reading.held
+  pub unended : IsUnended (take (length reading.held - 1) reading.held)
+
+-- a line that is given lies within the limit, and the reader has gone on
+pub record GoesOn (old new : Reading) : Type 0 where
+  pub further : given old < given new
+  pub limit : given new ≤ SCRIPT_LIMIT
+
+-- where the piece stands against the limit of a script
+abbrev pub Advances : Piece → Reading → Reading → Type 0
+Advances End old new = new.taken ≤ SCRIPT_LIMIT
+Advances PastLimit old new = IsPastLimit new
+Advances Blank old new = GoesOn old new
+Advances (Bytes line) old new = GoesOn old new
+Advances LongLine old new = GoesOn old new
+
+-- where the first line of what is held ends
+abbrev pub IsFound : Found → Reading → Type 0
+IsFound (Ended end) reading =
+    (end ≡ position_or_len is_line_end reading.held) × (end < length reading.held) × (given reading + end < SCRIPT_LIMIT)
+IsFound Last reading = (reading.ended ≡ true) × IsUnended reading.held
+IsFound Past reading = IsPastLimit reading

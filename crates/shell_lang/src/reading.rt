@@ -1,0 +1,328 @@
+//! Lines out of a stream of bytes, in whatever pieces the stream comes.
+ghost use Rattle.std.specs.Prelude.{◌≡◌, ℕ, ◌+◌, ◌-◌, ◌<◌, ◌≤◌, ◌⊎◌, ◌++◌, true, false, [], length, vec_len, take, drop, IfOk, OnOk, OnErr, IsErrOf, IfSome, IfNone, MatchOption, Ok, slice_index, ◌==◌, position};
+ghost use Rattle.std.specs.List.{position_or_len, list_all};
+ghost use Rattle.std.specs.Io.KnownBytes.{Keeps, IsAtEnd};
+ghost use Rattle.hac_outside.specs.Causes.{Rose};
+ghost use Rattle.hac_model.specs.Bytes.{is_line_end, is_space};
+ghost use Rattle.hac_model.specs.Lines.{is_quiet};
+ghost use Rattle.shell_lang.specs.Reading.{pending, given, IsUnended, IsReading, SameTotal, ReadsOn, ReadsPiece};
+ghost use Rattle.shell_lang.specs.Pieces.{piece_of, Gives, Advances, IsFound};
+
+use hac_model::{LINE_LIMIT, Memory, SCRIPT_LIMIT, Text};
+use hac_outside::Source;
+use std::alloc::{AllocError, Global};
+use std::marker::Model;
+use thiserror::Error;
+
+/// How many bytes are asked of the source at a time.
+const PIECE: usize = 4096;
+
+/// What a reader gives.
+#[derive(Debug, Drop)]
+pub enum Piece {
+    /// A blank line or a comment.
+    Blank,
+    /// A line without its end.
+    Bytes(Text),
+    /// A line of more bytes than a line may have.
+    LongLine,
+    /// The script has ended.
+    End,
+    /// The script is longer than a script may be, and every line within the limit was given.
+    PastLimit,
+}
+
+/// Why a reader gives nothing. It still holds all that it took.
+#[derive(Clone, Copy, Debug, PartialEq, Eq, Error)]
+pub enum LineFault {
+    #[error("the script can't be read")]
+    Read,
+    #[error("out of memory")]
+    Memory,
+}
+
+impl From<AllocError> for LineFault {
+    ghost use Rattle.std.specs.Prelude.{◌≡◌};
+    ghost use Rattle.shell_lang.specs.declared.reading.LineFault.TheVariants.{Memory};
+
+    ghost from_gives = { λ _ fault. fault ≡ Memory };
+
+    fn from(_error: AllocError) -> LineFault {
+        LineFault::Memory
+    }
+}
+
+/// Takes lines from a source. It scans no byte twice, and holds no more than one line and the piece
+/// that was read last.
+#[derive(Debug, Drop)]
+pub struct Reader {
+    alloc: Global,
+    bytes: Vec<u8>,
+    // Where what is held begins.
+    start: usize,
+    taken: u64,
+    ended: bool,
+}
+
+impl Model for Reader {
+    ghost use Rattle.shell_lang.specs.Reading.{Reading, reading_code};
+
+    ghost Value = { Reading };
+
+    ghost coded = { reading_code };
+
+    ghost use Rattle.shell_lang.specs.ReaderShape.{reading_of, IsReader};
+
+    ghost view = { reading_of };
+
+    ghost invariant = { IsReader };
+}
+
+/// Where the first line of what is held ends.
+#[derive(Clone, Copy, Debug)]
+enum Found {
+    /// At the line end that stands there.
+    Ended(usize),
+    /// Where the script ends.
+    Last,
+    /// Beyond the limit of a script.
+    Past,
+}
+
+impl Reader {
+    /// A reader that has read nothing.
+    pub fn new(alloc: Global) -> Result<Reader, Memory>
+        ensures { IfOk result (λ reader. reader ≡ record { held = []; taken = 0; ended = false }) }
+    {
+        let bytes = Vec::with_capacity(alloc, PIECE)?;
+        Ok(Reader {
+            alloc,
+            bytes,
+            start: 0,
+            taken: 0,
+            ended: false,
+        })
+    }
+
+    /// The next line of the script, or how the script ends. It reads only where no line is held.
+    pub fn next_line<S: Source>(&mut self, source: &mut S) -> Result<Piece, LineFault>
+        // A source that has ended stays so: a reader is given the source that it began with.
+        requires { self.old.ended ≡ true → IsAtEnd (S.left source.old) }
+
+        ensures piece { IfOk result (λ piece. Gives piece self.new.ended (pending self.old (S.left source.old)) (pending self.new (S.left source.new))) }
+        ensures advances { IfOk result (λ piece. Advances piece self.old self.new) }
+        ensures err { OnErr result (Keeps (pending self.old (S.left source.old)) (pending self.new (S.left source.new))) }
+
+        // A fault comes only of a read, and a read only where what is held has no line end.
+        ensures fault { IsErrOf result LineFault.Read → Rose (S.faults source.old) (S.faults source.new) }
+        ensures unended { IsErrOf result LineFault.Read → (self.new.ended ≡ false) × IsUnended self.new.held }
+
+        ensures ended { self.new.ended ≡ true → IsAtEnd (S.left source.new) }
+        ensures stays { self.old.ended ≡ true → self.new.ended ≡ true }
+        ensures total { SameTotal self.old.taken (S.left source.old) self.new.taken (S.left source.new) }
+        ensures later { S.faults source.old ≤ S.faults source.new }
+    {
+        match self.find_line(source)? {
+            Found::Ended(end) => self.give(end, end + 1),
+            Found::Last => self.give_last(),
+            Found::Past => Ok(Piece::PastLimit),
+        }
+    }
+
+    /// Reads until the first line is held, or all that there is of it.
+    fn find_line<S: Source>(&mut self, source: &mut S) -> Result<Found, LineFault>
+        requires { self.old.ended ≡ true → IsAtEnd (S.left source.old) }
+        ensures found { IfOk result (λ found. IsFound found self.new) }
+        ensures sound { IsReading self.new }
+        ensures reads { ReadsOn self.old self.new (S.left source.old) (S.left source.new) }
+        ensures unended { OnErr result ((self.new.ended ≡ false) × IsUnended self.new.held) }
+        ensures fault { IsErrOf result LineFault.Read → Rose (S.faults source.old) (S.faults source.new) }
+        ensures later { S.faults source.old ≤ S.faults source.new }
+    {
+        let mut scanned = 0;
+        loop {
+            if let Some(found) = self.look(scanned) {
+                return Ok(found);
+            }
+            scanned = self.held().len();
+            self.fill(source)?;
+        }
+    }
+
+    /// Where the first line ends by what is held, of which the first `scanned` bytes have no line end.
+    /// None where more is to be read.
+    fn look(&self, scanned: usize) -> Option<Found>
+        requires { scanned ≤ position_or_len is_line_end self.now.held }
+        ensures sound { IsReading self.now }
+        ensures found { IfSome result (λ found. IsFound found self.now) }
+        ensures none { IfNone result ((self.now.ended ≡ false) × (self.now.taken ≤ SCRIPT_LIMIT) × IsUnended self.now.held) }
+    {
+        match line_end(self.held(), scanned) {
+            Some(end) => Some(self.found_at(end)),
+            None if self.ended => Some(Found::Last),
+            None if self.taken > SCRIPT_LIMIT => Some(Found::Past),
+            None => None,
+        }
+    }
+
+    /// Whether the line end at `end` is within the limit of a script.
+    fn found_at(&self, end: usize) -> Found
+        requires place { end ≡ position_or_len is_line_end self.now.held }
+        requires inside { end < length self.now.held }
+        ensures { IsFound result self.now }
+    {
+        let given = self.taken - self.held().len() as u64;
+        if given + (end as u64) < SCRIPT_LIMIT {
+            Found::Ended(end)
+        } else {
+            Found::Past
+        }
+    }
+
+    fn held(&self) -> &[u8]
+        ensures held { result.now ≡ self.now.held }
+        ensures sound { IsReading self.now }
+    {
+        &self.bytes[self.start..]
+    }
+
+    /// Takes one more piece of the source.
+    fn fill<S: Source>(&mut self, source: &mut S) -> Result<(), LineFault>
+        requires open { self.old.ended ≡ false }
+        requires room { self.old.taken ≤ SCRIPT_LIMIT }
+        ensures reads { ReadsOn self.old self.new (S.left source.old) (S.left source.new) }
+        ensures ok { OnOk result ((self.new.ended ≡ true) ⊎ (self.old.taken < self.new.taken)) }
+        ensures err { OnErr result (self.new ≡ self.old) }
+        ensures sound { IsReading self.new }
+        ensures fault { IsErrOf result LineFault.Read → Rose (S.faults source.old) (S.faults source.new) }
+        ensures later { S.faults source.old ≤ S.faults source.new }
+    {
+        drop_front(&mut self.bytes, self.start);
+        self.start = 0;
+        let room = SCRIPT_LIMIT + 1 - self.taken;
+        let most = if room < PIECE as u64 {
+            room as usize
+        } else {
+            PIECE
+        };
+        let count = read_onto(&mut self.bytes, source, most)?;
+        self.ended = count == 0;
+        self.taken += count as u64;
+        Ok(())
+    }
+
+    /// Gives the first `count` bytes as a line, and drops the first `end`.
+    fn give(&mut self, count: usize, end: usize) -> Result<Piece, LineFault>
+        requires order { count ≤ end }
+        requires inside { end ≤ length self.old.held }
+        requires limit { given self.old + end ≤ SCRIPT_LIMIT }
+        ensures piece { IfOk result (λ piece. piece ≡ piece_of (take count self.old.held)) }
+        ensures ok { OnOk result (self.new ≡ record self.old { held = drop end self.old.held }) }
+        ensures err { OnErr result (self.new ≡ self.old) }
+        ensures memory { OnErr result (IsErrOf result LineFault.Memory) }
+    {
+        let piece = piece_of(self.alloc, &self.held()[..count])?;
+        self.start += end;
+        Ok(piece)
+    }
+
+    /// Gives all that is held as the last line.
+    fn give_last(&mut self) -> Result<Piece, LineFault>
+        requires { self.old.ended ≡ true }
+        ensures none { self.old.held ≡ [] → (result ≡ Ok Piece.End) × (self.new ≡ self.old) }
+        ensures piece { 0 < length self.old.held → IfOk result (λ piece. piece ≡ piece_of self.old.held) }
+        ensures ok { OnOk result (self.new ≡ record self.old { held = [] }) }
+        ensures err { OnErr result (self.new ≡ self.old) }
+        ensures memory { OnErr result (IsErrOf result LineFault.Memory) }
+    {
+        let all = self.held().len();
+        if all == 0 {
+            return Ok(Piece::End);
+        }
+        self.give(all, all)
+    }
+}
+
+/// Drops the first `count` bytes.
+fn drop_front(bytes: &mut Vec<u8>, count: usize)
+    requires { count ≤ vec_len bytes.old }
+    ensures { bytes.new.items ≡ drop count bytes.old.items }
+{
+    bytes.rotate_left(count);
+    bytes.truncate(bytes.len() - count);
+}
+
+/// Reads at most `most` bytes to the end of `bytes`, and says how many. What can want memory is done
+/// before the read, so that nothing that was read is lost.
+fn read_onto<S: Source>(
+    bytes: &mut Vec<u8>,
+    source: &mut S,
+    most: usize,
+) -> Result<usize, LineFault>
+    requires some { 0 < most }
+    requires most { most ≤ PIECE }
+    ensures ok { IfOk result (λ count. ReadsPiece bytes.old.items bytes.new.items (S.left source.old) (S.left source.new) count most) }
+    ensures err { OnErr result ((bytes.new.items ≡ bytes.old.items) × Keeps (S.left source.old) (S.left source.new)) }
+    ensures fault { IsErrOf result LineFault.Read → Rose (S.faults source.old) (S.faults source.new) }
+    ensures later { S.faults source.old ≤ S.faults source.new }
+{
+    bytes.reserve(PIECE)?;
+    let mut piece = [0u8; PIECE];
+    let Ok(count) = source.read(&mut piece[..most]) else {
+        return Err(LineFault::Read);
+    };
+    bytes.extend_from_slice(&piece[..count]).unwrap();
+    Ok(count)
+}
+
+/// The place of the first line end, which stands at `from` or behind it.
+fn line_end(bytes: &[u8], from: usize) -> Option<usize>
+    requires { from ≤ position_or_len is_line_end bytes.now }
+    ensures { result ≡ position is_line_end bytes.now }
+{
+    match first_end(&bytes[from..]) {
+        Some(place) => Some(from + place),
+        None => None,
+    }
+}
+
+fn first_end(bytes: &[u8]) -> Option<usize>
+    ensures { result ≡ position is_line_end bytes.now }
+{
+    bytes.iter().position(|byte| *byte == b'\n')
+}
+
+fn is_comment(line: &[u8]) -> bool
+    ensures { result ≡ (slice_index line.now 0 == 35) }
+{
+    match line.first() {
+        Some(first) => *first == b'#',
+        None => false,
+    }
+}
+
+fn is_blank(line: &[u8]) -> bool
+    ensures { result ≡ list_all is_space line.now }
+{
+    line.iter().all(|byte| *byte == b' ')
+}
+
+/// A blank line or a comment has no reply.
+fn is_quiet(line: &[u8]) -> bool
+    ensures { result ≡ is_quiet line.now }
+{
+    is_comment(line) || is_blank(line)
+}
+
+/// The piece that a line is given as.
+fn piece_of(alloc: Global, line: &[u8]) -> Result<Piece, AllocError>
+    ensures { IfOk result (λ piece. piece ≡ piece_of line.now) }
+{
+    if is_quiet(line) {
+        return Ok(Piece::Blank);
+    }
+    if line.len() > LINE_LIMIT {
+        return Ok(Piece::LongLine);
+    }
+    Ok(Piece::Bytes(Text::new(Vec::from_slice(alloc, line)?)))
+}
