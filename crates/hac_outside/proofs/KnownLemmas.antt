@@ -1,5 +1,5 @@
 -- What two writes in a row do to the bytes that are told.
-use Rattle.std.proofs.Common.{◌≡◌, ℕ, ◌+◌, List, ◌++◌, take, drop, None, Some, append_assoc, take-add}
+use Rattle.std.proofs.Common.{ℕ, ◌+◌, List, take, drop, None, Some, append_assoc, take-add}
 use Rattle.std.specs.Io.KnownBytes.{Appends}
 use Rattle.std.specs.declared.option.Option.{Option}
 

@@ -1,5 +1,5 @@
 -- What a read of a source in memory gives, over plain lists.
-use Rattle.std.proofs.Common.{◌≡◌, ℕ, ◌+◌, ◌-◌, ◌<◌, List, [], ◌++◌, length, take, drop, min, slice_get, refl, sym, ◌∙◌, ap, drop-drop}
+use Rattle.std.proofs.Common.{◌≡◌, ℕ, ◌+◌, ◌-◌, ◌<◌, List, [], ◌++◌, length, take, drop, min, slice_get, sym, drop-drop}
 use Rattle.std.proofs.Math.Seq.{drop-nil}
 use Rattle.std.proofs.lemmas.List.{take-append-drop, take_rest}
 use Rattle.std.specs.declared.option.Option.{Option}
@@ -15,9 +15,10 @@ pub Consumes-front : (bytes into : List ℕ) (given n : ℕ)
     → (n ≡ 0 → 0 < length into → drop given bytes ≡ [])
     → (drop given bytes ≡ take n into ++ drop (given + n) bytes)
     × (n ≡ 0 → 0 < length into → drop (given + n) bytes ≡ [])
-Consumes-front bytes into given n front end =
-    ( rw (front, ← drop-drop n given bytes) (sym (take-append-drop n (drop given bytes)))
-    , λ none room. rw (← drop-drop n given bytes) (drop-none n (drop given bytes) (end none room)))
+Consumes-front bytes into given n front end = (
+  rw (front, ← drop-drop n given bytes) (sym (take-append-drop n (drop given bytes))),
+  λ none room. rw (← drop-drop n given bytes) (drop-none n (drop given bytes) (end none room)),
+)
 
 -- the count of a read, where its parts are written in other words
 pub cut_to-same : (n : ℕ) (piece : Option ℕ) (shown pieces : List ℕ) (calls given : ℕ) (rest bytes : List ℕ) (into : List ℕ)

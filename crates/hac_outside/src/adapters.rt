@@ -122,3 +122,29 @@ fn flush_again<W: Write>(inner: &mut W) -> Result<(), Failed>
     }
     Err(Failed)
 }
+
+#[cfg(test)]
+mod tests {
+    use super::*;
+    use std::test::Fail;
+
+    #[test]
+    fn source_over_a_reader(rt: HostRuntime) {
+        let text: &[u8] = b"abcd";
+        let mut source = StdSource::new(text);
+        let mut into = [0; 3];
+        for want in [Ok(3), Ok(1), Ok(0)] {
+            assert_eq!(rt; source.read(&mut into), want);
+        }
+        assert_eq!(rt; into, *b"dbc");
+    }
+
+    #[test]
+    fn sink_over_a_writer(rt: HostRuntime) -> Result<(), Fail> {
+        let mut sink = StdSink::new(Vec::new(rt.alloc()));
+        assert_eq!(rt; sink.write(b"abcd"), Ok(4));
+        assert_eq!(rt; sink.flush(), Ok(()));
+        assert_eq!(rt; sink.inner.as_slice(), b"abcd".as_slice());
+        Ok(())
+    }
+}

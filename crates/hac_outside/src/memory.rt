@@ -28,11 +28,11 @@ impl Model for MemorySource {
     ghost Value = { SourceState };
 
     ghost view = { λ source. record {
-        left = drop source.given source.bytes.items;
-        pieces = source.pieces.items;
-        failing = source.calls.failing.items;
-        calls = source.calls.made;
-        faults = source.calls.faults
+      left = drop source.given source.bytes.items;
+      pieces = source.pieces.items;
+      failing = source.calls.failing.items;
+      calls = source.calls.made;
+      faults = source.calls.faults;
     } };
 
     ghost invariant = { λ source. source.given ≤ vec_len source.bytes };
@@ -137,12 +137,12 @@ impl Model for MemorySink {
     ghost Value = { SinkState };
 
     ghost view = { λ sink. record {
-        written = sink.bytes.items;
-        room = sink.room;
-        last_call = sink.last_call;
-        failing = sink.calls.failing.items;
-        calls = sink.calls.made;
-        faults = sink.calls.faults
+      written = sink.bytes.items;
+      room = sink.room;
+      last_call = sink.last_call;
+      failing = sink.calls.failing.items;
+      calls = sink.calls.made;
+      faults = sink.calls.faults;
     } };
 
     ghost invariant = { λ sink. vec_len sink.bytes + sink.room ≤ vec_capacity sink.bytes };
@@ -221,5 +221,44 @@ impl Sink for MemorySink {
         ensures plan { IsNextCall self.old self.new }
     {
         self.calls.begin_within(self.last_call)
+    }
+}
+
+#[cfg(test)]
+mod tests {
+    use super::*;
+    use crate::write_all;
+    use std::test::Fail;
+
+    #[test]
+    fn source_gives_pieces(rt: HostRuntime) -> Result<(), Fail> {
+        let mut source = MemorySource::new(rt.alloc(), b"abcdefg", &[0, 1, 3, 3], &[3])?;
+        let mut into = [0; 8];
+        for want in [Ok(1), Ok(1), Err(Failed), Ok(3), Ok(2), Ok(0)] {
+            assert_eq!(rt; source.read(&mut into), want);
+        }
+        assert_eq!(rt; &into[..3], b"fge".as_slice());
+        Ok(())
+    }
+
+    #[test]
+    fn sink_takes_what_fits(rt: HostRuntime) -> Result<(), Fail> {
+        let mut sink = MemorySink::new(rt.alloc(), 5, 5, &[2])?;
+        assert_eq!(rt; sink.write(b"abc"), Ok(3));
+        assert_eq!(rt; sink.flush(), Err(Failed));
+        assert_eq!(rt; write_all(&mut sink, b"def"), Err(Failed));
+        assert_eq!(rt; sink.written(), b"abcde".as_slice());
+        assert_eq!(rt; sink.flush(), Ok(()));
+        assert_eq!(rt; sink.flush(), Err(Failed));
+        Ok(())
+    }
+
+    #[test]
+    fn write_all_writes_all(rt: HostRuntime) -> Result<(), Fail> {
+        let mut sink = MemorySink::new(rt.alloc(), 8, 2, &[])?;
+        assert_eq!(rt; write_all(&mut sink, b"abc"), Ok(()));
+        assert_eq!(rt; write_all(&mut sink, b"de"), Ok(()));
+        assert_eq!(rt; sink.written(), b"abcde".as_slice());
+        Ok(())
     }
 }
