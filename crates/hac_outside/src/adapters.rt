@@ -126,6 +126,7 @@ fn flush_again<W: Write>(inner: &mut W) -> Result<(), Failed>
 #[cfg(test)]
 mod tests {
     use super::*;
+    use std::io::BufWriter;
     use std::test::Fail;
 
     #[test]
@@ -141,10 +142,12 @@ mod tests {
 
     #[test]
     fn sink_over_a_writer(rt: HostRuntime) -> Result<(), Fail> {
-        let mut sink = StdSink::new(Vec::new(rt.alloc()));
+        let held = BufWriter::new(rt.alloc(), Vec::new(rt.alloc()))?;
+        let mut sink = StdSink::new(held);
         assert_eq!(rt; sink.write(b"abcd"), Ok(4));
+        assert_eq!(rt; sink.inner.get_ref().as_slice(), b"".as_slice());
         assert_eq!(rt; sink.flush(), Ok(()));
-        assert_eq!(rt; sink.inner.as_slice(), b"abcd".as_slice());
+        assert_eq!(rt; sink.inner.get_ref().as_slice(), b"abcd".as_slice());
         Ok(())
     }
 }

@@ -1,5 +1,5 @@
 //! A source and a sink in memory, which cut their bytes into pieces and fail at chosen calls.
-ghost use Rattle.std.specs.Prelude.{◌≡◌, ◌≢◌, ◌<◌, ◌≤◌, ◌↔◌, ◌⊎◌, [], Contains, IfOk, IsErr, Ok, OnErr, length, min, slice_get, take};
+ghost use Rattle.std.specs.Prelude.{◌≡◌, ◌≢◌, ◌<◌, ◌≤◌, ◌↔◌, ◌⊎◌, [], Contains, IfOk, IsErr, Ok, OnErr, OnOk, length, min, slice_get, take};
 ghost use Rattle.std.specs.Io.{ReadsAtMost, WritesAtMost};
 ghost use Rattle.std.specs.Io.KnownBytes.{Keeps, ReadConsumes, WriteAppends};
 ghost use Rattle.hac_outside.specs.Causes.{HasCause};
@@ -41,7 +41,7 @@ impl Model for MemorySource {
 impl MemorySource {
     /// The first read gives at most as many bytes as the first piece says, and so on; a piece of
     /// 0 counts as 1, and a read past the last piece has no such bound. A read whose number, from
-    /// 1, stands in `failing` is a fault.
+    /// 1, stands in `failing` is a fault: it uses up its piece, and no byte.
     pub fn new(
         alloc: Global,
         bytes: &[u8],
@@ -79,6 +79,7 @@ impl Source for MemorySource {
         ensures fails { IsErr result ↔ Contains self.old.failing (next_number self.old.calls) }
         ensures count { IfOk result (λ count. count ≡ cut_to (slice_get self.old.pieces self.old.calls)
             (min (length into.new) (length self.old.left))) }
+        ensures uncounted { OnOk result (self.new.faults ≡ self.old.faults) }
         ensures counted { OnErr result (self.new.faults ≡ next_number self.old.faults) }
 
         // The plan stays, and the next read has the next number.
@@ -150,7 +151,7 @@ impl Model for MemorySink {
 
 impl MemorySink {
     /// Takes the memory for `bytes` bytes at once: no later call takes any. Writes and flushes are
-    /// numbered together, from 1; one past `calls`, or whose number stands in `failing`, is a
+    /// numbered together, from 1. One whose number is above `calls` or stands in `failing` is a
     /// fault, and so is a write of which nothing fits.
     pub fn new(
         alloc: Global,
@@ -198,6 +199,7 @@ impl Sink for MemorySink {
         // Which writes fail, and how much the others take.
         ensures fails { IsErr result ↔ (IsFailing self.old ⊎ ((0 < length bytes.now) × (self.old.room ≡ 0))) }
         ensures count { IfOk result (λ count. count ≡ min (length bytes.now) self.old.room) }
+        ensures uncounted { OnOk result (self.new.faults ≡ self.old.faults) }
         ensures counted { OnErr result (self.new.faults ≡ next_number self.old.faults) }
 
         // The plan stays, and the next call has the next number.
@@ -217,6 +219,7 @@ impl Sink for MemorySink {
         ensures bytes { Keeps (Some self.old.written) (Some self.new.written) }
         ensures cause { HasCause self.old.faults self.new.faults result }
         ensures fails { IsErr result ↔ IsFailing self.old }
+        ensures uncounted { OnOk result (self.new.faults ≡ self.old.faults) }
         ensures counted { OnErr result (self.new.faults ≡ next_number self.old.faults) }
         ensures plan { IsNextCall self.old self.new }
     {
