@@ -1,0 +1,50 @@
+-- What a source and a sink in memory are seen as.
+use Rattle.std.specs.Prelude.{◌≡◌, ℕ, ◌+◌, ◌-◌, ◌^◌, ◌<◌, ◌⊎◌, min, max, List, length, Contains, None, Some}
+use Rattle.std.specs.declared.option.Option.{Option}
+
+-- the number after this one, or the last number of its type
+abbrev pub next_number : ℕ → ℕ
+next_number n = min (n + 1) (2 ^ 64 - 1)
+
+-- a count of bytes, cut to a piece where there is one: a piece of 0 counts as 1
+abbrev pub cut_to : Option ℕ → ℕ → ℕ
+cut_to None count = count
+cut_to (Some piece) count = min (max piece 1) count
+
+-- a source: the bytes that it has left, the pieces that it gives them in, the calls that are to fail, the calls and the faults so far
+pub record SourceState : Type 0 where
+  pub left : List ℕ
+  pub pieces : List ℕ
+  pub failing : List ℕ
+  pub calls : ℕ
+  pub faults : ℕ
+
+-- a sink: the bytes that it holds, how many more it has room for, the last call that it has room for, the calls that are to fail, the calls and the faults so far
+pub record SinkState : Type 0 where
+  pub written : List ℕ
+  pub room : ℕ
+  pub last_call : ℕ
+  pub failing : List ℕ
+  pub calls : ℕ
+  pub faults : ℕ
+
+-- a call fails where it comes after the last one, or is to fail
+abbrev pub IsFailingCall : ℕ → List ℕ → ℕ → Type 0
+IsFailingCall last failing call = (last < call) ⊎ Contains failing call
+
+-- the sink's next call fails, whatever it is asked
+abbrev pub IsFailing : SinkState → Type 0
+IsFailing sink = IsFailingCall sink.last_call sink.failing (next_number sink.calls)
+
+-- a read has been counted, and the plan of the source stays
+pub record IsNextRead (old new : SourceState) : Type 0 where
+  pub pieces : new.pieces ≡ old.pieces
+  pub failing : new.failing ≡ old.failing
+  pub calls : new.calls ≡ next_number old.calls
+
+-- a call has been counted, the plan of the sink stays, and what was written takes up its room
+pub record IsNextCall (old new : SinkState) : Type 0 where
+  pub last_call : new.last_call ≡ old.last_call
+  pub failing : new.failing ≡ old.failing
+  pub calls : new.calls ≡ next_number old.calls
+  pub room : new.room + length new.written ≡ old.room + length old.written
