@@ -62,7 +62,7 @@ script-unended a unended =
     ∙ append-nil (items_of a)
 
 -- where the bytes have no line end
-joined_unended : (a b : List ℕ) → position_or_len is_line_end a ≡ length a → script (a ++ 10 ∷ b) ≡ script a ++ script b
+pub joined_unended : (a b : List ℕ) → position_or_len is_line_end a ≡ length a → script (a ++ 10 ∷ b) ≡ script a ++ script b
 joined_unended a b unended =
     script-step (a ++ 10 ∷ b)
     ∙ ap (λ (line : List ℕ). items_of line ++ script (after_line (a ++ 10 ∷ b))) (first_line-unended a b unended)

@@ -1,2 +1,4 @@
 pub mod ScriptLemmas
+pub mod PrefixLemmas
 pub mod JoinLemmas
+pub mod LineLemmas

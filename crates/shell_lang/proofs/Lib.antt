@@ -1,3 +1,2 @@
-pub mod PrefixLemmas
 pub mod ReaderLemmas
 pub mod GiveLemmas

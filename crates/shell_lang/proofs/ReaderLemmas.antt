@@ -11,7 +11,7 @@ use Rattle.hac_model.specs.Bytes.{is_line_end}
 use Rattle.hac_model.specs.declared.limits.TheConstants.{SCRIPT_LIMIT}
 use Rattle.shell_lang.specs.Reading.{Reading, IsReading, IsUnended, SameTotal, ReadsOn, ReadsPiece}
 use Rattle.shell_lang.specs.Pieces.{IsPastLimit}
-use Rattle.shell_lang.proofs.PrefixLemmas.{unended-take, position-none}
+use Rattle.hac_model.proofs.PrefixLemmas.{unended-take, position-none}
 
 -- a source that was read beyond the limit has not ended
 not_ended : (ended : Bool) (taken : ℕ) → (ended ≡ true → taken ≤ SCRIPT_LIMIT) → SCRIPT_LIMIT < taken → ended ≡ false

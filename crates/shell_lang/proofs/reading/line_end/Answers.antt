@@ -1,6 +1,6 @@
 use Rattle.std.proofs.Common.{rules, arith, ◌≡◌, ℕ, ap, sym, refl, ◌∙◌}
 use Rattle.hac_model.specs.Bytes.{is_line_end}
-use Rattle.shell_lang.proofs.PrefixLemmas.{front-le, position-from}
+use Rattle.hac_model.proofs.PrefixLemmas.{front-le, position-from}
 use Rattle.shell_lang.proofs.reading.line_end.Goals as goal
 
 pub slice_bounds-first_end-count : goal.slice_bounds-first_end-count

@@ -1,0 +1,23 @@
+-- The statuses of a run that reads its script to the end.
+use Rattle.std.specs.Prelude.{◌≡◌, ◌⊎◌, ℕ, if◌then◌else◌, List}
+use Rattle.hac_model.specs.Play.{has_refusal}
+use Rattle.hac_model.specs.declared.replies.Reply.{Reply}
+use Rattle.hac_top.specs.declared.status.Status.{Status}
+use Rattle.hac_top.specs.declared.status.Status.TheVariants.{Done, SomeRefused, Usage, ReadFault, WriteFault, Memory, TooLong}
+
+abbrev pub status_number : Status → ℕ
+status_number Done = 0
+status_number SomeRefused = 1
+status_number Usage = 2
+status_number ReadFault = 3
+status_number WriteFault = 4
+status_number Memory = 7
+status_number TooLong = 9
+
+-- the status after these replies
+abbrev pub status_of : List Reply → Status
+status_of told = if has_refusal told then SomeRefused else Done
+
+-- the script was read to its end
+abbrev pub IsFinished : Status → Type 0
+IsFinished status = (status ≡ Done) ⊎ (status ≡ SomeRefused)

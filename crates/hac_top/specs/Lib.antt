@@ -1,0 +1,3 @@
+pub mod Ends
+pub mod Stops
+pub mod Run

@@ -1,0 +1,21 @@
+-- What a piece of the script asks for, and how an answer to it stops a run.
+use Rattle.std.specs.Prelude.{◌≡◌, ◌⊎◌, List, [], ◌∷◌, Err}
+use Rattle.hac_model.specs.Lines.{Item, item_of}
+use Rattle.hac_model.specs.declared.limits.LimitWord.TheVariants as limit
+use Rattle.hac_model.specs.declared.replies.Refusal.TheVariants.{Limit}
+use Rattle.shell_lang.specs.declared.reading.Piece.{Piece}
+use Rattle.shell_lang.specs.declared.reading.Piece.TheVariants.{Blank, Bytes, LongLine, End, PastLimit}
+use Rattle.hac_top.specs.declared.answering.Stop.{Stop}
+use Rattle.hac_top.specs.declared.answering.Stop.TheVariants.{WriteFault, Memory}
+
+-- the items of a piece of the script
+abbrev pub items_of_piece : Piece → List Item
+items_of_piece Blank = []
+items_of_piece (Bytes line) = item_of line ∷ []
+items_of_piece LongLine = Err (Limit limit.Line) ∷ []
+items_of_piece End = []
+items_of_piece PastLimit = []
+
+-- an answer is stopped by the sink or for want of memory
+abbrev pub StopsAnswer : Stop → Type 0
+StopsAnswer stop = (stop ≡ WriteFault) ⊎ (stop ≡ Memory)

@@ -1,0 +1,134 @@
+//! Answering: a command is carried out, and its reply is written and flushed.
+ghost use Rattle.std.specs.Prelude.{◌≡◌, ◌≤◌, ◌||◌, false, IfOk, IfErr, OnOk, OnErr, IsErrOf};
+ghost use Rattle.std.specs.Io.KnownBytes.{Appends};
+ghost use Rattle.hac_outside.specs.Causes.{AppendsSome, HasCause, Rose};
+ghost use Rattle.hac_model.specs.Lines.{item_of};
+ghost use Rattle.hac_model.specs.Play.{reply_of, tree_after, replies, tree_after_all, is_refused, has_refusal};
+ghost use Rattle.hac_model.specs.Printed.{reply_text, text};
+ghost use Rattle.hac_model.specs.Tree.{empty};
+ghost use Rattle.hac_top.specs.Stops.{items_of_piece, StopsAnswer};
+
+use crate::files::Files;
+use hac_model::{Deny, LimitWord, Memory, Refusal, Reply, Seq, Text};
+use hac_outside::{Failed, Sink, write_all};
+use shell_lang::{LineFault, Piece, parse_line, print_reply};
+use std::alloc::Global;
+
+/// Why a run stops before the end of its script.
+#[derive(Clone, Copy, Debug)]
+pub enum Stop {
+    ReadFault,
+    WriteFault,
+    Memory,
+    TooLong,
+}
+
+/// What a run knows between two lines.
+#[derive(Drop)]
+pub struct Player {
+    pub alloc: Global,
+    /// The tree that the commands so far have left.
+    pub tree: Files,
+    /// Some command so far was refused.
+    pub refused: bool,
+}
+
+impl Player {
+    pub fn new(alloc: Global) -> Player
+        ensures tree { result.tree ≡ empty }
+        ensures refused { result.refused ≡ false }
+    {
+        Player {
+            alloc,
+            tree: Files::new(alloc),
+            refused: false,
+        }
+    }
+
+    /// Carries out what a piece of the script asks for, and tells the reply, where there is one.
+    pub fn answer<K: Sink>(&mut self, output: &mut K, piece: Piece) -> Result<(), Stop>
+        ensures tree { OnOk result (self.new.tree ≡ tree_after_all (items_of_piece piece) self.old.tree) }
+        ensures refused { OnOk result (self.new.refused ≡ (self.old.refused || has_refusal (replies (items_of_piece piece) self.old.tree))) }
+        ensures written { OnOk result (Appends (K.written output.old) (K.written output.new) (text (replies (items_of_piece piece) self.old.tree))) }
+        ensures err { OnErr result (AppendsSome (K.written output.old) (K.written output.new) (text (replies (items_of_piece piece) self.old.tree))) }
+        ensures stops { IfErr result StopsAnswer }
+        ensures fault { IsErrOf result Stop.WriteFault → Rose (K.faults output.old) (K.faults output.new) }
+        ensures later { K.faults output.old ≤ K.faults output.new }
+    {
+        match piece {
+            Piece::Bytes(line) => self.answer_line(output, line),
+            Piece::LongLine => self.tell(output, Reply::Refused(Refusal::Limit(LimitWord::Line))),
+            Piece::Blank | Piece::End | Piece::PastLimit => Ok(()),
+        }
+    }
+
+    fn answer_line<K: Sink>(&mut self, output: &mut K, line: Text) -> Result<(), Stop>
+        ensures tree { OnOk result (self.new.tree ≡ tree_after (item_of line) self.old.tree) }
+        ensures refused { OnOk result (self.new.refused ≡ (self.old.refused || is_refused (reply_of (item_of line) self.old.tree))) }
+        ensures written { OnOk result (Appends (K.written output.old) (K.written output.new) (reply_text (reply_of (item_of line) self.old.tree))) }
+        ensures err { OnErr result (AppendsSome (K.written output.old) (K.written output.new) (reply_text (reply_of (item_of line) self.old.tree))) }
+        ensures stops { IfErr result StopsAnswer }
+        ensures fault { IsErrOf result Stop.WriteFault → Rose (K.faults output.old) (K.faults output.new) }
+        ensures later { K.faults output.old ≤ K.faults output.new }
+    {
+        let Ok(reply) = self.carry_out(line) else {
+            return Err(Stop::Memory);
+        };
+        self.tell(output, reply)
+    }
+
+    /// Carries out the command that a line spells, or refuses it.
+    fn carry_out(&mut self, line: Text) -> Result<Reply, Memory>
+        ensures reply { IfOk result (λ reply. reply ≡ reply_of (item_of line) self.old.tree) }
+        ensures tree { OnOk result (self.new.tree ≡ tree_after (item_of line) self.old.tree) }
+        ensures refused { self.new.refused ≡ self.old.refused }
+    {
+        match parse_line(self.alloc, line.as_slice(), None) {
+            Ok(line) => {
+                self.tree.apply(line.command)?;
+                Ok(Reply::Lines(Seq::new(Vec::new(self.alloc))))
+            }
+            Err(Deny::Refused(refusal)) => Ok(Reply::Refused(refusal)),
+            Err(Deny::Memory) => Err(Memory),
+        }
+    }
+
+    /// Writes a reply, and flushes it.
+    fn tell<K: Sink>(&mut self, output: &mut K, reply: Reply) -> Result<(), Stop>
+        ensures tree { self.new.tree ≡ self.old.tree }
+        ensures refused { OnOk result (self.new.refused ≡ (self.old.refused || is_refused reply)) }
+        ensures written { OnOk result (Appends (K.written output.old) (K.written output.new) (reply_text reply)) }
+        ensures err { OnErr result (AppendsSome (K.written output.old) (K.written output.new) (reply_text reply)) }
+        ensures stops { IfErr result StopsAnswer }
+        ensures fault { IsErrOf result Stop.WriteFault → Rose (K.faults output.old) (K.faults output.new) }
+        ensures later { K.faults output.old ≤ K.faults output.new }
+    {
+        let Ok(bytes) = print_reply(self.alloc, &reply) else {
+            return Err(Stop::Memory);
+        };
+        self.refused = self.refused | is_refused(reply);
+        match tell_bytes(output, &bytes) {
+            Ok(()) => Ok(()),
+            Err(Failed) => Err(Stop::WriteFault),
+        }
+    }
+}
+
+fn is_refused(reply: Reply) -> bool
+    ensures { result ≡ is_refused reply }
+{
+    match reply {
+        Reply::Lines(_) => false,
+        Reply::Refused(_) => true,
+    }
+}
+
+/// Writes bytes and flushes them, so that their reader has them before anything else is done.
+pub fn tell_bytes<K: Sink>(output: &mut K, bytes: &[u8]) -> Result<(), Failed>
+    ensures ok { OnOk result (Appends (K.written output.old) (K.written output.new) bytes.now) }
+    ensures err { OnErr result (AppendsSome (K.written output.old) (K.written output.new) bytes.now) }
+    ensures cause { HasCause (K.faults output.old) (K.faults output.new) result }
+{
+    write_all(output, bytes)?;
+    output.flush()
+}

@@ -1,0 +1,11 @@
+//! The whole of the program but its last edge: words and a script come in, replies and a status go out.
+//! It knows its source and its sink by their contracts alone.
+#![tactic(auto)]
+
+mod answering;
+mod files;
+mod running;
+mod status;
+
+pub use running::run;
+pub use status::Status;

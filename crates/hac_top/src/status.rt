@@ -1,0 +1,39 @@
+//! How a run ends.
+ghost use Rattle.std.specs.Prelude.{◌≡◌};
+ghost use Rattle.hac_top.specs.Ends.{status_number};
+
+/// How a run ended.
+#[derive(Clone, Copy, Debug, PartialEq, Eq)]
+pub enum Status {
+    /// The script was read to its end, and no command was refused.
+    Done,
+    /// The script was read to its end, and some command was refused.
+    SomeRefused,
+    /// The words of the program are none that it takes.
+    Usage,
+    /// The script can't be read further.
+    ReadFault,
+    /// The replies can't be written further.
+    WriteFault,
+    /// Memory ran out.
+    Memory,
+    /// The script is longer than a script may be.
+    TooLong,
+}
+
+impl Status {
+    /// The number with which a process ends.
+    pub fn number(self) -> u8
+        ensures { result ≡ status_number self }
+    {
+        match self {
+            Status::Done => 0,
+            Status::SomeRefused => 1,
+            Status::Usage => 2,
+            Status::ReadFault => 3,
+            Status::WriteFault => 4,
+            Status::Memory => 7,
+            Status::TooLong => 9,
+        }
+    }
+}
