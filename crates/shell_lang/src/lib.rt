@@ -2,8 +2,10 @@
 //! It knows nothing of what a command does.
 #![tactic(auto)]
 
+mod names;
 mod parsing;
 mod printing;
+mod words;
 
 pub use parsing::{Taken, parse_line};
 pub use printing::print_reply;
