@@ -151,8 +151,13 @@ mod tests {
             let mut line = Vec::from_slice(alloc, b"write /")?;
             line.extend_from_slice(name)?;
             line.extend_from_slice(b" x")?;
-            let refused = spelled(alloc, &line)?.as_slice() == b"no bad-name\n".as_slice();
-            assert_eq!(rt; !refused, accepted, "at {name:?}");
+            let got = spelled(alloc, &line)?;
+            assert_eq!(rt; got.ends_with(b"=x"), accepted, "at {name:?}");
+            assert_eq!(rt;
+                got.as_slice() == b"no bad-name\n".as_slice(),
+                !accepted,
+                "at {name:?}"
+            );
         }
         Ok(())
     }

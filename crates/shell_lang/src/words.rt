@@ -14,7 +14,7 @@ pub fn split_word(bytes: &[u8]) -> (&[u8], &[u8])
     bytes.split_at(word_len(bytes))
 }
 
-/// The bytes behind the first one, if there is one.
+/// The bytes behind the first one, none where there is none.
 pub fn skip_one(bytes: &[u8]) -> &[u8]
     ensures { result.now ≡ drop 1 bytes.now }
 {
