@@ -1,7 +1,11 @@
 //! What a command is answered.
+ghost use Rattle.std.specs.Prelude.{◌≡◌};
+ghost use Rattle.hac_model.specs.declared.replies.Deny.TheVariants.{Memory};
+
 use crate::bytes::{Name, Seq};
 use crate::limits::LimitWord;
 use crate::memory::Memory;
+use std::alloc::{AllocError, AllocFailed};
 
 /// The reply to a command.
 #[derive(Debug, Drop)]
@@ -28,4 +32,28 @@ pub enum Refusal {
 pub enum Deny {
     Refused(Refusal),
     Memory,
+}
+
+impl From<Memory> for Deny {
+    ghost from_gives = { λ _ deny. deny ≡ Memory };
+
+    fn from(_memory: Memory) -> Deny {
+        Deny::Memory
+    }
+}
+
+impl From<AllocError> for Deny {
+    ghost from_gives = { λ _ deny. deny ≡ Memory };
+
+    fn from(_error: AllocError) -> Deny {
+        Deny::Memory
+    }
+}
+
+impl<T: Drop> From<AllocFailed<T>> for Deny {
+    ghost from_gives = { λ _ deny. deny ≡ Memory };
+
+    fn from(_error: AllocFailed<T>) -> Deny {
+        Deny::Memory
+    }
 }

@@ -2,9 +2,11 @@
 //! It knows nothing of what a command does.
 #![tactic(auto)]
 
+mod names;
 mod parsing;
 mod printing;
 mod reading;
+mod words;
 
 pub use parsing::{Taken, parse_line};
 pub use printing::print_reply;
