@@ -51,9 +51,16 @@ at_root word = record { absolute = true; ups = 0; names = word.names }
 abbrev pub spelled : List ℕ → PathWord
 spelled bytes = if is_slash (slice_index bytes 0) then at_root (relative (parts bytes)) else relative (parts bytes)
 
--- what the bytes of a word say: each part is looked at, also one that a `..` removes, and a bad one anywhere counts before a long one
+-- the bytes are no word: none, or a part has a byte that no name may hold. A part that a `..` removes counts too.
+abbrev pub is_bad : List ℕ → Bool
+is_bad bytes = length bytes == 0 || not (list_all is_part (parts bytes))
+
+abbrev pub has_long_part : List ℕ → Bool
+has_long_part bytes = list_any is_long (parts bytes)
+
+-- what the bytes of a word say. A bad part counts before a long one, wherever they are.
 abbrev pub word_of : List ℕ → Result PathWord Refusal
 word_of bytes =
-    if length bytes == 0 || not (list_all is_part (parts bytes)) then Err BadName
-    else (if list_any is_long (parts bytes) then Err (Limit limit.Name)
+    if is_bad bytes then Err BadName
+    else (if has_long_part bytes then Err (Limit limit.Name)
     else Ok (spelled bytes))

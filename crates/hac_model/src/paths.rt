@@ -1,5 +1,5 @@
 //! Paths, and the words of a command that lead to them.
-ghost use Rattle.std.specs.Prelude.{◌≡◌, ◌++◌, ◌∷◌, ◌-◌, [], length, take, OnOk, OnErr, nat_eq};
+ghost use Rattle.std.specs.Prelude.{◌≡◌, ◌==◌, ◌++◌, ◌∷◌, ◌-◌, [], length, take, OnOk, OnErr, nat_eq};
 ghost use Rattle.std.specs.Cmp.{partial_equiv_from_equiv};
 ghost use Rattle.std.specs.Cmp.Lexicographic.{pointwise, lists_equiv, nat_list_eq_equiv};
 
@@ -47,6 +47,13 @@ impl Path {
         ensures { result ≡ length self.now }
     {
         self.0.len()
+    }
+
+    /// Whether the path is the root.
+    pub fn is_root(&self) -> bool
+        ensures { result ≡ (length self.now == 0) }
+    {
+        self.0.is_empty()
     }
 
     /// Goes down by a name.

@@ -1,13 +1,17 @@
-// A library with one function.
+//! Names, path words and paths: how they are read and printed, and where a word leads. It knows no
+//! tree, so that what a path leads to is for others to say.
 #![tactic(auto)]
 
-ghost use Rattle.std.specs.Prelude.{◌≡◌};
-ghost use Rattle.hac_names.specs.Echo.{echo_of};
+mod joining;
+pub mod laws;
+mod names;
+mod printing;
+mod reading;
 
-// The `ensures` clause is the contract: what `echo` returns is `echo_of` of its argument, a definition
-// in `specs/Echo.antt`, which a caller's clause can cite too.
-pub fn echo(x: usize) -> usize
-    ensures { result ≡ echo_of x }
-{
-    x
-}
+pub use joining::join;
+pub use names::is_name;
+pub use printing::print_path;
+pub use reading::{NameFault, parse_word};
+
+#[cfg(test)]
+mod tests;

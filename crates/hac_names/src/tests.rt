@@ -1,0 +1,1 @@
+//! Words, names and paths with what they were found to say by hand.
