@@ -1,7 +1,7 @@
 -- A printed path is read as that path.
-use Rattle.std.proofs.Common.{◌≡◌, ℕ, ◌+◌, Bool, true, false, cond, eqb, List, [], ◌∷◌, ◌++◌, length, get_or, refl, ap, sym, ◌∙◌, arith, Ok, Err, codes}
-use Rattle.std.specs.Prelude.{not, Result, All, ◌&&◌, ◌||◌}
-use Rattle.std.specs.List.{list_all, list_any, flat_map, slice_split}
+use Rattle.std.proofs.Common.{◌≡◌, ℕ, true, false, eqb, List, [], ◌∷◌, ◌++◌, length, get_or, refl, ap, ◌∙◌, arith, Ok}
+use Rattle.std.specs.Prelude.{not, All}
+use Rattle.std.specs.List.{list_all, list_any, flat_map}
 use Rattle.std.proofs.lemmas.Bool.{and_parts, and_from, or_from, not_from_true, true_from_ne_false, both_ways, cond-false}
 use Rattle.std.proofs.lemmas.List.{append-nil}
 use Rattle.std.proofs.lemmas.List.Folds.{list_all_at}
@@ -10,10 +10,9 @@ use Rattle.std.proofs.lemmas.Bool.Decides.{nat_tests}
 use Rattle.hac_model.specs.Bytes.{is_slash}
 use Rattle.hac_model.specs.Names.{is_name, is_name_byte}
 use Rattle.hac_model.specs.Paths.{are_names, slashed, path_text}
-use Rattle.hac_model.specs.PathWords.{parts, is_part, is_long, is_idle, is_up, is_bad, has_long_part, relative, at_root, spelled, word_of}
-use Rattle.hac_model.specs.declared.paths.PathWord.{PathWord}
+use Rattle.hac_model.specs.PathWords.{parts, is_part, is_long, is_bad, has_long_part, relative, at_root, spelled, word_of}
 use Rattle.hac_names.specs.Laws.{PrintedPathIsRead}
-use Rattle.hac_names.proofs.Valid.{LeadsDown, leads_down}
+use Rattle.hac_names.proofs.Valid.{leads_down}
 
 no_slash_byte : (b : ℕ) → is_name_byte b ≡ true → is_slash b ≡ false
 no_slash_byte b h = grind (arith, nat_tests)
@@ -65,11 +64,11 @@ read_names name names h =
     let text : List ℕ = path_text path in
     let cut : parts text ≡ [] ∷ path = ap (λ ps. [] ∷ ps) (parts-slashed name names h) in
     let bad : is_bad text ≡ false =
-        or_from (eqb (length text) 0) (not (list_all is_part (parts text))) (grind (arith, nat_tests))
-        (not_from_true (list_all is_part (parts text)) (ap (list_all is_part) cut ∙ all_parts path h)) in
+    or_from (eqb (length text) 0) (not (list_all is_part (parts text))) (grind (arith, nat_tests))
+    (not_from_true (list_all is_part (parts text)) (ap (list_all is_part) cut ∙ all_parts path h)) in
     let long : has_long_part text ≡ false = ap (list_any is_long) cut ∙ none_long path h in
     let word : spelled text ≡ record { absolute = true; ups = 0; names = path } =
-        ap (λ ps. at_root (relative ps)) cut ∙ ap at_root (relative-names_only path h) in
+    ap (λ ps. at_root (relative ps)) cut ∙ ap at_root (relative-names_only path h) in
     cond-false (is_bad text) _ _ bad ∙ cond-false (has_long_part text) _ _ long ∙ ap (λ w. Ok w) word
 
 pub printed_path : PrintedPathIsRead

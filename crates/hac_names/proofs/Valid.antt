@@ -1,15 +1,16 @@
 -- Names and parts: a part that leads down is a name, and so are the names of a word that is read.
-use Rattle.std.proofs.Common.{◌≡◌, ℕ, ◌+◌, ◌-◌, Bool, true, false, cond, eqb, List, [], ◌∷◌, length, refl, arith, codes, ◌&&◌}
-use Rattle.std.proofs.lemmas.Bool.{and_parts, and_from, or_parts}
+use Rattle.std.proofs.Common.{◌≡◌, ℕ, ◌+◌, ◌-◌, Bool, true, false, cond, eqb, List, [], ◌∷◌, length, refl, ap, sym, ◌∙◌, arith, codes, ◌&&◌, Ok, Err}
+use Rattle.std.proofs.lemmas.Bool.{and_parts, and_from, or_parts, not-false}
 use Rattle.std.proofs.lemmas.Bool.Decides.{nat_tests}
-use Rattle.std.proofs.lemmas.Grind.{common_steps}
-use Rattle.std.specs.Prelude.{not, nat_le, nat_lt, ◌||◌}
+use Rattle.std.specs.Prelude.{not, nat_le, nat_lt, ◌||◌, slice_index, Result}
 use Rattle.std.specs.Str.{bytes_eq}
 use Rattle.std.specs.List.{list_all, list_any}
+use Rattle.hac_model.specs.Bytes.{is_slash}
 use Rattle.hac_model.specs.Names.{is_name, is_name_byte}
 use Rattle.hac_model.specs.Paths.{are_names}
-use Rattle.hac_model.specs.PathWords.{is_part, is_long, is_idle, is_up, relative}
+use Rattle.hac_model.specs.PathWords.{parts, is_part, is_long, is_idle, is_up, is_bad, has_long_part, at_root, relative, word_of}
 use Rattle.hac_model.specs.declared.paths.PathWord.{PathWord}
+use Rattle.hac_model.specs.declared.replies.Refusal.{Refusal}
 
 -- what is known of a name's bytes as a part of a word
 pub record LeadsDown (name : List ℕ) : Type 0 where
@@ -55,3 +56,21 @@ relative-names (part ∷ parts) h k =
     names_by (is_idle part) (is_up part) (eqb (relative parts).ups 0) part (relative parts)
     (λ i u. name-from_leads_down part (record { part = p.0; short = q.0; moves = i; down = u }))
     (relative-names parts p.1 q.1)
+
+guard : (b : Bool) (refusal : Refusal) (other : Result PathWord Refusal) (word : PathWord) → cond b (Err refusal) other ≡ Ok word → (b ≡ false) × (other ≡ Ok word)
+guard true refusal other word h = cc
+guard false refusal other word h = (refl, h)
+
+-- read at the root or not, a word has the same names
+names_of : (slash : Bool) (relative word : PathWord) → are_names relative.names ≡ true → (let read : Result PathWord Refusal = Ok (cond slash (at_root relative) relative) in read) ≡ Ok word → are_names word.names ≡ true
+names_of true relative word h e = let same : at_root relative ≡ word = cc in ap (λ w. are_names w.names) (sym same) ∙ h
+names_of false relative word h e = let same : relative ≡ word = cc in ap (λ w. are_names w.names) (sym same) ∙ h
+
+-- a word that is read has names only
+pub word_of-names : (bytes : List ℕ) (word : PathWord) → word_of bytes ≡ Ok word → are_names word.names ≡ true
+word_of-names bytes word h =
+    let p = guard (is_bad bytes) _ _ word h in
+    let q = guard (has_long_part bytes) _ _ word p.1 in
+    let good = (or_parts (eqb (length bytes) 0) (not (list_all is_part (parts bytes))) p.0).1 in
+    let names = relative-names (parts bytes) (not-false (list_all is_part (parts bytes)) good) q.0 in
+    names_of (is_slash (slice_index bytes 0)) (relative (parts bytes)) word names q.1

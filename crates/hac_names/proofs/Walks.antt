@@ -49,7 +49,7 @@ length_up xs = omega (arith, length-take (length xs - 1) xs)
 abbrev walked_by : Bool → Bool → PathWord → List ℕ → PathWord
 walked_by idle up word part =
     cond idle word (cond up (cond (eqb (length word.names) 0) (record { absolute = word.absolute; ups = word.ups + 1; names = word.names })
-        (record { absolute = word.absolute; ups = word.ups; names = without_last 1 word.names }))
+    (record { absolute = word.absolute; ups = word.ups; names = without_last 1 word.names }))
     (record { absolute = word.absolute; ups = word.ups; names = word.names ++ part ∷ [] }))
 
 abbrev before_by : Bool → Bool → List ℕ → PathWord → PathWord
@@ -114,7 +114,7 @@ led_on-more word parts n part h =
 
 ups_by : (idle up empty : Bool) (word : PathWord) (part : List ℕ)
     → (cond idle word (cond up (cond empty (record { absolute = word.absolute; ups = word.ups + 1; names = word.names })
-        (record { absolute = word.absolute; ups = word.ups; names = without_last 1 word.names }))
+    (record { absolute = word.absolute; ups = word.ups; names = without_last 1 word.names }))
     (record { absolute = word.absolute; ups = word.ups; names = word.names ++ part ∷ [] }))).ups ≤ word.ups + 1
 ups_by true up empty word part = omega arith
 ups_by false true true word part = omega arith

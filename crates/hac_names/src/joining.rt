@@ -20,10 +20,8 @@ fn kept_len(base: &Path, word: &PathWord) -> usize
     ensures { result ≡ if word.now.absolute then 0 else length base.now - word.now.ups }
 {
     if word.absolute {
-        return 0;
-    }
-    match usize::try_from(word.ups) {
-        Ok(ups) => base.len().saturating_sub(ups),
-        Err(_) => 0,
+        0
+    } else {
+        base.len().saturating_sub(word.ups as usize)
     }
 }

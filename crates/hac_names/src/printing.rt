@@ -9,10 +9,10 @@ use std::alloc::Global;
 pub fn print_path(alloc: Global, path: &Path) -> Result<Name, Memory>
     ensures { IfOk result (λ text. text ≡ path_text path.now) }
 {
-    let mut text = Vec::new(alloc);
     if path.is_root() {
-        text.push(b'/')?;
+        return Ok(Name::new(b"/".to_vec(alloc)?));
     }
+    let mut text = Vec::new(alloc);
     for name in path.as_slice() {
         text.push(b'/')?;
         text.extend_from_slice(name.as_bytes())?;

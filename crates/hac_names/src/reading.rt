@@ -42,8 +42,12 @@ pub fn parse_word(alloc: Global, bytes: &[u8]) -> Result<PathWord, NameFault>
     if has_long_part(bytes) {
         return Err(NameFault::Limit);
     }
-    let word = walk(alloc, bytes)?;
-    Ok(if bytes[0] == b'/' { at_root(word) } else { word })
+    let mut word = walk(alloc, bytes)?;
+    if bytes[0] == b'/' {
+        word.absolute = true;
+        word.ups = 0;
+    }
+    Ok(word)
 }
 
 fn is_bad(bytes: &[u8]) -> bool
@@ -55,18 +59,9 @@ fn is_bad(bytes: &[u8]) -> bool
 fn has_long_part(bytes: &[u8]) -> bool
     ensures { result ≡ words.has_long_part bytes.now }
 {
-    bytes.split(|b| *b == b'/').any(|part| part.len() > NAME_LIMIT)
-}
-
-/// The same word read at the root.
-fn at_root(word: PathWord) -> PathWord
-    ensures { result ≡ words.at_root word }
-{
-    PathWord {
-        absolute: true,
-        ups: 0,
-        names: word.names,
-    }
+    bytes
+        .split(|b| *b == b'/')
+        .any(|part| part.len() > NAME_LIMIT)
 }
 
 /// The word of the parts, as a relative one.
