@@ -34,9 +34,9 @@ is_up part = bytes_eq part (codes "..")
 abbrev pub before : List ℕ → PathWord → PathWord
 before part word =
     if is_idle part then word
-    else (if is_up part then record { absolute = false; ups = word.ups + 1; names = word.names }
-    else (if word.ups == 0 then record { absolute = false; ups = 0; names = part ∷ word.names }
-    else record { absolute = false; ups = word.ups - 1; names = word.names }))
+    else (if is_up part then record word { ups = word.ups + 1 }
+    else (if word.ups == 0 then record word { names = part ∷ word.names }
+    else record word { ups = word.ups - 1 }))
 
 -- the relative word of parts, read from the last one to the first
 abbrev pub relative : List (List ℕ) → PathWord
@@ -45,7 +45,7 @@ relative (part ∷ parts) = before part (relative parts)
 
 -- the same word read at the root, above which nothing is
 abbrev pub at_root : PathWord → PathWord
-at_root word = record { absolute = true; ups = 0; names = word.names }
+at_root word = record word { absolute = true; ups = 0 }
 
 -- a word that begins with a slash is read at the root
 abbrev pub spelled : List ℕ → PathWord
@@ -59,7 +59,7 @@ abbrev pub has_long_part : List ℕ → Bool
 has_long_part bytes = list_any is_long (parts bytes)
 
 -- what the bytes of a word say. A bad part counts before a long one, wherever they are.
-abbrev pub word_of : List ℕ → Result PathWord Refusal
+unfoldable pub word_of : List ℕ → Result PathWord Refusal
 word_of bytes =
     if is_bad bytes then Err BadName
     else (if has_long_part bytes then Err (Limit limit.Name)

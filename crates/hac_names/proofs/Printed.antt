@@ -59,6 +59,7 @@ relative-names_only (name ∷ names) h =
 
 -- the text of a path that has names
 read_names : (name : List ℕ) (names : List (List ℕ)) → are_names (name ∷ names) ≡ true → word_of (path_text (name ∷ names)) ≡ Ok (record { absolute = true; ups = 0; names = name ∷ names })
+unfolding word_of
 read_names name names h =
     let path : List (List ℕ) = name ∷ names in
     let text : List ℕ = path_text path in
@@ -72,5 +73,6 @@ read_names name names h =
     cond-false (is_bad text) _ _ bad ∙ cond-false (has_long_part text) _ _ long ∙ ap (λ w. Ok w) word
 
 pub printed_path : PrintedPathIsRead
+unfolding word_of
 printed_path [] h = refl
 printed_path (name ∷ names) h = read_names name names h

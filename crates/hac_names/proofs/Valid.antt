@@ -39,9 +39,9 @@ name-from_leads_down part h =
 
 -- `before`, told what kind of part it is
 names_by : (idle up none : Bool) (part : List ℕ) (word : PathWord) → (idle ≡ false → up ≡ false → is_name part ≡ true) → are_names word.names ≡ true
-    → are_names (cond idle word (cond up (record { absolute = false; ups = word.ups + 1; names = word.names })
-    (cond none (record { absolute = false; ups = 0; names = part ∷ word.names })
-    (record { absolute = false; ups = word.ups - 1; names = word.names })))).names ≡ true
+    → are_names (cond idle word (cond up (record word { ups = word.ups + 1 })
+    (cond none (record word { names = part ∷ word.names })
+    (record word { ups = word.ups - 1 })))).names ≡ true
 names_by true up none part word h w = w
 names_by false true none part word h w = w
 names_by false false true part word h w = and_from (is_name part) (are_names word.names) (h refl refl) w
@@ -68,6 +68,7 @@ names_of false relative word h e = let same : relative ≡ word = cc in ap (λ w
 
 -- a word that is read has names only
 pub word_of-names : (bytes : List ℕ) (word : PathWord) → word_of bytes ≡ Ok word → are_names word.names ≡ true
+unfolding word_of
 word_of-names bytes word h =
     let p = guard (is_bad bytes) _ _ word h in
     let q = guard (has_long_part bytes) _ _ word p.1 in

@@ -48,15 +48,15 @@ length_up xs = omega (arith, length-take (length xs - 1) xs)
 -- `walked` and `before`, told what kind of part it is
 abbrev walked_by : Bool → Bool → PathWord → List ℕ → PathWord
 walked_by idle up word part =
-    cond idle word (cond up (cond (eqb (length word.names) 0) (record { absolute = word.absolute; ups = word.ups + 1; names = word.names })
-    (record { absolute = word.absolute; ups = word.ups; names = without_last 1 word.names }))
-    (record { absolute = word.absolute; ups = word.ups; names = word.names ++ part ∷ [] }))
+    cond idle word (cond up (cond (eqb (length word.names) 0) (record word { ups = word.ups + 1 })
+    (record word { names = without_last 1 word.names }))
+    (record word { names = word.names ++ part ∷ [] }))
 
 abbrev before_by : Bool → Bool → List ℕ → PathWord → PathWord
 before_by idle up part word =
-    cond idle word (cond up (record { absolute = false; ups = word.ups + 1; names = word.names })
-    (cond (eqb word.ups 0) (record { absolute = false; ups = 0; names = part ∷ word.names })
-    (record { absolute = false; ups = word.ups - 1; names = word.names })))
+    cond idle word (cond up (record word { ups = word.ups + 1 })
+    (cond (eqb word.ups 0) (record word { names = part ∷ word.names })
+    (record word { ups = word.ups - 1 })))
 
 up_none : (a : Bool) (u : ℕ) (names : List (List ℕ)) (second : PathWord) (part : List ℕ)
     → led_on (walked_by false true (record { absolute = a; ups = u; names = names }) part) second
@@ -94,7 +94,7 @@ led_on-none word = same_word _ _ refl (omega arith) (append-nil _ ∙ take_all _
 -- ---- the whole word, from the root on
 absolute_by : (idle up : Bool) (part : List ℕ) (word : PathWord) → word.absolute ≡ false → (before_by idle up part word).absolute ≡ false
 absolute_by true up part word h = h
-absolute_by false true part word h = refl
+absolute_by false true part word h = h
 absolute_by false false part word h = grind arith
 
 relative-absolute : (parts : List (List ℕ)) → (relative parts).absolute ≡ false
@@ -113,9 +113,9 @@ led_on-more word parts n part h =
     ∙ ap (λ ps. led_on word (relative ps)) (ap (λ p. p ∷ drop (n + 1) parts) h.1 ∙ sym (drop_more parts n part h.0))
 
 ups_by : (idle up empty : Bool) (word : PathWord) (part : List ℕ)
-    → (cond idle word (cond up (cond empty (record { absolute = word.absolute; ups = word.ups + 1; names = word.names })
-    (record { absolute = word.absolute; ups = word.ups; names = without_last 1 word.names }))
-    (record { absolute = word.absolute; ups = word.ups; names = word.names ++ part ∷ [] }))).ups ≤ word.ups + 1
+    → (cond idle word (cond up (cond empty (record word { ups = word.ups + 1 })
+    (record word { names = without_last 1 word.names }))
+    (record word { names = word.names ++ part ∷ [] }))).ups ≤ word.ups + 1
 ups_by true up empty word part = omega arith
 ups_by false true true word part = omega arith
 ups_by false true false word part = omega arith

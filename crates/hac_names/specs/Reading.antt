@@ -24,6 +24,5 @@ Reads (Err fault) wanted = IsFor fault wanted
 abbrev pub walked : PathWord → List ℕ → PathWord
 walked word part =
     if is_idle part then word
-    else (if is_up part then (if length word.names == 0 then record { absolute = word.absolute; ups = word.ups + 1; names = word.names }
-    else record { absolute = word.absolute; ups = word.ups; names = without_last 1 word.names })
-    else record { absolute = word.absolute; ups = word.ups; names = word.names ++ part ∷ [] })
+    else (if is_up part then (if length word.names == 0 then record word { ups = word.ups + 1 } else record word { names = without_last 1 word.names })
+    else record word { names = word.names ++ part ∷ [] })

@@ -32,6 +32,7 @@ impl From<Memory> for NameFault {
 }
 
 /// The path word that bytes spell.
+#[tactic(auto, unfolding(hac_model::specs::PathWords::word_of))]
 pub fn parse_word(alloc: Global, bytes: &[u8]) -> Result<PathWord, NameFault>
     ensures word { Reads result (word_of bytes.now) }
     ensures names { IfOk result (λ word. IsTrue (are_names word.names)) }

@@ -23,6 +23,7 @@ fn words_say(rt: HostRuntime) -> Result<(), Fail> {
     ];
     for (bytes, absolute, ups, names) in rows {
         let word = parse_word(alloc, bytes)?;
+        assert_eq!(rt; word.clone()?, word, "at {bytes:?}");
         assert_eq!(rt; word.absolute, absolute, "at {bytes:?}");
         assert_eq!(rt; word.ups, ups, "at {bytes:?}");
         assert_eq!(rt;
