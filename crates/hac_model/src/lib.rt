@@ -8,9 +8,11 @@ pub mod laws;
 mod limits;
 mod memory;
 mod replies;
+mod terms;
 
 pub use bytes::{Name, Seq, Text};
 pub use commands::{Command, Line};
 pub use limits::{LINE_LIMIT, LimitWord, NAME_LIMIT, SCRIPT_LIMIT};
 pub use memory::Memory;
 pub use replies::{Deny, Refusal, Reply};
+pub use terms::{Term, Words};
