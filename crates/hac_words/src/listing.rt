@@ -1,0 +1,37 @@
+//! The distinct words of a text.
+ghost use Rattle.std.specs.Prelude.{◌≡◌, IfOk, map};
+ghost use Rattle.hac_model.specs.Words.{lower_case, rising_words, runs};
+
+use crate::bytes::is_word_byte;
+use hac_model::{Memory, Name, Words};
+use std::alloc::{AllocError, Global};
+
+/// The words of a text, each once and in the order of their bytes.
+pub fn words_of(alloc: Global, text: &[u8]) -> Result<Words, Memory>
+    ensures { IfOk result (λ words. words ≡ rising_words text.now) }
+{
+    let text = text.to_ascii_lowercase(alloc)?;
+    let mut words = runs(alloc, &text)?;
+    words.sort_unstable();
+    words.dedup();
+    Ok(Words::new(names(alloc, &words)?))
+}
+
+// The longest runs of word bytes, in the order of the text.
+fn runs(alloc: Global, text: &[u8]) -> Result<Vec<&[u8]>, AllocError>
+    ensures { IfOk result (λ found. map (λ run. run.now) found.items ≡ runs text.now) }
+{
+    text.split(|b| !is_word_byte(*b))
+        .filter(|run| !run.is_empty())
+        .collect(alloc)
+}
+
+fn names(alloc: Global, words: &[&[u8]]) -> Result<Vec<Name>, AllocError>
+    ensures { IfOk result (λ names. names.items ≡ map (λ word. word.now) words.now) }
+{
+    let mut names = Vec::with_capacity(alloc, words.len())?;
+    for word in words {
+        names.push(Name::new(Vec::from_slice(alloc, word)?))?;
+    }
+    Ok(names)
+}
