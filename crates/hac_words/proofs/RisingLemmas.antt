@@ -143,9 +143,9 @@ module _ {K : Type 0} (R : K → K → Ordering) where
       let up : T (is_sorted R (marked xs)) = is_sorted-marked xs rise in
       let upward : T (is_sorted R (marked ys)) = is_sorted-marked ys climb in
       let maps : from_sorted {R = R} (marked xs) ≡ from_sorted (marked ys) =
-          same_map o same _ _ (λ q.
-            get-from_sorted R (marked xs) q up ∙ find-marked q xs ∙ ap (λ b. cond b (Some tt) None) (keys q)
-            ∙ sym (get-from_sorted R (marked ys) q upward ∙ find-marked q ys)) in
+      same_map o same _ _ (λ q.
+      get-from_sorted R (marked xs) q up ∙ find-marked q xs ∙ ap (λ b. cond b (Some tt) None) (keys q)
+      ∙ sym (get-from_sorted R (marked ys) q upward ∙ find-marked q ys)) in
       let entries_same : marked xs ≡ marked ys = sym (entries-from_sorted R (marked xs) up) ∙ ap entries maps ∙ entries-from_sorted R (marked ys) upward in
       sym (unmarked xs) ∙ ap (map (λ e. e.0)) entries_same ∙ unmarked ys
 
@@ -171,8 +171,8 @@ module _ {X : Type 0} (f : X → List ℕ) where
       (IsStrictlySortedBy-map _ (IsStrictlySortedBy-dedup (on_texts f) (λ x y. texts_ties (f x) (f y)) ys up))
       (IsStrictlySortedBy-fold (slice_cmp nat_cmp) nat_list_cmp_total (map f xs))
       (λ q.
-        list_any-map (eq_by_cmp (slice_cmp nat_cmp) q) f _
-        ∙ list_any-dedup (λ x y. pointwise nat_eq (f x) (f y)) (λ x. eq_by_cmp (slice_cmp nat_cmp) q (f x)) (λ x y e. ap (eq_by_cmp (slice_cmp nat_cmp) q) (words_tie (f x) (f y) e)) ys
-        ∙ sym (list_any-IsPermutation (λ x. eq_by_cmp (slice_cmp nat_cmp) q (f x)) xs ys moved)
-        ∙ sym (list_any-map (eq_by_cmp (slice_cmp nat_cmp) q) f xs)
-        ∙ sym (list_any-fold (slice_cmp nat_cmp) (slice_cmp-IsAntisymmetric nat_cmp-IsAntisymmetric) (eq_by_cmp (slice_cmp nat_cmp) q) (map f xs)))
+      list_any-map (eq_by_cmp (slice_cmp nat_cmp) q) f _
+      ∙ list_any-dedup (λ x y. pointwise nat_eq (f x) (f y)) (λ x. eq_by_cmp (slice_cmp nat_cmp) q (f x)) (λ x y e. ap (eq_by_cmp (slice_cmp nat_cmp) q) (words_tie (f x) (f y) e)) ys
+      ∙ sym (list_any-IsPermutation (λ x. eq_by_cmp (slice_cmp nat_cmp) q (f x)) xs ys moved)
+      ∙ sym (list_any-map (eq_by_cmp (slice_cmp nat_cmp) q) f xs)
+      ∙ sym (list_any-fold (slice_cmp nat_cmp) (slice_cmp-IsAntisymmetric nat_cmp-IsAntisymmetric) (eq_by_cmp (slice_cmp nat_cmp) q) (map f xs)))

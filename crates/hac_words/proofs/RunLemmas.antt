@@ -1,11 +1,13 @@
 -- The runs of a text: in lower case they are its words, and what one of them passes, one of the parts between other bytes passes.
 use Rattle.std.proofs.Common.{◌≡◌, ◌&&◌, ◌||◌, ℕ, ◌+◌, ◌≤◌, Bool, true, false, cond, not, List, [], ◌∷◌, map, filter, length, take, nat_eq, nat_le, refl, ap, sym, ◌∙◌, arith}
 use Rattle.std.proofs.lemmas.List.{length-map}
+use Rattle.std.proofs.lemmas.List.Elements.{All-filter, All-from_recursion, All-map, filter_passes}
+use Rattle.std.proofs.lemmas.List.Folds.{list_all-map}
 use Rattle.std.proofs.lemmas.Grind.{common_steps}
 use Rattle.std.proofs.lemmas.Bool.Decides.{nat_tests}
 use Rattle.std.specs.Char.{is_ascii_uppercase, to_ascii_lowercase}
 use Rattle.std.specs.Cmp.Lexicographic.{pointwise}
-use Rattle.std.specs.List.{list_any, list_all, onto_first, slice_split, starts_with, zip}
+use Rattle.std.specs.List.{All, AllByRecursion, list_any, list_all, onto_first, slice_split, starts_with, zip}
 use Rattle.hac_model.specs.Words.{has_bytes, has_term, is_asked, is_lower_word_byte, is_word, is_word_byte, lower_case, runs, words}
 use Rattle.hac_model.specs.declared.terms.Term.{Term}
 
@@ -71,3 +73,37 @@ pub begins-zip : (letters run : List ℕ) → length letters ≤ length run → 
 begins-zip [] run h = refl
 begins-zip (x ∷ letters) [] h = absurd (omega arith)
 begins-zip (x ∷ letters) (b ∷ run) h = ap (λ t. nat_eq x (to_ascii_lowercase b) && t) (begins-zip letters run (omega arith))
+
+-- ---- the words are words
+
+module _ {X : Type 0} (q : X → Bool) where
+  onto_first-passes : (x : X) (parts : List (List X)) → q x ≡ true → AllByRecursion (λ part. list_all q part ≡ true) parts → AllByRecursion (λ part. list_all q part ≡ true) (onto_first x parts)
+  onto_first-passes x [] passes h = (ap (λ b. b && true) passes, tt)
+  onto_first-passes x (part ∷ parts) passes h = ((λ i. passes i && h.0 i), h.1)
+
+  -- each part between the elements that fail a test passes it
+  slice_split-passes : (xs : List X) → AllByRecursion (λ part. list_all q part ≡ true) (slice_split (λ x. not (q x)) xs)
+  slice_split-passes [] = (refl, tt)
+  slice_split-passes (x ∷ xs) =
+      elim (q x) as (λ b. q x ≡ b → AllByRecursion (λ part. list_all q part ≡ true) (cond (not b) ([] ∷ slice_split (λ y. not (q y)) xs) (onto_first x (slice_split (λ y. not (q y)) xs)))) [
+        | true ↦ λ passes. onto_first-passes x (slice_split (λ y. not (q y)) xs) passes (slice_split-passes xs)
+        | false ↦ λ fails. (refl, slice_split-passes xs)
+      ] refl
+
+is_lower_word_byte-lower : (b : ℕ) → is_lower_word_byte (to_ascii_lowercase b) ≡ is_word_byte b
+unfolding is_lower_word_byte is_word_byte
+is_lower_word_byte-lower b = grind (arith, nat_tests)
+
+-- word bytes in lower case are a word
+is_word-lower_case : (run : List ℕ) → has_bytes run ≡ true → list_all is_word_byte run ≡ true → is_word (lower_case run) ≡ true
+is_word-lower_case run some all =
+    let lower : list_all is_lower_word_byte (lower_case run) ≡ true =
+    list_all-map is_lower_word_byte to_ascii_lowercase run ∙ (λ i. list_all (λ b. is_lower_word_byte-lower b i) run) ∙ all in
+    λ i. (has_bytes-lower run ∙ some) i && lower i
+
+pub words-are_words : (text : List ℕ) → All (λ word. is_word word ≡ true) (words text)
+unfolding words
+words-are_words text =
+    let parts = slice_split (λ b. not (is_word_byte b)) text in
+    let passes = All-filter has_bytes (λ part. list_all is_word_byte part ≡ true) parts (All-from_recursion (λ part. list_all is_word_byte part ≡ true) parts (slice_split-passes is_word_byte text)) in
+    All-map (λ word. is_word word ≡ true) lower_case (runs text) (λ k d h. is_word-lower_case _ (filter_passes has_bytes parts k d h) (passes k d h))

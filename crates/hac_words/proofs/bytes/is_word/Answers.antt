@@ -9,5 +9,5 @@ use Rattle.hac_words.proofs.bytes.is_word.Goals as goal
 pub returns-then-not-is_empty : goal.returns-then-not-is_empty
 returns-then-not-is_empty c =
     let all : c.all.result ≡ list_all is_lower_word_byte c.args.bytes.now =
-        all_from_yields_List is_lower_word_byte _ _ _ c.all.ensures.ran (YieldsList-from_slice c.args.bytes.now cc) (λ x b q k. search rules) in
+    all_from_yields_List is_lower_word_byte _ _ _ c.all.ensures.ran (YieldsList-from_slice c.args.bytes.now cc) (λ x b q k. search rules) in
     grind (arith, nat_tests, all)
