@@ -37,7 +37,7 @@ unfoldable pub is_lower_word_byte : ℕ → Bool
 is_lower_word_byte b = is_word_byte b && not (is_ascii_uppercase b)
 
 -- the bytes are a word as texts have them: at least one byte, and in lower case
-abbrev pub is_word : List ℕ → Bool
+unfoldable pub is_word : List ℕ → Bool
 is_word bytes = has_bytes bytes && list_all is_lower_word_byte bytes
 
 -- the word is what the term asks for
@@ -46,5 +46,5 @@ is_asked (Word letters) word = bytes_eq letters word
 is_asked (Prefix letters) word = starts_with nat_eq word letters
 
 -- one of the text's words is what the term asks for
-abbrev pub has_term : List ℕ → Term → Bool
+unfoldable pub has_term : List ℕ → Term → Bool
 has_term text term = list_any (is_asked term) (words text)

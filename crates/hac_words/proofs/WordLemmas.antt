@@ -1,5 +1,5 @@
 -- What is known of the rising words of a text.
-use Rattle.std.proofs.Common.{◌≡◌, ◌↔◌, ◌∙◌, ℕ, Bool, true, List, nat_eq, sym}
+use Rattle.std.proofs.Common.{◌≡◌, ◌↔◌, ◌∙◌, ℕ, Bool, true, List, sym}
 use Rattle.std.specs.Cmp.{both_ways, eq_by_cmp_equiv, Equal-is}
 use Rattle.std.specs.Cmp.Lexicographic.{nat_list_cmp_total, slice_cmp}
 use Rattle.std.specs.FinMap.{IsAntisymmetric, nat_cmp-IsAntisymmetric, slice_cmp-IsAntisymmetric}
@@ -27,6 +27,7 @@ unfolding rising_words
 list_any-rising_words p text = list_any-fold (slice_cmp nat_cmp) words_apart p (words text)
 
 pub has_term-rising_words : (text : List ℕ) (term : Term) → has_term text term ≡ list_any (is_asked term) (rising_words text)
+unfolding has_term
 has_term-rising_words text term = sym (list_any-rising_words (is_asked term) text)
 
 module _ (xs ys : List (List ℕ)) where
