@@ -1,5 +1,7 @@
 pub mod Bytes
 pub mod Names
+pub mod Paths
+pub mod PathWords
 pub mod Lines
 pub mod Script
 pub mod Tree

@@ -7,10 +7,12 @@ mod commands;
 pub mod laws;
 mod limits;
 mod memory;
+mod paths;
 mod replies;
 
 pub use bytes::{Name, Seq, Text};
 pub use commands::{Command, Line};
 pub use limits::{LINE_LIMIT, LimitWord, NAME_LIMIT, SCRIPT_LIMIT};
 pub use memory::Memory;
+pub use paths::{Path, PathWord};
 pub use replies::{Deny, Refusal, Reply};

@@ -1,0 +1,28 @@
+-- What a call answers that reads a path word.
+use Rattle.std.specs.Prelude.{◌≡◌, ⊤, ◌+◌, ◌==◌, if◌then◌else◌, ℕ, List, [], ◌∷◌, ◌++◌, length, Result, Ok, Err}
+use Rattle.hac_model.specs.Paths.{without_last}
+use Rattle.hac_model.specs.PathWords.{is_idle, is_up}
+use Rattle.hac_model.specs.declared.limits.LimitWord.TheVariants as limit
+use Rattle.hac_model.specs.declared.paths.PathWord.{PathWord}
+use Rattle.hac_model.specs.declared.replies.Refusal.{Refusal}
+use Rattle.hac_model.specs.declared.replies.Refusal.TheVariants.{BadName, Limit}
+use Rattle.hac_names.specs.declared.reading.NameFault.{NameFault}
+use Rattle.hac_names.specs.declared.reading.NameFault.TheVariants as fault
+
+-- the fault is for the refusal that is wanted; want of memory may come in place of any answer
+abbrev pub IsFor : {A : Type 0} → NameFault → Result A Refusal → Type 0
+IsFor fault.Bad wanted = wanted ≡ Err BadName
+IsFor fault.Limit wanted = wanted ≡ Err (Limit limit.Name)
+IsFor fault.Memory wanted = ⊤
+
+-- the call gave what is wanted, the value or the fault
+abbrev pub Reads : {A : Type 0} → Result A NameFault → Result A Refusal → Type 0
+Reads (Ok value) wanted = wanted ≡ Ok value
+Reads (Err fault) wanted = IsFor fault wanted
+
+-- a relative word led on by a part behind it: a `..` removes the name before it, and leads up where none is left
+abbrev pub walked : PathWord → List ℕ → PathWord
+walked word part =
+    if is_idle part then word
+    else (if is_up part then (if length word.names == 0 then record word { ups = word.ups + 1 } else record word { names = without_last 1 word.names })
+    else record word { names = word.names ++ part ∷ [] })
