@@ -8,4 +8,5 @@ pub mod Tree
 pub mod Play
 pub mod Printed
 pub mod Answers
+pub mod Words
 pub mod Laws

@@ -9,6 +9,7 @@ mod limits;
 mod memory;
 mod paths;
 mod replies;
+mod terms;
 
 pub use bytes::{Name, Seq, Text};
 pub use commands::{Command, Line};
@@ -16,3 +17,4 @@ pub use limits::{LINE_LIMIT, LimitWord, NAME_LIMIT, SCRIPT_LIMIT};
 pub use memory::Memory;
 pub use paths::{Path, PathWord};
 pub use replies::{Deny, Refusal, Reply};
+pub use terms::{Term, Words};

@@ -1,0 +1,14 @@
+//! What a query may ask of a text, and the words that a text has.
+use crate::bytes::{Name, Seq};
+
+/// Something that a text has or lacks. Which it has is said by `has_term` of the specs.
+#[derive(Clone, Debug, Drop, PartialEq, Eq, PartialOrd, Ord)]
+pub enum Term {
+    /// These letters are one of the text's words. Letters that no word has, as a capital, are in no text.
+    Word(Name),
+    /// One of the text's words begins with these letters.
+    Prefix(Name),
+}
+
+/// A list of words.
+pub type Words = Seq<Name>;
