@@ -44,11 +44,11 @@ added s dir name body = record {
   entries = s.entries ++ record { number = s.next; parent = dir; name = name; body = body } ∷ [];
 }
 
--- the entries, of which the one with the number has changed
+-- the entries, of which the one with the number has its body changed
 abbrev pub changed : ℕ → (Body → Body) → List Entry → List Entry
 changed number change [] = []
 changed number change (entry ∷ entries) =
-    (if entry.number == number then record entry { body = change entry.body } else entry) ∷ changed number change entries
+    record entry { body = if entry.number == number then change entry.body else entry.body } ∷ changed number change entries
 
 -- the state, in which the entry with the number has changed
 abbrev pub changed_at : State → ℕ → (Body → Body) → State

@@ -1,7 +1,12 @@
 -- Theorems over the definitions, each proved as the contract of a function of the module `laws`.
-use Rattle.std.specs.Prelude.{◌≡◌, ℕ, List, ◌∷◌, ◌++◌}
+use Rattle.std.specs.Prelude.{◌≡◌, ℕ, List, [], ◌∷◌, ◌++◌, Option, Some, None, IsTrue, codes}
+use Rattle.hac_model.specs.Events.{accepted, apply, event_of}
+use Rattle.hac_model.specs.Links.{links, round}
 use Rattle.hac_model.specs.Script.{script}
 use Rattle.hac_model.specs.Play.{play, tree_after_all}
+use Rattle.hac_model.specs.Tree.{empty, plain}
+use Rattle.hac_model.specs.Valid.{IsValid}
+use Rattle.hac_model.specs.declared.events.Event.{Event}
 use Rattle.hac_model.specs.declared.states.State.{State}
 
 -- scripts that are joined at a line end are played one after the other
@@ -9,3 +14,23 @@ abbrev pub ScriptsJoin : Type 0
 ScriptsJoin =
     (first second : List ℕ) (s : State) →
     play (first ++ 10 ∷ second) s ≡ play first s ++ play second (tree_after_all (script first) s)
+
+-- the empty state is valid
+abbrev pub EmptyIsValid : Type 0
+EmptyIsValid = IsValid empty
+
+-- a valid state stays valid by each event that can happen to it
+abbrev pub EventsKeepValid : Type 0
+EventsKeepValid = (s : State) (event : Event) → IsValid s → IsTrue (accepted s event) → IsValid (apply s event)
+
+-- the links of a valid state don't change when they are found anew
+abbrev pub LinksStay : Type 0
+LinksStay = (s : State) → IsValid s → round s (links s) ≡ links s
+
+-- and no others stay so
+abbrev pub LinksAreOnly : Type 0
+LinksAreOnly = (s : State) → IsValid s → (known : ℕ → List ℕ) → round s known ≡ known → known ≡ links s
+
+-- valid states that show the same tree, and would go on with the same number, are equal
+abbrev pub PlainTellsState : Type 0
+PlainTellsState = (s t : State) → IsValid s → IsValid t → s.next ≡ t.next → plain s ≡ plain t → s ≡ t

@@ -1,8 +1,29 @@
 //! Theorems over the definitions alone. Each is the contract of a function that does nothing.
-ghost use Rattle.hac_model.specs.Laws.{ScriptsJoin};
+ghost use Rattle.hac_model.specs.Laws.{ScriptsJoin, EmptyIsValid, EventsKeepValid, LinksStay, LinksAreOnly, PlainTellsState};
 
 /// Two scripts that are joined at a line end are played one after the other: no line looks ahead, and
 /// none looks back but to the tree.
 pub fn scripts_join()
     ensures { ScriptsJoin }
+{}
+
+/// The empty state is valid.
+pub fn empty_is_valid()
+    ensures { EmptyIsValid }
+{}
+
+/// Events lead from valid states to valid states.
+pub fn events_keep_valid()
+    ensures { EventsKeepValid }
+{}
+
+/// The links of a valid state are those, and those alone, that one more round leaves as they are.
+pub fn links_are_fixed()
+    ensures stay { LinksStay }
+    ensures only { LinksAreOnly }
+{}
+
+/// A valid state is told by its plain tree and the number that it goes on with.
+pub fn plain_tells_state()
+    ensures { PlainTellsState }
 {}
