@@ -1,7 +1,9 @@
 -- Theorems over the definitions, each proved as the contract of a function of the module `laws`.
 use Rattle.std.specs.Prelude.{◌≡◌, ℕ, List, [], ◌∷◌, ◌++◌, Option, Some, None, IsTrue, codes}
+use Rattle.std.specs.List.{flat_map}
 use Rattle.hac_model.specs.Events.{accepted, apply, event_of}
 use Rattle.hac_model.specs.Links.{links, round}
+use Rattle.hac_model.specs.Printed.{ended, text}
 use Rattle.hac_model.specs.Script.{script}
 use Rattle.hac_model.specs.Play.{play, tree_after_all}
 use Rattle.hac_model.specs.Tree.{empty, plain}
@@ -34,3 +36,17 @@ LinksAreOnly = (s : State) → IsValid s → (known : ℕ → List ℕ) → roun
 -- valid states that show the same tree, and would go on with the same number, are equal
 abbrev pub PlainTellsState : Type 0
 PlainTellsState = (s t : State) → IsValid s → IsValid t → s.next ≡ t.next → plain s ≡ plain t → s ≡ t
+
+-- lines, each with its end
+abbrev pub lines_text : List (List ℕ) → List ℕ
+lines_text lines = flat_map ended lines
+
+-- a semantic directory has the files that had its word when they were last indexed, and no directory is written over
+abbrev pub FirstListings : Type 0
+FirstListings =
+    text (play (lines_text (
+        codes "write /a Big apple" ∷ codes "smkdir /s apple" ∷ codes "sls /s" ∷ codes "index" ∷ codes "sls /s"
+        ∷ codes "write /a pear" ∷ codes "sls /s" ∷ codes "write /s x" ∷ codes "smkdir /s y" ∷ [])) empty)
+    ≡ lines_text (
+        codes "ok" ∷ codes "ok" ∷ codes "ok" ∷ codes "ok" ∷ codes "t /a" ∷ codes "ok"
+        ∷ codes "ok" ∷ codes "t /a" ∷ codes "ok" ∷ codes "no not-file /s" ∷ codes "no exists /s" ∷ [])

@@ -1,5 +1,5 @@
 //! Theorems over the definitions alone. Each is the contract of a function that does nothing.
-ghost use Rattle.hac_model.specs.Laws.{ScriptsJoin, EmptyIsValid, EventsKeepValid, LinksStay, LinksAreOnly, PlainTellsState};
+ghost use Rattle.hac_model.specs.Laws.{ScriptsJoin, EmptyIsValid, EventsKeepValid, LinksStay, LinksAreOnly, PlainTellsState, FirstListings};
 
 /// Two scripts that are joined at a line end are played one after the other: no line looks ahead, and
 /// none looks back but to the tree.
@@ -26,4 +26,9 @@ pub fn links_are_fixed()
 /// A valid state is told by its plain tree and the number that it goes on with.
 pub fn plain_tells_state()
     ensures { PlainTellsState }
+{}
+
+/// A small run, from its bytes to its bytes.
+pub fn first_listings()
+    ensures { FirstListings }
 {}
