@@ -1,8 +1,8 @@
 -- The words of a text, and the terms that a text has.
-use Rattle.std.specs.Prelude.{ℕ, Bool, ◌&&◌, ◌||◌, not, nat_eq, nat_le, List, map, filter, length}
+use Rattle.std.specs.Prelude.{ℕ, Bool, ◌&&◌, ◌||◌, not, nat_eq, nat_le, List, [], map, filter, fold, length}
+use Rattle.std.specs.BTreeSet.{insert_key}
 use Rattle.std.specs.Char.{is_ascii_alphanumeric, is_ascii_uppercase, to_ascii_lowercase}
 use Rattle.std.specs.Cmp.Lexicographic.{slice_cmp}
-use Rattle.std.specs.FinSet.{from_list, items}
 use Rattle.std.specs.List.{list_any, list_all, slice_split, starts_with}
 use Rattle.std.specs.Ordering.{nat_cmp}
 use Rattle.std.specs.Str.{bytes_eq}
@@ -10,7 +10,7 @@ use Rattle.hac_model.specs.declared.terms.Term.{Term}
 use Rattle.hac_model.specs.declared.terms.Term.TheVariants.{Word, Prefix}
 
 -- a word may hold this byte: it is an ASCII letter, an ASCII digit or a byte from 128 on
-abbrev pub is_word_byte : ℕ → Bool
+unfoldable pub is_word_byte : ℕ → Bool
 is_word_byte b = is_ascii_alphanumeric b || nat_le 128 b
 
 abbrev pub has_bytes : List ℕ → Bool
@@ -28,17 +28,21 @@ lower_case bytes = map to_ascii_lowercase bytes
 unfoldable pub words : List ℕ → List (List ℕ)
 words text = map lower_case (runs text)
 
--- the words of a text, each once and in the order of their bytes
+-- the words of a text, each once and in the order of their bytes: each goes to its place among those before it
 unfoldable pub rising_words : List ℕ → List (List ℕ)
-rising_words text = items (from_list {R = slice_cmp nat_cmp} (words text))
+rising_words text = fold (insert_key (slice_cmp nat_cmp)) [] (words text)
 
--- the bytes are a word as texts have them: at least one byte, each of them a word byte and no capital
+-- the byte is one that words have in lower case
+unfoldable pub is_lower_word_byte : ℕ → Bool
+is_lower_word_byte b = is_word_byte b && not (is_ascii_uppercase b)
+
+-- the bytes are a word as texts have them: at least one byte, and in lower case
 abbrev pub is_word : List ℕ → Bool
-is_word bytes = has_bytes bytes && list_all (λ b. is_word_byte b && not (is_ascii_uppercase b)) bytes
+is_word bytes = has_bytes bytes && list_all is_lower_word_byte bytes
 
 -- the word is what the term asks for
 abbrev pub is_asked : Term → List ℕ → Bool
-is_asked (Word letters) word = bytes_eq word letters
+is_asked (Word letters) word = bytes_eq letters word
 is_asked (Prefix letters) word = starts_with nat_eq word letters
 
 -- one of the text's words is what the term asks for

@@ -1,0 +1,32 @@
+-- Theorems over the words of a text, each proved as the contract of a function of the module `laws`.
+use Rattle.std.specs.Prelude.{◌≡◌, ◌↔◌, ℕ, Bool, List, All, Contains, IsTrue}
+use Rattle.std.specs.Cmp.Lexicographic.{slice_cmp}
+use Rattle.std.specs.List.{list_any}
+use Rattle.std.specs.List.Sorted.{IsStrictlySortedBy}
+use Rattle.std.specs.Ordering.{nat_cmp}
+use Rattle.hac_model.specs.Words.{has_term, is_asked, is_word, rising_words, words}
+use Rattle.hac_model.specs.declared.terms.Term.{Term}
+
+-- each word of a text is a word by itself
+abbrev pub WordsAreWords : Type 0
+WordsAreWords = (text : List ℕ) → All (λ word. IsTrue (is_word word)) (words text)
+
+-- the words rise
+abbrev pub WordsRise : Type 0
+WordsRise = (text : List ℕ) → IsStrictlySortedBy (slice_cmp nat_cmp) (rising_words text)
+
+-- the words that rise are the words of the text
+abbrev pub WordsStay : Type 0
+WordsStay = (text word : List ℕ) → Contains (rising_words text) word ↔ Contains (words text) word
+
+-- what rises and has the words of the text is the list of its words
+abbrev pub WordsAreTold : Type 0
+WordsAreTold =
+    (text : List ℕ) (told : List (List ℕ)) →
+    IsStrictlySortedBy (slice_cmp nat_cmp) told →
+    ((word : List ℕ) → Contains told word ↔ Contains (words text) word) →
+    told ≡ rising_words text
+
+-- the words that rise tell each term that the text has
+abbrev pub TermsAreTold : Type 0
+TermsAreTold = (text : List ℕ) (term : Term) → has_term text term ≡ list_any (is_asked term) (rising_words text)

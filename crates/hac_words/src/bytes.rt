@@ -1,0 +1,43 @@
+//! The bytes that words are made of.
+ghost use Rattle.std.specs.Prelude.{◌≡◌};
+ghost use Rattle.hac_model.specs.Words.{is_lower_word_byte, is_word, is_word_byte};
+
+/// Whether the bytes are one word as texts have them: in lower case, and without what stands between words.
+pub fn is_word(bytes: &[u8]) -> bool
+    ensures { result ≡ is_word bytes.now }
+{
+    !bytes.is_empty() && bytes.iter().all(|b| is_lower_word_byte(*b))
+}
+
+#[tactic(auto, unfolding(hac_model::specs::Words::is_lower_word_byte))]
+fn is_lower_word_byte(b: u8) -> bool
+    ensures { result ≡ is_lower_word_byte b }
+{
+    is_word_byte(b) && !b.is_ascii_uppercase()
+}
+
+#[tactic(auto, unfolding(hac_model::specs::Words::is_word_byte))]
+pub(crate) fn is_word_byte(b: u8) -> bool
+    ensures { result ≡ is_word_byte b }
+{
+    b.is_ascii_alphanumeric() || b >= 128
+}
+
+#[cfg(test)]
+mod tests {
+    use super::*;
+
+    #[test]
+    fn knows_words(rt: HostRuntime) {
+        for (bytes, want) in [
+            (b"".as_slice(), false),
+            (b"ant", true),
+            (b"4x4\xc3\x89", true),
+            (b"Ant", false),
+            (b"an ant", false),
+            (b"ant\x7f", false),
+        ] {
+            assert_eq!(rt; is_word(bytes), want, "{bytes:?}");
+        }
+    }
+}

@@ -1,0 +1,27 @@
+//! Theorems over the definitions alone. Each is the contract of a function that does nothing.
+ghost use Rattle.hac_words.specs.Laws.{TermsAreTold, WordsAreTold, WordsAreWords, WordsRise, WordsStay};
+
+/// Each word of a text is a word by itself.
+pub fn words_are_words()
+    ensures { WordsAreWords }
+{}
+
+/// The words that `words_of` lists rise, so that none comes twice.
+pub fn words_rise()
+    ensures { WordsRise }
+{}
+
+/// They are the words of the text.
+pub fn words_stay()
+    ensures { WordsStay }
+{}
+
+/// No other list rises and has the words of the text.
+pub fn words_are_told()
+    ensures { WordsAreTold }
+{}
+
+/// Which terms a text has is told by the list of its words.
+pub fn terms_are_told()
+    ensures { TermsAreTold }
+{}

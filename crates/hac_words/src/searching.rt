@@ -1,0 +1,81 @@
+//! Whether a text has a term.
+ghost use Rattle.std.specs.Prelude.{◌≡◌, ◌&&◌, nat_eq};
+ghost use Rattle.std.specs.List.{starts_with};
+ghost use Rattle.std.specs.Str.{bytes_eq};
+ghost use Rattle.hac_model.specs.Words.{has_bytes, has_term, is_asked, lower_case};
+
+use crate::bytes::is_word_byte;
+use hac_model::Term;
+
+/// Whether one of the text's words is what the term asks for. It takes no memory, and reads the text once.
+pub fn has_term(text: &[u8], term: &Term) -> bool
+    ensures { result ≡ has_term text.now term.now }
+{
+    text.split(|b| !is_word_byte(*b))
+        .any(|run| is_found(run, term))
+}
+
+// Whether a run, which may have no bytes, is in lower case what the term asks for.
+fn is_found(run: &[u8], term: &Term) -> bool
+    ensures { result ≡ (has_bytes run.now && is_asked term.now (lower_case run.now)) }
+{
+    !run.is_empty() && is_asked(run, term)
+}
+
+fn is_asked(run: &[u8], term: &Term) -> bool
+    ensures { result ≡ is_asked term.now (lower_case run.now) }
+{
+    match term {
+        Term::Word(letters) => spells(run, letters.as_bytes()),
+        Term::Prefix(letters) => begins(run, letters.as_bytes()),
+    }
+}
+
+// Whether the run is these letters in lower case.
+fn spells(run: &[u8], letters: &[u8]) -> bool
+    ensures { result ≡ bytes_eq letters.now (lower_case run.now) }
+{
+    run.len() == letters.len() && begins(run, letters)
+}
+
+// Whether the run begins with these letters in lower case.
+fn begins(run: &[u8], letters: &[u8]) -> bool
+    ensures { result ≡ starts_with nat_eq (lower_case run.now) letters.now }
+{
+    run.len() >= letters.len()
+        && letters
+            .iter()
+            .zip(run)
+            .all(|(letter, b)| *letter == b.to_ascii_lowercase())
+}
+
+#[cfg(test)]
+mod tests {
+    use super::*;
+    use hac_model::Name;
+    use std::test::Fail;
+
+    #[test]
+    fn finds_words_and_prefixes(rt: HostRuntime) -> Result<(), Fail> {
+        let text = b"The Anthill, 4x4 caf\xc3\xa9";
+        for (letters, is_word, is_prefix) in [
+            (b"the".as_slice(), true, true),
+            (b"anthill", true, true),
+            (b"ant", false, true),
+            (b"hill", false, false),
+            (b"Ant", false, false),
+            (b"anthills", false, false),
+            (b"the anthill", false, false),
+            (b"4", false, true),
+            (b"caf\xc3\xa9", true, true),
+            (b"", false, true),
+        ] {
+            let word = Term::Word(Name::new(Vec::from_slice(rt.alloc(), letters)?));
+            let prefix = Term::Prefix(Name::new(Vec::from_slice(rt.alloc(), letters)?));
+            assert_eq!(rt; has_term(text, &word), is_word, "{letters:?}");
+            assert_eq!(rt; has_term(text, &prefix), is_prefix, "{letters:?}*");
+            assert_eq!(rt; has_term(b", ;", &prefix), false, "{letters:?}*");
+        }
+        Ok(())
+    }
+}
