@@ -114,10 +114,14 @@ indexed-sound : (body : Body) → IsSound body → IsSound (indexed body)
 indexed-sound (File text dirty shown) h = λ clean. refl
 indexed-sound (Semantic query) h = h
 
+-- a step keeps a state valid, also where no file is dirty
+pub step-valid : (s : State) → IsValid s → IsValid (apply s Step)
+step-valid s h = elim (next_dirty s.entries) as (λ o. IsValid (option_map_or (λ file. changed_at s file indexed) o s)) [ None ↦ h | Some file ↦ changed_at-valid s file indexed indexed-sound h ]
+
 pub apply-valid : (s : State) (event : Event) → IsValid s → IsTrue (accepted s event) → IsValid (apply s event)
 apply-valid s (NewFile dir name text) h ok = added-valid s dir name (File text true None) h ok (λ clean. cc)
 apply-valid s (Rewrite file text) h ok = changed_at-valid s file (rewritten text) (rewritten-sound text) h
 apply-valid s (Smkdir dir name query) h ok =
     let parts = and_parts (is_free s dir name) (is_query query) ok in
     added-valid s dir name (Semantic query) h parts.0 parts.1
-apply-valid s Step h ok = elim (next_dirty s.entries) as (λ o. IsValid (option_map_or (λ file. changed_at s file indexed) o s)) [ None ↦ h | Some file ↦ changed_at-valid s file indexed indexed-sound h ]
+apply-valid s Step h ok = step-valid s h

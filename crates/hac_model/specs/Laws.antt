@@ -1,14 +1,19 @@
 -- Theorems over the definitions, each proved as the contract of a function of the module `laws`.
-use Rattle.std.specs.Prelude.{◌≡◌, ℕ, List, [], ◌∷◌, ◌++◌, Option, Some, None, IsTrue, codes}
+use Rattle.std.specs.Prelude.{◌≡◌, ℕ, ◌+◌, nat_lt, List, [], ◌∷◌, ◌++◌, Option, Some, None, Ok, IsTrue, codes}
 use Rattle.std.specs.List.{flat_map}
-use Rattle.hac_model.specs.Events.{accepted, apply, event_of}
+use Rattle.hac_model.specs.Events.{accepted, apply, dirty, event_of}
+use Rattle.hac_model.specs.Lines.{is_spelled, item_of}
 use Rattle.hac_model.specs.Links.{links, round}
 use Rattle.hac_model.specs.Printed.{ended, text}
+use Rattle.hac_model.specs.Refusals.{refusal}
 use Rattle.hac_model.specs.Script.{script}
 use Rattle.hac_model.specs.Play.{play, tree_after_all}
 use Rattle.hac_model.specs.Tree.{empty, plain}
 use Rattle.hac_model.specs.Valid.{IsValid}
+use Rattle.hac_model.specs.declared.commands.Command.{Command}
+use Rattle.hac_model.specs.declared.commands.Line.{Line}
 use Rattle.hac_model.specs.declared.events.Event.{Event}
+use Rattle.hac_model.specs.declared.events.Event.TheVariants.{Step}
 use Rattle.hac_model.specs.declared.states.State.{State}
 
 -- scripts that are joined at a line end are played one after the other
@@ -24,6 +29,28 @@ EmptyIsValid = IsValid empty
 -- a valid state stays valid by each event that can happen to it
 abbrev pub EventsKeepValid : Type 0
 EventsKeepValid = (s : State) (event : Event) → IsValid s → IsTrue (accepted s event) → IsValid (apply s event)
+
+-- a line spells a command only with words that the command may have
+abbrev pub LinesSpell : Type 0
+LinesSpell = (bytes : List ℕ) (line : Line) → item_of bytes ≡ Ok line → IsTrue (is_spelled line.command)
+
+-- the event of a command that isn't refused can happen
+abbrev pub CommandsHappen : Type 0
+CommandsHappen =
+    (s : State) (command : Command) (event : Event) → IsTrue (is_spelled command) →
+    refusal s command ≡ None → event_of s command ≡ Some event → IsTrue (accepted s event)
+
+-- a step can happen just where a file is dirty
+abbrev pub StepsAreDue : Type 0
+StepsAreDue = (s : State) → accepted s Step ≡ nat_lt 0 (dirty s)
+
+-- and leaves one file less dirty
+abbrev pub StepsClean : Type 0
+StepsClean = (s : State) → IsValid s → IsTrue (accepted s Step) → dirty s ≡ dirty (apply s Step) + 1
+
+-- scripts lead from valid states to valid states
+abbrev pub ScriptsKeepValid : Type 0
+ScriptsKeepValid = (bytes : List ℕ) (s : State) → IsValid s → IsValid (tree_after_all (script bytes) s)
 
 -- the links of a valid state don't change when they are found anew
 abbrev pub LinksStay : Type 0

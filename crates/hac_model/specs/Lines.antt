@@ -1,10 +1,10 @@
 -- What one line of a script says.
-use Rattle.std.specs.Prelude.{ℕ, Bool, ◌==◌, ◌&&◌, ◌||◌, not, if◌then◌else◌, nat_le, List, [], ◌∷◌, length, slice_index, drop, codes, Result, Ok, Err}
+use Rattle.std.specs.Prelude.{ℕ, Bool, true, ◌==◌, ◌&&◌, ◌||◌, not, if◌then◌else◌, nat_le, List, [], ◌∷◌, length, slice_index, drop, codes, Result, Ok, Err}
 use Rattle.std.specs.List.{prefix_len, before_first, list_any, list_all}
 use Rattle.std.specs.Str.{bytes_eq}
 use Rattle.hac_model.specs.Bytes.{is_space, is_backslash}
-use Rattle.hac_model.specs.Names.{is_root_path}
-use Rattle.hac_model.specs.Queries.{is_query_word}
+use Rattle.hac_model.specs.Names.{is_name, is_root_path}
+use Rattle.hac_model.specs.Queries.{is_query, is_query_word}
 use Rattle.hac_model.specs.Words.{lower_case}
 use Rattle.hac_model.specs.declared.commands.Command.{Command}
 use Rattle.hac_model.specs.declared.commands.Command.TheVariants.{Write, Smkdir, Index, Sls}
@@ -84,6 +84,13 @@ command_of line =
     else (if is_called (codes "index") line then index_of (after_word line)
     else (if is_called (codes "sls") line then sls_of (after_word line)
     else Err BadLine)))
+
+-- the words of the command are as a line spells them
+abbrev pub is_spelled : Command → Bool
+is_spelled (Write name text) = is_name name
+is_spelled (Smkdir name query) = is_name name && is_query query
+is_spelled Index = true
+is_spelled (Sls name) = is_name name
 
 -- every line is of the session `main` yet
 abbrev pub in_main : Result Command Refusal → Result Line Refusal

@@ -1,5 +1,5 @@
 //! Theorems over the definitions alone. Each is the contract of a function that does nothing.
-ghost use Rattle.hac_model.specs.Laws.{ScriptsJoin, EmptyIsValid, EventsKeepValid, LinksStay, LinksAreOnly, PlainTellsState, FirstListings};
+ghost use Rattle.hac_model.specs.Laws.{ScriptsJoin, EmptyIsValid, EventsKeepValid, LinesSpell, CommandsHappen, StepsAreDue, StepsClean, ScriptsKeepValid, LinksStay, LinksAreOnly, PlainTellsState, FirstListings};
 
 /// Two scripts that are joined at a line end are played one after the other: no line looks ahead, and
 /// none looks back but to the tree.
@@ -15,6 +15,27 @@ pub fn empty_is_valid()
 /// Events lead from valid states to valid states.
 pub fn events_keep_valid()
     ensures { EventsKeepValid }
+{}
+
+/// A command that a line spells has words that it may have.
+pub fn lines_spell()
+    ensures { LinesSpell }
+{}
+
+/// A command that isn't refused is an event that can happen.
+pub fn commands_happen()
+    ensures { CommandsHappen }
+{}
+
+/// Steps can happen until no file is dirty, one for each that is.
+pub fn steps_clean()
+    ensures due { StepsAreDue }
+    ensures clean { StepsClean }
+{}
+
+/// Scripts lead from valid states to valid states.
+pub fn scripts_keep_valid()
+    ensures { ScriptsKeepValid }
 {}
 
 /// The links of a valid state are those, and those alone, that one more round leaves as they are.
