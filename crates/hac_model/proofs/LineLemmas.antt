@@ -1,9 +1,9 @@
 -- A line with its end, in front of anything.
-use Rattle.std.proofs.Common.{◌≡◌, ℕ, ◌+◌, ◌<◌, ◌≤◌, Bool, true, false, cond, List, [], ◌∷◌, ◌++◌, length, take, drop, get_or, refl, ap, sym, ◌∙◌, arith, append_assoc, length-append, subst}
-use Rattle.std.specs.Prelude.{if◌then◌else◌, nat_lt, not, ◌==◌, nat_eq, ◌||◌}
-use Rattle.std.specs.List.{prefix_len, position_or_len, flat_map, list_any}
+use Rattle.std.proofs.Common.{◌≡◌, ℕ, ◌+◌, ◌<◌, Bool, true, false, List, [], ◌∷◌, ◌++◌, length, take, get_or, ap, ◌∙◌, arith, length-append}
+use Rattle.std.specs.Prelude.{if◌then◌else◌, nat_lt, ◌||◌}
+use Rattle.std.specs.List.{position_or_len}
 use Rattle.std.proofs.lemmas.Bool.{eqb-true}
-use Rattle.std.proofs.lemmas.List.Sums.{split_at_first, passes_at_first, prefix_len-le-length}
+use Rattle.std.proofs.lemmas.List.Sums.{split_at_first, passes_at_first}
 use Rattle.std.proofs.lemmas.Grind.{common_steps, flat_map-append}
 use Rattle.std.proofs.lemmas.List.Folds.{list_any-append}
 use Rattle.std.proofs.Math.Seq.{take-append-add}
@@ -15,8 +15,8 @@ use Rattle.hac_model.specs.declared.states.State.{State}
 use Rattle.hac_model.specs.Play.{replies, tree_after_all, play, is_refused, has_refusal}
 use Rattle.hac_model.specs.Printed.{text, reply_text}
 use Rattle.hac_model.proofs.PrefixLemmas.{unended-take}
-use Rattle.hac_model.proofs.ScriptLemmas.{script-step, script-nothing, whole-step}
-use Rattle.hac_model.proofs.JoinLemmas.{position-unended, first_line-unended, after_line-unended, script-unended, joined_unended, replies-append}
+use Rattle.hac_model.proofs.ScriptLemmas.{script-step, whole-step}
+use Rattle.hac_model.proofs.JoinLemmas.{position-unended, after_line-unended, script-unended, joined_unended, replies-append}
 
 -- the first line has no line end in it
 pub first_line-is_unended : (b : List ℕ) → position_or_len is_line_end (first_line b) ≡ length (first_line b)

@@ -1,12 +1,12 @@
 -- The links of a valid state are the one fixed point of a round.
-use Rattle.std.proofs.Common.{◌≡◌, ℕ, zero, suc, ◌+◌, ◌<◌, ◌≤◌, Bool, true, false, cond, List, [], ◌∷◌, ◌++◌, refl, ap, sym, ◌∙◌, arith}
+use Rattle.std.proofs.Common.{◌≡◌, ℕ, zero, suc, ◌+◌, Bool, true, false, cond, List, [], ◌∷◌, refl, ap, sym, ◌∙◌, arith}
 use Rattle.std.specs.Prelude.{◌&&◌, ◌||◌, ◌==◌, Option, Some, None, is_some, filter, count_by, option_and_then}
 use Rattle.std.specs.Option.{option_map_or, option_map}
 use Rattle.std.specs.List.{AllByRecursion}
 use Rattle.std.proofs.lemmas.List.Sums.{sum_by-cons}
 use Rattle.hac_model.specs.Links.{parent_of, is_semantic, is_below, provide, holds, satisfies, passes, column, round, rounds, semantics, links, items, shown_of, query_at}
 use Rattle.hac_model.specs.Tree.{entry_at, body_at, query_in}
-use Rattle.hac_model.specs.Valid.{NumbersRise, IsValid}
+use Rattle.hac_model.specs.Valid.{IsValid}
 use Rattle.hac_model.specs.declared.queries.Query.{Query}
 use Rattle.hac_model.specs.declared.queries.Query.TheVariants as query
 use Rattle.hac_model.specs.declared.states.Entry.{Entry}
@@ -78,3 +78,6 @@ links-fixed s h = sym (links-round s h (links s))
 
 pub links-only : (s : State) → IsValid s → (known : ℕ → List ℕ) → round s known ≡ known → known ≡ links s
 links-only s h known same = sym same ∙ sym (links-round s h known)
+
+pub round-links : (s : State) → IsValid s → (known : ℕ → List ℕ) → round s known ≡ links s
+round-links s h known = sym (links-round s h known)

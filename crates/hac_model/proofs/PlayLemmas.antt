@@ -1,10 +1,9 @@
 -- Scripts lead from valid states to valid states.
-use Rattle.std.proofs.Common.{◌≡◌, ℕ, zero, suc, ◌+◌, ◌<◌, ◌≤◌, Bool, true, false, cond, List, [], ◌∷◌, ◌++◌, length, refl, ap, sym, ◌∙◌, arith}
-use Rattle.std.specs.Prelude.{◌==◌, ◌||◌, if◌then◌else◌, slice_index, replicate, Option, Some, None, Ok, Err, IsTrue}
-use Rattle.std.specs.List.{AllByRecursion, list_all}
+use Rattle.std.proofs.Common.{◌≡◌, ℕ, zero, suc, true, false, List, [], ◌∷◌, ◌++◌, length, refl}
+use Rattle.std.specs.Prelude.{if◌then◌else◌, replicate, Option, Some, None, Ok, Err, IsTrue}
+use Rattle.std.specs.List.{AllByRecursion}
 use Rattle.std.specs.Option.{option_map_or}
-use Rattle.hac_model.specs.Bytes.{is_space}
-use Rattle.hac_model.specs.Events.{accepted, apply, apply_all, changed_at, dirty, event_of, events_of, indexed, next_dirty}
+use Rattle.hac_model.specs.Events.{accepted, apply, apply_all, dirty, event_of, events_of}
 use Rattle.hac_model.specs.Lines.{Item, is_quiet, is_spelled, item_of, items_of}
 use Rattle.hac_model.specs.Play.{state_after, tree_after, tree_after_all}
 use Rattle.hac_model.specs.Refusals.{refusal}
@@ -12,7 +11,6 @@ use Rattle.hac_model.specs.Script.{after_line, first_line, items_of_lines, scrip
 use Rattle.hac_model.specs.Valid.{IsValid}
 use Rattle.hac_model.specs.declared.commands.Command.{Command}
 use Rattle.hac_model.specs.declared.commands.Command.TheVariants as command
-use Rattle.hac_model.specs.declared.commands.Line.{Line}
 use Rattle.hac_model.specs.declared.events.Event.{Event}
 use Rattle.hac_model.specs.declared.events.Event.TheVariants.{Step}
 use Rattle.hac_model.specs.declared.states.State.{State}

@@ -1,7 +1,7 @@
 -- Lines spell commands with words that the commands may have.
-use Rattle.std.proofs.Common.{◌≡◌, ℕ, zero, suc, ◌+◌, ◌<◌, ◌≤◌, Bool, true, false, cond, List, [], ◌∷◌, ◌++◌, length, drop, refl, ap, sym, ◌∙◌, arith}
+use Rattle.std.proofs.Common.{◌≡◌, ℕ, Bool, true, false, List, [], ◌∷◌, length, drop, refl, ap, sym, ◌∙◌, arith}
 use Rattle.std.specs.Prelude.{◌==◌, ◌&&◌, ◌||◌, not, if◌then◌else◌, nat_le, map, codes, Result, Ok, Err, IsTrue, ⊤, slice_index}
-use Rattle.std.specs.Char.{is_ascii_uppercase, to_ascii_lowercase}
+use Rattle.std.specs.Char.{to_ascii_lowercase}
 use Rattle.std.specs.List.{list_all, list_any}
 use Rattle.std.proofs.lemmas.Bool.{and_parts, and_from}
 use Rattle.std.proofs.lemmas.Bool.Decides.{nat_tests}
@@ -11,7 +11,7 @@ use Rattle.hac_model.specs.Names.{is_name, is_root_path}
 use Rattle.hac_model.specs.Queries.{is_operator, is_query, is_query_word}
 use Rattle.hac_model.specs.Words.{has_bytes, is_lower_word_byte, is_word, is_word_byte, lower_case}
 use Rattle.hac_model.specs.declared.commands.Command.{Command}
-use Rattle.hac_model.specs.declared.commands.Command.TheVariants.{Write, Smkdir, Index, Sls}
+use Rattle.hac_model.specs.declared.commands.Command.TheVariants.{Write, Index, Sls}
 use Rattle.hac_model.specs.declared.commands.Line.{Line}
 use Rattle.hac_model.specs.declared.limits.LimitWord.TheVariants as limit
 use Rattle.hac_model.specs.declared.limits.TheConstants.{LINE_LIMIT}
@@ -81,7 +81,7 @@ spells_write arguments =
     let word = first_word arguments in
     let command : Result Command Refusal = Ok (Write (drop 1 (first_word arguments)) (text_after_word arguments)) in
     spells-if (length word == 0 || list_any is_backslash (text_after_word arguments)) (Err BadLine) (if is_root_path word then command else Err BadName)
-        (λ bad. tt) (λ good. spells_path word command (λ named. named))
+    (λ bad. tt) (λ good. spells_path word command (λ named. named))
 
 smkdir-spells : (name : List ℕ) (wanted : Result Query Refusal) → is_name name ≡ true → SpellsQuery wanted → Spells (smkdir_with name wanted)
 unfolding Spells SpellsQuery
@@ -94,7 +94,7 @@ spells_smkdir arguments =
     let word = first_word arguments in
     let command = smkdir_with (drop 1 (first_word arguments)) (query_of (text_after_word arguments)) in
     spells-if (length word == 0) (Err BadLine) (if is_root_path word then command else Err BadName)
-        (λ bad. tt) (λ good. spells_path word command (λ named. smkdir-spells (drop 1 (first_word arguments)) (query_of (text_after_word arguments)) named (spells_query (text_after_word arguments))))
+    (λ bad. tt) (λ good. spells_path word command (λ named. smkdir-spells (drop 1 (first_word arguments)) (query_of (text_after_word arguments)) named (spells_query (text_after_word arguments))))
 
 spells_index : (arguments : List ℕ) → Spells (index_of arguments)
 unfolding Spells
@@ -106,7 +106,7 @@ spells_sls arguments =
     let word = first_word arguments in
     let command : Result Command Refusal = Ok (Sls (drop 1 (first_word arguments))) in
     spells-if (length word == 0 || not (list_all is_space (after_word arguments))) (Err BadLine) (if is_root_path word then command else Err BadName)
-        (λ bad. tt) (λ good. spells_path word command (λ named. named))
+    (λ bad. tt) (λ good. spells_path word command (λ named. named))
 
 spells_command : (line : List ℕ) → Spells (command_of line)
 spells_command line =
@@ -115,9 +115,9 @@ spells_command line =
     let after_smkdir : Result Command Refusal = if is_called (codes "index") line then index_of rest else after_index in
     let after_write : Result Command Refusal = if is_called (codes "smkdir") line then smkdir_of rest else after_smkdir in
     spells-if (is_called (codes "write") line) (write_of rest) after_write (λ _. spells_write rest)
-        (λ _. spells-if (is_called (codes "smkdir") line) (smkdir_of rest) after_smkdir (λ _. spells_smkdir rest)
-            (λ _. spells-if (is_called (codes "index") line) (index_of rest) after_index (λ _. spells_index rest)
-                (λ _. spells-if (is_called (codes "sls") line) (sls_of rest) (Err BadLine) (λ _. spells_sls rest) (λ _. spells_bad_line))))
+    (λ _. spells-if (is_called (codes "smkdir") line) (smkdir_of rest) after_smkdir (λ _. spells_smkdir rest)
+    (λ _. spells-if (is_called (codes "index") line) (index_of rest) after_index (λ _. spells_index rest)
+    (λ _. spells-if (is_called (codes "sls") line) (sls_of rest) (Err BadLine) (λ _. spells_sls rest) (λ _. spells_bad_line))))
 
 -- an item is a line whose command has words that it may have, or a refusal
 abbrev pub IsItem : Item → Type 0

@@ -1,13 +1,12 @@
 -- Events keep a state valid.
-use Rattle.std.proofs.Common.{◌≡◌, ℕ, zero, suc, ◌+◌, ◌<◌, ◌≤◌, Bool, true, false, cond, List, [], ◌∷◌, ◌++◌, refl, ap, sym, ◌∙◌, arith, eq-eqb}
-use Rattle.std.specs.Prelude.{◌&&◌, ◌==◌, Option, Some, None, IsTrue, is_none, if◌then◌else◌}
+use Rattle.std.proofs.Common.{◌≡◌, ℕ, ◌+◌, Bool, true, false, cond, List, [], ◌∷◌, ◌++◌, refl, ap, ◌∙◌, arith}
+use Rattle.std.specs.Prelude.{◌&&◌, ◌==◌, Option, Some, None, IsTrue, is_none}
 use Rattle.std.specs.Option.{option_map_or}
 use Rattle.std.specs.List.{AllByRecursion}
 use Rattle.std.specs.Str.{bytes_eq}
 use Rattle.std.specs.Cmp.{nat_eq_equiv}
 use Rattle.std.specs.Cmp.Lexicographic.{nat_list_eq_equiv}
 use Rattle.std.proofs.lemmas.Bool.{and_parts, eqb-true}
-use Rattle.std.proofs.lemmas.Grind.{common_steps}
 use Rattle.hac_model.specs.Names.{is_name}
 use Rattle.hac_model.specs.Queries.{is_query}
 use Rattle.hac_model.specs.Events.{next_dirty, accepted, apply, added, changed, changed_at, rewritten, indexed, is_free}
@@ -66,7 +65,7 @@ added-valid s dir name body h free sound =
       names = all-append (λ e. IsTrue (is_name e.name)) s.entries new h.names named.1;
       parents = all-append (λ e. e.parent ≡ 0) s.entries new h.parents (eqb-true dir 0 named.0);
       differ = names-append s.entries new h.differ (none_from (child s.entries dir name) parts.1);
-      bodies = all-append (λ e. IsSound e.body) s.entries new h.bodies sound
+      bodies = all-append (λ e. IsSound e.body) s.entries new h.bodies sound;
     }
 
 numbers-changed : (n : ℕ) (f : Body → Body) (above : ℕ) (es : List Entry) (next : ℕ) → NumbersRise above es next → NumbersRise above (changed n f es) next
@@ -103,7 +102,7 @@ changed_at-valid s n f keeps h = record {
   names = names-changed n f (λ name. IsTrue (is_name name)) s.entries h.names;
   parents = parents-changed n f (λ parent. parent ≡ 0) s.entries h.parents;
   differ = differ-changed n f s.entries h.differ;
-  bodies = bodies-changed n f keeps s.entries h.bodies
+  bodies = bodies-changed n f keeps s.entries h.bodies;
 }
 
 rewritten-sound : (text : List ℕ) (body : Body) → IsSound body → IsSound (rewritten text body)

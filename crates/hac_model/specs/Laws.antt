@@ -1,5 +1,5 @@
 -- Theorems over the definitions, each proved as the contract of a function of the module `laws`.
-use Rattle.std.specs.Prelude.{◌≡◌, ℕ, ◌+◌, nat_lt, List, [], ◌∷◌, ◌++◌, Option, Some, None, Ok, IsTrue, codes}
+use Rattle.std.specs.Prelude.{◌≡◌, ℕ, ◌+◌, nat_lt, List, [], ◌∷◌, ◌++◌, Some, None, Ok, IsTrue, codes}
 use Rattle.std.specs.List.{flat_map}
 use Rattle.hac_model.specs.Events.{accepted, apply, dirty, event_of}
 use Rattle.hac_model.specs.Lines.{is_spelled, item_of}
@@ -60,6 +60,10 @@ LinksStay = (s : State) → IsValid s → round s (links s) ≡ links s
 abbrev pub LinksAreOnly : Type 0
 LinksAreOnly = (s : State) → IsValid s → (known : ℕ → List ℕ) → round s known ≡ known → known ≡ links s
 
+-- one round finds the links, whatever it begins with, since the root provides all files and queries name no directory yet
+abbrev pub OneRoundIsEnough : Type 0
+OneRoundIsEnough = (s : State) → IsValid s → (known : ℕ → List ℕ) → round s known ≡ links s
+
 -- valid states that show the same tree, and would go on with the same number, are equal
 abbrev pub PlainTellsState : Type 0
 PlainTellsState = (s t : State) → IsValid s → IsValid t → s.next ≡ t.next → plain s ≡ plain t → s ≡ t
@@ -72,8 +76,32 @@ lines_text lines = flat_map ended lines
 abbrev pub FirstListings : Type 0
 FirstListings =
     text (play (lines_text (
-        codes "write /a Big apple" ∷ codes "smkdir /s apple" ∷ codes "sls /s" ∷ codes "index" ∷ codes "sls /s"
-        ∷ codes "write /a pear" ∷ codes "sls /s" ∷ codes "write /s x" ∷ codes "smkdir /s y" ∷ [])) empty)
+    codes "write /a Big apple" ∷ codes "smkdir /s apple" ∷ codes "sls /s" ∷ codes "index" ∷ codes "sls /s"
+    ∷ codes "write /a pear" ∷ codes "sls /s" ∷ codes "write /s x" ∷ codes "smkdir /s y" ∷ [])) empty)
     ≡ lines_text (
-        codes "ok" ∷ codes "ok" ∷ codes "ok" ∷ codes "ok" ∷ codes "t /a" ∷ codes "ok"
-        ∷ codes "ok" ∷ codes "t /a" ∷ codes "ok" ∷ codes "no not-file /s" ∷ codes "no exists /s" ∷ [])
+    codes "ok" ∷ codes "ok" ∷ codes "ok" ∷ codes "ok" ∷ codes "t /a" ∷ codes "ok"
+    ∷ codes "ok" ∷ codes "t /a" ∷ codes "ok" ∷ codes "no not-file /s" ∷ codes "no exists /s" ∷ [])
+
+-- a file is listed by its text as it was last indexed, and not before that; a text that is written again is to be indexed again
+abbrev pub IndexedListings : Type 0
+IndexedListings =
+    text (play (lines_text (
+    codes "smkdir /s NOT2 " ∷ codes "write /b not2" ∷ codes "write /a x,Not2" ∷ codes "write /c not not2x" ∷ codes "sls /s"
+    ∷ codes "index" ∷ codes "write /a Not2" ∷ codes "write /d not2" ∷ codes "write /b" ∷ codes "sls /s"
+    ∷ codes "index" ∷ codes "sls /s" ∷ [])) empty)
+    ≡ lines_text (
+    codes "ok" ∷ codes "ok" ∷ codes "ok" ∷ codes "ok" ∷ codes "ok"
+    ∷ codes "ok" ∷ codes "ok" ∷ codes "ok" ∷ codes "ok" ∷ codes "t /b" ∷ codes "t /a" ∷ codes "ok"
+    ∷ codes "ok" ∷ codes "t /a" ∷ codes "t /d" ∷ codes "ok" ∷ [])
+
+-- each refusal in its place: a line's form, its path, its query, and then what stands in the tree
+abbrev pub RefusedLines : Type 0
+RefusedLines =
+    text (play (lines_text (
+    codes "sls" ∷ codes "sls a b" ∷ codes "sls a" ∷ codes "index x" ∷ codes "smkdir" ∷ codes "smkdir s AND"
+    ∷ codes "smkdir /s" ∷ codes "smkdir /s AND" ∷ codes "smkdir /s a b" ∷ codes "smkdir /s a*" ∷ codes "smkdir /s  And "
+    ∷ codes "sls /m" ∷ codes "write /a x" ∷ codes "sls /a" ∷ codes "smkdir /a x" ∷ codes " sls  /s " ∷ codes "index " ∷ [])) empty)
+    ≡ lines_text (
+    codes "no bad-line" ∷ codes "no bad-line" ∷ codes "no bad-name" ∷ codes "no bad-line" ∷ codes "no bad-line" ∷ codes "no bad-name"
+    ∷ codes "no bad-query 1" ∷ codes "no bad-query 1" ∷ codes "no bad-query 1" ∷ codes "no bad-query 1" ∷ codes "ok"
+    ∷ codes "no no-path /m" ∷ codes "ok" ∷ codes "no not-dir /a" ∷ codes "no exists /a" ∷ codes "ok" ∷ codes "ok" ∷ [])

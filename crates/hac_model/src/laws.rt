@@ -1,5 +1,5 @@
 //! Theorems over the definitions alone. Each is the contract of a function that does nothing.
-ghost use Rattle.hac_model.specs.Laws.{ScriptsJoin, EmptyIsValid, EventsKeepValid, LinesSpell, CommandsHappen, StepsAreDue, StepsClean, ScriptsKeepValid, LinksStay, LinksAreOnly, PlainTellsState, FirstListings};
+ghost use Rattle.hac_model.specs.Laws.{ScriptsJoin, EmptyIsValid, EventsKeepValid, LinesSpell, CommandsHappen, StepsAreDue, StepsClean, ScriptsKeepValid, LinksStay, LinksAreOnly, OneRoundIsEnough, PlainTellsState, FirstListings, IndexedListings, RefusedLines};
 
 /// Two scripts that are joined at a line end are played one after the other: no line looks ahead, and
 /// none looks back but to the tree.
@@ -44,12 +44,27 @@ pub fn links_are_fixed()
     ensures only { LinksAreOnly }
 {}
 
+/// One round finds the links of a valid state, while entries stand in the root alone and queries are words.
+pub fn one_round_is_enough()
+    ensures { OneRoundIsEnough }
+{}
+
 /// A valid state is told by its plain tree and the number that it goes on with.
 pub fn plain_tells_state()
     ensures { PlainTellsState }
 {}
 
-/// A small run, from its bytes to its bytes.
+/// A small run, from its bytes to its bytes: what has the word is listed, and no directory is written over.
 pub fn first_listings()
     ensures { FirstListings }
+{}
+
+/// A run in which files are listed by their texts as they were last indexed.
+pub fn indexed_listings()
+    ensures { IndexedListings }
+{}
+
+/// A run of refusals, each in its place.
+pub fn refused_lines()
+    ensures { RefusedLines }
 {}
