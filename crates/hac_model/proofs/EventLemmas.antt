@@ -1,5 +1,5 @@
 -- The events of commands can happen, and steps leave fewer files dirty.
-use Rattle.std.proofs.Common.{◌≡◌, ℕ, ◌+◌, ◌<◌, ◌≤◌, Bool, true, false, cond, List, [], ◌∷◌, refl, ap, sym, ◌∙◌, arith, eq-eqb, zero-add}
+use Rattle.std.proofs.Common.{◌≡◌, ℕ, ◌+◌, ◌<◌, ◌≤◌, Bool, true, false, cond, List, [], ◌∷◌, refl, ap, sym, ◌∙◌, arith, eq-eqb, zero-add, suc}
 use Rattle.std.specs.Prelude.{◌==◌, ◌&&◌, if◌then◌else◌, nat_lt, count_by, Option, Some, None, IsTrue, is_some, is_none, option_and_then}
 use Rattle.std.specs.Option.{option_map_or, option_map}
 use Rattle.std.specs.Str.{bytes_eq}
@@ -150,3 +150,7 @@ steps-clean s h ok =
       | None ↦ (λ found ok. absurd cc)
       | Some n ↦ (λ found ok. step-in 0 s.entries s.next n h.numbers found)
     ] refl ok
+
+-- a step can happen where a file is dirty
+pub step-due : (s : State) (n : ℕ) → dirty s ≡ suc n → IsTrue (accepted s Step)
+step-due s n more = steps-due s ∙ ap (λ (k : ℕ). nat_lt 0 k) more ∙ grind (arith, nat_tests)

@@ -1,5 +1,5 @@
 -- Scripts lead from valid states to valid states.
-use Rattle.std.proofs.Common.{◌≡◌, ℕ, zero, suc, true, false, List, [], ◌∷◌, ◌++◌, length, refl}
+use Rattle.std.proofs.Common.{◌≡◌, ℕ, zero, suc, true, false, List, [], ◌∷◌, ◌++◌, length, refl, arith}
 use Rattle.std.specs.Prelude.{if◌then◌else◌, replicate, Option, Some, None, Ok, Err, IsTrue}
 use Rattle.std.specs.List.{AllByRecursion}
 use Rattle.std.specs.Option.{option_map_or}
@@ -14,7 +14,7 @@ use Rattle.hac_model.specs.declared.commands.Command.TheVariants as command
 use Rattle.hac_model.specs.declared.events.Event.{Event}
 use Rattle.hac_model.specs.declared.events.Event.TheVariants.{Step}
 use Rattle.hac_model.specs.declared.states.State.{State}
-use Rattle.hac_model.proofs.EventLemmas.{commands-happen}
+use Rattle.hac_model.proofs.EventLemmas.{commands-happen, step-due, steps-clean}
 use Rattle.hac_model.proofs.SpellingLemmas.{IsItem, item_of-item}
 use Rattle.hac_model.proofs.ValidLemmas.{apply-valid, step-valid}
 
@@ -66,3 +66,14 @@ script-items bytes = items_of_lines-items (length bytes) bytes
 
 pub scripts-valid : (bytes : List ℕ) (s : State) → IsValid s → IsValid (tree_after_all (script bytes) s)
 scripts-valid bytes s h = tree_after_all-valid (script bytes) s (script-items bytes) h
+
+-- as many steps as there are dirty files leave none dirty
+steps-clean-all : (n : ℕ) (s : State) → IsValid s → dirty s ≡ n → dirty (apply_all s (replicate n Step)) ≡ 0
+steps-clean-all zero s h none = none
+steps-clean-all (suc n) s h more =
+    let due = step-due s n more in
+    let fewer : dirty (apply s Step) ≡ n = omega (arith, steps-clean s h due, more) in
+    steps-clean-all n (apply s Step) (step-valid s h) fewer
+
+pub index-cleans : (s : State) → IsValid s → dirty (state_after s command.Index) ≡ 0
+index-cleans s h = steps-clean-all (dirty s) s h refl

@@ -91,4 +91,4 @@ event_of s (command.Sls name) = None
 -- the events that an accepted command is: `index` is as many steps as there are dirty files
 abbrev pub events_of : State → Command → List Event
 events_of s command.Index = replicate (dirty s) Step
-events_of s command = option_map_or (λ event. event ∷ []) (event_of s command) []
+events_of s other = option_map_or (λ event. event ∷ []) (event_of s other) []

@@ -7,10 +7,11 @@ use Rattle.hac_model.specs.Links.{links, round}
 use Rattle.hac_model.specs.Printed.{ended, text}
 use Rattle.hac_model.specs.Refusals.{refusal}
 use Rattle.hac_model.specs.Script.{script}
-use Rattle.hac_model.specs.Play.{play, tree_after_all}
+use Rattle.hac_model.specs.Play.{play, state_after, tree_after_all}
 use Rattle.hac_model.specs.Tree.{empty, plain}
 use Rattle.hac_model.specs.Valid.{IsValid}
 use Rattle.hac_model.specs.declared.commands.Command.{Command}
+use Rattle.hac_model.specs.declared.commands.Command.TheVariants.{Index}
 use Rattle.hac_model.specs.declared.commands.Line.{Line}
 use Rattle.hac_model.specs.declared.events.Event.{Event}
 use Rattle.hac_model.specs.declared.events.Event.TheVariants.{Step}
@@ -47,6 +48,10 @@ StepsAreDue = (s : State) → accepted s Step ≡ nat_lt 0 (dirty s)
 -- and leaves one file less dirty
 abbrev pub StepsClean : Type 0
 StepsClean = (s : State) → IsValid s → IsTrue (accepted s Step) → dirty s ≡ dirty (apply s Step) + 1
+
+-- after the steps of `index` no file is dirty
+abbrev pub IndexCleans : Type 0
+IndexCleans = (s : State) → IsValid s → dirty (state_after s Index) ≡ 0
 
 -- scripts lead from valid states to valid states
 abbrev pub ScriptsKeepValid : Type 0

@@ -24,7 +24,7 @@ abbrev pub IsSound : Body → Type 0
 IsSound (File text dirty shown) = dirty ≡ false → shown ≡ Some text
 IsSound (Semantic query) = IsTrue (is_query query)
 
--- the state is one that events lead to from the empty one
+-- the entries are sound, and they fit one another and the next number
 pub record IsValid (s : State) : Type 0 where
   pub numbers : NumbersRise 0 s.entries s.next
   pub names : AllByRecursion (λ entry. IsTrue (is_name entry.name)) s.entries

@@ -1,5 +1,5 @@
 //! Theorems over the definitions alone. Each is the contract of a function that does nothing.
-ghost use Rattle.hac_model.specs.Laws.{ScriptsJoin, EmptyIsValid, EventsKeepValid, LinesSpell, CommandsHappen, StepsAreDue, StepsClean, ScriptsKeepValid, LinksStay, LinksAreOnly, OneRoundIsEnough, PlainTellsState, FirstListings, IndexedListings, RefusedLines};
+ghost use Rattle.hac_model.specs.Laws.{ScriptsJoin, EmptyIsValid, EventsKeepValid, LinesSpell, CommandsHappen, StepsAreDue, StepsClean, IndexCleans, ScriptsKeepValid, LinksStay, LinksAreOnly, OneRoundIsEnough, PlainTellsState, FirstListings, IndexedListings, RefusedLines};
 
 /// Two scripts that are joined at a line end are played one after the other: no line looks ahead, and
 /// none looks back but to the tree.
@@ -31,6 +31,7 @@ pub fn commands_happen()
 pub fn steps_clean()
     ensures due { StepsAreDue }
     ensures clean { StepsClean }
+    ensures all { IndexCleans }
 {}
 
 /// Scripts lead from valid states to valid states.
