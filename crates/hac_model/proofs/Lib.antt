@@ -1,4 +1,10 @@
 pub mod ScriptLemmas
+pub mod ValidLemmas
+pub mod TreeLemmas
+pub mod LinkLemmas
+pub mod SpellingLemmas
+pub mod EventLemmas
+pub mod PlayLemmas
 pub mod PrefixLemmas
 pub mod JoinLemmas
 pub mod LineLemmas

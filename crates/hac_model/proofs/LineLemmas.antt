@@ -11,7 +11,7 @@ use Rattle.hac_model.specs.Bytes.{is_line_end}
 use Rattle.hac_model.specs.Lines.{Item, items_of}
 use Rattle.hac_model.specs.Script.{first_line, after_line, is_first_ended, ended_line, script, whole}
 use Rattle.hac_model.specs.declared.replies.Reply.{Reply}
-use Rattle.hac_model.specs.Tree.{Tree}
+use Rattle.hac_model.specs.declared.states.State.{State}
 use Rattle.hac_model.specs.Play.{replies, tree_after_all, play, is_refused, has_refusal}
 use Rattle.hac_model.specs.Printed.{text, reply_text}
 use Rattle.hac_model.proofs.PrefixLemmas.{unended-take}
@@ -51,7 +51,7 @@ whole-unended b unended =
     whole-step b ∙ ap (λ (test : Bool). if test then ended_line b ++ whole (after_line b) else []) open_end
 
 -- the text of the first line's replies, and then the text of the others'
-pub text-line : (b : List ℕ) (tree : Tree) →
+pub text-line : (b : List ℕ) (tree : State) →
     text (play b tree) ≡ text (replies (items_of (first_line b)) tree) ++ text (play (after_line b) (tree_after_all (items_of (first_line b)) tree))
 text-line b tree =
     ap (λ (items : List Item). text (replies items tree)) (script-step b)
@@ -59,7 +59,7 @@ text-line b tree =
     ∙ flat_map-append reply_text (replies (items_of (first_line b)) tree) (play (after_line b) (tree_after_all (items_of (first_line b)) tree))
 
 -- a refusal is in the first line's replies or in the others'
-pub refusal-line : (b : List ℕ) (tree : Tree) →
+pub refusal-line : (b : List ℕ) (tree : State) →
     has_refusal (play b tree) ≡ (has_refusal (replies (items_of (first_line b)) tree) || has_refusal (play (after_line b) (tree_after_all (items_of (first_line b)) tree)))
 refusal-line b tree =
     ap (λ (items : List Item). has_refusal (replies items tree)) (script-step b)

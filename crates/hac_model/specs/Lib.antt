@@ -2,11 +2,16 @@ pub mod Bytes
 pub mod Names
 pub mod Paths
 pub mod PathWords
+pub mod Words
+pub mod Queries
 pub mod Lines
 pub mod Script
 pub mod Tree
+pub mod Valid
+pub mod Links
+pub mod Refusals
+pub mod Events
 pub mod Play
 pub mod Printed
 pub mod Answers
-pub mod Words
 pub mod Laws

@@ -1,10 +1,11 @@
 -- Replies as the program prints them.
-use Rattle.std.specs.Prelude.{ℕ, List, [], ◌∷◌, ◌++◌, codes}
+use Rattle.std.specs.Prelude.{ℕ, List, [], ◌∷◌, ◌++◌, codes, decimal}
 use Rattle.std.specs.List.{flat_map}
+use Rattle.hac_model.specs.Paths.{path_text}
 use Rattle.hac_model.specs.declared.limits.LimitWord.{LimitWord}
 use Rattle.hac_model.specs.declared.limits.LimitWord.TheVariants as limit
 use Rattle.hac_model.specs.declared.replies.Refusal.{Refusal}
-use Rattle.hac_model.specs.declared.replies.Refusal.TheVariants.{BadLine, BadName, Limit}
+use Rattle.hac_model.specs.declared.replies.Refusal.TheVariants.{BadLine, BadName, NoPath, NotDir, NotFile, Exists, BadQuery, Limit}
 use Rattle.hac_model.specs.declared.replies.Reply.{Reply}
 use Rattle.hac_model.specs.declared.replies.Reply.TheVariants.{Lines, Refused}
 
@@ -37,6 +38,11 @@ limit_word limit.Store = codes "store"
 abbrev pub refusal_text : Refusal → List ℕ
 refusal_text BadLine = codes "bad-line"
 refusal_text BadName = codes "bad-name"
+refusal_text (NoPath path) = codes "no-path " ++ path_text path
+refusal_text (NotDir path) = codes "not-dir " ++ path_text path
+refusal_text (NotFile path) = codes "not-file " ++ path_text path
+refusal_text (Exists path) = codes "exists " ++ path_text path
+refusal_text (BadQuery place) = codes "bad-query " ++ decimal place
 refusal_text (Limit word) = codes "limit " ++ limit_word word
 
 -- data lines and then `ok`, or one line `no CAUSE DETAIL`

@@ -1,8 +1,9 @@
 //! Lists and names as contracts see them: by their elements, and not by where these lie in memory.
 ghost use Rattle.std.specs.Prelude.{◌≡◌, List, ℕ, Some, nat_eq, refl};
 ghost use Rattle.std.specs.Ordering.{nat_cmp};
-ghost use Rattle.std.specs.Cmp.Lexicographic.{pointwise, slice_cmp, nat_list_eq_equiv, nat_list_cmp_total, texts_ties, texts_po};
+ghost use Rattle.std.specs.Cmp.Lexicographic.{pointwise, slice_cmp, lists_per, lists_equiv, nat_list_eq_equiv, nat_list_cmp_total, texts_ties, texts_po};
 ghost use Rattle.std.specs.Cmp.{partial_equiv_from_equiv};
+ghost use Rattle.std.specs.List.{AllZip};
 
 use std::alloc::AllocError;
 use std::cmp::Ordering;
@@ -41,6 +42,28 @@ impl<T> Seq<T> {
     {
         self.0
     }
+}
+
+impl<T: Clone> Clone for Seq<T> {
+    ghost is_clone = { λ list copy. AllZip T.is_clone list copy };
+
+    fn clone(&self) -> Result<Seq<T>, AllocError> {
+        Ok(Seq(self.0.clone()?))
+    }
+}
+
+impl<T: PartialEq> PartialEq for Seq<T> {
+    ghost eq = { pointwise T.eq };
+
+    ghost laws = { lists_per T.PartialEq.laws };
+
+    fn eq(&self, other: &Seq<T>) -> bool {
+        self.as_slice() == other.as_slice()
+    }
+}
+
+impl<T: Eq> Eq for Seq<T> {
+    ghost laws = { lists_equiv T.Eq.laws };
 }
 
 /// The bytes of a file or of an argument, of any values.

@@ -4,17 +4,25 @@
 
 mod bytes;
 mod commands;
+mod events;
 pub mod laws;
 mod limits;
 mod memory;
+mod numbers;
 mod paths;
+mod queries;
 mod replies;
+mod states;
 mod terms;
 
 pub use bytes::{Name, Seq, Text};
 pub use commands::{Command, Line};
+pub use events::Event;
 pub use limits::{LINE_LIMIT, LimitWord, NAME_LIMIT, SCRIPT_LIMIT};
 pub use memory::Memory;
+pub use numbers::Number;
 pub use paths::{Path, PathWord};
+pub use queries::Query;
 pub use replies::{Deny, Refusal, Reply};
+pub use states::{Body, Entry, State};
 pub use terms::{Term, Words};

@@ -5,10 +5,11 @@ ghost use Rattle.hac_model.specs.declared.replies.Deny.TheVariants.{Memory};
 use crate::bytes::{Name, Seq};
 use crate::limits::LimitWord;
 use crate::memory::Memory;
+use crate::paths::Path;
 use std::alloc::{AllocError, AllocFailed};
 
 /// The reply to a command.
-#[derive(Debug, Drop)]
+#[derive(Clone, Debug, Drop, PartialEq, Eq)]
 pub enum Reply {
     /// The command was carried out: its data lines, without their ends.
     Lines(Seq<Name>),
@@ -17,18 +18,28 @@ pub enum Reply {
 }
 
 /// Why a command is refused. How each is printed is said by `refusal_text` of the specs.
-#[derive(Debug, Drop)]
+#[derive(Clone, Debug, Drop, PartialEq, Eq)]
 pub enum Refusal {
     /// The line is no command.
     BadLine,
     /// A path word breaks the rules of names.
     BadName,
+    /// Nothing stands at the path where something is wanted.
+    NoPath(Path),
+    /// Something else than a directory stands there where one is wanted.
+    NotDir(Path),
+    /// A directory stands there where a file is wanted.
+    NotFile(Path),
+    /// Something stands there where something is to be made.
+    Exists(Path),
+    /// The bytes are no query: the least place, counted from 1, up to which they begin none.
+    BadQuery(u64),
     /// The command would pass a limit.
     Limit(LimitWord),
 }
 
 /// Why a call gives no value: the command is refused, or memory ran out.
-#[derive(Debug, Drop)]
+#[derive(Clone, Debug, Drop, PartialEq, Eq)]
 pub enum Deny {
     Refused(Refusal),
     Memory,

@@ -1,0 +1,5 @@
+use Rattle.hac_model.proofs.ValidLemmas.{apply-valid}
+use Rattle.hac_model.proofs.laws.events_keep_valid.Goals as goal
+
+pub returns : goal.returns
+returns c = apply-valid

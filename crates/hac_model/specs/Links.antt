@@ -1,0 +1,77 @@
+-- What directories provide, and the links that their queries give them.
+use Rattle.std.specs.Prelude.{ℕ, zero, suc, Bool, false, ◌==◌, ◌&&◌, ◌||◌, if◌then◌else◌, List, [], map, filter, count_by, Option, is_some, option_and_then}
+use Rattle.std.specs.List.{list_any}
+use Rattle.std.specs.Option.{option_map_or}
+use Rattle.hac_model.specs.Tree.{entry_at, body_at, is_file, shown_text, query_in}
+use Rattle.hac_model.specs.Words.{has_term}
+use Rattle.hac_model.specs.declared.queries.Query.{Query}
+use Rattle.hac_model.specs.declared.queries.Query.TheVariants as query
+use Rattle.hac_model.specs.declared.states.State.{State}
+use Rattle.hac_model.specs.declared.terms.Term.{Term}
+
+-- what can be linked, in order of number: the files
+abbrev pub items : State → List ℕ
+items s = map (λ entry. entry.number) (filter (λ entry. is_file entry.body) s.entries)
+
+-- the directory in which an entry stands; the root, which is no entry, stands in itself
+abbrev pub parent_of : State → ℕ → ℕ
+parent_of s number = option_map_or (λ entry. entry.parent) (entry_at s.entries number) 0
+
+-- the text of an item as it was last indexed
+abbrev pub shown_of : State → ℕ → Option (List ℕ)
+shown_of s item = option_and_then shown_text (body_at s.entries item)
+
+-- the query of a directory, where it is semantic
+abbrev pub query_at : State → ℕ → Option Query
+query_at s dir = option_and_then query_in (body_at s.entries dir)
+
+abbrev pub is_semantic : State → ℕ → Bool
+is_semantic s dir = is_some (query_at s dir)
+
+-- the item is stored below the directory, which is to say in it: no directory stands between them yet
+abbrev pub is_below : State → ℕ → ℕ → Bool
+is_below s dir item = option_map_or (λ entry. entry.parent == dir && is_file entry.body) (entry_at s.entries item) false
+
+-- the item has the term, by its text as last indexed. One that was never indexed has none.
+abbrev pub atom : State → Term → ℕ → Bool
+atom s term item = option_map_or (λ text. has_term text term) (shown_of s item) false
+
+-- Below, `linked` says of each directory whether the item is linked in it.
+
+-- the directory provides the item: it is stored below it, or linked in it
+abbrev pub provide : State → (ℕ → Bool) → ℕ → ℕ → Bool
+provide s linked dir item = is_below s dir item || (is_semantic s dir && linked dir)
+
+-- the item satisfies the query
+abbrev pub holds : State → (ℕ → Bool) → Query → ℕ → Bool
+holds s linked (query.Term term) item = atom s term item
+
+-- the item satisfies the directory's query
+abbrev pub satisfies : State → (ℕ → Bool) → ℕ → ℕ → Bool
+satisfies s linked dir item = option_map_or (λ query. holds s linked query item) (query_at s dir) false
+
+-- the directory is to have a link to the item: its parent provides it, it was indexed, and it satisfies the query
+abbrev pub passes : State → (ℕ → Bool) → ℕ → ℕ → Bool
+passes s linked dir item =
+    provide s linked (parent_of s dir) item && is_some (shown_of s item) && satisfies s linked dir item
+
+-- the directories in which an item is linked, told the links of each
+abbrev pub column : (ℕ → List ℕ) → ℕ → ℕ → Bool
+column known item dir = list_any (λ number. number == item) (known dir)
+
+-- the links of each directory, found anew from known ones
+abbrev pub round : State → (ℕ → List ℕ) → ℕ → List ℕ
+round s known dir = if is_semantic s dir then filter (λ item. passes s (column known item) dir item) (items s) else []
+
+-- the links after n rounds that begin with none
+abbrev pub rounds : ℕ → State → ℕ → List ℕ
+rounds zero s = λ dir. []
+rounds (suc n) s = round s (rounds n s)
+
+-- how many semantic directories there are
+abbrev pub semantics : State → ℕ
+semantics s = count_by (λ entry. is_some (query_in entry.body)) s.entries
+
+-- the links of each directory, the items in order of number: as many rounds as there are semantic directories
+unfoldable pub links : State → ℕ → List ℕ
+links s = rounds (semantics s) s
