@@ -67,7 +67,7 @@ refusal-line b tree =
     ∙ list_any-append is_refused (replies (items_of (first_line b)) tree) (play (after_line b) (tree_after_all (items_of (first_line b)) tree))
 
 -- the same of a line with its end, in front of anything
-pub text-of_line : (line more : List ℕ) (tree : Tree) → position_or_len is_line_end line ≡ length line →
+pub text-of_line : (line more : List ℕ) (tree : State) → position_or_len is_line_end line ≡ length line →
     text (play (line ++ 10 ∷ more) tree) ≡ text (replies (items_of line) tree) ++ text (play more (tree_after_all (items_of line) tree))
 text-of_line line more tree unended =
     ap (λ (items : List Item). text (replies items tree)) (script-line line more unended)
