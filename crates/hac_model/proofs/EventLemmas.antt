@@ -1,11 +1,12 @@
 -- The events of commands can happen, and steps leave fewer files dirty.
-use Rattle.std.proofs.Common.{◌≡◌, ℕ, ◌+◌, ◌<◌, ◌≤◌, Bool, true, false, cond, List, [], ◌∷◌, refl, ap, sym, ◌∙◌, arith, eq-eqb, zero-add, suc}
+use Rattle.std.proofs.Common.{zero, get_or, length, ◌≡◌, ℕ, ◌+◌, ◌<◌, ◌≤◌, Bool, true, false, cond, List, [], ◌∷◌, refl, ap, sym, ◌∙◌, arith, eq-eqb, zero-add, suc}
 use Rattle.std.specs.Prelude.{◌==◌, ◌&&◌, if◌then◌else◌, nat_lt, count_by, Option, Some, None, IsTrue, is_some, is_none, option_and_then}
 use Rattle.std.specs.Option.{option_map_or, option_map}
 use Rattle.std.specs.Str.{bytes_eq}
 use Rattle.std.proofs.lemmas.Bool.{and_parts, and_from, ne_eqb}
 use Rattle.std.proofs.lemmas.Bool.Decides.{nat_tests}
 use Rattle.std.proofs.lemmas.List.Sums.{sum_by-cons}
+use Rattle.std.proofs.Math.ListN.{set}
 use Rattle.hac_model.specs.Events.{accepted, apply, changed, changed_at, dirty, event_of, indexed, is_free, next_dirty, writing}
 use Rattle.hac_model.specs.Lines.{is_spelled}
 use Rattle.hac_model.specs.Names.{is_name}
@@ -22,6 +23,7 @@ use Rattle.hac_model.specs.declared.states.Body.{Body}
 use Rattle.hac_model.specs.declared.states.Body.TheVariants.{File, Semantic}
 use Rattle.hac_model.specs.declared.states.Entry.{Entry}
 use Rattle.hac_model.specs.declared.states.State.{State}
+use Rattle.hac_model.proofs.TreeLemmas.{number-above}
 
 found-more : (b : Bool) (e : Entry) (o : Option Entry) → is_some o ≡ true → is_some (cond b (Some e) o) ≡ true
 found-more true e o h = refl
@@ -101,6 +103,20 @@ changed-low n f above (e ∷ es) next h low =
     let head : (e.number == n) ≡ false = ne_eqb e.number n (λ same. omega arith) in
     let tail : changed n f es ≡ es = changed-low n f e.number es next h.1 (omega arith) in
     λ i. record e { body = cond (head i) (f e.body) e.body } ∷ tail i
+
+-- the number of an entry changes that entry alone
+pub changed-index : (f : Body → Body) (above : ℕ) (es : List Entry) (next i : ℕ) (d : Entry) → NumbersRise above es next → i < length es → changed (get_or es i d).number f es ≡ set es i (record (get_or es i d) { body = f (get_or es i d).body })
+changed-index f above [] next i d h k = absurd (omega arith)
+changed-index f above (e ∷ es) next zero d h k =
+    let head : (e.number == e.number) ≡ true = eq-eqb e.number e.number refl in
+    let tail : changed e.number f es ≡ es = changed-low e.number f e.number es next h.1 (omega arith) in
+    λ j. record e { body = cond (head j) (f e.body) e.body } ∷ tail j
+changed-index f above (e ∷ es) next (suc i) d h k =
+    let inside : i < length es = omega arith in
+    let more : e.number < (get_or es i d).number = number-above e.number es next i d h.1 inside in
+    let head : (e.number == (get_or es i d).number) ≡ false = ne_eqb e.number (get_or es i d).number (λ same. omega arith) in
+    let tail = changed-index f e.number es next i d h.1 inside in
+    λ j. record e { body = cond (head j) (f e.body) e.body } ∷ tail j
 
 next_dirty-above : (above : ℕ) (es : List Entry) (next n : ℕ) → NumbersRise above es next → next_dirty es ≡ Some n → above < n
 next_dirty-above above [] next n h found = absurd cc
