@@ -7,7 +7,7 @@ use Rattle.std.proofs.lemmas.Bool.{and_parts, and_from, ne_eqb}
 use Rattle.std.proofs.lemmas.Bool.Decides.{nat_tests}
 use Rattle.std.proofs.lemmas.List.Sums.{sum_by-cons}
 use Rattle.std.proofs.Math.ListN.{set}
-use Rattle.hac_model.specs.Events.{accepted, apply, changed, changed_at, dirty, event_of, indexed, is_free, next_dirty, writing}
+use Rattle.hac_model.specs.Events.{accepted, apply, edited, edited_at, dirty_count, event_of, indexed, is_free, next_dirty, writing}
 use Rattle.hac_model.specs.Lines.{is_spelled}
 use Rattle.hac_model.specs.Names.{is_name}
 use Rattle.hac_model.specs.Queries.{is_query}
@@ -91,31 +91,31 @@ unfolding dirty_in
 due [] = refl
 due (e ∷ es) = due-cons (is_dirty e.body) e.number (dirty_in es) (next_dirty es) (due es) ∙ ap (λ (k : ℕ). nat_lt 0 k) (sym (dirty_in-cons e es))
 
-pub steps-due : (s : State) → accepted s Step ≡ nat_lt 0 (dirty s)
+pub steps-due : (s : State) → accepted s Step ≡ nat_lt 0 (dirty_count s)
 unfolding dirty_in
 steps-due s = due s.entries
 
 -- a number that no entry has changes none
-changed-low : (n : ℕ) (f : Body → Body) (above : ℕ) (es : List Entry) (next : ℕ) → NumbersRise above es next → n ≤ above → changed n f es ≡ es
-changed-low n f above [] next h low = refl
-changed-low n f above (e ∷ es) next h low =
+edited-low : (n : ℕ) (f : Body → Body) (above : ℕ) (es : List Entry) (next : ℕ) → NumbersRise above es next → n ≤ above → edited n f es ≡ es
+edited-low n f above [] next h low = refl
+edited-low n f above (e ∷ es) next h low =
     let first : above < e.number = h.0 in
     let head : (e.number == n) ≡ false = ne_eqb e.number n (λ same. omega arith) in
-    let tail : changed n f es ≡ es = changed-low n f e.number es next h.1 (omega arith) in
+    let tail : edited n f es ≡ es = edited-low n f e.number es next h.1 (omega arith) in
     λ i. record e { body = cond (head i) (f e.body) e.body } ∷ tail i
 
 -- the number of an entry changes that entry alone
-pub changed-index : (f : Body → Body) (above : ℕ) (es : List Entry) (next i : ℕ) (d : Entry) → NumbersRise above es next → i < length es → changed (get_or es i d).number f es ≡ set es i (record (get_or es i d) { body = f (get_or es i d).body })
-changed-index f above [] next i d h k = absurd (omega arith)
-changed-index f above (e ∷ es) next zero d h k =
+pub edited-index : (f : Body → Body) (above : ℕ) (es : List Entry) (next i : ℕ) (d : Entry) → NumbersRise above es next → i < length es → edited (get_or es i d).number f es ≡ set es i (record (get_or es i d) { body = f (get_or es i d).body })
+edited-index f above [] next i d h k = absurd (omega arith)
+edited-index f above (e ∷ es) next zero d h k =
     let head : (e.number == e.number) ≡ true = eq-eqb e.number e.number refl in
-    let tail : changed e.number f es ≡ es = changed-low e.number f e.number es next h.1 (omega arith) in
+    let tail : edited e.number f es ≡ es = edited-low e.number f e.number es next h.1 (omega arith) in
     λ j. record e { body = cond (head j) (f e.body) e.body } ∷ tail j
-changed-index f above (e ∷ es) next (suc i) d h k =
+edited-index f above (e ∷ es) next (suc i) d h k =
     let inside : i < length es = omega arith in
     let more : e.number < (get_or es i d).number = number-above e.number es next i d h.1 inside in
     let head : (e.number == (get_or es i d).number) ≡ false = ne_eqb e.number (get_or es i d).number (λ same. omega arith) in
-    let tail = changed-index f e.number es next i d h.1 inside in
+    let tail = edited-index f e.number es next i d h.1 inside in
     λ j. record e { body = cond (head j) (f e.body) e.body } ∷ tail j
 
 next_dirty-above : (above : ℕ) (es : List Entry) (next n : ℕ) → NumbersRise above es next → next_dirty es ≡ Some n → above < n
@@ -131,26 +131,26 @@ clean-indexed : (body : Body) → is_dirty (indexed body) ≡ false
 clean-indexed (File text dirty shown) = refl
 clean-indexed (Semantic query) = refl
 
--- the head of the changed entries
-changed_head : ℕ → Entry → Entry
-changed_head n e = record e { body = if e.number == n then indexed e.body else e.body }
+-- the head of the entries, edited
+edited_head : ℕ → Entry → Entry
+edited_head n e = record e { body = if e.number == n then indexed e.body else e.body }
 
 -- how many are dirty, told of the head, before and after a step
 dirty-before : (e : Entry) (es : List Entry) (b : Bool) → is_dirty e.body ≡ b → dirty_in (e ∷ es) ≡ cond {A = ℕ} b 1 0 + dirty_in es
 dirty-before e es b head = dirty_in-cons e es ∙ ap (λ (t : Bool). cond {A = ℕ} t 1 0 + dirty_in es) head
 
-dirty-after : (n : ℕ) (e : Entry) (es : List Entry) (b : Bool) → is_dirty (if e.number == n then indexed e.body else e.body) ≡ b → dirty_in (changed n indexed (e ∷ es)) ≡ cond {A = ℕ} b 1 0 + dirty_in (changed n indexed es)
-unfolding changed_head
-dirty-after n e es b head = dirty_in-cons (changed_head n e) (changed n indexed es) ∙ ap (λ (t : Bool). cond {A = ℕ} t 1 0 + dirty_in (changed n indexed es)) head
+dirty-after : (n : ℕ) (e : Entry) (es : List Entry) (b : Bool) → is_dirty (if e.number == n then indexed e.body else e.body) ≡ b → dirty_in (edited n indexed (e ∷ es)) ≡ cond {A = ℕ} b 1 0 + dirty_in (edited n indexed es)
+unfolding edited_head
+dirty-after n e es b head = dirty_in-cons (edited_head n e) (edited n indexed es) ∙ ap (λ (t : Bool). cond {A = ℕ} t 1 0 + dirty_in (edited n indexed es)) head
 
-step-in : (above : ℕ) (es : List Entry) (next n : ℕ) → NumbersRise above es next → next_dirty es ≡ Some n → dirty_in es ≡ dirty_in (changed n indexed es) + 1
+step-in : (above : ℕ) (es : List Entry) (next n : ℕ) → NumbersRise above es next → next_dirty es ≡ Some n → dirty_in es ≡ dirty_in (edited n indexed es) + 1
 step-in above [] next n h found = absurd cc
 step-in above (e ∷ es) next n h found =
-    elim (is_dirty e.body) as (λ b. is_dirty e.body ≡ b → cond b (Some e.number) (next_dirty es) ≡ Some n → dirty_in (e ∷ es) ≡ dirty_in (changed n indexed (e ∷ es)) + 1) [
+    elim (is_dirty e.body) as (λ b. is_dirty e.body ≡ b → cond b (Some e.number) (next_dirty es) ≡ Some n → dirty_in (e ∷ es) ≡ dirty_in (edited n indexed (e ∷ es)) + 1) [
       | true ↦ (λ first found.
           let same : e.number ≡ n = cc in
           let clean : is_dirty (if e.number == n then indexed e.body else e.body) ≡ false = ap (λ (t : Bool). is_dirty (if t then indexed e.body else e.body)) (eq-eqb e.number n same) ∙ clean-indexed e.body in
-          let rest : dirty_in (changed n indexed es) ≡ dirty_in es = ap dirty_in (changed-low n indexed e.number es next h.1 (omega arith)) in
+          let rest : dirty_in (edited n indexed es) ≡ dirty_in es = ap dirty_in (edited-low n indexed e.number es next h.1 (omega arith)) in
           omega (arith, dirty-before e es true first, dirty-after n e es false clean, rest))
       | false ↦ (λ first found.
           let more : e.number < n = next_dirty-above e.number es next n h.1 found in
@@ -159,14 +159,14 @@ step-in above (e ∷ es) next n h found =
           omega (arith, dirty-before e es false first, dirty-after n e es false clean, step-in e.number es next n h.1 found))
     ] refl found
 
-pub steps-clean : (s : State) → IsValid s → IsTrue (accepted s Step) → dirty s ≡ dirty (apply s Step) + 1
+pub steps-clean : (s : State) → IsValid s → IsTrue (accepted s Step) → dirty_count s ≡ dirty_count (apply s Step) + 1
 unfolding dirty_in
 steps-clean s h ok =
-    elim (next_dirty s.entries) as (λ o. next_dirty s.entries ≡ o → is_some o ≡ true → dirty s ≡ dirty (option_map_or (λ file. changed_at s file indexed) o s) + 1) [
+    elim (next_dirty s.entries) as (λ o. next_dirty s.entries ≡ o → is_some o ≡ true → dirty_count s ≡ dirty_count (option_map_or (λ file. edited_at s file indexed) o s) + 1) [
       | None ↦ (λ found ok. absurd cc)
       | Some n ↦ (λ found ok. step-in 0 s.entries s.next n h.numbers found)
     ] refl ok
 
 -- a step can happen where a file is dirty
-pub step-due : (s : State) (n : ℕ) → dirty s ≡ suc n → IsTrue (accepted s Step)
+pub step-due : (s : State) (n : ℕ) → dirty_count s ≡ suc n → IsTrue (accepted s Step)
 step-due s n more = steps-due s ∙ ap (λ (k : ℕ). nat_lt 0 k) more ∙ grind (arith, nat_tests)

@@ -5,7 +5,7 @@ use Rattle.std.specs.Option.{option_map_or, option_map}
 use Rattle.std.specs.List.{AllByRecursion}
 use Rattle.std.proofs.lemmas.List.Sums.{sum_by-cons}
 use Rattle.hac_model.specs.Words.{has_term}
-use Rattle.hac_model.specs.Links.{atom, parent_of, is_semantic, is_below, provide, holds, satisfies, passes, column, round, rounds, semantics, links, items, shown_of, query_at}
+use Rattle.hac_model.specs.Links.{atom, parent_of, is_semantic, is_below, provide, holds, satisfies, passes, column, round, rounds, semantic_count, links, items, shown_of, query_at}
 use Rattle.hac_model.specs.Tree.{entry_at, body_at, is_file, query_in, shown_text}
 use Rattle.hac_model.specs.Valid.{NumbersRise, IsValid}
 use Rattle.hac_model.specs.declared.queries.Query.{Query}
@@ -64,18 +64,18 @@ count-none (e ∷ es) dir h =
     elim (e.number == dir) as (λ b. is_some (option_and_then query_in (option_map (λ (e : Entry). e.body) (cond b (Some e) (entry_at es dir)))) ≡ false) [ true ↦ not_counted (is_some (query_in e.body)) first | false ↦ count-none es dir rest ]
 
 -- where no directory is semantic, a round gives no links
-round-none : (s : State) (known : ℕ → List ℕ) → semantics s ≡ 0 → rounds 0 s ≡ round s known
+round-none : (s : State) (known : ℕ → List ℕ) → semantic_count s ≡ 0 → rounds 0 s ≡ round s known
 round-none s known none =
     λ i dir. (sym (ap (λ (t : Bool). cond t (filter (λ item. passes s (column known item) dir item) (items s)) []) (count-none s.entries dir none))) i
 
-rounds-round : (n : ℕ) (s : State) → IsValid s → (known : ℕ → List ℕ) → semantics s ≡ n → rounds n s ≡ round s known
+rounds-round : (n : ℕ) (s : State) → IsValid s → (known : ℕ → List ℕ) → semantic_count s ≡ n → rounds n s ≡ round s known
 rounds-round zero s h known e = round-none s known e
 rounds-round (suc n) s h known e = round-same s h (rounds n s) known
 
 -- a round gives the links, whatever it begins with
 pub links-round : (s : State) → IsValid s → (known : ℕ → List ℕ) → links s ≡ round s known
 unfolding links
-links-round s h known = rounds-round (semantics s) s h known refl
+links-round s h known = rounds-round (semantic_count s) s h known refl
 
 pub links-fixed : (s : State) → IsValid s → round s (links s) ≡ links s
 links-fixed s h = sym (links-round s h (links s))
