@@ -13,6 +13,7 @@ use Rattle.hac_model.specs.declared.terms.Term.TheVariants.{Word, Prefix}
 unfoldable pub is_word_byte : ℕ → Bool
 is_word_byte b = is_ascii_alphanumeric b || nat_le 128 b
 
+-- there is a byte at least
 abbrev pub has_bytes : List ℕ → Bool
 has_bytes bytes = nat_le 1 (length bytes)
 
@@ -28,16 +29,17 @@ lower_case bytes = map to_ascii_lowercase bytes
 unfoldable pub words : List ℕ → List (List ℕ)
 words text = map lower_case (runs text)
 
--- the words of a text, each once and in the order of their bytes: each goes to its place among those before it
+-- the words of a text, each once and in the order of their bytes: one after the other goes to its place among those
+-- that came before it, unless it is there
 unfoldable pub rising_words : List ℕ → List (List ℕ)
 rising_words text = fold (insert_key (slice_cmp nat_cmp)) [] (words text)
 
--- the byte is one that words have in lower case
+-- a word in lower case may hold this byte: it is a word byte and none of `A` to `Z`
 unfoldable pub is_lower_word_byte : ℕ → Bool
 is_lower_word_byte b = is_word_byte b && not (is_ascii_uppercase b)
 
--- the bytes are a word as texts have them: at least one byte, and in lower case
-abbrev pub is_word : List ℕ → Bool
+-- the bytes are a word as `words` gives it
+unfoldable pub is_word : List ℕ → Bool
 is_word bytes = has_bytes bytes && list_all is_lower_word_byte bytes
 
 -- the word is what the term asks for
@@ -46,5 +48,5 @@ is_asked (Word letters) word = bytes_eq letters word
 is_asked (Prefix letters) word = starts_with nat_eq word letters
 
 -- one of the text's words is what the term asks for
-abbrev pub has_term : List ℕ → Term → Bool
+unfoldable pub has_term : List ℕ → Term → Bool
 has_term text term = list_any (is_asked term) (words text)

@@ -1,11 +1,11 @@
 -- Lists whose keys rise. To the maps of std such a list is one of entries that hold nothing.
 use Rattle.std.proofs.Common.{◌≡◌, ◌&&◌, ◌||◌, ℕ, Bool, true, false, cond, List, [], ◌∷◌, map, fold, refl, ap, sym, ◌∙◌, subst, Ordering}
 use Rattle.std.proofs.Math.Dec.{T}
-use Rattle.std.specs.Prelude.{Option, Some, None, nat_eq}
+use Rattle.std.specs.Prelude.{Some, None, nat_eq}
 use Rattle.std.specs.BTreeSet.{insert_key}
 use Rattle.std.specs.Cmp.{IsTotalOrder, Equal-is}
 use Rattle.std.specs.Cmp.Lexicographic.{nat_list_cmp_total, on_texts, pointwise, slice_cmp, texts_ties}
-use Rattle.std.specs.FinMap.{FinMap, IsAntisymmetric, entries, entries-from_sorted, find, from_sorted, get-from_sorted, is_sorted, nat_cmp-IsAntisymmetric, same_map, slice_cmp-IsAntisymmetric}
+use Rattle.std.specs.FinMap.{IsAntisymmetric, entries, entries-from_sorted, find, from_sorted, get-from_sorted, is_sorted, nat_cmp-IsAntisymmetric, same_map, slice_cmp-IsAntisymmetric}
 use Rattle.std.specs.FinMap.Entries.{below_all, by_order, is_sorted-put, put}
 use Rattle.std.specs.List.{AllByRecursion, dedup, dedup_from, list_any}
 use Rattle.std.specs.List.Sorted.{IsPermutation, IsSorted, IsStrictlySortedBy}
@@ -151,8 +151,11 @@ module _ {K : Type 0} (R : K → K → Ordering) where
 
 -- ---- words
 
-words_tie : (xs ys : List ℕ) → pointwise nat_eq xs ys ≡ true → xs ≡ ys
-words_tie xs ys e = slice_cmp-IsAntisymmetric nat_cmp-IsAntisymmetric xs ys ((Equal-is (slice_cmp nat_cmp xs ys)).0 (sym (texts_ties xs ys) ∙ e))
+pub words_apart : IsAntisymmetric (slice_cmp nat_cmp)
+words_apart = slice_cmp-IsAntisymmetric nat_cmp-IsAntisymmetric
+
+pub word_tie : (x y : List ℕ) → eq_by_cmp (slice_cmp nat_cmp) x y ≡ true → x ≡ y
+word_tie x y e = words_apart x y ((Equal-is (slice_cmp nat_cmp x y)).0 e)
 
 module _ {X : Type 0} (f : X → List ℕ) where
   AllByRecursion-map : (P : List ℕ → Type 0) (xs : List X) → AllByRecursion (λ x. P (f x)) xs → AllByRecursion P (map f xs)
@@ -167,12 +170,12 @@ module _ {X : Type 0} (f : X → List ℕ) where
   -- words that were sorted and freed of repeats are those that went to their places
   pub settled : (xs ys : List X) → IsPermutation xs ys → IsSorted (λ x y. slice_cmp nat_cmp (f x) (f y)) ys → map f (dedup (λ x y. pointwise nat_eq (f x) (f y)) ys) ≡ fold (insert_key (slice_cmp nat_cmp)) [] (map f xs)
   settled xs ys moved up =
-      same_rising (slice_cmp nat_cmp) nat_list_cmp_total (slice_cmp-IsAntisymmetric nat_cmp-IsAntisymmetric) _ _
+      same_rising (slice_cmp nat_cmp) nat_list_cmp_total words_apart _ _
       (IsStrictlySortedBy-map _ (IsStrictlySortedBy-dedup (on_texts f) (λ x y. texts_ties (f x) (f y)) ys up))
       (IsStrictlySortedBy-fold (slice_cmp nat_cmp) nat_list_cmp_total (map f xs))
       (λ q.
       list_any-map (eq_by_cmp (slice_cmp nat_cmp) q) f _
-      ∙ list_any-dedup (λ x y. pointwise nat_eq (f x) (f y)) (λ x. eq_by_cmp (slice_cmp nat_cmp) q (f x)) (λ x y e. ap (eq_by_cmp (slice_cmp nat_cmp) q) (words_tie (f x) (f y) e)) ys
+      ∙ list_any-dedup (λ x y. pointwise nat_eq (f x) (f y)) (λ x. eq_by_cmp (slice_cmp nat_cmp) q (f x)) (λ x y e. ap (eq_by_cmp (slice_cmp nat_cmp) q) (word_tie (f x) (f y) (sym (texts_ties (f x) (f y)) ∙ e))) ys
       ∙ sym (list_any-IsPermutation (λ x. eq_by_cmp (slice_cmp nat_cmp) q (f x)) xs ys moved)
       ∙ sym (list_any-map (eq_by_cmp (slice_cmp nat_cmp) q) f xs)
-      ∙ sym (list_any-fold (slice_cmp nat_cmp) (slice_cmp-IsAntisymmetric nat_cmp-IsAntisymmetric) (eq_by_cmp (slice_cmp nat_cmp) q) (map f xs)))
+      ∙ sym (list_any-fold (slice_cmp nat_cmp) words_apart (eq_by_cmp (slice_cmp nat_cmp) q) (map f xs)))

@@ -1,12 +1,10 @@
 -- The runs of a text: in lower case they are its words, and what one of them passes, one of the parts between other bytes passes.
-use Rattle.std.proofs.Common.{◌≡◌, ◌&&◌, ◌||◌, ℕ, ◌+◌, ◌≤◌, Bool, true, false, cond, not, List, [], ◌∷◌, map, filter, length, take, nat_eq, nat_le, refl, ap, sym, ◌∙◌, arith}
+use Rattle.std.proofs.Common.{◌≡◌, ◌&&◌, ◌||◌, ℕ, ◌≤◌, Bool, true, false, cond, not, List, [], ◌∷◌, map, filter, length, nat_eq, nat_le, refl, ap, ◌∙◌, arith}
 use Rattle.std.proofs.lemmas.List.{length-map}
 use Rattle.std.proofs.lemmas.List.Elements.{All-filter, All-from_recursion, All-map, filter_passes}
 use Rattle.std.proofs.lemmas.List.Folds.{list_all-map}
-use Rattle.std.proofs.lemmas.Grind.{common_steps}
 use Rattle.std.proofs.lemmas.Bool.Decides.{nat_tests}
-use Rattle.std.specs.Char.{is_ascii_uppercase, to_ascii_lowercase}
-use Rattle.std.specs.Cmp.Lexicographic.{pointwise}
+use Rattle.std.specs.Char.{to_ascii_lowercase}
 use Rattle.std.specs.List.{All, AllByRecursion, list_any, list_all, onto_first, slice_split, starts_with, zip}
 use Rattle.hac_model.specs.Words.{has_bytes, has_term, is_asked, is_lower_word_byte, is_word, is_word_byte, lower_case, runs, words}
 use Rattle.hac_model.specs.declared.terms.Term.{Term}
@@ -46,7 +44,7 @@ module _ {X : Type 0} where
 
 -- a text has what is asked where a part between other bytes has bytes and is it in lower case
 pub has_term-parts : (text : List ℕ) (term : Term) → has_term text term ≡ list_any (λ run. has_bytes run && is_asked term (lower_case run)) (slice_split (λ b. not (is_word_byte b)) text)
-unfolding words
+unfolding has_term words
 has_term-parts text term =
     list_any-map (is_asked term) lower_case (runs text)
     ∙ list_any-filter has_bytes (λ run. is_asked term (lower_case run)) (slice_split (λ b. not (is_word_byte b)) text)
@@ -96,6 +94,7 @@ is_lower_word_byte-lower b = grind (arith, nat_tests)
 
 -- word bytes in lower case are a word
 is_word-lower_case : (run : List ℕ) → has_bytes run ≡ true → list_all is_word_byte run ≡ true → is_word (lower_case run) ≡ true
+unfolding is_word
 is_word-lower_case run some all =
     let lower : list_all is_lower_word_byte (lower_case run) ≡ true =
     list_all-map is_lower_word_byte to_ascii_lowercase run ∙ (λ i. list_all (λ b. is_lower_word_byte-lower b i) run) ∙ all in
