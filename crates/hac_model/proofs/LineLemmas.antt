@@ -65,3 +65,11 @@ refusal-line b tree =
     ap (λ (items : List Item). has_refusal (replies items tree)) (script-step b)
     ∙ ap (λ (told : List Reply). has_refusal told) (replies-append (items_of (first_line b)) (script (after_line b)) tree)
     ∙ list_any-append is_refused (replies (items_of (first_line b)) tree) (play (after_line b) (tree_after_all (items_of (first_line b)) tree))
+
+-- the same of a line with its end, in front of anything
+pub text-of_line : (line more : List ℕ) (tree : State) → position_or_len is_line_end line ≡ length line →
+    text (play (line ++ 10 ∷ more) tree) ≡ text (replies (items_of line) tree) ++ text (play more (tree_after_all (items_of line) tree))
+text-of_line line more tree unended =
+    ap (λ (items : List Item). text (replies items tree)) (script-line line more unended)
+    ∙ ap (λ (told : List Reply). text told) (replies-append (items_of line) (script more) tree)
+    ∙ flat_map-append reply_text (replies (items_of line) tree) (play more (tree_after_all (items_of line) tree))

@@ -37,6 +37,7 @@ has_bytes-lower (b ∷ bytes) h = grind (arith, nat_tests)
 
 -- a word in letters of either case is a word in lower case
 word-lower : (bytes : List ℕ) → has_bytes bytes ≡ true → list_all is_word_byte bytes ≡ true → is_word (lower_case bytes) ≡ true
+unfolding is_word
 word-lower bytes h k = and_from (has_bytes (lower_case bytes)) (list_all is_lower_word_byte (lower_case bytes)) (has_bytes-lower bytes h) (lower_bytes bytes k)
 
 -- what is spelled is a query that a directory may have, or a refusal

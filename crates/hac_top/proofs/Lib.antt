@@ -1,2 +1,4 @@
 pub mod FileLemmas
 pub mod WrittenLemmas
+pub mod GoesOn
+pub mod RunLemmas

@@ -1,8 +1,8 @@
 -- What a sink holds after two writes, the second of which may fail.
-use Rattle.std.proofs.Common.{◌≡◌, ℕ, ◌≤◌, List, [], ◌++◌, length, take, refl, ap, sym, ◌∙◌, arith, rules, append_assoc, append-nil, length-append, subst, Option, Some, None}
+use Rattle.std.proofs.Common.{ℕ, List, length, sym, ◌∙◌, rules, append-nil, subst, Option, Some, None}
 use Rattle.std.specs.Prelude.{Result, Ok, Err, OnErr}
 use Rattle.std.specs.Io.KnownBytes.{Appends, Keeps}
-use Rattle.std.proofs.Math.Seq.{take-length, take-append-add}
+use Rattle.std.proofs.Math.Seq.{take-length}
 use Rattle.hac_outside.specs.Causes.{AppendsSome}
 
 -- all of the bytes are some of them

@@ -1,7 +1,5 @@
 -- The statuses of a run that reads its script to the end.
-use Rattle.std.specs.Prelude.{◌≡◌, ◌⊎◌, ℕ, if◌then◌else◌, List}
-use Rattle.hac_model.specs.Play.{has_refusal}
-use Rattle.hac_model.specs.declared.replies.Reply.{Reply}
+use Rattle.std.specs.Prelude.{◌≡◌, ◌⊎◌, ℕ, Bool, if◌then◌else◌}
 use Rattle.hac_top.specs.declared.status.Status.{Status}
 use Rattle.hac_top.specs.declared.status.Status.TheVariants.{Done, SomeRefused, Usage, ReadFault, WriteFault, Memory, TooLong}
 
@@ -14,9 +12,9 @@ status_number WriteFault = 4
 status_number Memory = 7
 status_number TooLong = 9
 
--- the status after these replies
-abbrev pub status_of : List Reply → Status
-status_of told = if has_refusal told then SomeRefused else Done
+-- the status of a script that was read to its end, told whether some command was refused
+abbrev pub finished_status : Bool → Status
+finished_status refused = if refused then SomeRefused else Done
 
 -- the script was read to its end
 abbrev pub IsFinished : Status → Type 0

@@ -1,12 +1,12 @@
 -- What a run over a script promises, where its source tells the script.
-use Rattle.std.specs.Prelude.{◌≡◌, ◌⊎◌, ℕ, ◌+◌, ◌<◌, ◌≤◌, ⊤, List, [], ◌++◌, length, take, codes, Option, None, Some}
+use Rattle.std.specs.Prelude.{◌≡◌, ℕ, ◌+◌, ◌<◌, ◌≤◌, ⊤, List, [], ◌++◌, length, take, codes, Option, None, Some}
 use Rattle.std.specs.Io.KnownBytes.{Appends}
-use Rattle.hac_model.specs.Play.{play}
+use Rattle.hac_model.specs.Play.{play, has_refusal}
 use Rattle.hac_model.specs.Printed.{ended, text}
 use Rattle.hac_model.specs.Script.{whole}
 use Rattle.hac_model.specs.Tree.{empty}
 use Rattle.hac_model.specs.declared.limits.TheConstants.{SCRIPT_LIMIT}
-use Rattle.hac_top.specs.Ends.{status_of}
+use Rattle.hac_top.specs.Ends.{finished_status}
 use Rattle.hac_top.specs.declared.status.Status.{Status}
 
 -- what is written where the words of the program are none that it takes
@@ -17,7 +17,7 @@ usage_line = ended (codes "usage: hac")
 pub record AnswersAll (status : Status) (script : List ℕ) (left before after : Option (List ℕ)) : Type 0 where
   pub read : left ≡ Some []
   pub within : length script ≤ SCRIPT_LIMIT
-  pub status_is : status ≡ status_of (play script empty)
+  pub status_is : status ≡ finished_status (has_refusal (play script empty))
   pub written : Appends before after (text (play script empty))
 
 -- a part of the script was taken, and each whole line of it was answered

@@ -5,8 +5,10 @@ use Rattle.hac_model.specs.declared.limits.LimitWord.TheVariants as limit
 use Rattle.hac_model.specs.declared.replies.Refusal.TheVariants.{Limit}
 use Rattle.shell_lang.specs.declared.reading.Piece.{Piece}
 use Rattle.shell_lang.specs.declared.reading.Piece.TheVariants.{Blank, Bytes, LongLine, End, PastLimit}
+use Rattle.shell_lang.specs.declared.reading.LineFault.{LineFault}
+use Rattle.shell_lang.specs.declared.reading.LineFault.TheVariants as line
 use Rattle.hac_top.specs.declared.answering.Stop.{Stop}
-use Rattle.hac_top.specs.declared.answering.Stop.TheVariants.{WriteFault, Memory}
+use Rattle.hac_top.specs.declared.answering.Stop.TheVariants.{ReadFault, WriteFault, Memory}
 
 -- the items of a piece of the script
 abbrev pub items_of_piece : Piece → List Item
@@ -15,6 +17,11 @@ items_of_piece (Bytes line) = item_of line ∷ []
 items_of_piece LongLine = Err (Limit limit.Line) ∷ []
 items_of_piece End = []
 items_of_piece PastLimit = []
+
+-- a fault of the reader stops the run
+abbrev pub stop_of : LineFault → Stop
+stop_of line.Read = ReadFault
+stop_of line.Memory = Memory
 
 -- an answer is stopped by the sink or for want of memory
 abbrev pub StopsAnswer : Stop → Type 0

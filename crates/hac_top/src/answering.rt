@@ -23,6 +23,20 @@ pub enum Stop {
     TooLong,
 }
 
+impl From<LineFault> for Stop {
+    ghost use Rattle.std.specs.Prelude.{◌≡◌};
+    ghost use Rattle.hac_top.specs.Stops.{stop_of};
+
+    ghost from_gives = { λ fault stop. stop ≡ stop_of fault };
+
+    fn from(fault: LineFault) -> Stop {
+        match fault {
+            LineFault::Read => Stop::ReadFault,
+            LineFault::Memory => Stop::Memory,
+        }
+    }
+}
+
 /// What a run knows between two lines.
 #[derive(Drop)]
 pub struct Player {

@@ -9,3 +9,6 @@ mod status;
 
 pub use running::run;
 pub use status::Status;
+
+#[cfg(test)]
+mod tests;

@@ -1,24 +1,30 @@
 //! The run: the script is taken line by line, and each line is answered before the next is taken up.
-ghost use Rattle.std.specs.Prelude.{◌≡◌, ◌⊎◌, ◌<◌, ◌≤◌, ◌+◌, [], length, IfOk, IfSome, OnErr, IsErrOf, Ok, Err, Some};
+ghost use Rattle.std.specs.Prelude.{◌≡◌, ◌⊎◌, ◌<◌, ◌≤◌, ◌+◌, [], length, IfOk, IfSome, Ok, Err, Some};
 ghost use Rattle.std.specs.Io.KnownBytes.{Appends, Keeps};
 ghost use Rattle.hac_outside.specs.Causes.{AppendsSome, Rose};
 ghost use Rattle.hac_model.specs.Play.{play, has_refusal};
 ghost use Rattle.hac_model.specs.Printed.{text};
 ghost use Rattle.hac_model.specs.Tree.{empty};
-ghost use Rattle.hac_top.specs.Ends.{IsFinished, status_of};
+ghost use Rattle.hac_top.specs.Ends.{IsFinished, finished_status};
 ghost use Rattle.hac_top.specs.Run.{usage_line, AnswersAll, AnswersTaken, AnswersWithin, TakesWithin};
 
 use crate::answering::{Player, Stop, tell_bytes};
 use crate::status::Status;
+use hac_model::SCRIPT_LIMIT;
 use hac_outside::{Sink, Source};
-use shell_lang::{LineFault, Piece, Reader};
+use shell_lang::{Piece, Reader};
 use std::alloc::Global;
 
 /// Plays the script that the source gives, and writes the reply to each command to the sink.
 ///
 /// `words` are those of the program behind its own name; it takes none. The source is read in pieces, and
 /// no line is carried out before the reply to the line before it was written and flushed.
-pub fn run<S: Source, K: Sink>(alloc: Global, words: &[String], input: &mut S, output: &mut K) -> Status
+pub fn run<S: Source, K: Sink>(
+    alloc: Global,
+    words: &[String],
+    input: &mut S,
+    output: &mut K,
+) -> Status
     // Words are refused, and then nothing is read.
     ensures usage { result ≡ Status.Usage → 0 < length words.now }
     ensures words { 0 < length words.now → (result ≡ Status.Usage) ⊎ (result ≡ Status.WriteFault) }
@@ -73,9 +79,13 @@ fn tell_usage<K: Sink>(output: &mut K) -> Status
 }
 
 /// Plays the script to its end, and says whether some command was refused.
-fn play_script<S: Source, K: Sink>(alloc: Global, input: &mut S, output: &mut K) -> Result<bool, Stop>
+fn play_script<S: Source, K: Sink>(
+    alloc: Global,
+    input: &mut S,
+    output: &mut K,
+) -> Result<bool, Stop>
     ensures finished { IfOk result (λ refused. IfSome (S.left input.old) (λ script.
-        Finishes refused script (S.left input.new) (K.written output.old) (K.written output.new))) }
+        AnswersAll (finished_status refused) script (S.left input.new) (K.written output.old) (K.written output.new))) }
     ensures read_fault { result ≡ Err Stop.ReadFault → IfSome (S.left input.old) (λ script.
         AnswersTaken script (S.left input.new) (K.written output.old) (K.written output.new)) }
     ensures too_long { result ≡ Err Stop.TooLong → IfSome (S.left input.old) (λ script.
@@ -90,8 +100,8 @@ fn play_script<S: Source, K: Sink>(alloc: Global, input: &mut S, output: &mut K)
         return Err(Stop::Memory);
     };
     let mut player = Player::new(alloc);
-    loop {
-        match next_piece(&mut reader, input)? {
+    'lines: loop {
+        match reader.next_line(input)? {
             Piece::End => return Ok(player.refused),
             Piece::PastLimit => return Err(Stop::TooLong),
             piece => player.answer(output, piece)?,

@@ -1,23 +1,19 @@
 -- A line that is given is the first line of what is pending.
-use Rattle.std.proofs.Common.{◌≡◌, ℕ, ◌+◌, ◌-◌, ◌<◌, ◌≤◌, Bool, true, false, List, [], ◌∷◌, ◌++◌, length, take, drop, refl, ap, sym, ◌∙◌, arith, rules, append-nil, length-append, subst, Option, Some, None, Result, Ok, Err, IfOk, OnOk}
-use Rattle.std.specs.Prelude.{nat_le, nat_lt, ⊤, if◌then◌else◌, cond}
+use Rattle.std.proofs.Common.{◌≡◌, ℕ, ◌+◌, ◌<◌, Bool, true, false, List, ◌++◌, length, take, drop, ap, sym, ◌∙◌, arith, rules, length-append, subst, Option, Some, None, Result, Ok, Err, IfOk, OnOk}
+use Rattle.std.specs.Prelude.{nat_le, nat_lt, if◌then◌else◌}
 use Rattle.std.specs.List.{position_or_len}
-use Rattle.std.specs.Io.KnownBytes.{prepend_known, Keeps, IsAtEnd}
-use Rattle.std.proofs.lemmas.List.{length-drop}
+use Rattle.std.specs.Io.KnownBytes.{prepend_known}
 use Rattle.std.proofs.lemmas.Grind.{common_steps}
-use Rattle.std.proofs.Math.Seq.{take-length}
-use Rattle.std.proofs.Math.ListN.{drop_of_length-le}
 use Rattle.hac_model.specs.Bytes.{is_line_end}
 use Rattle.hac_model.specs.Lines.{is_quiet}
-use Rattle.hac_model.specs.Script.{first_line, after_line, is_first_ended}
-use Rattle.hac_model.specs.declared.limits.TheConstants.{LINE_LIMIT, SCRIPT_LIMIT}
+use Rattle.hac_model.specs.declared.limits.TheConstants.{LINE_LIMIT}
 use Rattle.hac_model.proofs.JoinLemmas.{position-ended, first_line-ended, after_line-ended}
 use Rattle.shell_lang.specs.declared.reading.Piece.{Piece}
-use Rattle.shell_lang.specs.declared.reading.Piece.TheVariants.{Blank, Bytes, LongLine, End, PastLimit}
+use Rattle.shell_lang.specs.declared.reading.Piece.TheVariants.{Blank, Bytes, LongLine}
 use Rattle.shell_lang.specs.declared.reading.LineFault.{LineFault}
 use Rattle.shell_lang.specs.declared.reading.Found.TheVariants.{Ended}
-use Rattle.shell_lang.specs.Reading.{Reading, IsReading, IsUnended, ReadsOn}
-use Rattle.shell_lang.specs.Pieces.{piece_of, GivesLine, GivesFrom, Gives, GoesOn, Advances, IsFound}
+use Rattle.shell_lang.specs.Reading.{Reading, ReadsOn}
+use Rattle.shell_lang.specs.Pieces.{piece_of, GivesLine, GivesFrom, Gives, IsFound}
 
 -- a line is given as a piece that has a line's clauses
 from_line : (line : List ℕ) (ended : Bool) (bytes rest : List ℕ) → GivesLine (piece_of line) ended bytes rest → GivesFrom (piece_of line) ended bytes rest

@@ -1,16 +1,17 @@
 -- A reader at the limit of a script, and a reader that has taken one more piece.
-use Rattle.std.proofs.Common.{◌≡◌, ℕ, ◌+◌, ◌-◌, ◌<◌, ◌≤◌, Bool, true, false, List, [], ◌∷◌, ◌++◌, length, take, refl, ap, sym, ◌∙◌, arith, rules, append_assoc, length-append, append-nil, subst, Option, Some, None}
+use Rattle.std.proofs.Common.{◌≡◌, ℕ, ◌+◌, ◌-◌, ◌<◌, ◌≤◌, Bool, true, false, List, [], ◌++◌, length, refl, ap, sym, ◌∙◌, arith, rules, append_assoc, length-append, append-nil, subst, Option, Some, None}
 use Rattle.std.proofs.lemmas.Bool.{eqb-true}
-use Rattle.std.specs.Prelude.{nat_eq, ⊤, position, not}
+use Rattle.std.specs.Prelude.{nat_eq, position, not}
 use Rattle.std.proofs.lemmas.List.Folds.{prefix_len-append}
 use Rattle.std.specs.List.{position_or_len}
 use Rattle.std.specs.Io.KnownBytes.{prepend_known, Keeps, Consumes, IsAtEnd}
-use Rattle.std.proofs.lemmas.List.Sums.{prefix_len-le-length}
 use Rattle.std.proofs.lemmas.Grind.{common_steps}
 use Rattle.hac_model.specs.Bytes.{is_line_end}
+use Rattle.hac_model.specs.Script.{is_first_ended}
 use Rattle.hac_model.specs.declared.limits.TheConstants.{SCRIPT_LIMIT}
 use Rattle.shell_lang.specs.Reading.{Reading, IsReading, IsUnended, SameTotal, ReadsOn, ReadsPiece}
 use Rattle.shell_lang.specs.Pieces.{IsPastLimit}
+use Rattle.hac_model.proofs.JoinLemmas.{position-ended}
 use Rattle.hac_model.proofs.PrefixLemmas.{unended-take, position-none}
 
 -- a source that was read beyond the limit has not ended
@@ -69,7 +70,7 @@ keeps_on (Some x) None c first second = absurd first
 keeps_on (Some x) (Some y) None first second = absurd second
 keeps_on (Some x) (Some y) (Some z) first second = second ∙ first
 
-total_on : (m n o : ℕ) (a b c : Option (List ℕ)) → SameTotal m a n b → SameTotal n b o c → SameTotal m a o c
+pub total_on : (m n o : ℕ) (a b c : Option (List ℕ)) → SameTotal m a n b → SameTotal n b o c → SameTotal m a o c
 total_on m n o None b c first second = search rules
 total_on m n o (Some x) None c first second = absurd first
 total_on m n o (Some x) (Some y) None first second = absurd second
@@ -116,3 +117,10 @@ unended-told bytes held same none = subst (λ (xs : List ℕ). IsUnended xs) sam
 -- what has no line end has none after more was read
 pub scanned-piece : (held more : List ℕ) → IsUnended held → length held ≤ position_or_len is_line_end (held ++ more)
 scanned-piece held more unended = grind (arith, common_steps, prefix_len-append (λ b. not (is_line_end b)) held more)
+
+-- a line end that was held is held after more was read
+pub ended-unended : (held more piece : List ℕ) → is_first_ended held ≡ true → more ≡ held ++ piece → IsUnended more → ⊥
+ended-unended held more piece ended grown unended =
+    let inside : position_or_len is_line_end held < length held = grind (arith, common_steps, ended) in
+    let place : position_or_len is_line_end more ≡ position_or_len is_line_end held = ap (λ (xs : List ℕ). position_or_len is_line_end xs) grown ∙ position-ended held piece inside in
+    omega (arith, place, unended, ap length grown, length-append held piece)

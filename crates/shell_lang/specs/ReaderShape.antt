@@ -1,5 +1,5 @@
 -- How a reader keeps what it holds.
-use Rattle.std.specs.Prelude.{◌≡◌, ◌≤◌, length, drop}
+use Rattle.std.specs.Prelude.{◌≤◌, length, drop}
 use Rattle.shell_lang.specs.declared.reading.Reader.TheInside.{Inside}
 use Rattle.shell_lang.specs.Reading.{Reading, IsReading}
 

@@ -5,6 +5,7 @@ ghost use Rattle.std.specs.Io.KnownBytes.{Keeps, IsAtEnd};
 ghost use Rattle.hac_outside.specs.Causes.{Rose};
 ghost use Rattle.hac_model.specs.Bytes.{is_line_end, is_space};
 ghost use Rattle.hac_model.specs.Lines.{is_quiet};
+ghost use Rattle.hac_model.specs.Script.{is_first_ended};
 ghost use Rattle.shell_lang.specs.Reading.{pending, given, IsUnended, IsReading, SameTotal, ReadsOn, ReadsPiece};
 ghost use Rattle.shell_lang.specs.Pieces.{piece_of, Gives, Advances, IsFound};
 
@@ -113,13 +114,15 @@ impl Reader {
         ensures advances { IfOk result (λ piece. Advances piece self.old self.new) }
         ensures err { OnErr result (Keeps (pending self.old (S.left source.old)) (pending self.new (S.left source.new))) }
 
-        // A fault comes only of a read, and a read only where what is held has no line end.
+        // A line that is held is given without a read, so a fault comes only where none is.
+        ensures unread { is_first_ended self.old.held ≡ true → source.new ≡ source.old }
         ensures fault { IsErrOf result LineFault.Read → Rose (S.faults source.old) (S.faults source.new) }
         ensures unended { IsErrOf result LineFault.Read → (self.new.ended ≡ false) × IsUnended self.new.held }
 
         ensures ended { self.new.ended ≡ true → IsAtEnd (S.left source.new) }
         ensures stays { self.old.ended ≡ true → self.new.ended ≡ true }
         ensures total { SameTotal self.old.taken (S.left source.old) self.new.taken (S.left source.new) }
+        ensures limit { self.new.taken ≤ SCRIPT_LIMIT + 1 }
         ensures later { S.faults source.old ≤ S.faults source.new }
     {
         match self.find_line(source)? {
@@ -135,6 +138,7 @@ impl Reader {
         ensures found { IfOk result (λ found. IsFound found self.new) }
         ensures sound { IsReading self.new }
         ensures reads { ReadsOn self.old self.new (S.left source.old) (S.left source.new) }
+        ensures unread { is_first_ended self.old.held ≡ true → source.new ≡ source.old }
         ensures unended { OnErr result ((self.new.ended ≡ false) × IsUnended self.new.held) }
         ensures fault { IsErrOf result LineFault.Read → Rose (S.faults source.old) (S.faults source.new) }
         ensures later { S.faults source.old ≤ S.faults source.new }

@@ -1,4 +1,4 @@
-use Rattle.std.proofs.Common.{rules, arith, ◌≡◌, ℕ, ap, sym, refl, ◌∙◌}
+use Rattle.std.proofs.Common.{sym, refl, ◌∙◌}
 use Rattle.hac_model.specs.Bytes.{is_line_end}
 use Rattle.hac_model.proofs.PrefixLemmas.{front-le, position-from}
 use Rattle.shell_lang.proofs.reading.line_end.Goals as goal

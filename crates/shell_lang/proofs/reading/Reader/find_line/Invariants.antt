@@ -1,7 +1,8 @@
-use Rattle.std.proofs.Common.{◌≤◌, ◌+◌, ◌-◌, cond}
+use Rattle.std.proofs.Common.{◌≡◌, true, ◌≤◌, ◌+◌, ◌-◌, cond}
 use Rattle.std.specs.List.{position_or_len}
 use Rattle.hac_model.specs.Bytes.{is_line_end}
 use Rattle.hac_model.specs.declared.limits.TheConstants.{SCRIPT_LIMIT}
+use Rattle.hac_model.specs.Script.{is_first_ended}
 use Rattle.shell_lang.specs.Reading.{ReadsOn}
 use Rattle.shell_lang.proofs.reading.Reader.find_line.Given as goal
 
@@ -11,6 +12,7 @@ invariant-loop-found g l =
     record {
       reads : ReadsOn l.fn.self l.self (g.S.Source.left l.fn.source) (g.S.Source.left l.source);
       scanned : l.scanned ≤ position_or_len is_line_end l.self.held;
+      unread : is_first_ended l.fn.self.held ≡ true → l.source ≡ l.fn.source;
       later : g.S.Source.faults l.fn.source ≤ g.S.Source.faults l.source;
     }
 

@@ -1,6 +1,4 @@
-use Rattle.std.proofs.Common.{arith, ◌≡◌, ◌≤◌, ◌+◌, ◌-◌, length, ap}
-use Rattle.std.proofs.lemmas.Grind.{common_steps}
-use Rattle.hac_model.specs.declared.limits.TheConstants.{SCRIPT_LIMIT}
+use Rattle.std.proofs.Common.{arith, length, ap}
 use Rattle.shell_lang.specs.Reading.{Reading}
 use Rattle.shell_lang.proofs.ReaderLemmas.{past_at}
 use Rattle.shell_lang.proofs.reading.Reader.found_at.Goals as goal

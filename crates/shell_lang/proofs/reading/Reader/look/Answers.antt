@@ -1,6 +1,5 @@
-use Rattle.std.proofs.Common.{arith, ◌≡◌, ◌<◌, ◌≤◌, ap, sym, ◌∙◌}
-use Rattle.shell_lang.specs.Reading.{Reading, IsUnended}
-use Rattle.hac_model.specs.declared.limits.TheConstants.{SCRIPT_LIMIT}
+use Rattle.std.proofs.Common.{arith, ap, sym, ◌∙◌}
+use Rattle.shell_lang.specs.Reading.{Reading}
 use Rattle.shell_lang.proofs.ReaderLemmas.{past_all, unended-told}
 use Rattle.shell_lang.proofs.reading.Reader.look.Goals as goal
 

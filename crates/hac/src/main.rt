@@ -1,0 +1,41 @@
+//! The program: it hands its words, its standard input and its standard output to the run, and ends with
+//! the number of the run's status.
+#![tactic(auto)]
+
+use hac_outside::{StdSink, StdSource};
+use hac_top::{Status, run};
+use std::process::ExitCode;
+use std::rt::Env;
+use std::{env, io};
+
+fn main(rt: HostRuntime) -> ExitCode {
+    let mut input = StdSource::new(rt.stdin());
+    let mut output = StdSink::new(rt.stdout());
+    let status = match program_words(&rt) {
+        Ok(words) => run(rt.alloc(), words.as_slice(), &mut input, &mut output),
+        // Words that are no text are none that the program takes: the run is told of one such.
+        Err(_) => run(rt.alloc(), &[String::new(rt.alloc())], &mut input, &mut output),
+    };
+    tell_fault(&rt, status);
+    ExitCode::from(status.number())
+}
+
+/// The words behind the program's own name.
+fn program_words(rt: &(impl Env + AllocGlobal)) -> io::Result<Vec<String>> {
+    let mut words = Vec::new(rt.alloc());
+    for word in env::args(rt)?.skip(1) {
+        words.push(word)?;
+    }
+    Ok(words)
+}
+
+/// Says on standard error why a run stopped. A failure to say it changes nothing.
+fn tell_fault(rt: &impl Eprint, status: Status) {
+    let _ = match status {
+        Status::Done | Status::SomeRefused | Status::Usage => Ok(()),
+        Status::ReadFault => eprintln!(rt; "hac: read fault"),
+        Status::WriteFault => eprintln!(rt; "hac: write fault"),
+        Status::Memory => eprintln!(rt; "hac: out of memory"),
+        Status::TooLong => eprintln!(rt; "hac: script too long"),
+    };
+}

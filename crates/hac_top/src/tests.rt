@@ -1,0 +1,202 @@
+//! Runs over devices in memory: what is printed and how they end, as tables.
+use crate::{Status, run};
+use hac_model::{LINE_LIMIT, SCRIPT_LIMIT};
+use hac_outside::{Failed, MemorySink, MemorySource, Source};
+use std::alloc::{AllocError, Global};
+use std::test::Fail;
+
+const ROOM: u64 = 1 << 20;
+
+/// A script from a source in pieces, to a sink of some room, each with the calls of it that fail.
+#[derive(Clone, Copy)]
+struct Trial<'a> {
+    script: &'a [u8],
+    pieces: &'a [u64],
+    failing_reads: &'a [u64],
+    room: u64,
+    failing_writes: &'a [u64],
+}
+
+/// A script from a source in one piece, to a sink that takes all.
+fn trial_of(script: &[u8]) -> Trial<'_> {
+    Trial {
+        script,
+        pieces: &[],
+        failing_reads: &[],
+        room: ROOM,
+        failing_writes: &[],
+    }
+}
+
+/// How the run ends, and what was written.
+fn play(alloc: Global, trial: &Trial<'_>) -> Result<(Status, Vec<u8>), AllocError> {
+    let mut input = MemorySource::new(alloc, trial.script, trial.pieces, trial.failing_reads)?;
+    let mut output = MemorySink::new(alloc, trial.room, ROOM, trial.failing_writes)?;
+    let status = run(alloc, &[], &mut input, &mut output);
+    let written = Vec::from_slice(alloc, output.written())?;
+    Ok((status, written))
+}
+
+#[test]
+fn scripts_are_answered(rt: HostRuntime) -> Result<(), Fail> {
+    let alloc = rt.alloc();
+    let rows: [(&[u8], &[u8], Status); 8] = [
+        (
+            b"write /a hello\nfly\nwrite a x\n# note\n\nwrite /a",
+            b"ok\nno bad-line\nno bad-name\nok\n",
+            Status::SomeRefused,
+        ),
+        (b"", b"", Status::Done),
+        (b"# note", b"", Status::Done),
+        (b"\n", b"", Status::Done),
+        (b"   \n \n", b"", Status::Done),
+        (b"write /a\nwrite /a again", b"ok\nok\n", Status::Done),
+        (b" # note\n", b"no bad-line\n", Status::SomeRefused),
+        (b"write /a x\r\n\r\n", b"ok\nno bad-line\n", Status::SomeRefused),
+    ];
+    for (script, text, status) in rows {
+        let (ended, written) = play(alloc, &trial_of(script))?;
+        assert_eq!(rt; ended, status, "at {script:?}");
+        assert_eq!(rt; written.as_slice(), text, "at {script:?}");
+    }
+    Ok(())
+}
+
+#[test]
+fn single_bytes_are_lines_or_none(rt: HostRuntime) -> Result<(), Fail> {
+    let alloc = rt.alloc();
+    for byte in 0..=255u8 {
+        let (status, written) = play(alloc, &trial_of(&[byte]))?;
+        let text: &[u8] = match byte {
+            b'\n' | b' ' | b'#' => b"",
+            _ => b"no bad-line\n",
+        };
+        assert_eq!(rt; written.as_slice(), text, "at {byte}");
+        assert_eq!(rt; status == Status::Done, text.is_empty(), "at {byte}");
+    }
+    Ok(())
+}
+
+/// A line of so many bytes that begins as a command, and the same as a comment.
+fn long_lines(alloc: Global, count: usize) -> Result<(Vec<u8>, Vec<u8>), AllocError> {
+    let mut command = Vec::from_slice(alloc, b"write /a ")?;
+    let mut comment = Vec::from_slice(alloc, b"# comment")?;
+    for _ in 9..count {
+        command.push(b'x')?;
+        comment.push(b'x')?;
+    }
+    Ok((command, comment))
+}
+
+#[test]
+fn long_lines_are_refused(rt: HostRuntime) -> Result<(), Fail> {
+    let alloc = rt.alloc();
+    let rows: [(usize, &[u8]); 2] = [(LINE_LIMIT, b"ok\n"), (LINE_LIMIT + 1, b"no limit line\n")];
+    for (count, text) in rows {
+        let (command, comment) = long_lines(alloc, count)?;
+        let (_, written) = play(alloc, &trial_of(&command))?;
+        assert_eq!(rt; written.as_slice(), text, "a command of {count} bytes");
+        let (_, written) = play(alloc, &trial_of(&comment))?;
+        assert_eq!(rt; written.as_slice(), b"".as_slice(), "a comment of {count} bytes");
+    }
+    Ok(())
+}
+
+#[test]
+fn pieces_and_faults_leave_a_prefix(rt: HostRuntime) -> Result<(), Fail> {
+    let alloc = rt.alloc();
+    let script = trial_of(b"write /a x\nfly\nwrite /b");
+    let bytes = Trial {
+        pieces: &[1; 32],
+        ..script
+    };
+    let rows: [(Trial<'_>, Status, &[u8]); 11] = [
+        (bytes, Status::SomeRefused, b"ok\nno bad-line\nok\n"),
+        // A fault of reading: the text over the lines that came whole.
+        (Trial { failing_reads: &[1], ..script }, Status::ReadFault, b""),
+        (Trial { failing_reads: &[2], ..script }, Status::ReadFault, b"ok\nno bad-line\n"),
+        (Trial { failing_reads: &[3], ..script }, Status::SomeRefused, b"ok\nno bad-line\nok\n"),
+        (Trial { failing_reads: &[11], ..bytes }, Status::ReadFault, b""),
+        (Trial { failing_reads: &[12], ..bytes }, Status::ReadFault, b"ok\n"),
+        (Trial { failing_reads: &[16], ..bytes }, Status::ReadFault, b"ok\nno bad-line\n"),
+        // A fault of writing or of a flush: the replies up to it.
+        (Trial { failing_writes: &[1], ..script }, Status::WriteFault, b""),
+        (Trial { failing_writes: &[2], ..script }, Status::WriteFault, b"ok\n"),
+        (Trial { failing_writes: &[3], ..script }, Status::WriteFault, b"ok\n"),
+        (Trial { room: 5, ..script }, Status::WriteFault, b"ok\nno"),
+    ];
+    for (row, (trial, status, text)) in rows.into_iter().enumerate() {
+        let (ended, written) = play(alloc, &trial)?;
+        assert_eq!(rt; ended, status, "in row {row}");
+        assert_eq!(rt; written.as_slice(), text, "in row {row}");
+    }
+    Ok(())
+}
+
+#[test]
+fn words_are_refused(rt: HostRuntime) -> Result<(), Fail> {
+    let alloc = rt.alloc();
+    let rows: [(u64, Status, &[u8]); 3] = [
+        (ROOM, Status::Usage, b"usage: hac\n"),
+        (4, Status::WriteFault, b"usag"),
+        (0, Status::WriteFault, b""),
+    ];
+    for (room, status, text) in rows {
+        let words = [String::from_str(alloc, "--help")?];
+        let mut input = MemorySource::new(alloc, b"fly\n", &[], &[])?;
+        let mut output = MemorySink::new(alloc, room, ROOM, &[])?;
+        assert_eq!(rt; run(alloc, &words, &mut input, &mut output), status);
+        assert_eq!(rt; output.written(), text);
+    }
+    Ok(())
+}
+
+/// A source that makes the bytes of a script of so many: each read gives a comment, and one read near the
+/// limit begins with a command.
+#[derive(Drop)]
+struct LongScript {
+    at: u64,
+    end: u64,
+    commands: u64,
+}
+
+impl Source for LongScript {
+    ghost use Rattle.std.specs.Prelude.{None};
+
+    ghost left = { λ _. None };
+
+    ghost faults = { λ _. 0 };
+
+    fn read(&mut self, into: &mut [u8]) -> Result<usize, Failed> {
+        let left = self.end.saturating_sub(self.at);
+        let count = left.min(into.len() as u64) as usize;
+        into[..count].fill(b'#');
+        if count > 0 {
+            into[count - 1] = b'\n';
+        }
+        if self.commands == 0 && left <= 8192 && count > COMMAND.len() {
+            into[..COMMAND.len()].copy_from_slice(COMMAND);
+            self.commands = 1;
+        }
+        self.at = self.at.saturating_add(count as u64);
+        Ok(count)
+    }
+}
+
+const COMMAND: &[u8] = b"write /a x\n";
+
+#[test]
+fn longest_script_is_played(rt: HostRuntime) -> Result<(), Fail> {
+    let alloc = rt.alloc();
+    for (end, status) in [(SCRIPT_LIMIT, Status::Done), (SCRIPT_LIMIT + 1, Status::TooLong)] {
+        let mut input = LongScript {
+            at: 0,
+            end,
+            commands: 0,
+        };
+        let mut output = MemorySink::new(alloc, ROOM, ROOM, &[])?;
+        assert_eq!(rt; run(alloc, &[], &mut input, &mut output), status, "of {end} bytes");
+        assert_eq!(rt; output.written(), b"ok\n".as_slice(), "of {end} bytes");
+    }
+    Ok(())
+}
