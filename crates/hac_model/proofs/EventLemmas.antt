@@ -7,7 +7,7 @@ use Rattle.std.proofs.lemmas.Bool.{and_parts, and_from, ne_eqb}
 use Rattle.std.proofs.lemmas.Bool.Decides.{nat_tests}
 use Rattle.std.proofs.lemmas.List.Sums.{sum_by-cons}
 use Rattle.std.proofs.Math.ListN.{set}
-use Rattle.hac_model.specs.Events.{accepted, apply, edited, edited_at, dirty_count, event_of, indexed, is_free, next_dirty, writing}
+use Rattle.hac_model.specs.Events.{accepted, apply, edited, edited_at, dirty, event_of, indexed, is_free, next_dirty, writing}
 use Rattle.hac_model.specs.Lines.{is_spelled}
 use Rattle.hac_model.specs.Names.{is_name}
 use Rattle.hac_model.specs.Queries.{is_query}
@@ -91,7 +91,7 @@ unfolding dirty_in
 due [] = refl
 due (e ∷ es) = due-cons (is_dirty e.body) e.number (dirty_in es) (next_dirty es) (due es) ∙ ap (λ (k : ℕ). nat_lt 0 k) (sym (dirty_in-cons e es))
 
-pub steps-due : (s : State) → accepted s Step ≡ nat_lt 0 (dirty_count s)
+pub steps-due : (s : State) → accepted s Step ≡ nat_lt 0 (dirty s)
 unfolding dirty_in
 steps-due s = due s.entries
 
@@ -159,14 +159,14 @@ step-in above (e ∷ es) next n h found =
           omega (arith, dirty-before e es false first, dirty-after n e es false clean, step-in e.number es next n h.1 found))
     ] refl found
 
-pub steps-clean : (s : State) → IsValid s → IsTrue (accepted s Step) → dirty_count s ≡ dirty_count (apply s Step) + 1
+pub steps-clean : (s : State) → IsValid s → IsTrue (accepted s Step) → dirty s ≡ dirty (apply s Step) + 1
 unfolding dirty_in
 steps-clean s h ok =
-    elim (next_dirty s.entries) as (λ o. next_dirty s.entries ≡ o → is_some o ≡ true → dirty_count s ≡ dirty_count (option_map_or (λ file. edited_at s file indexed) o s) + 1) [
+    elim (next_dirty s.entries) as (λ o. next_dirty s.entries ≡ o → is_some o ≡ true → dirty s ≡ dirty (option_map_or (λ file. edited_at s file indexed) o s) + 1) [
       | None ↦ (λ found ok. absurd cc)
       | Some n ↦ (λ found ok. step-in 0 s.entries s.next n h.numbers found)
     ] refl ok
 
 -- a step can happen where a file is dirty
-pub step-due : (s : State) (n : ℕ) → dirty_count s ≡ suc n → IsTrue (accepted s Step)
+pub step-due : (s : State) (n : ℕ) → dirty s ≡ suc n → IsTrue (accepted s Step)
 step-due s n more = steps-due s ∙ ap (λ (k : ℕ). nat_lt 0 k) more ∙ grind (arith, nat_tests)

@@ -3,7 +3,7 @@ use Rattle.std.proofs.Common.{◌≡◌, ℕ, zero, suc, true, false, List, [], 
 use Rattle.std.specs.Prelude.{if◌then◌else◌, replicate, Option, Some, None, Ok, Err, IsTrue}
 use Rattle.std.specs.List.{AllByRecursion}
 use Rattle.std.specs.Option.{option_map_or}
-use Rattle.hac_model.specs.Events.{accepted, apply, apply_all, dirty_count, event_of, events_of}
+use Rattle.hac_model.specs.Events.{accepted, apply, apply_all, dirty, event_of, events_of}
 use Rattle.hac_model.specs.Lines.{Item, is_quiet, is_spelled, item_of, items_of}
 use Rattle.hac_model.specs.Play.{state_after, tree_after, tree_after_all}
 use Rattle.hac_model.specs.Refusals.{refusal}
@@ -30,7 +30,7 @@ one-valid s (Some event) h happens = apply-valid s event h (happens event refl)
 events-valid : (s : State) (c : Command) → IsValid s → IsTrue (is_spelled c) → refusal s c ≡ None → IsValid (apply_all s (events_of s c))
 events-valid s (command.Write name text) h spelled free = one-valid s (event_of s (command.Write name text)) h (λ event same. commands-happen s (command.Write name text) event spelled free same)
 events-valid s (command.Smkdir name query) h spelled free = one-valid s (event_of s (command.Smkdir name query)) h (λ event same. commands-happen s (command.Smkdir name query) event spelled free same)
-events-valid s command.Index h spelled free = steps-valid (dirty_count s) s h
+events-valid s command.Index h spelled free = steps-valid (dirty s) s h
 events-valid s (command.Sls name) h spelled free = h
 
 pub state_after-valid : (s : State) (c : Command) → IsValid s → IsTrue (is_spelled c) → IsValid (state_after s c)
@@ -68,12 +68,12 @@ pub scripts-valid : (bytes : List ℕ) (s : State) → IsValid s → IsValid (tr
 scripts-valid bytes s h = tree_after_all-valid (script bytes) s (script-items bytes) h
 
 -- as many steps as there are dirty files leave none dirty
-steps-clean-all : (n : ℕ) (s : State) → IsValid s → dirty_count s ≡ n → dirty_count (apply_all s (replicate n Step)) ≡ 0
+steps-clean-all : (n : ℕ) (s : State) → IsValid s → dirty s ≡ n → dirty (apply_all s (replicate n Step)) ≡ 0
 steps-clean-all zero s h none = none
 steps-clean-all (suc n) s h more =
     let due = step-due s n more in
-    let fewer : dirty_count (apply s Step) ≡ n = omega (arith, steps-clean s h due, more) in
+    let fewer : dirty (apply s Step) ≡ n = omega (arith, steps-clean s h due, more) in
     steps-clean-all n (apply s Step) (step-valid s h) fewer
 
-pub index-cleans : (s : State) → IsValid s → dirty_count (state_after s command.Index) ≡ 0
-index-cleans s h = steps-clean-all (dirty_count s) s h refl
+pub index-cleans : (s : State) → IsValid s → dirty (state_after s command.Index) ≡ 0
+index-cleans s h = steps-clean-all (dirty s) s h refl

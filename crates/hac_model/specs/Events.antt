@@ -19,8 +19,8 @@ next_dirty [] = None
 next_dirty (entry ∷ entries) = if is_dirty entry.body then Some entry.number else next_dirty entries
 
 -- how many files are dirty
-abbrev pub dirty_count : State → ℕ
-dirty_count s = count_by (λ entry. is_dirty entry.body) s.entries
+abbrev pub dirty : State → ℕ
+dirty s = count_by (λ entry. is_dirty entry.body) s.entries
 
 -- entries may be made in the directory: in the root alone yet
 abbrev pub is_holder : ℕ → Bool
@@ -90,5 +90,5 @@ event_of s (command.Sls name) = None
 
 -- the events that an accepted command is: `index` is as many steps as there are dirty files
 abbrev pub events_of : State → Command → List Event
-events_of s command.Index = replicate (dirty_count s) Step
+events_of s command.Index = replicate (dirty s) Step
 events_of s other = option_map_or (λ event. event ∷ []) (event_of s other) []

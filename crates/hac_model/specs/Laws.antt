@@ -1,7 +1,7 @@
 -- Theorems over the definitions, each proved as the contract of a function of the module `laws`.
 use Rattle.std.specs.Prelude.{◌≡◌, ℕ, ◌+◌, nat_lt, List, filter, [], ◌∷◌, ◌++◌, Some, None, Ok, IsTrue, codes}
 use Rattle.std.specs.List.{flat_map}
-use Rattle.hac_model.specs.Events.{accepted, apply, dirty_count, event_of}
+use Rattle.hac_model.specs.Events.{accepted, apply, dirty, event_of}
 use Rattle.hac_model.specs.Lines.{is_spelled, item_of}
 use Rattle.hac_model.specs.Links.{atom, items, links, query_at, round}
 use Rattle.hac_model.specs.Printed.{ended, text}
@@ -45,15 +45,15 @@ CommandsHappen =
 
 -- a step can happen just where a file is dirty
 abbrev pub StepsAreDue : Type 0
-StepsAreDue = (s : State) → accepted s Step ≡ nat_lt 0 (dirty_count s)
+StepsAreDue = (s : State) → accepted s Step ≡ nat_lt 0 (dirty s)
 
 -- and leaves one file less dirty
 abbrev pub StepsClean : Type 0
-StepsClean = (s : State) → IsValid s → IsTrue (accepted s Step) → dirty_count s ≡ dirty_count (apply s Step) + 1
+StepsClean = (s : State) → IsValid s → IsTrue (accepted s Step) → dirty s ≡ dirty (apply s Step) + 1
 
 -- after the steps of `index` no file is dirty
 abbrev pub IndexCleans : Type 0
-IndexCleans = (s : State) → IsValid s → dirty_count (state_after s Index) ≡ 0
+IndexCleans = (s : State) → IsValid s → dirty (state_after s Index) ≡ 0
 
 -- scripts lead from valid states to valid states
 abbrev pub ScriptsKeepValid : Type 0

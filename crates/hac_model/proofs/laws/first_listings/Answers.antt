@@ -1,7 +1,7 @@
 use Rattle.std.proofs.Common.{refl}
 use Rattle.hac_model.specs.Links.{links}
 use Rattle.hac_model.specs.Script.{script}
-use Rattle.hac_model.specs.Words.{has_term, words, is_word_byte}
+use Rattle.hac_model.specs.Words.{words, has_term, is_word_byte}
 use Rattle.hac_model.proofs.laws.first_listings.Goals as goal
 
 pub returns : goal.returns
