@@ -1,12 +1,13 @@
 -- The events of commands can happen, and steps leave fewer files dirty.
-use Rattle.std.proofs.Common.{◌≡◌, ℕ, ◌+◌, ◌<◌, ◌≤◌, Bool, true, false, cond, List, [], ◌∷◌, refl, ap, sym, ◌∙◌, arith, eq-eqb, zero-add, suc}
+use Rattle.std.proofs.Common.{zero, get_or, length, ◌≡◌, ℕ, ◌+◌, ◌<◌, ◌≤◌, Bool, true, false, cond, List, [], ◌∷◌, refl, ap, sym, ◌∙◌, arith, eq-eqb, zero-add, suc}
 use Rattle.std.specs.Prelude.{◌==◌, ◌&&◌, if◌then◌else◌, nat_lt, count_by, Option, Some, None, IsTrue, is_some, is_none, option_and_then}
 use Rattle.std.specs.Option.{option_map_or, option_map}
 use Rattle.std.specs.Str.{bytes_eq}
 use Rattle.std.proofs.lemmas.Bool.{and_parts, and_from, ne_eqb}
 use Rattle.std.proofs.lemmas.Bool.Decides.{nat_tests}
 use Rattle.std.proofs.lemmas.List.Sums.{sum_by-cons}
-use Rattle.hac_model.specs.Events.{accepted, apply, changed, changed_at, dirty, event_of, indexed, is_free, next_dirty, writing}
+use Rattle.std.proofs.Math.ListN.{set}
+use Rattle.hac_model.specs.Events.{accepted, apply, edited, edited_at, dirty, event_of, indexed, is_free, next_dirty, writing}
 use Rattle.hac_model.specs.Lines.{is_spelled}
 use Rattle.hac_model.specs.Names.{is_name}
 use Rattle.hac_model.specs.Queries.{is_query}
@@ -22,6 +23,7 @@ use Rattle.hac_model.specs.declared.states.Body.{Body}
 use Rattle.hac_model.specs.declared.states.Body.TheVariants.{File, Semantic}
 use Rattle.hac_model.specs.declared.states.Entry.{Entry}
 use Rattle.hac_model.specs.declared.states.State.{State}
+use Rattle.hac_model.proofs.TreeLemmas.{number-above}
 
 found-more : (b : Bool) (e : Entry) (o : Option Entry) → is_some o ≡ true → is_some (cond b (Some e) o) ≡ true
 found-more true e o h = refl
@@ -94,13 +96,27 @@ unfolding dirty_in
 steps-due s = due s.entries
 
 -- a number that no entry has changes none
-changed-low : (n : ℕ) (f : Body → Body) (above : ℕ) (es : List Entry) (next : ℕ) → NumbersRise above es next → n ≤ above → changed n f es ≡ es
-changed-low n f above [] next h low = refl
-changed-low n f above (e ∷ es) next h low =
+edited-low : (n : ℕ) (f : Body → Body) (above : ℕ) (es : List Entry) (next : ℕ) → NumbersRise above es next → n ≤ above → edited n f es ≡ es
+edited-low n f above [] next h low = refl
+edited-low n f above (e ∷ es) next h low =
     let first : above < e.number = h.0 in
     let head : (e.number == n) ≡ false = ne_eqb e.number n (λ same. omega arith) in
-    let tail : changed n f es ≡ es = changed-low n f e.number es next h.1 (omega arith) in
+    let tail : edited n f es ≡ es = edited-low n f e.number es next h.1 (omega arith) in
     λ i. record e { body = cond (head i) (f e.body) e.body } ∷ tail i
+
+-- the number of an entry changes that entry alone
+pub edited-index : (f : Body → Body) (above : ℕ) (es : List Entry) (next i : ℕ) (d : Entry) → NumbersRise above es next → i < length es → edited (get_or es i d).number f es ≡ set es i (record (get_or es i d) { body = f (get_or es i d).body })
+edited-index f above [] next i d h k = absurd (omega arith)
+edited-index f above (e ∷ es) next zero d h k =
+    let head : (e.number == e.number) ≡ true = eq-eqb e.number e.number refl in
+    let tail : edited e.number f es ≡ es = edited-low e.number f e.number es next h.1 (omega arith) in
+    λ j. record e { body = cond (head j) (f e.body) e.body } ∷ tail j
+edited-index f above (e ∷ es) next (suc i) d h k =
+    let inside : i < length es = omega arith in
+    let more : e.number < (get_or es i d).number = number-above e.number es next i d h.1 inside in
+    let head : (e.number == (get_or es i d).number) ≡ false = ne_eqb e.number (get_or es i d).number (λ same. omega arith) in
+    let tail = edited-index f e.number es next i d h.1 inside in
+    λ j. record e { body = cond (head j) (f e.body) e.body } ∷ tail j
 
 next_dirty-above : (above : ℕ) (es : List Entry) (next n : ℕ) → NumbersRise above es next → next_dirty es ≡ Some n → above < n
 next_dirty-above above [] next n h found = absurd cc
@@ -115,26 +131,26 @@ clean-indexed : (body : Body) → is_dirty (indexed body) ≡ false
 clean-indexed (File text dirty shown) = refl
 clean-indexed (Semantic query) = refl
 
--- the head of the changed entries
-changed_head : ℕ → Entry → Entry
-changed_head n e = record e { body = if e.number == n then indexed e.body else e.body }
+-- the head of the entries, edited
+edited_head : ℕ → Entry → Entry
+edited_head n e = record e { body = if e.number == n then indexed e.body else e.body }
 
 -- how many are dirty, told of the head, before and after a step
 dirty-before : (e : Entry) (es : List Entry) (b : Bool) → is_dirty e.body ≡ b → dirty_in (e ∷ es) ≡ cond {A = ℕ} b 1 0 + dirty_in es
 dirty-before e es b head = dirty_in-cons e es ∙ ap (λ (t : Bool). cond {A = ℕ} t 1 0 + dirty_in es) head
 
-dirty-after : (n : ℕ) (e : Entry) (es : List Entry) (b : Bool) → is_dirty (if e.number == n then indexed e.body else e.body) ≡ b → dirty_in (changed n indexed (e ∷ es)) ≡ cond {A = ℕ} b 1 0 + dirty_in (changed n indexed es)
-unfolding changed_head
-dirty-after n e es b head = dirty_in-cons (changed_head n e) (changed n indexed es) ∙ ap (λ (t : Bool). cond {A = ℕ} t 1 0 + dirty_in (changed n indexed es)) head
+dirty-after : (n : ℕ) (e : Entry) (es : List Entry) (b : Bool) → is_dirty (if e.number == n then indexed e.body else e.body) ≡ b → dirty_in (edited n indexed (e ∷ es)) ≡ cond {A = ℕ} b 1 0 + dirty_in (edited n indexed es)
+unfolding edited_head
+dirty-after n e es b head = dirty_in-cons (edited_head n e) (edited n indexed es) ∙ ap (λ (t : Bool). cond {A = ℕ} t 1 0 + dirty_in (edited n indexed es)) head
 
-step-in : (above : ℕ) (es : List Entry) (next n : ℕ) → NumbersRise above es next → next_dirty es ≡ Some n → dirty_in es ≡ dirty_in (changed n indexed es) + 1
+step-in : (above : ℕ) (es : List Entry) (next n : ℕ) → NumbersRise above es next → next_dirty es ≡ Some n → dirty_in es ≡ dirty_in (edited n indexed es) + 1
 step-in above [] next n h found = absurd cc
 step-in above (e ∷ es) next n h found =
-    elim (is_dirty e.body) as (λ b. is_dirty e.body ≡ b → cond b (Some e.number) (next_dirty es) ≡ Some n → dirty_in (e ∷ es) ≡ dirty_in (changed n indexed (e ∷ es)) + 1) [
+    elim (is_dirty e.body) as (λ b. is_dirty e.body ≡ b → cond b (Some e.number) (next_dirty es) ≡ Some n → dirty_in (e ∷ es) ≡ dirty_in (edited n indexed (e ∷ es)) + 1) [
       | true ↦ (λ first found.
           let same : e.number ≡ n = cc in
           let clean : is_dirty (if e.number == n then indexed e.body else e.body) ≡ false = ap (λ (t : Bool). is_dirty (if t then indexed e.body else e.body)) (eq-eqb e.number n same) ∙ clean-indexed e.body in
-          let rest : dirty_in (changed n indexed es) ≡ dirty_in es = ap dirty_in (changed-low n indexed e.number es next h.1 (omega arith)) in
+          let rest : dirty_in (edited n indexed es) ≡ dirty_in es = ap dirty_in (edited-low n indexed e.number es next h.1 (omega arith)) in
           omega (arith, dirty-before e es true first, dirty-after n e es false clean, rest))
       | false ↦ (λ first found.
           let more : e.number < n = next_dirty-above e.number es next n h.1 found in
@@ -146,7 +162,7 @@ step-in above (e ∷ es) next n h found =
 pub steps-clean : (s : State) → IsValid s → IsTrue (accepted s Step) → dirty s ≡ dirty (apply s Step) + 1
 unfolding dirty_in
 steps-clean s h ok =
-    elim (next_dirty s.entries) as (λ o. next_dirty s.entries ≡ o → is_some o ≡ true → dirty s ≡ dirty (option_map_or (λ file. changed_at s file indexed) o s) + 1) [
+    elim (next_dirty s.entries) as (λ o. next_dirty s.entries ≡ o → is_some o ≡ true → dirty s ≡ dirty (option_map_or (λ file. edited_at s file indexed) o s) + 1) [
       | None ↦ (λ found ok. absurd cc)
       | Some n ↦ (λ found ok. step-in 0 s.entries s.next n h.numbers found)
     ] refl ok

@@ -1,6 +1,6 @@
 -- Look-ups in a valid state, and what its plain tree tells.
-use Rattle.std.proofs.Common.{◌≡◌, ℕ, ◌<◌, ◌≤◌, Bool, cond, List, [], ◌∷◌, refl, ap, sym, ◌∙◌, arith, eq-eqb}
-use Rattle.std.specs.Prelude.{Option, Some, None, map}
+use Rattle.std.proofs.Common.{◌≡◌, ℕ, zero, suc, ◌<◌, ◌≤◌, Bool, true, false, cond, List, [], ◌∷◌, length, get_or, subst, refl, ap, sym, ◌∙◌, arith, eq-eqb}
+use Rattle.std.specs.Prelude.{◌==◌, Option, Some, None, map}
 use Rattle.std.specs.Option.{option_map_or}
 use Rattle.std.specs.List.{AllByRecursion}
 use Rattle.std.proofs.lemmas.Bool.{ne_eqb}
@@ -11,10 +11,10 @@ use Rattle.hac_model.specs.declared.states.Entry.{Entry}
 use Rattle.hac_model.specs.declared.states.State.{State}
 
 -- another number than the first entry's is looked up behind it
-entry_at-behind : (e : Entry) (es : List Entry) (n : ℕ) → (e.number ≡ n → ⊥) → entry_at (e ∷ es) n ≡ entry_at es n
+pub entry_at-behind : (e : Entry) (es : List Entry) (n : ℕ) → (e.number ≡ n → ⊥) → entry_at (e ∷ es) n ≡ entry_at es n
 entry_at-behind e es n other = ap (λ (b : Bool). cond b (Some e) (entry_at es n)) (ne_eqb e.number n other)
 
-entry_at-first : (e : Entry) (es : List Entry) → entry_at (e ∷ es) e.number ≡ Some e
+pub entry_at-first : (e : Entry) (es : List Entry) → entry_at (e ∷ es) e.number ≡ Some e
 entry_at-first e es = ap (λ (b : Bool). cond b (Some e) (entry_at es e.number)) (eq-eqb e.number e.number refl)
 
 -- no entry has a number that is not above those that the entries have to be above
@@ -23,6 +23,34 @@ entry_at-low above [] next n h low = refl
 entry_at-low above (e ∷ es) next n h low =
     let first : above < e.number = h.0 in
     entry_at-behind e es n (λ same. omega arith) ∙ entry_at-low e.number es next n h.1 (omega arith)
+
+-- what holds of all entries holds of the one that is looked up
+pub entry_at-all : (P : Entry → Type 0) (es : List Entry) (n : ℕ) (e : Entry) → AllByRecursion P es → entry_at es n ≡ Some e → P e
+entry_at-all P [] n e h found = absurd cc
+entry_at-all P (first ∷ es) n e h found =
+    elim (first.number == n) as (λ b. cond b (Some first) (entry_at es n) ≡ Some e → P e) [
+      | true ↦ (λ found. let same : first ≡ e = cc in subst P same h.0)
+      | false ↦ (λ found. entry_at-all P es n e h.1 found)
+    ] found
+
+-- each entry's number is above those that the entries have to be above
+pub number-above : (above : ℕ) (es : List Entry) (next i : ℕ) (d : Entry) → NumbersRise above es next → i < length es → above < (get_or es i d).number
+number-above above [] next i d h k = absurd (omega arith)
+number-above above (e ∷ es) next zero d h k = h.0
+number-above above (e ∷ es) next (suc i) d h k =
+    let first : above < e.number = h.0 in
+    let inside : i < length es = omega arith in
+    let behind : e.number < (get_or es i d).number = number-above e.number es next i d h.1 inside in
+    omega arith
+
+-- an entry is looked up by its own number
+pub entry_at-index : (above : ℕ) (es : List Entry) (next i : ℕ) (d : Entry) → NumbersRise above es next → i < length es → entry_at es (get_or es i d).number ≡ Some (get_or es i d)
+entry_at-index above [] next i d h k = absurd (omega arith)
+entry_at-index above (e ∷ es) next zero d h k = entry_at-first e es
+entry_at-index above (e ∷ es) next (suc i) d h k =
+    let inside : i < length es = omega arith in
+    let more : e.number < (get_or es i d).number = number-above e.number es next i d h.1 inside in
+    entry_at-behind e es (get_or es i d).number (λ same. omega arith) ∙ entry_at-index e.number es next i d h.1 inside
 
 -- an entry as the plain tree shows it, whose path is its name
 own_row : Entry → (List (List ℕ) × ℕ × Body)

@@ -9,7 +9,7 @@ use Rattle.std.specs.Cmp.Lexicographic.{nat_list_eq_equiv}
 use Rattle.std.proofs.lemmas.Bool.{and_parts, eqb-true}
 use Rattle.hac_model.specs.Names.{is_name}
 use Rattle.hac_model.specs.Queries.{is_query}
-use Rattle.hac_model.specs.Events.{next_dirty, accepted, apply, added, changed, changed_at, rewritten, indexed, is_free}
+use Rattle.hac_model.specs.Events.{next_dirty, accepted, apply, added, edited, edited_at, rewritten, indexed, is_free}
 use Rattle.hac_model.specs.Tree.{child, empty}
 use Rattle.hac_model.specs.Valid.{NumbersRise, NamesDiffer, IsSound, IsValid}
 use Rattle.hac_model.specs.declared.events.Event.{Event}
@@ -68,41 +68,41 @@ added-valid s dir name body h free sound =
       bodies = all-append (λ e. IsSound e.body) s.entries new h.bodies sound;
     }
 
-numbers-changed : (n : ℕ) (f : Body → Body) (above : ℕ) (es : List Entry) (next : ℕ) → NumbersRise above es next → NumbersRise above (changed n f es) next
-numbers-changed n f above [] next h = h
-numbers-changed n f above (e ∷ es) next h = (h.0, numbers-changed n f e.number es next h.1)
+numbers-edited : (n : ℕ) (f : Body → Body) (above : ℕ) (es : List Entry) (next : ℕ) → NumbersRise above es next → NumbersRise above (edited n f es) next
+numbers-edited n f above [] next h = h
+numbers-edited n f above (e ∷ es) next h = (h.0, numbers-edited n f e.number es next h.1)
 
-names-changed : (n : ℕ) (f : Body → Body) (P : List ℕ → Type 0) (es : List Entry) → AllByRecursion (λ e. P e.name) es → AllByRecursion (λ e. P e.name) (changed n f es)
-names-changed n f P [] h = tt
-names-changed n f P (e ∷ es) h = (h.0, names-changed n f P es h.1)
+names-edited : (n : ℕ) (f : Body → Body) (P : List ℕ → Type 0) (es : List Entry) → AllByRecursion (λ e. P e.name) es → AllByRecursion (λ e. P e.name) (edited n f es)
+names-edited n f P [] h = tt
+names-edited n f P (e ∷ es) h = (h.0, names-edited n f P es h.1)
 
-parents-changed : (n : ℕ) (f : Body → Body) (P : ℕ → Type 0) (es : List Entry) → AllByRecursion (λ e. P e.parent) es → AllByRecursion (λ e. P e.parent) (changed n f es)
-parents-changed n f P [] h = tt
-parents-changed n f P (e ∷ es) h = (h.0, parents-changed n f P es h.1)
+parents-edited : (n : ℕ) (f : Body → Body) (P : ℕ → Type 0) (es : List Entry) → AllByRecursion (λ e. P e.parent) es → AllByRecursion (λ e. P e.parent) (edited n f es)
+parents-edited n f P [] h = tt
+parents-edited n f P (e ∷ es) h = (h.0, parents-edited n f P es h.1)
 
-pub child-changed : (n : ℕ) (f : Body → Body) (es : List Entry) (dir : ℕ) (name : List ℕ) → child (changed n f es) dir name ≡ child es dir name
-child-changed n f [] dir name = refl
-child-changed n f (e ∷ es) dir name = ap (λ (rest : Option ℕ). cond (e.parent == dir && bytes_eq e.name name) (Some e.number) rest) (child-changed n f es dir name)
+pub child-edited : (n : ℕ) (f : Body → Body) (es : List Entry) (dir : ℕ) (name : List ℕ) → child (edited n f es) dir name ≡ child es dir name
+child-edited n f [] dir name = refl
+child-edited n f (e ∷ es) dir name = ap (λ (rest : Option ℕ). cond (e.parent == dir && bytes_eq e.name name) (Some e.number) rest) (child-edited n f es dir name)
 
-differ-changed : (n : ℕ) (f : Body → Body) (es : List Entry) → NamesDiffer es → NamesDiffer (changed n f es)
-differ-changed n f [] h = tt
-differ-changed n f (e ∷ es) h = (child-changed n f es e.parent e.name ∙ h.0, differ-changed n f es h.1)
+differ-edited : (n : ℕ) (f : Body → Body) (es : List Entry) → NamesDiffer es → NamesDiffer (edited n f es)
+differ-edited n f [] h = tt
+differ-edited n f (e ∷ es) h = (child-edited n f es e.parent e.name ∙ h.0, differ-edited n f es h.1)
 
 sound-if : (b : Bool) (f : Body → Body) (body : Body) → ((body : Body) → IsSound body → IsSound (f body)) → IsSound body → IsSound (cond b (f body) body)
 sound-if true f body keeps h = keeps body h
 sound-if false f body keeps h = h
 
-bodies-changed : (n : ℕ) (f : Body → Body) → ((body : Body) → IsSound body → IsSound (f body)) → (es : List Entry) → AllByRecursion (λ e. IsSound e.body) es → AllByRecursion (λ e. IsSound e.body) (changed n f es)
-bodies-changed n f keeps [] h = tt
-bodies-changed n f keeps (e ∷ es) h = (sound-if (e.number == n) f e.body keeps h.0, bodies-changed n f keeps es h.1)
+bodies-edited : (n : ℕ) (f : Body → Body) → ((body : Body) → IsSound body → IsSound (f body)) → (es : List Entry) → AllByRecursion (λ e. IsSound e.body) es → AllByRecursion (λ e. IsSound e.body) (edited n f es)
+bodies-edited n f keeps [] h = tt
+bodies-edited n f keeps (e ∷ es) h = (sound-if (e.number == n) f e.body keeps h.0, bodies-edited n f keeps es h.1)
 
-changed_at-valid : (s : State) (n : ℕ) (f : Body → Body) → ((body : Body) → IsSound body → IsSound (f body)) → IsValid s → IsValid (changed_at s n f)
-changed_at-valid s n f keeps h = record {
-  numbers = numbers-changed n f 0 s.entries s.next h.numbers;
-  names = names-changed n f (λ name. IsTrue (is_name name)) s.entries h.names;
-  parents = parents-changed n f (λ parent. parent ≡ 0) s.entries h.parents;
-  differ = differ-changed n f s.entries h.differ;
-  bodies = bodies-changed n f keeps s.entries h.bodies;
+edited_at-valid : (s : State) (n : ℕ) (f : Body → Body) → ((body : Body) → IsSound body → IsSound (f body)) → IsValid s → IsValid (edited_at s n f)
+edited_at-valid s n f keeps h = record {
+  numbers = numbers-edited n f 0 s.entries s.next h.numbers;
+  names = names-edited n f (λ name. IsTrue (is_name name)) s.entries h.names;
+  parents = parents-edited n f (λ parent. parent ≡ 0) s.entries h.parents;
+  differ = differ-edited n f s.entries h.differ;
+  bodies = bodies-edited n f keeps s.entries h.bodies;
 }
 
 rewritten-sound : (text : List ℕ) (body : Body) → IsSound body → IsSound (rewritten text body)
@@ -115,11 +115,11 @@ indexed-sound (Semantic query) h = h
 
 -- a step keeps a state valid, also where no file is dirty
 pub step-valid : (s : State) → IsValid s → IsValid (apply s Step)
-step-valid s h = elim (next_dirty s.entries) as (λ o. IsValid (option_map_or (λ file. changed_at s file indexed) o s)) [ None ↦ h | Some file ↦ changed_at-valid s file indexed indexed-sound h ]
+step-valid s h = elim (next_dirty s.entries) as (λ o. IsValid (option_map_or (λ file. edited_at s file indexed) o s)) [ None ↦ h | Some file ↦ edited_at-valid s file indexed indexed-sound h ]
 
 pub apply-valid : (s : State) (event : Event) → IsValid s → IsTrue (accepted s event) → IsValid (apply s event)
 apply-valid s (NewFile dir name text) h ok = added-valid s dir name (File text true None) h ok (λ clean. cc)
-apply-valid s (Rewrite file text) h ok = changed_at-valid s file (rewritten text) (rewritten-sound text) h
+apply-valid s (Rewrite file text) h ok = edited_at-valid s file (rewritten text) (rewritten-sound text) h
 apply-valid s (Smkdir dir name query) h ok =
     let parts = and_parts (is_free s dir name) (is_query query) ok in
     added-valid s dir name (Semantic query) h parts.0 parts.1

@@ -44,15 +44,15 @@ added s dir name body = record {
   entries = s.entries ++ record { number = s.next; parent = dir; name = name; body = body } ∷ [];
 }
 
--- the entries, of which the one with the number has its body changed
-abbrev pub changed : ℕ → (Body → Body) → List Entry → List Entry
-changed number change [] = []
-changed number change (entry ∷ entries) =
-    record entry { body = if entry.number == number then change entry.body else entry.body } ∷ changed number change entries
+-- the entries, of which the one with the number has its body edited
+abbrev pub edited : ℕ → (Body → Body) → List Entry → List Entry
+edited number change [] = []
+edited number change (entry ∷ entries) =
+    record entry { body = if entry.number == number then change entry.body else entry.body } ∷ edited number change entries
 
--- the state, in which the entry with the number has changed
-abbrev pub changed_at : State → ℕ → (Body → Body) → State
-changed_at s number change = record s { entries = changed number change s.entries }
+-- the state, in which the entry with the number has edited
+abbrev pub edited_at : State → ℕ → (Body → Body) → State
+edited_at s number change = record s { entries = edited number change s.entries }
 
 -- the text is replaced, and what was indexed stays shown
 abbrev pub rewritten : List ℕ → Body → Body
@@ -67,9 +67,9 @@ indexed (Semantic query) = Semantic query
 -- the state after an event
 abbrev pub apply : State → Event → State
 apply s (NewFile dir name text) = added s dir name (File text true None)
-apply s (Rewrite file text) = changed_at s file (rewritten text)
+apply s (Rewrite file text) = edited_at s file (rewritten text)
 apply s (Smkdir dir name query) = added s dir name (Semantic query)
-apply s Step = option_map_or (λ file. changed_at s file indexed) (next_dirty s.entries) s
+apply s Step = option_map_or (λ file. edited_at s file indexed) (next_dirty s.entries) s
 
 -- the state after events, one after the other
 abbrev pub apply_all : State → List Event → State

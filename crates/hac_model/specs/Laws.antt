@@ -1,9 +1,9 @@
 -- Theorems over the definitions, each proved as the contract of a function of the module `laws`.
-use Rattle.std.specs.Prelude.{◌≡◌, ℕ, ◌+◌, nat_lt, List, [], ◌∷◌, ◌++◌, Some, None, Ok, IsTrue, codes}
+use Rattle.std.specs.Prelude.{◌≡◌, ℕ, ◌+◌, nat_lt, List, filter, [], ◌∷◌, ◌++◌, Some, None, Ok, IsTrue, codes}
 use Rattle.std.specs.List.{flat_map}
 use Rattle.hac_model.specs.Events.{accepted, apply, dirty, event_of}
 use Rattle.hac_model.specs.Lines.{is_spelled, item_of}
-use Rattle.hac_model.specs.Links.{links, round}
+use Rattle.hac_model.specs.Links.{atom, items, links, query_at, round}
 use Rattle.hac_model.specs.Printed.{ended, text}
 use Rattle.hac_model.specs.Refusals.{refusal}
 use Rattle.hac_model.specs.Script.{script}
@@ -15,7 +15,9 @@ use Rattle.hac_model.specs.declared.commands.Command.TheVariants.{Index}
 use Rattle.hac_model.specs.declared.commands.Line.{Line}
 use Rattle.hac_model.specs.declared.events.Event.{Event}
 use Rattle.hac_model.specs.declared.events.Event.TheVariants.{Step}
+use Rattle.hac_model.specs.declared.queries.Query.TheVariants as query
 use Rattle.hac_model.specs.declared.states.State.{State}
+use Rattle.hac_model.specs.declared.terms.Term.{Term}
 
 -- scripts that are joined at a line end are played one after the other
 abbrev pub ScriptsJoin : Type 0
@@ -68,6 +70,12 @@ LinksAreOnly = (s : State) → IsValid s → (known : ℕ → List ℕ) → roun
 -- one round finds the links, whatever it begins with, since the root provides all files and queries name no directory yet
 abbrev pub OneRoundIsEnough : Type 0
 OneRoundIsEnough = (s : State) → IsValid s → (known : ℕ → List ℕ) → round s known ≡ links s
+
+-- the links of a directory are the files whose texts as last indexed have its term
+abbrev pub LinksHaveTheTerm : Type 0
+LinksHaveTheTerm =
+    (s : State) (dir : ℕ) (term : Term) → IsValid s → query_at s dir ≡ Some (query.Term term) →
+    links s dir ≡ filter (atom s term) (items s)
 
 -- valid states that show the same tree, and would go on with the same number, are equal
 abbrev pub PlainTellsState : Type 0

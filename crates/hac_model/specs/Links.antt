@@ -69,9 +69,9 @@ rounds zero s = λ dir. []
 rounds (suc n) s = round s (rounds n s)
 
 -- how many semantic directories there are
-abbrev pub semantics : State → ℕ
-semantics s = count_by (λ entry. is_some (query_in entry.body)) s.entries
+abbrev pub semantic_count : State → ℕ
+semantic_count s = count_by (λ entry. is_some (query_in entry.body)) s.entries
 
 -- the links of each directory, the items in order of number: as many rounds as there are semantic directories
 unfoldable pub links : State → ℕ → List ℕ
-links s = rounds (semantics s) s
+links s = rounds (semantic_count s) s

@@ -1,5 +1,5 @@
 //! Theorems over the definitions alone. Each is the contract of a function that does nothing.
-ghost use Rattle.hac_model.specs.Laws.{ScriptsJoin, EmptyIsValid, EventsKeepValid, LinesSpell, CommandsHappen, StepsAreDue, StepsClean, IndexCleans, ScriptsKeepValid, LinksStay, LinksAreOnly, OneRoundIsEnough, PlainTellsState, FirstListings, IndexedListings, RefusedLines};
+ghost use Rattle.hac_model.specs.Laws.{ScriptsJoin, EmptyIsValid, EventsKeepValid, LinesSpell, CommandsHappen, StepsAreDue, StepsClean, IndexCleans, ScriptsKeepValid, LinksStay, LinksAreOnly, OneRoundIsEnough, LinksHaveTheTerm, PlainTellsState, FirstListings, IndexedListings, RefusedLines};
 
 /// Two scripts that are joined at a line end are played one after the other: no line looks ahead, and
 /// none looks back but to the tree.
@@ -45,9 +45,11 @@ pub fn links_are_fixed()
     ensures only { LinksAreOnly }
 {}
 
-/// One round finds the links of a valid state, while entries stand in the root alone and queries are words.
+/// While entries stand in the root alone and queries are words, one round finds the links of a valid state:
+/// they are the files that have the word.
 pub fn one_round_is_enough()
-    ensures { OneRoundIsEnough }
+    ensures enough { OneRoundIsEnough }
+    ensures listed { LinksHaveTheTerm }
 {}
 
 /// A valid state is told by its plain tree and the number that it goes on with.
