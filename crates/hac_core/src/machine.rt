@@ -1,15 +1,18 @@
 //! The machine itself.
-ghost use Rattle.std.specs.Prelude.{◌≡◌, ℕ, ◌+◌, ◌++◌, ◌∷◌, [], length, ◌<◌, ◌≤◌, Some, None, IfOk, OnOk, OnErr, IfErr, IsTrue, cond, IfSome, List};
+ghost use Rattle.std.specs.Prelude.{◌≡◌, ℕ, ◌+◌, ◌++◌, ◌∷◌, [], length, ◌<◌, ◌≤◌, Some, None, IfOk, OnOk, OnErr, IfErr, IsTrue, cond, IfSome, IfNone, List, true, false};
 ghost use Rattle.std.specs.Ordering.{nat_cmp};
 ghost use Rattle.std.specs.Cmp.Lexicographic.{slice_cmp};
 ghost use Rattle.std.specs.BTreeMap.{get, is_at};
+ghost use Rattle.std.specs.BTreeSet.{contains};
 ghost use Rattle.std.specs.Option.{option_copied};
 ghost use Rattle.hac_model.specs.Tree.{empty, number_in_root, standing};
-ghost use Rattle.hac_model.specs.Events.{accepted, apply, dirty, is_free};
+ghost use Rattle.hac_model.specs.Events.{accepted, apply, dirty, edited, indexed, is_free, rewritten};
+ghost use Rattle.hac_core.specs.Tables.{NumberedFrom};
 ghost use Rattle.hac_model.specs.Lines.{is_spelled};
 ghost use Rattle.hac_model.specs.Refusals.{refusal, dir_cause, file_cause, slot_cause};
 ghost use Rattle.hac_core.specs.Drafts.{IsAdmitted, Refuses};
 
+use crate::bodies;
 use crate::drafts::Draft;
 use hac_model::{Body, Command, Deny, Entry, Event, Line, Memory, Name, Number, Path, Query, Refusal, Reply, Text};
 use std::alloc::Global;
@@ -151,7 +154,8 @@ impl Machine {
         match event {
             Event::NewFile { name, text, .. } => self.new_file(name, text),
             Event::Smkdir { name, query, .. } => self.new_semantic(name, query),
-            _ => Err(Memory),
+            Event::Rewrite { file, text } => self.rewrite(file, text),
+            Event::Step => self.step(),
         }
     }
 
@@ -186,6 +190,31 @@ impl Machine {
     {
         add_entry(&mut self.entries, &mut self.numbers, name, Body::Semantic { query })
     }
+
+    fn rewrite(&mut self, file: Number, text: Text) -> Result<(), Memory>
+        requires { IsTrue (accepted self.old (Event.Rewrite file text)) }
+        ensures ok { OnOk result (self.new ≡ apply self.old (Event.Rewrite file text)) }
+        ensures err { OnErr result (self.new ≡ self.old) }
+    {
+        let number = file.get();
+        let is_new = self.dirty.insert(number)?;
+        rewrite_entry(&mut self.entries, number, text);
+        self.dirty_count += u64::from(is_new);
+        Ok(())
+    }
+
+    fn step(&mut self) -> Result<(), Memory>
+        ensures ok { OnOk result (self.new ≡ apply self.old Event.Step) }
+        ensures err { OnErr result (self.new ≡ self.old) }
+    {
+        let Some(number) = least(&self.dirty) else {
+            return Ok(());
+        };
+        index_entry(&mut self.entries, number)?;
+        self.dirty.remove(&number);
+        self.dirty_count -= 1;
+        Ok(())
+    }
 }
 
 /// Adds an entry to the root, under the next number and a name that is free.
@@ -211,4 +240,36 @@ fn add_entry(
     };
     entries.push(entry).unwrap();
     Ok(())
+}
+
+/// Replaces the text of a file.
+fn rewrite_entry(entries: &mut Vec<Entry>, number: u64, text: Text)
+    requires numbered { NumberedFrom 1 entries.old.items }
+    requires above { 0 < number }
+    requires inside { number ≤ length entries.old.items }
+    ensures { entries.new.items ≡ edited number (rewritten text) entries.old.items }
+{
+    let index = (number - 1) as usize;
+    bodies::rewrite(&mut entries[index].body, text);
+}
+
+/// Shows the text of a file.
+fn index_entry(entries: &mut Vec<Entry>, number: u64) -> Result<(), Memory>
+    requires numbered { NumberedFrom 1 entries.old.items }
+    requires above { 0 < number }
+    requires inside { number ≤ length entries.old.items }
+    ensures ok { OnOk result (entries.new.items ≡ edited number indexed entries.old.items) }
+    ensures err { OnErr result (entries.new.items ≡ entries.old.items) }
+{
+    let index = (number - 1) as usize;
+    bodies::index(&mut entries[index].body)
+}
+
+/// The least number of a set.
+fn least(numbers: &BTreeSet<u64>) -> Option<u64>
+    ensures member { IfSome result (λ number. contains nat_cmp numbers.now number ≡ true) }
+    ensures least { IfSome result (λ number. (other : ℕ) → other < number → contains nat_cmp numbers.now other ≡ false) }
+    ensures none { IfNone result ((other : ℕ) → contains nat_cmp numbers.now other ≡ false) }
+{
+    numbers.first().copied()
 }
