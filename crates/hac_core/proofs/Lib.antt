@@ -1,3 +1,4 @@
 pub mod NumberedLemmas
 pub mod TableLemmas
 pub mod MachineLemmas
+pub mod ListingLemmas

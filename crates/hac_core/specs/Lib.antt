@@ -1,3 +1,4 @@
 pub mod Drafts
+pub mod Listing
 pub mod Tables
 pub mod Shape

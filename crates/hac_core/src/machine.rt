@@ -1,20 +1,22 @@
 //! The machine itself.
-ghost use Rattle.std.specs.Prelude.{◌≡◌, ℕ, ◌+◌, ◌++◌, ◌∷◌, [], length, ◌<◌, ◌≤◌, Some, None, IfOk, OnOk, OnErr, IfErr, IsTrue, cond, IfSome, IfNone, List, true, false};
+ghost use Rattle.std.specs.Prelude.{◌≡◌, ℕ, ◌+◌, ◌++◌, ◌∷◌, [], length, ◌<◌, ◌≤◌, Some, None, IfOk, OnOk, OnErr, IfErr, IsTrue, IsOk, cond, IfSome, IfNone, List, true, false};
 ghost use Rattle.std.specs.Ordering.{nat_cmp};
 ghost use Rattle.std.specs.Cmp.Lexicographic.{slice_cmp};
 ghost use Rattle.std.specs.BTreeMap.{get, is_at};
 ghost use Rattle.std.specs.BTreeSet.{contains};
 ghost use Rattle.std.specs.Option.{option_copied};
 ghost use Rattle.hac_model.specs.Tree.{empty, number_in_root, standing};
-ghost use Rattle.hac_model.specs.Events.{accepted, apply, dirty, edited, indexed, is_free, rewritten};
+ghost use Rattle.hac_model.specs.Events.{accepted, apply, dirty, edited, indexed, is_free, rewritten, writing};
 ghost use Rattle.hac_core.specs.Tables.{NumberedFrom};
 ghost use Rattle.hac_model.specs.Lines.{is_spelled};
 ghost use Rattle.hac_model.specs.Refusals.{refusal, dir_cause, file_cause, slot_cause};
-ghost use Rattle.hac_core.specs.Drafts.{IsAdmitted, Refuses};
+ghost use Rattle.hac_core.specs.Drafts.{IsAdmitted, Refuses, Settles, reads};
+ghost use Rattle.hac_model.specs.Play.{answer, data_lines};
 
 use crate::bodies;
-use crate::drafts::Draft;
-use hac_model::{Body, Command, Deny, Entry, Event, Line, Memory, Name, Number, Path, Query, Refusal, Reply, Text};
+use crate::drafts::{Draft, Settled};
+use crate::listing::link_lines;
+use hac_model::{Body, Command, Deny, Entry, Event, Line, Memory, Name, Number, Path, Query, Refusal, Reply, Seq, Text};
 use std::alloc::Global;
 use std::collections::{BTreeMap, BTreeSet};
 use std::marker::Model;
@@ -143,6 +145,66 @@ impl Machine {
         let number = self.number_in_root(name)?;
         let index = (number - 1) as usize;
         Some(&self.entries[index].body)
+    }
+
+    /// Answers a command that reads.
+    pub fn ask(&self, draft: Draft) -> Result<Reply, Deny>
+        requires made { IsAdmitted self.now draft.command }
+        requires reads { reads draft.command ≡ true }
+        ensures reply { IfOk result (λ reply. reply ≡ answer self.now draft.command) }
+        ensures err { IfErr result (λ deny. deny ≡ Deny.Memory) }
+    {
+        match draft.command() {
+            Command::Sls { name } => Ok(Reply::Lines(Seq::new(self.listing(name)?))),
+            Command::Write { .. } | Command::Smkdir { .. } | Command::Index => unreachable!(),
+        }
+    }
+
+    /// The lines that list the semantic directory that stands under a name.
+    fn listing(&self, name: &Name) -> Result<Vec<Name>, Memory>
+        requires { dir_cause (name.now ∷ []) (standing self.now name.now) ≡ None }
+        ensures { IfOk result (λ lines. lines.items ≡ data_lines self.now (Command.Sls name.now)) }
+    {
+        match self.standing(name) {
+            Some(Body::Semantic { query }) => link_lines(self.alloc, &self.entries, query),
+            Some(Body::File { .. }) | None => unreachable!(),
+        }
+    }
+
+    /// What a command comes to that changes the state.
+    pub fn settle(&self, draft: Draft) -> Result<Settled, Deny>
+        requires made { IsAdmitted self.now draft.command }
+        requires changes { reads draft.command ≡ false }
+        ensures settled { IfOk result (λ settled. Settles settled self.now draft.command) }
+        ensures ok { IsOk result }
+    {
+        match draft.into_command() {
+            Command::Write { name, text } => Ok(Settled::Change(self.writing(name, text))),
+            Command::Smkdir { name, query } => Ok(Settled::Change(Event::Smkdir {
+                dir: Number::ROOT,
+                name,
+                query,
+            })),
+            Command::Index => Ok(Settled::Steps(self.dirty())),
+            Command::Sls { .. } => unreachable!(),
+        }
+    }
+
+    /// The event that writes a text under a name of the root.
+    fn writing(&self, name: Name, text: Text) -> Event
+        ensures { result ≡ writing name text (number_in_root self.now name) }
+    {
+        match self.number_in_root(&name) {
+            Some(file) => Event::Rewrite {
+                file: Number::new(file),
+                text,
+            },
+            None => Event::NewFile {
+                dir: Number::ROOT,
+                name,
+                text,
+            },
+        }
     }
 
     /// Lets an event happen. After want of memory the state is as before.
