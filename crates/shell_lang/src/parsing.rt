@@ -1,10 +1,11 @@
 //! A line's command. What a command does is not known here.
-ghost use Rattle.std.specs.Prelude.{◌≡◌, None};
+ghost use Rattle.std.specs.Prelude.{◌≡◌, None, IfOk, IsTrue};
 ghost use Rattle.hac_model.specs.Answers.{Answers};
-ghost use Rattle.hac_model.specs.Lines.{item_of, command_of, write_of};
+ghost use Rattle.hac_model.specs.Lines.{item_of, command_of, write_of, smkdir_of, index_of, sls_of, is_spelled};
 
-use crate::names::root_name;
-use crate::words::{skip_one, split_word};
+use crate::names::parse_root_path;
+use crate::queries::parse_query;
+use crate::words::{is_blank, skip_one, split_word};
 use hac_model::{Command, Deny, LINE_LIMIT, LimitWord, Line, Name, Refusal, Text};
 use std::alloc::Global;
 
@@ -25,7 +26,8 @@ pub enum Taken {
 /// bytes behind the line, where it is one that takes bytes; no line does yet.
 pub fn parse_line(alloc: Global, line: &[u8], taken: Option<Taken>) -> Result<Line, Deny>
     requires { taken ≡ None }
-    ensures { Answers result (item_of line.now) }
+    ensures item { Answers result (item_of line.now) }
+    ensures spelled { IfOk result (λ line. IsTrue (is_spelled line.command)) }
 {
     if line.len() > LINE_LIMIT {
         return Err(Deny::Refused(Refusal::Limit(LimitWord::Line)));
@@ -42,6 +44,9 @@ fn parse_command(alloc: Global, line: &[u8]) -> Result<Command, Deny>
     let (word, arguments) = split_word(line);
     match word {
         b"write" => parse_write(alloc, arguments),
+        b"smkdir" => parse_smkdir(alloc, arguments),
+        b"index" => parse_index(arguments),
+        b"sls" => parse_sls(alloc, arguments),
         _ => Err(Deny::Refused(Refusal::BadLine)),
     }
 }
@@ -55,22 +60,55 @@ fn parse_write(alloc: Global, arguments: &[u8]) -> Result<Command, Deny>
     if path.is_empty() || text.contains(&b'\\') {
         return Err(Deny::Refused(Refusal::BadLine));
     }
-    let Some(name) = root_name(path) else {
-        return Err(Deny::Refused(Refusal::BadName));
-    };
-    let name = Name::new(Vec::from_slice(alloc, name)?);
+    let name = parse_root_path(alloc, path)?;
     let text = Text::new(Vec::from_slice(alloc, text)?);
     Ok(Command::Write { name, text })
+}
+
+/// `smkdir PATH QUERY`, from what follows `smkdir`.
+fn parse_smkdir(alloc: Global, arguments: &[u8]) -> Result<Command, Deny>
+    ensures { Answers result (smkdir_of arguments.now) }
+{
+    let (path, rest) = split_word(arguments);
+    if path.is_empty() {
+        return Err(Deny::Refused(Refusal::BadLine));
+    }
+    let name = parse_root_path(alloc, path)?;
+    let query = parse_query(alloc, skip_one(rest))?;
+    Ok(Command::Smkdir { name, query })
+}
+
+/// `index`, from what follows it.
+fn parse_index(arguments: &[u8]) -> Result<Command, Deny>
+    ensures { Answers result (index_of arguments.now) }
+{
+    if is_blank(arguments) {
+        Ok(Command::Index)
+    } else {
+        Err(Deny::Refused(Refusal::BadLine))
+    }
+}
+
+/// `sls PATH`, from what follows `sls`.
+fn parse_sls(alloc: Global, arguments: &[u8]) -> Result<Command, Deny>
+    ensures { Answers result (sls_of arguments.now) }
+{
+    let (path, rest) = split_word(arguments);
+    if path.is_empty() || !is_blank(rest) {
+        return Err(Deny::Refused(Refusal::BadLine));
+    }
+    let name = parse_root_path(alloc, path)?;
+    Ok(Command::Sls { name })
 }
 
 #[cfg(test)]
 mod tests {
     use super::*;
     use crate::printing::print_reply;
-    use hac_model::{Memory, Reply};
+    use hac_model::{Memory, Query, Reply, Term};
     use std::test::Fail;
 
-    /// What a line spells, as `SESSION NAME=TEXT`, or the line that tells its refusal.
+    /// What a line spells, with its session, or the line that tells its refusal.
     fn spelled(alloc: Global, line: &[u8]) -> Result<Vec<u8>, Fail> {
         match parse_line(alloc, line, None) {
             Ok(line) => Ok(told(alloc, line)?),
@@ -79,29 +117,49 @@ mod tests {
         }
     }
 
-    /// A command in one line, with its session.
+    /// A session, a command and its words in one line.
     fn told(alloc: Global, line: Line) -> Result<Vec<u8>, Memory> {
         let Line { session, command } = line;
-        let Command::Write { name, text } = command;
         let mut out = Vec::from_slice(alloc, session.as_bytes())?;
-        out.push(b' ')?;
-        out.extend_from_slice(name.as_bytes())?;
-        out.push(b'=')?;
-        out.extend_from_slice(text.as_slice())?;
+        match command {
+            Command::Write { name, text } => {
+                push_words(&mut out, b" write ", name.as_bytes())?;
+                push_words(&mut out, b"=", text.as_slice())?;
+            }
+            Command::Smkdir { name, query } => {
+                push_words(&mut out, b" smkdir ", name.as_bytes())?;
+                match query {
+                    Query::Term(Term::Word(letters)) => push_words(
+                        &mut out,
+                        b"?",
+                        letters.as_bytes(),
+                    )?,
+                    Query::Term(Term::Prefix(_)) => out.extend_from_slice(b"?*")?,
+                }
+            }
+            Command::Index => out.extend_from_slice(b" index")?,
+            Command::Sls { name } => push_words(&mut out, b" sls ", name.as_bytes())?,
+        }
         Ok(out)
+    }
+
+    fn push_words(out: &mut Vec<u8>, before: &[u8], word: &[u8]) -> Result<(), Memory> {
+        out.extend_from_slice(before)?;
+        out.extend_from_slice(word)?;
+        Ok(())
     }
 
     #[test]
     fn lines_spell_commands_or_refusals(rt: HostRuntime) -> Result<(), Fail> {
-        let rows: [(&[u8], &[u8]); 23] = [
-            (b"write /a hello", b"main a=hello"),
-            (b"  write   /a  two", b"main a= two"),
-            (b"write /a one two ", b"main a=one two "),
-            (b"write /a \"x\"", b"main a=\"x\""),
-            (b"write /a \t\r", b"main a=\t\r"),
-            (b"write /a \xff\0", b"main a=\xff\0"),
-            (b"write /a ", b"main a="),
-            (b"write /a", b"main a="),
+        let rows: [(&[u8], &[u8]); 34] = [
+            (b"write /a hello", b"main write a=hello"),
+            (b"  write   /a  two", b"main write a= two"),
+            (b"write /a one two ", b"main write a=one two "),
+            (b"write /a \"x\"", b"main write a=\"x\""),
+            (b"write /a \t\r", b"main write a=\t\r"),
+            (b"write /a \xff\0", b"main write a=\xff\0"),
+            (b"write /a ", b"main write a="),
+            (b"write /a", b"main write a="),
             (b"write", b"no bad-line\n"),
             (b"write   ", b"no bad-line\n"),
             (b"writes /a x", b"no bad-line\n"),
@@ -117,6 +175,51 @@ mod tests {
             (b"write /a \\", b"no bad-line\n"),
             (b"write /a b\\c", b"no bad-line\n"),
             (b"write a \\", b"no bad-line\n"),
+            (b"index", b"main index"),
+            (b" index ", b"main index"),
+            (b"index x", b"no bad-line\n"),
+            (b"index\t", b"no bad-line\n"),
+            (b"Index", b"no bad-line\n"),
+            (b"sls /s", b"main sls s"),
+            (b" sls  /s ", b"main sls s"),
+            (b"sls", b"no bad-line\n"),
+            (b"sls /s x", b"no bad-line\n"),
+            (b"sls s x", b"no bad-line\n"),
+            (b"sls s", b"no bad-name\n"),
+        ];
+        for (line, want) in rows {
+            let got = spelled(rt.alloc(), line)?;
+            assert_eq!(rt; got.as_slice(), want, "at {line:?}");
+        }
+        Ok(())
+    }
+
+    #[test]
+    fn queries_are_words_in_lower_case(rt: HostRuntime) -> Result<(), Fail> {
+        let rows: [(&[u8], &[u8]); 20] = [
+            (b"smkdir /s apple", b"main smkdir s?apple"),
+            (b"smkdir /s  Apple ", b"main smkdir s?apple"),
+            (b" smkdir   /s X86", b"main smkdir s?x86"),
+            (b"smkdir /s 7", b"main smkdir s?7"),
+            (
+                b"smkdir /s \x80\xc3\x84\xffZ",
+                b"main smkdir s?\x80\xc3\x84\xffz",
+            ),
+            (b"smkdir /s and", b"main smkdir s?and"),
+            (b"smkdir /s Not", b"main smkdir s?not"),
+            (b"smkdir /s ORS", b"main smkdir s?ors"),
+            (b"smkdir /s AND", b"no bad-query 1\n"),
+            (b"smkdir /s OR ", b"no bad-query 1\n"),
+            (b"smkdir /s  NOT", b"no bad-query 1\n"),
+            (b"smkdir /s a b", b"no bad-query 1\n"),
+            (b"smkdir /s a_b", b"no bad-query 1\n"),
+            (b"smkdir /s a\x7f", b"no bad-query 1\n"),
+            (b"smkdir /s a\t", b"no bad-query 1\n"),
+            (b"smkdir /s", b"no bad-query 1\n"),
+            (b"smkdir /s  ", b"no bad-query 1\n"),
+            (b"smkdir s AND", b"no bad-name\n"),
+            (b"smkdir", b"no bad-line\n"),
+            (b"smkdir  ", b"no bad-line\n"),
         ];
         for (line, want) in rows {
             let got = spelled(rt.alloc(), line)?;
