@@ -45,35 +45,34 @@ fn push_refusal(alloc: Global, out: &mut Vec<u8>, refusal: &Refusal) -> Result<(
     ensures { OnOk result (out.new.items ≡ out.old.items ++ refusal_text refusal.now) }
 {
     match refusal {
-        Refusal::BadLine => push_cause(out, b"bad-line", b""),
-        Refusal::BadName => push_cause(out, b"bad-name", b""),
-        Refusal::NoPath(path) => push_path_cause(alloc, out, b"no-path ", path),
-        Refusal::NotDir(path) => push_path_cause(alloc, out, b"not-dir ", path),
-        Refusal::NotFile(path) => push_path_cause(alloc, out, b"not-file ", path),
-        Refusal::Exists(path) => push_path_cause(alloc, out, b"exists ", path),
-        Refusal::BadQuery(place) => push_cause(
-            out,
-            b"bad-query ",
-            place.to_string(alloc)?.as_bytes(),
-        ),
-        Refusal::Limit(word) => push_cause(out, b"limit ", limit_word(*word)),
+        Refusal::BadLine => out.extend_from_slice(b"bad-line")?,
+        Refusal::BadName => out.extend_from_slice(b"bad-name")?,
+        Refusal::NoPath(path) => push_path(alloc, out, b"no-path ", path)?,
+        Refusal::NotDir(path) => push_path(alloc, out, b"not-dir ", path)?,
+        Refusal::NotFile(path) => push_path(alloc, out, b"not-file ", path)?,
+        Refusal::Exists(path) => push_path(alloc, out, b"exists ", path)?,
+        Refusal::BadQuery(place) => push_number(alloc, out, b"bad-query ", *place)?,
+        Refusal::Limit(word) => push_detail(out, b"limit ", limit_word(*word))?,
     }
+    Ok(())
 }
 
 /// Appends a cause and the path that it is about.
-fn push_path_cause(
-    alloc: Global,
-    out: &mut Vec<u8>,
-    cause: &[u8],
-    path: &Path,
-) -> Result<(), Memory>
+fn push_path(alloc: Global, out: &mut Vec<u8>, cause: &[u8], path: &Path) -> Result<(), Memory>
     ensures { OnOk result (out.new.items ≡ out.old.items ++ (cause.now ++ path_text path.now)) }
 {
-    push_cause(out, cause, print_path(alloc, path)?.as_bytes())
+    push_detail(out, cause, print_path(alloc, path)?.as_bytes())
 }
 
-/// Appends a cause and its detail, which is empty where it has none.
-fn push_cause(out: &mut Vec<u8>, cause: &[u8], detail: &[u8]) -> Result<(), Memory>
+/// Appends a cause and a number.
+fn push_number(alloc: Global, out: &mut Vec<u8>, cause: &[u8], number: u64) -> Result<(), Memory>
+    ensures { OnOk result (out.new.items ≡ out.old.items ++ (cause.now ++ decimal number)) }
+{
+    push_detail(out, cause, number.to_string(alloc)?.as_bytes())
+}
+
+/// Appends a cause and its detail.
+fn push_detail(out: &mut Vec<u8>, cause: &[u8], detail: &[u8]) -> Result<(), Memory>
     ensures { OnOk result (out.new.items ≡ out.old.items ++ (cause.now ++ detail.now)) }
 {
     out.extend_from_slice(cause)?;

@@ -1,7 +1,7 @@
 -- What a line spells has words that a line may spell.
 use Rattle.std.proofs.Common.{◌≡◌, rules}
 use Rattle.std.specs.Prelude.{Ok, codes}
-use Rattle.hac_model.specs.Lines.{Item, item_of}
+use Rattle.hac_model.specs.Lines.{item_of}
 use Rattle.hac_model.specs.declared.commands.Line.{Line}
 use Rattle.hac_model.proofs.SpellingLemmas.{lines-spell}
 use Rattle.shell_lang.proofs.parsing.parse_line.Goals as goal
