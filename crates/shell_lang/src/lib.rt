@@ -5,6 +5,7 @@
 mod names;
 mod parsing;
 mod printing;
+mod queries;
 mod reading;
 mod words;
 

@@ -1,9 +1,11 @@
 //! Replies as the program prints them.
-ghost use Rattle.std.specs.Prelude.{◌≡◌, ◌++◌, codes, IfOk, OnOk};
+ghost use Rattle.std.specs.Prelude.{◌≡◌, ◌++◌, codes, decimal, IfOk, OnOk};
 ghost use Rattle.std.specs.List.{flat_map};
+ghost use Rattle.hac_model.specs.Paths.{path_text};
 ghost use Rattle.hac_model.specs.Printed.{ended, limit_word, refusal_text, reply_text};
 
-use hac_model::{LimitWord, Memory, Name, Refusal, Reply};
+use hac_model::{LimitWord, Memory, Name, Path, Refusal, Reply};
+use hac_names::print_path;
 use std::alloc::Global;
 
 /// The bytes of a reply, each line with its end.
@@ -13,7 +15,7 @@ pub fn print_reply(alloc: Global, reply: &Reply) -> Result<Vec<u8>, Memory>
     let mut out = Vec::new(alloc);
     match reply {
         Reply::Lines(lines) => push_ok_lines(&mut out, lines.as_slice())?,
-        Reply::Refused(refusal) => push_no_line(&mut out, refusal)?,
+        Reply::Refused(refusal) => push_no_line(alloc, &mut out, refusal)?,
     }
     Ok(out)
 }
@@ -29,27 +31,52 @@ fn push_ok_lines(out: &mut Vec<u8>, lines: &[Name]) -> Result<(), Memory>
 }
 
 /// Appends the one line of a refusal.
-fn push_no_line(out: &mut Vec<u8>, refusal: &Refusal) -> Result<(), Memory>
+fn push_no_line(alloc: Global, out: &mut Vec<u8>, refusal: &Refusal) -> Result<(), Memory>
     ensures { OnOk result (out.new.items ≡ out.old.items ++ ended (codes "no " ++ refusal_text refusal.now)) }
 {
     out.extend_from_slice(b"no ")?;
-    push_refusal(out, refusal)?;
+    push_refusal(alloc, out, refusal)?;
     out.push(b'\n')?;
     Ok(())
 }
 
 /// Appends a cause and its detail.
-fn push_refusal(out: &mut Vec<u8>, refusal: &Refusal) -> Result<(), Memory>
+fn push_refusal(alloc: Global, out: &mut Vec<u8>, refusal: &Refusal) -> Result<(), Memory>
     ensures { OnOk result (out.new.items ≡ out.old.items ++ refusal_text refusal.now) }
 {
     match refusal {
         Refusal::BadLine => out.extend_from_slice(b"bad-line")?,
         Refusal::BadName => out.extend_from_slice(b"bad-name")?,
-        Refusal::Limit(word) => {
-            out.extend_from_slice(b"limit ")?;
-            out.extend_from_slice(limit_word(*word))?;
-        }
+        Refusal::NoPath(path) => push_path(alloc, out, b"no-path ", path)?,
+        Refusal::NotDir(path) => push_path(alloc, out, b"not-dir ", path)?,
+        Refusal::NotFile(path) => push_path(alloc, out, b"not-file ", path)?,
+        Refusal::Exists(path) => push_path(alloc, out, b"exists ", path)?,
+        Refusal::BadQuery(place) => push_number(alloc, out, b"bad-query ", *place)?,
+        Refusal::Limit(word) => push_detail(out, b"limit ", limit_word(*word))?,
     }
+    Ok(())
+}
+
+/// Appends a cause and the path that it is about.
+fn push_path(alloc: Global, out: &mut Vec<u8>, cause: &[u8], path: &Path) -> Result<(), Memory>
+    ensures { OnOk result (out.new.items ≡ out.old.items ++ (cause.now ++ path_text path.now)) }
+{
+    push_detail(out, cause, print_path(alloc, path)?.as_bytes())
+}
+
+/// Appends a cause and a number.
+fn push_number(alloc: Global, out: &mut Vec<u8>, cause: &[u8], number: u64) -> Result<(), Memory>
+    ensures { OnOk result (out.new.items ≡ out.old.items ++ (cause.now ++ decimal number)) }
+{
+    push_detail(out, cause, number.to_string(alloc)?.as_bytes())
+}
+
+/// Appends a cause and its detail.
+fn push_detail(out: &mut Vec<u8>, cause: &[u8], detail: &[u8]) -> Result<(), Memory>
+    ensures { OnOk result (out.new.items ≡ out.old.items ++ (cause.now ++ detail.now)) }
+{
+    out.extend_from_slice(cause)?;
+    out.extend_from_slice(detail)?;
     Ok(())
 }
 
@@ -112,17 +139,44 @@ mod tests {
         Ok(())
     }
 
+    fn path(alloc: Global, names: &[&[u8]]) -> Result<Path, Memory> {
+        let mut path = Path::root(alloc);
+        for name in names {
+            path.push(Name::new(Vec::from_slice(alloc, *name)?))?;
+        }
+        Ok(path)
+    }
+
     #[test]
     fn refusals_are_told_in_one_line(rt: HostRuntime) -> Result<(), Fail> {
-        let rows: [(Refusal, &[u8]); 5] = [
+        let alloc = rt.alloc();
+        let rows: [(Refusal, &[u8]); 14] = [
             (Refusal::BadLine, b"no bad-line\n"),
             (Refusal::BadName, b"no bad-name\n"),
+            (Refusal::NoPath(path(alloc, &[b"m"])?), b"no no-path /m\n"),
+            (
+                Refusal::NotDir(path(alloc, &[b"a b", b"c"])?),
+                b"no not-dir /a b/c\n",
+            ),
+            (Refusal::NotFile(path(alloc, &[])?), b"no not-file /\n"),
+            (
+                Refusal::Exists(path(alloc, &[b"\xff", b"~", b"."])?),
+                b"no exists /\xff/~/.\n",
+            ),
+            (Refusal::BadQuery(0), b"no bad-query 0\n"),
+            (Refusal::BadQuery(1), b"no bad-query 1\n"),
+            (Refusal::BadQuery(10), b"no bad-query 10\n"),
+            (Refusal::BadQuery(65_536), b"no bad-query 65536\n"),
+            (
+                Refusal::BadQuery(u64::MAX),
+                b"no bad-query 18446744073709551615\n",
+            ),
             (Refusal::Limit(LimitWord::Line), b"no limit line\n"),
             (Refusal::Limit(LimitWord::Texts), b"no limit texts\n"),
             (Refusal::Limit(LimitWord::Store), b"no limit store\n"),
         ];
         for (refusal, want) in rows {
-            let got = print_reply(rt.alloc(), &Reply::Refused(refusal))?;
+            let got = print_reply(alloc, &Reply::Refused(refusal))?;
             assert_eq!(rt; got.as_slice(), want);
         }
         Ok(())

@@ -1,14 +1,15 @@
 //! Lines out of a stream of bytes, in whatever pieces the stream comes.
 ghost use Rattle.std.specs.Prelude.{◌≡◌, ℕ, ◌+◌, ◌-◌, ◌<◌, ◌≤◌, ◌⊎◌, ◌++◌, true, false, [], length, vec_len, take, drop, IfOk, OnOk, OnErr, IsErrOf, IfSome, IfNone, MatchOption, Ok, slice_index, ◌==◌, position};
-ghost use Rattle.std.specs.List.{position_or_len, list_all};
+ghost use Rattle.std.specs.List.{position_or_len};
 ghost use Rattle.std.specs.Io.KnownBytes.{Keeps, IsAtEnd};
 ghost use Rattle.hac_outside.specs.Causes.{Rose};
-ghost use Rattle.hac_model.specs.Bytes.{is_line_end, is_space};
+ghost use Rattle.hac_model.specs.Bytes.{is_line_end};
 ghost use Rattle.hac_model.specs.Lines.{is_quiet};
 ghost use Rattle.hac_model.specs.Script.{is_first_ended};
 ghost use Rattle.shell_lang.specs.Reading.{pending, given, IsUnended, IsReading, SameTotal, ReadsOn, ReadsPiece};
 ghost use Rattle.shell_lang.specs.Pieces.{piece_of, Gives, Advances, IsFound};
 
+use crate::words::is_blank;
 use hac_model::{LINE_LIMIT, Memory, SCRIPT_LIMIT, Text};
 use hac_outside::Source;
 use std::alloc::{AllocError, Global};
@@ -303,12 +304,6 @@ fn is_comment(line: &[u8]) -> bool
         Some(first) => *first == b'#',
         None => false,
     }
-}
-
-fn is_blank(line: &[u8]) -> bool
-    ensures { result ≡ list_all is_space line.now }
-{
-    line.iter().all(|byte| *byte == b' ')
 }
 
 /// A blank line or a comment has no reply.

@@ -1,6 +1,6 @@
 //! A line's words: runs of bytes with one space or more between them.
 ghost use Rattle.std.specs.Prelude.{◌≡◌, drop};
-ghost use Rattle.std.specs.List.{prefix_len, position_or_len};
+ghost use Rattle.std.specs.List.{prefix_len, position_or_len, list_all};
 ghost use Rattle.hac_model.specs.Bytes.{is_space};
 ghost use Rattle.hac_model.specs.Lines.{skip_spaces, first_word, after_word};
 
@@ -22,6 +22,13 @@ pub fn skip_one(bytes: &[u8]) -> &[u8]
         [_, rest @ ..] => rest,
         [] => bytes,
     }
+}
+
+/// Whether there are only spaces.
+pub fn is_blank(bytes: &[u8]) -> bool
+    ensures { result ≡ list_all is_space bytes.now }
+{
+    bytes.iter().all(|byte| *byte == b' ')
 }
 
 /// The bytes from the first one on that is no space.
