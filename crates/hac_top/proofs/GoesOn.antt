@@ -7,7 +7,8 @@ use Rattle.std.proofs.Math.Seq.{take-append-add, take-append_seam}
 use Rattle.std.proofs.lemmas.Grind.{common_steps}
 use Rattle.hac_outside.specs.Causes.{AppendsSome}
 use Rattle.hac_model.specs.Script.{whole}
-use Rattle.hac_model.specs.Tree.{Tree, empty}
+use Rattle.hac_model.specs.Tree.{empty}
+use Rattle.hac_model.specs.declared.states.State.{State}
 use Rattle.hac_model.specs.Play.{play, has_refusal}
 use Rattle.hac_model.specs.Printed.{text}
 
@@ -18,25 +19,25 @@ Tells (Some before) None more all = ⊥
 Tells (Some before) (Some after) more all = (length before ≤ length after) × (after ++ more ≡ before ++ all)
 
 -- the text of what is pending completes the text of the script
-abbrev pub TextGoesOn : Option (List ℕ) → Option (List ℕ) → Option (List ℕ) → Option (List ℕ) → Tree → Type 0
+abbrev pub TextGoesOn : Option (List ℕ) → Option (List ℕ) → Option (List ℕ) → Option (List ℕ) → State → Type 0
 TextGoesOn before after None pending tree = ⊤
 TextGoesOn before after (Some script) None tree = ⊥
 TextGoesOn before after (Some script) (Some pending) tree = Tells before after (text (play pending tree)) (text (play script empty))
 
 -- a refusal so far, or in what is pending, is one in the script
-abbrev pub StatusGoesOn : Option (List ℕ) → Option (List ℕ) → Tree → Bool → Type 0
+abbrev pub StatusGoesOn : Option (List ℕ) → Option (List ℕ) → State → Bool → Type 0
 StatusGoesOn None pending tree refused = ⊤
 StatusGoesOn (Some script) None tree refused = ⊥
 StatusGoesOn (Some script) (Some pending) tree refused = (refused || has_refusal (play pending tree)) ≡ has_refusal (play script empty)
 
 -- whole lines of the script were played, and whatever were to follow them would be played on
-pub record Played (before after : Option (List ℕ)) (script pending : List ℕ) (tree : Tree) : Type 0 where
+pub record Played (before after : Option (List ℕ)) (script pending : List ℕ) (tree : State) : Type 0 where
   pub played : List ℕ
   pub script_is : script ≡ played ++ pending
   pub whole_is : (more : List ℕ) → whole (played ++ more) ≡ played ++ whole more
   pub tells : (more : List ℕ) → Tells before after (text (play more tree)) (text (play (played ++ more) empty))
 
-abbrev pub WholeGoesOn : Option (List ℕ) → Option (List ℕ) → Option (List ℕ) → Option (List ℕ) → Tree → Type 0
+abbrev pub WholeGoesOn : Option (List ℕ) → Option (List ℕ) → Option (List ℕ) → Option (List ℕ) → State → Type 0
 WholeGoesOn before after None pending tree = ⊤
 WholeGoesOn before after (Some script) None tree = ⊥
 WholeGoesOn before after (Some script) (Some pending) tree = Played before after script pending tree

@@ -1,4 +1,4 @@
-pub mod FileLemmas
+pub mod ObeyLemmas
 pub mod WrittenLemmas
 pub mod GoesOn
 pub mod RunLemmas

@@ -7,12 +7,15 @@ use Rattle.std.proofs.lemmas.List.{take-append-le}
 use Rattle.hac_outside.specs.Causes.{AppendsSome}
 use Rattle.hac_model.specs.Lines.{Item, is_quiet, command_of, in_main, item_of, items_of}
 use Rattle.hac_model.specs.Script.{first_line, after_line, is_first_ended, whole}
-use Rattle.hac_model.specs.Tree.{Tree, empty}
+use Rattle.hac_model.specs.Tree.{empty}
+use Rattle.hac_model.specs.declared.states.State.{State}
 use Rattle.hac_model.specs.Play.{replies, tree_after_all, play, has_refusal}
 use Rattle.hac_model.specs.Printed.{text}
 use Rattle.hac_model.specs.declared.limits.TheConstants.{LINE_LIMIT, SCRIPT_LIMIT}
 use Rattle.hac_model.specs.declared.limits.LimitWord.TheVariants as limit
 use Rattle.hac_model.specs.declared.replies.Refusal.TheVariants.{Limit}
+use Rattle.std.specs.List.{AllByRecursion}
+use Rattle.hac_model.proofs.SpellingLemmas.{IsItem, item_of-item}
 use Rattle.hac_model.proofs.ScriptLemmas.{script-nothing}
 use Rattle.hac_model.proofs.LineLemmas.{first_line-is_unended, bytes-line, whole-line, whole-unended, text-line, text-of_line, refusal-line}
 use Rattle.shell_lang.specs.declared.reading.Piece.{Piece}
@@ -29,10 +32,10 @@ use Rattle.shell_lang.specs.declared.reading.LineFault.TheVariants as line
 use Rattle.hac_top.proofs.GoesOn.{Tells, TextGoesOn, StatusGoesOn, Played, WholeGoesOn, tells-appends, tells-some, tells-all, tells-stop}
 
 -- an empty script has no replies
-text-nothing : (tree : Tree) → text (play [] tree) ≡ []
+text-nothing : (tree : State) → text (play [] tree) ≡ []
 text-nothing tree = ap (λ (items : List Item). text (replies items tree)) script-nothing
 
-refusal-nothing : (tree : Tree) → has_refusal (play [] tree) ≡ false
+refusal-nothing : (tree : State) → has_refusal (play [] tree) ≡ false
 refusal-nothing tree = ap (λ (items : List Item). has_refusal (replies items tree)) script-nothing
 
 or_false : (b : Bool) → (b || false) ≡ b
@@ -55,14 +58,22 @@ items_of_piece-piece_of line =
           ] refl
     ]
 
+-- each item of a piece has words that it may have
+pub piece-items : (piece : Piece) → AllByRecursion IsItem (items_of_piece piece)
+piece-items Blank = tt
+piece-items (Bytes line) = (item_of-item line, tt)
+piece-items LongLine = (tt, tt)
+piece-items End = tt
+piece-items PastLimit = tt
+
 -- a run that stops where it is has written a prefix
-pub prefix-stop : (before after script pending : Option (List ℕ)) (tree : Tree) → TextGoesOn before after script pending tree → IfSome script (λ s. AppendsSome before after (text (play s empty)))
+pub prefix-stop : (before after script pending : Option (List ℕ)) (tree : State) → TextGoesOn before after script pending tree → IfSome script (λ s. AppendsSome before after (text (play s empty)))
 prefix-stop before after None pending tree told = search rules
 prefix-stop before after (Some s) None tree told = absurd told
 prefix-stop before after (Some s) (Some p) tree told = tells-stop before after (text (play p tree)) (text (play s empty)) told
 
 -- the whole lines that were played were answered, and no more
-answered_played : (before after : Option (List ℕ)) (s p : List ℕ) (tree : Tree) (more : List ℕ) (played : Played before after s p tree) → IsUnended more →
+answered_played : (before after : Option (List ℕ)) (s p : List ℕ) (tree : State) (more : List ℕ) (played : Played before after s p tree) → IsUnended more →
     Appends before after (text (play (whole (played.played ++ more)) empty))
 answered_played before after s p tree more played unended =
     let is_whole : whole (played.played ++ more) ≡ played.played ++ [] = played.whole_is more ∙ ap (λ (xs : List ℕ). played.played ++ xs) (whole-unended more unended) in
@@ -74,7 +85,7 @@ no_rest [] ys e = e
 no_rest (x ∷ xs) ys e = cc
 
 -- the script has ended
-pub finishes : (before after script pending : Option (List ℕ)) (tree : Tree) (refused : Bool) (r : Reading) (left : Option (List ℕ)) →
+pub finishes : (before after script pending : Option (List ℕ)) (tree : State) (refused : Bool) (r : Reading) (left : Option (List ℕ)) →
     TextGoesOn before after script pending tree → StatusGoesOn script pending tree refused → Gives End r.ended pending (prepend_known r.held left) →
     SameTotal 0 script r.taken left → r.taken ≤ SCRIPT_LIMIT → IfSome script (λ s. AnswersAll (finished_status refused) s left before after)
 finishes before after None pending tree refused r left told status gives total within = search rules
@@ -94,7 +105,7 @@ finishes before after (Some s) (Some p) tree refused r (Some l) told status give
     }
 
 -- the source failed
-pub fails : (before after script pending : Option (List ℕ)) (tree : Tree) (r : Reading) (left : Option (List ℕ)) →
+pub fails : (before after script pending : Option (List ℕ)) (tree : State) (r : Reading) (left : Option (List ℕ)) →
     TextGoesOn before after script pending tree → WholeGoesOn before after script pending tree → Keeps pending (prepend_known r.held left) → IsUnended r.held →
     IfSome script (λ s. AnswersTaken s left before after)
 fails before after None pending tree r left told played keeps unended = search rules
@@ -110,7 +121,7 @@ fails before after (Some s) (Some p) tree r (Some l) told played keeps unended =
     }
 
 -- the script is too long
-pub passes : (before after script pending : Option (List ℕ)) (tree : Tree) (r : Reading) (left : Option (List ℕ)) →
+pub passes : (before after script pending : Option (List ℕ)) (tree : State) (r : Reading) (left : Option (List ℕ)) →
     TextGoesOn before after script pending tree → WholeGoesOn before after script pending tree → Gives PastLimit r.ended pending (prepend_known r.held left) → IsPastLimit r →
     SameTotal 0 script r.taken left → IfSome script (λ s. AnswersWithin s before after)
 passes before after None pending tree r left told played gives past total = search rules
@@ -141,14 +152,14 @@ items_is : (piece : Piece) (ended : Bool) (bytes rest : List ℕ) → GivesLine 
 items_is piece ended bytes rest gives = ap items_of_piece gives.line ∙ items_of_piece-piece_of (first_line bytes)
 
 -- what is pending is told as the piece's replies, and then the rest's
-text_is : (piece : Piece) (ended : Bool) (bytes rest : List ℕ) (tree : Tree) → GivesLine piece ended bytes rest →
+text_is : (piece : Piece) (ended : Bool) (bytes rest : List ℕ) (tree : State) → GivesLine piece ended bytes rest →
     text (play bytes tree) ≡ text (replies (items_of_piece piece) tree) ++ text (play rest (tree_after_all (items_of_piece piece) tree))
 text_is piece ended bytes rest tree gives =
     text-line bytes tree
     ∙ ap (λ (items : List Item). text (replies items tree) ++ text (play (after_line bytes) (tree_after_all items tree))) (sym (items_is piece ended bytes rest gives))
     ∙ ap (λ (more : List ℕ). text (replies (items_of_piece piece) tree) ++ text (play more (tree_after_all (items_of_piece piece) tree))) (sym gives.behind)
 
-refusal_is : (piece : Piece) (ended : Bool) (bytes rest : List ℕ) (tree : Tree) → GivesLine piece ended bytes rest →
+refusal_is : (piece : Piece) (ended : Bool) (bytes rest : List ℕ) (tree : State) → GivesLine piece ended bytes rest →
     has_refusal (play bytes tree) ≡ (has_refusal (replies (items_of_piece piece) tree) || has_refusal (play rest (tree_after_all (items_of_piece piece) tree)))
 refusal_is piece ended bytes rest tree gives =
     refusal-line bytes tree
@@ -156,7 +167,7 @@ refusal_is piece ended bytes rest tree gives =
     ∙ ap (λ (more : List ℕ). has_refusal (replies (items_of_piece piece) tree) || has_refusal (play more (tree_after_all (items_of_piece piece) tree))) (sym gives.behind)
 
 -- a run goes on by a line that was answered
-pub goes_on : (before after next script pending behind : Option (List ℕ)) (piece : Piece) (ended : Bool) (tree : Tree) → (piece ≡ End → ⊥) → (piece ≡ PastLimit → ⊥) →
+pub goes_on : (before after next script pending behind : Option (List ℕ)) (piece : Piece) (ended : Bool) (tree : State) → (piece ≡ End → ⊥) → (piece ≡ PastLimit → ⊥) →
     TextGoesOn before after script pending tree → Gives piece ended pending behind → Appends after next (text (replies (items_of_piece piece) tree)) →
     TextGoesOn before next script behind (tree_after_all (items_of_piece piece) tree)
 goes_on before after next None pending behind piece ended tree no_end no_past told gives written = search rules
@@ -167,7 +178,7 @@ goes_on before after next (Some s) (Some p) (Some q) piece ended tree no_end no_
     tells-appends before after next (text (replies (items_of_piece piece) tree)) (text (play q (tree_after_all (items_of_piece piece) tree))) (text (play s empty))
     (subst (λ (xs : List ℕ). Tells before after xs (text (play s empty))) (text_is piece ended p q tree line) told) written
 
-pub status_goes_on : (script pending behind : Option (List ℕ)) (piece : Piece) (ended : Bool) (tree : Tree) (refused : Bool) → (piece ≡ End → ⊥) → (piece ≡ PastLimit → ⊥) →
+pub status_goes_on : (script pending behind : Option (List ℕ)) (piece : Piece) (ended : Bool) (tree : State) (refused : Bool) → (piece ≡ End → ⊥) → (piece ≡ PastLimit → ⊥) →
     StatusGoesOn script pending tree refused → Gives piece ended pending behind →
     StatusGoesOn script behind (tree_after_all (items_of_piece piece) tree) (refused || has_refusal (replies (items_of_piece piece) tree))
 status_goes_on None pending behind piece ended tree refused no_end no_past status gives = search rules
@@ -183,7 +194,7 @@ cut_line : (played line more : List ℕ) → (played ++ (line ++ 10 ∷ [])) ++ 
 cut_line played line more = append_assoc played (line ++ 10 ∷ []) more ∙ ap (λ (xs : List ℕ). played ++ xs) (append_assoc line (10 ∷ []) more)
 
 -- whole lines stay whole lines by a line that has its end
-played_on : (before after next : Option (List ℕ)) (s p q : List ℕ) (piece : Piece) (ended : Bool) (tree : Tree) → GivesLine piece ended p q → is_first_ended p ≡ true →
+played_on : (before after next : Option (List ℕ)) (s p q : List ℕ) (piece : Piece) (ended : Bool) (tree : State) → GivesLine piece ended p q → is_first_ended p ≡ true →
     Played before after s p tree → Appends after next (text (replies (items_of_piece piece) tree)) → Played before next s q (tree_after_all (items_of_piece piece) tree)
 played_on before after next s p q piece ended tree line end was written =
     let first = first_line p in
@@ -204,7 +215,7 @@ played_on before after next s p q piece ended tree line end was written =
           (tells-appends before after next (text (replies (items_of_piece piece) tree)) (text (play more (tree_after_all (items_of_piece piece) tree))) (text (play (was.played ++ (first ++ 10 ∷ more)) empty)) told written);
     }
 
-pub whole_goes_on : (before after next script pending behind : Option (List ℕ)) (piece : Piece) (ended : Bool) (tree : Tree) → (piece ≡ End → ⊥) → (piece ≡ PastLimit → ⊥) →
+pub whole_goes_on : (before after next script pending behind : Option (List ℕ)) (piece : Piece) (ended : Bool) (tree : State) → (piece ≡ End → ⊥) → (piece ≡ PastLimit → ⊥) →
     ended ≡ false → WholeGoesOn before after script pending tree → Gives piece ended pending behind → Appends after next (text (replies (items_of_piece piece) tree)) →
     WholeGoesOn before next script behind (tree_after_all (items_of_piece piece) tree)
 whole_goes_on before after next None pending behind piece ended tree no_end no_past goes was gives written = search rules
@@ -215,7 +226,7 @@ whole_goes_on before after next (Some s) (Some p) (Some q) piece ended tree no_e
     played_on before after next s p q piece ended tree line (line.whole goes) was written
 
 -- a run that stops while it answers a line has written a prefix
-pub prefix-answer : (before after next script pending behind : Option (List ℕ)) (piece : Piece) (ended : Bool) (tree : Tree) → (piece ≡ End → ⊥) → (piece ≡ PastLimit → ⊥) →
+pub prefix-answer : (before after next script pending behind : Option (List ℕ)) (piece : Piece) (ended : Bool) (tree : State) → (piece ≡ End → ⊥) → (piece ≡ PastLimit → ⊥) →
     TextGoesOn before after script pending tree → Gives piece ended pending behind → AppendsSome after next (text (replies (items_of_piece piece) tree)) →
     IfSome script (λ s. AppendsSome before next (text (play s empty)))
 prefix-answer before after next None pending behind piece ended tree no_end no_past told gives written = search rules

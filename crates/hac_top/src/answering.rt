@@ -6,12 +6,14 @@ ghost use Rattle.hac_model.specs.Lines.{item_of};
 ghost use Rattle.hac_model.specs.Play.{reply_of, tree_after, replies, tree_after_all, is_refused, has_refusal};
 ghost use Rattle.hac_model.specs.Printed.{reply_text, text};
 ghost use Rattle.hac_model.specs.Tree.{empty};
+ghost use Rattle.hac_model.specs.Valid.{IsValid};
 ghost use Rattle.hac_top.specs.Stops.{items_of_piece, StopsAnswer};
 
-use crate::files::Files;
-use hac_model::{Deny, LimitWord, Memory, Refusal, Reply, Seq, Text};
+use crate::obeying::carry_out;
+use hac_core::Machine;
+use hac_model::{LimitWord, Memory, Refusal, Reply, Text};
 use hac_outside::{Failed, Sink, write_all};
-use shell_lang::{LineFault, Piece, parse_line, print_reply};
+use shell_lang::{LineFault, Piece, print_reply};
 use std::alloc::Global;
 
 /// Why a run stops before the end of its script.
@@ -42,25 +44,26 @@ impl From<LineFault> for Stop {
 pub struct Player {
     pub alloc: Global,
     /// The tree that the commands so far have left.
-    pub tree: Files,
+    pub tree: Machine,
     /// Some command so far was refused.
     pub refused: bool,
 }
 
 impl Player {
-    pub fn new(alloc: Global) -> Player
-        ensures tree { result.tree ≡ empty }
-        ensures refused { result.refused ≡ false }
+    pub fn new(alloc: Global) -> Result<Player, Memory>
+        ensures tree { IfOk result (λ player. player.tree ≡ empty) }
+        ensures refused { IfOk result (λ player. player.refused ≡ false) }
     {
-        Player {
+        Ok(Player {
             alloc,
-            tree: Files::new(alloc),
+            tree: Machine::new(alloc)?,
             refused: false,
-        }
+        })
     }
 
     /// Carries out what a piece of the script asks for, and tells the reply, where there is one.
     pub fn answer<K: Sink>(&mut self, output: &mut K, piece: Piece) -> Result<(), Stop>
+        requires valid { IsValid self.old.tree }
         ensures tree { OnOk result (self.new.tree ≡ tree_after_all (items_of_piece piece) self.old.tree) }
         ensures refused { OnOk result (self.new.refused ≡ (self.old.refused || has_refusal (replies (items_of_piece piece) self.old.tree))) }
         ensures written { OnOk result (Appends (K.written output.old) (K.written output.new) (text (replies (items_of_piece piece) self.old.tree))) }
@@ -77,6 +80,7 @@ impl Player {
     }
 
     fn answer_line<K: Sink>(&mut self, output: &mut K, line: Text) -> Result<(), Stop>
+        requires valid { IsValid self.old.tree }
         ensures tree { OnOk result (self.new.tree ≡ tree_after (item_of line) self.old.tree) }
         ensures refused { OnOk result (self.new.refused ≡ (self.old.refused || is_refused (reply_of (item_of line) self.old.tree))) }
         ensures written { OnOk result (Appends (K.written output.old) (K.written output.new) (reply_text (reply_of (item_of line) self.old.tree))) }
@@ -85,26 +89,10 @@ impl Player {
         ensures fault { IsErrOf result Stop.WriteFault → Rose (K.faults output.old) (K.faults output.new) }
         ensures later { K.faults output.old ≤ K.faults output.new }
     {
-        let Ok(reply) = self.carry_out(line) else {
+        let Ok(reply) = carry_out(self.alloc, &mut self.tree, line) else {
             return Err(Stop::Memory);
         };
         self.tell(output, reply)
-    }
-
-    /// Carries out the command that a line spells, or refuses it.
-    fn carry_out(&mut self, line: Text) -> Result<Reply, Memory>
-        ensures reply { IfOk result (λ reply. reply ≡ reply_of (item_of line) self.old.tree) }
-        ensures tree { OnOk result (self.new.tree ≡ tree_after (item_of line) self.old.tree) }
-        ensures refused { self.new.refused ≡ self.old.refused }
-    {
-        match parse_line(self.alloc, line.as_slice(), None) {
-            Ok(line) => {
-                self.tree.apply(line.command)?;
-                Ok(Reply::Lines(Seq::new(Vec::new(self.alloc))))
-            }
-            Err(Deny::Refused(refusal)) => Ok(Reply::Refused(refusal)),
-            Err(Deny::Memory) => Err(Memory),
-        }
     }
 
     /// Writes a reply, and flushes it.

@@ -3,7 +3,7 @@
 #![tactic(auto)]
 
 mod answering;
-mod files;
+mod obeying;
 mod running;
 mod status;
 

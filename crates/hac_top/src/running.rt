@@ -99,7 +99,9 @@ fn play_script<S: Source, K: Sink>(
     let Ok(mut reader) = Reader::new(alloc) else {
         return Err(Stop::Memory);
     };
-    let mut player = Player::new(alloc);
+    let Ok(mut player) = Player::new(alloc) else {
+        return Err(Stop::Memory);
+    };
     'lines: loop {
         match reader.next_line(input)? {
             Piece::End => return Ok(player.refused),

@@ -1,16 +1,21 @@
 use Rattle.std.proofs.Common.{◌≡◌, Bool, arith, ap, sym, subst}
 use Rattle.std.specs.Prelude.{Err}
 use Rattle.std.proofs.lemmas.Result.{err_from_is_err_and}
-use Rattle.hac_model.specs.Tree.{Tree}
+use Rattle.hac_model.specs.declared.states.State.{State}
 use Rattle.hac_model.specs.Play.{tree_after_all}
+use Rattle.hac_model.specs.Valid.{IsValid}
+use Rattle.hac_model.proofs.PlayLemmas.{tree_after_all-valid}
 use Rattle.hac_top.specs.Stops.{items_of_piece}
 use Rattle.shell_lang.specs.Reading.{pending}
 use Rattle.shell_lang.specs.declared.reading.LineFault.TheVariants as line
 use Rattle.shell_lang.proofs.ReaderLemmas.{total_on}
 use Rattle.hac_top.specs.declared.answering.Stop.TheVariants.{ReadFault}
 use Rattle.hac_top.proofs.GoesOn.{TextGoesOn, StatusGoesOn, WholeGoesOn}
-use Rattle.hac_top.proofs.RunLemmas.{prefix-stop, finishes, fails, passes, goes_on, status_goes_on, whole_goes_on, prefix-answer, read_stop, still_open}
+use Rattle.hac_top.proofs.RunLemmas.{prefix-stop, finishes, fails, passes, goes_on, status_goes_on, whole_goes_on, piece-items, prefix-answer, read_stop, still_open}
 use Rattle.hac_top.proofs.running.play_script.Goals as goal
+
+pub answer-requires : goal.answer-requires
+answer-requires g c = record { valid = c.lines.invariant.valid }
 
 -- a stop before an answer leaves what was written
 
@@ -72,14 +77,15 @@ lines-preserved g c =
     let gives = c.in_ok-piece.ensures.piece in
     let answer = c.in_ok-answer-in_default-2.ensures in
     record {
-      told = subst (λ (t : Tree). TextGoesOn before next script now_pending t) (sym answer.tree) (goes_on before after next script was_pending now_pending piece ended tree arm.not-End arm.not-PastLimit was.told gives answer.written);
+      told = subst (λ (t : State). TextGoesOn before next script now_pending t) (sym answer.tree) (goes_on before after next script was_pending now_pending piece ended tree arm.not-End arm.not-PastLimit was.told gives answer.written);
       status =
-          subst (λ (t : Tree). StatusGoesOn script now_pending t c.answer.new.self.refused) (sym answer.tree)
+          subst (λ (t : State). StatusGoesOn script now_pending t c.answer.new.self.refused) (sym answer.tree)
           (subst (λ (b : Bool). StatusGoesOn script now_pending (tree_after_all (items_of_piece piece) tree) b) (sym answer.refused)
           (status_goes_on script was_pending now_pending piece ended tree c.lines.player.refused arm.not-End arm.not-PastLimit was.status gives));
       whole = λ goes.
-          subst (λ (t : Tree). WholeGoesOn before next script now_pending t) (sym answer.tree)
+          subst (λ (t : State). WholeGoesOn before next script now_pending t) (sym answer.tree)
           (whole_goes_on before after next script was_pending now_pending piece ended tree arm.not-End arm.not-PastLimit goes (was.whole (still_open c.lines.reader.ended ended c.next_line.ensures.stays goes)) gives answer.written);
+      valid = subst (λ (t : State). IsValid t) (sym answer.tree) (tree_after_all-valid (items_of_piece piece) tree (piece-items piece) was.valid);
       ended = c.next_line.ensures.ended;
       total = total_on 0 c.lines.reader.taken c.next_line.new.self.taken script (left c.lines.input) (left c.next_line.new.source) was.total c.next_line.ensures.total;
       limit = c.next_line.ensures.limit;

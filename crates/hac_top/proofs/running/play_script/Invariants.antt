@@ -1,6 +1,7 @@
 use Rattle.std.proofs.Common.{◌≡◌, ◌≤◌, ◌+◌, ◌-◌, true, false}
 use Rattle.std.specs.Io.KnownBytes.{IsAtEnd}
 use Rattle.hac_model.specs.declared.limits.TheConstants.{SCRIPT_LIMIT}
+use Rattle.hac_model.specs.Valid.{IsValid}
 use Rattle.shell_lang.specs.Reading.{pending, given, SameTotal}
 use Rattle.hac_top.proofs.GoesOn.{TextGoesOn, StatusGoesOn, WholeGoesOn}
 use Rattle.hac_top.proofs.running.play_script.Given as goal
@@ -14,6 +15,7 @@ invariant-lines g l =
       told : TextGoesOn (written l.fn.output) (written l.output) (left l.fn.input) (pending l.reader (left l.input)) l.player.tree;
       status : StatusGoesOn (left l.fn.input) (pending l.reader (left l.input)) l.player.tree l.player.refused;
       whole : l.reader.ended ≡ false → WholeGoesOn (written l.fn.output) (written l.output) (left l.fn.input) (pending l.reader (left l.input)) l.player.tree;
+      valid : IsValid l.player.tree;
       ended : l.reader.ended ≡ true → IsAtEnd (left l.input);
       total : SameTotal 0 (left l.fn.input) l.reader.taken (left l.input);
       limit : l.reader.taken ≤ SCRIPT_LIMIT + 1;
