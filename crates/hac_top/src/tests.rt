@@ -28,6 +28,30 @@ fn trial_of(script: &[u8]) -> Trial<'_> {
     }
 }
 
+impl<'a> Trial<'a> {
+    fn pieces(self, pieces: &'a [u64]) -> Trial<'a> {
+        Trial { pieces, ..self }
+    }
+
+    fn failing_reads(self, failing_reads: &'a [u64]) -> Trial<'a> {
+        Trial {
+            failing_reads,
+            ..self
+        }
+    }
+
+    fn room(self, room: u64) -> Trial<'a> {
+        Trial { room, ..self }
+    }
+
+    fn failing_writes(self, failing_writes: &'a [u64]) -> Trial<'a> {
+        Trial {
+            failing_writes,
+            ..self
+        }
+    }
+}
+
 /// How the run ends, and what was written.
 fn play(alloc: Global, trial: &Trial<'_>) -> Result<(Status, Vec<u8>), AllocError> {
     let mut input = MemorySource::new(alloc, trial.script, trial.pieces, trial.failing_reads)?;
@@ -52,11 +76,52 @@ fn scripts_are_answered(rt: HostRuntime) -> Result<(), Fail> {
         (b"   \n \n", b"", Status::Done),
         (b"write /a\nwrite /a again", b"ok\nok\n", Status::Done),
         (b" # note\n", b"no bad-line\n", Status::SomeRefused),
-        (b"write /a x\r\n\r\n", b"ok\nno bad-line\n", Status::SomeRefused),
+        (
+            b"write /a x\r\n\r\n",
+            b"ok\nno bad-line\n",
+            Status::SomeRefused,
+        ),
     ];
     for (script, text, status) in rows {
         let (ended, written) = play(alloc, &trial_of(script))?;
         assert_eq!(rt; ended, status, "at {script:?}");
+        assert_eq!(rt; written.as_slice(), text, "at {script:?}");
+    }
+    Ok(())
+}
+
+#[test]
+fn files_are_listed_by_their_words(rt: HostRuntime) -> Result<(), Fail> {
+    let alloc = rt.alloc();
+    let rows: [(&[u8], &[u8]); 5] = [
+        // What has the word is listed by its text as last indexed, and no directory is written over.
+        (
+            b"write /a Big apple\nsmkdir /s apple\nsls /s\nindex\nsls /s\nwrite /a pear\nsls /s\nwrite /s x\nsmkdir /s y",
+            b"ok\nok\nok\nok\nt /a\nok\nok\nt /a\nok\nno not-file /s\nno exists /s\n",
+        ),
+        // A file that was never indexed has no words.
+        (
+            b"smkdir /s x\nwrite /a x\nindex\nwrite /b x\nsls /s\nindex\nsls /s",
+            b"ok\nok\nok\nok\nt /a\nok\nok\nt /a\nt /b\nok\n",
+        ),
+        // Words are runs of letters, digits and bytes from 128 on, wherever they stand and in either case.
+        (
+            b"smkdir /s \xc3\x84b9\nwrite /a \xc3\x84B9 x\nwrite /b x \xc3\x84b9\nwrite /c \xc3\x84b9x\nwrite /d\nwrite /e .\xc3\x84b9.\nindex\nsls /s",
+            b"ok\nok\nok\nok\nok\nok\nok\nt /a\nt /b\nt /e\nok\n",
+        ),
+        // Links come in the order in which the files were made, at each listing.
+        (
+            b"write /b x\nwrite /a x\nindex\nsmkdir /x X\nsls /x\nwrite /b y\nindex\nsls /x",
+            b"ok\nok\nok\nok\nt /b\nt /a\nok\nok\nok\nt /a\nok\n",
+        ),
+        // What a line is refused for by its form comes before what stands in the tree.
+        (
+            b"sls /m\nwrite /a x\nsls /a\nsmkdir /a y\nsmkdir /a AND\nsmkdir a AND\nsmkdir",
+            b"no no-path /m\nok\nno not-dir /a\nno exists /a\nno bad-query 1\nno bad-name\nno bad-line\n",
+        ),
+    ];
+    for (script, text) in rows {
+        let (_, written) = play(alloc, &trial_of(script))?;
         assert_eq!(rt; written.as_slice(), text, "at {script:?}");
     }
     Ok(())
@@ -97,7 +162,11 @@ fn long_lines_are_refused(rt: HostRuntime) -> Result<(), Fail> {
         let (_, written) = play(alloc, &trial_of(&command))?;
         assert_eq!(rt; written.as_slice(), text, "a command of {count} bytes");
         let (_, written) = play(alloc, &trial_of(&comment))?;
-        assert_eq!(rt; written.as_slice(), b"".as_slice(), "a comment of {count} bytes");
+        assert_eq!(rt;
+            written.as_slice(),
+            b"".as_slice(),
+            "a comment of {count} bytes"
+        );
     }
     Ok(())
 }
@@ -106,24 +175,30 @@ fn long_lines_are_refused(rt: HostRuntime) -> Result<(), Fail> {
 fn pieces_and_faults_leave_a_prefix(rt: HostRuntime) -> Result<(), Fail> {
     let alloc = rt.alloc();
     let script = trial_of(b"write /a x\nfly\nwrite /b");
-    let bytes = Trial {
-        pieces: &[1; 32],
-        ..script
-    };
+    let bytes = script.pieces(&[1; 32]);
+    let all: &[u8] = b"ok\nno bad-line\nok\n";
     let rows: [(Trial<'_>, Status, &[u8]); 11] = [
-        (bytes, Status::SomeRefused, b"ok\nno bad-line\nok\n"),
+        (bytes, Status::SomeRefused, all),
         // A fault of reading: the text over the lines that came whole.
-        (Trial { failing_reads: &[1], ..script }, Status::ReadFault, b""),
-        (Trial { failing_reads: &[2], ..script }, Status::ReadFault, b"ok\nno bad-line\n"),
-        (Trial { failing_reads: &[3], ..script }, Status::SomeRefused, b"ok\nno bad-line\nok\n"),
-        (Trial { failing_reads: &[11], ..bytes }, Status::ReadFault, b""),
-        (Trial { failing_reads: &[12], ..bytes }, Status::ReadFault, b"ok\n"),
-        (Trial { failing_reads: &[16], ..bytes }, Status::ReadFault, b"ok\nno bad-line\n"),
+        (script.failing_reads(&[1]), Status::ReadFault, b""),
+        (
+            script.failing_reads(&[2]),
+            Status::ReadFault,
+            b"ok\nno bad-line\n",
+        ),
+        (script.failing_reads(&[3]), Status::SomeRefused, all),
+        (bytes.failing_reads(&[11]), Status::ReadFault, b""),
+        (bytes.failing_reads(&[12]), Status::ReadFault, b"ok\n"),
+        (
+            bytes.failing_reads(&[16]),
+            Status::ReadFault,
+            b"ok\nno bad-line\n",
+        ),
         // A fault of writing or of a flush: the replies up to it.
-        (Trial { failing_writes: &[1], ..script }, Status::WriteFault, b""),
-        (Trial { failing_writes: &[2], ..script }, Status::WriteFault, b"ok\n"),
-        (Trial { failing_writes: &[3], ..script }, Status::WriteFault, b"ok\n"),
-        (Trial { room: 5, ..script }, Status::WriteFault, b"ok\nno"),
+        (script.failing_writes(&[1]), Status::WriteFault, b""),
+        (script.failing_writes(&[2]), Status::WriteFault, b"ok\n"),
+        (script.failing_writes(&[3]), Status::WriteFault, b"ok\n"),
+        (script.room(5), Status::WriteFault, b"ok\nno"),
     ];
     for (row, (trial, status, text)) in rows.into_iter().enumerate() {
         let (ended, written) = play(alloc, &trial)?;
@@ -188,14 +263,21 @@ const COMMAND: &[u8] = b"write /a x\n";
 #[test]
 fn longest_script_is_played(rt: HostRuntime) -> Result<(), Fail> {
     let alloc = rt.alloc();
-    for (end, status) in [(SCRIPT_LIMIT, Status::Done), (SCRIPT_LIMIT + 1, Status::TooLong)] {
+    for (end, status) in [
+        (SCRIPT_LIMIT, Status::Done),
+        (SCRIPT_LIMIT + 1, Status::TooLong),
+    ] {
         let mut input = LongScript {
             at: 0,
             end,
             commands: 0,
         };
         let mut output = MemorySink::new(alloc, ROOM, ROOM, &[])?;
-        assert_eq!(rt; run(alloc, &[], &mut input, &mut output), status, "of {end} bytes");
+        assert_eq!(rt;
+            run(alloc, &[], &mut input, &mut output),
+            status,
+            "of {end} bytes"
+        );
         assert_eq!(rt; output.written(), b"ok\n".as_slice(), "of {end} bytes");
     }
     Ok(())
