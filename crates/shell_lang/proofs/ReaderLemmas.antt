@@ -1,5 +1,5 @@
 -- A reader at the limit of a script, and a reader that has taken one more piece.
-use Rattle.std.proofs.Common.{◌≡◌, ℕ, ◌+◌, ◌-◌, ◌<◌, ◌≤◌, Bool, true, false, List, [], ◌++◌, length, refl, ap, sym, ◌∙◌, arith, rules, append_assoc, length-append, append-nil, subst, Option, Some, None}
+use Rattle.std.proofs.Common.{◌≡◌, ℕ, ◌+◌, ◌-◌, ◌<◌, ◌≤◌, Bool, true, false, List, [], ◌∷◌, ◌++◌, length, refl, ap, sym, ◌∙◌, arith, rules, append_assoc, length-append, append-nil, subst, Option, Some, None}
 use Rattle.std.proofs.lemmas.Bool.{eqb-true}
 use Rattle.std.specs.Prelude.{nat_eq, position, not}
 use Rattle.std.proofs.lemmas.List.Folds.{prefix_len-append}
@@ -10,6 +10,7 @@ use Rattle.hac_model.specs.Bytes.{is_line_end}
 use Rattle.hac_model.specs.Script.{is_first_ended}
 use Rattle.hac_model.specs.declared.limits.TheConstants.{SCRIPT_LIMIT}
 use Rattle.shell_lang.specs.Reading.{Reading, IsReading, IsUnended, SameTotal, ReadsOn, ReadsPiece}
+use Rattle.shell_lang.specs.declared.reading.TheConstants.{PIECE}
 use Rattle.shell_lang.specs.Pieces.{IsPastLimit}
 use Rattle.hac_model.proofs.JoinLemmas.{position-ended}
 use Rattle.hac_model.proofs.PrefixLemmas.{unended-take, position-none}
@@ -124,3 +125,25 @@ ended-unended held more piece ended grown unended =
     let inside : position_or_len is_line_end held < length held = grind (arith, common_steps, ended) in
     let place : position_or_len is_line_end more ≡ position_or_len is_line_end held = ap (λ (xs : List ℕ). position_or_len is_line_end xs) grown ∙ position-ended held piece inside in
     omega (arith, place, unended, ap length grown, length-append held piece)
+
+no_bytes : (bytes : List ℕ) → length bytes ≡ 0 → bytes ≡ []
+no_bytes [] none = refl
+no_bytes (byte ∷ bytes) none = absurd (omega arith)
+
+-- a piece that was put behind a line that has no end leaves a reader sound
+pub reading-piece : (old : Reading) (bytes : List ℕ) (count most : ℕ) (before after : Option (List ℕ)) → IsReading old → old.taken ≤ SCRIPT_LIMIT → IsUnended old.held →
+    most ≤ PIECE → most + old.taken ≤ SCRIPT_LIMIT + 1 → ReadsPiece old.held bytes before after count most →
+    IsReading (record { held = bytes; taken = old.taken + count; ended = nat_eq count 0 })
+reading-piece old bytes count most before after sound more_may unended small room read =
+    let more : length bytes ≡ length old.held + count = omega (arith, ap length read.bytes, length-append old.held read.piece, read.length_is) in
+    let scanned : length old.held ≤ position_or_len is_line_end bytes = subst (λ (xs : List ℕ). length old.held ≤ position_or_len is_line_end xs) (sym read.bytes) (scanned-piece old.held read.piece unended) in
+    record {
+      kept = omega (arith, sound.kept, more);
+      limit = omega (arith, room, read.within);
+      ended = λ e. let none : count ≡ 0 = eqb-true count 0 e in omega (arith, none, more_may);
+      given = omega (arith, sound.given, more);
+      near = omega (arith, more, scanned, small, read.within);
+      last = λ e.
+          let none : read.piece ≡ [] = no_bytes read.piece (read.length_is ∙ eqb-true count 0 e) in
+          subst (λ (xs : List ℕ). IsUnended xs) (sym (read.bytes ∙ ap (λ (xs : List ℕ). old.held ++ xs) none ∙ append-nil old.held)) unended;
+    }

@@ -3,6 +3,7 @@ use Rattle.std.specs.Prelude.{◌≡◌, ℕ, ◌+◌, ◌-◌, ◌<◌, ◌≤�
 use Rattle.hac_model.specs.Lines.{is_quiet}
 use Rattle.hac_model.specs.Script.{first_line, after_line, is_first_ended}
 use Rattle.hac_model.specs.declared.limits.TheConstants.{LINE_LIMIT, SCRIPT_LIMIT}
+use Rattle.shell_lang.specs.declared.reading.TheConstants.{PIECE}
 use Rattle.shell_lang.specs.declared.reading.Piece.{Piece}
 use Rattle.shell_lang.specs.declared.reading.Piece.TheVariants.{Blank, Bytes, LongLine, End, PastLimit}
 use Rattle.std.specs.List.{position_or_len}
@@ -15,12 +16,14 @@ use Rattle.shell_lang.specs.Reading.{Reading, given, IsUnended}
 abbrev pub piece_of : List ℕ → Piece
 piece_of line = if is_quiet line then Blank else (if nat_le (length line) LINE_LIMIT then Bytes line else LongLine)
 
--- the piece is the first line of these bytes, which is not the last of a stream that goes on; then the rest is pending
+-- the piece is the first line of these bytes, which is not the last of a stream that goes on; then the rest is pending,
+-- and there is none where the stream has ended: a reader learns of the end only where it has no other line
 pub record GivesLine (piece : Piece) (ended : Bool) (bytes rest : List ℕ) : Type 0 where
   pub line : piece ≡ piece_of (first_line bytes)
   pub some : 0 < length bytes
   pub behind : rest ≡ after_line bytes
   pub whole : ended ≡ false → is_first_ended bytes ≡ true
+  pub last : ended ≡ true → rest ≡ []
 
 -- of pending bytes the piece is given, and the rest is pending then
 abbrev pub GivesFrom : Piece → Bool → List ℕ → List ℕ → Type 0
@@ -43,10 +46,11 @@ pub record IsPastLimit (reading : Reading) : Type 0 where
   pub held : 0 < length reading.held
   pub unended : IsUnended (take (length reading.held - 1) reading.held)
 
--- a line that is given lies within the limit, and the reader has gone on
+-- a line that is given lies within the limit, and the reader has gone on; it holds less than one piece then
 pub record GoesOn (old new : Reading) : Type 0 where
   pub further : given old < given new
   pub limit : given new ≤ SCRIPT_LIMIT
+  pub near : length new.held < PIECE
 
 -- where the piece stands against the limit of a script
 abbrev pub Advances : Piece → Reading → Reading → Type 0

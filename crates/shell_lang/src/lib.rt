@@ -11,4 +11,4 @@ mod words;
 
 pub use parsing::{Taken, parse_line};
 pub use printing::print_reply;
-pub use reading::{LineFault, Piece, Reader};
+pub use reading::{LineFault, PIECE, Piece, Reader};

@@ -17,7 +17,7 @@ use std::marker::Model;
 use thiserror::Error;
 
 /// How many bytes are asked of the source at a time.
-const PIECE: usize = 4096;
+pub const PIECE: usize = 4096;
 
 /// What a reader gives.
 #[derive(Debug, Drop)]
@@ -54,8 +54,8 @@ impl From<AllocError> for LineFault {
     }
 }
 
-/// Takes lines from a source. It scans no byte twice, and holds no more than one line and the piece
-/// that was read last.
+/// Takes lines from a source. But for a fault it scans no byte twice, and behind the first line that it
+/// holds it holds less than one piece.
 #[derive(Debug, Drop)]
 pub struct Reader {
     alloc: Global,
@@ -195,6 +195,7 @@ impl Reader {
     fn fill<S: Source>(&mut self, source: &mut S) -> Result<(), LineFault>
         requires open { self.old.ended ≡ false }
         requires room { self.old.taken ≤ SCRIPT_LIMIT }
+        requires unended { IsUnended self.old.held }
         ensures reads { ReadsOn self.old self.new (S.left source.old) (S.left source.new) }
         ensures ok { OnOk result ((self.new.ended ≡ true) ⊎ (self.old.taken < self.new.taken)) }
         ensures err { OnErr result (self.new ≡ self.old) }
@@ -221,6 +222,8 @@ impl Reader {
         requires order { count ≤ end }
         requires inside { end ≤ length self.old.held }
         requires limit { given self.old + end ≤ SCRIPT_LIMIT }
+        requires near { length self.old.held < end + PIECE }
+        requires last { self.old.ended ≡ true → end ≡ length self.old.held }
         ensures piece { IfOk result (λ piece. piece ≡ piece_of (take count self.old.held)) }
         ensures ok { OnOk result (self.new ≡ record self.old { held = drop end self.old.held }) }
         ensures err { OnErr result (self.new ≡ self.old) }
