@@ -1,18 +1,9 @@
 -- Index steps: as many as there are dirty files can happen, one after the other.
-use Rattle.std.proofs.Common.{◌≡◌, ℕ, zero, suc, ◌+◌, ◌-◌, ◌<◌, ◌≤◌, true, false, List, [], ◌∷◌, refl, ap, sym, ◌∙◌, arith, subst, zero-add}
-use Rattle.std.specs.Prelude.{replicate, Option, Some, None, IsTrue}
-use Rattle.std.specs.Option.{option_map_or}
-use Rattle.hac_core.specs.Drafts.{IsAdmitted, reads}
-use Rattle.hac_model.specs.Events.{accepted, apply, apply_all, dirty, event_of, events_of}
-use Rattle.hac_model.specs.Play.{answer, data_lines, state_after}
-use Rattle.hac_model.specs.Refusals.{refusal}
+use Rattle.std.proofs.Common.{◌≡◌, ℕ, zero, suc, ◌+◌, ◌<◌, ◌≤◌, refl, ap, sym, ◌∙◌, arith, subst, zero-add}
+use Rattle.std.specs.Prelude.{replicate, IsTrue}
+use Rattle.hac_model.specs.Events.{accepted, apply, apply_all, dirty}
 use Rattle.hac_model.specs.Valid.{IsValid}
-use Rattle.hac_model.specs.declared.commands.Command.{Command}
-use Rattle.hac_model.specs.declared.commands.Command.TheVariants as command
-use Rattle.hac_model.specs.declared.events.Event.{Event}
 use Rattle.hac_model.specs.declared.events.Event.TheVariants.{Step}
-use Rattle.hac_model.specs.declared.replies.Refusal.{Refusal}
-use Rattle.hac_model.specs.declared.replies.Reply.TheVariants.{Lines, Refused}
 use Rattle.hac_model.specs.declared.states.State.{State}
 use Rattle.hac_model.proofs.EventLemmas.{step-due, steps-clean}
 use Rattle.hac_model.proofs.ValidLemmas.{step-valid}

@@ -1,12 +1,13 @@
 -- How a run goes on by a line, and how it ends.
-use Rattle.std.proofs.Common.{◌≡◌, ℕ, ◌+◌, ◌-◌, ◌≤◌, Bool, true, false, List, [], ◌∷◌, ◌++◌, length, take, refl, ap, sym, ◌∙◌, arith, rules, append_assoc, length-append, subst, inl, inr, Option, Some, None}
+use Rattle.std.proofs.Common.{◌≡◌, ℕ, ◌+◌, ◌-◌, ◌<◌, ◌≤◌, Bool, true, false, List, [], ◌∷◌, ◌++◌, length, take, drop, refl, ap, sym, ◌∙◌, arith, rules, append_assoc, length-append, append-nil, subst, inl, inr, Option, Some, None}
 use Rattle.std.specs.Prelude.{◌||◌, Err, if◌then◌else◌, nat_le, IfSome}
-use Rattle.std.specs.Io.KnownBytes.{Appends, Keeps, prepend_known}
-use Rattle.std.proofs.Math.Seq.{take-append-add}
+use Rattle.std.specs.Io.KnownBytes.{Appends, Keeps, IsAtEnd, prepend_known}
+use Rattle.std.proofs.Math.Seq.{take-append-add, drop-append_seam}
 use Rattle.std.proofs.lemmas.List.{take-append-le}
 use Rattle.hac_outside.specs.Causes.{AppendsSome}
 use Rattle.hac_model.specs.Lines.{Item, is_quiet, command_of, in_main, item_of, items_of}
 use Rattle.hac_model.specs.Script.{first_line, after_line, is_first_ended, whole}
+use Rattle.hac_model.proofs.JoinLemmas.{after_line-unended}
 use Rattle.hac_model.specs.Tree.{empty}
 use Rattle.hac_model.specs.declared.states.State.{State}
 use Rattle.hac_model.specs.Play.{replies, tree_after_all, play, has_refusal}
@@ -21,9 +22,10 @@ use Rattle.hac_model.proofs.LineLemmas.{first_line-is_unended, bytes-line, whole
 use Rattle.shell_lang.specs.declared.reading.Piece.{Piece}
 use Rattle.shell_lang.specs.declared.reading.Piece.TheVariants.{Blank, Bytes, LongLine, End, PastLimit}
 use Rattle.shell_lang.specs.Reading.{Reading, IsUnended, SameTotal}
-use Rattle.shell_lang.specs.Pieces.{piece_of, GivesLine, GivesFrom, Gives, IsPastLimit}
+use Rattle.shell_lang.specs.Pieces.{piece_of, Advances, GivesLine, GivesFrom, Gives, IsPastLimit}
 use Rattle.hac_top.specs.Ends.{finished_status}
-use Rattle.hac_top.specs.Run.{AnswersAll, AnswersTaken, AnswersWithin}
+use Rattle.hac_top.specs.Run.{AnswersAll, AnswersTaken, AnswersWithin, AnswersPromptly}
+use Rattle.shell_lang.specs.declared.reading.TheConstants.{PIECE}
 use Rattle.hac_top.specs.Stops.{items_of_piece, stop_of, StopsAnswer}
 use Rattle.hac_top.specs.declared.answering.Stop.{Stop}
 use Rattle.hac_top.specs.declared.answering.Stop.TheVariants.{ReadFault, TooLong}
@@ -123,7 +125,7 @@ fails before after (Some s) (Some p) tree r (Some l) told played keeps unended =
 -- the script is too long
 pub passes : (before after script pending : Option (List ℕ)) (tree : State) (r : Reading) (left : Option (List ℕ)) →
     TextGoesOn before after script pending tree → WholeGoesOn before after script pending tree → Gives PastLimit r.ended pending (prepend_known r.held left) → IsPastLimit r →
-    SameTotal 0 script r.taken left → IfSome script (λ s. AnswersWithin s before after)
+    SameTotal 0 script r.taken left → IfSome script (λ s. AnswersWithin s left before after)
 passes before after None pending tree r left told played gives past total = search rules
 passes before after (Some s) None tree r left told played gives past total = absurd told
 passes before after (Some s) (Some p) tree r None told played gives past total = absurd total
@@ -137,6 +139,9 @@ passes before after (Some s) (Some p) tree r (Some l) told played gives past tot
     ∙ take-append-add played.played (r.held ++ l) (length r.held - 1) ∙ ap (λ (xs : List ℕ). played.played ++ xs) (take-append-le (length r.held - 1) r.held l (omega arith)) in
     record {
       longer = omega (arith, total, past.taken);
+      left_is =
+          let front_is : SCRIPT_LIMIT + 1 ≡ length (played.played ++ r.held) = omega (arith, count, past.held, length-append played.played r.held) in
+          ap Some (sym (ap (λ (xs : List ℕ). drop (SCRIPT_LIMIT + 1) xs) (script_is ∙ sym (append_assoc played.played r.held l)) ∙ ap (λ (n : ℕ). drop n ((played.played ++ r.held) ++ l)) front_is ∙ drop-append_seam (played.played ++ r.held) l));
       written = subst (λ (xs : List ℕ). Appends before after (text (play (whole xs) empty))) (sym front) (answered_played before after s p tree (take (length r.held - 1) r.held) played past.unended);
     }
 
@@ -236,6 +241,76 @@ prefix-answer before after next (Some s) (Some p) (Some q) piece ended tree no_e
     let line = is_line piece ended p q no_end no_past gives in
     tells-some before after next (text (replies (items_of_piece piece) tree)) (text (play q (tree_after_all (items_of_piece piece) tree))) (text (play s empty))
     (subst (λ (xs : List ℕ). Tells before after xs (text (play s empty))) (text_is piece ended p q tree line) told) written
+
+-- what was told of whole lines and then some of it is all that was written
+written_some : (before after next : Option (List ℕ)) (all bytes : List ℕ) → Tells before after [] all → AppendsSome after next bytes → (told : List ℕ) × Appends before next (all ++ told)
+written_some None after next all bytes tells some = ([], search rules)
+written_some (Some b) None next all bytes tells some = absurd tells
+written_some (Some b) (Some a) None all bytes tells some = absurd some.1
+written_some (Some b) (Some a) (Some n) all bytes tells some =
+    let told_is : a ≡ b ++ all = sym (append-nil a) ∙ tells.1 in
+    (take some.0 bytes, some.1 ∙ ap (λ (xs : List ℕ). xs ++ take some.0 bytes) told_is ∙ append_assoc b all (take some.0 bytes))
+
+-- a line that is given, with its end, is one line and not more
+cut : (piece : Piece) (ended : Bool) (bytes rest : List ℕ) → GivesLine piece ended bytes rest → (line : List ℕ) × (bytes ≡ line ++ rest) × (after_line line ≡ [])
+cut piece true bytes rest gives = (bytes, sym (append-nil bytes) ∙ ap (λ (xs : List ℕ). bytes ++ xs) (sym (gives.last refl)), sym gives.behind ∙ gives.last refl)
+cut piece false bytes rest gives =
+    let line = first_line bytes in (
+      line ++ 10 ∷ [],
+      bytes-line bytes (gives.whole refl) ∙ ap (λ (xs : List ℕ). line ++ 10 ∷ xs) (sym gives.behind) ∙ sym (append_assoc line (10 ∷ []) rest),
+      after_line-unended line [] (first_line-is_unended bytes),
+    )
+
+-- a run that stops while it answers a line has answered all lines before it
+pub prompt-answer : (before after next script pending : Option (List ℕ)) (r : Reading) (left : Option (List ℕ)) (piece : Piece) (old_ended : Bool) (tree : State) → (piece ≡ End → ⊥) → (piece ≡ PastLimit → ⊥) →
+    TextGoesOn before after script pending tree → (old_ended ≡ true → IfSome script (λ s. IsAtEnd pending)) → (old_ended ≡ false → WholeGoesOn before after script pending tree) →
+    Gives piece r.ended pending (prepend_known r.held left) → length r.held < PIECE → AppendsSome after next (text (replies (items_of_piece piece) tree)) →
+    IfSome script (λ s. AnswersPromptly s left before next)
+prompt-answer before after next None pending r left piece old_ended tree no_end no_past text_told last was gives near some = search rules
+prompt-answer before after next (Some s) None r left piece old_ended tree no_end no_past text_told last was gives near some = absurd text_told
+prompt-answer before after next (Some s) (Some p) r None piece old_ended tree no_end no_past text_told last was gives near some = absurd gives
+prompt-answer before after next (Some s) (Some p) r (Some l) piece true tree no_end no_past text_told last was gives near some =
+    let line = is_line piece r.ended p (r.held ++ l) no_end no_past gives in
+    let nothing : p ≡ [] = last refl in
+    absurd (omega (arith, line.some, ap length nothing))
+prompt-answer before after next (Some s) (Some p) r (Some l) piece false tree no_end no_past text_told last was gives near some =
+    let one = cut piece r.ended p (r.held ++ l) (is_line piece r.ended p (r.held ++ l) no_end no_past gives) in
+    let played = was refl in
+    let told : Tells before after [] (text (play played.played empty)) =
+    subst (λ (xs : List ℕ). Tells before after [] (text (play xs empty))) (append-nil played.played)
+    (subst (λ (xs : List ℕ). Tells before after xs (text (play (played.played ++ []) empty))) (text-nothing tree) (played.tells [])) in
+    let written = written_some before after next (text (play played.played empty)) (text (replies (items_of_piece piece) tree)) told some in
+    record {
+      answered = played.played;
+      line = one.0;
+      behind = r.held;
+      rest = l;
+      script_is = played.script_is ∙ ap (λ (xs : List ℕ). played.played ++ xs) one.1;
+      left_is = refl;
+      whole_is =
+          ap (λ (xs : List ℕ). whole xs) (sym (append-nil played.played)) ∙ played.whole_is [] ∙ ap (λ (xs : List ℕ). played.played ++ xs) (whole-unended [] refl)
+          ∙ append-nil played.played;
+      one = one.2;
+      near = near;
+      told = written.0;
+      written = written.1;
+    }
+
+-- after a line that is the last, nothing is pending
+pub last-line : (before after script pending behind : Option (List ℕ)) (piece : Piece) (ended : Bool) (tree : State) → (piece ≡ End → ⊥) → (piece ≡ PastLimit → ⊥) →
+    TextGoesOn before after script pending tree → Gives piece ended pending behind → ended ≡ true → IfSome script (λ s. IsAtEnd behind)
+last-line before after None pending behind piece ended tree no_end no_past told gives last = search rules
+last-line before after (Some s) None behind piece ended tree no_end no_past told gives last = absurd told
+last-line before after (Some s) (Some p) None piece ended tree no_end no_past told gives last = absurd gives
+last-line before after (Some s) (Some p) (Some q) piece ended tree no_end no_past told gives last = (is_line piece ended p q no_end no_past gives).last last
+
+-- where a line is given, less than one piece is held
+pub near-line : (piece : Piece) (old new : Reading) → (piece ≡ End → ⊥) → (piece ≡ PastLimit → ⊥) → Advances piece old new → length new.held < PIECE
+near-line Blank old new no_end no_past goes = goes.near
+near-line (Bytes line) old new no_end no_past goes = goes.near
+near-line LongLine old new no_end no_past goes = goes.near
+near-line End old new no_end no_past goes = absurd (no_end refl)
+near-line PastLimit old new no_end no_past goes = absurd (no_past refl)
 
 -- only a fault of reading stops a run as one
 pub read_stop : (fault : LineFault) (stop : Stop) → stop ≡ stop_of fault → stop ≡ ReadFault → fault ≡ line.Read

@@ -1,13 +1,14 @@
 -- What a run over a script promises, where its source tells the script.
-use Rattle.std.specs.Prelude.{◌≡◌, ℕ, ◌+◌, ◌<◌, ◌≤◌, ⊤, List, [], ◌++◌, length, take, codes, Option, None, Some}
+use Rattle.std.specs.Prelude.{◌≡◌, ℕ, ◌+◌, ◌<◌, ◌≤◌, ⊤, List, [], ◌++◌, length, take, drop, codes, Option, None, Some}
 use Rattle.std.specs.Io.KnownBytes.{Appends}
 use Rattle.hac_model.specs.Play.{play, has_refusal}
 use Rattle.hac_model.specs.Printed.{ended, text}
-use Rattle.hac_model.specs.Script.{whole}
+use Rattle.hac_model.specs.Script.{after_line, whole}
 use Rattle.hac_model.specs.Tree.{empty}
 use Rattle.hac_model.specs.declared.limits.TheConstants.{SCRIPT_LIMIT}
 use Rattle.hac_top.specs.Ends.{finished_status}
 use Rattle.hac_top.specs.declared.status.Status.{Status}
+use Rattle.shell_lang.specs.declared.reading.TheConstants.{PIECE}
 
 -- what is written where the words of the program are none that it takes
 abbrev pub usage_line : List ℕ
@@ -28,9 +29,11 @@ pub record AnswersTaken (script : List ℕ) (left before after : Option (List �
   pub left_is : left ≡ Some rest
   pub written : Appends before after (text (play (whole taken) empty))
 
--- the script is longer than a script may be, and each line within the limit was answered
-pub record AnswersWithin (script : List ℕ) (before after : Option (List ℕ)) : Type 0 where
+-- the script is longer than a script may be, so much of it and one byte were taken, and each line within the limit was
+-- answered
+pub record AnswersWithin (script : List ℕ) (left before after : Option (List ℕ)) : Type 0 where
   pub longer : SCRIPT_LIMIT < length script
+  pub left_is : left ≡ Some (drop (SCRIPT_LIMIT + 1) script)
   pub written : Appends before after (text (play (whole (take SCRIPT_LIMIT script)) empty))
 
 -- at most one byte more than the limit of a script was taken
@@ -38,3 +41,18 @@ abbrev pub TakesWithin : Option (List ℕ) → Option (List ℕ) → Type 0
 TakesWithin None new = ⊤
 TakesWithin (Some old) None = ⊥
 TakesWithin (Some old) (Some new) = length old ≤ length new + (SCRIPT_LIMIT + 1)
+
+-- Of what was taken, all was answered but one line and less than one piece behind it. So no read goes beyond the piece
+-- in which an unanswered line ends.
+pub record AnswersPromptly (script : List ℕ) (left before after : Option (List ℕ)) : Type 0 where
+  pub answered : List ℕ
+  pub line : List ℕ
+  pub behind : List ℕ
+  pub rest : List ℕ
+  pub script_is : script ≡ answered ++ (line ++ (behind ++ rest))
+  pub left_is : left ≡ Some rest
+  pub whole_is : whole answered ≡ answered
+  pub one : after_line line ≡ []
+  pub near : length behind < PIECE
+  pub told : List ℕ
+  pub written : Appends before after (text (play answered empty) ++ told)

@@ -6,7 +6,7 @@ ghost use Rattle.hac_model.specs.Play.{play, has_refusal};
 ghost use Rattle.hac_model.specs.Printed.{text};
 ghost use Rattle.hac_model.specs.Tree.{empty};
 ghost use Rattle.hac_top.specs.Ends.{IsFinished, finished_status};
-ghost use Rattle.hac_top.specs.Run.{usage_line, AnswersAll, AnswersTaken, AnswersWithin, TakesWithin};
+ghost use Rattle.hac_top.specs.Run.{usage_line, AnswersAll, AnswersTaken, AnswersWithin, AnswersPromptly, TakesWithin};
 
 use crate::answering::{Player, Stop, tell_bytes};
 use crate::status::Status;
@@ -38,7 +38,9 @@ pub fn run<S: Source, K: Sink>(
     ensures read_fault { result ≡ Status.ReadFault → IfSome (S.left input.old) (λ script.
         AnswersTaken script (S.left input.new) (K.written output.old) (K.written output.new)) }
     ensures too_long { result ≡ Status.TooLong → IfSome (S.left input.old) (λ script.
-        AnswersWithin script (K.written output.old) (K.written output.new)) }
+        AnswersWithin script (S.left input.new) (K.written output.old) (K.written output.new)) }
+    ensures prompt { length words.now ≡ 0 → result ≡ Status.WriteFault → IfSome (S.left input.old) (λ script.
+        AnswersPromptly script (S.left input.new) (K.written output.old) (K.written output.new)) }
     ensures prefix { length words.now ≡ 0 → IfSome (S.left input.old) (λ script.
         AppendsSome (K.written output.old) (K.written output.new) (text (play script empty))) }
     ensures within { TakesWithin (S.left input.old) (S.left input.new) }
@@ -89,7 +91,9 @@ fn play_script<S: Source, K: Sink>(
     ensures read_fault { result ≡ Err Stop.ReadFault → IfSome (S.left input.old) (λ script.
         AnswersTaken script (S.left input.new) (K.written output.old) (K.written output.new)) }
     ensures too_long { result ≡ Err Stop.TooLong → IfSome (S.left input.old) (λ script.
-        AnswersWithin script (K.written output.old) (K.written output.new)) }
+        AnswersWithin script (S.left input.new) (K.written output.old) (K.written output.new)) }
+    ensures prompt { result ≡ Err Stop.WriteFault → IfSome (S.left input.old) (λ script.
+        AnswersPromptly script (S.left input.new) (K.written output.old) (K.written output.new)) }
     ensures prefix { IfSome (S.left input.old) (λ script.
         AppendsSome (K.written output.old) (K.written output.new) (text (play script empty))) }
     ensures within { TakesWithin (S.left input.old) (S.left input.new) }

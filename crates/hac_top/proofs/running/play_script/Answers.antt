@@ -11,7 +11,7 @@ use Rattle.shell_lang.specs.declared.reading.LineFault.TheVariants as line
 use Rattle.shell_lang.proofs.ReaderLemmas.{total_on}
 use Rattle.hac_top.specs.declared.answering.Stop.TheVariants.{ReadFault}
 use Rattle.hac_top.proofs.GoesOn.{TextGoesOn, StatusGoesOn, WholeGoesOn}
-use Rattle.hac_top.proofs.RunLemmas.{prefix-stop, finishes, fails, passes, goes_on, status_goes_on, whole_goes_on, piece-items, prefix-answer, read_stop, still_open}
+use Rattle.hac_top.proofs.RunLemmas.{prefix-stop, finishes, fails, passes, goes_on, status_goes_on, whole_goes_on, last-line, near-line, piece-items, prefix-answer, prompt-answer, read_stop, still_open}
 use Rattle.hac_top.proofs.running.play_script.Goals as goal
 
 pub answer-requires : goal.answer-requires
@@ -85,6 +85,7 @@ lines-preserved g c =
       whole = λ goes.
           subst (λ (t : State). WholeGoesOn before next script now_pending t) (sym answer.tree)
           (whole_goes_on before after next script was_pending now_pending piece ended tree arm.not-End arm.not-PastLimit goes (was.whole (still_open c.lines.reader.ended ended c.next_line.ensures.stays goes)) gives answer.written);
+      last = last-line before after script was_pending now_pending piece ended tree arm.not-End arm.not-PastLimit was.told gives;
       valid = subst (λ (t : State). IsValid t) (sym answer.tree) (tree_after_all-valid (items_of_piece piece) tree (piece-items piece) was.valid);
       ended = c.next_line.ensures.ended;
       total = total_on 0 c.lines.reader.taken c.next_line.new.self.taken script (left c.lines.input) (left c.next_line.new.source) was.total c.next_line.ensures.total;
@@ -104,3 +105,14 @@ returns-in_err-answer-in_default-2-clause-prefix g c =
     let gives = c.in_ok-piece.ensures.piece in
     prefix-answer (written c.args.output.now) (written c.lines.output) (written c.answer.new.output) (left c.args.input.now) was_pending now_pending c.in_ok-piece.piece ended c.lines.player.tree
     arm.not-End arm.not-PastLimit c.lines.invariant.told gives c.in_err-answer-in_default-2.ensures.err
+
+pub returns-in_err-answer-in_default-2-clause-prompt : goal.returns-in_err-answer-in_default-2-clause-prompt
+returns-in_err-answer-in_default-2-clause-prompt g c = λ stopped.
+    let left = g.S.Source.left in
+    let written = g.K.Sink.written in
+    let was = c.lines.invariant in
+    let arm = c.in_default-2 in
+    let now = c.next_line.new.self in
+    prompt-answer (written c.args.output.now) (written c.lines.output) (written c.answer.new.output) (left c.args.input.now) (pending c.lines.reader (left c.lines.input)) now (left c.next_line.new.source)
+    c.in_ok-piece.piece c.lines.reader.ended c.lines.player.tree arm.not-End arm.not-PastLimit was.told was.last was.whole c.in_ok-piece.ensures.piece
+    (near-line c.in_ok-piece.piece c.lines.reader now arm.not-End arm.not-PastLimit c.in_ok-piece.ensures.advances) c.in_err-answer-in_default-2.ensures.err

@@ -1,4 +1,5 @@
 use Rattle.std.proofs.Common.{◌≡◌, ◌≤◌, ◌+◌, ◌-◌, true, false}
+use Rattle.std.specs.Prelude.{IfSome}
 use Rattle.std.specs.Io.KnownBytes.{IsAtEnd}
 use Rattle.hac_model.specs.declared.limits.TheConstants.{SCRIPT_LIMIT}
 use Rattle.hac_model.specs.Valid.{IsValid}
@@ -15,6 +16,7 @@ invariant-lines g l =
       told : TextGoesOn (written l.fn.output) (written l.output) (left l.fn.input) (pending l.reader (left l.input)) l.player.tree;
       status : StatusGoesOn (left l.fn.input) (pending l.reader (left l.input)) l.player.tree l.player.refused;
       whole : l.reader.ended ≡ false → WholeGoesOn (written l.fn.output) (written l.output) (left l.fn.input) (pending l.reader (left l.input)) l.player.tree;
+      last : l.reader.ended ≡ true → IfSome (left l.fn.input) (λ script. IsAtEnd (pending l.reader (left l.input)));
       valid : IsValid l.player.tree;
       ended : l.reader.ended ≡ true → IsAtEnd (left l.input);
       total : SameTotal 0 (left l.fn.input) l.reader.taken (left l.input);
