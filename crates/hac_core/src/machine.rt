@@ -11,7 +11,7 @@ ghost use Rattle.hac_core.specs.Tables.{NumberedFrom};
 ghost use Rattle.hac_model.specs.Lines.{is_spelled};
 ghost use Rattle.hac_model.specs.Refusals.{refusal, dir_cause, file_cause, slot_cause};
 ghost use Rattle.hac_core.specs.Drafts.{IsAdmitted, Refuses, Settles, reads};
-ghost use Rattle.hac_model.specs.Play.{answer, data_lines};
+ghost use Rattle.hac_model.specs.Play.{reply_of, data_lines};
 
 use crate::bodies;
 use crate::drafts::{Draft, Settled};
@@ -151,7 +151,7 @@ impl Machine {
     pub fn ask(&self, draft: Draft) -> Result<Reply, Deny>
         requires made { IsAdmitted self.now draft.command }
         requires reads { reads draft.command ≡ true }
-        ensures reply { IfOk result (λ reply. reply ≡ answer self.now draft.command) }
+        ensures reply { IfOk result (λ reply. reply ≡ reply_of self.now draft.command) }
         ensures err { IfErr result (λ deny. deny ≡ Deny.Memory) }
     {
         match draft.command() {

@@ -3,7 +3,7 @@ ghost use Rattle.std.specs.Prelude.{◌≡◌, ◌≤◌, ◌||◌, false, IfOk,
 ghost use Rattle.std.specs.Io.KnownBytes.{Appends};
 ghost use Rattle.hac_outside.specs.Causes.{AppendsSome, HasCause, Rose};
 ghost use Rattle.hac_model.specs.Lines.{item_of};
-ghost use Rattle.hac_model.specs.Play.{reply_of, tree_after, replies, tree_after_all, is_refused, has_refusal};
+ghost use Rattle.hac_model.specs.Play.{reply_to, tree_after, replies, tree_after_all, is_refused, has_refusal};
 ghost use Rattle.hac_model.specs.Printed.{reply_text, text};
 ghost use Rattle.hac_model.specs.Tree.{empty};
 ghost use Rattle.hac_model.specs.Valid.{IsValid};
@@ -82,9 +82,9 @@ impl Player {
     fn answer_line<K: Sink>(&mut self, output: &mut K, line: Text) -> Result<(), Stop>
         requires valid { IsValid self.old.tree }
         ensures tree { OnOk result (self.new.tree ≡ tree_after (item_of line) self.old.tree) }
-        ensures refused { OnOk result (self.new.refused ≡ (self.old.refused || is_refused (reply_of (item_of line) self.old.tree))) }
-        ensures written { OnOk result (Appends (K.written output.old) (K.written output.new) (reply_text (reply_of (item_of line) self.old.tree))) }
-        ensures err { OnErr result (AppendsSome (K.written output.old) (K.written output.new) (reply_text (reply_of (item_of line) self.old.tree))) }
+        ensures refused { OnOk result (self.new.refused ≡ (self.old.refused || is_refused (reply_to (item_of line) self.old.tree))) }
+        ensures written { OnOk result (Appends (K.written output.old) (K.written output.new) (reply_text (reply_to (item_of line) self.old.tree))) }
+        ensures err { OnErr result (AppendsSome (K.written output.old) (K.written output.new) (reply_text (reply_to (item_of line) self.old.tree))) }
         ensures stops { IfErr result StopsAnswer }
         ensures fault { IsErrOf result Stop.WriteFault → Rose (K.faults output.old) (K.faults output.new) }
         ensures later { K.faults output.old ≤ K.faults output.new }

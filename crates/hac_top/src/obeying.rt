@@ -3,7 +3,7 @@ ghost use Rattle.std.specs.Prelude.{◌≡◌, IfOk, OnOk, IsTrue, replicate, tr
 ghost use Rattle.hac_core.specs.Drafts.{IsAdmitted, reads};
 ghost use Rattle.hac_model.specs.Events.{apply_all, dirty};
 ghost use Rattle.hac_model.specs.Lines.{is_spelled, item_of};
-ghost use Rattle.hac_model.specs.Play.{answer, reply_of, state_after, tree_after};
+ghost use Rattle.hac_model.specs.Play.{answer, reply_to, state_after, tree_after};
 ghost use Rattle.hac_model.specs.Valid.{IsValid};
 ghost use Rattle.hac_model.specs.declared.events.Event.TheVariants.{Step};
 
@@ -15,7 +15,7 @@ use std::alloc::Global;
 /// Carries out the command that a line spells, or refuses it.
 pub fn carry_out(alloc: Global, tree: &mut Machine, line: Text) -> Result<Reply, Memory>
     requires valid { IsValid tree.old }
-    ensures reply { IfOk result (λ reply. reply ≡ reply_of (item_of line) tree.old) }
+    ensures reply { IfOk result (λ reply. reply ≡ reply_to (item_of line) tree.old) }
     ensures tree { OnOk result (tree.new ≡ tree_after (item_of line) tree.old) }
 {
     match parse_line(alloc, line.as_slice(), None) {
