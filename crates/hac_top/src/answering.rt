@@ -19,9 +19,13 @@ use std::alloc::Global;
 /// Why a run stops before the end of its script.
 #[derive(Clone, Copy, Debug)]
 pub enum Stop {
+    /// The script can't be read further.
     ReadFault,
+    /// The replies can't be written further.
     WriteFault,
+    /// Memory ran out.
     Memory,
+    /// The script is longer than a script may be.
     TooLong,
 }
 
@@ -39,6 +43,28 @@ impl From<LineFault> for Stop {
     }
 }
 
+impl From<Memory> for Stop {
+    ghost use Rattle.std.specs.Prelude.{◌≡◌};
+    ghost use Rattle.hac_top.specs.declared.answering.Stop.TheVariants as cause;
+
+    ghost from_gives = { λ _ stop. stop ≡ cause.Memory };
+
+    fn from(_memory: Memory) -> Stop {
+        Stop::Memory
+    }
+}
+
+impl From<Failed> for Stop {
+    ghost use Rattle.std.specs.Prelude.{◌≡◌};
+    ghost use Rattle.hac_top.specs.declared.answering.Stop.TheVariants as cause;
+
+    ghost from_gives = { λ _ stop. stop ≡ cause.WriteFault };
+
+    fn from(_failed: Failed) -> Stop {
+        Stop::WriteFault
+    }
+}
+
 /// What a run knows between two lines.
 #[derive(Drop)]
 pub struct Player {
@@ -50,6 +76,7 @@ pub struct Player {
 }
 
 impl Player {
+    /// The player of a script that begins: the tree is empty, and no command was refused.
     pub fn new(alloc: Global) -> Result<Player, Memory>
         ensures tree { IfOk result (λ player. player.tree ≡ empty) }
         ensures refused { IfOk result (λ player. player.refused ≡ false) }
@@ -89,9 +116,7 @@ impl Player {
         ensures fault { IsErrOf result Stop.WriteFault → Rose (K.faults output.old) (K.faults output.new) }
         ensures later { K.faults output.old ≤ K.faults output.new }
     {
-        let Ok(reply) = carry_out(self.alloc, &mut self.tree, line) else {
-            return Err(Stop::Memory);
-        };
+        let reply = carry_out(self.alloc, &mut self.tree, line)?;
         self.tell(output, reply)
     }
 
@@ -105,19 +130,15 @@ impl Player {
         ensures fault { IsErrOf result Stop.WriteFault → Rose (K.faults output.old) (K.faults output.new) }
         ensures later { K.faults output.old ≤ K.faults output.new }
     {
-        let Ok(bytes) = print_reply(self.alloc, &reply) else {
-            return Err(Stop::Memory);
-        };
-        self.refused = self.refused | is_refused(reply);
-        match tell_bytes(output, &bytes) {
-            Ok(()) => Ok(()),
-            Err(Failed) => Err(Stop::WriteFault),
-        }
+        let bytes = print_reply(self.alloc, &reply)?;
+        self.refused = self.refused | is_refused(&reply);
+        tell_bytes(output, &bytes)?;
+        Ok(())
     }
 }
 
-fn is_refused(reply: Reply) -> bool
-    ensures { result ≡ is_refused reply }
+fn is_refused(reply: &Reply) -> bool
+    ensures { result ≡ is_refused reply.now }
 {
     match reply {
         Reply::Lines(_) => false,

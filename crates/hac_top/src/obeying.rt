@@ -6,6 +6,7 @@ ghost use Rattle.hac_model.specs.Lines.{is_spelled, item_of};
 ghost use Rattle.hac_model.specs.Play.{answer, reply_to, state_after, tree_after};
 ghost use Rattle.hac_model.specs.Valid.{IsValid};
 ghost use Rattle.hac_model.specs.declared.events.Event.TheVariants.{Step};
+ghost use Rattle.hac_top.specs.Stops.{IsDenial};
 
 use hac_core::{Draft, Machine, Settled};
 use hac_model::{Deny, Event, Line, Memory, Reply, Seq, Text};
@@ -20,8 +21,7 @@ pub fn carry_out(alloc: Global, tree: &mut Machine, line: Text) -> Result<Reply,
 {
     match parse_line(alloc, line.as_slice(), None) {
         Ok(line) => obey(alloc, tree, &line),
-        Err(Deny::Refused(refusal)) => Ok(Reply::Refused(refusal)),
-        Err(Deny::Memory) => Err(Memory),
+        Err(deny) => refused(deny),
     }
 }
 
@@ -34,8 +34,17 @@ fn obey(alloc: Global, tree: &mut Machine, line: &Line) -> Result<Reply, Memory>
 {
     match tree.check(line) {
         Ok(draft) => follow(alloc, tree, draft),
-        Err(Deny::Refused(refusal)) => Ok(Reply::Refused(refusal)),
-        Err(Deny::Memory) => Err(Memory),
+        Err(deny) => refused(deny),
+    }
+}
+
+/// The reply to a command that is denied.
+fn refused(deny: Deny) -> Result<Reply, Memory>
+    ensures { IfOk result (IsDenial deny) }
+{
+    match deny {
+        Deny::Refused(refusal) => Ok(Reply::Refused(refusal)),
+        Deny::Memory => Err(Memory),
     }
 }
 
