@@ -7,7 +7,7 @@ ghost use Rattle.std.specs.BTreeSet.{contains};
 ghost use Rattle.std.specs.Option.{option_copied};
 ghost use Rattle.hac_model.specs.Events.{accepted, apply, dirty, edited, indexed, is_free, rewritten, writing};
 ghost use Rattle.hac_model.specs.Lines.{is_spelled};
-ghost use Rattle.hac_model.specs.Play.{answer, data_lines};
+ghost use Rattle.hac_model.specs.Play.{data_lines, reply_of};
 ghost use Rattle.hac_model.specs.Refusals.{refusal, dir_cause, file_cause, slot_cause};
 ghost use Rattle.hac_model.specs.Tree.{empty, number_in_root, standing};
 ghost use Rattle.hac_core.specs.Drafts.{IsAdmitted, Refuses, Settles, reads};
@@ -155,7 +155,7 @@ impl Machine {
     pub fn ask(&self, draft: Draft) -> Result<Reply, Deny>
         requires made { IsAdmitted self.now draft.command }
         requires reads { reads draft.command ≡ true }
-        ensures reply { IfOk result (λ reply. reply ≡ answer self.now draft.command) }
+        ensures reply { IfOk result (λ reply. reply ≡ reply_of self.now draft.command) }
         ensures err { IfErr result (λ deny. deny ≡ Deny.Memory) }
     {
         match draft.command() {

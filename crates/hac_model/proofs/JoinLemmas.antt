@@ -14,7 +14,7 @@ use Rattle.hac_model.specs.Bytes.{is_line_end}
 use Rattle.hac_model.specs.Lines.{Item, items_of}
 use Rattle.hac_model.specs.Script.{first_line, after_line, script}
 use Rattle.hac_model.specs.declared.states.State.{State}
-use Rattle.hac_model.specs.Play.{replies, tree_after_all, tree_after, reply_of, play}
+use Rattle.hac_model.specs.Play.{replies, tree_after_all, tree_after, reply_to, play}
 use Rattle.hac_model.specs.declared.replies.Reply.{Reply}
 use Rattle.hac_model.proofs.ScriptLemmas.{script-step, script-nothing, length-after_line}
 
@@ -84,7 +84,7 @@ script-joined a b = script-joined-within (length a) a b (omega arith)
 
 pub replies-append : (xs ys : List Item) (tree : State) → replies (xs ++ ys) tree ≡ replies xs tree ++ replies ys (tree_after_all xs tree)
 replies-append [] ys tree = refl
-replies-append (x ∷ xs) ys tree = ap (λ (told : List Reply). reply_of x tree ∷ told) (replies-append xs ys (tree_after x tree))
+replies-append (x ∷ xs) ys tree = ap (λ (told : List Reply). reply_to x tree ∷ told) (replies-append xs ys (tree_after x tree))
 
 pub scripts-join : (first second : List ℕ) (tree : State) → play (first ++ 10 ∷ second) tree ≡ play first tree ++ play second (tree_after_all (script first) tree)
 scripts-join first second tree = rw (script-joined first second) (replies-append (script first) (script second) tree)

@@ -22,7 +22,7 @@ next_dirty (entry ∷ entries) = if is_dirty entry.body then Some entry.number e
 abbrev pub dirty : State → ℕ
 dirty s = count_by (λ entry. is_dirty entry.body) s.entries
 
--- entries may be made in the directory: in the root alone yet
+-- entries may be made in the directory: so far in the root alone
 abbrev pub is_holder : ℕ → Bool
 is_holder dir = dir == 0
 
@@ -50,7 +50,7 @@ edited number change [] = []
 edited number change (entry ∷ entries) =
     record entry { body = if entry.number == number then change entry.body else entry.body } ∷ edited number change entries
 
--- the state, in which the entry with the number has edited
+-- the state, in which the entry with the number has its body edited
 abbrev pub edited_at : State → ℕ → (Body → Body) → State
 edited_at s number change = record s { entries = edited number change s.entries }
 

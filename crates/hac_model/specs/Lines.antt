@@ -33,7 +33,7 @@ after_word bytes = drop (length (first_word bytes)) (skip_spaces bytes)
 abbrev pub text_after_word : List ℕ → List ℕ
 text_after_word bytes = drop 1 (after_word bytes)
 
--- `write PATH TEXT`, told what stands behind `write`. No text has a backslash yet.
+-- `write PATH TEXT`, from what stands behind `write`. So far no text has a backslash.
 abbrev pub write_of : List ℕ → Result Command Refusal
 write_of arguments =
     if length (first_word arguments) == 0 || list_any is_backslash (text_after_word arguments) then Err BadLine
@@ -44,7 +44,7 @@ write_of arguments =
 abbrev pub is_one_word : List ℕ → Bool
 is_one_word bytes = is_query_word (first_word bytes) && list_all is_space (after_word bytes)
 
--- the query that the bytes spell: one word yet. What isn't one is bad from its first byte on.
+-- the query that the bytes spell: so far one word. What isn't one is bad from its first byte on.
 abbrev pub query_of : List ℕ → Result Query Refusal
 query_of bytes =
     if is_one_word bytes then Ok (query.Term (Word (lower_case (first_word bytes)))) else Err (BadQuery 1)
@@ -54,18 +54,18 @@ abbrev pub smkdir_with : List ℕ → Result Query Refusal → Result Command Re
 smkdir_with name (Ok query) = Ok (Smkdir name query)
 smkdir_with name (Err refusal) = Err refusal
 
--- `smkdir PATH QUERY`, told what stands behind `smkdir`
+-- `smkdir PATH QUERY`, from what stands behind `smkdir`
 abbrev pub smkdir_of : List ℕ → Result Command Refusal
 smkdir_of arguments =
     if length (first_word arguments) == 0 then Err BadLine
     else (if is_root_path (first_word arguments) then smkdir_with (drop 1 (first_word arguments)) (query_of (text_after_word arguments))
     else Err BadName)
 
--- `index`, told what stands behind it
+-- `index`, from what stands behind it
 abbrev pub index_of : List ℕ → Result Command Refusal
 index_of arguments = if list_all is_space arguments then Ok Index else Err BadLine
 
--- `sls PATH`, told what stands behind `sls`
+-- `sls PATH`, from what stands behind `sls`
 abbrev pub sls_of : List ℕ → Result Command Refusal
 sls_of arguments =
     if length (first_word arguments) == 0 || not (list_all is_space (after_word arguments)) then Err BadLine
@@ -92,7 +92,7 @@ is_spelled (Smkdir name query) = is_name name && is_query query
 is_spelled Index = true
 is_spelled (Sls name) = is_name name
 
--- every line is of the session `main` yet
+-- so far every line is of the session `main`
 abbrev pub in_main : Result Command Refusal → Result Line Refusal
 in_main (Ok command) = Ok (record { session = codes "main"; command = command })
 in_main (Err refusal) = Err refusal

@@ -47,9 +47,9 @@ relative (part ∷ parts) = before part (relative parts)
 abbrev pub at_root : PathWord → PathWord
 at_root word = record word { absolute = true; ups = 0 }
 
--- a word that begins with a slash is read at the root
-abbrev pub spelled : List ℕ → PathWord
-spelled bytes = if is_slash (slice_index bytes 0) then at_root (relative (parts bytes)) else relative (parts bytes)
+-- the word that the bytes are, its parts not tested. One that begins with a slash is read at the root.
+abbrev pub untested_word : List ℕ → PathWord
+untested_word bytes = if is_slash (slice_index bytes 0) then at_root (relative (parts bytes)) else relative (parts bytes)
 
 -- the bytes are no word: none, or a part has a byte that no name may hold. A part that a `..` removes counts too.
 abbrev pub is_bad : List ℕ → Bool
@@ -63,4 +63,4 @@ unfoldable pub word_of : List ℕ → Result PathWord Refusal
 word_of bytes =
     if is_bad bytes then Err BadName
     else (if has_long_part bytes then Err (Limit limit.Name)
-    else Ok (spelled bytes))
+    else Ok (untested_word bytes))

@@ -26,18 +26,22 @@ data_lines s (Smkdir name query) = []
 data_lines s Index = []
 data_lines s (Sls name) = option_map_or (λ dir. map (link_line s) (links s dir)) (number_in_root s name) []
 
+-- the reply of an accepted command
+abbrev pub reply_of : State → Command → Reply
+reply_of s command = Lines (data_lines s command)
+
 -- what a command is answered
 abbrev pub answer : State → Command → Reply
-answer s command = option_map_or Refused (refusal s command) (Lines (data_lines s command))
+answer s command = option_map_or Refused (refusal s command) (reply_of s command)
 
 -- the state after a command. One that is refused changes nothing.
 abbrev pub state_after : State → Command → State
 state_after s command = option_map_or (λ _. s) (refusal s command) (apply_all s (events_of s command))
 
 -- what a line is answered
-abbrev pub reply_of : Item → State → Reply
-reply_of (Ok line) s = answer s line.command
-reply_of (Err refusal) s = Refused refusal
+abbrev pub reply_to : Item → State → Reply
+reply_to (Ok line) s = answer s line.command
+reply_to (Err refusal) s = Refused refusal
 
 -- the tree after a line
 abbrev pub tree_after : Item → State → State
@@ -47,7 +51,7 @@ tree_after (Err refusal) s = s
 -- the replies to items in order
 abbrev pub replies : List Item → State → List Reply
 replies [] s = []
-replies (item ∷ items) s = reply_of item s ∷ replies items (tree_after item s)
+replies (item ∷ items) s = reply_to item s ∷ replies items (tree_after item s)
 
 -- the tree that items in order leave
 abbrev pub tree_after_all : List Item → State → State

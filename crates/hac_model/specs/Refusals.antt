@@ -23,7 +23,7 @@ abbrev pub slot_cause : List (List ℕ) → Option Body → Option Refusal
 slot_cause path None = None
 slot_cause path (Some body) = Some (Exists path)
 
--- the cause for which the state refuses the command. Each directory that a path leads to is semantic yet.
+-- the cause for which the state refuses the command. Each directory that a path leads to is semantic so far.
 abbrev pub refusal : State → Command → Option Refusal
 refusal s (Write name text) = file_cause (name ∷ []) (standing s name)
 refusal s (Smkdir name query) = slot_cause (name ∷ []) (standing s name)

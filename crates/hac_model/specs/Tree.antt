@@ -35,7 +35,7 @@ number_in_root s name = child s.entries 0 name
 abbrev pub standing : State → List ℕ → Option Body
 standing s name = option_and_then (body_at s.entries) (number_in_root s name)
 
--- the names that lead to the entry of a number. They are its own alone, as entries stand in the root alone yet.
+-- the names that lead to the entry of a number. They are its own alone, as entries so far stand in the root alone.
 abbrev pub path_of : State → ℕ → List (List ℕ)
 path_of s number = option_map_or (λ entry. entry.name ∷ []) (entry_at s.entries number) []
 

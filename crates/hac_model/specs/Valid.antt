@@ -28,7 +28,7 @@ IsSound (Semantic query) = IsTrue (is_query query)
 pub record IsValid (s : State) : Type 0 where
   pub numbers : NumbersRise 0 s.entries s.next
   pub names : AllByRecursion (λ entry. IsTrue (is_name entry.name)) s.entries
-  -- entries stand in the root alone yet
+  -- so far entries stand in the root alone
   pub parents : AllByRecursion (λ entry. entry.parent ≡ 0) s.entries
   pub differ : NamesDiffer s.entries
   pub bodies : AllByRecursion (λ entry. IsSound entry.body) s.entries

@@ -5,7 +5,9 @@ use crate::queries::Query;
 /// A command and the session that gives it.
 #[derive(Clone, Debug, Drop, PartialEq, Eq)]
 pub struct Line {
+    /// The name of the session.
     pub session: Name,
+    /// What it asks for.
     pub command: Command,
 }
 

@@ -8,19 +8,27 @@ use crate::queries::Query;
 pub enum Event {
     /// A file comes into being.
     NewFile {
+        /// The directory in which it is made.
         dir: Number,
+        /// The name that it has there.
         name: Name,
+        /// Its text.
         text: Text,
     },
     /// A file's text is replaced.
     Rewrite {
+        /// The file.
         file: Number,
+        /// Its text from now on.
         text: Text,
     },
     /// A semantic directory comes into being.
     Smkdir {
+        /// The directory in which it is made.
         dir: Number,
+        /// The name that it has there.
         name: Name,
+        /// What it asks for.
         query: Query,
     },
     /// The dirty file of the least number is indexed.

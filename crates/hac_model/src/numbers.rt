@@ -21,12 +21,14 @@ impl Number {
     /// The root.
     pub const ROOT: Number = Number(0);
 
+    /// The number of this value.
     pub fn new(number: u64) -> Number
         ensures { result ≡ number }
     {
         Number(number)
     }
 
+    /// The value of the number.
     pub fn get(self) -> u64
         ensures { result ≡ self }
     {

@@ -41,7 +41,9 @@ pub enum Refusal {
 /// Why a call gives no value: the command is refused, or memory ran out.
 #[derive(Clone, Debug, Drop, PartialEq, Eq)]
 pub enum Deny {
+    /// The command is refused.
     Refused(Refusal),
+    /// Memory ran out.
     Memory,
 }
 

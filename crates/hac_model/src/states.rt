@@ -18,10 +18,13 @@ pub struct State {
 /// Something that stands in a directory.
 #[derive(Debug, Drop, PartialEq, Eq)]
 pub struct Entry {
+    /// The number by which it is known.
     pub number: Number,
     /// The directory in which it stands.
     pub parent: Number,
+    /// The name under which it stands there.
     pub name: Name,
+    /// What it is.
     pub body: Body,
 }
 
@@ -41,7 +44,9 @@ impl Clone for Entry {
 /// What an entry is, with what belongs to its kind.
 #[derive(Debug, Drop, PartialEq, Eq)]
 pub enum Body {
+    /// A file.
     File {
+        /// Its bytes.
         text: Text,
         /// It was made or written since it was last indexed.
         dirty: bool,
@@ -50,6 +55,7 @@ pub enum Body {
     },
     /// A directory that the system fills with links to the files that satisfy its query.
     Semantic {
+        /// What it asks for.
         query: Query,
     },
 }

@@ -4,7 +4,7 @@ use crate::bytes::{Name, Seq};
 /// Something that a text has or lacks. Which it has is said by `has_term` of the specs.
 #[derive(Clone, Debug, Drop, PartialEq, Eq, PartialOrd, Ord)]
 pub enum Term {
-    /// These letters are one of the text's words. Letters that no word has, as a capital, are in no text.
+    /// One of the text's words is these letters. Words have no capitals, so no text has a term with one.
     Word(Name),
     /// One of the text's words begins with these letters.
     Prefix(Name),

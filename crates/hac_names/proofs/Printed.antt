@@ -10,7 +10,7 @@ use Rattle.std.proofs.lemmas.Bool.Decides.{nat_tests}
 use Rattle.hac_model.specs.Bytes.{is_slash}
 use Rattle.hac_model.specs.Names.{is_name, is_name_byte}
 use Rattle.hac_model.specs.Paths.{are_names, slashed, path_text}
-use Rattle.hac_model.specs.PathWords.{parts, is_part, is_long, is_bad, has_long_part, relative, at_root, spelled, word_of}
+use Rattle.hac_model.specs.PathWords.{parts, is_part, is_long, is_bad, has_long_part, relative, at_root, untested_word, word_of}
 use Rattle.hac_names.specs.Laws.{PrintedPathIsRead}
 use Rattle.hac_names.proofs.Valid.{leads_down}
 
@@ -68,7 +68,7 @@ read_names name names h =
     or_from (eqb (length text) 0) (not (list_all is_part (parts text))) (grind (arith, nat_tests))
     (not_from_true (list_all is_part (parts text)) (ap (list_all is_part) cut ∙ all_parts path h)) in
     let long : has_long_part text ≡ false = ap (list_any is_long) cut ∙ none_long path h in
-    let word : spelled text ≡ record { absolute = true; ups = 0; names = path } =
+    let word : untested_word text ≡ record { absolute = true; ups = 0; names = path } =
     ap (λ ps. at_root (relative ps)) cut ∙ ap at_root (relative-names_only path h) in
     cond-false (is_bad text) _ _ bad ∙ cond-false (has_long_part text) _ _ long ∙ ap (λ w. Ok w) word
 

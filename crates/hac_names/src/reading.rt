@@ -13,10 +13,13 @@ use thiserror::Error;
 /// Why bytes give no path word.
 #[derive(Clone, Copy, Debug, PartialEq, Eq, Error)]
 pub enum NameFault {
+    /// The bytes are no word: there are none, or there is one that no name may hold.
     #[error("the word is empty, or has a control byte")]
     Bad,
+    /// A part is longer than a name may be.
     #[error("a part of the word has more bytes than a name may have")]
     Limit,
+    /// Memory ran out.
     #[error("out of memory")]
     Memory,
 }

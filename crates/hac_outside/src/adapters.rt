@@ -12,11 +12,13 @@ use std::io::{ErrorKind, Read, Write};
 /// then the read is tried again.
 #[derive(Drop)]
 pub struct StdSource<R: Read> {
+    /// The reader.
     pub inner: R,
-    pub faults: u64,
+    faults: u64,
 }
 
 impl<R: Read> StdSource<R> {
+    /// The source over a reader, with no faults so far.
     pub fn new(inner: R) -> StdSource<R>
         ensures inner { result.inner ≡ inner }
         ensures faults { result.faults ≡ 0 }
@@ -55,14 +57,16 @@ fn read_again<R: Read>(inner: &mut R, into: &mut [u8]) -> Result<usize, Failed>
 }
 
 /// A sink over a writer. Each of its errors is a fault, but for an interruption by a signal: then
-/// the call is tried again. So is a write that takes nothing of a piece that isn't empty.
+/// the call is tried again. A write that takes nothing of a piece that isn't empty is a fault too.
 #[derive(Drop)]
 pub struct StdSink<W: Write> {
+    /// The writer.
     pub inner: W,
-    pub faults: u64,
+    faults: u64,
 }
 
 impl<W: Write> StdSink<W> {
+    /// The sink over a writer, with no faults so far.
     pub fn new(inner: W) -> StdSink<W>
         ensures inner { result.inner ≡ inner }
         ensures faults { result.faults ≡ 0 }

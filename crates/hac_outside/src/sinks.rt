@@ -15,8 +15,8 @@ pub trait Sink {
     // How many faults there were. At the end of its type the count stands still.
     ghost faults: { Self → ℕ };
 
-    /// Takes some bytes from the front of `bytes`, and says how many: none of a piece that isn't
-    /// empty is a failure.
+    /// Takes some bytes from the front of `bytes`, and says how many. Where there are any, it takes one at
+    /// least, or fails.
     fn write(&mut self, bytes: &[u8]) -> Result<usize, Failed>
         ensures bound { WritesAtMost result bytes.now }
         ensures some { 0 < length bytes.now → result ≢ Ok 0 }

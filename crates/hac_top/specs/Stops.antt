@@ -2,7 +2,11 @@
 use Rattle.std.specs.Prelude.{◌≡◌, ◌⊎◌, List, [], ◌∷◌, Err}
 use Rattle.hac_model.specs.Lines.{Item, item_of}
 use Rattle.hac_model.specs.declared.limits.LimitWord.TheVariants as limit
+use Rattle.hac_model.specs.declared.replies.Deny.{Deny}
+use Rattle.hac_model.specs.declared.replies.Deny.TheVariants as deny
 use Rattle.hac_model.specs.declared.replies.Refusal.TheVariants.{Limit}
+use Rattle.hac_model.specs.declared.replies.Reply.{Reply}
+use Rattle.hac_model.specs.declared.replies.Reply.TheVariants.{Refused}
 use Rattle.shell_lang.specs.declared.reading.Piece.{Piece}
 use Rattle.shell_lang.specs.declared.reading.Piece.TheVariants.{Blank, Bytes, LongLine, End, PastLimit}
 use Rattle.shell_lang.specs.declared.reading.LineFault.{LineFault}
@@ -26,3 +30,8 @@ stop_of line.Memory = Memory
 -- an answer is stopped by the sink or for want of memory
 abbrev pub StopsAnswer : Stop → Type 0
 StopsAnswer stop = (stop ≡ WriteFault) ⊎ (stop ≡ Memory)
+
+-- the reply to what was denied. Want of memory has none.
+abbrev pub IsDenial : Deny → Reply → Type 0
+IsDenial (deny.Refused refusal) reply = reply ≡ Refused refusal
+IsDenial deny.Memory reply = ⊥

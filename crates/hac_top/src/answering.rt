@@ -3,7 +3,7 @@ ghost use Rattle.std.specs.Prelude.{◌≡◌, ◌≤◌, ◌||◌, false, IfOk,
 ghost use Rattle.std.specs.Io.KnownBytes.{Appends};
 ghost use Rattle.hac_outside.specs.Causes.{AppendsSome, HasCause, Rose};
 ghost use Rattle.hac_model.specs.Lines.{item_of};
-ghost use Rattle.hac_model.specs.Play.{reply_of, tree_after, replies, tree_after_all, is_refused, has_refusal};
+ghost use Rattle.hac_model.specs.Play.{reply_to, tree_after, replies, tree_after_all, is_refused, has_refusal};
 ghost use Rattle.hac_model.specs.Printed.{reply_text, text};
 ghost use Rattle.hac_model.specs.Tree.{empty};
 ghost use Rattle.hac_model.specs.Valid.{IsValid};
@@ -19,9 +19,13 @@ use std::alloc::Global;
 /// Why a run stops before the end of its script.
 #[derive(Clone, Copy, Debug)]
 pub enum Stop {
+    /// The script can't be read further.
     ReadFault,
+    /// The replies can't be written further.
     WriteFault,
+    /// Memory ran out.
     Memory,
+    /// The script is longer than a script may be.
     TooLong,
 }
 
@@ -39,6 +43,28 @@ impl From<LineFault> for Stop {
     }
 }
 
+impl From<Memory> for Stop {
+    ghost use Rattle.std.specs.Prelude.{◌≡◌};
+    ghost use Rattle.hac_top.specs.declared.answering.Stop.TheVariants as cause;
+
+    ghost from_gives = { λ _ stop. stop ≡ cause.Memory };
+
+    fn from(_memory: Memory) -> Stop {
+        Stop::Memory
+    }
+}
+
+impl From<Failed> for Stop {
+    ghost use Rattle.std.specs.Prelude.{◌≡◌};
+    ghost use Rattle.hac_top.specs.declared.answering.Stop.TheVariants as cause;
+
+    ghost from_gives = { λ _ stop. stop ≡ cause.WriteFault };
+
+    fn from(_failed: Failed) -> Stop {
+        Stop::WriteFault
+    }
+}
+
 /// What a run knows between two lines.
 #[derive(Drop)]
 pub struct Player {
@@ -50,6 +76,7 @@ pub struct Player {
 }
 
 impl Player {
+    /// The player of a script that begins: the tree is empty, and no command was refused.
     pub fn new(alloc: Global) -> Result<Player, Memory>
         ensures tree { IfOk result (λ player. player.tree ≡ empty) }
         ensures refused { IfOk result (λ player. player.refused ≡ false) }
@@ -82,16 +109,14 @@ impl Player {
     fn answer_line<K: Sink>(&mut self, output: &mut K, line: Text) -> Result<(), Stop>
         requires valid { IsValid self.old.tree }
         ensures tree { OnOk result (self.new.tree ≡ tree_after (item_of line) self.old.tree) }
-        ensures refused { OnOk result (self.new.refused ≡ (self.old.refused || is_refused (reply_of (item_of line) self.old.tree))) }
-        ensures written { OnOk result (Appends (K.written output.old) (K.written output.new) (reply_text (reply_of (item_of line) self.old.tree))) }
-        ensures err { OnErr result (AppendsSome (K.written output.old) (K.written output.new) (reply_text (reply_of (item_of line) self.old.tree))) }
+        ensures refused { OnOk result (self.new.refused ≡ (self.old.refused || is_refused (reply_to (item_of line) self.old.tree))) }
+        ensures written { OnOk result (Appends (K.written output.old) (K.written output.new) (reply_text (reply_to (item_of line) self.old.tree))) }
+        ensures err { OnErr result (AppendsSome (K.written output.old) (K.written output.new) (reply_text (reply_to (item_of line) self.old.tree))) }
         ensures stops { IfErr result StopsAnswer }
         ensures fault { IsErrOf result Stop.WriteFault → Rose (K.faults output.old) (K.faults output.new) }
         ensures later { K.faults output.old ≤ K.faults output.new }
     {
-        let Ok(reply) = carry_out(self.alloc, &mut self.tree, line) else {
-            return Err(Stop::Memory);
-        };
+        let reply = carry_out(self.alloc, &mut self.tree, line)?;
         self.tell(output, reply)
     }
 
@@ -105,19 +130,15 @@ impl Player {
         ensures fault { IsErrOf result Stop.WriteFault → Rose (K.faults output.old) (K.faults output.new) }
         ensures later { K.faults output.old ≤ K.faults output.new }
     {
-        let Ok(bytes) = print_reply(self.alloc, &reply) else {
-            return Err(Stop::Memory);
-        };
-        self.refused = self.refused | is_refused(reply);
-        match tell_bytes(output, &bytes) {
-            Ok(()) => Ok(()),
-            Err(Failed) => Err(Stop::WriteFault),
-        }
+        let bytes = print_reply(self.alloc, &reply)?;
+        self.refused = self.refused | is_refused(&reply);
+        tell_bytes(output, &bytes)?;
+        Ok(())
     }
 }
 
-fn is_refused(reply: Reply) -> bool
-    ensures { result ≡ is_refused reply }
+fn is_refused(reply: &Reply) -> bool
+    ensures { result ≡ is_refused reply.now }
 {
     match reply {
         Reply::Lines(_) => false,

@@ -3,9 +3,10 @@ ghost use Rattle.std.specs.Prelude.{◌≡◌, IfOk, OnOk, IsTrue, replicate, tr
 ghost use Rattle.hac_core.specs.Drafts.{IsAdmitted, reads};
 ghost use Rattle.hac_model.specs.Events.{apply_all, dirty};
 ghost use Rattle.hac_model.specs.Lines.{is_spelled, item_of};
-ghost use Rattle.hac_model.specs.Play.{answer, reply_of, state_after, tree_after};
+ghost use Rattle.hac_model.specs.Play.{answer, reply_to, state_after, tree_after};
 ghost use Rattle.hac_model.specs.Valid.{IsValid};
 ghost use Rattle.hac_model.specs.declared.events.Event.TheVariants.{Step};
+ghost use Rattle.hac_top.specs.Stops.{IsDenial};
 
 use hac_core::{Draft, Machine, Settled};
 use hac_model::{Deny, Event, Line, Memory, Reply, Seq, Text};
@@ -15,13 +16,12 @@ use std::alloc::Global;
 /// Carries out the command that a line spells, or refuses it.
 pub fn carry_out(alloc: Global, tree: &mut Machine, line: Text) -> Result<Reply, Memory>
     requires valid { IsValid tree.old }
-    ensures reply { IfOk result (λ reply. reply ≡ reply_of (item_of line) tree.old) }
+    ensures reply { IfOk result (λ reply. reply ≡ reply_to (item_of line) tree.old) }
     ensures tree { OnOk result (tree.new ≡ tree_after (item_of line) tree.old) }
 {
     match parse_line(alloc, line.as_slice(), None) {
         Ok(line) => obey(alloc, tree, &line),
-        Err(Deny::Refused(refusal)) => Ok(Reply::Refused(refusal)),
-        Err(Deny::Memory) => Err(Memory),
+        Err(deny) => refused(deny),
     }
 }
 
@@ -34,8 +34,17 @@ fn obey(alloc: Global, tree: &mut Machine, line: &Line) -> Result<Reply, Memory>
 {
     match tree.check(line) {
         Ok(draft) => follow(alloc, tree, draft),
-        Err(Deny::Refused(refusal)) => Ok(Reply::Refused(refusal)),
-        Err(Deny::Memory) => Err(Memory),
+        Err(deny) => refused(deny),
+    }
+}
+
+/// The reply to a command that is denied.
+fn refused(deny: Deny) -> Result<Reply, Memory>
+    ensures { IfOk result (IsDenial deny) }
+{
+    match deny {
+        Deny::Refused(refusal) => Ok(Reply::Refused(refusal)),
+        Deny::Memory => Err(Memory),
     }
 }
 

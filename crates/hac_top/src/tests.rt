@@ -70,6 +70,7 @@ fn scripts_are_answered(rt: HostRuntime) -> Result<(), Fail> {
             b"ok\nno bad-line\nno bad-name\nok\n",
             Status::SomeRefused,
         ),
+        // Scripts without a command have no reply.
         (b"", b"", Status::Done),
         (b"# note", b"", Status::Done),
         (b"\n", b"", Status::Done),
@@ -93,35 +94,41 @@ fn scripts_are_answered(rt: HostRuntime) -> Result<(), Fail> {
 #[test]
 fn files_are_listed_by_their_words(rt: HostRuntime) -> Result<(), Fail> {
     let alloc = rt.alloc();
-    let rows: [(&[u8], &[u8]); 5] = [
+    let rows: [(&[u8], &[u8], Status); 5] = [
         // What has the word is listed by its text as last indexed, and no directory is written over.
         (
             b"write /a Big apple\nsmkdir /s apple\nsls /s\nindex\nsls /s\nwrite /a pear\nsls /s\nwrite /s x\nsmkdir /s y",
             b"ok\nok\nok\nok\nt /a\nok\nok\nt /a\nok\nno not-file /s\nno exists /s\n",
+            Status::SomeRefused,
         ),
         // A file that was never indexed has no words.
         (
             b"smkdir /s x\nwrite /a x\nindex\nwrite /b x\nsls /s\nindex\nsls /s",
             b"ok\nok\nok\nok\nt /a\nok\nok\nt /a\nt /b\nok\n",
+            Status::Done,
         ),
         // Words are runs of letters, digits and bytes from 128 on, wherever they stand and in either case.
         (
             b"smkdir /s \xc3\x84b9\nwrite /a \xc3\x84B9 x\nwrite /b x \xc3\x84b9\nwrite /c \xc3\x84b9x\nwrite /d\nwrite /e .\xc3\x84b9.\nindex\nsls /s",
             b"ok\nok\nok\nok\nok\nok\nok\nt /a\nt /b\nt /e\nok\n",
+            Status::Done,
         ),
         // Links come in the order in which the files were made, at each listing.
         (
             b"write /b x\nwrite /a x\nindex\nsmkdir /x X\nsls /x\nwrite /b y\nindex\nsls /x",
             b"ok\nok\nok\nok\nt /b\nt /a\nok\nok\nok\nt /a\nok\n",
+            Status::Done,
         ),
         // What a line is refused for by its form comes before what stands in the tree.
         (
             b"sls /m\nwrite /a x\nsls /a\nsmkdir /a y\nsmkdir /a AND\nsmkdir a AND\nsmkdir",
             b"no no-path /m\nok\nno not-dir /a\nno exists /a\nno bad-query 1\nno bad-name\nno bad-line\n",
+            Status::SomeRefused,
         ),
     ];
-    for (script, text) in rows {
-        let (_, written) = play(alloc, &trial_of(script))?;
+    for (script, text, status) in rows {
+        let (ended, written) = play(alloc, &trial_of(script))?;
+        assert_eq!(rt; ended, status, "at {script:?}");
         assert_eq!(rt; written.as_slice(), text, "at {script:?}");
     }
     Ok(())
@@ -211,15 +218,17 @@ fn pieces_and_faults_leave_a_prefix(rt: HostRuntime) -> Result<(), Fail> {
 #[test]
 fn words_are_refused(rt: HostRuntime) -> Result<(), Fail> {
     let alloc = rt.alloc();
-    let rows: [(u64, Status, &[u8]); 3] = [
-        (ROOM, Status::Usage, b"usage: hac\n"),
-        (4, Status::WriteFault, b"usag"),
-        (0, Status::WriteFault, b""),
+    let rows: [(u64, &[u64], Status, &[u8]); 4] = [
+        (ROOM, &[], Status::Usage, b"usage: hac\n"),
+        (4, &[], Status::WriteFault, b"usag"),
+        (0, &[], Status::WriteFault, b""),
+        // The line is flushed.
+        (ROOM, &[2], Status::WriteFault, b"usage: hac\n"),
     ];
-    for (room, status, text) in rows {
+    for (room, failing, status, text) in rows {
         let words = [String::from_str(alloc, "--help")?];
         let mut input = MemorySource::new(alloc, b"fly\n", &[], &[])?;
-        let mut output = MemorySink::new(alloc, room, ROOM, &[])?;
+        let mut output = MemorySink::new(alloc, room, ROOM, failing)?;
         assert_eq!(rt; run(alloc, &words, &mut input, &mut output), status);
         assert_eq!(rt; output.written(), text);
     }

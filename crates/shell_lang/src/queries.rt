@@ -10,7 +10,7 @@ use crate::words::{is_blank, split_word};
 use hac_model::{Deny, Name, Query, Refusal, Term};
 use std::alloc::Global;
 
-/// The query that the bytes spell. It is one word yet, in letters of either case, round which spaces
+/// The query that the bytes spell. So far it is one word, in letters of either case, round which spaces
 /// may stand.
 pub fn parse_query(alloc: Global, bytes: &[u8]) -> Result<Query, Deny>
     ensures { Answers result (query_of bytes.now) }

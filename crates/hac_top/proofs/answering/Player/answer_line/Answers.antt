@@ -8,4 +8,4 @@ use Rattle.hac_top.proofs.answering.Player.answer_line.Goals as goal
 pub returns-clause-err : goal.returns-clause-err
 returns-clause-err g c =
     let written = g.K.Sink.written in
-    subst (λ (r : Reply). OnErr c.tell.result (AppendsSome (written c.args.output.now) (written c.tell.new.output) (reply_text r))) c.in-Ok.ensures.reply c.tell.ensures.err
+    subst (λ (r : Reply). OnErr c.tell.result (AppendsSome (written c.args.output.now) (written c.tell.new.output) (reply_text r))) c.in_ok-reply.ensures.reply c.tell.ensures.err
