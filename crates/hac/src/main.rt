@@ -14,7 +14,12 @@ fn main(rt: HostRuntime) -> ExitCode {
     let status = match program_words(&rt) {
         Ok(words) => run(rt.alloc(), words.as_slice(), &mut input, &mut output),
         // Words that are no text are none that the program takes: the run is told of one such.
-        Err(_) => run(rt.alloc(), &[String::new(rt.alloc())], &mut input, &mut output),
+        Err(_) => run(
+            rt.alloc(),
+            &[String::new(rt.alloc())],
+            &mut input,
+            &mut output,
+        ),
     };
     tell_fault(&rt, status);
     ExitCode::from(status.number())
