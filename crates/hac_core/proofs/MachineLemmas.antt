@@ -1,6 +1,6 @@
 -- A machine's invariant after an event happened, or after memory ran out.
 use Rattle.std.proofs.Common.{◌≡◌, ℕ, ◌+◌, Bool, true, false, cond, List, [], ◌∷◌, ◌++◌, length, get_or, set, ◌-◌, ◌<◌, ◌≤◌, length-append, refl, ap, sym, ◌∙◌, subst, arith, rules, Option, Some, None}
-use Rattle.std.specs.Prelude.{not, if◌then◌else◌, Result, Ok, Err, OnOk, OnErr, IsTrue, is_none, ◌==◌, ◌&&◌}
+use Rattle.std.specs.Prelude.{not, if◌then◌else◌, Result, Ok, Err, OnOk, OnErr, IsTrue, is_none}
 use Rattle.std.specs.Ordering.{nat_cmp}
 use Rattle.std.specs.Cmp.Lexicographic.{slice_cmp}
 use Rattle.std.specs.BTreeMap.{is_at}
@@ -11,7 +11,7 @@ use Rattle.hac_model.specs.Events.{accepted, apply, edited, edited_at, indexed, 
 use Rattle.hac_model.specs.Tree.{child, entry_at, is_dirty, is_file}
 use Rattle.hac_model.specs.Valid.{IsValid}
 use Rattle.hac_model.specs.declared.events.Event.{Event}
-use Rattle.hac_model.specs.declared.events.Event.TheVariants.{NewFile, Rewrite, Smkdir, Step}
+use Rattle.hac_model.specs.declared.events.Event.TheVariants.{NewFile, Smkdir}
 use Rattle.hac_model.specs.declared.queries.Query.{Query}
 use Rattle.hac_model.specs.declared.states.Body.{Body}
 use Rattle.hac_model.specs.declared.states.Body.TheVariants.{File, Semantic}
@@ -49,19 +49,21 @@ module _ (es es_next : List Entry) (names names_next : List ℕ → Option ℕ) 
   -- nothing has changed
   pub kept-same : es_next ≡ es → ((name : List ℕ) → names_next name ≡ names name) → (dirty_next : ℕ → Bool) → ((n : ℕ) → dirty_next n ≡ dirty n) →
       IsValid (state_with es_next) × AreTables es_next names_next dirty_next count
-  kept-same entries named dirty_next filed =
-      (subst (λ (xs : List Entry). IsValid (state_with xs)) (sym entries) valid,
-      subst (λ (xs : List Entry). AreTables xs names_next dirty_next count) (sym entries) (tables-same es names names_next dirty dirty_next count was named filed))
+  kept-same entries named dirty_next filed = (
+    subst (λ (xs : List Entry). IsValid (state_with xs)) (sym entries) valid,
+    subst (λ (xs : List Entry). AreTables xs names_next dirty_next count) (sym entries) (tables-same es names names_next dirty dirty_next count was named filed),
+  )
 
   -- a directory has come
-  pub kept-directory : (name : List ℕ) (query : Query) → IsTrue (accepted (state_with es) (Smkdir 0 name query)) → es_next ≡ es ++ next_entry es name (Semantic query) ∷ [] →
+  kept-directory : (name : List ℕ) (query : Query) → IsTrue (accepted (state_with es) (Smkdir 0 name query)) → es_next ≡ es ++ next_entry es name (Semantic query) ∷ [] →
       ((other : List ℕ) → names_next other ≡ cond (is_at (slice_cmp nat_cmp name) other) (Some (length es + 1)) (names other)) →
       IsValid (state_with es_next) × AreTables es_next names_next dirty count
   kept-directory name query accepts entries named =
-      let free = and_parts (is_free (state_with es) 0 name) (is_query query) accepts in
-      (valid-added es es_next name (Semantic query) (Smkdir 0 name query) (apply-valid (state_with es) (Smkdir 0 name query) valid accepts) refl entries,
-      subst (λ (xs : List Entry). AreTables xs names_next dirty count) (sym entries)
-      (tables-directory es (next_entry es name (Semantic query)) names names_next dirty count was refl refl (free-none es name free.0) refl named))
+      let free = and_parts (is_free (state_with es) 0 name) (is_query query) accepts in (
+        valid-added es es_next name (Semantic query) (Smkdir 0 name query) (apply-valid (state_with es) (Smkdir 0 name query) valid accepts) refl entries,
+        subst (λ (xs : List Entry). AreTables xs names_next dirty count) (sym entries)
+            (tables-directory es (next_entry es name (Semantic query)) names names_next dirty count was refl refl (free-none es name free.0) refl named),
+      )
 
   pub kept-directory-or-not : {E : Type 0} (result : Result (Unit {0}) E) (name : List ℕ) (query : Query) → IsTrue (accepted (state_with es) (Smkdir 0 name query)) →
       OnOk result (es_next ≡ es ++ next_entry es name (Semantic query) ∷ []) →
@@ -75,10 +77,11 @@ module _ (es es_next : List Entry) (names names_next : List ℕ → Option ℕ) 
   pub kept-file : (name text : List ℕ) (dirty_next : ℕ → Bool) → IsTrue (is_free (state_with es) 0 name) → es_next ≡ es ++ next_entry es name (File text true None) ∷ [] →
       ((other : List ℕ) → names_next other ≡ cond (is_at (slice_cmp nat_cmp name) other) (Some (length es + 1)) (names other)) →
       ((n : ℕ) → dirty_next n ≡ cond (is_at (nat_cmp (length es + 1)) n) true (dirty n)) → IsValid (state_with es_next) × AreTables es_next names_next dirty_next (count + 1)
-  kept-file name text dirty_next free entries named filed =
-      (valid-added es es_next name (File text true None) (NewFile 0 name text) (apply-valid (state_with es) (NewFile 0 name text) valid free) refl entries,
-      subst (λ (xs : List Entry). AreTables xs names_next dirty_next (count + 1)) (sym entries)
-      (tables-file es (next_entry es name (File text true None)) names names_next dirty dirty_next count was refl refl (free-none es name free) refl named filed))
+  kept-file name text dirty_next free entries named filed = (
+    valid-added es es_next name (File text true None) (NewFile 0 name text) (apply-valid (state_with es) (NewFile 0 name text) valid free) refl entries,
+    subst (λ (xs : List Entry). AreTables xs names_next dirty_next (count + 1)) (sym entries)
+        (tables-file es (next_entry es name (File text true None)) names names_next dirty dirty_next count was refl refl (free-none es name free) refl named filed),
+  )
 
 -- an indexed entry at its place, where memory was there
 pub indexed-set : {E : Type 0} (result : Result (Unit {0}) E) (es : List Entry) (n : ℕ) (e : Entry) (body : Body) → NumberedFrom 1 es → 0 < n → n ≤ length es → e ≡ get_or es (n - 1) e →
@@ -96,10 +99,11 @@ pub kept-edit : (es es_next : List Entry) (n : ℕ) (f : Body → Body) (e : Ent
     AreTables es names dirty count → IsValid (edited_at (state_with es) n f) → es_next ≡ edited n f es → entry_at es n ≡ Some e →
     ((k : ℕ) → dirty_next k ≡ cond (is_at (nat_cmp n) k) (is_dirty (f e.body)) (dirty k)) → count_next ≡ dirty_in (edited n f es) →
     IsValid (state_with es_next) × AreTables es_next names dirty_next count_next
-kept-edit es es_next n f e names dirty dirty_next count count_next was valid entries found filed counted =
-    (subst (λ (s : State). IsValid s) (sym (state-edited es es_next n f entries)) valid,
-    subst (λ (xs : List Entry). AreTables xs names dirty_next count_next) (sym entries)
-    (tables-edit es n f e names dirty dirty_next count count_next was found (λ k. filed k ∙ sym (set_with n k (is_dirty (f e.body)) (dirty k))) counted))
+kept-edit es es_next n f e names dirty dirty_next count count_next was valid entries found filed counted = (
+  subst (λ (s : State). IsValid s) (sym (state-edited es es_next n f entries)) valid,
+  subst (λ (xs : List Entry). AreTables xs names dirty_next count_next) (sym entries)
+      (tables-edit es n f e names dirty dirty_next count count_next was found (λ k. filed k ∙ sym (set_with n k (is_dirty (f e.body)) (dirty k))) counted),
+)
 
 -- a file that was rewritten is dirty
 rewritten-dirty : (text : List ℕ) (body : Body) → is_file body ≡ true → is_dirty (rewritten text body) ≡ true
@@ -121,7 +125,7 @@ pub rewritten-counted : (es : List Entry) (n : ℕ) (text : List ℕ) (e : Entry
 rewritten-counted es n text e names dirty count more new was found file is bit =
     let was_dirty : dirty n ≡ is_dirty e.body = was.files n ∙ ap ask_dirty found in
     let sums : dirty_in (edited n (rewritten text) es) + one_if (is_dirty e.body) ≡ count + one_if true =
-        dirty_in-edited_at es n (rewritten text) e was.numbered found ∙ ap (λ (k : ℕ). k + one_if (is_dirty (rewritten text e.body))) (sym was.count) ∙ ap (λ (b : Bool). count + one_if b) (rewritten-dirty text e.body file) in
+    dirty_in-edited_at es n (rewritten text) e was.numbered found ∙ ap (λ (k : ℕ). k + one_if (is_dirty (rewritten text e.body))) (sym was.count) ∙ ap (λ (b : Bool). count + one_if b) (rewritten-dirty text e.body file) in
     more_if (is_dirty e.body) count more (dirty_in (edited n (rewritten text) es)) new (is ∙ ap (λ (b : Bool). not b) was_dirty) bit sums
 
 -- a dirty file that was indexed is clean
@@ -137,6 +141,6 @@ pub indexed-counted : (es : List Entry) (n : ℕ) (e : Entry) (names : List ℕ 
     entry_at es n ≡ Some e → is_dirty e.body ≡ true → (0 < count) × (count - 1 ≡ dirty_in (edited n indexed es))
 indexed-counted es n e names dirty count was found on =
     let sums : dirty_in (edited n indexed es) + one_if true ≡ count + one_if false =
-        ap (λ (b : Bool). dirty_in (edited n indexed es) + one_if b) (sym on) ∙ dirty_in-edited_at es n indexed e was.numbered found
-        ∙ ap (λ (k : ℕ). k + one_if (is_dirty (indexed e.body))) (sym was.count) ∙ ap (λ (b : Bool). count + one_if b) (indexed-clean e.body) in
+    ap (λ (b : Bool). dirty_in (edited n indexed es) + one_if b) (sym on) ∙ dirty_in-edited_at es n indexed e was.numbered found
+    ∙ ap (λ (k : ℕ). k + one_if (is_dirty (indexed e.body))) (sym was.count) ∙ ap (λ (b : Bool). count + one_if b) (indexed-clean e.body) in
     (omega (arith, sums), omega (arith, sums))

@@ -1,12 +1,11 @@
 -- Entries whose places are told by their numbers.
-use Rattle.std.proofs.Common.{◌≡◌, ℕ, zero, suc, ◌+◌, ◌-◌, ◌<◌, ◌≤◌, Bool, true, false, cond, List, [], ◌∷◌, ◌++◌, length, get_or, subst, refl, ap, sym, ◌∙◌, arith, rules, Option, Some, None}
+use Rattle.std.proofs.Common.{◌≡◌, ℕ, zero, suc, ◌+◌, ◌-◌, ◌<◌, ◌≤◌, Bool, true, false, List, [], ◌∷◌, length, get_or, subst, refl, ap, sym, ◌∙◌, arith, rules, Option, Some, None}
 use Rattle.std.specs.Prelude.{slice_get, ◌==◌, ◌&&◌, if◌then◌else◌, IfSome, option_and_then}
 use Rattle.std.proofs.lemmas.Option.{slice_get_read}
 use Rattle.hac_model.specs.declared.states.State.{State}
 use Rattle.std.specs.Str.{bytes_eq}
 use Rattle.std.specs.Option.{option_map}
 use Rattle.std.proofs.lemmas.Bool.Decides.{nat_tests}
-use Rattle.std.proofs.lemmas.Grind.{common_steps}
 use Rattle.hac_model.specs.Tree.{entry_at, body_at, child, number_in_root, standing}
 use Rattle.hac_model.specs.declared.states.Entry.{Entry}
 use Rattle.hac_core.specs.Tables.{NumberedFrom}
@@ -27,12 +26,12 @@ within-later None first count h = search rules
 within-later (Some n) first count h = (omega arith, omega arith)
 
 -- a number that a name has is that of an entry
-pub child-inside : (first : ℕ) (es : List Entry) (dir : ℕ) (name : List ℕ) → NumberedFrom first es → IfSome (child es dir name) (λ n. (first ≤ n) × (n < first + length es))
+child-inside : (first : ℕ) (es : List Entry) (dir : ℕ) (name : List ℕ) → NumberedFrom first es → IfSome (child es dir name) (λ n. (first ≤ n) × (n < first + length es))
 child-inside first [] dir name h = search rules
 child-inside first (e ∷ es) dir name h =
     elim (e.parent == dir && bytes_eq e.name name) as (λ b. IfSome (if b then Some e.number else child es dir name) (λ n. (first ≤ n) × (n < first + suc (length es)))) [
-      true ↦ (omega (arith, h.0), omega (arith, h.0))
-    | false ↦ within-later (child es dir name) first (length es) (child-inside (first + 1) es dir name h.1)
+      | true ↦ (omega (arith, h.0), omega (arith, h.0))
+      | false ↦ within-later (child es dir name) first (length es) (child-inside (first + 1) es dir name h.1)
     ]
 
 -- the same, told of a number that was looked up

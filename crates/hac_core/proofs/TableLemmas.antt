@@ -1,6 +1,6 @@
 -- The tables of a machine after an entry came or changed.
-use Rattle.std.proofs.Common.{◌≡◌, ℕ, zero, suc, ◌+◌, ◌-◌, ◌<◌, ◌≤◌, Bool, true, false, cond, List, [], ◌∷◌, ◌++◌, length, get_or, set, refl, ap, sym, ◌∙◌, subst, arith, rules, Option, Some, None, add_assoc}
-use Rattle.std.specs.Prelude.{slice_get, ◌==◌, ◌&&◌, nat_le, if◌then◌else◌, count_by, IfSome, sum_by, nat_eq}
+use Rattle.std.proofs.Common.{◌≡◌, ℕ, zero, suc, ◌+◌, ◌-◌, ◌<◌, ◌≤◌, Bool, true, false, cond, List, [], ◌∷◌, ◌++◌, length, get_or, set, refl, ap, sym, ◌∙◌, arith, Option, Some, None}
+use Rattle.std.specs.Prelude.{slice_get, ◌==◌, ◌&&◌, nat_le, if◌then◌else◌, sum_by}
 use Rattle.std.specs.Option.{option_map, option_map_or}
 use Rattle.std.specs.Ordering.{nat_cmp}
 use Rattle.std.specs.Str.{bytes_eq}
@@ -11,7 +11,6 @@ use Rattle.std.proofs.lemmas.Bool.{and_parts, eqb-true, eqb-false, eq-eqb, ne_eq
 use Rattle.std.proofs.lemmas.Bool.Decides.{nat_tests}
 use Rattle.std.proofs.lemmas.Slice.Eq.{bytes_eq-Decides}
 use Rattle.std.proofs.lemmas.List.Sums.{sum_by-append, sum_by-cons, sum_by-set}
-use Rattle.std.proofs.lemmas.Grind.{common_steps}
 use Rattle.std.proofs.lemmas.Option.{get_or_from_slice_get}
 use Rattle.hac_core.proofs.NumberedLemmas.{entry_at-place}
 use Rattle.hac_model.specs.Tree.{entry_at, body_at, child, is_dirty, is_file}
@@ -33,7 +32,7 @@ numbered-append first [] e h is = (omega (arith, is), tt)
 numbered-append first (x ∷ es) e h is = (h.0, numbered-append (first + 1) es e h.1 (omega (arith, is)))
 
 -- no entry has a number beyond
-pub entry_at-beyond : (first : ℕ) (es : List Entry) (n : ℕ) → NumberedFrom first es → first + length es ≤ n → entry_at es n ≡ None
+entry_at-beyond : (first : ℕ) (es : List Entry) (n : ℕ) → NumberedFrom first es → first + length es ≤ n → entry_at es n ≡ None
 entry_at-beyond first [] n h beyond = refl
 entry_at-beyond first (x ∷ es) n h beyond =
     let test : (x.number == n) ≡ false = grind (arith, nat_tests, h.0) in
@@ -76,7 +75,7 @@ child-append (x ∷ es) e dir name none =
     ∙ tests-swap (x.parent == dir && bytes_eq x.name name) (e.parent == dir && bytes_eq e.name name) (Some x.number) (Some e.number) (child es dir name) (both_named x e dir name parts.0)
 
 -- a test may be made before what is asked of either
-pub if-map : {A B : Type 0} (f : A → B) (b : Bool) (x y : A) → f (if b then x else y) ≡ (if b then f x else f y)
+if-map : {A B : Type 0} (f : A → B) (b : Bool) (x y : A) → f (if b then x else y) ≡ (if b then f x else f y)
 if-map f true x y = refl
 if-map f false x y = refl
 
@@ -91,13 +90,13 @@ is_dirty_at-append es e n none = ap ask_dirty (entry_at-append es e n none) ∙ 
 abbrev pub one_if : Bool → ℕ
 one_if dirty = if dirty then 1 else 0
 
-pub dirty_in-append : (es : List Entry) (e : Entry) → dirty_in (es ++ e ∷ []) ≡ dirty_in es + one_if (is_dirty e.body)
+dirty_in-append : (es : List Entry) (e : Entry) → dirty_in (es ++ e ∷ []) ≡ dirty_in es + one_if (is_dirty e.body)
 dirty_in-append es e =
     let one : sum_by (λ (x : Entry). cond {A = ℕ} (is_dirty x.body) 1 0) (e ∷ []) ≡ cond {A = ℕ} (is_dirty e.body) 1 0 + 0 = sum_by-cons (λ (x : Entry). cond {A = ℕ} (is_dirty x.body) 1 0) e [] in
     omega (arith, sum_by-append (λ (x : Entry). cond {A = ℕ} (is_dirty x.body) 1 0) es (e ∷ []), one)
 
 -- the tables after an entry came
-pub tables-add : (es : List Entry) (e : Entry) (names names_next : List ℕ → Option ℕ) (dirty dirty_next : ℕ → Bool) (count count_next : ℕ) →
+tables-add : (es : List Entry) (e : Entry) (names names_next : List ℕ → Option ℕ) (dirty dirty_next : ℕ → Bool) (count count_next : ℕ) →
     AreTables es names dirty count → e.number ≡ length es + 1 → e.parent ≡ 0 → child es 0 e.name ≡ None →
     ((name : List ℕ) → names_next name ≡ cond (is_at (slice_cmp nat_cmp e.name) name) (Some e.number) (names name)) →
     ((n : ℕ) → dirty_next n ≡ (if e.number == n then is_dirty e.body else dirty n)) → count_next ≡ count + one_if (is_dirty e.body) →
@@ -109,11 +108,11 @@ tables-add es e names names_next dirty dirty_next count count_next was number pa
     record {
       numbered = numbered-append 1 es e was.numbered (omega arith);
       names = λ name.
-        named name
-        ∙ ap (λ (rest : Option ℕ). cond (is_at (slice_cmp nat_cmp e.name) name) (Some e.number) rest) (was.names name)
-        ∙ ap (λ (b : Bool). cond b (Some e.number) (child es 0 name)) (sym (texts_ties e.name name))
-        ∙ ap (λ (b : Bool). if b && bytes_eq e.name name then Some e.number else child es 0 name) (sym test)
-        ∙ sym (child-append es e 0 name none);
+          named name
+          ∙ ap (λ (rest : Option ℕ). cond (is_at (slice_cmp nat_cmp e.name) name) (Some e.number) rest) (was.names name)
+          ∙ ap (λ (b : Bool). cond b (Some e.number) (child es 0 name)) (sym (texts_ties e.name name))
+          ∙ ap (λ (b : Bool). if b && bytes_eq e.name name then Some e.number else child es 0 name) (sym test)
+          ∙ sym (child-append es e 0 name none);
       files = λ n. filed n ∙ ap (λ (rest : Bool). if e.number == n then is_dirty e.body else rest) (was.files n) ∙ sym (is_dirty_at-append es e n beyond);
       count = counted ∙ ap (λ (n : ℕ). n + one_if (is_dirty e.body)) was.count ∙ sym (dirty_in-append es e);
     }
@@ -150,10 +149,10 @@ tables-directory es e names names_next dirty count was number parent free is nam
     let beyond : is_dirty_at es e.number ≡ false = ap (λ (o : Option Entry). option_map_or is_dirty (option_map (λ (e : Entry). e.body) o) false) (entry_at-beyond 1 es e.number was.numbered (omega (arith, number))) in
     tables-add es e names names_next dirty dirty count count was number parent free named
     (λ n.
-        elim (e.number == n) as (λ b. (e.number == n) ≡ b → dirty n ≡ (if b then is_dirty e.body else dirty n)) [
-          true ↦ (λ same. was.files n ∙ ap (is_dirty_at es) (sym (eqb-true e.number n same)) ∙ beyond ∙ sym is)
-        | false ↦ (λ other. refl)
-        ] refl)
+    elim (e.number == n) as (λ b. (e.number == n) ≡ b → dirty n ≡ (if b then is_dirty e.body else dirty n)) [
+      | true ↦ (λ same. was.files n ∙ ap (is_dirty_at es) (sym (eqb-true e.number n same)) ∙ beyond ∙ sym is)
+      | false ↦ (λ other. refl)
+    ] refl)
     (omega (arith, ap (λ (b : Bool). count + (if b then 1 else 0)) (sym is)))
 
 -- a number that was put into a set and taken out again
@@ -161,8 +160,8 @@ pub taken-back : (number n : ℕ) (dirty : ℕ → Bool) → dirty number ≡ fa
 taken-back number n dirty out =
     ap (λ (b : Bool). cond b false (cond b true (dirty n))) (sym (unsigned_ties number n))
     ∙ elim (number == n) as (λ b. (number == n) ≡ b → cond b false (cond b true (dirty n)) ≡ dirty n) [
-      true ↦ (λ same. sym out ∙ ap dirty (eqb-true number n same))
-    | false ↦ (λ other. refl)
+      | true ↦ (λ same. sym out ∙ ap dirty (eqb-true number n same))
+      | false ↦ (λ other. refl)
     ] refl
 
 -- the next number is that of no dirty file
@@ -171,7 +170,7 @@ next-clean es names dirty count was =
     was.files (length es + 1) ∙ ap (λ (o : Option Entry). option_map_or is_dirty (option_map (λ (e : Entry). e.body) o) false) (entry_at-beyond 1 es (length es + 1) was.numbered (omega arith))
 
 -- an edit leaves the numbers
-pub numbered-edited : (first n : ℕ) (f : Body → Body) (es : List Entry) → NumberedFrom first es → NumberedFrom first (edited n f es)
+numbered-edited : (first n : ℕ) (f : Body → Body) (es : List Entry) → NumberedFrom first es → NumberedFrom first (edited n f es)
 numbered-edited first n f [] h = tt
 numbered-edited first n f (e ∷ es) h = (h.0, numbered-edited (first + 1) n f es h.1)
 
@@ -188,7 +187,7 @@ edited-low first n f (e ∷ es) h low =
     λ i. record e { body = cond (test i) (f e.body) e.body } ∷ tail i
 
 -- an edit of a number is one at the number's place
-pub edited-place : (f : Body → Body) (first : ℕ) (es : List Entry) (i : ℕ) (d : Entry) → NumberedFrom first es → i < length es →
+edited-place : (f : Body → Body) (first : ℕ) (es : List Entry) (i : ℕ) (d : Entry) → NumberedFrom first es → i < length es →
     edited (first + i) f es ≡ set es i (record (get_or es i d) { body = f (get_or es i d).body })
 edited-place f first [] i d h inside = absurd (omega arith)
 edited-place f first (e ∷ es) zero d h inside =
@@ -211,12 +210,12 @@ entry_at-edited n f (e ∷ es) k =
     ap (λ (rest : Option Entry). if e.number == k then Some (edit n f e) else rest) (entry_at-edited n f es k) ∙ sym (if-map (λ (o : Option Entry). option_map (edit n f) o) (e.number == k) (Some e) (entry_at es k))
 
 -- what is found has the number that was looked for
-pub entry_at-number : (es : List Entry) (k : ℕ) (e : Entry) → entry_at es k ≡ Some e → e.number ≡ k
+entry_at-number : (es : List Entry) (k : ℕ) (e : Entry) → entry_at es k ≡ Some e → e.number ≡ k
 entry_at-number [] k e found = cc
 entry_at-number (x ∷ es) k e found =
     elim (x.number == k) as (λ b. (x.number == k) ≡ b → (if b then Some x else entry_at es k) ≡ Some e → e.number ≡ k) [
-      true ↦ (λ test found. let same : x ≡ e = cc in sym (ap (λ (y : Entry). y.number) same) ∙ eqb-true x.number k test)
-    | false ↦ (λ test found. entry_at-number es k e found)
+      | true ↦ (λ test found. let same : x ≡ e = cc in sym (ap (λ (y : Entry). y.number) same) ∙ eqb-true x.number k test)
+      | false ↦ (λ test found. entry_at-number es k e found)
     ] refl found
 
 dirty_edit : (n k : ℕ) (f : Body → Body) (found : Option Entry) → (n ≡ k → ⊥) → ((e : Entry) → found ≡ Some e → e.number ≡ k) → ask_dirty (option_map (edit n f) found) ≡ ask_dirty found
@@ -230,19 +229,18 @@ dirty_edit n k f (Some e) apart numbered =
 is_dirty_at-edited : (es : List Entry) (n : ℕ) (f : Body → Body) (e : Entry) (k : ℕ) → entry_at es n ≡ Some e → is_dirty_at (edited n f es) k ≡ (if n == k then is_dirty (f e.body) else is_dirty_at es k)
 is_dirty_at-edited es n f e k found =
     elim (n == k) as (λ b. (n == k) ≡ b → is_dirty_at (edited n f es) k ≡ (if b then is_dirty (f e.body) else is_dirty_at es k)) [
-      true ↦ (λ same.
-        let number : e.number ≡ n = entry_at-number es n e found in
-        let at_k : entry_at es k ≡ Some e = ap (λ (m : ℕ). entry_at es m) (sym (eqb-true n k same)) ∙ found in
-        let test : (e.number == n) ≡ true = eq-eqb e.number n number in
-        ap ask_dirty (entry_at-edited n f es k) ∙ ap (λ (o : Option Entry). ask_dirty (option_map (edit n f) o)) at_k ∙ ap (λ (b : Bool). is_dirty (if b then f e.body else e.body)) test)
-    | false ↦ (λ other. ap ask_dirty (entry_at-edited n f es k) ∙ dirty_edit n k f (entry_at es k) (eqb-false n k other) (λ x at. entry_at-number es k x at))
+      | true ↦ (λ same.
+          let number : e.number ≡ n = entry_at-number es n e found in
+          let at_k : entry_at es k ≡ Some e = ap (λ (m : ℕ). entry_at es m) (sym (eqb-true n k same)) ∙ found in
+          let test : (e.number == n) ≡ true = eq-eqb e.number n number in
+          ap ask_dirty (entry_at-edited n f es k) ∙ ap (λ (o : Option Entry). ask_dirty (option_map (edit n f) o)) at_k ∙ ap (λ (b : Bool). is_dirty (if b then f e.body else e.body)) test)
+      | false ↦ (λ other. ap ask_dirty (entry_at-edited n f es k) ∙ dirty_edit n k f (entry_at es k) (eqb-false n k other) (λ x at. entry_at-number es k x at))
     ] refl
 
 -- how many are dirty after an edit
-pub dirty_in-edited : (es : List Entry) (i : ℕ) (f : Body → Body) (d : Entry) → NumberedFrom 1 es → i < length es →
+dirty_in-edited : (es : List Entry) (i : ℕ) (f : Body → Body) (d : Entry) → NumberedFrom 1 es → i < length es →
     dirty_in (edited (1 + i) f es) + one_if (is_dirty (get_or es i d).body) ≡ dirty_in es + one_if (is_dirty (f (get_or es i d).body))
 dirty_in-edited es i f d numbered inside =
-    let bits = λ (x : Entry). cond {A = ℕ} (is_dirty x.body) 1 0 in
     ap (λ (xs : List Entry). dirty_in xs + one_if (is_dirty (get_or es i d).body)) (edited-place f 1 es i d numbered inside)
     ∙ sum_by-set (λ (x : Entry). cond {A = ℕ} (is_dirty x.body) 1 0) es i (record (get_or es i d) { body = f (get_or es i d).body }) d inside
 
@@ -272,8 +270,8 @@ pub entry_at-inside : (first : ℕ) (es : List Entry) (n : ℕ) (e : Entry) → 
 entry_at-inside first [] n e h found = cc
 entry_at-inside first (x ∷ es) n e h found =
     elim (x.number == n) as (λ b. (x.number == n) ≡ b → (if b then Some x else entry_at es n) ≡ Some e → (first ≤ n) × (n < first + suc (length es))) [
-      true ↦ (λ test found. let same : x.number ≡ n = eqb-true x.number n test in (omega (arith, h.0), omega (arith, h.0)))
-    | false ↦ (λ test found. let rest = entry_at-inside (first + 1) es n e h.1 found in (omega (arith, rest.0), omega (arith, rest.1)))
+      | true ↦ (λ test found. let same : x.number ≡ n = eqb-true x.number n test in (omega (arith, h.0), omega (arith, h.0)))
+      | false ↦ (λ test found. let rest = entry_at-inside (first + 1) es n e h.1 found in (omega (arith, rest.0), omega (arith, rest.1)))
     ] refl found
 
 -- where a test of an entry's body passes, the entry is there
@@ -307,8 +305,8 @@ not_above n first never = elim (nat_le n first) as (λ b. nat_le n first ≡ b �
 clean_behind : (first : ℕ) (x : Entry) (es : List Entry) (k : ℕ) → NumberedFrom first (x ∷ es) → is_dirty_at (x ∷ es) k ≡ false → is_dirty_at es k ≡ false
 clean_behind first x es k h clean =
     elim (k == first) as (λ b. (k == first) ≡ b → is_dirty_at es k ≡ false) [
-      true ↦ (λ same. ap ask_dirty (entry_at-below (first + 1) es k h.1 (let is : k ≡ first = eqb-true k first same in omega arith)))
-    | false ↦ (λ other. sym (is_dirty_at-behind first x es k h.0 (eqb-false k first other)) ∙ clean)
+      | true ↦ (λ same. ap ask_dirty (entry_at-below (first + 1) es k h.1 (let is : k ≡ first = eqb-true k first same in omega arith)))
+      | false ↦ (λ other. sym (is_dirty_at-behind first x es k h.0 (eqb-false k first other)) ∙ clean)
     ] refl
 
 -- the dirty file of the least number is the next to be indexed
@@ -316,16 +314,16 @@ pub least-next : (first : ℕ) (es : List Entry) (n : ℕ) → NumberedFrom firs
 least-next first [] n h dirty least = cc
 least-next first (x ∷ es) n h dirty least =
     elim (is_dirty x.body) as (λ b. is_dirty x.body ≡ b → (if b then Some x.number else next_dirty es) ≡ Some n) [
-      true ↦ (λ on.
-        let found = dirty_at (x ∷ es) n dirty in
-        let inside = entry_at-inside first (x ∷ es) n found.0 h found.1 in
-        let low : n ≤ first = not_above n first (λ above. cc (least first above, is_dirty_at-first first x es h.0, on)) in
-        let same : x.number ≡ n = omega (arith, h.0, inside.0, low) in
-        ap Some same)
-    | false ↦ (λ off.
-        let apart : n ≡ first → ⊥ = λ same. cc (ap (λ (k : ℕ). is_dirty_at (x ∷ es) k) same, is_dirty_at-first first x es h.0, off, dirty) in
-        least-next (first + 1) es n h.1 (sym (is_dirty_at-behind first x es n h.0 apart) ∙ dirty)
-        (λ k below. clean_behind first x es k h (least k below)))
+      | true ↦ (λ on.
+          let found = dirty_at (x ∷ es) n dirty in
+          let inside = entry_at-inside first (x ∷ es) n found.0 h found.1 in
+          let low : n ≤ first = not_above n first (λ above. cc (least first above, is_dirty_at-first first x es h.0, on)) in
+          let same : x.number ≡ n = omega (arith, h.0, inside.0, low) in
+          ap Some same)
+      | false ↦ (λ off.
+          let apart : n ≡ first → ⊥ = λ same. cc (ap (λ (k : ℕ). is_dirty_at (x ∷ es) k) same, is_dirty_at-first first x es h.0, off, dirty) in
+          least-next (first + 1) es n h.1 (sym (is_dirty_at-behind first x es n h.0 apart) ∙ dirty)
+          (λ k below. clean_behind first x es k h (least k below)))
     ] refl
 
 -- where no file is dirty, none is the next to be indexed
@@ -342,6 +340,13 @@ place_of es n e numbered found =
     let place : n ≡ 1 + (n - 1) = omega (arith, inside.0) in
     let read : slice_get es (n - 1) ≡ Some e = sym (entry_at-place 1 es (n - 1) numbered) ∙ ap (λ (k : ℕ). entry_at es k) (sym place) ∙ found in
     (omega (arith, inside.0), omega (arith, inside.1), get_or_from_slice_get es (n - 1) e e read)
+
+-- a dirty file has a place
+pub dirty-inside : (es : List Entry) (n : ℕ) → NumberedFrom 1 es → is_dirty_at es n ≡ true → (0 < n) × (n ≤ length es)
+dirty-inside es n numbered dirty =
+    let found = dirty_at es n dirty in
+    let place = place_of es n found.0 numbered found.1 in
+    (place.0, place.1)
 
 -- how many are dirty after an edit of a number
 pub dirty_in-edited_at : (es : List Entry) (n : ℕ) (f : Body → Body) (e : Entry) → NumberedFrom 1 es → entry_at es n ≡ Some e →

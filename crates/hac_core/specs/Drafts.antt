@@ -1,5 +1,5 @@
 -- Commands that a state doesn't refuse, and what they come to.
-use Rattle.std.specs.Prelude.{◌≡◌, ⊤, ℕ, Bool, true, false, Option, Some, None, IsTrue}
+use Rattle.std.specs.Prelude.{◌≡◌, ⊤, Bool, true, false, Option, Some, None, IsTrue}
 use Rattle.hac_model.specs.Events.{accepted, dirty, event_of}
 use Rattle.hac_model.specs.Lines.{is_spelled}
 use Rattle.hac_model.specs.Refusals.{refusal}

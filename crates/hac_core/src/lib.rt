@@ -9,3 +9,6 @@ mod machine;
 
 pub use drafts::{Draft, Settled};
 pub use machine::Machine;
+
+#[cfg(test)]
+mod tests;

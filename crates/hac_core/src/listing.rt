@@ -1,6 +1,5 @@
 //! Listings: which entries a query finds, and how they are told.
-ghost use Rattle.std.specs.Prelude.{◌≡◌, ◌∷◌, IfOk};
-ghost use Rattle.hac_model.specs.Paths.{path_text};
+ghost use Rattle.std.specs.Prelude.{◌≡◌, IfOk};
 ghost use Rattle.hac_core.specs.Listing.{shows, line_of, lines_of};
 
 use hac_model::{Body, Entry, Memory, Name, Query};
@@ -26,7 +25,10 @@ fn shows(query: &Query, body: &Body) -> bool
 {
     let Query::Term(term) = query;
     match body {
-        Body::File { shown: Some(shown), .. } => has_term(shown.as_slice(), term),
+        Body::File {
+            shown: Some(shown),
+            ..
+        } => has_term(shown.as_slice(), term),
         _ => false,
     }
 }

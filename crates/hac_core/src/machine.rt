@@ -5,18 +5,21 @@ ghost use Rattle.std.specs.Cmp.Lexicographic.{slice_cmp};
 ghost use Rattle.std.specs.BTreeMap.{get, is_at};
 ghost use Rattle.std.specs.BTreeSet.{contains};
 ghost use Rattle.std.specs.Option.{option_copied};
-ghost use Rattle.hac_model.specs.Tree.{empty, number_in_root, standing};
 ghost use Rattle.hac_model.specs.Events.{accepted, apply, dirty, edited, indexed, is_free, rewritten, writing};
-ghost use Rattle.hac_core.specs.Tables.{NumberedFrom};
 ghost use Rattle.hac_model.specs.Lines.{is_spelled};
+ghost use Rattle.hac_model.specs.Play.{data_lines, reply_of};
 ghost use Rattle.hac_model.specs.Refusals.{refusal, dir_cause, file_cause, slot_cause};
+ghost use Rattle.hac_model.specs.Tree.{empty, number_in_root, standing};
 ghost use Rattle.hac_core.specs.Drafts.{IsAdmitted, Refuses, Settles, reads};
-ghost use Rattle.hac_model.specs.Play.{reply_of, data_lines};
+ghost use Rattle.hac_core.specs.Tables.{NumberedFrom};
 
 use crate::bodies;
 use crate::drafts::{Draft, Settled};
 use crate::listing::link_lines;
-use hac_model::{Body, Command, Deny, Entry, Event, Line, Memory, Name, Number, Path, Query, Refusal, Reply, Seq, Text};
+use hac_model::{
+    Body, Command, Deny, Entry, Event, Line, Memory, Name, Number, Path, Query, Refusal, Reply,
+    Seq, Text,
+};
 use std::alloc::Global;
 use std::collections::{BTreeMap, BTreeSet};
 use std::marker::Model;
@@ -29,6 +32,7 @@ pub struct Machine {
     entries: Vec<Entry>,
     // The number of what stands under each name in the root.
     numbers: BTreeMap<Name, u64>,
+    // The numbers of the dirty files, and how many they are.
     dirty: BTreeSet<u64>,
     dirty_count: u64,
 }
@@ -250,7 +254,12 @@ impl Machine {
         ensures ok { OnOk result (self.new ≡ apply self.old (Event.Smkdir 0 name query)) }
         ensures err { OnErr result (self.new ≡ self.old) }
     {
-        add_entry(&mut self.entries, &mut self.numbers, name, Body::Semantic { query })
+        add_entry(
+            &mut self.entries,
+            &mut self.numbers,
+            name,
+            Body::Semantic { query },
+        )
     }
 
     fn rewrite(&mut self, file: Number, text: Text) -> Result<(), Memory>

@@ -1,5 +1,3 @@
-use Rattle.std.proofs.Common.{◌≡◌}
-use Rattle.hac_model.specs.Events.{indexed}
 use Rattle.hac_core.proofs.MachineLemmas.{indexed-set}
 use Rattle.hac_core.proofs.machine.index_entry.Goals as goal
 

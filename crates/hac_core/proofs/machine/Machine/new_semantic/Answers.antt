@@ -15,5 +15,5 @@ invariant_of-self c =
     let was = c.self.inside in
     let accepts = subst (λ (s : State). IsTrue (accepted s (Smkdir 0 c.args.name c.args.query))) (sym c.self.view_is) c.requires in
     let kept = kept-directory-or-not was.entries.items c.add_entry.new.entries.items (λ name. get (slice_cmp nat_cmp) was.numbers name) (λ name. get (slice_cmp nat_cmp) c.add_entry.new.numbers name) (λ n. contains nat_cmp was.dirty n) was.dirty_count
-        c.self.invariant.valid c.self.invariant.tables c.add_entry.result c.args.name c.args.query accepts c.add_entry.ensures.entries c.add_entry.ensures.numbers c.add_entry.ensures.err in
+    c.self.invariant.valid c.self.invariant.tables c.add_entry.result c.args.name c.args.query accepts c.add_entry.ensures.entries c.add_entry.ensures.numbers c.add_entry.ensures.err in
     record { valid = kept.0; tables = kept.1 }

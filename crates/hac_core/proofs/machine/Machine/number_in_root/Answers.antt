@@ -1,8 +1,7 @@
-use Rattle.std.proofs.Common.{◌≡◌, ◌<◌, ◌≤◌, ◌+◌, ◌∙◌, arith, ap, sym, subst, length, ℕ, List}
-use Rattle.std.specs.Prelude.{IfSome, Option}
+use Rattle.std.proofs.Common.{◌≡◌, ◌∙◌, ap, length}
 use Rattle.hac_model.specs.Tree.{child}
 use Rattle.hac_model.specs.declared.states.State.{State}
-use Rattle.hac_core.proofs.NumberedLemmas.{child-inside, number-inside}
+use Rattle.hac_core.proofs.NumberedLemmas.{number-inside}
 use Rattle.hac_core.proofs.machine.Machine.number_in_root.Goals as goal
 
 pub returns-clause-inside : goal.returns-clause-inside

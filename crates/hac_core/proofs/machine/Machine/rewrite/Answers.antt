@@ -1,11 +1,11 @@
 use mir.Val.{bool_byte}
-use Rattle.std.proofs.Common.{◌≡◌, ℕ, refl, false, ◌+◌, ◌<◌, ◌≤◌, Bool, true, cond, length, ap, subst, sym, ◌∙◌, arith, Option}
+use Rattle.std.proofs.Common.{◌≡◌, ℕ, refl, false, ◌+◌, true, cond, ap, subst, sym, ◌∙◌, arith}
 use Rattle.std.specs.Prelude.{IsTrue, not}
 use Rattle.std.specs.Ordering.{nat_cmp}
 use Rattle.std.specs.Cmp.Lexicographic.{slice_cmp}
 use Rattle.std.specs.BTreeMap.{get, is_at}
 use Rattle.std.specs.BTreeSet.{contains}
-use Rattle.hac_model.specs.Events.{accepted, apply, edited, edited_at, rewritten}
+use Rattle.hac_model.specs.Events.{accepted, edited, edited_at, rewritten}
 use Rattle.hac_model.specs.declared.events.Event.TheVariants.{Rewrite}
 use Rattle.hac_model.specs.declared.states.State.{State}
 use Rattle.hac_model.proofs.ValidLemmas.{apply-valid}
@@ -39,9 +39,9 @@ invariant_of-self-2 c =
     let filed = λ (k : ℕ). c.in_ok-is_new.ensures.updates.0 k ∙ ap (λ (n : ℕ). cond (is_at (nat_cmp n) k) true (contains nat_cmp was.dirty k)) number in
     let bit : c.from.result ≡ one_if c.in_ok-is_new.is_new = c.from.ensures ∙ elim c.in_ok-is_new.is_new as (λ b. bool_byte b ≡ one_if b) [ true ↦ refl | false ↦ refl ] in
     let kept = kept-edit was.entries.items c.rewrite_entry.new.entries.items c.args.file f found.0 (λ name. get (slice_cmp nat_cmp) was.numbers name) (λ n. contains nat_cmp was.dirty n) (λ n. contains nat_cmp c.insert.new.self n) was.dirty_count (was.dirty_count + c.from.result)
-        c.self.invariant.tables (apply-valid (state_with was.entries.items) (Rewrite c.args.file c.args.text) c.self.invariant.valid accepts) entries found.1
-        (λ k. rewritten-filed c.args.file k c.args.text found.0 (λ n. contains nat_cmp was.dirty n) (contains nat_cmp c.insert.new.self k) found.2 (filed k))
-        (rewritten-counted was.entries.items c.args.file c.args.text found.0 (λ name. get (slice_cmp nat_cmp) was.numbers name) (λ n. contains nat_cmp was.dirty n) was.dirty_count c.from.result c.in_ok-is_new.is_new c.self.invariant.tables found.1 found.2 new bit) in
+    c.self.invariant.tables (apply-valid (state_with was.entries.items) (Rewrite c.args.file c.args.text) c.self.invariant.valid accepts) entries found.1
+    (λ k. rewritten-filed c.args.file k c.args.text found.0 (λ n. contains nat_cmp was.dirty n) (contains nat_cmp c.insert.new.self k) found.2 (filed k))
+    (rewritten-counted was.entries.items c.args.file c.args.text found.0 (λ name. get (slice_cmp nat_cmp) was.numbers name) (λ n. contains nat_cmp was.dirty n) was.dirty_count c.from.result c.in_ok-is_new.is_new c.self.invariant.tables found.1 found.2 new bit) in
     record { valid = kept.0; tables = kept.1 }
 
 pub returns-clause-ok : goal.returns-clause-ok

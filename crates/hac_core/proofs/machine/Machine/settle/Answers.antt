@@ -16,5 +16,5 @@ pub returns-in-Smkdir-clause-settled : goal.returns-in-Smkdir-clause-settled
 returns-in-Smkdir-clause-settled c =
     let made = event.Smkdir 0 c.in-Smkdir.name c.in-Smkdir.query in
     let command : c.args.draft.command ≡ Smkdir c.in-Smkdir.name c.in-Smkdir.query = sym c.into_command.ensures ∙ c.in-Smkdir.is in
-    let comes : event_of c.args.self.now c.args.draft.command ≡ Some (event.Smkdir 0 c.in-Smkdir.name c.in-Smkdir.query) = ap (λ (x : Command). event_of c.args.self.now x) command in
-    (comes, commands-happen c.args.self.now c.args.draft.command (event.Smkdir 0 c.in-Smkdir.name c.in-Smkdir.query) c.requires.made.spelled c.requires.made.cause comes)
+    let comes : event_of c.args.self.now c.args.draft.command ≡ Some made = ap (λ (x : Command). event_of c.args.self.now x) command in
+    (comes, commands-happen c.args.self.now c.args.draft.command made c.requires.made.spelled c.requires.made.cause comes)

@@ -1,6 +1,4 @@
-use Rattle.std.proofs.Common.{◌≡◌, ◌<◌, ◌≤◌, ◌+◌, ◌-◌, ◌∙◌, arith, ap, sym, length, ℕ}
-use Rattle.std.specs.Prelude.{Some, Option, slice_get, option_and_then}
-use Rattle.hac_model.specs.Tree.{body_at, standing, number_in_root}
+use Rattle.std.proofs.Common.{◌≡◌, arith, ap, length}
 use Rattle.hac_model.specs.declared.states.State.{State}
 use Rattle.hac_core.proofs.NumberedLemmas.{standing-at}
 use Rattle.hac_core.proofs.machine.Machine.standing.Goals as goal
