@@ -1,5 +1,5 @@
 //! The machine: a state that is kept so that commands are quick, and seen as that state. It knows no
-//! line's bytes, no reply's text and no outside.
+//! line's bytes and no outside, and of the text of replies only the lines of a listing.
 #![tactic(auto)]
 
 mod bodies;

@@ -1,5 +1,5 @@
 //! The machine itself.
-ghost use Rattle.std.specs.Prelude.{◌≡◌, ℕ, ◌+◌, ◌++◌, ◌∷◌, [], length, ◌<◌, ◌≤◌, Some, None, IfOk, OnOk, OnErr, IfErr, IsTrue, IsOk, cond, IfSome, IfNone, List, true, false};
+ghost use Rattle.std.specs.Prelude.{◌≡◌, ℕ, ◌+◌, ◌++◌, ◌∷◌, [], length, ◌<◌, ◌≤◌, Some, None, IfOk, OnOk, OnErr, IfErr, IsTrue, IsOk, if◌then◌else◌, IfSome, IfNone, List, true, false};
 ghost use Rattle.std.specs.Ordering.{nat_cmp};
 ghost use Rattle.std.specs.Cmp.Lexicographic.{slice_cmp};
 ghost use Rattle.std.specs.BTreeMap.{get, is_at};
@@ -296,7 +296,7 @@ fn add_entry(
     body: Body,
 ) -> Result<(), Memory>
     ensures entries { OnOk result (entries.new.items ≡ entries.old.items ++ record { number = length entries.old.items + 1; parent = 0; name = name; body = body } ∷ []) }
-    ensures numbers { OnOk result ((other : List ℕ) → get (slice_cmp nat_cmp) numbers.new other ≡ cond (is_at (slice_cmp nat_cmp name) other) (Some (length entries.old.items + 1)) (get (slice_cmp nat_cmp) numbers.old other)) }
+    ensures numbers { OnOk result ((other : List ℕ) → get (slice_cmp nat_cmp) numbers.new other ≡ if is_at (slice_cmp nat_cmp name) other then Some (length entries.old.items + 1) else get (slice_cmp nat_cmp) numbers.old other) }
     ensures err { OnErr result ((entries.new.items ≡ entries.old.items) × ((other : List ℕ) → get (slice_cmp nat_cmp) numbers.new other ≡ get (slice_cmp nat_cmp) numbers.old other)) }
 {
     let key = name.clone()?;
