@@ -100,12 +100,8 @@ fn play_script<S: Source, K: Sink>(
     ensures read_cause { result ≡ Err Stop.ReadFault → Rose (S.faults input.old) (S.faults input.new) }
     ensures write_cause { result ≡ Err Stop.WriteFault → Rose (K.faults output.old) (K.faults output.new) }
 {
-    let Ok(mut reader) = Reader::new(alloc) else {
-        return Err(Stop::Memory);
-    };
-    let Ok(mut player) = Player::new(alloc) else {
-        return Err(Stop::Memory);
-    };
+    let mut reader = Reader::new(alloc)?;
+    let mut player = Player::new(alloc)?;
     'lines: loop {
         match reader.next_line(input)? {
             Piece::End => return Ok(player.refused),

@@ -36,7 +36,7 @@ returns-in-PastLimit-clause-prefix g c =
 
 pub returns-in_err-piece-clause-read_fault : goal.returns-in_err-piece-clause-read_fault
 returns-in_err-piece-clause-read_fault g c =
-    let stop = err_from_is_err_and c.from_residual.result c.from_residual.ensures.1 in
+    let stop = err_from_is_err_and c.from_residual-in_err-piece.result c.from_residual-in_err-piece.ensures.1 in
     λ fault.
     let read : c.in_err-piece.field-0.0 ≡ line.Read = let is : stop.0 ≡ ReadFault = cc (stop.1, fault) in read_stop c.in_err-piece.field-0.0 stop.0 stop.2 is in
     let unended = c.in_err-piece.ensures.unended (ap Err read) in
@@ -64,7 +64,7 @@ lines-preserved g c =
     let left = g.S.Source.left in
     let written = g.K.Sink.written in
     let was = c.lines.invariant in
-    let arm = c.in_default-2 in
+    let arm = c.in_default in
     let piece = c.in_ok-piece.piece in
     let script = left c.args.input.now in
     let was_pending = pending c.lines.reader (left c.lines.input) in
@@ -75,7 +75,7 @@ lines-preserved g c =
     let ended = c.next_line.new.self.ended in
     let tree = c.lines.player.tree in
     let gives = c.in_ok-piece.ensures.piece in
-    let answer = c.in_ok-answer-in_default-2.ensures in
+    let answer = c.in_ok-answer-in_default.ensures in
     record {
       told = subst (λ (t : State). TextGoesOn before next script now_pending t) (sym answer.tree) (goes_on before after next script was_pending now_pending piece ended tree arm.not-End arm.not-PastLimit was.told gives answer.written);
       status =
@@ -94,25 +94,25 @@ lines-preserved g c =
       wrote = omega (arith, was.wrote, c.answer.ensures.later);
     }
 
-pub returns-in_err-answer-in_default-2-clause-prefix : goal.returns-in_err-answer-in_default-2-clause-prefix
-returns-in_err-answer-in_default-2-clause-prefix g c =
+pub returns-in_err-answer-in_default-clause-prefix : goal.returns-in_err-answer-in_default-clause-prefix
+returns-in_err-answer-in_default-clause-prefix g c =
     let left = g.S.Source.left in
     let written = g.K.Sink.written in
-    let arm = c.in_default-2 in
+    let arm = c.in_default in
     let was_pending = pending c.lines.reader (left c.lines.input) in
     let now_pending = pending c.next_line.new.self (left c.next_line.new.source) in
     let ended = c.next_line.new.self.ended in
     let gives = c.in_ok-piece.ensures.piece in
     prefix-answer (written c.args.output.now) (written c.lines.output) (written c.answer.new.output) (left c.args.input.now) was_pending now_pending c.in_ok-piece.piece ended c.lines.player.tree
-    arm.not-End arm.not-PastLimit c.lines.invariant.told gives c.in_err-answer-in_default-2.ensures.err
+    arm.not-End arm.not-PastLimit c.lines.invariant.told gives c.in_err-answer-in_default.ensures.err
 
-pub returns-in_err-answer-in_default-2-clause-prompt : goal.returns-in_err-answer-in_default-2-clause-prompt
-returns-in_err-answer-in_default-2-clause-prompt g c = λ stopped.
+pub returns-in_err-answer-in_default-clause-prompt : goal.returns-in_err-answer-in_default-clause-prompt
+returns-in_err-answer-in_default-clause-prompt g c = λ stopped.
     let left = g.S.Source.left in
     let written = g.K.Sink.written in
     let was = c.lines.invariant in
-    let arm = c.in_default-2 in
+    let arm = c.in_default in
     let now = c.next_line.new.self in
     prompt-answer (written c.args.output.now) (written c.lines.output) (written c.answer.new.output) (left c.args.input.now) (pending c.lines.reader (left c.lines.input)) now (left c.next_line.new.source)
     c.in_ok-piece.piece c.lines.reader.ended c.lines.player.tree arm.not-End arm.not-PastLimit was.told was.last was.whole c.in_ok-piece.ensures.piece
-    (near-line c.in_ok-piece.piece c.lines.reader now arm.not-End arm.not-PastLimit c.in_ok-piece.ensures.advances) c.in_err-answer-in_default-2.ensures.err
+    (near-line c.in_ok-piece.piece c.lines.reader now arm.not-End arm.not-PastLimit c.in_ok-piece.ensures.advances) c.in_err-answer-in_default.ensures.err
