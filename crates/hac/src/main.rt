@@ -13,7 +13,8 @@ fn main(rt: HostRuntime) -> ExitCode {
     let mut output = StdSink::new(rt.stdout());
     let status = match program_words(&rt) {
         Ok(words) => run(rt.alloc(), words.as_slice(), &mut input, &mut output),
-        // Words that are no text are none that the program takes: the run is told of one such.
+        // Words that are no text, or for which memory ran out, are none that the program takes: the run is
+        // told of one such.
         Err(_) => run(
             rt.alloc(),
             &[String::new(rt.alloc())],
