@@ -1,4 +1,9 @@
-pub mod NumberedLemmas
-pub mod TableLemmas
+pub mod LookingLemmas
+pub mod AimingLemmas
+pub mod LimitingLemmas
+pub mod CountingLemmas
+pub mod EntryLemmas
 pub mod MachineLemmas
-pub mod ListingLemmas
+pub mod LinkedLemmas
+pub mod LinesLemmas
+pub mod ChildrenLemmas

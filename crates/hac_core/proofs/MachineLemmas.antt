@@ -1,146 +1,265 @@
--- A machine's invariant after an event happened, or after memory ran out.
-use Rattle.std.proofs.Common.{◌≡◌, ℕ, ◌+◌, Bool, true, false, cond, List, [], ◌∷◌, ◌++◌, length, get_or, set, ◌-◌, ◌<◌, ◌≤◌, length-append, refl, ap, sym, ◌∙◌, subst, arith, rules, Option, Some, None}
-use Rattle.std.specs.Prelude.{not, if◌then◌else◌, Result, Ok, Err, OnOk, OnErr, IsTrue, is_none}
-use Rattle.std.specs.Ordering.{nat_cmp}
-use Rattle.std.specs.Cmp.Lexicographic.{slice_cmp}
+-- What a machine keeps beside its tree, as events happen.
+use Rattle.std.proofs.Common.{◌≡◌, ℕ, ◌+◌, ◌<◌, ◌≤◌, ◌^◌, Bool, true, false, cond, List, [], ◌∷◌, ◌++◌, refl, ap, sym, ◌∙◌, subst, arith, inl, inr, eq-eqb}
+use Rattle.std.specs.Prelude.{◌==◌, ◌⊎◌, nat_le, Option, Some, None, is_some, filter, IsTrue}
 use Rattle.std.specs.BTreeMap.{is_at}
-use Rattle.std.proofs.lemmas.Bool.{and_parts}
-use Rattle.hac_model.specs.Names.{is_name}
-use Rattle.hac_model.specs.Queries.{is_query}
-use Rattle.hac_model.specs.Events.{accepted, apply, edited, edited_at, indexed, is_free, rewritten}
-use Rattle.hac_model.specs.Tree.{child, entry_at, is_dirty, is_file}
-use Rattle.hac_model.specs.Valid.{IsValid}
-use Rattle.hac_model.specs.declared.events.Event.{Event}
-use Rattle.hac_model.specs.declared.events.Event.TheVariants.{NewFile, Smkdir}
-use Rattle.hac_model.specs.declared.queries.Query.{Query}
+use Rattle.std.specs.Option.{option_map, option_map_or}
+use Rattle.std.specs.Ordering.{nat_cmp}
+use Rattle.std.proofs.lemmas.Bool.{and_parts, eqb-true, ne_eqb}
+use Rattle.std.proofs.lemmas.Bool.Decides.{nat_tests}
+use Rattle.std.specs.Cmp.{unsigned_ties}
+use Rattle.hac_model.specs.Events.{accepted, added, apply, is_possible, changed, changed_at, edited, indexed, next_dirty, removed, reseated, rewritten}
+use Rattle.hac_model.specs.Limits.{is_text, passed}
+use Rattle.hac_model.specs.Tree.{body_at, entry_at, is_dirty, is_file, is_file_at}
+use Rattle.hac_model.specs.Valid.{IsValid, NumbersRise}
+use Rattle.hac_model.specs.declared.events.Event.TheVariants as event
 use Rattle.hac_model.specs.declared.states.Body.{Body}
-use Rattle.hac_model.specs.declared.states.Body.TheVariants.{File, Semantic}
+use Rattle.hac_model.specs.declared.states.Body.TheVariants as body
 use Rattle.hac_model.specs.declared.states.Entry.{Entry}
 use Rattle.hac_model.specs.declared.states.State.{State}
-use Rattle.hac_model.proofs.ValidLemmas.{apply-valid}
-use Rattle.hac_core.specs.Tables.{AreTables, NumberedFrom, dirty_in}
-use Rattle.hac_core.proofs.TableLemmas.{tables-file, tables-directory, tables-same, tables-edit, edited-set, length-edited, set_with, one_if, ask_dirty, dirty_in-edited_at}
+use Rattle.hac_model.proofs.ChangeLemmas.{entry_at-changed, entry_at-gone, entry_at-kept, entry_at-new, entry_at-other, is_kept, touched}
+use Rattle.hac_model.proofs.TreeLemmas.{entry_at-behind, entry_at-first, entry_at-low, entry_at-next, entry_at-number}
+use Rattle.hac_model.proofs.ValidLemmas.{accepted-parts, apply-valid}
+use Rattle.hac_model.proofs.EventLemmas.{step-valid}
+use Rattle.hac_core.specs.Counting.{AreSmall, counts_of, plus, share_of}
+use Rattle.hac_core.specs.Shape.{is_dirty_at}
+use Rattle.hac_core.specs.declared.counting.Counts.{Counts}
+use Rattle.hac_core.proofs.CountingLemmas.{counts-added, counts-edited, counts-removed, counts-reseated}
+use Rattle.hac_core.proofs.LimitingLemmas.{counts-small}
 
--- the state of which these are the entries
-abbrev pub state_with : List Entry → State
-state_with es = record { next = length es + 1; entries = es }
+-- the counts and the dirty files are those of the state
+pub record IsKept (s : State) (counts : Counts) (dirty : ℕ → Bool) : Type 0 where
+  pub counts_are : counts ≡ counts_of s.entries
+  pub dirty_are : (number : ℕ) → dirty number ≡ is_dirty_at s.entries number
 
--- the entry that comes next
-abbrev pub next_entry : List Entry → List ℕ → Body → Entry
-next_entry es name body = record { number = length es + 1; parent = 0; name = name; body = body }
+pub kept-state : (s t : State) (counts : Counts) (dirty : ℕ → Bool) → t ≡ s → IsKept s counts dirty → IsKept t counts dirty
+kept-state s t counts dirty same kept = subst (λ (x : State). IsKept x counts dirty) (sym same) kept
 
--- a name that is free stands nowhere
-free-none : (es : List Entry) (name : List ℕ) → IsTrue (is_free (state_with es) 0 name) → child es 0 name ≡ None
-free-none es name free = none_from (child es 0 name) (and_parts (is_name name) (is_none (child es 0 name)) free).1
+-- the entry that is looked up is dirty
+abbrev pub dirty_in : Option Entry → Bool
+dirty_in found = option_map_or is_dirty (option_map (λ (e : Entry). e.body) found) false
+
+-- a part of counts is no greater
+pub part-small : (counts rest part : Counts) → AreSmall counts → counts ≡ plus rest part → AreSmall part
+part-small counts rest part small sum = record {
+  bytes_are = omega (arith, small.bytes_are, ap (λ (c : Counts). c.bytes) sum);
+  directories_are = omega (arith, small.directories_are, ap (λ (c : Counts). c.directories) sum);
+  semantics_are = omega (arith, small.semantics_are, ap (λ (c : Counts). c.semantics) sum);
+  files_are = omega (arith, small.files_are, ap (λ (c : Counts). c.files) sum);
+  dirty_are = omega (arith, small.dirty_are, ap (λ (c : Counts). c.dirty) sum);
+}
+
+pub same-part : (a b part : Counts) → plus a part ≡ plus b part → a ≡ b
+same-part a b part same =
+    let bytes : a.bytes ≡ b.bytes = omega (arith, ap (λ (c : Counts). c.bytes) same) in
+    let directories : a.directories ≡ b.directories = omega (arith, ap (λ (c : Counts). c.directories) same) in
+    let semantics : a.semantics ≡ b.semantics = omega (arith, ap (λ (c : Counts). c.semantics) same) in
+    let files : a.files ≡ b.files = omega (arith, ap (λ (c : Counts). c.files) same) in
+    let dirty : a.dirty ≡ b.dirty = omega (arith, ap (λ (c : Counts). c.dirty) same) in
+    λ i. record { bytes = bytes i; directories = directories i; semantics = semantics i; files = files i; dirty = dirty i }
+
+pub small-counts : (s : State) (counts : Counts) (dirty : ℕ → Bool) → IsValid s → IsKept s counts dirty → AreSmall counts
+small-counts s counts dirty h kept = subst (λ (c : Counts). AreSmall c) (sym kept.counts_are) (counts-small s h)
+
+-- what an entry of a state counts for is a part of the whole
+pub part-of : (s : State) (counts : Counts) (dirty : ℕ → Bool) (n : ℕ) (e : Entry) (share : Counts) → IsValid s → IsKept s counts dirty → entry_at s.entries n ≡ Some e → share ≡ share_of e.body → (rest : Counts) × (counts ≡ plus rest share)
+part-of s counts dirty n e share h kept found is =
+    (counts_of (removed s n).entries, kept.counts_are ∙ sym (counts-removed s n e h found) ∙ ap (λ (c : Counts). plus (counts_of (removed s n).entries) c) (sym is))
+
+pub share-small : (s : State) (n : ℕ) (e : Entry) → IsValid s → entry_at s.entries n ≡ Some e → AreSmall (share_of e.body)
+share-small s n e h found = part-small (counts_of s.entries) (counts_of (removed s n).entries) (share_of e.body) (counts-small s h) (sym (counts-removed s n e h found))
+
+-- the number of an entry that is added
+added-entry : (s : State) (dir : ℕ) (name : List ℕ) (new : Body) → IsValid s → entry_at (added s dir name new).entries s.next ≡ Some (record { number = s.next; parent = dir; name = name; body = new })
+added-entry s dir name new h = entry_at-new s.entries (record { number = s.next; parent = dir; name = name; body = new }) (entry_at-next 0 s.entries s.next s.next h.numbers (omega arith))
+
+pub added-small : (s : State) (dir : ℕ) (name : List ℕ) (new : Body) (share : Counts) → IsValid s → IsValid (added s dir name new) → share ≡ share_of new → AreSmall share
+added-small s dir name new share h k is =
+    subst (λ (c : Counts). AreSmall c) (sym is) (share-small (added s dir name new) s.next (record { number = s.next; parent = dir; name = name; body = new }) k (added-entry s dir name new h))
+
+-- the entry of a number that is edited
+edited-entry : (s : State) (n : ℕ) (edit : Body → Body) (e : Entry) → entry_at s.entries n ≡ Some e → entry_at (changed_at s n (edited edit)).entries n ≡ Some (edited edit e)
+edited-entry s n edit e found =
+    entry_at-changed n (edited edit) s.entries n (λ e. refl)
+    ∙ ap (λ (o : Option Entry). option_map (touched n (edited edit)) o) found
+    ∙ ap (λ (b : Bool). Some (cond b (edited edit e) e)) (eq-eqb e.number n (entry_at-number s.entries n e found))
+
+pub edited-small : (s : State) (n : ℕ) (edit : Body → Body) (e : Entry) (share : Counts) → IsValid (changed_at s n (edited edit)) → entry_at s.entries n ≡ Some e → share ≡ share_of (edit e.body) → AreSmall share
+edited-small s n edit e share k found is =
+    subst (λ (c : Counts). AreSmall c) (sym is) (share-small (changed_at s n (edited edit)) n (edited edit e) k (edited-entry s n edit e found))
+
+-- a set at a number
+set_at : (k n : ℕ) (value rest : Bool) → cond (k == n) value rest ≡ cond (is_at (nat_cmp k) n) value rest
+set_at k n value rest = ap (λ (b : Bool). cond b value rest) (unsigned_ties k n)
+
+-- the dirty files after an entry was added
+dirty-added : (s : State) (dir : ℕ) (name : List ℕ) (new : Body) (n : ℕ) → IsValid s → is_dirty_at (added s dir name new).entries n ≡ cond (s.next == n) (is_dirty new) (is_dirty_at s.entries n)
+dirty-added s dir name new n h =
+    elim (s.next == n) as (λ b. (s.next == n) ≡ b → is_dirty_at (added s dir name new).entries n ≡ cond b (is_dirty new) (is_dirty_at s.entries n)) [
+      | true ↦ (λ same. ap dirty_in (ap (λ (k : ℕ). entry_at (added s dir name new).entries k) (sym (eqb-true s.next n same)) ∙ added-entry s dir name new h))
+      | false ↦ (λ other. ap dirty_in (entry_at-other s.entries (record { number = s.next; parent = dir; name = name; body = new }) n (λ same. let even : (s.next == n) ≡ true = eq-eqb s.next n same in absurd cc)))
+    ] refl
+
+-- after one was edited
+dirty-edited : (s : State) (k : ℕ) (edit : Body → Body) (e : Entry) (n : ℕ) → entry_at s.entries k ≡ Some e → is_dirty_at (changed_at s k (edited edit)).entries n ≡ cond (k == n) (is_dirty (edit e.body)) (is_dirty_at s.entries n)
+dirty-edited s k edit e n found =
+    elim (k == n) as (λ b. (k == n) ≡ b → is_dirty_at (changed_at s k (edited edit)).entries n ≡ cond b (is_dirty (edit e.body)) (is_dirty_at s.entries n)) [
+      | true ↦ (λ same. ap dirty_in (ap (λ (m : ℕ). entry_at (changed_at s k (edited edit)).entries m) (sym (eqb-true k n same)) ∙ edited-entry s k edit e found))
+      | false ↦ (λ other. ap dirty_in (entry_at-changed k (edited edit) s.entries n (λ e. refl)) ∙ still (entry_at s.entries n) refl (λ same. let even : (k == n) ≡ true = eq-eqb k n same in absurd cc))
+    ] refl
   where
-    none_from : (o : Option ℕ) → is_none o ≡ true → o ≡ None
-    none_from None h = refl
-    none_from (Some n) h = cc
+    still : (o : Option Entry) → entry_at s.entries n ≡ o → (k ≡ n → ⊥) → dirty_in (option_map (touched k (edited edit)) o) ≡ dirty_in o
+    still None there other = refl
+    still (Some f) there other = ap (λ (b : Bool). is_dirty (cond b (edited edit f) f).body) (ne_eqb f.number k (λ same. other (sym same ∙ entry_at-number s.entries n f there)))
 
--- a state with one entry more
-valid-added : (es es_next : List Entry) (name : List ℕ) (body : Body) (event : Event) → IsValid (apply (state_with es) event) →
-    apply (state_with es) event ≡ record { next = (length es + 1) + 1; entries = es ++ next_entry es name body ∷ [] } → es_next ≡ es ++ next_entry es name body ∷ [] → IsValid (state_with es_next)
-valid-added es es_next name body event valid is entries =
-    let count : (length es + 1) + 1 ≡ length (es ++ next_entry es name body ∷ []) + 1 = omega (arith, length-append es (next_entry es name body ∷ [])) in
-    subst (λ (xs : List Entry). IsValid (state_with xs)) (sym entries)
-    (subst (λ (n : ℕ). IsValid (record { next = n; entries = es ++ next_entry es name body ∷ [] })) count (subst (λ (s : State). IsValid s) is valid))
+-- after one was taken out
+dirty-removed : (s : State) (k n : ℕ) → is_dirty_at (removed s k).entries n ≡ cond (k == n) false (is_dirty_at s.entries n)
+dirty-removed s k n =
+    elim (k == n) as (λ b. (k == n) ≡ b → is_dirty_at (filter (is_kept k) s.entries) n ≡ cond b false (is_dirty_at s.entries n)) [
+      | true ↦ (λ same. ap dirty_in (ap (λ (m : ℕ). entry_at (filter (is_kept k) s.entries) m) (sym (eqb-true k n same)) ∙ entry_at-gone k s.entries))
+      | false ↦ (λ other. ap dirty_in (entry_at-kept k s.entries n (λ same. let even : (k == n) ≡ true = eq-eqb k n same in absurd cc)))
+    ] refl
 
-module _ (es es_next : List Entry) (names names_next : List ℕ → Option ℕ) (dirty : ℕ → Bool) (count : ℕ) (valid : IsValid (state_with es)) (was : AreTables es names dirty count) where
-  -- nothing has changed
-  pub kept-same : es_next ≡ es → ((name : List ℕ) → names_next name ≡ names name) → (dirty_next : ℕ → Bool) → ((n : ℕ) → dirty_next n ≡ dirty n) →
-      IsValid (state_with es_next) × AreTables es_next names_next dirty_next count
-  kept-same entries named dirty_next filed = (
-    subst (λ (xs : List Entry). IsValid (state_with xs)) (sym entries) valid,
-    subst (λ (xs : List Entry). AreTables xs names_next dirty_next count) (sym entries) (tables-same es names names_next dirty dirty_next count was named filed),
-  )
+-- after one moved
+dirty-reseated : (s : State) (k dir : ℕ) (name : List ℕ) (n : ℕ) → is_dirty_at (changed_at s k (reseated dir name)).entries n ≡ is_dirty_at s.entries n
+dirty-reseated s k dir name n = ap dirty_in (entry_at-changed k (reseated dir name) s.entries n (λ e. refl)) ∙ still (entry_at s.entries n)
+  where
+    still : (o : Option Entry) → dirty_in (option_map (touched k (reseated dir name)) o) ≡ dirty_in o
+    still None = refl
+    still (Some f) = elim (f.number == k) as (λ b. is_dirty (cond b (reseated dir name f) f).body ≡ is_dirty f.body) [ true ↦ refl | false ↦ refl ]
 
-  -- a directory has come
-  kept-directory : (name : List ℕ) (query : Query) → IsTrue (accepted (state_with es) (Smkdir 0 name query)) → es_next ≡ es ++ next_entry es name (Semantic query) ∷ [] →
-      ((other : List ℕ) → names_next other ≡ cond (is_at (slice_cmp nat_cmp name) other) (Some (length es + 1)) (names other)) →
-      IsValid (state_with es_next) × AreTables es_next names_next dirty count
-  kept-directory name query accepts entries named =
-      let free = and_parts (is_free (state_with es) 0 name) (is_query query) accepts in (
-        valid-added es es_next name (Semantic query) (Smkdir 0 name query) (apply-valid (state_with es) (Smkdir 0 name query) valid accepts) refl entries,
-        subst (λ (xs : List Entry). AreTables xs names_next dirty count) (sym entries)
-            (tables-directory es (next_entry es name (Semantic query)) names names_next dirty count was refl refl (free-none es name free.0) refl named),
-      )
+-- a dirty entry has come
+pub kept-dirty : (s : State) (dir : ℕ) (name : List ℕ) (new : Body) (counts counts_next share : Counts) (dirty dirty_next : ℕ → Bool) → IsValid s → IsKept s counts dirty →
+    share ≡ share_of new → counts_next ≡ plus counts share → is_dirty new ≡ true → ((n : ℕ) → dirty_next n ≡ cond (is_at (nat_cmp s.next) n) true (dirty n)) → IsKept (added s dir name new) counts_next dirty_next
+kept-dirty s dir name new counts counts_next share dirty dirty_next h kept is sum unclean set = record {
+  counts_are = sum ∙ ap (λ (c : Counts). plus c share) kept.counts_are ∙ ap (λ (c : Counts). plus (counts_of s.entries) c) is ∙ sym (counts-added s dir name new);
+  dirty_are = λ n.
+      set n ∙ sym (set_at s.next n true (dirty n)) ∙ ap (λ (b : Bool). cond (s.next == n) b (dirty n)) (sym unclean)
+      ∙ ap (λ (b : Bool). cond (s.next == n) (is_dirty new) b) (kept.dirty_are n) ∙ sym (dirty-added s dir name new n h);
+}
 
-  pub kept-directory-or-not : {E : Type 0} (result : Result (Unit {0}) E) (name : List ℕ) (query : Query) → IsTrue (accepted (state_with es) (Smkdir 0 name query)) →
-      OnOk result (es_next ≡ es ++ next_entry es name (Semantic query) ∷ []) →
-      OnOk result ((other : List ℕ) → names_next other ≡ cond (is_at (slice_cmp nat_cmp name) other) (Some (length es + 1)) (names other)) →
-      OnErr result ((es_next ≡ es) × ((other : List ℕ) → names_next other ≡ names other)) →
-      IsValid (state_with es_next) × AreTables es_next names_next dirty count
-  kept-directory-or-not (Ok done) name query accepts entries named err = kept-directory name query accepts entries named
-  kept-directory-or-not (Err e) name query accepts entries named err = kept-same err.0 err.1 dirty (λ n. refl)
+-- an entry has come that is none to be indexed
+pub kept-clean : (s : State) (dir : ℕ) (name : List ℕ) (new : Body) (counts counts_next share : Counts) (dirty : ℕ → Bool) → IsValid s → IsKept s counts dirty →
+    share ≡ share_of new → counts_next ≡ plus counts share → is_dirty new ≡ false → IsKept (added s dir name new) counts_next dirty
+kept-clean s dir name new counts counts_next share dirty h kept is sum clean = record {
+  counts_are = sum ∙ ap (λ (c : Counts). plus c share) kept.counts_are ∙ ap (λ (c : Counts). plus (counts_of s.entries) c) is ∙ sym (counts-added s dir name new);
+  dirty_are = λ n. kept.dirty_are n ∙ still n ∙ sym (dirty-added s dir name new n h);
+}
+  where
+    still : (n : ℕ) → is_dirty_at s.entries n ≡ cond (s.next == n) (is_dirty new) (is_dirty_at s.entries n)
+    still n = elim (s.next == n) as (λ b. (s.next == n) ≡ b → is_dirty_at s.entries n ≡ cond b (is_dirty new) (is_dirty_at s.entries n)) [
+      | true ↦ (λ same. ap dirty_in (ap (λ (k : ℕ). entry_at s.entries k) (sym (eqb-true s.next n same)) ∙ entry_at-next 0 s.entries s.next s.next h.numbers (omega arith)) ∙ sym clean)
+      | false ↦ (λ other. refl)
+    ] refl
 
-  -- a file has come
-  pub kept-file : (name text : List ℕ) (dirty_next : ℕ → Bool) → IsTrue (is_free (state_with es) 0 name) → es_next ≡ es ++ next_entry es name (File text true None) ∷ [] →
-      ((other : List ℕ) → names_next other ≡ cond (is_at (slice_cmp nat_cmp name) other) (Some (length es + 1)) (names other)) →
-      ((n : ℕ) → dirty_next n ≡ cond (is_at (nat_cmp (length es + 1)) n) true (dirty n)) → IsValid (state_with es_next) × AreTables es_next names_next dirty_next (count + 1)
-  kept-file name text dirty_next free entries named filed = (
-    valid-added es es_next name (File text true None) (NewFile 0 name text) (apply-valid (state_with es) (NewFile 0 name text) valid free) refl entries,
-    subst (λ (xs : List Entry). AreTables xs names_next dirty_next (count + 1)) (sym entries)
-        (tables-file es (next_entry es name (File text true None)) names names_next dirty dirty_next count was refl refl (free-none es name free) refl named filed),
-  )
+-- an entry has another body
+pub kept-edited : (s : State) (k : ℕ) (edit : Body → Body) (e : Entry) (counts counts_next old new : Counts) (dirty dirty_next : ℕ → Bool) → IsValid s → IsKept s counts dirty → entry_at s.entries k ≡ Some e →
+    old ≡ share_of e.body → new ≡ share_of (edit e.body) → plus counts_next old ≡ plus counts new → ((n : ℕ) → dirty_next n ≡ cond (is_at (nat_cmp k) n) (is_dirty (edit e.body)) (dirty n)) →
+    IsKept (changed_at s k (edited edit)) counts_next dirty_next
+kept-edited s k edit e counts counts_next old new dirty dirty_next h kept found before after sum set = record {
+  counts_are = same-part counts_next (counts_of (changed_at s k (edited edit)).entries) (share_of e.body)
+      (ap (λ (c : Counts). plus counts_next c) (sym before) ∙ sum ∙ ap (λ (c : Counts). plus c new) kept.counts_are ∙ ap (λ (c : Counts). plus (counts_of s.entries) c) after ∙ sym (counts-edited s k edit e h found));
+  dirty_are = λ n.
+      set n ∙ sym (set_at k n (is_dirty (edit e.body)) (dirty n)) ∙ ap (λ (b : Bool). cond (k == n) (is_dirty (edit e.body)) b) (kept.dirty_are n) ∙ sym (dirty-edited s k edit e n found);
+}
 
--- an indexed entry at its place, where memory was there
-pub indexed-set : {E : Type 0} (result : Result (Unit {0}) E) (es : List Entry) (n : ℕ) (e : Entry) (body : Body) → NumberedFrom 1 es → 0 < n → n ≤ length es → e ≡ get_or es (n - 1) e →
-    OnOk result (body ≡ indexed e.body) → OnOk result (set es (n - 1) (record e { body = body }) ≡ edited n indexed es)
-indexed-set (Ok done) es n e body numbered above inside read is = edited-set indexed es n e body numbered above inside read is
-indexed-set (Err fault) es n e body numbered above inside read is = search rules
+-- an entry has gone
+pub kept-removed : (s : State) (k : ℕ) (e : Entry) (counts counts_next share : Counts) (dirty dirty_next : ℕ → Bool) → IsValid s → IsKept s counts dirty → entry_at s.entries k ≡ Some e →
+    share ≡ share_of e.body → plus counts_next share ≡ counts → ((n : ℕ) → dirty_next n ≡ cond (is_at (nat_cmp k) n) false (dirty n)) → IsKept (removed s k) counts_next dirty_next
+kept-removed s k e counts counts_next share dirty dirty_next h kept found is sum set = record {
+  counts_are = same-part counts_next (counts_of (removed s k).entries) (share_of e.body)
+      (ap (λ (c : Counts). plus counts_next c) (sym is) ∙ sum ∙ kept.counts_are ∙ sym (counts-removed s k e h found));
+  dirty_are = λ n. set n ∙ sym (set_at k n false (dirty n)) ∙ ap (λ (b : Bool). cond (k == n) false b) (kept.dirty_are n) ∙ sym (dirty-removed s k n);
+}
 
--- the state with an edited entry
-pub state-edited : (es es_next : List Entry) (n : ℕ) (f : Body → Body) → es_next ≡ edited n f es → state_with es_next ≡ edited_at (state_with es) n f
-state-edited es es_next n f entries =
-    ap state_with entries ∙ ap (λ (k : ℕ). record { next = k + 1; entries = edited n f es }) (length-edited n f es)
+-- an entry has moved
+pub kept-moved : (s : State) (k dir : ℕ) (name : List ℕ) (counts : Counts) (dirty : ℕ → Bool) → IsKept s counts dirty → IsKept (changed_at s k (reseated dir name)) counts dirty
+kept-moved s k dir name counts dirty kept = record {
+  counts_are = kept.counts_are ∙ sym (counts-reseated s k dir name);
+  dirty_are = λ n. kept.dirty_are n ∙ sym (dirty-reseated s k dir name n);
+}
 
--- the invariant after an edit
-pub kept-edit : (es es_next : List Entry) (n : ℕ) (f : Body → Body) (e : Entry) (names : List ℕ → Option ℕ) (dirty dirty_next : ℕ → Bool) (count count_next : ℕ) →
-    AreTables es names dirty count → IsValid (edited_at (state_with es) n f) → es_next ≡ edited n f es → entry_at es n ≡ Some e →
-    ((k : ℕ) → dirty_next k ≡ cond (is_at (nat_cmp n) k) (is_dirty (f e.body)) (dirty k)) → count_next ≡ dirty_in (edited n f es) →
-    IsValid (state_with es_next) × AreTables es_next names dirty_next count_next
-kept-edit es es_next n f e names dirty dirty_next count count_next was valid entries found filed counted = (
-  subst (λ (s : State). IsValid s) (sym (state-edited es es_next n f entries)) valid,
-  subst (λ (xs : List Entry). AreTables xs names dirty_next count_next) (sym entries)
-      (tables-edit es n f e names dirty dirty_next count count_next was found (λ k. filed k ∙ sym (set_with n k (is_dirty (f e.body)) (dirty k))) counted),
-)
+-- where no number is that of a dirty file, none is next
+pub none-next : (above : ℕ) (es : List Entry) (next : ℕ) → NumbersRise above es next → ((k : ℕ) → is_dirty_at es k ≡ false) → next_dirty es ≡ None
+none-next above [] next h clean = refl
+none-next above (e ∷ es) next h clean =
+    let first : is_dirty e.body ≡ false = sym (ap dirty_in (entry_at-first e es)) ∙ clean e.number in
+    ap (λ (b : Bool). cond b (Some e.number) (next_dirty es)) first ∙ none-next e.number es next h.1 behind
+  where
+    behind : (k : ℕ) → is_dirty_at es k ≡ false
+    behind k = elim (e.number == k) as (λ b. (e.number == k) ≡ b → is_dirty_at es k ≡ false) [
+      | true ↦ (λ same. ap dirty_in (entry_at-low e.number es next k h.1 (omega (arith, eqb-true e.number k same))))
+      | false ↦ (λ other. sym (ap dirty_in (entry_at-behind e es k (λ same. let even : (e.number == k) ≡ true = eq-eqb e.number k same in absurd cc))) ∙ clean k)
+    ] refl
 
--- a file that was rewritten is dirty
-rewritten-dirty : (text : List ℕ) (body : Body) → is_file body ≡ true → is_dirty (rewritten text body) ≡ true
-rewritten-dirty text (File old dirty shown) file = refl
-rewritten-dirty text (Semantic query) file = cc
+-- the least number of a dirty file is next
+pub least-next : (above : ℕ) (es : List Entry) (next n : ℕ) → NumbersRise above es next → is_dirty_at es n ≡ true → ((k : ℕ) → k < n → is_dirty_at es k ≡ false) → next_dirty es ≡ Some n
+least-next above [] next n h dirty least = absurd cc
+least-next above (e ∷ es) next n h dirty least =
+    elim (e.number == n) as (λ b. (e.number == n) ≡ b → next_dirty (e ∷ es) ≡ Some n) [
+      | true ↦ (λ same.
+          let here : e.number ≡ n = eqb-true e.number n same in
+          let is : is_dirty e.body ≡ true = sym (ap dirty_in (entry_at-first e es)) ∙ ap (λ (k : ℕ). is_dirty_at (e ∷ es) k) here ∙ dirty in
+          ap (λ (b : Bool). cond b (Some e.number) (next_dirty es)) is ∙ ap Some here)
+      | false ↦ (λ other.
+          let apart : e.number ≡ n → ⊥ = λ same. let even : (e.number == n) ≡ true = eq-eqb e.number n same in absurd cc in
+          let behind : is_dirty_at es n ≡ true = sym (ap dirty_in (entry_at-behind e es n apart)) ∙ dirty in
+          let beyond : e.number < n = above_it n behind in
+          let clean : is_dirty e.body ≡ false = sym (ap dirty_in (entry_at-first e es)) ∙ least e.number beyond in
+          ap (λ (b : Bool). cond b (Some e.number) (next_dirty es)) clean ∙ least-next e.number es next n h.1 behind (λ k less. fewer k less))
+    ] refl
+  where
+    low : (k : ℕ) → k ≤ e.number → is_dirty_at es k ≡ false
+    low k less = ap dirty_in (entry_at-low e.number es next k h.1 less)
 
--- the set of dirty files, to which a rewritten file was added
-pub rewritten-filed : (n k : ℕ) (text : List ℕ) (e : Entry) (dirty : ℕ → Bool) (next : Bool) → is_file e.body ≡ true → next ≡ cond (is_at (nat_cmp n) k) true (dirty k) →
-    next ≡ cond (is_at (nat_cmp n) k) (is_dirty (rewritten text e.body)) (dirty k)
-rewritten-filed n k text e dirty next file filed = filed ∙ ap (λ (b : Bool). cond (is_at (nat_cmp n) k) b (dirty k)) (sym (rewritten-dirty text e.body file))
+    above_it : (n : ℕ) → is_dirty_at es n ≡ true → e.number < n
+    above_it n is = elim (nat_le n e.number) as (λ b. nat_le n e.number ≡ b → e.number < n) [
+      | true ↦ (λ less. let never : true ≡ false = sym is ∙ low n (grind (arith, nat_tests, less)) in absurd cc)
+      | false ↦ (λ more. grind (arith, nat_tests, more))
+    ] refl
 
-more_if : (was : Bool) (count more after : ℕ) (new : Bool) → new ≡ not was → more ≡ one_if new → after + one_if was ≡ count + one_if true → count + more ≡ after
-more_if true count more after new is bit sums = let none : more ≡ 0 = bit ∙ ap (λ (b : Bool). if b then 1 else 0) is in omega (arith, none, sums)
-more_if false count more after new is bit sums = let one : more ≡ 1 = bit ∙ ap (λ (b : Bool). if b then 1 else 0) is in omega (arith, one, sums)
+    fewer : (k : ℕ) → k < n → is_dirty_at es k ≡ false
+    fewer k less = elim (nat_le k e.number) as (λ b. nat_le k e.number ≡ b → is_dirty_at es k ≡ false) [
+      | true ↦ (λ few. low k (grind (arith, nat_tests, few)))
+      | false ↦ (λ more. sym (ap dirty_in (entry_at-behind e es k (λ same. grind (arith, nat_tests, more, same)))) ∙ least k less)
+    ] refl
 
--- their count, which rises where the file was clean
-pub rewritten-counted : (es : List Entry) (n : ℕ) (text : List ℕ) (e : Entry) (names : List ℕ → Option ℕ) (dirty : ℕ → Bool) (count more : ℕ) (new : Bool) → AreTables es names dirty count →
-    entry_at es n ≡ Some e → is_file e.body ≡ true → new ≡ not (dirty n) → more ≡ one_if new → count + more ≡ dirty_in (edited n (rewritten text) es)
-rewritten-counted es n text e names dirty count more new was found file is bit =
-    let was_dirty : dirty n ≡ is_dirty e.body = was.files n ∙ ap ask_dirty found in
-    let sums : dirty_in (edited n (rewritten text) es) + one_if (is_dirty e.body) ≡ count + one_if true =
-    dirty_in-edited_at es n (rewritten text) e was.numbered found ∙ ap (λ (k : ℕ). k + one_if (is_dirty (rewritten text e.body))) (sym was.count) ∙ ap (λ (b : Bool). count + one_if b) (rewritten-dirty text e.body file) in
-    more_if (is_dirty e.body) count more (dirty_in (edited n (rewritten text) es)) new (is ∙ ap (λ (b : Bool). not b) was_dirty) bit sums
+-- the entry that is there
+pub there-is : (s t : State) (n : ℕ) → s ≡ t → is_some (entry_at t.entries n) ≡ true → (e : Entry) × (entry_at s.entries n ≡ Some e)
+there-is s t n same there = some (entry_at s.entries n) refl (ap (λ (x : State). is_some (entry_at x.entries n)) same ∙ there)
+  where
+    some : (o : Option Entry) → entry_at s.entries n ≡ o → is_some o ≡ true → (e : Entry) × (entry_at s.entries n ≡ Some e)
+    some None found never = absurd cc
+    some (Some e) found there = (e, found)
 
--- a dirty file that was indexed is clean
-indexed-clean : (body : Body) → is_dirty (indexed body) ≡ false
-indexed-clean (File text dirty shown) = refl
-indexed-clean (Semantic query) = refl
+-- the file whose text may be replaced
+pub file-is : (s : State) (file : ℕ) (text : List ℕ) → IsTrue (accepted s (event.Rewrite file text)) → (e : Entry) × (entry_at s.entries file ≡ Some e) × (is_file e.body ≡ true)
+file-is s file text accepts =
+    let possible = (accepted-parts (is_possible s (event.Rewrite file text)) (passed (apply s (event.Rewrite file text))) accepts).0 in
+    some (entry_at s.entries file) refl (and_parts (is_file_at s.entries file) (is_text text) possible).0
+  where
+    some : (o : Option Entry) → entry_at s.entries file ≡ o → option_map_or is_file (option_map (λ (e : Entry). e.body) o) false ≡ true → (e : Entry) × (entry_at s.entries file ≡ Some e) × (is_file e.body ≡ true)
+    some None found never = absurd cc
+    some (Some e) found is = (e, found, is)
 
-pub indexed-filed : (n k : ℕ) (e : Entry) (dirty : ℕ → Bool) (next : Bool) → next ≡ cond (is_at (nat_cmp n) k) false (dirty k) → next ≡ cond (is_at (nat_cmp n) k) (is_dirty (indexed e.body)) (dirty k)
-indexed-filed n k e dirty next filed = filed ∙ ap (λ (b : Bool). cond (is_at (nat_cmp n) k) b (dirty k)) (sym (indexed-clean e.body))
+-- a file with a new text is dirty
+pub rewritten-dirty : (text : List ℕ) (b : Body) → is_file b ≡ true → is_dirty (rewritten text b) ≡ true
+rewritten-dirty text (body.File old dirty shown) file = refl
+rewritten-dirty text body.Dir file = absurd cc
+rewritten-dirty text (body.Semantic query) file = absurd cc
 
--- one file less is dirty
-pub indexed-counted : (es : List Entry) (n : ℕ) (e : Entry) (names : List ℕ → Option ℕ) (dirty : ℕ → Bool) (count : ℕ) → AreTables es names dirty count →
-    entry_at es n ≡ Some e → is_dirty e.body ≡ true → (0 < count) × (count - 1 ≡ dirty_in (edited n indexed es))
-indexed-counted es n e names dirty count was found on =
-    let sums : dirty_in (edited n indexed es) + one_if true ≡ count + one_if false =
-    ap (λ (b : Bool). dirty_in (edited n indexed es) + one_if b) (sym on) ∙ dirty_in-edited_at es n indexed e was.numbered found
-    ∙ ap (λ (k : ℕ). k + one_if (is_dirty (indexed e.body))) (sym was.count) ∙ ap (λ (b : Bool). count + one_if b) (indexed-clean e.body) in
-    (omega (arith, sums), omega (arith, sums))
+pub indexed-clean : (b : Body) → is_dirty (indexed b) ≡ false
+indexed-clean (body.File text dirty shown) = refl
+indexed-clean body.Dir = refl
+indexed-clean (body.Semantic query) = refl
+
+-- a dirty file, known by its number in another form
+pub dirty-file : (s : State) (n m : ℕ) → m ≡ n → is_dirty_at s.entries n ≡ true → (e : Entry) × (entry_at s.entries n ≡ Some e) × (entry_at s.entries m ≡ Some e)
+dirty-file s n m same is = some (entry_at s.entries n) refl is
+  where
+    some : (o : Option Entry) → entry_at s.entries n ≡ o → dirty_in o ≡ true → (e : Entry) × (entry_at s.entries n ≡ Some e) × (entry_at s.entries m ≡ Some e)
+    some None found never = absurd cc
+    some (Some e) found is = (e, found, ap (λ (k : ℕ). entry_at s.entries k) same ∙ found)
+
+-- the state with the next file indexed is valid
+pub indexed-valid : (s : State) (n : ℕ) → IsValid s → next_dirty s.entries ≡ Some n → IsValid (changed_at s n (edited indexed))
+indexed-valid s n h next = subst (λ (o : Option ℕ). IsValid (option_map_or (λ file. changed_at s file (edited indexed)) o s)) next (step-valid s h)

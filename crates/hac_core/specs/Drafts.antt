@@ -1,10 +1,10 @@
 -- Commands that a state doesn't refuse, and what they come to.
-use Rattle.std.specs.Prelude.{◌≡◌, ⊤, Bool, true, false, Option, Some, None, IsTrue}
-use Rattle.hac_model.specs.Events.{accepted, dirty, event_of}
+use Rattle.std.specs.Prelude.{◌≡◌, ⊤, Bool, true, false, [], ◌∷◌, Option, Some, None, IsTrue}
+use Rattle.hac_model.specs.Events.{accepted, dirty}
 use Rattle.hac_model.specs.Lines.{is_spelled}
-use Rattle.hac_model.specs.Refusals.{refusal}
+use Rattle.hac_model.specs.Refusals.{events_of, refusal}
 use Rattle.hac_model.specs.declared.commands.Command.{Command}
-use Rattle.hac_model.specs.declared.commands.Command.TheVariants.{Write, Smkdir, Index, Sls}
+use Rattle.hac_model.specs.declared.commands.Command.TheVariants.{Cat, Ls, Sls, Index}
 use Rattle.hac_model.specs.declared.replies.Deny.{Deny}
 use Rattle.hac_model.specs.declared.replies.Deny.TheVariants.{Refused, Memory}
 use Rattle.hac_model.specs.declared.replies.Refusal.{Refusal}
@@ -14,10 +14,10 @@ use Rattle.hac_core.specs.declared.drafts.Settled.TheVariants.{Change, Steps}
 
 -- the command only reads
 abbrev pub reads : Command → Bool
-reads (Write name text) = false
-reads (Smkdir name query) = false
-reads Index = false
-reads (Sls name) = true
+reads (Cat path) = true
+reads (Ls path) = true
+reads (Sls path) = true
+reads other = false
 
 -- the command's words are as a line spells them, and the state doesn't refuse it
 pub record IsAdmitted (s : State) (command : Command) : Type 0 where
@@ -31,5 +31,5 @@ Refuses Memory cause = ⊤
 
 -- an admitted command comes to one event, or to as many steps as there are dirty files
 abbrev pub Settles : Settled → State → Command → Type 0
-Settles (Change event) s command = (event_of s command ≡ Some event) × IsTrue (accepted s event)
+Settles (Change event) s command = (events_of s command ≡ event ∷ []) × IsTrue (accepted s event)
 Settles (Steps count) s command = (command ≡ Index) × (count ≡ dirty s)

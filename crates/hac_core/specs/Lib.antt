@@ -1,4 +1,7 @@
+pub mod Counting
+pub mod Looking
+pub mod Aiming
+pub mod Limiting
 pub mod Drafts
-pub mod Listing
-pub mod Tables
 pub mod Shape
+pub mod Listing

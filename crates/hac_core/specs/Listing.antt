@@ -1,22 +1,27 @@
--- The lines that list a semantic directory, told of entries one by one.
-use Rattle.std.specs.Prelude.{ℕ, Bool, false, ◌++◌, List, [], ◌∷◌, map, filter, codes}
-use Rattle.std.specs.Option.{option_map_or}
-use Rattle.hac_model.specs.Paths.{path_text}
-use Rattle.hac_model.specs.Tree.{shown_text}
+-- What a listing goes over.
+use Rattle.std.specs.Prelude.{ℕ, Bool, ◌&&◌, List, map, filter, Option}
+use Rattle.hac_model.specs.Links.{column, links}
+use Rattle.hac_model.specs.Play.{link_line}
+use Rattle.hac_model.specs.Tree.{is_file}
 use Rattle.hac_model.specs.Words.{has_term}
 use Rattle.hac_model.specs.declared.queries.Query.{Query}
 use Rattle.hac_model.specs.declared.queries.Query.TheVariants as query
-use Rattle.hac_model.specs.declared.states.Body.{Body}
 use Rattle.hac_model.specs.declared.states.Entry.{Entry}
+use Rattle.hac_model.specs.declared.states.State.{State}
+use Rattle.file_tree.specs.Answers.{is_past}
 
--- the text as last indexed satisfies the query
-abbrev pub shows : Query → Body → Bool
-shows (query.Term term) body = option_map_or (λ text. has_term text term) (shown_text body) false
+-- the entries whose names stand behind the one that was given
+abbrev pub behind : Option (List ℕ) → List Entry → List Entry
+behind after entries = filter (λ entry. is_past after entry.name) entries
 
--- a link to an entry of the root
-abbrev pub line_of : Entry → List ℕ
-line_of entry = codes "t " ++ path_text (entry.name ∷ [])
+-- the text satisfies the query
+abbrev pub is_met : Query → List ℕ → Bool
+is_met (query.Term term) text = has_term text term
 
--- the links to those of the entries that satisfy the query
-abbrev pub lines_of : Query → List Entry → List (List ℕ)
-lines_of query entries = map line_of (filter (λ entry. shows query entry.body) entries)
+-- the entry is a file that is linked in the directory
+abbrev pub is_listed : State → ℕ → Entry → Bool
+is_listed s dir entry = is_file entry.body && column (links s) entry.number dir
+
+-- a line for each of the entries that is linked in the directory
+abbrev pub lines_of : State → ℕ → List Entry → List (List ℕ)
+lines_of s dir entries = map (λ entry. link_line s entry.number) (filter (λ entry. is_listed s dir entry) entries)

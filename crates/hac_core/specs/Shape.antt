@@ -1,18 +1,22 @@
 -- How a machine keeps a state.
-use Rattle.std.specs.Prelude.{◌+◌, length}
+use Rattle.std.specs.Prelude.{◌≡◌, ℕ, Bool, false, List}
+use Rattle.std.specs.Option.{option_map_or}
 use Rattle.std.specs.Ordering.{nat_cmp}
-use Rattle.std.specs.Cmp.Lexicographic.{slice_cmp}
-use Rattle.std.specs.BTreeMap.{get}
 use Rattle.std.specs.BTreeSet.{contains}
-use Rattle.hac_model.specs.Valid.{IsValid}
+use Rattle.hac_model.specs.Tree.{body_at, is_dirty}
+use Rattle.hac_model.specs.declared.states.Entry.{Entry}
 use Rattle.hac_model.specs.declared.states.State.{State}
-use Rattle.hac_core.specs.Tables.{AreTables}
+use Rattle.hac_core.specs.Counting.{counts_of}
 use Rattle.hac_core.specs.declared.machine.Machine.TheInside.{Inside}
 
--- no entry was removed yet, so the next number is one above their count
-abbrev pub state_of : Inside → State
-state_of machine = record { next = length machine.entries.items + 1; entries = machine.entries.items }
+-- the entry of a number is a dirty file
+abbrev pub is_dirty_at : List Entry → ℕ → Bool
+is_dirty_at entries number = option_map_or is_dirty (body_at entries number) false
 
+abbrev pub state_of : Inside → State
+state_of machine = machine.tree.state
+
+-- the tree is counted, and its dirty files are known
 pub record IsMachine (machine : Inside) : Type 0 where
-  pub valid : IsValid (record { next = length machine.entries.items + 1; entries = machine.entries.items })
-  pub tables : AreTables machine.entries.items (λ name. get (slice_cmp nat_cmp) machine.numbers name) (λ number. contains nat_cmp machine.dirty number) machine.dirty_count
+  pub counts_are : machine.counts ≡ counts_of machine.tree.state.entries
+  pub dirty_are : (number : ℕ) → contains nat_cmp machine.dirty number ≡ is_dirty_at machine.tree.state.entries number

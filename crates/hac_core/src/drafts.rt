@@ -36,10 +36,10 @@ impl Draft {
     pub fn reads(&self) -> bool
         ensures { result ≡ reads self.now.command }
     {
-        match self.line.command {
-            Command::Write { .. } | Command::Smkdir { .. } | Command::Index => false,
-            Command::Sls { .. } => true,
-        }
+        matches!(
+            self.line.command,
+            Command::Cat { .. } | Command::Ls { .. } | Command::Sls { .. }
+        )
     }
 
     pub(crate) fn command(&self) -> &Command

@@ -1,42 +1,130 @@
-//! Listings: which entries a query finds, and how they are told.
-ghost use Rattle.std.specs.Prelude.{◌≡◌, IfOk};
-ghost use Rattle.hac_core.specs.Listing.{shows, line_of, lines_of};
+//! What the commands that read tell: the text of a file, what stands in a directory, and the links of one.
+ghost use Rattle.std.specs.Prelude.{◌≡◌, ◌&&◌, ◌∷◌, [], IfOk, IsSome, IsTrue, Some, map};
+ghost use Rattle.std.specs.Option.{option_map};
+ghost use Rattle.hac_model.specs.Links.{column, links};
+ghost use Rattle.hac_model.specs.Listing.{children, entry_line, letter};
+ghost use Rattle.hac_model.specs.Play.{link_line, text_lines};
+ghost use Rattle.hac_model.specs.Tree.{entry_at, is_file_at};
+ghost use Rattle.hac_model.specs.declared.states.Body.{Body};
+ghost use Rattle.file_tree.specs.Answers.{kind_in};
+ghost use Rattle.hac_core.specs.Listing.{is_met};
 
-use hac_model::{Body, Entry, Memory, Name, Query};
+use crate::looking::know_valid;
+use file_tree::{EntryKind, Tree};
+use hac_model::{Memory, Name, Number, Query};
+use hac_names::{print_path, print_text};
 use hac_words::has_term;
 use std::alloc::Global;
 
-/// The lines that list the entries that satisfy a query, in order.
-pub fn link_lines(alloc: Global, entries: &[Entry], query: &Query) -> Result<Vec<Name>, Memory>
-    ensures { IfOk result (λ lines. lines.items ≡ lines_of query.now entries.now) }
+/// The text of a file, on one line.
+pub fn text_lines(alloc: Global, tree: &Tree, file: Number) -> Result<Vec<Name>, Memory>
+    requires { IsTrue (is_file_at tree.now.state.entries file) }
+    ensures { IfOk result (λ lines. lines.items ≡ text_lines tree.now.state file) }
 {
+    let mut line = Vec::from_slice(alloc, b"= ")?;
+    line.extend_from_slice(print_text(alloc, tree.text(file))?.as_slice())?;
     let mut lines = Vec::new(alloc);
-    for entry in entries {
-        if shows(query, &entry.body) {
-            lines.push(link_line(alloc, entry)?)?;
-        }
+    lines.push(Name::new(line))?;
+    Ok(lines)
+}
+
+/// What stands in a directory, in byte order of names.
+pub fn child_lines(alloc: Global, tree: &Tree, dir: Number) -> Result<Vec<Name>, Memory>
+    ensures { IfOk result (λ lines. lines.items ≡ map entry_line (children tree.now.state dir)) }
+{
+    know_valid(tree);
+    let mut lines = Vec::new(alloc);
+    let mut after = None;
+    'children: while let Some(entry) = tree.next_child(dir, after) {
+        lines.push(child_line(alloc, tree, entry)?)?;
+        after = Some(tree.name_of(entry));
     }
     Ok(lines)
 }
 
-/// Whether a text satisfies the query as it was last indexed.
-fn shows(query: &Query, body: &Body) -> bool
-    ensures { result ≡ shows query.now body.now }
+/// An entry as it is listed: the letter of its kind, and its name.
+fn child_line(alloc: Global, tree: &Tree, entry: Number) -> Result<Name, Memory>
+    requires { IsSome (entry_at tree.now.state.entries entry) }
+    ensures { IfOk result (λ line. option_map entry_line (entry_at tree.now.state.entries entry) ≡ Some line) }
 {
-    let Query::Term(term) = query;
-    match body {
-        Body::File {
-            shown: Some(shown),
-            ..
-        } => has_term(shown.as_slice(), term),
-        _ => false,
+    let mut line = Vec::new(alloc);
+    line.push(letter(tree.kind(entry)))?;
+    line.push(b' ')?;
+    line.extend_from_slice(tree.name_of(entry).as_bytes())?;
+    Ok(Name::new(line))
+}
+
+/// The letter of a kind.
+fn letter(kind: EntryKind) -> u8
+    ensures { (body : Body) → kind ≡ kind_in body → result ∷ [] ≡ letter body }
+{
+    match kind {
+        EntryKind::Dir | EntryKind::Mount => b'd',
+        EntryKind::Semantic => b's',
+        EntryKind::File | EntryKind::Symlink | EntryKind::Document => b'f',
     }
 }
 
-fn link_line(alloc: Global, entry: &Entry) -> Result<Name, Memory>
-    ensures { IfOk result (λ line. line ≡ line_of entry.now) }
+/// The links of a directory, in order of the files' numbers.
+pub fn link_lines(alloc: Global, tree: &Tree, dir: Number) -> Result<Vec<Name>, Memory>
+    ensures { IfOk result (λ lines. lines.items ≡ map (link_line tree.now.state) (links tree.now.state dir)) }
 {
-    let mut line = Vec::from_slice(alloc, b"t /")?;
-    line.extend_from_slice(entry.name.as_bytes())?;
+    know_valid(tree);
+    let mut lines = Vec::new(alloc);
+    let mut from = 0;
+    'entries: while let Some(entry) = tree.next_entry(Number::new(from)) {
+        if is_listed(tree, dir, entry) {
+            lines.push(link_line(alloc, tree, entry)?)?;
+        }
+        from = entry.get() + 1;
+    }
+    Ok(lines)
+}
+
+/// A link as it is listed, by the path of its file.
+fn link_line(alloc: Global, tree: &Tree, item: Number) -> Result<Name, Memory>
+    ensures { IfOk result (λ line. line ≡ link_line tree.now.state item) }
+{
+    let mut line = Vec::from_slice(alloc, b"t ")?;
+    line.extend_from_slice(print_path(alloc, &tree.path_of(item)?)?.as_bytes())?;
     Ok(Name::new(line))
+}
+
+/// Whether an entry is a file that is linked in a directory.
+fn is_listed(tree: &Tree, dir: Number, entry: Number) -> bool
+    ensures { result ≡ (is_file_at tree.now.state.entries entry && column (links tree.now.state) entry dir) }
+{
+    is_file(tree, entry) && is_linked(tree, dir, entry)
+}
+
+/// Whether a number is that of a file.
+fn is_file(tree: &Tree, number: Number) -> bool
+    ensures { result ≡ is_file_at tree.now.state.entries number }
+{
+    matches!(tree.kind(number), EntryKind::File)
+}
+
+/// Whether a file is linked in a directory: the one above provides it, and its text as last indexed satisfies the
+/// query. Texts are read last, since a step over directories costs less.
+fn is_linked(tree: &Tree, dir: Number, item: Number) -> bool
+    requires { IsTrue (is_file_at tree.now.state.entries item) }
+    ensures { result ≡ column (links tree.now.state) item dir }
+{
+    know_valid(tree);
+    let Some(query) = tree.query(dir) else {
+        return false;
+    };
+    let Some(text) = tree.shown(item) else {
+        return false;
+    };
+    let parent = tree.parent(dir);
+    (tree.is_below(item, parent) || is_linked(tree, parent, item)) && is_met(query, text)
+}
+
+/// Whether a text satisfies a query.
+fn is_met(query: &Query, text: &[u8]) -> bool
+    ensures { result ≡ is_met query.now text.now }
+{
+    let Query::Term(term) = query;
+    has_term(text, term)
 }

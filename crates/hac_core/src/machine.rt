@@ -1,40 +1,37 @@
 //! The machine itself.
-ghost use Rattle.std.specs.Prelude.{◌≡◌, ℕ, ◌+◌, ◌++◌, ◌∷◌, [], length, ◌<◌, ◌≤◌, Some, None, IfOk, OnOk, OnErr, IfErr, IsTrue, IsOk, if◌then◌else◌, IfSome, IfNone, List, true, false};
+ghost use Rattle.std.specs.Prelude.{◌≡◌, IfOk, IfErr, OnOk, OnErr, IfSome, IfNone, IsTrue, ℕ, ◌<◌, is_some, true, false};
 ghost use Rattle.std.specs.Ordering.{nat_cmp};
-ghost use Rattle.std.specs.Cmp.Lexicographic.{slice_cmp};
-ghost use Rattle.std.specs.BTreeMap.{get, is_at};
 ghost use Rattle.std.specs.BTreeSet.{contains};
-ghost use Rattle.std.specs.Option.{option_copied};
-ghost use Rattle.hac_model.specs.Events.{accepted, apply, dirty, edited, indexed, is_free, rewritten, writing};
+ghost use Rattle.hac_model.specs.Events.{accepted, added, apply, dirty, removed};
 ghost use Rattle.hac_model.specs.Lines.{is_spelled};
-ghost use Rattle.hac_model.specs.Play.{data_lines, reply_of};
-ghost use Rattle.hac_model.specs.Refusals.{refusal, dir_cause, file_cause, slot_cause};
-ghost use Rattle.hac_model.specs.Tree.{empty, number_in_root, standing};
+ghost use Rattle.hac_model.specs.Play.{reply_of};
+ghost use Rattle.hac_model.specs.Refusals.{refusal};
+ghost use Rattle.hac_model.specs.Tree.{empty, entry_at, is_directory_at, is_dirty};
+ghost use Rattle.hac_model.specs.Valid.{IsValid};
 ghost use Rattle.hac_core.specs.Drafts.{IsAdmitted, Refuses, Settles, reads};
-ghost use Rattle.hac_core.specs.Tables.{NumberedFrom};
 
-use crate::bodies;
+use crate::aiming::aim_of;
+use crate::counting::Counts;
 use crate::drafts::{Draft, Settled};
-use crate::listing::link_lines;
-use hac_model::{
-    Body, Command, Deny, Entry, Event, Line, Memory, Name, Number, Path, Query, Refusal, Reply,
-    Seq, Text,
-};
+use crate::limiting::limit_of;
+use crate::looking::know_valid;
+use crate::settling::event_of;
+use crate::sharing::{indexed_share, share_at, written_share};
+use crate::telling::told;
+use file_tree::Tree;
+use hac_model::{Body, Deny, Event, Line, Memory, Name, Number, Refusal, Reply, Seq, Text};
 use std::alloc::Global;
-use std::collections::{BTreeMap, BTreeSet};
+use std::collections::BTreeSet;
 use std::marker::Model;
 
-/// The tree, seen as its state. Names are looked up in a table, and the dirty files are known.
+/// The tree, seen as its state. How much it holds is counted, and the dirty files are known.
 #[derive(Drop)]
 pub struct Machine {
     alloc: Global,
-    // The entries in order of number, the first of which is 1.
-    entries: Vec<Entry>,
-    // The number of what stands under each name in the root.
-    numbers: BTreeMap<Name, u64>,
-    // The numbers of the dirty files, and how many they are.
+    tree: Tree,
+    counts: Counts,
+    // The numbers of the dirty files.
     dirty: BTreeSet<u64>,
-    dirty_count: u64,
 }
 
 impl Model for Machine {
@@ -59,10 +56,9 @@ impl Machine {
     {
         Ok(Machine {
             alloc,
-            entries: Vec::new(alloc),
-            numbers: BTreeMap::new(alloc),
+            tree: Tree::new(alloc)?,
+            counts: Counts::of_root(),
             dirty: BTreeSet::new(alloc),
-            dirty_count: 0,
         })
     }
 
@@ -70,7 +66,7 @@ impl Machine {
     pub fn dirty(&self) -> u64
         ensures { result ≡ dirty self.now }
     {
-        self.dirty_count
+        self.counts.dirty
     }
 
     /// Tells whether the state refuses a command that a line has spelled.
@@ -79,76 +75,11 @@ impl Machine {
         ensures draft { IfOk result (λ draft. (draft ≡ line.now) × IsAdmitted self.now draft.command) }
         ensures refused { IfErr result (λ deny. Refuses deny (refusal self.now line.now.command)) }
     {
-        match self.refusal(&line.command)? {
-            Some(refusal) => Err(Deny::Refused(refusal)),
+        let aim = aim_of(&self.tree, &line.command)?;
+        match limit_of(&self.tree, self.counts, &line.command, &aim) {
+            Some(word) => Err(Deny::Refused(Refusal::Limit(word))),
             None => Ok(Draft::of(line)?),
         }
-    }
-
-    /// Why the state refuses a command, if it does.
-    fn refusal(&self, command: &Command) -> Result<Option<Refusal>, Memory>
-        ensures { IfOk result (λ cause. cause ≡ refusal self.now command.now) }
-    {
-        match command {
-            Command::Write { name, .. } => self.file_cause(name),
-            Command::Smkdir { name, .. } => self.slot_cause(name),
-            Command::Index => Ok(None),
-            Command::Sls { name } => self.dir_cause(name),
-        }
-    }
-
-    fn file_cause(&self, name: &Name) -> Result<Option<Refusal>, Memory>
-        ensures { IfOk result (λ cause. cause ≡ file_cause (name.now ∷ []) (standing self.now name.now)) }
-    {
-        match self.standing(name) {
-            Some(Body::Semantic { .. }) => Ok(Some(Refusal::NotFile(self.root_path(name)?))),
-            Some(Body::File { .. }) | None => Ok(None),
-        }
-    }
-
-    fn slot_cause(&self, name: &Name) -> Result<Option<Refusal>, Memory>
-        ensures { IfOk result (λ cause. cause ≡ slot_cause (name.now ∷ []) (standing self.now name.now)) }
-    {
-        match self.standing(name) {
-            Some(_) => Ok(Some(Refusal::Exists(self.root_path(name)?))),
-            None => Ok(None),
-        }
-    }
-
-    fn dir_cause(&self, name: &Name) -> Result<Option<Refusal>, Memory>
-        ensures { IfOk result (λ cause. cause ≡ dir_cause (name.now ∷ []) (standing self.now name.now)) }
-    {
-        match self.standing(name) {
-            None => Ok(Some(Refusal::NoPath(self.root_path(name)?))),
-            Some(Body::File { .. }) => Ok(Some(Refusal::NotDir(self.root_path(name)?))),
-            Some(Body::Semantic { .. }) => Ok(None),
-        }
-    }
-
-    /// The path of a name in the root.
-    fn root_path(&self, name: &Name) -> Result<Path, Memory>
-        ensures { IfOk result (λ path. path ≡ name.now ∷ []) }
-    {
-        let mut path = Path::root(self.alloc);
-        path.push(name.clone()?)?;
-        Ok(path)
-    }
-
-    /// The number of what stands under a name in the root.
-    fn number_in_root(&self, name: &Name) -> Option<u64>
-        ensures number { result ≡ number_in_root self.now name.now }
-        ensures inside { IfSome result (λ number. (0 < number) × (number ≤ length self.now.entries)) }
-    {
-        self.numbers.get(name).copied()
-    }
-
-    /// What stands under a name in the root.
-    fn standing(&self, name: &Name) -> Option<&Body>
-        ensures { option_copied result ≡ standing self.now name.now }
-    {
-        let number = self.number_in_root(name)?;
-        let index = (number - 1) as usize;
-        Some(&self.entries[index].body)
     }
 
     /// Answers a command that reads.
@@ -158,21 +89,7 @@ impl Machine {
         ensures reply { IfOk result (λ reply. reply ≡ reply_of self.now draft.command) }
         ensures err { IfErr result (λ deny. deny ≡ Deny.Memory) }
     {
-        match draft.command() {
-            Command::Sls { name } => Ok(Reply::Lines(Seq::new(self.listing(name)?))),
-            Command::Write { .. } | Command::Smkdir { .. } | Command::Index => unreachable!(),
-        }
-    }
-
-    /// The lines that list the semantic directory that stands under a name.
-    fn listing(&self, name: &Name) -> Result<Vec<Name>, Memory>
-        requires { dir_cause (name.now ∷ []) (standing self.now name.now) ≡ None }
-        ensures { IfOk result (λ lines. lines.items ≡ data_lines self.now (Command.Sls name.now)) }
-    {
-        match self.standing(name) {
-            Some(Body::Semantic { query }) => link_lines(self.alloc, &self.entries, query),
-            Some(Body::File { .. }) | None => unreachable!(),
-        }
+        Ok(Reply::Lines(Seq::new(told(self.alloc, &self.tree, draft.command())?)))
     }
 
     /// What a command comes to that changes the state.
@@ -180,34 +97,13 @@ impl Machine {
         requires made { IsAdmitted self.now draft.command }
         requires changes { reads draft.command ≡ false }
         ensures settled { IfOk result (λ settled. Settles settled self.now draft.command) }
-        ensures ok { IsOk result }
+        ensures err { IfErr result (λ deny. deny ≡ Deny.Memory) }
     {
-        match draft.into_command() {
-            Command::Write { name, text } => Ok(Settled::Change(self.writing(name, text))),
-            Command::Smkdir { name, query } => Ok(Settled::Change(Event::Smkdir {
-                dir: Number::ROOT,
-                name,
-                query,
-            })),
-            Command::Index => Ok(Settled::Steps(self.dirty())),
-            Command::Sls { .. } => unreachable!(),
-        }
-    }
-
-    /// The event that writes a text under a name of the root.
-    fn writing(&self, name: Name, text: Text) -> Event
-        ensures { result ≡ writing name text (number_in_root self.now name) }
-    {
-        match self.number_in_root(&name) {
-            Some(file) => Event::Rewrite {
-                file: Number::new(file),
-                text,
-            },
-            None => Event::NewFile {
-                dir: Number::ROOT,
-                name,
-                text,
-            },
+        let command = draft.into_command();
+        let aim = aim_of(&self.tree, &command)?;
+        match event_of(command, aim) {
+            Some(event) => Ok(Settled::Change(event)),
+            None => Ok(Settled::Steps(self.dirty())),
         }
     }
 
@@ -217,123 +113,131 @@ impl Machine {
         ensures ok { OnOk result (self.new ≡ apply self.old event) }
         ensures err { OnErr result (self.new ≡ self.old) }
     {
+        know_valid(&self.tree);
         match event {
-            Event::NewFile { name, text, .. } => self.new_file(name, text),
-            Event::Smkdir { name, query, .. } => self.new_semantic(name, query),
+            Event::Mkdir { dir, name } => self.add_directory(dir, name, Body::Dir),
+            Event::NewFile { dir, name, text } => self.add_file(dir, name, text),
+            Event::Smkdir { dir, name, query } => {
+                self.add_directory(dir, name, Body::Semantic { query })
+            }
             Event::Rewrite { file, text } => self.rewrite(file, text),
-            Event::Step => self.step(),
-        }
-    }
-
-    fn new_file(&mut self, name: Name, text: Text) -> Result<(), Memory>
-        requires { IsTrue (is_free self.old 0 name) }
-        ensures ok { OnOk result (self.new ≡ apply self.old (Event.NewFile 0 name text)) }
-        ensures err { OnErr result (self.new ≡ self.old) }
-    {
-        let number = self.entries.len() as u64 + 1;
-        self.dirty.insert(number)?;
-        let body = Body::File {
-            text,
-            dirty: true,
-            shown: None,
-        };
-        match add_entry(&mut self.entries, &mut self.numbers, name, body) {
-            Ok(()) => {
-                self.dirty_count += 1;
+            Event::Mv { entry, dir, name } => self.move_to(entry, dir, name),
+            Event::Rm { file } => {
+                self.remove(file);
                 Ok(())
             }
-            Err(Memory) => {
-                self.dirty.remove(&number);
-                Err(Memory)
+            Event::Rmdir { dir } => {
+                self.remove(dir);
+                Ok(())
+            }
+            Event::Step => {
+                self.step();
+                Ok(())
             }
         }
     }
 
-    fn new_semantic(&mut self, name: Name, query: Query) -> Result<(), Memory>
-        requires { IsTrue (accepted self.old (Event.Smkdir 0 name query)) }
-        ensures ok { OnOk result (self.new ≡ apply self.old (Event.Smkdir 0 name query)) }
+    /// Puts a new file into a directory.
+    fn add_file(&mut self, dir: Number, name: Name, text: Text) -> Result<(), Memory>
+        requires { IsTrue (accepted self.old (Event.NewFile dir name text)) }
+        ensures ok { OnOk result (self.new ≡ apply self.old (Event.NewFile dir name text)) }
         ensures err { OnErr result (self.new ≡ self.old) }
     {
-        add_entry(
-            &mut self.entries,
-            &mut self.numbers,
-            name,
-            Body::Semantic { query },
-        )
+        know_valid(&self.tree);
+        let body = new_file(text);
+        let share = Counts::of(&body);
+        let number = self.tree.next_number().get();
+        let room = self.tree.prepare_add(dir, body)?;
+        self.dirty.insert(number)?;
+        self.tree.add(dir, name, room);
+        self.counts = self.counts.plus(share);
+        Ok(())
     }
 
+    /// Puts a new directory into a directory.
+    fn add_directory(&mut self, dir: Number, name: Name, body: Body) -> Result<(), Memory>
+        requires valid { IsValid (added self.old dir name body) }
+        requires dir { IsTrue (is_directory_at self.old.entries dir) }
+        requires clean { is_dirty body ≡ false }
+        ensures ok { OnOk result (self.new ≡ added self.old dir name body) }
+        ensures err { OnErr result (self.new ≡ self.old) }
+    {
+        know_valid(&self.tree);
+        let share = Counts::of(&body);
+        let room = self.tree.prepare_add(dir, body)?;
+        self.tree.add(dir, name, room);
+        self.counts = self.counts.plus(share);
+        Ok(())
+    }
+
+    /// Replaces a file's text.
     fn rewrite(&mut self, file: Number, text: Text) -> Result<(), Memory>
         requires { IsTrue (accepted self.old (Event.Rewrite file text)) }
         ensures ok { OnOk result (self.new ≡ apply self.old (Event.Rewrite file text)) }
         ensures err { OnErr result (self.new ≡ self.old) }
     {
-        let number = file.get();
-        let is_new = self.dirty.insert(number)?;
-        rewrite_entry(&mut self.entries, number, text);
-        self.dirty_count += u64::from(is_new);
+        know_valid(&self.tree);
+        let old = share_at(&self.tree, file);
+        let new = written_share(&self.tree, file, text.as_slice().len() as u64);
+        let room = self.tree.prepare_body(file, new_file(text))?;
+        self.dirty.insert(file.get())?;
+        self.tree.set_text(file, room);
+        self.counts = self.counts.replaced(old, new);
         Ok(())
     }
 
-    fn step(&mut self) -> Result<(), Memory>
-        ensures ok { OnOk result (self.new ≡ apply self.old Event.Step) }
+    /// Takes an entry elsewhere.
+    fn move_to(&mut self, entry: Number, dir: Number, name: Name) -> Result<(), Memory>
+        requires { IsTrue (accepted self.old (Event.Mv entry dir name)) }
+        ensures ok { OnOk result (self.new ≡ apply self.old (Event.Mv entry dir name)) }
         ensures err { OnErr result (self.new ≡ self.old) }
     {
-        let Some(number) = least(&self.dirty) else {
-            return Ok(());
-        };
-        index_entry(&mut self.entries, number)?;
-        self.dirty.remove(&number);
-        self.dirty_count -= 1;
+        know_valid(&self.tree);
+        let room = self.tree.prepare_move(dir, name)?;
+        self.tree.move_to(entry, dir, room);
         Ok(())
+    }
+
+    /// Takes an entry out in which nothing stands.
+    fn remove(&mut self, entry: Number)
+        requires there { IsTrue (is_some (entry_at self.old.entries entry)) }
+        requires valid { IsValid (removed self.old entry) }
+        ensures { self.new ≡ removed self.old entry }
+    {
+        know_valid(&self.tree);
+        let share = share_at(&self.tree, entry);
+        self.dirty.remove(&entry.get());
+        self.tree.remove(entry);
+        self.counts = self.counts.minus(share);
+    }
+
+    /// Indexes the dirty file of the least number.
+    fn step(&mut self)
+        requires { IsTrue (accepted self.old Event.Step) }
+        ensures { self.new ≡ apply self.old Event.Step }
+    {
+        know_valid(&self.tree);
+        let Some(number) = least(&self.dirty) else {
+            return;
+        };
+        let file = Number::new(number);
+        let old = share_at(&self.tree, file);
+        let new = indexed_share(&self.tree, file);
+        self.dirty.remove(&number);
+        self.tree.mark_clean(file);
+        self.counts = self.counts.replaced(old, new);
     }
 }
 
-/// Adds an entry to the root, under the next number and a name that is free.
-fn add_entry(
-    entries: &mut Vec<Entry>,
-    numbers: &mut BTreeMap<Name, u64>,
-    name: Name,
-    body: Body,
-) -> Result<(), Memory>
-    ensures entries { OnOk result (entries.new.items ≡ entries.old.items ++ record { number = length entries.old.items + 1; parent = 0; name = name; body = body } ∷ []) }
-    ensures numbers { OnOk result ((other : List ℕ) → get (slice_cmp nat_cmp) numbers.new other ≡ if is_at (slice_cmp nat_cmp name) other then Some (length entries.old.items + 1) else get (slice_cmp nat_cmp) numbers.old other) }
-    ensures err { OnErr result ((entries.new.items ≡ entries.old.items) × ((other : List ℕ) → get (slice_cmp nat_cmp) numbers.new other ≡ get (slice_cmp nat_cmp) numbers.old other)) }
+/// A file that is new, or the new text of one.
+fn new_file(text: Text) -> Body
+    ensures { result ≡ Body.File text true None }
 {
-    let key = name.clone()?;
-    entries.reserve(1)?;
-    let number = entries.len() as u64 + 1;
-    numbers.insert(key, number)?;
-    let entry = Entry {
-        number: Number::new(number),
-        parent: Number::ROOT,
-        name,
-        body,
-    };
-    entries.push(entry).unwrap();
-    Ok(())
-}
-
-/// Replaces the text of a file.
-fn rewrite_entry(entries: &mut Vec<Entry>, number: u64, text: Text)
-    requires numbered { NumberedFrom 1 entries.old.items }
-    requires above { 0 < number }
-    requires inside { number ≤ length entries.old.items }
-    ensures { entries.new.items ≡ edited number (rewritten text) entries.old.items }
-{
-    let index = (number - 1) as usize;
-    bodies::rewrite(&mut entries[index].body, text);
-}
-
-/// Shows the text of a file.
-fn index_entry(entries: &mut Vec<Entry>, number: u64) -> Result<(), Memory>
-    requires numbered { NumberedFrom 1 entries.old.items }
-    requires above { 0 < number }
-    requires inside { number ≤ length entries.old.items }
-    ensures ok { OnOk result (entries.new.items ≡ edited number indexed entries.old.items) }
-    ensures err { OnErr result (entries.new.items ≡ entries.old.items) }
-{
-    let index = (number - 1) as usize;
-    bodies::index(&mut entries[index].body)
+    Body::File {
+        text,
+        dirty: true,
+        shown: None,
+    }
 }
 
 /// The least number of a set.

@@ -1,172 +1,236 @@
--- The events of commands can happen, and steps leave fewer files dirty.
-use Rattle.std.proofs.Common.{zero, get_or, length, ◌≡◌, ℕ, ◌+◌, ◌<◌, ◌≤◌, Bool, true, false, cond, List, [], ◌∷◌, refl, ap, sym, ◌∙◌, arith, eq-eqb, zero-add, suc}
-use Rattle.std.specs.Prelude.{◌==◌, ◌&&◌, if◌then◌else◌, nat_lt, count_by, Option, Some, None, IsTrue, is_some, is_none, option_and_then}
-use Rattle.std.specs.Option.{option_map_or, option_map}
-use Rattle.std.specs.Str.{bytes_eq}
-use Rattle.std.proofs.lemmas.Bool.{and_parts, and_from, ne_eqb}
-use Rattle.std.proofs.lemmas.Bool.Decides.{nat_tests}
-use Rattle.std.proofs.lemmas.List.Sums.{sum_by-cons}
-use Rattle.std.proofs.Math.ListN.{set}
-use Rattle.hac_model.specs.Events.{accepted, apply, edited, edited_at, dirty, event_of, indexed, is_free, next_dirty, writing}
-use Rattle.hac_model.specs.Lines.{is_spelled}
-use Rattle.hac_model.specs.Names.{is_name}
+-- The event of a command that isn't refused can happen, and steps leave fewer files dirty.
+use Rattle.std.proofs.Common.{◌≡◌, ℕ, zero, suc, ◌+◌, ◌<◌, Bool, true, false, cond, List, [], ◌∷◌, subst, refl, ap, sym, ◌∙◌, arith, eq-eqb, inl, inr, zero-add}
+use Rattle.std.specs.Prelude.{◌==◌, ◌&&◌, ◌||◌, not, nat_lt, replicate, Option, Some, None, Result, Ok, Err, IsTrue, is_some, is_none}
+use Rattle.std.specs.Option.{option_map, option_map_or}
+use Rattle.std.proofs.lemmas.Bool.{and_from, and_parts, not_from_false}
+use Rattle.hac_model.specs.Answers.{and_then}
+use Rattle.hac_model.specs.Events.{accepted, apply, apply_all, changed_at, dirty, dirty_count, edited, indexed, is_bare, is_free, is_inside, is_possible, next_dirty}
+use Rattle.hac_model.specs.Limits.{is_text, passed}
+use Rattle.hac_model.specs.Lines.{is_spelled, is_word}
+use Rattle.hac_model.specs.Paths.{are_names}
 use Rattle.hac_model.specs.Queries.{is_query}
-use Rattle.hac_model.specs.Refusals.{file_cause, slot_cause, refusal}
-use Rattle.hac_model.specs.Tree.{body_at, child, entry_at, is_dirty, is_directory, is_file, number_in_root, standing}
-use Rattle.hac_model.specs.Valid.{NumbersRise, IsValid}
+use Rattle.hac_model.specs.Refusals.{cause_in, directed, directory, emptying, entry, events_in, events_of, file, intent, listed, making, moving, moving_to, none, one, place, refusal, removing, semantic, standing, writing}
+use Rattle.hac_model.specs.Tree.{entry_at, is_directory_at, is_dirty, is_file_at, is_made_directory, path_of}
 use Rattle.hac_model.specs.declared.commands.Command.{Command}
 use Rattle.hac_model.specs.declared.commands.Command.TheVariants as command
 use Rattle.hac_model.specs.declared.events.Event.{Event}
-use Rattle.hac_model.specs.declared.events.Event.TheVariants.{Smkdir, Step}
-use Rattle.hac_model.specs.declared.replies.Refusal.TheVariants.{NotFile}
+use Rattle.hac_model.specs.declared.events.Event.TheVariants.{Mkdir, NewFile, Rewrite, Smkdir, Mv, Rm, Rmdir, Step}
+use Rattle.hac_model.specs.declared.limits.LimitWord.{LimitWord}
+use Rattle.hac_model.specs.declared.paths.PathWord.{PathWord}
+use Rattle.hac_model.specs.declared.places.Place.{Place}
+use Rattle.hac_model.specs.declared.places.Place.TheVariants.{There, Free}
+use Rattle.hac_model.specs.declared.replies.Refusal.{Refusal}
+use Rattle.hac_model.specs.declared.replies.Refusal.TheVariants.{NotDir, NotFile, NotEmpty, Under, Root, Limit}
+use Rattle.hac_model.specs.Valid.{IsValid, NumbersRise}
 use Rattle.hac_model.specs.declared.states.Body.{Body}
-use Rattle.hac_model.specs.declared.states.Body.TheVariants.{File, Semantic}
+use Rattle.hac_model.specs.declared.states.Body.TheVariants.{File, Dir, Semantic}
 use Rattle.hac_model.specs.declared.states.Entry.{Entry}
 use Rattle.hac_model.specs.declared.states.State.{State}
-use Rattle.hac_model.proofs.TreeLemmas.{number-above}
+use Rattle.std.proofs.lemmas.Bool.Decides.{nat_tests}
+use Rattle.hac_model.proofs.CountLemmas.{dirty_count-is, measured-changed, measured-cons, one_if}
+use Rattle.hac_model.proofs.LookLemmas.{file-or_directory, free-is, place-free, place-lives}
+use Rattle.hac_model.proofs.PassedLemmas.{step-passes}
+use Rattle.hac_model.proofs.TreeLemmas.{Lives, entry_at-above, entry_at-behind, entry_at-first}
+use Rattle.hac_model.proofs.ValidLemmas.{edited-valid, indexed-kind, indexed-sound}
 
-found-more : (b : Bool) (e : Entry) (o : Option Entry) → is_some o ≡ true → is_some (cond b (Some e) o) ≡ true
-found-more true e o h = refl
-found-more false e o h = h
+-- what comes of a step that went on
+pub then-ok : {A B : Type 0} (next : A → Result B Refusal) (r : Result A Refusal) (y : B) → and_then next r ≡ Ok y → (x : A) × (r ≡ Ok x) × (next x ≡ Ok y)
+then-ok next (Ok x) y h = (x, refl, h)
+then-ok next (Err e) y h = absurd cc
 
--- what a directory has under a name has an entry
-pub child-lives : (es : List Entry) (dir : ℕ) (name : List ℕ) (n : ℕ) → child es dir name ≡ Some n → is_some (entry_at es n) ≡ true
-child-lives [] dir name n h = absurd cc
-child-lives (e ∷ es) dir name n h =
-    elim (e.parent == dir && bytes_eq e.name name) as (λ b. cond b (Some e.number) (child es dir name) ≡ Some n → is_some (entry_at (e ∷ es) n) ≡ true) [
-      | true ↦ (λ h. let same : e.number ≡ n = cc in ap (λ (b : Bool). is_some (cond b (Some e) (entry_at es n))) (eq-eqb e.number n same))
-      | false ↦ (λ h. found-more (e.number == n) e (entry_at es n) (child-lives es dir name n h))
-    ] h
+one-ok : (r : Result Event Refusal) (event : Event) → one r ≡ Ok (event ∷ []) → r ≡ Ok event
+one-ok (Ok other) event h = let same : other ≡ event = cc in ap (λ (e : Event). Ok e) same
+one-ok (Err e) event h = absurd cc
 
--- an entry that is no directory is a file
-file-at : (path : List (List ℕ)) (o : Option Entry) → is_some o ≡ true → file_cause path (option_map (λ (e : Entry). e.body) o) ≡ None → option_map_or is_file (option_map (λ (e : Entry). e.body) o) false ≡ true
-file-at path None there h = there
-file-at path (Some e) there h =
-    elim e.body as (λ body. (if is_directory body then Some (NotFile path) else None) ≡ None → is_file body ≡ true) [ File text dirty shown ↦ (λ h. refl) | Semantic query ↦ (λ h. absurd cc) ] h
+none-ok : (r : Result ℕ Refusal) (event : Event) → none r ≡ Ok (event ∷ []) → ⊥
+none-ok (Ok n) event h = cc
+none-ok (Err e) event h = cc
 
-free-in-root : (s : State) (name : List ℕ) → is_name name ≡ true → number_in_root s name ≡ None → is_free s 0 name ≡ true
-free-in-root s name named none = and_from (is_name name) (is_none (number_in_root s name)) named (ap (λ (o : Option ℕ). is_none o) none)
+-- where a test refuses what passes it
+refused-if : {A : Type 0} (b : Bool) (e : Refusal) (r : Result A Refusal) (y : A) → cond b (Err e) r ≡ Ok y → (b ≡ false) × (r ≡ Ok y)
+refused-if true e r y h = absurd cc
+refused-if false e r y h = (refl, h)
 
-writing-accepted : (s : State) (name text : List ℕ) (event : Event) → is_name name ≡ true → refusal s (command.Write name text) ≡ None → writing name text (number_in_root s name) ≡ event → accepted s event ≡ true
-writing-accepted s name text event named free same =
-    elim (number_in_root s name) as (λ o. number_in_root s name ≡ o → file_cause (name ∷ []) (option_and_then (body_at s.entries) o) ≡ None → writing name text o ≡ event → accepted s event ≡ true) [
-      | None ↦ (λ found free same. ap (λ (e : Event). accepted s e) (sym same) ∙ free-in-root s name named found)
-      | Some file ↦ (λ found free same. ap (λ (e : Event). accepted s e) (sym same) ∙ file-at (name ∷ []) (entry_at s.entries file) (child-lives s.entries 0 name file found) free)
-    ] refl free same
+given-if : {A : Type 0} (b : Bool) (x : A) (e : Refusal) (y : A) → cond b (Ok x) (Err e) ≡ Ok y → (b ≡ true) × (x ≡ y)
+given-if true x e y h = let same : x ≡ y = cc in (refl, same)
+given-if false x e y h = absurd cc
 
-slot-empty : (s : State) (name : List ℕ) → slot_cause (name ∷ []) (standing s name) ≡ None → number_in_root s name ≡ None
-slot-empty s name free =
-    elim (number_in_root s name) as (λ o. number_in_root s name ≡ o → slot_cause (name ∷ []) (option_and_then (body_at s.entries) o) ≡ None → o ≡ None) [
-      | None ↦ (λ found free. refl)
-      | Some n ↦ (λ found free. nothing (entry_at s.entries n) n (child-lives s.entries 0 name n found) free)
-    ] refl free
+-- what stands at the end of a path lives
+entry-lives : (s : State) (word : PathWord) (n : ℕ) → entry s word ≡ Ok n → Lives s.entries n
+entry-lives s word n h = there (then-ok (standing s) (place s word) n h)
   where
-    nothing : (o : Option Entry) (n : ℕ) → is_some o ≡ true → slot_cause (name ∷ []) (option_map (λ (e : Entry). e.body) o) ≡ None → Some n ≡ None
-    nothing None n there free = absurd cc
-    nothing (Some e) n there free = absurd cc
+    there : (p : Place) × (place s word ≡ Ok p) × (standing s p ≡ Ok n) → Lives s.entries n
+    there (There m, leads, is) = let same : m ≡ n = cc in subst (λ (k : ℕ). Lives s.entries k) same (place-lives s word m leads)
+    there (Free dir name, leads, is) = absurd cc
 
-pub commands-happen : (s : State) (c : Command) (event : Event) → IsTrue (is_spelled c) → refusal s c ≡ None → event_of s c ≡ Some event → IsTrue (accepted s event)
-commands-happen s (command.Write name text) event named free same =
-    let even : writing name text (number_in_root s name) ≡ event = cc in writing-accepted s name text event named free even
-commands-happen s (command.Smkdir name query) event named free same =
-    let even : Smkdir 0 name query ≡ event = cc in
-    let parts = and_parts (is_name name) (is_query query) named in
-    ap (λ (e : Event). accepted s e) (sym even) ∙ and_from (is_free s 0 name) (is_query query) (free-in-root s name parts.0 (slot-empty s name free)) parts.1
-commands-happen s command.Index event named free same = absurd cc
-commands-happen s (command.Sls name) event named free same = absurd cc
+lives-some : (es : List Entry) (n : ℕ) → Lives es n → (n == 0) ≡ false → is_some (entry_at es n) ≡ true
+lives-some es n (inl root) other = let never : true ≡ false = sym (eq-eqb n 0 root) ∙ other in absurd cc
+lives-some es n (inr found) other = ap (λ (o : Option Entry). is_some o) found.1
 
-dirty_in : List Entry → ℕ
-dirty_in es = count_by (λ (e : Entry). is_dirty e.body) es
+-- an event that a command made can happen, limits left aside
+fits : State → Event → Type 0
+fits s event = is_possible s event ≡ true
 
-dirty_in-cons : (e : Entry) (es : List Entry) → dirty_in (e ∷ es) ≡ cond {A = ℕ} (is_dirty e.body) 1 0 + dirty_in es
-unfolding dirty_in
-dirty_in-cons e es = sum_by-cons (λ (e : Entry). cond {A = ℕ} (is_dirty e.body) 1 0) e es
+making-fits : (s : State) (make : ℕ → List ℕ → Event) (word : PathWord) (event : Event) → are_names word.names ≡ true → ((dir : ℕ) (name : List ℕ) → is_free s dir name ≡ true → is_possible s (make dir name) ≡ true) → and_then (making s make) (place s word) ≡ Ok event → is_possible s event ≡ true
+making-fits s make word event named makes h = made (then-ok (making s make) (place s word) event h)
+  where
+    made : (p : Place) × (place s word ≡ Ok p) × (making s make p ≡ Ok event) → is_possible s event ≡ true
+    made (There n, leads, is) = absurd cc
+    made (Free dir name, leads, is) =
+        let same : make dir name ≡ event = cc in
+        subst (λ (e : Event). is_possible s e ≡ true) same (makes dir name (free-is s dir name (place-free s word dir name named leads)))
 
-due-cons : (b : Bool) (n k : ℕ) (rest : Option ℕ) → is_some rest ≡ nat_lt 0 k → is_some (cond b (Some n) rest) ≡ nat_lt 0 (cond {A = ℕ} b 1 0 + k)
-due-cons true n k rest h = grind (arith, nat_tests)
-due-cons false n k rest h = h ∙ ap (λ (k : ℕ). nat_lt 0 k) (sym (zero-add k))
+writing-fits : (s : State) (text : List ℕ) (word : PathWord) (event : Event) → are_names word.names ≡ true → is_text text ≡ true → and_then (writing s text) (place s word) ≡ Ok event → is_possible s event ≡ true
+writing-fits s text word event named short h = written (then-ok (writing s text) (place s word) event h)
+  where
+    written : (p : Place) × (place s word ≡ Ok p) × (writing s text p ≡ Ok event) → is_possible s event ≡ true
+    written (There n, leads, is) =
+        let parts = refused-if (is_directory_at s.entries n) (NotFile (path_of s n)) (Ok (Rewrite n text)) event is in
+        let made : Ok (Rewrite n text) ≡ Ok event = parts.1 in
+        let same : Rewrite n text ≡ event = cc (made) in
+        subst (λ (e : Event). is_possible s e ≡ true) same (and_from (is_file_at s.entries n) (is_text text) (file-or_directory s.entries n (place-lives s word n leads) parts.0) short)
+    written (Free dir name, leads, is) =
+        let same : NewFile dir name text ≡ event = cc in
+        subst (λ (e : Event). is_possible s e ≡ true) same (and_from (is_free s dir name) (is_text text) (free-is s dir name (place-free s word dir name named leads)) short)
 
-due : (es : List Entry) → is_some (next_dirty es) ≡ nat_lt 0 (dirty_in es)
-unfolding dirty_in
+removing-fits : (s : State) (word : PathWord) (event : Event) → and_then (removing s) (entry s word) ≡ Ok event → is_possible s event ≡ true
+removing-fits s word event h =
+    let parts = then-ok (removing s) (entry s word) event h in
+    let n = parts.0 in
+    let other = refused-if (n == 0) Root (cond (is_directory_at s.entries n) (Err (NotFile (path_of s n))) (Ok (Rm n))) event parts.2 in
+    let file = refused-if (is_directory_at s.entries n) (NotFile (path_of s n)) (Ok (Rm n)) event other.1 in
+    let made : Ok (Rm n) ≡ Ok event = file.1 in
+    let same : Rm n ≡ event = cc (made) in
+    subst (λ (e : Event). is_possible s e ≡ true) same (file-or_directory s.entries n (entry-lives s word n parts.1) file.0)
+
+emptying-fits : (s : State) (word : PathWord) (event : Event) → and_then (emptying s) (directory s word) ≡ Ok event → is_possible s event ≡ true
+emptying-fits s word event h =
+    let parts = then-ok (emptying s) (directory s word) event h in
+    let n = parts.0 in
+    let other = refused-if (n == 0) Root (cond (is_bare s.entries n) (Ok (Rmdir n)) (Err (NotEmpty (path_of s n)))) event parts.2 in
+    let bare = given-if (is_bare s.entries n) (Rmdir n) (NotEmpty (path_of s n)) event other.1 in
+    let led = then-ok (directed s) (entry s word) n parts.1 in
+    let is = given-if (is_directory_at s.entries led.0) led.0 (NotDir (path_of s led.0)) n led.2 in
+    let there : is_directory_at s.entries n ≡ true = subst (λ (k : ℕ). is_directory_at s.entries k ≡ true) is.1 is.0 in
+    let made : is_made_directory s.entries n ≡ true = ap (λ (b : Bool). b || is_made_directory s.entries n) (sym other.0) ∙ there in
+    subst (λ (e : Event). is_possible s e ≡ true) bare.1 (and_from (is_made_directory s.entries n) (is_bare s.entries n) made bare.0)
+
+moving-fits : (s : State) (from to : PathWord) (event : Event) → are_names to.names ≡ true → and_then (λ number. and_then (moving s number) (place s to)) (entry s from) ≡ Ok event → is_possible s event ≡ true
+moving-fits s from to event named h =
+    let parts = then-ok (λ number. and_then (moving s number) (place s to)) (entry s from) event h in
+    let n = parts.0 in
+    let led = then-ok (moving s n) (place s to) event parts.2 in
+    let other = refused-if (n == 0) Root (moving_to s n led.0) event led.2 in
+    moved n (lives-some s.entries n (entry-lives s from n parts.1) other.0) (led.0, led.1, other.1)
+  where
+    moved : (n : ℕ) → is_some (entry_at s.entries n) ≡ true → (p : Place) × (place s to ≡ Ok p) × (moving_to s n p ≡ Ok event) → is_possible s event ≡ true
+    moved n there (There m, leads, is) = absurd cc
+    moved n there (Free dir name, leads, is) =
+        let parts = refused-if (is_inside s dir n) (Under (path_of s n)) (Ok (Mv n dir name)) event is in
+        let made : Ok (Mv n dir name) ≡ Ok event = parts.1 in
+        let same : Mv n dir name ≡ event = cc (made) in
+        let free = free-is s dir name (place-free s to dir name named leads) in
+        subst (λ (e : Event). is_possible s e ≡ true) same (and_from (is_some (entry_at s.entries n) && is_free s dir name) (not (is_inside s dir n)) (and_from (is_some (entry_at s.entries n)) (is_free s dir name) there free) (not_from_false (is_inside s dir n) parts.0))
+
+-- a file is dirty just where one is counted
+pub due : (es : List Entry) → is_some (next_dirty es) ≡ nat_lt 0 (dirty_count es)
 due [] = refl
-due (e ∷ es) = due-cons (is_dirty e.body) e.number (dirty_in es) (next_dirty es) (due es) ∙ ap (λ (k : ℕ). nat_lt 0 k) (sym (dirty_in-cons e es))
+due (e ∷ es) = due-cons (is_dirty e.body) e.number (dirty_count es) (next_dirty es) (due es) ∙ ap (λ (k : ℕ). nat_lt 0 k) (sym (measured-cons (one_if is_dirty) e es))
+  where
+    due-cons : (b : Bool) (n k : ℕ) (rest : Option ℕ) → is_some rest ≡ nat_lt 0 k → is_some (cond b (Some n) rest) ≡ nat_lt 0 (cond {A = ℕ} b 1 0 + k)
+    due-cons true n k rest h = grind (arith, nat_tests)
+    due-cons false n k rest h = h ∙ ap (λ (k : ℕ). nat_lt 0 k) (sym (zero-add k))
 
-pub steps-due : (s : State) → accepted s Step ≡ nat_lt 0 (dirty s)
-unfolding dirty_in
-steps-due s = due s.entries
+step-one : (n : ℕ) (event : Event) → replicate n Step ≡ event ∷ [] → (Step ≡ event) × (nat_lt 0 n ≡ true)
+step-one zero event h = absurd cc
+step-one (suc n) event h = let same : Step ≡ event = cc in (same, grind (arith, nat_tests))
 
--- a number that no entry has changes none
-edited-low : (n : ℕ) (f : Body → Body) (above : ℕ) (es : List Entry) (next : ℕ) → NumbersRise above es next → n ≤ above → edited n f es ≡ es
-edited-low n f above [] next h low = refl
-edited-low n f above (e ∷ es) next h low =
-    let first : above < e.number = h.0 in
-    let head : (e.number == n) ≡ false = ne_eqb e.number n (λ same. omega arith) in
-    let tail : edited n f es ≡ es = edited-low n f e.number es next h.1 (omega arith) in
-    λ i. record e { body = cond (head i) (f e.body) e.body } ∷ tail i
+stepping-fits : (s : State) (event : Event) → replicate (dirty s) Step ≡ event ∷ [] → is_possible s event ≡ true
+stepping-fits s event h =
+    let one = step-one (dirty s) event h in
+    subst (λ (e : Event). is_possible s e ≡ true) one.0 (due s.entries ∙ one.1)
 
--- the number of an entry changes that entry alone
-pub edited-index : (f : Body → Body) (above : ℕ) (es : List Entry) (next i : ℕ) (d : Entry) → NumbersRise above es next → i < length es → edited (get_or es i d).number f es ≡ set es i (record (get_or es i d) { body = f (get_or es i d).body })
-edited-index f above [] next i d h k = absurd (omega arith)
-edited-index f above (e ∷ es) next zero d h k =
-    let head : (e.number == e.number) ≡ true = eq-eqb e.number e.number refl in
-    let tail : edited e.number f es ≡ es = edited-low e.number f e.number es next h.1 (omega arith) in
-    λ j. record e { body = cond (head j) (f e.body) e.body } ∷ tail j
-edited-index f above (e ∷ es) next (suc i) d h k =
-    let inside : i < length es = omega arith in
-    let more : e.number < (get_or es i d).number = number-above e.number es next i d h.1 inside in
-    let head : (e.number == (get_or es i d).number) ≡ false = ne_eqb e.number (get_or es i d).number (λ same. omega arith) in
-    let tail = edited-index f e.number es next i d h.1 inside in
-    λ j. record e { body = cond (head j) (f e.body) e.body } ∷ tail j
+-- what a command comes to can happen, limits left aside
+intent-fits : (s : State) (c : Command) (event : Event) → is_spelled c ≡ true → intent s c ≡ Ok (event ∷ []) → is_possible s event ≡ true
+intent-fits s (command.Mkdir path) event spelled h =
+    making-fits s Mkdir path event spelled (λ dir name free. free) (one-ok (and_then (making s Mkdir) (place s path)) event h)
+intent-fits s (command.Rmdir path) event spelled h = emptying-fits s path event (one-ok (and_then (emptying s) (directory s path)) event h)
+intent-fits s (command.Write path text) event spelled h =
+    let parts = and_parts (is_word path) (is_text text) spelled in
+    writing-fits s text path event parts.0 parts.1 (one-ok (and_then (writing s text) (place s path)) event h)
+intent-fits s (command.Cat path) event spelled h = absurd (none-ok (file s path) event h)
+intent-fits s (command.Ls path) event spelled h = absurd (none-ok (listed s path) event h)
+intent-fits s (command.Mv from to) event spelled h =
+    let parts = and_parts (is_word from) (is_word to) spelled in
+    moving-fits s from to event parts.1 (one-ok (and_then (λ number. and_then (moving s number) (place s to)) (entry s from)) event h)
+intent-fits s (command.Rm path) event spelled h = removing-fits s path event (one-ok (and_then (removing s) (entry s path)) event h)
+intent-fits s (command.Smkdir path query) event spelled h =
+    let parts = and_parts (is_word path) (is_query query) spelled in
+    making-fits s (λ dir name. Smkdir dir name query) path event parts.0 (λ dir name free. and_from (is_free s dir name) (is_query query) free parts.1) (one-ok (and_then (making s (λ dir name. Smkdir dir name query)) (place s path)) event h)
+intent-fits s (command.Sls path) event spelled h = absurd (none-ok (semantic s path) event h)
+intent-fits s command.Index event spelled h = let steps : replicate (dirty s) Step ≡ event ∷ [] = cc in stepping-fits s event steps
 
-next_dirty-above : (above : ℕ) (es : List Entry) (next n : ℕ) → NumbersRise above es next → next_dirty es ≡ Some n → above < n
-next_dirty-above above [] next n h found = absurd cc
-next_dirty-above above (e ∷ es) next n h found =
-    let first : above < e.number = h.0 in
-    elim (is_dirty e.body) as (λ b. cond b (Some e.number) (next_dirty es) ≡ Some n → above < n) [
-      | true ↦ (λ found. let same : e.number ≡ n = cc in omega arith)
-      | false ↦ (λ found. let more : e.number < n = next_dirty-above e.number es next n h.1 found in omega arith)
-    ] found
+no_limit : (o : Option LimitWord) → option_map Limit o ≡ None → o ≡ None
+no_limit None h = refl
+no_limit (Some word) h = absurd cc
+
+-- a command that isn't refused comes to its events, which pass no limit
+pub unrefused : (s : State) (r : Result (List Event) Refusal) → cause_in s r ≡ None → (r ≡ Ok (events_in r)) × (passed (apply_all s (events_in r)) ≡ None)
+unrefused s (Ok events) free = (refl, no_limit (passed (apply_all s events)) free)
+unrefused s (Err cause) free = absurd cc
+
+pub commands-happen : (s : State) (c : Command) (event : Event) → IsTrue (is_spelled c) → refusal s c ≡ None → events_of s c ≡ event ∷ [] → IsTrue (accepted s event)
+commands-happen s c event spelled free same =
+    let parts = unrefused s (intent s c) free in
+    let fitting : is_possible s event ≡ true = intent-fits s c event spelled (parts.0 ∙ ap (λ (events : List Event). Ok events) same) in
+    let limits : passed (apply s event) ≡ None = subst (λ (events : List Event). passed (apply_all s events) ≡ None) same parts.1 in
+    and_from (is_possible s event) (is_none (passed (apply s event))) fitting (ap (λ (o : Option LimitWord). is_none o) limits)
+
+next_dirty-entry : (above : ℕ) (es : List Entry) (next n : ℕ) → NumbersRise above es next → next_dirty es ≡ Some n → (e : Entry) × (entry_at es n ≡ Some e) × (is_dirty e.body ≡ true)
+next_dirty-entry above [] next n h found = absurd cc
+next_dirty-entry above (x ∷ es) next n h found =
+    elim (is_dirty x.body) as (λ b. is_dirty x.body ≡ b → cond b (Some x.number) (next_dirty es) ≡ Some n → (e : Entry) × (entry_at (x ∷ es) n ≡ Some e) × (is_dirty e.body ≡ true)) [
+      | true ↦ (λ dirty found. let same : x.number ≡ n = cc in (x, subst (λ (k : ℕ). entry_at (x ∷ es) k ≡ Some x) same (entry_at-first x es), dirty))
+      | false ↦ (λ clean found.
+          let rest = next_dirty-entry x.number es next n h.1 found in
+          let more : x.number < n = entry_at-above x.number es next n rest.0 h.1 rest.1 in
+          (rest.0, entry_at-behind x es n (λ same. omega arith) ∙ rest.1, rest.2))
+    ] refl found
 
 clean-indexed : (body : Body) → is_dirty (indexed body) ≡ false
 clean-indexed (File text dirty shown) = refl
+clean-indexed Dir = refl
 clean-indexed (Semantic query) = refl
 
--- the head of the entries, edited
-edited_head : ℕ → Entry → Entry
-edited_head n e = record e { body = if e.number == n then indexed e.body else e.body }
+-- a step can happen just where a file is dirty
+pub steps-due : (s : State) → IsValid s → accepted s Step ≡ nat_lt 0 (dirty s)
+steps-due s h = ap (λ (o : Option LimitWord). is_some (next_dirty s.entries) && is_none o) (step-passes s h) ∙ and-true (is_some (next_dirty s.entries)) ∙ due s.entries
+  where
+    and-true : (b : Bool) → (b && true) ≡ b
+    and-true true = refl
+    and-true false = refl
 
--- how many are dirty, told of the head, before and after a step
-dirty-before : (e : Entry) (es : List Entry) (b : Bool) → is_dirty e.body ≡ b → dirty_in (e ∷ es) ≡ cond {A = ℕ} b 1 0 + dirty_in es
-dirty-before e es b head = dirty_in-cons e es ∙ ap (λ (t : Bool). cond {A = ℕ} t 1 0 + dirty_in es) head
-
-dirty-after : (n : ℕ) (e : Entry) (es : List Entry) (b : Bool) → is_dirty (if e.number == n then indexed e.body else e.body) ≡ b → dirty_in (edited n indexed (e ∷ es)) ≡ cond {A = ℕ} b 1 0 + dirty_in (edited n indexed es)
-unfolding edited_head
-dirty-after n e es b head = dirty_in-cons (edited_head n e) (edited n indexed es) ∙ ap (λ (t : Bool). cond {A = ℕ} t 1 0 + dirty_in (edited n indexed es)) head
-
-step-in : (above : ℕ) (es : List Entry) (next n : ℕ) → NumbersRise above es next → next_dirty es ≡ Some n → dirty_in es ≡ dirty_in (edited n indexed es) + 1
-step-in above [] next n h found = absurd cc
-step-in above (e ∷ es) next n h found =
-    elim (is_dirty e.body) as (λ b. is_dirty e.body ≡ b → cond b (Some e.number) (next_dirty es) ≡ Some n → dirty_in (e ∷ es) ≡ dirty_in (edited n indexed (e ∷ es)) + 1) [
-      | true ↦ (λ first found.
-          let same : e.number ≡ n = cc in
-          let clean : is_dirty (if e.number == n then indexed e.body else e.body) ≡ false = ap (λ (t : Bool). is_dirty (if t then indexed e.body else e.body)) (eq-eqb e.number n same) ∙ clean-indexed e.body in
-          let rest : dirty_in (edited n indexed es) ≡ dirty_in es = ap dirty_in (edited-low n indexed e.number es next h.1 (omega arith)) in
-          omega (arith, dirty-before e es true first, dirty-after n e es false clean, rest))
-      | false ↦ (λ first found.
-          let more : e.number < n = next_dirty-above e.number es next n h.1 found in
-          let other : (e.number == n) ≡ false = ne_eqb e.number n (λ same. omega arith) in
-          let clean : is_dirty (if e.number == n then indexed e.body else e.body) ≡ false = ap (λ (t : Bool). is_dirty (if t then indexed e.body else e.body)) other ∙ first in
-          omega (arith, dirty-before e es false first, dirty-after n e es false clean, step-in e.number es next n h.1 found))
-    ] refl found
-
+-- and leaves one file less dirty
 pub steps-clean : (s : State) → IsValid s → IsTrue (accepted s Step) → dirty s ≡ dirty (apply s Step) + 1
-unfolding dirty_in
 steps-clean s h ok =
-    elim (next_dirty s.entries) as (λ o. next_dirty s.entries ≡ o → is_some o ≡ true → dirty s ≡ dirty (option_map_or (λ file. edited_at s file indexed) o s) + 1) [
+    elim (next_dirty s.entries) as (λ o. next_dirty s.entries ≡ o → is_some o ≡ true → dirty s ≡ dirty (option_map_or (λ file. changed_at s file (edited indexed)) o s) + 1) [
       | None ↦ (λ found ok. absurd cc)
-      | Some n ↦ (λ found ok. step-in 0 s.entries s.next n h.numbers found)
-    ] refl ok
+      | Some n ↦ (λ found ok.
+          let there = next_dirty-entry 0 s.entries s.next n h.numbers found in
+          let less = measured-changed (one_if is_dirty) n (edited indexed) 0 s.entries s.next there.0 h.numbers there.1 in
+          let old : one_if is_dirty there.0.body ≡ 1 = ap (λ (b : Bool). cond {A = ℕ} b 1 0) there.2 in
+          let new : one_if is_dirty (indexed there.0.body) ≡ 0 = ap (λ (b : Bool). cond {A = ℕ} b 1 0) (clean-indexed there.0.body) in
+          omega (arith, less, old, new, dirty_count-is s.entries, dirty_count-is (changed_at s n (edited indexed)).entries))
+    ] refl (and_parts (is_some (next_dirty s.entries)) (is_none (passed (apply s Step))) ok).0
 
 -- a step can happen where a file is dirty
-pub step-due : (s : State) (n : ℕ) → dirty s ≡ suc n → IsTrue (accepted s Step)
-step-due s n more = steps-due s ∙ ap (λ (k : ℕ). nat_lt 0 k) more ∙ grind (arith, nat_tests)
+pub step-due : (s : State) (n : ℕ) → IsValid s → dirty s ≡ suc n → IsTrue (accepted s Step)
+step-due s n h more = steps-due s h ∙ ap (λ (k : ℕ). nat_lt 0 k) more ∙ grind (arith, nat_tests)
+
+-- a step keeps a state valid, also where no file is dirty
+pub step-valid : (s : State) → IsValid s → IsValid (apply s Step)
+step-valid s h =
+    elim (next_dirty s.entries) as (λ o. passed (option_map_or (λ file. changed_at s file (edited indexed)) o s) ≡ None → IsValid (option_map_or (λ file. changed_at s file (edited indexed)) o s)) [
+      | None ↦ (λ limits. h)
+      | Some file ↦ (λ limits. edited-valid s file indexed indexed-kind indexed-sound h limits)
+    ] (step-passes s h)

@@ -1,165 +1,222 @@
--- The links of a valid state are the one fixed point of a round.
-use Rattle.std.proofs.Common.{◌≡◌, ℕ, zero, suc, ◌+◌, Bool, true, false, cond, List, [], ◌∷◌, refl, ap, sym, ◌∙◌, arith, eq-eqb, ◌<◌}
-use Rattle.std.specs.Prelude.{◌&&◌, ◌||◌, ◌==◌, Option, Some, None, is_some, map, filter, count_by, option_and_then}
+-- The links are the one fixed point of a round, where no directory depends on itself.
+use Rattle.std.proofs.Common.{◌≡◌, ℕ, zero, suc, ◌+◌, ◌≤◌, Bool, true, false, cond, List, [], ◌∷◌, length, subst, refl, ap, sym, ◌∙◌, arith, eq-eqb, inl, inr}
+use Rattle.std.specs.Prelude.{◌&&◌, ◌||◌, ◌==◌, ◌⊎◌, Option, Some, None, is_some, map, filter, option_and_then}
+use Rattle.std.specs.List.{list_any}
 use Rattle.std.specs.Option.{option_map_or, option_map}
-use Rattle.std.specs.List.{AllByRecursion}
+use Rattle.std.proofs.Math.Dec.{eqb}
+use Rattle.std.proofs.lemmas.Bool.{eqb-true}
 use Rattle.std.proofs.lemmas.List.Sums.{sum_by-cons}
-use Rattle.hac_model.specs.Words.{has_term}
-use Rattle.hac_model.specs.Links.{atom, parent_of, is_semantic, is_below, provide, holds, satisfies, passes, column, round, rounds, semantic_count, links, items, shown_of, query_at}
-use Rattle.hac_model.specs.Tree.{entry_at, body_at, is_file, query_in, shown_text}
-use Rattle.hac_model.specs.Valid.{NumbersRise, IsValid}
+use Rattle.hac_model.specs.Depends.{depends, Among, Leads, IsAcyclic}
+use Rattle.hac_model.specs.Limits.{semantic_count}
+use Rattle.hac_model.specs.Links.{parent_of, is_semantic, is_below, provide, holds, satisfies, passes, column, round, rounds, links, items, shown_of, query_at}
+use Rattle.hac_model.specs.Tree.{entry_at, body_at, path_of, query_in}
+use Rattle.hac_model.specs.Valid.{IsValid}
 use Rattle.hac_model.specs.declared.queries.Query.{Query}
 use Rattle.hac_model.specs.declared.queries.Query.TheVariants as query
-use Rattle.hac_model.specs.declared.states.Body.{Body}
-use Rattle.hac_model.specs.declared.states.Body.TheVariants.{File, Semantic}
 use Rattle.hac_model.specs.declared.states.Entry.{Entry}
 use Rattle.hac_model.specs.declared.states.State.{State}
-use Rattle.hac_model.specs.declared.terms.Term.{Term}
-use Rattle.hac_model.proofs.TreeLemmas.{entry_at-all, entry_at-behind, entry_at-first, entry_at-low}
+use Rattle.hac_model.proofs.PathLemmas.{path_of-deeper}
+use Rattle.hac_model.proofs.TreeLemmas.{entry_at-cases}
 
-parent_in-root : (es : List Entry) (n : ℕ) → AllByRecursion (λ e. e.parent ≡ 0) es → option_map_or (λ (e : Entry). e.parent) (entry_at es n) 0 ≡ 0
-parent_in-root [] n h = refl
-parent_in-root (e ∷ es) n h =
-    elim (e.number == n) as (λ b. option_map_or (λ (e : Entry). e.parent) (cond b (Some e) (entry_at es n)) 0 ≡ 0) [ true ↦ h.0 | false ↦ parent_in-root es n h.1 ]
+-- the number is taken out, wherever it is
+abbrev without : ℕ → List ℕ → List ℕ
+without n [] = []
+without n (x ∷ xs) = cond (x == n) (without n xs) (x ∷ without n xs)
 
--- the root has no query
-root-plain : (s : State) → IsValid s → is_semantic s 0 ≡ false
-root-plain s h = ap (λ (o : Option Entry). is_some (option_and_then query_in (option_map (λ (e : Entry). e.body) o))) (entry_at-low 0 s.entries s.next 0 h.numbers (omega arith))
-
--- what the root provides doesn't depend on links
-provide-root : (s : State) → IsValid s → (a b : ℕ → Bool) (item : ℕ) → provide s a 0 item ≡ provide s b 0 item
-provide-root s h a b item =
-    ap (λ (t : Bool). is_below s 0 item || (t && a 0)) (root-plain s h) ∙ ap (λ (t : Bool). is_below s 0 item || (t && b 0)) (sym (root-plain s h))
-
--- nor does a query of one word
-holds-word : (s : State) (a b : ℕ → Bool) (q : Query) (item : ℕ) → holds s a q item ≡ holds s b q item
-holds-word s a b (query.Term term) item = refl
-
-satisfies-word : (s : State) (a b : ℕ → Bool) (dir item : ℕ) → satisfies s a dir item ≡ satisfies s b dir item
-satisfies-word s a b dir item =
-    elim (query_at s dir) as (λ o. option_map_or (λ (q : Query). holds s a q item) o false ≡ option_map_or (λ (q : Query). holds s b q item) o false) [ None ↦ refl | Some q ↦ holds-word s a b q item ]
-
-passes-same : (s : State) → IsValid s → (a b : ℕ → Bool) (dir item : ℕ) → passes s a dir item ≡ passes s b dir item
-passes-same s h a b dir item =
-    let above : parent_of s dir ≡ 0 = parent_in-root s.entries dir h.parents in
-    ap (λ (p : ℕ). provide s a p item && is_some (shown_of s item) && satisfies s a dir item) above
-    ∙ ap (λ (t : Bool). t && is_some (shown_of s item) && satisfies s a dir item) (provide-root s h a b item)
-    ∙ ap (λ (p : ℕ). provide s b p item && is_some (shown_of s item) && satisfies s a dir item) (sym above)
-    ∙ ap (λ (t : Bool). provide s b (parent_of s dir) item && is_some (shown_of s item) && t) (satisfies-word s a b dir item)
-
-round-same : (s : State) → IsValid s → (known other : ℕ → List ℕ) → round s known ≡ round s other
-round-same s h known other =
-    λ i dir. cond (is_semantic s dir) (filter (λ item. passes-same s h (column known item) (column other item) dir item i) (items s)) []
-
-not_counted : (b : Bool) → cond {A = ℕ} b 1 0 ≡ 0 → b ≡ false
-not_counted true h = absurd (omega arith)
-not_counted false h = refl
-
-count-none : (es : List Entry) (dir : ℕ) → count_by (λ e. is_some (query_in e.body)) es ≡ 0 → is_some (option_and_then query_in (body_at es dir)) ≡ false
-count-none [] dir h = refl
-count-none (e ∷ es) dir h =
-    let split : count_by (λ e. is_some (query_in e.body)) (e ∷ es) ≡ cond {A = ℕ} (is_some (query_in e.body)) 1 0 + count_by (λ e. is_some (query_in e.body)) es = sum_by-cons (λ (e : Entry). cond (is_some (query_in e.body)) 1 0) e es in
-    let first : cond {A = ℕ} (is_some (query_in e.body)) 1 0 ≡ 0 = omega (arith, split, h) in
-    let rest : count_by (λ e. is_some (query_in e.body)) es ≡ 0 = omega (arith, split, h) in
-    elim (e.number == dir) as (λ b. is_some (option_and_then query_in (option_map (λ (e : Entry). e.body) (cond b (Some e) (entry_at es dir)))) ≡ false) [ true ↦ not_counted (is_some (query_in e.body)) first | false ↦ count-none es dir rest ]
-
--- where no directory is semantic, a round gives no links
-round-none : (s : State) (known : ℕ → List ℕ) → semantic_count s ≡ 0 → rounds 0 s ≡ round s known
-round-none s known none =
-    λ i dir. (sym (ap (λ (t : Bool). cond t (filter (λ item. passes s (column known item) dir item) (items s)) []) (count-none s.entries dir none))) i
-
-rounds-round : (n : ℕ) (s : State) → IsValid s → (known : ℕ → List ℕ) → semantic_count s ≡ n → rounds n s ≡ round s known
-rounds-round zero s h known e = round-none s known e
-rounds-round (suc n) s h known e = round-same s h (rounds n s) known
-
--- a round gives the links, whatever it begins with
-pub links-round : (s : State) → IsValid s → (known : ℕ → List ℕ) → links s ≡ round s known
-unfolding links
-links-round s h known = rounds-round (semantic_count s) s h known refl
-
-pub links-fixed : (s : State) → IsValid s → round s (links s) ≡ links s
-links-fixed s h = sym (links-round s h (links s))
-
-pub links-only : (s : State) → IsValid s → (known : ℕ → List ℕ) → round s known ≡ known → known ≡ links s
-links-only s h known same = sym same ∙ sym (links-round s h known)
-
-pub round-links : (s : State) → IsValid s → (known : ℕ → List ℕ) → round s known ≡ links s
-round-links s h known = sym (links-round s h known)
-
-or-false : (b : Bool) → (b || false) ≡ b
-or-false true = refl
-or-false false = refl
-
-and-false : (b c : Bool) → (b && false && c) ≡ false
-and-false true c = refl
-and-false false c = refl
-
--- what has a term by its text as last indexed is an indexed file of the root
-atom-below : (term : Term) (o : Option Entry) → ((e : Entry) → o ≡ Some e → e.parent ≡ 0) →
-    (option_map_or (λ (e : Entry). e.parent == 0 && is_file e.body) o false
-    && is_some (option_and_then shown_text (option_map (λ (e : Entry). e.body) o))
-    && option_map_or (λ text. has_term text term) (option_and_then shown_text (option_map (λ (e : Entry). e.body) o)) false)
-    ≡ option_map_or (λ text. has_term text term) (option_and_then shown_text (option_map (λ (e : Entry). e.body) o)) false
-atom-below term None rooted = refl
-atom-below term (Some e) rooted =
-    let root : (e.parent == 0) ≡ true = eq-eqb e.parent 0 (rooted e refl) in
-    elim e.body as (λ body. ((e.parent == 0 && is_file body) && is_some (shown_text body) && option_map_or (λ text. has_term text term) (shown_text body) false) ≡ option_map_or (λ text. has_term text term) (shown_text body) false) [
-      | File text dirty None ↦ and-false (e.parent == 0 && true) false
-      | File text dirty (Some shown) ↦ ap (λ (t : Bool). (t && true) && true && has_term shown term) root
-      | Semantic query ↦ and-false (e.parent == 0 && false) false
+length-without-le : (n : ℕ) (xs : List ℕ) → length (without n xs) ≤ length xs
+length-without-le n [] = omega arith
+length-without-le n (x ∷ xs) =
+    elim (x == n) as (λ b. length (cond b (without n xs) (x ∷ without n xs)) ≤ length (x ∷ xs)) [
+      | true ↦ omega (arith, length-without-le n xs)
+      | false ↦ omega (arith, length-without-le n xs)
     ]
 
-passes-atom : (s : State) → IsValid s → (linked : ℕ → Bool) (dir item : ℕ) (term : Term) → query_at s dir ≡ Some (query.Term term) → passes s linked dir item ≡ atom s term item
-passes-atom s h linked dir item term asks =
-    ap (λ (p : ℕ). provide s linked p item && is_some (shown_of s item) && satisfies s linked dir item) (parent_in-root s.entries dir h.parents)
-    ∙ ap (λ (t : Bool). (is_below s 0 item || (t && linked 0)) && is_some (shown_of s item) && satisfies s linked dir item) (root-plain s h)
-    ∙ ap (λ (t : Bool). t && is_some (shown_of s item) && satisfies s linked dir item) (or-false (is_below s 0 item))
-    ∙ ap (λ (o : Option Query). is_below s 0 item && is_some (shown_of s item) && option_map_or (λ q. holds s linked q item) o false) asks
-    ∙ atom-below term (entry_at s.entries item) (λ e found. entry_at-all (λ (e : Entry). e.parent ≡ 0) s.entries item e h.parents found)
+length-without : (n : ℕ) (xs : List ℕ) → Among xs n → length (without n xs) + 1 ≤ length xs
+length-without n [] h = absurd h
+length-without n (x ∷ xs) h =
+    elim (x == n) as (λ b. (x == n) ≡ b → length (cond b (without n xs) (x ∷ without n xs)) + 1 ≤ length (x ∷ xs)) [
+      | true ↦ (λ same. omega (arith, length-without-le n xs))
+      | false ↦ (λ other. elim h as (λ _. length (x ∷ without n xs) + 1 ≤ length (x ∷ xs)) [
+        | inl same ↦ (let even : (x == n) ≡ true = eq-eqb x n same in absurd cc)
+        | inr more ↦ omega (arith, length-without n xs more)
+      ])
+    ] refl
 
--- the links of a directory are the files whose texts as last indexed have its term
-pub links-term : (s : State) (dir : ℕ) (term : Term) → IsValid s → query_at s dir ≡ Some (query.Term term) → links s dir ≡ filter (atom s term) (items s)
-links-term s dir term h asks =
-    let none : ℕ → List ℕ = λ dir. [] in
-    ap (λ (found : ℕ → List ℕ). found dir) (links-round s h none)
-    ∙ ap (λ (o : Option Query). cond (is_some o) (filter (λ item. passes s (column none item) dir item) (items s)) []) asks
-    ∙ (λ i. filter (λ item. passes-atom s h (column none item) dir item term asks i) (items s))
+-- another number stays
+Among-without : (n m : ℕ) (xs : List ℕ) → Among xs m → ((n ≡ m) → ⊥) → Among (without n xs) m
+Among-without n m [] h other = absurd h
+Among-without n m (x ∷ xs) h other =
+    elim (x == n) as (λ b. (x == n) ≡ b → Among (cond b (without n xs) (x ∷ without n xs)) m) [
+      | true ↦ (λ same. elim h as (λ _. Among (without n xs) m) [
+        | inl first ↦ absurd (other (sym (eqb-true x n same) ∙ first))
+        | inr more ↦ Among-without n m xs more other
+      ])
+      | false ↦ (λ apart. elim h as (λ _. Among (x ∷ without n xs) m) [
+        | inl first ↦ inl first
+        | inr more ↦ inr (Among-without n m xs more other)
+      ])
+    ] refl
 
--- a body whose text as last indexed has the term
-abbrev pub shows : Term → Body → Bool
-shows term body = option_map_or (λ text. has_term text term) (shown_text body) false
+-- a step more at the end
+leads_more : (s : State) (k : ℕ) (d e m : ℕ) → Leads s k d e → Among (depends s e) m → Leads s (suc k) d m
+leads_more s zero d e m h edge = (m, subst (λ (x : ℕ). Among (depends s x) m) (sym h) edge, refl)
+leads_more s (suc k) d e m h edge = (h.0, h.1, leads_more s k h.0 e m h.2 edge)
 
--- what is no file shows nothing
-shows-file : (term : Term) (body : Body) → is_file body ≡ false → shows term body ≡ false
-shows-file term (File text dirty shown) other = absurd cc
-shows-file term (Semantic query) other = refl
+abbrev iterate : {A : Type 0} → ℕ → (A → A) → A → A
+iterate zero f a = a
+iterate (suc k) f a = f (iterate k f a)
 
--- an entry in front is kept by its number just where it is kept as an entry
-kept : (p : ℕ → Bool) (e : Entry) (files shown : List Entry) (file t : Bool) → p e.number ≡ t → (file ≡ false → t ≡ false) →
-    filter p (map (λ (e : Entry). e.number) files) ≡ map (λ (e : Entry). e.number) shown →
-    filter p (map (λ (e : Entry). e.number) (cond file (e ∷ files) files)) ≡ map (λ (e : Entry). e.number) (cond t (e ∷ shown) shown)
-kept p e files shown true true head other rest =
-    ap (λ (b : Bool). cond b (e.number ∷ filter p (map (λ (e : Entry). e.number) files)) (filter p (map (λ (e : Entry). e.number) files))) head
-    ∙ ap (λ (tail : List ℕ). e.number ∷ tail) rest
-kept p e files shown true false head other rest =
-    ap (λ (b : Bool). cond b (e.number ∷ filter p (map (λ (e : Entry). e.number) files)) (filter p (map (λ (e : Entry). e.number) files))) head
-    ∙ rest
-kept p e files shown false true head other rest = let never : true ≡ false = other refl in absurd cc
-kept p e files shown false false head other rest = rest
+iterate_inside : {A : Type 0} (k : ℕ) (f : A → A) (a : A) → iterate k f (f a) ≡ f (iterate k f a)
+iterate_inside zero f a = refl
+iterate_inside (suc k) f a = ap f (iterate_inside k f a)
 
--- the files that have a term are the entries whose bodies show it
-atoms-shown : (all : List Entry) (term : Term) (es : List Entry) (above next : ℕ) → NumbersRise above es next → ((n : ℕ) → above < n → entry_at all n ≡ entry_at es n) →
-    filter (λ item. option_map_or (λ text. has_term text term) (option_and_then shown_text (body_at all item)) false) (map (λ (e : Entry). e.number) (filter (λ (e : Entry). is_file e.body) es))
-    ≡ map (λ (e : Entry). e.number) (filter (λ (e : Entry). shows term e.body) es)
-atoms-shown all term [] above next h same = refl
-atoms-shown all term (e ∷ es) above next h same =
-    let first : above < e.number = h.0 in
-    let here : entry_at all e.number ≡ Some e = same e.number first ∙ entry_at-first e es in
-    let behind : (n : ℕ) → e.number < n → entry_at all n ≡ entry_at es n = λ n k. same n (omega arith) ∙ entry_at-behind e es n (λ even. omega arith) in
-    let rest = atoms-shown all term es e.number next h.1 behind in
-    let head = ap (λ (o : Option Entry). option_map_or (λ text. has_term text term) (option_and_then shown_text (option_map (λ (e : Entry). e.body) o)) false) here in
-    kept (λ item. option_map_or (λ text. has_term text term) (option_and_then shown_text (body_at all item)) false) e (filter (λ (e : Entry). is_file e.body) es) (filter (λ (e : Entry). shows term e.body) es) (is_file e.body) (shows term e.body) head (shows-file term e.body) rest
+iterate_fixed : {A : Type 0} (k : ℕ) (f : A → A) (a : A) → f a ≡ a → iterate k f a ≡ a
+iterate_fixed zero f a h = refl
+iterate_fixed (suc k) f a h = ap f (iterate_fixed k f a h) ∙ h
 
--- the links of a directory, found in the entries
-pub links-shown : (s : State) (dir : ℕ) (term : Term) → IsValid s → query_at s dir ≡ Some (query.Term term) → links s dir ≡ map (λ (e : Entry). e.number) (filter (λ (e : Entry). shows term e.body) s.entries)
-links-shown s dir term h asks = links-term s dir term h asks ∙ atoms-shown s.entries term s.entries 0 s.next h.numbers (λ n k. refl)
+-- each directory is still free, or leads to this one
+abbrev Trail : State → List ℕ → List ℕ → ℕ → Type 0
+Trail s dirs free d = (v : ℕ) → Among dirs v → Among free v ⊎ ((k : ℕ) × Leads s (suc k) v d)
+
+-- the semantic directories
+abbrev semantic_numbers : List Entry → List ℕ
+semantic_numbers es = map (λ (e : Entry). e.number) (filter (λ (e : Entry). is_some (query_in e.body)) es)
+
+semantic-among : (es : List Entry) (d : ℕ) → is_some (option_and_then query_in (body_at es d)) ≡ true → Among (semantic_numbers es) d
+semantic-among [] d h = absurd cc
+semantic-among (e ∷ es) d h =
+    elim (e.number == d) as (λ b. (e.number == d) ≡ b → is_some (option_and_then query_in (option_map (λ (e : Entry). e.body) (cond b (Some e) (entry_at es d)))) ≡ true → Among (semantic_numbers (e ∷ es)) d) [
+      | true ↦ (λ same h. elim (is_some (query_in e.body)) as (λ t. t ≡ true → Among (map (λ (e : Entry). e.number) (cond t (e ∷ filter (λ (e : Entry). is_some (query_in e.body)) es) (filter (λ (e : Entry). is_some (query_in e.body)) es))) d) [ true ↦ (λ _. inl (eqb-true e.number d same)) | false ↦ (λ never. absurd cc) ] h)
+      | false ↦ (λ other h. elim (is_some (query_in e.body)) as (λ t. Among (map (λ (e : Entry). e.number) (cond t (e ∷ filter (λ (e : Entry). is_some (query_in e.body)) es) (filter (λ (e : Entry). is_some (query_in e.body)) es))) d) [ true ↦ inr (semantic-among es d h) | false ↦ semantic-among es d h ])
+    ] refl h
+
+semantic-length : (es : List Entry) → semantic_count es ≡ length (semantic_numbers es)
+semantic-length [] = refl
+semantic-length (e ∷ es) =
+    sum_by-cons (λ (e : Entry). cond {A = ℕ} (is_some (query_in e.body)) 1 0) e es
+    ∙ (elim (is_some (query_in e.body)) as (λ t. cond {A = ℕ} t 1 0 + semantic_count es ≡ length (map (λ (e : Entry). e.number) (cond t (e ∷ filter (λ (e : Entry). is_some (query_in e.body)) es) (filter (λ (e : Entry). is_some (query_in e.body)) es)))) [
+      | true ↦ omega (arith, semantic-length es)
+      | false ↦ omega (arith, semantic-length es)
+    ])
+
+-- what depends on something is semantic
+edge-semantic : (s : State) (d e : ℕ) → Among (depends s d) e → is_semantic s d ≡ true
+edge-semantic s d e edge = elim (is_semantic s d) as (λ b. Among (cond b (parent_of s d ∷ []) []) e → b ≡ true) [ true ↦ (λ h. refl) | false ↦ (λ h. absurd h) ] edge
+
+edge-among : (s : State) (d e : ℕ) → Among (depends s d) e → Among (semantic_numbers s.entries) d
+edge-among s d e edge = semantic-among s.entries d (edge-semantic s d e edge)
+
+-- a query of one word looks at no links
+holds-same : (s : State) (a b : ℕ → Bool) (q : Query) (item : ℕ) → holds s a q item ≡ holds s b q item
+holds-same s a b (query.Term term) item = refl
+
+satisfies-same : (s : State) (a b : ℕ → Bool) (dir item : ℕ) → satisfies s a dir item ≡ satisfies s b dir item
+satisfies-same s a b dir item =
+    elim (query_at s dir) as (λ o. option_map_or (λ (q : Query). holds s a q item) o false ≡ option_map_or (λ (q : Query). holds s b q item) o false) [ None ↦ refl | Some q ↦ holds-same s a b q item ]
+
+provide-same : (s : State) (a b : ℕ → Bool) (dir item : ℕ) → a dir ≡ b dir → provide s a dir item ≡ provide s b dir item
+provide-same s a b dir item same = ap (λ (t : Bool). is_below s dir item || (is_semantic s dir && t)) same
+
+passes-same : (s : State) (a b : ℕ → Bool) (dir item : ℕ) → a (parent_of s dir) ≡ b (parent_of s dir) → passes s a dir item ≡ passes s b dir item
+passes-same s a b dir item same =
+    ap (λ (t : Bool). t && is_some (shown_of s item) && satisfies s a dir item) (provide-same s a b (parent_of s dir) item same)
+    ∙ ap (λ (t : Bool). provide s b (parent_of s dir) item && is_some (shown_of s item) && t) (satisfies-same s a b dir item)
+
+-- a round finds the links of a directory from those on which it depends
+round-local : (s : State) (b c : ℕ → List ℕ) (d : ℕ) → ((e : ℕ) → Among (depends s d) e → b e ≡ c e) → round s b d ≡ round s c d
+round-local s b c d same =
+    elim (is_semantic s d) as (λ t. ((e : ℕ) → Among (cond t (parent_of s d ∷ []) []) e → b e ≡ c e) → cond t (filter (λ item. passes s (column b item) d item) (items s)) [] ≡ cond t (filter (λ item. passes s (column c item) d item) (items s)) []) [
+      | true ↦ (λ same.
+          let known : b (parent_of s d) ≡ c (parent_of s d) = same (parent_of s d) (inl refl) in
+          λ i. filter (λ item. passes-same s (column b item) (column c item) d item (λ j. list_any (λ number. number == item) (known j)) i) (items s))
+      | false ↦ (λ same. refl)
+    ] same
+
+-- and gives none to what is no semantic directory
+round-outside : (s : State) (b : ℕ → List ℕ) (d : ℕ) → (Among (semantic_numbers s.entries) d → ⊥) → round s b d ≡ []
+round-outside s b d outside =
+    elim (is_semantic s d) as (λ t. is_semantic s d ≡ t → cond t (filter (λ item. passes s (column b item) d item) (items s)) [] ≡ []) [
+      | true ↦ (λ is. absurd (outside (semantic-among s.entries d is)))
+      | false ↦ (λ other. refl)
+    ] refl
+
+-- after as many rounds as directories are free, the links of a directory no longer tell where the rounds began
+settled : (s : State) → IsAcyclic s → (k : ℕ) (free : List ℕ) (d : ℕ) (b c : ℕ → List ℕ) → length free ≤ k → Trail s (semantic_numbers s.entries) free d →
+    ((v : ℕ) → (Among (semantic_numbers s.entries) v → ⊥) → b v ≡ c v) → iterate k (round s) b d ≡ iterate k (round s) c d
+settled s acyclic zero free d b c few trail outside =
+    outside d (λ inside. elim (trail d inside) as (λ _. ⊥) [ inl here ↦ nothing free d few here | inr back ↦ acyclic back.0 d back.1 ])
+  where
+    nothing : (free : List ℕ) (d : ℕ) → length free ≤ 0 → Among free d → ⊥
+    nothing [] d few h = h
+    nothing (x ∷ xs) d few h = omega arith
+settled s acyclic (suc k) free d b c few trail outside =
+    round-local s (iterate k (round s) b) (iterate k (round s) c) d (λ e edge.
+    let inside = edge-among s d e edge in
+    let here : Among free d = elim (trail d inside) as (λ _. Among free d) [ inl here ↦ here | inr back ↦ absurd (acyclic back.0 d back.1) ] in
+    settled s acyclic k (without d free) e b c (omega (arith, length-without d free here)) (trail_next s free d e trail edge) outside)
+  where
+    trail_next : (s : State) (free : List ℕ) (d e : ℕ) → Trail s (semantic_numbers s.entries) free d → Among (depends s d) e → Trail s (semantic_numbers s.entries) (without d free) e
+    trail_next s free d e trail edge v inside =
+        elim (eqb d v) as (λ t. eqb d v ≡ t → Among (without d free) v ⊎ ((k : ℕ) × Leads s (suc k) v e)) [
+          | true ↦ (λ same. inr (zero, leads_more s zero v d e (sym (eqb-true d v same)) edge))
+          | false ↦ (λ other. elim (trail v inside) as (λ _. Among (without d free) v ⊎ ((k : ℕ) × Leads s (suc k) v e)) [
+            | inl free_v ↦ inl (Among-without d v free free_v (λ same. let even : eqb d v ≡ true = eq-eqb d v same in absurd cc))
+            | inr back ↦ inr (suc back.0, leads_more s (suc back.0) v d e back.1 edge)
+          ])
+        ] refl
+
+rounds-iterate : (s : State) (k : ℕ) → rounds k s ≡ iterate k (round s) (λ d. [])
+rounds-iterate s zero = refl
+rounds-iterate s (suc k) = ap (round s) (rounds-iterate s k)
+
+-- as many rounds as there are semantic directories lead to one end
+settled_all : (s : State) → IsAcyclic s → (b c : ℕ → List ℕ) → ((v : ℕ) → (Among (semantic_numbers s.entries) v → ⊥) → b v ≡ c v) → (d : ℕ) →
+    iterate (semantic_count s.entries) (round s) b d ≡ iterate (semantic_count s.entries) (round s) c d
+settled_all s acyclic b c outside d =
+    settled s acyclic (semantic_count s.entries) (semantic_numbers s.entries) d b c (omega (arith, semantic-length s.entries)) (λ v inside. inl inside) outside
+
+pub links-fixed : (s : State) → IsAcyclic s → round s (links s) ≡ links s
+unfolding links
+links-fixed s acyclic =
+    let n = semantic_count s.entries in
+    let start : ℕ → List ℕ = λ d. [] in
+    let same : iterate n (round s) (round s start) ≡ iterate n (round s) start =
+    λ i d. settled_all s acyclic (round s start) start (λ v outside. round-outside s start v outside) d i in
+    ap (round s) (rounds-iterate s n) ∙ sym (iterate_inside n (round s) start) ∙ same ∙ sym (rounds-iterate s n)
+
+pub links-only : (s : State) → IsAcyclic s → (known : ℕ → List ℕ) → round s known ≡ known → known ≡ links s
+unfolding links
+links-only s acyclic known fixed =
+    let n = semantic_count s.entries in
+    let start : ℕ → List ℕ = λ d. [] in
+    let same : iterate n (round s) known ≡ iterate n (round s) start =
+    λ i d. settled_all s acyclic known start (λ v outside. (λ j. sym fixed j v) ∙ round-outside s known v outside) d i in
+    sym (iterate_fixed n (round s) known fixed) ∙ same ∙ sym (rounds-iterate s n)
+
+-- a directory depends on the one in which it stands
+edge-parent : (s : State) (d e : ℕ) → Among (depends s d) e → (entry : Entry) × (entry_at s.entries d ≡ Some entry) × (entry.parent ≡ e)
+edge-parent s d e edge = parent (entry_at-cases s.entries d) (edge-semantic s d e edge)
+  where
+    parent : (entry_at s.entries d ≡ None) ⊎ ((entry : Entry) × (entry_at s.entries d ≡ Some entry)) → is_semantic s d ≡ true → (entry : Entry) × (entry_at s.entries d ≡ Some entry) × (entry.parent ≡ e)
+    parent (inl nothing) semantic = let never : false ≡ true = ap (λ (o : Option Entry). is_some (option_and_then query_in (option_map (λ (e : Entry). e.body) o))) (sym nothing) ∙ semantic in absurd cc
+    parent (inr found) semantic =
+        let among : Among (parent_of s d ∷ []) e = subst (λ (b : Bool). Among (cond b (parent_of s d ∷ []) []) e) semantic edge in
+        let here : parent_of s d ≡ found.0.parent = ap (λ (o : Option Entry). option_map_or (λ (e : Entry). e.parent) o 0) found.1 in
+        (found.0, found.1, sym here ∙ only among)
+      where
+        only : Among (parent_of s d ∷ []) e → parent_of s d ≡ e
+        only (inl same) = same
+        only (inr never) = absurd never
+
+-- each step over dependencies leads to a path with a name less
+leads-shorter : (s : State) (steps d e : ℕ) → IsValid s → Leads s steps d e → length (path_of s d) ≡ length (path_of s e) + steps
+leads-shorter s zero d e h leads = ap (λ (k : ℕ). length (path_of s k)) leads ∙ omega arith
+leads-shorter s (suc steps) d e h (next, edge, more) =
+    let parent = edge-parent s d next edge in
+    let rest = leads-shorter s steps next e h more in
+    let here : length (path_of s parent.0.parent) ≡ length (path_of s next) = ap (λ (k : ℕ). length (path_of s k)) parent.2 in
+    omega (arith, path_of-deeper s d parent.0 h parent.1, here, rest)
+
+-- so none leads back
+pub valid-acyclic : (s : State) → IsValid s → IsAcyclic s
+valid-acyclic s h steps dir back = omega (arith, leads-shorter s (suc steps) dir dir h back)

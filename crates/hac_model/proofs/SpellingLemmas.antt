@@ -1,25 +1,36 @@
 -- Lines spell commands with words that the commands may have.
-use Rattle.std.proofs.Common.{◌≡◌, ℕ, Bool, true, false, List, [], ◌∷◌, length, drop, refl, ap, sym, ◌∙◌, arith}
-use Rattle.std.specs.Prelude.{◌==◌, ◌&&◌, ◌||◌, not, if◌then◌else◌, nat_le, map, codes, Result, Ok, Err, IsTrue, ⊤, slice_index}
+use Rattle.std.proofs.Common.{◌≡◌, ℕ, Bool, true, false, List, [], ◌∷◌, length, refl, ap, sym, ◌∙◌, arith}
+use Rattle.std.specs.Prelude.{◌&&◌, ◌||◌, not, if◌then◌else◌, nat_le, map, codes, Option, Some, None, Result, Ok, Err, IsTrue, ⊤}
 use Rattle.std.specs.Char.{to_ascii_lowercase}
-use Rattle.std.specs.List.{list_all, list_any}
-use Rattle.std.proofs.lemmas.Bool.{and_parts, and_from}
+use Rattle.std.specs.List.{list_all}
+use Rattle.std.specs.Option.{ok_or}
+use Rattle.std.specs.Str.{bytes_eq}
+use Rattle.std.proofs.lemmas.Bool.{and_parts, and_from, cond_both}
 use Rattle.std.proofs.lemmas.Bool.Decides.{nat_tests}
-use Rattle.hac_model.specs.Bytes.{is_slash, is_space, is_backslash}
-use Rattle.hac_model.specs.Lines.{Item, command_of, first_word, after_word, text_after_word, in_main, index_of, is_called, is_one_word, is_spelled, item_of, query_of, sls_of, smkdir_of, smkdir_with, write_of}
-use Rattle.hac_model.specs.Names.{is_name, is_root_path}
+use Rattle.hac_model.specs.Answers.{◌>>=◌}
+use Rattle.hac_model.specs.Bytes.{is_space}
+use Rattle.hac_model.specs.Limits.{is_text}
+use Rattle.hac_model.specs.LineWords.{first_word, after_space, first_run, after_run}
+use Rattle.hac_model.specs.Lines.{Item, called_with, command_with, each_path, in_main, index_of, is_one_word, is_spelled, item_of, limited_text, ls_of, mv_of, named_command, one_path, only_path, only_word, put_at, put_of, put_words, query_of, is_put, smkdir_of, two_paths, write_of}
+use Rattle.hac_model.specs.PathWords.{is_bad, word_of}
+use Rattle.hac_model.specs.Paths.{are_names}
 use Rattle.hac_model.specs.Queries.{is_operator, is_query, is_query_word}
+use Rattle.hac_model.specs.Texts.{text_of}
 use Rattle.hac_model.specs.Words.{has_bytes, is_lower_word_byte, is_word, is_word_byte, lower_case}
 use Rattle.hac_model.specs.declared.commands.Command.{Command}
-use Rattle.hac_model.specs.declared.commands.Command.TheVariants.{Write, Index, Sls}
+use Rattle.hac_model.specs.declared.commands.Command.TheVariants.{Mkdir, Rmdir, Write, Cat, Ls, Mv, Rm, Smkdir, Sls, Index}
 use Rattle.hac_model.specs.declared.commands.Line.{Line}
 use Rattle.hac_model.specs.declared.limits.LimitWord.TheVariants as limit
 use Rattle.hac_model.specs.declared.limits.TheConstants.{LINE_LIMIT}
+use Rattle.hac_model.specs.declared.paths.PathWord.{PathWord}
+use Rattle.hac_model.specs.declared.putting.Taken.{Taken}
+use Rattle.hac_model.specs.declared.putting.Taken.TheVariants.{Whole, Dropped, Short, PastLimit}
 use Rattle.hac_model.specs.declared.queries.Query.{Query}
 use Rattle.hac_model.specs.declared.queries.Query.TheVariants as query
 use Rattle.hac_model.specs.declared.replies.Refusal.{Refusal}
 use Rattle.hac_model.specs.declared.replies.Refusal.TheVariants.{BadLine, BadName, BadQuery, Limit}
 use Rattle.hac_model.specs.declared.terms.Term.TheVariants.{Word}
+use Rattle.hac_model.proofs.WordLemmas.{word_of-names}
 
 lower_byte : (b : ℕ) → is_word_byte b ≡ true → is_lower_word_byte (to_ascii_lowercase b) ≡ true
 unfolding is_word_byte is_lower_word_byte
@@ -45,15 +56,20 @@ SpellsQuery : Result Query Refusal → Type 0
 SpellsQuery (Ok query) = IsTrue (is_query query)
 SpellsQuery (Err refusal) = ⊤
 
+query-sound : (spelled : Result Query Refusal) (wanted : Query) → SpellsQuery spelled → spelled ≡ Ok wanted → is_query wanted ≡ true
+unfolding SpellsQuery
+query-sound (Ok given) wanted sound same = let even : given ≡ wanted = cc in ap is_query (sym even) ∙ sound
+query-sound (Err refusal) wanted sound same = absurd cc
+
 spells_query : (bytes : List ℕ) → SpellsQuery (query_of bytes)
 unfolding SpellsQuery
 spells_query bytes =
-    elim (is_one_word bytes) as (λ b. is_one_word bytes ≡ b → SpellsQuery (if b then Ok (query.Term (Word (lower_case (first_word bytes)))) else Err (BadQuery 1))) [
+    elim (is_one_word bytes) as (λ b. is_one_word bytes ≡ b → SpellsQuery (if b then Ok (query.Term (Word (lower_case (first_run bytes)))) else Err (BadQuery 1))) [
       | true ↦ (λ one.
-          let parts = and_parts (is_query_word (first_word bytes)) (list_all is_space (after_word bytes)) one in
-          let word = and_parts (has_bytes (first_word bytes) && list_all is_word_byte (first_word bytes)) (not (is_operator (first_word bytes))) parts.0 in
-          let run = and_parts (has_bytes (first_word bytes)) (list_all is_word_byte (first_word bytes)) word.0 in
-          word-lower (first_word bytes) run.0 run.1)
+          let parts = and_parts (is_query_word (first_run bytes)) (list_all is_space (after_run bytes)) one in
+          let word = and_parts (has_bytes (first_run bytes) && list_all is_word_byte (first_run bytes)) (not (is_operator (first_run bytes))) parts.0 in
+          let run = and_parts (has_bytes (first_run bytes)) (list_all is_word_byte (first_run bytes)) word.0 in
+          word-lower (first_run bytes) run.0 run.1)
       | false ↦ (λ other. tt)
     ] refl
 
@@ -62,63 +78,140 @@ Spells : Result Command Refusal → Type 0
 Spells (Ok command) = IsTrue (is_spelled command)
 Spells (Err refusal) = ⊤
 
+command-spelled : (command : Command) → is_spelled command ≡ true → Spells (Ok command)
+unfolding Spells
+command-spelled command h = h
+
 spells-if : (b : Bool) (x y : Result Command Refusal) → (b ≡ true → Spells x) → (b ≡ false → Spells y) → Spells (if b then x else y)
 spells-if true x y p q = p refl
 spells-if false x y p q = q refl
+
+-- what comes after a step is spelled, where it is by whatever the step gives
+spells-then : {A : Type 0} (first : Result A Refusal) (step : A → Result Command Refusal) → ((value : A) → first ≡ Ok value → Spells (step value)) → Spells (first >>= step)
+unfolding Spells
+spells-then (Ok value) step h = h value refl
+spells-then (Err refusal) step h = tt
 
 spells_bad_line : Spells (Err BadLine)
 unfolding Spells
 spells_bad_line = tt
 
--- a command on a path of the root, or a refusal of the path
-spells_path : (word : List ℕ) (command : Result Command Refusal) → (is_name (drop 1 word) ≡ true → Spells command) → Spells (if is_root_path word then command else Err BadName)
-unfolding Spells
-spells_path word command named =
-    spells-if (is_root_path word) command (Err BadName) (λ root. named (and_parts (is_slash (slice_index word 0)) (is_name (drop 1 word)) root).1) (λ other. tt)
+-- the names of a path that is read are names
+path-spelled : (bytes : List ℕ) (path : PathWord) → word_of bytes ≡ Ok path → are_names path.names ≡ true
+path-spelled bytes path given = word_of-names bytes path given
+
+-- the same of the only path
+only_path-spelled : (word : Result (List ℕ) Refusal) (path : PathWord) → (word >>= word_of) ≡ Ok path → are_names path.names ≡ true
+only_path-spelled (Ok bytes) path given = path-spelled bytes path given
+only_path-spelled (Err refusal) path given = absurd cc
+
+pair-same : (from to : PathWord) (paths : PathWord × PathWord) → (let read : Result (PathWord × PathWord) Refusal = Ok (from, to) in read) ≡ Ok paths → (from, to) ≡ paths
+pair-same from to paths given = cc
+
+-- and of two
+each_path-spelled : (first second : Result PathWord Refusal) (paths : PathWord × PathWord) →
+    (first >>= λ from. second >>= λ to. Ok (from, to)) ≡ Ok paths → (first ≡ Ok paths.0) × (second ≡ Ok paths.1)
+each_path-spelled (Ok from) (Ok to) paths given = (ap (λ (p : PathWord × PathWord). Ok p.0) (pair-same from to paths given), ap (λ (p : PathWord × PathWord). Ok p.1) (pair-same from to paths given))
+each_path-spelled (Ok from) (Err refusal) paths given = absurd cc
+each_path-spelled (Err refusal) second paths given = absurd cc
+
+two_paths-spelled : (first second : List ℕ) (paths : PathWord × PathWord) → two_paths first second ≡ Ok paths →
+    (are_names paths.0.names ≡ true) × (are_names paths.1.names ≡ true)
+two_paths-spelled first second paths given =
+    elim (is_bad first || is_bad second) as (λ b. (let read : Result (PathWord × PathWord) Refusal = if b then Err BadName else each_path first second in read) ≡ Ok paths → (are_names paths.0.names ≡ true) × (are_names paths.1.names ≡ true)) [
+      | true ↦ (λ same. absurd cc)
+      | false ↦ (λ same.
+          let each = each_path-spelled (word_of first) (word_of second) paths same in
+          (path-spelled first paths.0 each.0, path-spelled second paths.1 each.1))
+    ] given
+
+spells_one : (command : PathWord → Command) (arguments : List ℕ) → ((path : PathWord) → are_names path.names ≡ true → is_spelled (command path) ≡ true) →
+    Spells (one_path command arguments)
+unfolding one_path
+spells_one command arguments spelled =
+    spells-then (only_path arguments) _ (λ path given.
+    command-spelled (command path) (spelled path (only_path-spelled (only_word arguments) path given)))
+
+spells_ls : (arguments : List ℕ) → Spells (ls_of arguments)
+unfolding Spells ls_of
+spells_ls arguments =
+    spells-if (list_all is_space arguments) (Ok (Ls None)) (one_path (λ path. Ls (Some path)) arguments)
+    (λ _. refl) (λ _. spells_one (λ path. Ls (Some path)) arguments (λ path names. names))
+
+spells_mv : (arguments : List ℕ) → Spells (mv_of arguments)
+unfolding mv_of
+spells_mv arguments =
+    spells-then (first_word arguments) _ (λ first _.
+    spells-then (only_word first.1) _ (λ second _.
+    spells-then (two_paths first.0 second) _ (λ paths given.
+    let both = two_paths-spelled first.0 second paths given in
+    command-spelled (Mv paths.0 paths.1) (and_from (are_names paths.0.names) (are_names paths.1.names) both.0 both.1))))
+
+limited_text-is : (bytes text : List ℕ) → limited_text bytes ≡ Ok text → is_text text ≡ true
+limited_text-is bytes text given =
+    elim (is_text bytes) as (λ b. is_text bytes ≡ b → (let read : Result (List ℕ) Refusal = if b then Ok bytes else Err (Limit limit.Text) in read) ≡ Ok text → is_text text ≡ true) [
+      | true ↦ (λ fits same. let even : bytes ≡ text = cc in ap is_text (sym even) ∙ fits)
+      | false ↦ (λ other same. absurd cc)
+    ] refl given
 
 spells_write : (arguments : List ℕ) → Spells (write_of arguments)
-unfolding Spells
+unfolding write_of
 spells_write arguments =
-    let word = first_word arguments in
-    let command : Result Command Refusal = Ok (Write (drop 1 (first_word arguments)) (text_after_word arguments)) in
-    spells-if (length word == 0 || list_any is_backslash (text_after_word arguments)) (Err BadLine) (if is_root_path word then command else Err BadName)
-    (λ bad. tt) (λ good. spells_path word command (λ named. named))
+    spells-then (first_word arguments) _ (λ word _.
+    spells-then (ok_or (text_of (after_space word.1)) BadLine) _ (λ spelled _.
+    spells-then (word_of word.0) _ (λ path named.
+    spells-then (limited_text spelled) _ (λ text fits.
+    command-spelled (Write path text) (and_from (are_names path.names) (is_text text) (path-spelled word.0 path named) (limited_text-is spelled text fits))))))
 
-smkdir-spells : (name : List ℕ) (wanted : Result Query Refusal) → is_name name ≡ true → SpellsQuery wanted → Spells (smkdir_with name wanted)
-unfolding Spells SpellsQuery
-smkdir-spells name (Ok query) named sound = and_from (is_name name) (is_query query) named sound
-smkdir-spells name (Err refusal) named sound = tt
+query-spelled : (bytes : List ℕ) (wanted : Query) → query_of bytes ≡ Ok wanted → is_query wanted ≡ true
+query-spelled bytes wanted given = query-sound (query_of bytes) wanted (spells_query bytes) given
 
 spells_smkdir : (arguments : List ℕ) → Spells (smkdir_of arguments)
-unfolding Spells
+unfolding smkdir_of
 spells_smkdir arguments =
-    let word = first_word arguments in
-    let command = smkdir_with (drop 1 (first_word arguments)) (query_of (text_after_word arguments)) in
-    spells-if (length word == 0) (Err BadLine) (if is_root_path word then command else Err BadName)
-    (λ bad. tt) (λ good. spells_path word command (λ named. smkdir-spells (drop 1 (first_word arguments)) (query_of (text_after_word arguments)) named (spells_query (text_after_word arguments))))
+    spells-then (first_word arguments) _ (λ word _.
+    spells-then (word_of word.0) _ (λ path named.
+    spells-then (query_of (after_space word.1)) _ (λ wanted given.
+    command-spelled (Smkdir path wanted) (and_from (are_names path.names) (is_query wanted) (path-spelled word.0 path named) (query-spelled (after_space word.1) wanted given)))))
 
 spells_index : (arguments : List ℕ) → Spells (index_of arguments)
-unfolding Spells
+unfolding Spells index_of
 spells_index arguments = spells-if (list_all is_space arguments) (Ok Index) (Err BadLine) (λ good. refl) (λ bad. tt)
 
-spells_sls : (arguments : List ℕ) → Spells (sls_of arguments)
-unfolding Spells
-spells_sls arguments =
-    let word = first_word arguments in
-    let command : Result Command Refusal = Ok (Sls (drop 1 (first_word arguments))) in
-    spells-if (length word == 0 || not (list_all is_space (after_word arguments))) (Err BadLine) (if is_root_path word then command else Err BadName)
-    (λ bad. tt) (λ good. spells_path word command (λ named. named))
+spells_named : (name arguments : List ℕ) → Spells (named_command name arguments)
+spells_named name arguments =
+    let P = Spells in
+    cond_both (bytes_eq name (codes "mkdir")) _ _ P (λ _. spells_one Mkdir arguments (λ path names. names))
+    (λ _. cond_both (bytes_eq name (codes "rmdir")) _ _ P (λ _. spells_one Rmdir arguments (λ path names. names))
+    (λ _. cond_both (bytes_eq name (codes "write")) _ _ P (λ _. spells_write arguments)
+    (λ _. cond_both (bytes_eq name (codes "cat")) _ _ P (λ _. spells_one Cat arguments (λ path names. names))
+    (λ _. cond_both (bytes_eq name (codes "ls")) _ _ P (λ _. spells_ls arguments)
+    (λ _. cond_both (bytes_eq name (codes "mv")) _ _ P (λ _. spells_mv arguments)
+    (λ _. cond_both (bytes_eq name (codes "rm")) _ _ P (λ _. spells_one Rm arguments (λ path names. names))
+    (λ _. cond_both (bytes_eq name (codes "smkdir")) _ _ P (λ _. spells_smkdir arguments)
+    (λ _. cond_both (bytes_eq name (codes "sls")) _ _ P (λ _. spells_one Sls arguments (λ path names. names))
+    (λ _. cond_both (bytes_eq name (codes "index")) _ _ P (λ _. spells_index arguments)
+    (λ _. spells_bad_line))))))))))
 
-spells_command : (line : List ℕ) → Spells (command_of line)
-spells_command line =
-    let rest = after_word line in
-    let after_index : Result Command Refusal = if is_called (codes "sls") line then sls_of rest else Err BadLine in
-    let after_smkdir : Result Command Refusal = if is_called (codes "index") line then index_of rest else after_index in
-    let after_write : Result Command Refusal = if is_called (codes "smkdir") line then smkdir_of rest else after_smkdir in
-    spells-if (is_called (codes "write") line) (write_of rest) after_write (λ _. spells_write rest)
-    (λ _. spells-if (is_called (codes "smkdir") line) (smkdir_of rest) after_smkdir (λ _. spells_smkdir rest)
-    (λ _. spells-if (is_called (codes "index") line) (index_of rest) after_index (λ _. spells_index rest)
-    (λ _. spells-if (is_called (codes "sls") line) (sls_of rest) (Err BadLine) (λ _. spells_sls rest) (λ _. spells_bad_line))))
+spells_put_at : (word : List ℕ) (taken : Option Taken) → Spells (put_at word taken)
+unfolding Spells
+spells_put_at word (Some (Whole bytes)) =
+    spells-then (word_of word) _ (λ path named.
+    spells-then (limited_text bytes) _ (λ text fits.
+    command-spelled (Write path text) (and_from (are_names path.names) (is_text text) (path-spelled word path named) (limited_text-is bytes text fits))))
+spells_put_at word (Some Dropped) = spells-then (word_of word) _ (λ path named. tt)
+spells_put_at word (Some Short) = tt
+spells_put_at word (Some PastLimit) = tt
+spells_put_at word None = tt
+
+spells_put : (arguments : List ℕ) (taken : Option Taken) → Spells (put_of arguments taken)
+spells_put arguments taken = spells-then (put_words arguments) _ (λ words _. spells_put_at words.0 taken)
+
+spells_called : (name arguments : List ℕ) (taken : Option Taken) → Spells (called_with name arguments taken)
+spells_called name arguments taken = cond_both (is_put name) _ _ Spells (λ _. spells_put arguments taken) (λ _. spells_named name arguments)
+
+spells_with : (line : List ℕ) (taken : Option Taken) → Spells (command_with line taken)
+spells_with line taken = spells-then (first_word line) _ (λ name _. spells_called name.0 name.1 taken)
 
 -- an item is a line whose command has words that it may have, or a refusal
 abbrev pub IsItem : Item → Type 0
@@ -130,10 +223,10 @@ unfolding Spells
 in_main-item (Ok command) h = h
 in_main-item (Err refusal) h = tt
 
-pub item_of-item : (bytes : List ℕ) → IsItem (item_of bytes)
-item_of-item bytes =
-    elim (nat_le (length bytes) LINE_LIMIT) as (λ b. IsItem (if b then in_main (command_of bytes) else Err (Limit limit.Line))) [
-      | true ↦ in_main-item (command_of bytes) (spells_command bytes)
+pub item_of-item : (bytes : List ℕ) (taken : Option Taken) → IsItem (item_of bytes taken)
+item_of-item bytes taken =
+    elim (nat_le (length bytes) LINE_LIMIT) as (λ b. IsItem (if b then in_main (command_with bytes taken) else Err (Limit limit.Line))) [
+      | true ↦ in_main-item (command_with bytes taken) (spells_with bytes taken)
       | false ↦ tt
     ]
 
@@ -141,5 +234,5 @@ line-spelled : (item : Item) (line : Line) → IsItem item → item ≡ Ok line 
 line-spelled (Ok given) line h same = let even : given ≡ line = cc in ap (λ (l : Line). is_spelled l.command) (sym even) ∙ h
 line-spelled (Err refusal) line h same = absurd cc
 
-pub lines-spell : (bytes : List ℕ) (line : Line) → item_of bytes ≡ Ok line → IsTrue (is_spelled line.command)
-lines-spell bytes line same = line-spelled (item_of bytes) line (item_of-item bytes) same
+pub lines-spell : (bytes : List ℕ) (taken : Option Taken) (line : Line) → item_of bytes taken ≡ Ok line → IsTrue (is_spelled line.command)
+lines-spell bytes taken line same = line-spelled (item_of bytes taken) line (item_of-item bytes taken) same

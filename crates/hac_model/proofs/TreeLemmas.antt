@@ -1,14 +1,20 @@
--- Look-ups in a valid state, and what its plain tree tells.
-use Rattle.std.proofs.Common.{◌≡◌, ℕ, zero, suc, ◌<◌, ◌≤◌, Bool, true, false, cond, List, [], ◌∷◌, length, get_or, subst, refl, ap, sym, ◌∙◌, arith, eq-eqb}
-use Rattle.std.specs.Prelude.{◌==◌, Option, Some, None, map}
-use Rattle.std.specs.Option.{option_map_or}
+-- Look-ups among entries: by number, and by directory and name.
+use Rattle.std.proofs.Common.{◌≡◌, ℕ, zero, suc, ◌<◌, ◌≤◌, Bool, true, false, cond, List, [], ◌∷◌, length, get_or, subst, refl, ap, sym, ◌∙◌, arith, eq-eqb, inl, inr}
+use Rattle.std.specs.Prelude.{◌⊎◌, ◌==◌, ◌&&◌, ◌||◌, Option, Some, None}
+use Rattle.std.specs.Option.{option_map, option_map_or}
 use Rattle.std.specs.List.{AllByRecursion}
-use Rattle.std.proofs.lemmas.Bool.{ne_eqb}
-use Rattle.hac_model.specs.Tree.{entry_at, plain}
-use Rattle.hac_model.specs.Valid.{NumbersRise, IsValid}
+use Rattle.std.specs.Str.{bytes_eq}
+use Rattle.std.proofs.lemmas.Bool.{and_from, and_parts, cases_lt, eqb-true, ne_eqb}
+use Rattle.std.proofs.lemmas.Slice.Eq.{bytes_eq-Decides}
+use Rattle.hac_model.specs.Tree.{child, entry_at, is_directory, is_directory_at, is_file, is_file_at, is_made_directory}
+use Rattle.hac_model.specs.Valid.{NamesDiffer, NumbersRise}
 use Rattle.hac_model.specs.declared.states.Body.{Body}
+use Rattle.hac_model.specs.declared.states.Body.TheVariants.{File, Dir, Semantic}
 use Rattle.hac_model.specs.declared.states.Entry.{Entry}
-use Rattle.hac_model.specs.declared.states.State.{State}
+
+-- the root, or an entry
+abbrev pub Lives : List Entry → ℕ → Type 0
+Lives es n = (n ≡ 0) ⊎ ((e : Entry) × (entry_at es n ≡ Some e))
 
 -- another number than the first entry's is looked up behind it
 pub entry_at-behind : (e : Entry) (es : List Entry) (n : ℕ) → (e.number ≡ n → ⊥) → entry_at (e ∷ es) n ≡ entry_at es n
@@ -23,6 +29,37 @@ entry_at-low above [] next n h low = refl
 entry_at-low above (e ∷ es) next n h low =
     let first : above < e.number = h.0 in
     entry_at-behind e es n (λ same. omega arith) ∙ entry_at-low e.number es next n h.1 (omega arith)
+
+-- what all numbers are above is below the next one
+pub rise-below : (above : ℕ) (es : List Entry) (next : ℕ) → NumbersRise above es next → above < next
+rise-below above [] next h = h
+rise-below above (e ∷ es) next h = let first : above < e.number = h.0 in let more : e.number < next = rise-below e.number es next h.1 in omega arith
+
+-- nor has one the next number
+pub entry_at-next : (above : ℕ) (es : List Entry) (next n : ℕ) → NumbersRise above es next → next ≤ n → entry_at es n ≡ None
+entry_at-next above [] next n h high = refl
+entry_at-next above (e ∷ es) next n h high =
+    let below : e.number < next = rise-below e.number es next h.1 in
+    entry_at-behind e es n (λ same. omega arith) ∙ entry_at-next e.number es next n h.1 high
+
+-- the entry that is looked up has the number
+pub entry_at-number : (es : List Entry) (n : ℕ) (e : Entry) → entry_at es n ≡ Some e → e.number ≡ n
+entry_at-number [] n e found = absurd cc
+entry_at-number (first ∷ es) n e found =
+    elim (first.number == n) as (λ b. (first.number == n) ≡ b → cond b (Some first) (entry_at es n) ≡ Some e → e.number ≡ n) [
+      | true ↦ (λ here found. let same : first ≡ e = cc in ap (λ (x : Entry). x.number) (sym same) ∙ eqb-true first.number n here)
+      | false ↦ (λ here found. entry_at-number es n e found)
+    ] refl found
+
+-- it is above those that the entries have to be above
+pub entry_at-above : (above : ℕ) (es : List Entry) (next n : ℕ) (e : Entry) → NumbersRise above es next → entry_at es n ≡ Some e → above < n
+entry_at-above above es next n e h found =
+    elim (cases_lt above n) [ inl more ↦ more | inr low ↦ (let none = entry_at-low above es next n h low in absurd cc) ]
+
+-- and below the next one
+pub entry_at-below : (above : ℕ) (es : List Entry) (next n : ℕ) (e : Entry) → NumbersRise above es next → entry_at es n ≡ Some e → n < next
+entry_at-below above es next n e h found =
+    elim (cases_lt n next) [ inl less ↦ less | inr high ↦ (let none = entry_at-next above es next n h high in absurd cc) ]
 
 -- what holds of all entries holds of the one that is looked up
 pub entry_at-all : (P : Entry → Type 0) (es : List Entry) (n : ℕ) (e : Entry) → AllByRecursion P es → entry_at es n ≡ Some e → P e
@@ -52,49 +89,95 @@ entry_at-index above (e ∷ es) next (suc i) d h k =
     let more : e.number < (get_or es i d).number = number-above e.number es next i d h.1 inside in
     entry_at-behind e es (get_or es i d).number (λ same. omega arith) ∙ entry_at-index e.number es next i d h.1 inside
 
--- an entry as the plain tree shows it, whose path is its name
-own_row : Entry → (List (List ℕ) × ℕ × Body)
-own_row e = (e.name ∷ [], e.number, e.body)
+-- what holds of each number with its entry holds of all entries
+pub all-entries : (P : Entry → Type 0) (above : ℕ) (es : List Entry) (next : ℕ) → NumbersRise above es next → ((e : Entry) → entry_at es e.number ≡ Some e → P e) → AllByRecursion P es
+all-entries P above [] next h each = tt
+all-entries P above (e ∷ es) next h each = (
+  each e (entry_at-first e es),
+  all-entries P e.number es next h.1 (λ f found.
+      let more : e.number < f.number = entry_at-above e.number es next f.number f h.1 found in
+      each f (entry_at-behind e es f.number (λ same. omega arith) ∙ found)),
+)
 
-row_in : List Entry → Entry → (List (List ℕ) × ℕ × Body)
-row_in all e = (option_map_or (λ (e : Entry). e.name ∷ []) (entry_at all e.number) [], e.number, e.body)
+-- one place has one directory and one name
+pub same_place : (d e : ℕ) (x y : List ℕ) → (d == e && bytes_eq x y) ≡ true → (d ≡ e) × (x ≡ y)
+same_place d e x y h = let parts = and_parts (d == e) (bytes_eq x y) h in (eqb-true d e parts.0, (bytes_eq-Decides x y).0 parts.1)
 
-own_rows : (all es : List Entry) (above next : ℕ) → NumbersRise above es next → ((n : ℕ) → above < n → entry_at all n ≡ entry_at es n) → map (row_in all) es ≡ map own_row es
-unfolding own_row row_in
-own_rows all [] above next h same = refl
-own_rows all (e ∷ es) above next h same =
-    let first : above < e.number = h.0 in
-    let here : entry_at all e.number ≡ Some e = same e.number first ∙ entry_at-first e es in
-    let behind : (n : ℕ) → e.number < n → entry_at all n ≡ entry_at es n = λ n k. same n (omega arith) ∙ entry_at-behind e es n (λ even. omega arith) in
-    ap (λ (found : Option Entry). (option_map_or (λ (e : Entry). e.name ∷ []) found [], e.number, e.body) ∷ map (row_in all) es) here
-    ∙ ap (λ (rest : List (List (List ℕ) × ℕ × Body)). (e.name ∷ [], e.number, e.body) ∷ rest) (own_rows all es e.number next h.1 behind)
+pub own_place : (d e : ℕ) (x y : List ℕ) → d ≡ e → x ≡ y → (d == e && bytes_eq x y) ≡ true
+own_place d e x y p q = and_from (d == e) (bytes_eq x y) (eq-eqb d e p) ((bytes_eq-Decides x y).1 q)
 
-plain-own : (s : State) → IsValid s → plain s ≡ map own_row s.entries
-unfolding row_in
-plain-own s h = own_rows s.entries s.entries 0 s.next h.numbers (λ n k. refl)
+-- an entry is what its directory has under its name
+pub child-own : (es : List Entry) (n : ℕ) (e : Entry) → NamesDiffer es → entry_at es n ≡ Some e → child es e.parent e.name ≡ Some n
+child-own [] n e h found = absurd cc
+child-own (first ∷ es) n e h found =
+    elim (first.number == n) as (λ b. (first.number == n) ≡ b → cond b (Some first) (entry_at es n) ≡ Some e → child (first ∷ es) e.parent e.name ≡ Some n) [
+      | true ↦ (λ here found.
+          let same : first ≡ e = cc in
+          let number : first.number ≡ n = eqb-true first.number n here in
+          ap (λ (b : Bool). cond b (Some first.number) (child es e.parent e.name)) (own_place first.parent e.parent first.name e.name (ap (λ (x : Entry). x.parent) same) (ap (λ (x : Entry). x.name) same))
+          ∙ ap (λ (k : ℕ). Some k) number)
+      | false ↦ (λ here found. behind (child-own es n e h.1 found))
+    ] refl found
+  where
+    behind : child es e.parent e.name ≡ Some n → child (first ∷ es) e.parent e.name ≡ Some n
+    behind there = elim (first.parent == e.parent && bytes_eq first.name e.name) as (λ b. (first.parent == e.parent && bytes_eq first.name e.name) ≡ b → cond b (Some first.number) (child es e.parent e.name) ≡ Some n) [
+      | true ↦ (λ here.
+          let place = same_place first.parent e.parent first.name e.name here in
+          let none : child es e.parent e.name ≡ None = subst (λ (d : ℕ). child es d e.name ≡ None) place.0 (subst (λ (x : List ℕ). child es first.parent x ≡ None) place.1 h.0) in
+          absurd cc)
+      | false ↦ (λ here. there)
+    ] refl
 
-same_entry : (e f : Entry) → e.parent ≡ 0 → f.parent ≡ 0 → own_row e ≡ own_row f → e ≡ f
-unfolding own_row
-same_entry e f p q same =
-    let paths : (e.name ∷ []) ≡ (f.name ∷ []) = ap (λ (r : List (List ℕ) × ℕ × Body). r.0) same in
-    let names : e.name ≡ f.name = cc in
-    let numbers : e.number ≡ f.number = ap (λ (r : List (List ℕ) × ℕ × Body). r.1) same in
-    let bodies : e.body ≡ f.body = ap (λ (r : List (List ℕ) × ℕ × Body). r.2) same in
-    let parents : e.parent ≡ f.parent = p ∙ sym q in
-    λ i. record { number = numbers i; parent = parents i; name = names i; body = bodies i }
+-- what a directory has under a name is an entry that stands there
+pub child-entry : (above : ℕ) (es : List Entry) (next d n : ℕ) (x : List ℕ) → NumbersRise above es next → child es d x ≡ Some n → (e : Entry) × (entry_at es n ≡ Some e) × (e.parent ≡ d) × (e.name ≡ x)
+child-entry above [] next d n x h found = absurd cc
+child-entry above (first ∷ es) next d n x h found =
+    elim (first.parent == d && bytes_eq first.name x) as (λ b. (first.parent == d && bytes_eq first.name x) ≡ b → cond b (Some first.number) (child es d x) ≡ Some n → (e : Entry) × (entry_at (first ∷ es) n ≡ Some e) × (e.parent ≡ d) × (e.name ≡ x)) [
+      | true ↦ (λ here found.
+          let number : first.number ≡ n = cc in
+          let place = same_place first.parent d first.name x here in
+          (first, subst (λ (k : ℕ). entry_at (first ∷ es) k ≡ Some first) number (entry_at-first first es), place.0, place.1))
+      | false ↦ (λ here found.
+          let rest = child-entry first.number es next d n x h.1 found in
+          let more : first.number < n = entry_at-above first.number es next n rest.0 h.1 rest.1 in
+          (rest.0, entry_at-behind first es n (λ same. omega arith) ∙ rest.1, rest.2, rest.3))
+    ] refl found
 
-same_entries : (es fs : List Entry) → AllByRecursion (λ e. e.parent ≡ 0) es → AllByRecursion (λ e. e.parent ≡ 0) fs → map own_row es ≡ map own_row fs → es ≡ fs
-same_entries [] [] p q same = refl
-same_entries [] (f ∷ fs) p q same = absurd cc
-same_entries (e ∷ es) [] p q same = absurd cc
-same_entries (e ∷ es) (f ∷ fs) p q same =
-    let heads : own_row e ≡ own_row f = cc in
-    let tails : map own_row es ≡ map own_row fs = cc in
-    let head : e ≡ f = same_entry e f p.0 q.0 heads in
-    let tail : es ≡ fs = same_entries es fs p.1 q.1 tails in
-    λ i. head i ∷ tail i
+-- what is looked up is an entry or nothing
+pub entry_at-cases : (es : List Entry) (n : ℕ) → (entry_at es n ≡ None) ⊎ ((e : Entry) × (entry_at es n ≡ Some e))
+entry_at-cases es n = elim (entry_at es n) as (λ o. entry_at es n ≡ o → (entry_at es n ≡ None) ⊎ ((e : Entry) × (entry_at es n ≡ Some e))) [ None ↦ (λ found. inl found) | Some e ↦ (λ found. inr (e, found)) ] refl
 
-pub plain-tells : (s t : State) → IsValid s → IsValid t → s.next ≡ t.next → plain s ≡ plain t → s ≡ t
-plain-tells s t h k next same =
-    let entries : s.entries ≡ t.entries = same_entries s.entries t.entries h.parents k.parents (sym (plain-own s h) ∙ same ∙ plain-own t k) in
-    λ i. record { next = next i; entries = entries i }
+-- an entry where a test of it is passed
+pub entry_of : (es : List Entry) (n : ℕ) (p : Entry → Bool) → option_map_or p (entry_at es n) false ≡ true → (e : Entry) × (entry_at es n ≡ Some e) × (p e ≡ true)
+entry_of es n p h = elim (entry_at es n) as (λ o. entry_at es n ≡ o → option_map_or p o false ≡ true → (e : Entry) × (entry_at es n ≡ Some e) × (p e ≡ true)) [ None ↦ (λ found h. absurd cc) | Some e ↦ (λ found h. (e, found, h)) ] refl h
+
+-- a directory lives
+pub directory-lives : (es : List Entry) (d : ℕ) → is_directory_at es d ≡ true → Lives es d
+directory-lives es d h =
+    elim (d == 0) as (λ b. (d == 0) ≡ b → (b || is_made_directory es d) ≡ true → Lives es d) [
+      | true ↦ (λ root h. inl (eqb-true d 0 root))
+      | false ↦ (λ root h. made (entry_at-cases es d) h)
+    ] refl h
+  where
+    made : (entry_at es d ≡ None) ⊎ ((e : Entry) × (entry_at es d ≡ Some e)) → is_made_directory es d ≡ true → Lives es d
+    made (inl none) h = let never : false ≡ true = ap (λ (o : Option Entry). option_map_or is_directory (option_map (λ (e : Entry). e.body) o) false) (sym none) ∙ h in absurd cc
+    made (inr found) h = inr found
+
+other_kind : (body : Body) → is_directory body ≡ true → is_file body ≡ false
+other_kind (File text dirty shown) h = absurd cc
+other_kind Dir h = refl
+other_kind (Semantic query) h = refl
+
+-- a directory is no file
+pub directory-no_file : (es : List Entry) (d : ℕ) → entry_at es 0 ≡ None → is_directory_at es d ≡ true → is_file_at es d ≡ false
+directory-no_file es d root h =
+    elim (entry_at es d) as (λ o. entry_at es d ≡ o → (d == 0 || option_map_or is_directory (option_map (λ (e : Entry). e.body) o) false) ≡ true → option_map_or is_file (option_map (λ (e : Entry). e.body) o) false ≡ false) [
+      | None ↦ (λ found h. refl)
+      | Some e ↦ (λ found h. made e found h)
+    ] refl h
+  where
+    made : (e : Entry) → entry_at es d ≡ Some e → (d == 0 || is_directory e.body) ≡ true → is_file e.body ≡ false
+    made e found h = elim (d == 0) as (λ b. (d == 0) ≡ b → (b || is_directory e.body) ≡ true → is_file e.body ≡ false) [
+      | true ↦ (λ here h. let none : entry_at es d ≡ None = subst (λ (k : ℕ). entry_at es k ≡ None) (sym (eqb-true d 0 here)) root in absurd cc)
+      | false ↦ (λ here h. other_kind e.body h)
+    ] refl h

@@ -1,126 +1,171 @@
 -- Events keep a state valid.
-use Rattle.std.proofs.Common.{◌≡◌, ℕ, ◌+◌, Bool, true, false, cond, List, [], ◌∷◌, ◌++◌, refl, ap, ◌∙◌, arith}
-use Rattle.std.specs.Prelude.{◌&&◌, ◌==◌, Option, Some, None, IsTrue, is_none}
+use Rattle.std.proofs.Common.{◌≡◌, ℕ, Bool, true, false, List, [], ◌∷◌, refl, ap, sym, ◌∙◌, arith}
+use Rattle.std.specs.Prelude.{◌&&◌, ◌==◌, not, Option, Some, None, IsTrue, is_none, is_some}
 use Rattle.std.specs.Option.{option_map_or}
 use Rattle.std.specs.List.{AllByRecursion}
-use Rattle.std.specs.Str.{bytes_eq}
-use Rattle.std.specs.Cmp.{nat_eq_equiv}
-use Rattle.std.specs.Cmp.Lexicographic.{nat_list_eq_equiv}
-use Rattle.std.proofs.lemmas.Bool.{and_parts, eqb-true}
+use Rattle.std.proofs.lemmas.Bool.{and_parts, eqb-false, not-true}
+use Rattle.hac_model.specs.Events.{accepted, added, apply, changed, changed_at, edited, indexed, is_bare, is_free, is_inside, next_dirty, removed, reseated, rewritten}
+use Rattle.hac_model.specs.Limits.{is_text, passed}
 use Rattle.hac_model.specs.Names.{is_name}
 use Rattle.hac_model.specs.Queries.{is_query}
-use Rattle.hac_model.specs.Events.{next_dirty, accepted, apply, added, edited, edited_at, rewritten, indexed, is_free}
-use Rattle.hac_model.specs.Tree.{child, empty}
-use Rattle.hac_model.specs.Valid.{NumbersRise, NamesDiffer, IsSound, IsValid}
+use Rattle.hac_model.specs.Tree.{child, empty, entry_at, is_directory, is_directory_at, is_file_at, is_made_directory}
+use Rattle.hac_model.specs.Valid.{IsSound, IsSoundFile, IsValid}
 use Rattle.hac_model.specs.declared.events.Event.{Event}
-use Rattle.hac_model.specs.declared.events.Event.TheVariants.{NewFile, Rewrite, Smkdir, Step}
+use Rattle.hac_model.specs.declared.events.Event.TheVariants.{Mkdir, NewFile, Rewrite, Smkdir, Mv, Rm, Rmdir, Step}
+use Rattle.hac_model.specs.declared.limits.LimitWord.{LimitWord}
 use Rattle.hac_model.specs.declared.states.Body.{Body}
-use Rattle.hac_model.specs.declared.states.Body.TheVariants.{File, Semantic}
+use Rattle.hac_model.specs.declared.states.Body.TheVariants.{File, Dir, Semantic}
 use Rattle.hac_model.specs.declared.states.Entry.{Entry}
 use Rattle.hac_model.specs.declared.states.State.{State}
+use Rattle.hac_model.proofs.ChangeLemmas.{all-append, all-changed, all-filter, all-weaker, differ-append, differ-edited, differ-kept, differ-reseated, directory-append, directory-changed, directory-kept, is_kept, numbers-append, numbers-changed, numbers-kept}
+use Rattle.hac_model.proofs.PathLemmas.{root-none}
+use Rattle.hac_model.proofs.TreeLemmas.{directory-no_file}
 
 pub empty-valid : IsValid empty
-empty-valid = record { numbers = omega arith; names = tt; parents = tt; differ = tt; bodies = tt }
+unfolding passed
+empty-valid = record { numbers = omega arith; names = tt; parents = tt; differ = tt; bodies = tt; limits = refl }
 
-all-append : {X : Type 0} (P : X → Type 0) (xs : List X) (x : X) → AllByRecursion P xs → P x → AllByRecursion P (xs ++ x ∷ [])
-all-append P [] x h p = (p, tt)
-all-append P (y ∷ xs) x h p = (h.0, all-append P xs x h.1 p)
-
--- a new entry takes the next number
-numbers-append : (above : ℕ) (es : List Entry) (e : Entry) (next : ℕ) → NumbersRise above es next → e.number ≡ next → NumbersRise above (es ++ e ∷ []) (next + 1)
-numbers-append above [] e next h same = (omega arith, omega arith)
-numbers-append above (x ∷ es) e next h same = (h.0, numbers-append x.number es e next h.1 same)
-
--- two entries stand at one place or not, whichever is named first
-apart : (a b : ℕ) (x y : List ℕ) → (a == b && bytes_eq x y) ≡ false → (b == a && bytes_eq y x) ≡ false
-apart a b x y h = rw (nat_eq_equiv.symm b a, nat_list_eq_equiv.symm y x) h
-
--- nothing of a name stands in a directory, and what is added is something else
-child-append : (es : List Entry) (e : Entry) (dir : ℕ) (name : List ℕ) → child es dir name ≡ None → (e.parent == dir && bytes_eq e.name name) ≡ false → child (es ++ e ∷ []) dir name ≡ None
-child-append [] e dir name h other = ap (λ (b : Bool). cond b (Some e.number) None) other
-child-append (x ∷ es) e dir name h other = elim (x.parent == dir && bytes_eq x.name name) as (λ b. cond b (Some x.number) (child es dir name) ≡ None → cond b (Some x.number) (child (es ++ e ∷ []) dir name) ≡ None) [ true ↦ (λ h. cc) | false ↦ (λ h. child-append es e dir name h other) ] h
-
-first_apart : (b : Bool) (n : ℕ) (rest : Option ℕ) → cond b (Some n) rest ≡ None → (b ≡ false) × (rest ≡ None)
-first_apart true n rest h = absurd cc
-first_apart false n rest h = (refl, h)
-
-names-append : (es : List Entry) (e : Entry) → NamesDiffer es → child es e.parent e.name ≡ None → NamesDiffer (es ++ e ∷ [])
-names-append [] e h free = (refl, tt)
-names-append (x ∷ es) e h free =
-    let parts = first_apart (x.parent == e.parent && bytes_eq x.name e.name) x.number (child es e.parent e.name) free in
-    (child-append es e x.parent x.name h.0 (apart x.parent e.parent x.name e.name parts.0), names-append es e h.1 parts.1)
-
-none_from : {X : Type 0} (o : Option X) → is_none o ≡ true → o ≡ None
+pub none_from : {X : Type 0} (o : Option X) → is_none o ≡ true → o ≡ None
 none_from None h = refl
 none_from (Some x) h = absurd cc
 
--- a free name, taken by a sound body
-added-valid : (s : State) (dir : ℕ) (name : List ℕ) (body : Body) → IsValid s → is_free s dir name ≡ true → IsSound body → IsValid (added s dir name body)
-added-valid s dir name body h free sound =
-    let parts = and_parts (dir == 0 && is_name name) (is_none (child s.entries dir name)) free in
-    let named = and_parts (dir == 0) (is_name name) parts.0 in
+-- what a free place is
+pub free-parts : (s : State) (dir : ℕ) (name : List ℕ) → is_free s dir name ≡ true → (is_directory_at s.entries dir ≡ true) × (is_name name ≡ true) × (child s.entries dir name ≡ None)
+free-parts s dir name free =
+    let parts = and_parts (is_directory_at s.entries dir && is_name name) (is_none (child s.entries dir name)) free in
+    let first = and_parts (is_directory_at s.entries dir) (is_name name) parts.0 in
+    (first.0, first.1, none_from (child s.entries dir name) parts.1)
+
+-- a free place, taken by a sound body
+pub added-valid : (s : State) (dir : ℕ) (name : List ℕ) (body : Body) → IsValid s → is_free s dir name ≡ true → IsSound body → passed (added s dir name body) ≡ None → IsValid (added s dir name body)
+added-valid s dir name body h free sound limits =
+    let parts = free-parts s dir name free in
     let new : Entry = record { number = s.next; parent = dir; name = name; body = body } in
+    let stay = all-weaker (λ e. IsTrue (is_directory_at s.entries e.parent)) (λ e. IsTrue (is_directory_at (added s dir name body).entries e.parent)) s.entries (λ e there. directory-append s.entries new e.parent there) h.parents in
     record {
       numbers = numbers-append 0 s.entries new s.next h.numbers refl;
-      names = all-append (λ e. IsTrue (is_name e.name)) s.entries new h.names named.1;
-      parents = all-append (λ e. e.parent ≡ 0) s.entries new h.parents (eqb-true dir 0 named.0);
-      differ = names-append s.entries new h.differ (none_from (child s.entries dir name) parts.1);
+      names = all-append (λ e. IsTrue (is_name e.name)) s.entries new h.names parts.1;
+      parents = all-append (λ e. IsTrue (is_directory_at (added s dir name body).entries e.parent)) s.entries new stay (directory-append s.entries new dir parts.0);
+      differ = differ-append s.entries new h.differ parts.2;
       bodies = all-append (λ e. IsSound e.body) s.entries new h.bodies sound;
+      limits = limits;
     }
 
-numbers-edited : (n : ℕ) (f : Body → Body) (above : ℕ) (es : List Entry) (next : ℕ) → NumbersRise above es next → NumbersRise above (edited n f es) next
-numbers-edited n f above [] next h = h
-numbers-edited n f above (e ∷ es) next h = (h.0, numbers-edited n f e.number es next h.1)
+-- a body is edited, and stays of its kind
+pub edited-valid : (s : State) (n : ℕ) (edit : Body → Body) → ((body : Body) → is_directory (edit body) ≡ is_directory body) → ((body : Body) → IsSound body → IsSound (edit body)) → IsValid s → passed (changed_at s n (edited edit)) ≡ None → IsValid (changed_at s n (edited edit))
+edited-valid s n edit kind sound h limits =
+    let change : Entry → Entry = edited edit in
+    let same : (d : ℕ) → is_directory_at (changed n change s.entries) d ≡ is_directory_at s.entries d = λ d. directory-changed n change s.entries d (λ e. refl) (λ e. kind e.body) in
+    record {
+      numbers = numbers-changed n change 0 s.entries s.next (λ e. refl) h.numbers;
+      names = all-changed (λ e. IsTrue (is_name e.name)) n change s.entries (λ e there. there) h.names;
+      parents = all-changed (λ e. IsTrue (is_directory_at (changed n change s.entries) e.parent)) n change s.entries (λ e there. there) (all-weaker (λ e. IsTrue (is_directory_at s.entries e.parent)) (λ e. IsTrue (is_directory_at (changed n change s.entries) e.parent)) s.entries (λ e there. same e.parent ∙ there) h.parents);
+      differ = differ-edited n edit s.entries h.differ;
+      bodies = all-changed (λ e. IsSound e.body) n change s.entries (λ e there. sound e.body there) h.bodies;
+      limits = limits;
+    }
 
-names-edited : (n : ℕ) (f : Body → Body) (P : List ℕ → Type 0) (es : List Entry) → AllByRecursion (λ e. P e.name) es → AllByRecursion (λ e. P e.name) (edited n f es)
-names-edited n f P [] h = tt
-names-edited n f P (e ∷ es) h = (h.0, names-edited n f P es h.1)
+-- an entry goes to a free place
+pub reseated-valid : (s : State) (n dir : ℕ) (name : List ℕ) → IsValid s → is_free s dir name ≡ true → passed (changed_at s n (reseated dir name)) ≡ None → IsValid (changed_at s n (reseated dir name))
+reseated-valid s n dir name h free limits =
+    let parts = free-parts s dir name free in
+    let change : Entry → Entry = reseated dir name in
+    let same : (d : ℕ) → is_directory_at (changed n change s.entries) d ≡ is_directory_at s.entries d = λ d. directory-changed n change s.entries d (λ e. refl) (λ e. refl) in
+    record {
+      numbers = numbers-changed n change 0 s.entries s.next (λ e. refl) h.numbers;
+      names = all-changed (λ e. IsTrue (is_name e.name)) n change s.entries (λ e there. parts.1) h.names;
+      parents = all-changed (λ e. IsTrue (is_directory_at (changed n change s.entries) e.parent)) n change s.entries (λ e there. same dir ∙ parts.0) (all-weaker (λ e. IsTrue (is_directory_at s.entries e.parent)) (λ e. IsTrue (is_directory_at (changed n change s.entries) e.parent)) s.entries (λ e there. same e.parent ∙ there) h.parents);
+      differ = differ-reseated n dir name 0 s.entries s.next h.numbers parts.2 h.differ;
+      bodies = all-changed (λ e. IsSound e.body) n change s.entries (λ e there. there) h.bodies;
+      limits = limits;
+    }
 
-parents-edited : (n : ℕ) (f : Body → Body) (P : ℕ → Type 0) (es : List Entry) → AllByRecursion (λ e. P e.parent) es → AllByRecursion (λ e. P e.parent) (edited n f es)
-parents-edited n f P [] h = tt
-parents-edited n f P (e ∷ es) h = (h.0, parents-edited n f P es h.1)
+-- an entry goes in which nothing stands
+pub removed-valid : (s : State) (n : ℕ) → IsValid s → AllByRecursion (λ e. n ≡ e.parent → ⊥) s.entries → passed (removed s n) ≡ None → IsValid (removed s n)
+removed-valid s n h bare limits =
+    record {
+      numbers = numbers-kept n 0 s.entries s.next h.numbers;
+      names = all-filter (λ e. IsTrue (is_name e.name)) (is_kept n) s.entries h.names;
+      parents = all-filter (λ e. IsTrue (is_directory_at (removed s n).entries e.parent)) (is_kept n) s.entries (stay s.entries bare h.parents);
+      differ = differ-kept n s.entries h.differ;
+      bodies = all-filter (λ e. IsSound e.body) (is_kept n) s.entries h.bodies;
+      limits = limits;
+    }
+  where
+    stay : (es : List Entry) → AllByRecursion (λ e. n ≡ e.parent → ⊥) es → AllByRecursion (λ e. IsTrue (is_directory_at s.entries e.parent)) es → AllByRecursion (λ e. IsTrue (is_directory_at (removed s n).entries e.parent)) es
+    stay [] other there = tt
+    stay (e ∷ es) other there = (directory-kept n s.entries e.parent other.0 ∙ there.0, stay es other.1 there.1)
 
-pub child-edited : (n : ℕ) (f : Body → Body) (es : List Entry) (dir : ℕ) (name : List ℕ) → child (edited n f es) dir name ≡ child es dir name
-child-edited n f [] dir name = refl
-child-edited n f (e ∷ es) dir name = ap (λ (rest : Option ℕ). cond (e.parent == dir && bytes_eq e.name name) (Some e.number) rest) (child-edited n f es dir name)
+-- nothing stands in a file
+pub file-bare : (s : State) (n : ℕ) → IsValid s → is_file_at s.entries n ≡ true → AllByRecursion (λ e. n ≡ e.parent → ⊥) s.entries
+file-bare s n h file = all-weaker (λ e. IsTrue (is_directory_at s.entries e.parent)) (λ e. n ≡ e.parent → ⊥) s.entries (λ e there same.
+    let other : is_file_at s.entries e.parent ≡ false = directory-no_file s.entries e.parent (root-none s h) there in
+    let never : true ≡ false = sym file ∙ ap (λ (k : ℕ). is_file_at s.entries k) same ∙ other in
+    cc) h.parents
 
-differ-edited : (n : ℕ) (f : Body → Body) (es : List Entry) → NamesDiffer es → NamesDiffer (edited n f es)
-differ-edited n f [] h = tt
-differ-edited n f (e ∷ es) h = (child-edited n f es e.parent e.name ∙ h.0, differ-edited n f es h.1)
+-- nor in a bare directory
+pub bare-all : (es : List Entry) (n : ℕ) → is_bare es n ≡ true → AllByRecursion (λ e. n ≡ e.parent → ⊥) es
+bare-all [] n h = tt
+bare-all (e ∷ es) n h =
+    let parts = and_parts (not (e.parent == n)) (is_bare es n) h in
+    let other : (e.parent == n) ≡ false = not-true (e.parent == n) parts.0 in
+    (λ same. eqb-false e.parent n other (sym same), bare-all es n parts.1)
 
-sound-if : (b : Bool) (f : Body → Body) (body : Body) → ((body : Body) → IsSound body → IsSound (f body)) → IsSound body → IsSound (cond b (f body) body)
-sound-if true f body keeps h = keeps body h
-sound-if false f body keeps h = h
+pub rewritten-sound : (text : List ℕ) → is_text text ≡ true → (body : Body) → IsSound body → IsSound (rewritten text body)
+rewritten-sound text fits (File old dirty shown) h = record { fits = fits; shown_fits = h.shown_fits; clean = λ clean. absurd cc }
+rewritten-sound text fits Dir h = h
+rewritten-sound text fits (Semantic query) h = h
 
-bodies-edited : (n : ℕ) (f : Body → Body) → ((body : Body) → IsSound body → IsSound (f body)) → (es : List Entry) → AllByRecursion (λ e. IsSound e.body) es → AllByRecursion (λ e. IsSound e.body) (edited n f es)
-bodies-edited n f keeps [] h = tt
-bodies-edited n f keeps (e ∷ es) h = (sound-if (e.number == n) f e.body keeps h.0, bodies-edited n f keeps es h.1)
+pub rewritten-kind : (text : List ℕ) (body : Body) → is_directory (rewritten text body) ≡ is_directory body
+rewritten-kind text (File old dirty shown) = refl
+rewritten-kind text Dir = refl
+rewritten-kind text (Semantic query) = refl
 
-edited_at-valid : (s : State) (n : ℕ) (f : Body → Body) → ((body : Body) → IsSound body → IsSound (f body)) → IsValid s → IsValid (edited_at s n f)
-edited_at-valid s n f keeps h = record {
-  numbers = numbers-edited n f 0 s.entries s.next h.numbers;
-  names = names-edited n f (λ name. IsTrue (is_name name)) s.entries h.names;
-  parents = parents-edited n f (λ parent. parent ≡ 0) s.entries h.parents;
-  differ = differ-edited n f s.entries h.differ;
-  bodies = bodies-edited n f keeps s.entries h.bodies;
-}
-
-rewritten-sound : (text : List ℕ) (body : Body) → IsSound body → IsSound (rewritten text body)
-rewritten-sound text (File old dirty shown) h = λ clean. cc
-rewritten-sound text (Semantic query) h = h
-
-indexed-sound : (body : Body) → IsSound body → IsSound (indexed body)
-indexed-sound (File text dirty shown) h = λ clean. refl
+pub indexed-sound : (body : Body) → IsSound body → IsSound (indexed body)
+indexed-sound (File text dirty shown) h = record { fits = h.fits; shown_fits = h.fits; clean = λ clean. refl }
+indexed-sound Dir h = h
 indexed-sound (Semantic query) h = h
 
--- a step keeps a state valid, also where no file is dirty
-pub step-valid : (s : State) → IsValid s → IsValid (apply s Step)
-step-valid s h = elim (next_dirty s.entries) as (λ o. IsValid (option_map_or (λ file. edited_at s file indexed) o s)) [ None ↦ h | Some file ↦ edited_at-valid s file indexed indexed-sound h ]
+pub indexed-kind : (body : Body) → is_directory (indexed body) ≡ is_directory body
+indexed-kind (File text dirty shown) = refl
+indexed-kind Dir = refl
+indexed-kind (Semantic query) = refl
+
+-- an event that is accepted fits, and leads to a state that passes no limit
+pub accepted-parts : (possible : Bool) (passes : Option LimitWord) → (possible && is_none passes) ≡ true → (possible ≡ true) × (passes ≡ None)
+accepted-parts possible passes h = let parts = and_parts possible (is_none passes) h in (parts.0, none_from passes parts.1)
 
 pub apply-valid : (s : State) (event : Event) → IsValid s → IsTrue (accepted s event) → IsValid (apply s event)
-apply-valid s (NewFile dir name text) h ok = added-valid s dir name (File text true None) h ok (λ clean. cc)
-apply-valid s (Rewrite file text) h ok = edited_at-valid s file (rewritten text) (rewritten-sound text) h
+apply-valid s (Mkdir dir name) h ok =
+    let parts = accepted-parts (is_free s dir name) (passed (added s dir name Dir)) ok in
+    added-valid s dir name Dir h parts.0 tt parts.1
+apply-valid s (NewFile dir name text) h ok =
+    let parts = accepted-parts (is_free s dir name && is_text text) (passed (added s dir name (File text true None))) ok in
+    let fits = and_parts (is_free s dir name) (is_text text) parts.0 in
+    let sound : IsSoundFile text true None = record { fits = fits.1; shown_fits = refl; clean = λ clean. absurd cc } in
+    added-valid s dir name (File text true None) h fits.0 sound parts.1
+apply-valid s (Rewrite file text) h ok =
+    let parts = accepted-parts (is_file_at s.entries file && is_text text) (passed (changed_at s file (edited (rewritten text)))) ok in
+    let fits = and_parts (is_file_at s.entries file) (is_text text) parts.0 in
+    edited-valid s file (rewritten text) (rewritten-kind text) (rewritten-sound text fits.1) h parts.1
 apply-valid s (Smkdir dir name query) h ok =
-    let parts = and_parts (is_free s dir name) (is_query query) ok in
-    added-valid s dir name (Semantic query) h parts.0 parts.1
-apply-valid s Step h ok = step-valid s h
+    let parts = accepted-parts (is_free s dir name && is_query query) (passed (added s dir name (Semantic query))) ok in
+    let fits = and_parts (is_free s dir name) (is_query query) parts.0 in
+    added-valid s dir name (Semantic query) h fits.0 fits.1 parts.1
+apply-valid s (Mv entry dir name) h ok =
+    let parts = accepted-parts (is_some (entry_at s.entries entry) && is_free s dir name && not (is_inside s dir entry)) (passed (changed_at s entry (reseated dir name))) ok in
+    let there = and_parts (is_some (entry_at s.entries entry) && is_free s dir name) (not (is_inside s dir entry)) parts.0 in
+    let free = and_parts (is_some (entry_at s.entries entry)) (is_free s dir name) there.0 in
+    reseated-valid s entry dir name h free.1 parts.1
+apply-valid s (Rm file) h ok =
+    let parts = accepted-parts (is_file_at s.entries file) (passed (removed s file)) ok in
+    removed-valid s file h (file-bare s file h parts.0) parts.1
+apply-valid s (Rmdir dir) h ok =
+    let parts = accepted-parts (is_made_directory s.entries dir && is_bare s.entries dir) (passed (removed s dir)) ok in
+    let bare = and_parts (is_made_directory s.entries dir) (is_bare s.entries dir) parts.0 in
+    removed-valid s dir h (bare-all s.entries dir bare.1) parts.1
+apply-valid s Step h ok =
+    elim (next_dirty s.entries) as (λ o. (is_some o && is_none (passed (option_map_or (λ file. changed_at s file (edited indexed)) o s))) ≡ true → IsValid (option_map_or (λ file. changed_at s file (edited indexed)) o s)) [
+      | None ↦ (λ ok. h)
+      | Some file ↦ (λ ok. edited-valid s file indexed indexed-kind indexed-sound h (none_from (passed (changed_at s file (edited indexed))) ok))
+    ] ok

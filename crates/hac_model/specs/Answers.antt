@@ -1,4 +1,4 @@
--- What a call answers that is asked for a value or a refusal.
+-- Values and refusals.
 use Rattle.std.specs.Prelude.{◌≡◌, ⊤, Result, Ok, Err}
 use Rattle.hac_model.specs.declared.replies.Deny.{Deny}
 use Rattle.hac_model.specs.declared.replies.Deny.TheVariants.{Refused, Memory}
@@ -13,3 +13,18 @@ Denies Memory wanted = ⊤
 abbrev pub Answers : {A : Type 0} → Result A Deny → Result A Refusal → Type 0
 Answers (Ok value) wanted = wanted ≡ Ok value
 Answers (Err deny) wanted = Denies deny wanted
+
+-- the same, where a value of the call is seen by a view
+abbrev pub AnswersSeen : {A B : Type 0} → (A → B) → Result A Deny → Result B Refusal → Type 0
+AnswersSeen view (Ok value) wanted = wanted ≡ Ok (view value)
+AnswersSeen view (Err deny) wanted = Denies deny wanted
+
+-- what the value leads to, or the refusal
+abbrev pub and_then : {A B : Type 0} → (A → Result B Refusal) → Result A Refusal → Result B Refusal
+and_then next (Ok value) = next value
+and_then next (Err refusal) = Err refusal
+
+-- the same, where steps are written one below the other
+infixl 10 ◌>>=◌
+abbrev pub ◌>>=◌ : {A B : Type 0} → Result A Refusal → (A → Result B Refusal) → Result B Refusal
+value >>= next = and_then next value

@@ -12,3 +12,6 @@ is_slash b = b == 47
 
 abbrev pub is_backslash : ℕ → Bool
 is_backslash b = b == 92
+
+abbrev pub is_quote : ℕ → Bool
+is_quote b = b == 34

@@ -1,15 +1,15 @@
 -- Which events happen, and what they do.
-use Rattle.std.specs.Prelude.{ℕ, Bool, true, false, ◌+◌, ◌==◌, ◌&&◌, if◌then◌else◌, List, [], ◌∷◌, ◌++◌, count_by, replicate, Option, Some, None, is_some, is_none}
+use Rattle.std.specs.Prelude.{ℕ, Bool, true, false, ◌+◌, ◌==◌, ◌&&◌, ◌||◌, not, if◌then◌else◌, List, [], ◌∷◌, ◌++◌, length, drop, filter, count_by, Option, Some, None, is_some, is_none}
+use Rattle.std.specs.List.{list_all}
 use Rattle.std.specs.Option.{option_map_or}
+use Rattle.hac_model.specs.Limits.{is_text, passed}
 use Rattle.hac_model.specs.Names.{is_name}
 use Rattle.hac_model.specs.Queries.{is_query}
-use Rattle.hac_model.specs.Tree.{child, body_at, number_in_root, is_file, is_dirty}
-use Rattle.hac_model.specs.declared.commands.Command.{Command}
-use Rattle.hac_model.specs.declared.commands.Command.TheVariants as command
+use Rattle.hac_model.specs.Tree.{child, entry_at, extends, is_directory_at, is_dirty, is_file_at, is_made_directory, path_of}
 use Rattle.hac_model.specs.declared.events.Event.{Event}
-use Rattle.hac_model.specs.declared.events.Event.TheVariants.{NewFile, Rewrite, Smkdir, Step}
+use Rattle.hac_model.specs.declared.events.Event.TheVariants.{Mkdir, NewFile, Rewrite, Smkdir, Mv, Rm, Rmdir, Step}
 use Rattle.hac_model.specs.declared.states.Body.{Body}
-use Rattle.hac_model.specs.declared.states.Body.TheVariants.{File, Semantic}
+use Rattle.hac_model.specs.declared.states.Body.TheVariants.{File, Dir, Semantic}
 use Rattle.hac_model.specs.declared.states.Entry.{Entry}
 use Rattle.hac_model.specs.declared.states.State.{State}
 
@@ -19,23 +19,34 @@ next_dirty [] = None
 next_dirty (entry ∷ entries) = if is_dirty entry.body then Some entry.number else next_dirty entries
 
 -- how many files are dirty
-abbrev pub dirty : State → ℕ
-dirty s = count_by (λ entry. is_dirty entry.body) s.entries
+abbrev pub dirty_count : List Entry → ℕ
+dirty_count entries = count_by (λ entry. is_dirty entry.body) entries
 
--- entries may be made in the directory: so far in the root alone
-abbrev pub is_holder : ℕ → Bool
-is_holder dir = dir == 0
+abbrev pub dirty : State → ℕ
+dirty s = dirty_count s.entries
 
 -- the directory has room for an entry of this name
 abbrev pub is_free : State → ℕ → List ℕ → Bool
-is_free s dir name = is_holder dir && is_name name && is_none (child s.entries dir name)
+is_free s dir name = is_directory_at s.entries dir && is_name name && is_none (child s.entries dir name)
 
--- the event can happen to the state
-abbrev pub accepted : State → Event → Bool
-accepted s (NewFile dir name text) = is_free s dir name
-accepted s (Rewrite file text) = option_map_or is_file (body_at s.entries file) false
-accepted s (Smkdir dir name query) = is_free s dir name && is_query query
-accepted s Step = is_some (next_dirty s.entries)
+-- nothing stands in the directory
+abbrev pub is_bare : List Entry → ℕ → Bool
+is_bare entries dir = list_all (λ entry. not (entry.parent == dir)) entries
+
+-- the directory is the entry, or stands below it
+abbrev pub is_inside : State → ℕ → ℕ → Bool
+is_inside s dir entry = dir == entry || extends (path_of s dir) (path_of s entry)
+
+-- what the event speaks of stands there, limits left aside
+abbrev pub is_possible : State → Event → Bool
+is_possible s (Mkdir dir name) = is_free s dir name
+is_possible s (NewFile dir name text) = is_free s dir name && is_text text
+is_possible s (Rewrite file text) = is_file_at s.entries file && is_text text
+is_possible s (Smkdir dir name query) = is_free s dir name && is_query query
+is_possible s (Mv entry dir name) = is_some (entry_at s.entries entry) && is_free s dir name && not (is_inside s dir entry)
+is_possible s (Rm file) = is_file_at s.entries file
+is_possible s (Rmdir dir) = is_made_directory s.entries dir && is_bare s.entries dir
+is_possible s Step = is_some (next_dirty s.entries)
 
 -- a new entry, which takes the next number
 abbrev pub added : State → ℕ → List ℕ → Body → State
@@ -44,51 +55,63 @@ added s dir name body = record {
   entries = s.entries ++ record { number = s.next; parent = dir; name = name; body = body } ∷ [];
 }
 
--- the entries, of which the one with the number has its body edited
-abbrev pub edited : ℕ → (Body → Body) → List Entry → List Entry
-edited number change [] = []
-edited number change (entry ∷ entries) =
-    record entry { body = if entry.number == number then change entry.body else entry.body } ∷ edited number change entries
+-- the entries, of which the one with the number is changed
+abbrev pub changed : ℕ → (Entry → Entry) → List Entry → List Entry
+changed number change [] = []
+changed number change (entry ∷ entries) =
+    (if entry.number == number then change entry else entry) ∷ changed number change entries
 
--- the state, in which the entry with the number has its body edited
-abbrev pub edited_at : State → ℕ → (Body → Body) → State
-edited_at s number change = record s { entries = edited number change s.entries }
+-- the state, in which the entry with the number is changed
+abbrev pub changed_at : State → ℕ → (Entry → Entry) → State
+changed_at s number change = record s { entries = changed number change s.entries }
 
 -- the text is replaced, and what was indexed stays shown
 abbrev pub rewritten : List ℕ → Body → Body
 rewritten new (File text dirty shown) = File new true shown
+rewritten new Dir = Dir
 rewritten new (Semantic query) = Semantic query
 
 -- the text is shown from now on
 abbrev pub indexed : Body → Body
 indexed (File text dirty shown) = File text false (Some text)
+indexed Dir = Dir
 indexed (Semantic query) = Semantic query
+
+-- the entry with its body edited
+abbrev pub edited : (Body → Body) → Entry → Entry
+edited edit entry = record entry { body = edit entry.body }
+
+-- the entry in another place
+abbrev pub reseated : ℕ → List ℕ → Entry → Entry
+reseated dir name entry = record entry { parent = dir; name = name }
+
+-- the path of a number once an entry is in another place: what is the entry, or stands below it, has the new path in
+-- place of the old one at its beginning
+abbrev pub renamed : State → ℕ → ℕ → List ℕ → ℕ → List (List ℕ)
+renamed s entry dir name number =
+    if is_inside s number entry then path_of s dir ++ name ∷ drop (length (path_of s entry)) (path_of s number)
+    else path_of s number
+
+-- the state without the entry of the number
+abbrev pub removed : State → ℕ → State
+removed s number = record s { entries = filter (λ entry. not (entry.number == number)) s.entries }
 
 -- the state after an event
 abbrev pub apply : State → Event → State
+apply s (Mkdir dir name) = added s dir name Dir
 apply s (NewFile dir name text) = added s dir name (File text true None)
-apply s (Rewrite file text) = edited_at s file (rewritten text)
+apply s (Rewrite file text) = changed_at s file (edited (rewritten text))
 apply s (Smkdir dir name query) = added s dir name (Semantic query)
-apply s Step = option_map_or (λ file. edited_at s file indexed) (next_dirty s.entries) s
+apply s (Mv entry dir name) = changed_at s entry (reseated dir name)
+apply s (Rm file) = removed s file
+apply s (Rmdir dir) = removed s dir
+apply s Step = option_map_or (λ file. changed_at s file (edited indexed)) (next_dirty s.entries) s
+
+-- the event can happen to the state: what it speaks of stands there, and it passes no limit
+abbrev pub accepted : State → Event → Bool
+accepted s event = is_possible s event && is_none (passed (apply s event))
 
 -- the state after events, one after the other
 abbrev pub apply_all : State → List Event → State
 apply_all s [] = s
 apply_all s (event ∷ events) = apply_all (apply s event) events
-
--- a text is written at `/NAME`, where the file of a number stands or nothing
-abbrev pub writing : List ℕ → List ℕ → Option ℕ → Event
-writing name text None = NewFile 0 name text
-writing name text (Some file) = Rewrite file text
-
--- the event that an accepted command is, where it is one event
-abbrev pub event_of : State → Command → Option Event
-event_of s (command.Write name text) = Some (writing name text (number_in_root s name))
-event_of s (command.Smkdir name query) = Some (Smkdir 0 name query)
-event_of s command.Index = None
-event_of s (command.Sls name) = None
-
--- the events that an accepted command is: `index` is as many steps as there are dirty files
-abbrev pub events_of : State → Command → List Event
-events_of s command.Index = replicate (dirty s) Step
-events_of s other = option_map_or (λ event. event ∷ []) (event_of s other) []

@@ -1,96 +1,194 @@
 -- What one line of a script says.
-use Rattle.std.specs.Prelude.{ℕ, Bool, true, ◌==◌, ◌&&◌, ◌||◌, not, if◌then◌else◌, nat_le, List, [], ◌∷◌, length, slice_index, drop, codes, Result, Ok, Err}
-use Rattle.std.specs.List.{prefix_len, before_first, list_any, list_all}
+use Rattle.std.specs.Prelude.{ℕ, Bool, true, ◌==◌, ◌&&◌, ◌||◌, if◌then◌else◌, nat_le, List, [], ◌∷◌, length, slice_index, codes, Option, None, Some, Result, Ok, Err}
+use Rattle.std.specs.List.{list_all}
+use Rattle.std.specs.Option.{ok_or, option_map_or}
 use Rattle.std.specs.Str.{bytes_eq}
-use Rattle.hac_model.specs.Bytes.{is_space, is_backslash}
-use Rattle.hac_model.specs.Names.{is_name, is_root_path}
+use Rattle.std.specs.Str.Parse.{digits_value}
+use Rattle.hac_model.specs.Answers.{◌>>=◌}
+use Rattle.hac_model.specs.Bytes.{is_space}
+use Rattle.hac_model.specs.Limits.{is_text}
+use Rattle.hac_model.specs.LineWords.{first_word, after_space, first_run, after_run}
+use Rattle.hac_model.specs.PathWords.{is_bad, word_of}
+use Rattle.hac_model.specs.Paths.{are_names}
+use Rattle.hac_model.specs.Puts.{is_length}
 use Rattle.hac_model.specs.Queries.{is_query, is_query_word}
+use Rattle.hac_model.specs.Texts.{text_of}
 use Rattle.hac_model.specs.Words.{lower_case}
 use Rattle.hac_model.specs.declared.commands.Command.{Command}
-use Rattle.hac_model.specs.declared.commands.Command.TheVariants.{Write, Smkdir, Index, Sls}
+use Rattle.hac_model.specs.declared.commands.Command.TheVariants.{Mkdir, Rmdir, Write, Cat, Ls, Mv, Rm, Smkdir, Sls, Index}
 use Rattle.hac_model.specs.declared.commands.Line.{Line}
 use Rattle.hac_model.specs.declared.limits.LimitWord.TheVariants as limit
 use Rattle.hac_model.specs.declared.limits.TheConstants.{LINE_LIMIT}
+use Rattle.hac_model.specs.declared.paths.PathWord.{PathWord}
+use Rattle.hac_model.specs.declared.putting.Taken.{Taken}
+use Rattle.hac_model.specs.declared.putting.Taken.TheVariants.{Whole, Dropped, Short, PastLimit}
 use Rattle.hac_model.specs.declared.queries.Query.{Query}
 use Rattle.hac_model.specs.declared.queries.Query.TheVariants as query
 use Rattle.hac_model.specs.declared.replies.Refusal.{Refusal}
-use Rattle.hac_model.specs.declared.replies.Refusal.TheVariants.{BadLine, BadName, BadQuery, Limit}
+use Rattle.hac_model.specs.declared.replies.Refusal.TheVariants.{BadLine, BadName, BadQuery, Limit, ShortPut}
 use Rattle.hac_model.specs.declared.terms.Term.TheVariants.{Word}
 
--- the bytes from the first one on that is no space
-abbrev pub skip_spaces : List ℕ → List ℕ
-skip_spaces bytes = drop (prefix_len is_space bytes) bytes
+-- the one word of the bytes, behind which only spaces stand
+abbrev pub only_word : List ℕ → Result (List ℕ) Refusal
+only_word bytes = do
+  word ← first_word bytes
+  if list_all is_space word.1 then Ok word.0 else Err BadLine
 
--- the first word: the bytes up to a space, where spaces before it don't count
-abbrev pub first_word : List ℕ → List ℕ
-first_word bytes = before_first is_space (skip_spaces bytes)
+-- the path word that is the only word of the bytes
+abbrev pub only_path : List ℕ → Result PathWord Refusal
+only_path bytes = do
+  word ← only_word bytes
+  word_of word
 
--- what follows the first word, from the space behind it on
-abbrev pub after_word : List ℕ → List ℕ
-after_word bytes = drop (length (first_word bytes)) (skip_spaces bytes)
+-- the command of one path word, from what stands behind its name
+unfoldable pub one_path : (PathWord → Command) → List ℕ → Result Command Refusal
+one_path command arguments = do
+  path ← only_path arguments
+  Ok (command path)
 
--- what follows the first word and one space
-abbrev pub text_after_word : List ℕ → List ℕ
-text_after_word bytes = drop 1 (after_word bytes)
+-- `ls` with a path or without, from what stands behind `ls`
+unfoldable pub ls_of : List ℕ → Result Command Refusal
+ls_of arguments = if list_all is_space arguments then Ok (Ls None) else one_path (λ path. Ls (Some path)) arguments
 
--- `write PATH TEXT`, from what stands behind `write`. So far no text has a backslash.
-abbrev pub write_of : List ℕ → Result Command Refusal
-write_of arguments =
-    if length (first_word arguments) == 0 || list_any is_backslash (text_after_word arguments) then Err BadLine
-    else (if is_root_path (first_word arguments) then Ok (Write (drop 1 (first_word arguments)) (text_after_word arguments))
-    else Err BadName)
+-- two words that are to be path words, one after the other
+abbrev pub each_path : List ℕ → List ℕ → Result (PathWord × PathWord) Refusal
+each_path first second = do
+  from ← word_of first
+  to ← word_of second
+  Ok (from, to)
+
+-- two path words, of which a bad one counts before one with a long name
+abbrev pub two_paths : List ℕ → List ℕ → Result (PathWord × PathWord) Refusal
+two_paths first second = if is_bad first || is_bad second then Err BadName else each_path first second
+
+-- `mv PATH PATH`, from what stands behind `mv`
+unfoldable pub mv_of : List ℕ → Result Command Refusal
+mv_of arguments = do
+  first ← first_word arguments
+  second ← only_word first.1
+  paths ← two_paths first.0 second
+  Ok (Mv paths.0 paths.1)
+
+-- the bytes, where a file may have as many
+abbrev pub limited_text : List ℕ → Result (List ℕ) Refusal
+limited_text bytes = if is_text bytes then Ok bytes else Err (Limit limit.Text)
+
+-- `write PATH TEXT`, from what stands behind `write`
+unfoldable pub write_of : List ℕ → Result Command Refusal
+write_of arguments = do
+  word ← first_word arguments
+  spelled ← ok_or (text_of (after_space word.1)) BadLine
+  path ← word_of word.0
+  text ← limited_text spelled
+  Ok (Write path text)
 
 -- the bytes are one word of a query, round which spaces may stand
 abbrev pub is_one_word : List ℕ → Bool
-is_one_word bytes = is_query_word (first_word bytes) && list_all is_space (after_word bytes)
+is_one_word bytes = is_query_word (first_run bytes) && list_all is_space (after_run bytes)
 
 -- the query that the bytes spell: so far one word. What isn't one is bad from its first byte on.
 abbrev pub query_of : List ℕ → Result Query Refusal
 query_of bytes =
-    if is_one_word bytes then Ok (query.Term (Word (lower_case (first_word bytes)))) else Err (BadQuery 1)
-
--- a semantic directory of this name, where its query is one
-abbrev pub smkdir_with : List ℕ → Result Query Refusal → Result Command Refusal
-smkdir_with name (Ok query) = Ok (Smkdir name query)
-smkdir_with name (Err refusal) = Err refusal
+    if is_one_word bytes then Ok (query.Term (Word (lower_case (first_run bytes)))) else Err (BadQuery 1)
 
 -- `smkdir PATH QUERY`, from what stands behind `smkdir`
-abbrev pub smkdir_of : List ℕ → Result Command Refusal
-smkdir_of arguments =
-    if length (first_word arguments) == 0 then Err BadLine
-    else (if is_root_path (first_word arguments) then smkdir_with (drop 1 (first_word arguments)) (query_of (text_after_word arguments))
-    else Err BadName)
+unfoldable pub smkdir_of : List ℕ → Result Command Refusal
+smkdir_of arguments = do
+  word ← first_word arguments
+  path ← word_of word.0
+  query ← query_of (after_space word.1)
+  Ok (Smkdir path query)
 
 -- `index`, from what stands behind it
-abbrev pub index_of : List ℕ → Result Command Refusal
+unfoldable pub index_of : List ℕ → Result Command Refusal
 index_of arguments = if list_all is_space arguments then Ok Index else Err BadLine
 
--- `sls PATH`, from what stands behind `sls`
-abbrev pub sls_of : List ℕ → Result Command Refusal
-sls_of arguments =
-    if length (first_word arguments) == 0 || not (list_all is_space (after_word arguments)) then Err BadLine
-    else (if is_root_path (first_word arguments) then Ok (Sls (drop 1 (first_word arguments)))
-    else Err BadName)
+-- the command of a name, from what stands behind it
+abbrev pub named_command : List ℕ → List ℕ → Result Command Refusal
+named_command name arguments =
+    if bytes_eq name (codes "mkdir") then one_path Mkdir arguments
+    else (if bytes_eq name (codes "rmdir") then one_path Rmdir arguments
+    else (if bytes_eq name (codes "write") then write_of arguments
+    else (if bytes_eq name (codes "cat") then one_path Cat arguments
+    else (if bytes_eq name (codes "ls") then ls_of arguments
+    else (if bytes_eq name (codes "mv") then mv_of arguments
+    else (if bytes_eq name (codes "rm") then one_path Rm arguments
+    else (if bytes_eq name (codes "smkdir") then smkdir_of arguments
+    else (if bytes_eq name (codes "sls") then one_path Sls arguments
+    else (if bytes_eq name (codes "index") then index_of arguments
+    else Err BadLine)))))))))
 
--- the line begins with this word
-abbrev pub is_called : List ℕ → List ℕ → Bool
-is_called word line = bytes_eq (first_word line) word
+-- the path and the length of a `put`, from what stands behind `put`: two words and no more
+unfoldable pub put_words : List ℕ → Result (List ℕ × List ℕ) Refusal
+put_words arguments = do
+  path ← first_word arguments
+  length ← only_word path.1
+  if is_length length then Ok (path.0, length) else Err BadLine
 
--- the command that a line spells, or why it is refused
-abbrev pub command_of : List ℕ → Result Command Refusal
-command_of line =
-    if is_called (codes "write") line then write_of (after_word line)
-    else (if is_called (codes "smkdir") line then smkdir_of (after_word line)
-    else (if is_called (codes "index") line then index_of (after_word line)
-    else (if is_called (codes "sls") line then sls_of (after_word line)
-    else Err BadLine)))
+-- a file at the path with this text, or the first refusal: not all bytes came, then the path, then their count
+abbrev pub put_at : List ℕ → Option Taken → Result Command Refusal
+put_at word (Some (Whole bytes)) = do
+  path ← word_of word
+  text ← limited_text bytes
+  Ok (Write path text)
+put_at word (Some Dropped) = do
+  path ← word_of word
+  Err (Limit limit.Text)
+put_at word (Some Short) = Err ShortPut
+put_at word (Some PastLimit) = Err ShortPut
+put_at word None = Err ShortPut
+
+-- `put PATH LENGTH`, from what stands behind `put`, told what came of the bytes behind the line
+abbrev pub put_of : List ℕ → Option Taken → Result Command Refusal
+put_of arguments taken = do
+  words ← put_words arguments
+  put_at words.0 taken
+
+-- the line's first word is `put`
+abbrev pub is_put : List ℕ → Bool
+is_put name = bytes_eq name (codes "put")
+
+-- the command of a name, from what stands behind it, told what came of the bytes behind the line
+abbrev pub called_with : List ℕ → List ℕ → Option Taken → Result Command Refusal
+called_with name arguments taken = if is_put name then put_of arguments taken else named_command name arguments
+
+-- the command that a line spells, or why it is refused, told what came of the bytes behind it
+abbrev pub command_with : List ℕ → Option Taken → Result Command Refusal
+command_with line taken = do
+  name ← first_word line
+  called_with name.0 name.1 taken
+
+-- the words of a line that is a `put` of the right form
+abbrev pub put_line : List ℕ → Result (List ℕ × List ℕ) Refusal
+put_line line = do
+  name ← first_word line
+  if is_put name.0 then put_words name.1 else Err BadLine
+
+-- how many bytes a `put` of these words asks for
+abbrev pub asked : Result (List ℕ × List ℕ) Refusal → Option ℕ
+asked (Ok words) = Some (digits_value 10 words.1)
+asked (Err refusal) = None
+
+-- how many bytes a `put` asks for behind its line
+abbrev pub put_length : List ℕ → Option ℕ
+put_length line = asked (put_line line)
+
+-- the names of a path word are names
+abbrev pub is_word : PathWord → Bool
+is_word word = are_names word.names
 
 -- the words of the command are as a line spells them
 abbrev pub is_spelled : Command → Bool
-is_spelled (Write name text) = is_name name
-is_spelled (Smkdir name query) = is_name name && is_query query
+is_spelled (Mkdir path) = is_word path
+is_spelled (Rmdir path) = is_word path
+is_spelled (Write path text) = is_word path && is_text text
+is_spelled (Cat path) = is_word path
+is_spelled (Ls path) = option_map_or is_word path true
+is_spelled (Mv from to) = is_word from && is_word to
+is_spelled (Rm path) = is_word path
+is_spelled (Smkdir path query) = is_word path && is_query query
+is_spelled (Sls path) = is_word path
 is_spelled Index = true
-is_spelled (Sls name) = is_name name
 
 -- so far every line is of the session `main`
 abbrev pub in_main : Result Command Refusal → Result Line Refusal
@@ -101,13 +199,17 @@ in_main (Err refusal) = Err refusal
 abbrev pub Item : Type 0
 Item = Result Line Refusal
 
-abbrev pub item_of : List ℕ → Item
-item_of line = if nat_le (length line) LINE_LIMIT then in_main (command_of line) else Err (Limit limit.Line)
+abbrev pub item_of : List ℕ → Option Taken → Item
+item_of line taken = if nat_le (length line) LINE_LIMIT then in_main (command_with line taken) else Err (Limit limit.Line)
 
 -- a blank line or a comment, which has no reply at any length
 abbrev pub is_quiet : List ℕ → Bool
 is_quiet line = slice_index line 0 == 35 || list_all is_space line
 
 -- what a line gives: nothing where it is quiet, else its item
-abbrev pub items_of : List ℕ → List Item
-items_of line = if is_quiet line then [] else item_of line ∷ []
+abbrev pub items_of : List ℕ → Option Taken → List Item
+items_of line taken = if is_quiet line then [] else item_of line taken ∷ []
+
+-- how many bytes a line takes behind its end, where it takes any: not where it is quiet or too long
+abbrev pub bytes_due : List ℕ → Option ℕ
+bytes_due line = if is_quiet line then None else (if nat_le (length line) LINE_LIMIT then put_length line else None)

@@ -1,8 +1,9 @@
 -- What directories provide, and the links that their queries give them.
-use Rattle.std.specs.Prelude.{ℕ, zero, suc, Bool, false, ◌==◌, ◌&&◌, ◌||◌, if◌then◌else◌, List, [], map, filter, count_by, Option, is_some, option_and_then}
+use Rattle.std.specs.Prelude.{ℕ, zero, suc, Bool, false, ◌==◌, ◌&&◌, ◌||◌, if◌then◌else◌, List, [], map, filter, Option, is_some, option_and_then}
 use Rattle.std.specs.List.{list_any}
 use Rattle.std.specs.Option.{option_map_or}
-use Rattle.hac_model.specs.Tree.{entry_at, body_at, is_file, shown_text, query_in}
+use Rattle.hac_model.specs.Limits.{semantic_count}
+use Rattle.hac_model.specs.Tree.{entry_at, body_at, extends, is_file, is_file_at, path_of, shown_text, query_in}
 use Rattle.hac_model.specs.Words.{has_term}
 use Rattle.hac_model.specs.declared.queries.Query.{Query}
 use Rattle.hac_model.specs.declared.queries.Query.TheVariants as query
@@ -28,9 +29,9 @@ query_at s dir = option_and_then query_in (body_at s.entries dir)
 abbrev pub is_semantic : State → ℕ → Bool
 is_semantic s dir = is_some (query_at s dir)
 
--- the item is stored below the directory, which is to say in it: no directory stands between them yet
+-- the item is stored below the directory, at any depth
 abbrev pub is_below : State → ℕ → ℕ → Bool
-is_below s dir item = option_map_or (λ entry. entry.parent == dir && is_file entry.body) (entry_at s.entries item) false
+is_below s dir item = is_file_at s.entries item && extends (path_of s item) (path_of s dir)
 
 -- the item has the term, by its text as last indexed. One that was never indexed has none.
 abbrev pub atom : State → Term → ℕ → Bool
@@ -68,10 +69,6 @@ abbrev pub rounds : ℕ → State → ℕ → List ℕ
 rounds zero s = λ dir. []
 rounds (suc n) s = round s (rounds n s)
 
--- how many semantic directories there are
-abbrev pub semantic_count : State → ℕ
-semantic_count s = count_by (λ entry. is_some (query_in entry.body)) s.entries
-
 -- the links of each directory, the items in order of number: as many rounds as there are semantic directories
 unfoldable pub links : State → ℕ → List ℕ
-links s = rounds (semantic_count s) s
+links s = rounds (semantic_count s.entries) s

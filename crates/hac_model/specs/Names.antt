@@ -1,5 +1,5 @@
--- Which bytes are a name, and which are the path of a file in the root.
-use Rattle.std.specs.Prelude.{ℕ, Bool, ◌==◌, ◌&&◌, not, nat_le, List, length, slice_index, drop, codes}
+-- Which bytes are a name.
+use Rattle.std.specs.Prelude.{ℕ, Bool, ◌==◌, ◌&&◌, not, nat_le, List, length, codes}
 use Rattle.std.specs.List.{list_all}
 use Rattle.std.specs.Str.{bytes_eq}
 use Rattle.hac_model.specs.Bytes.{is_slash}
@@ -14,7 +14,3 @@ abbrev pub is_name : List ℕ → Bool
 is_name bytes =
     nat_le 1 (length bytes) && nat_le (length bytes) NAME_LIMIT && list_all is_name_byte bytes
     && not (bytes_eq bytes (codes ".")) && not (bytes_eq bytes (codes ".."))
-
--- the path word is a slash and then a name
-abbrev pub is_root_path : List ℕ → Bool
-is_root_path word = is_slash (slice_index word 0) && is_name (drop 1 word)

@@ -5,7 +5,7 @@ use Rattle.hac_model.specs.Paths.{path_text}
 use Rattle.hac_model.specs.declared.limits.LimitWord.{LimitWord}
 use Rattle.hac_model.specs.declared.limits.LimitWord.TheVariants as limit
 use Rattle.hac_model.specs.declared.replies.Refusal.{Refusal}
-use Rattle.hac_model.specs.declared.replies.Refusal.TheVariants.{BadLine, BadName, NoPath, NotDir, NotFile, Exists, BadQuery, Limit}
+use Rattle.hac_model.specs.declared.replies.Refusal.TheVariants.{BadLine, BadName, NoPath, NotDir, NotFile, Exists, NotEmpty, Under, Root, BadQuery, NotSemantic, Limit, ShortPut}
 use Rattle.hac_model.specs.declared.replies.Reply.{Reply}
 use Rattle.hac_model.specs.declared.replies.Reply.TheVariants.{Lines, Refused}
 
@@ -42,8 +42,13 @@ refusal_text (NoPath path) = codes "no-path " ++ path_text path
 refusal_text (NotDir path) = codes "not-dir " ++ path_text path
 refusal_text (NotFile path) = codes "not-file " ++ path_text path
 refusal_text (Exists path) = codes "exists " ++ path_text path
+refusal_text (NotEmpty path) = codes "not-empty " ++ path_text path
+refusal_text (Under path) = codes "under " ++ path_text path
+refusal_text Root = codes "root"
 refusal_text (BadQuery place) = codes "bad-query " ++ decimal place
+refusal_text (NotSemantic path) = codes "not-semantic " ++ path_text path
 refusal_text (Limit word) = codes "limit " ++ limit_word word
+refusal_text ShortPut = codes "short-put"
 
 -- data lines and then `ok`, or one line `no CAUSE DETAIL`
 abbrev pub reply_text : Reply → List ℕ

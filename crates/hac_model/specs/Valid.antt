@@ -1,11 +1,13 @@
 -- Which states there can be.
-use Rattle.std.specs.Prelude.{◌≡◌, ℕ, ◌<◌, false, List, [], ◌∷◌, Some, None, IsTrue}
+use Rattle.std.specs.Prelude.{◌≡◌, ℕ, ◌<◌, Bool, true, false, List, [], ◌∷◌, Option, Some, None, IsTrue}
 use Rattle.std.specs.List.{AllByRecursion}
+use Rattle.std.specs.Option.{option_map_or}
+use Rattle.hac_model.specs.Limits.{is_text, passed}
 use Rattle.hac_model.specs.Names.{is_name}
 use Rattle.hac_model.specs.Queries.{is_query}
-use Rattle.hac_model.specs.Tree.{child}
+use Rattle.hac_model.specs.Tree.{child, is_directory_at}
 use Rattle.hac_model.specs.declared.states.Body.{Body}
-use Rattle.hac_model.specs.declared.states.Body.TheVariants.{File, Semantic}
+use Rattle.hac_model.specs.declared.states.Body.TheVariants.{File, Dir, Semantic}
 use Rattle.hac_model.specs.declared.states.Entry.{Entry}
 use Rattle.hac_model.specs.declared.states.State.{State}
 
@@ -19,16 +21,25 @@ abbrev pub NamesDiffer : List Entry → Type 0
 NamesDiffer [] = Unit {0}
 NamesDiffer (entry ∷ entries) = (child entries entry.parent entry.name ≡ None) × NamesDiffer entries
 
--- a clean file shows its text, so one that was never indexed is dirty; a query is one that a directory may have
+-- a clean file shows its text, so one that was never indexed is dirty
+pub record IsSoundFile (text : List ℕ) (dirty : Bool) (shown : Option (List ℕ)) : Type 0 where
+  pub fits : IsTrue (is_text text)
+  pub shown_fits : IsTrue (option_map_or is_text shown true)
+  pub clean : dirty ≡ false → shown ≡ Some text
+
+-- what an entry is fits together, and a query is one that a directory may have
 abbrev pub IsSound : Body → Type 0
-IsSound (File text dirty shown) = dirty ≡ false → shown ≡ Some text
+IsSound (File text dirty shown) = IsSoundFile text dirty shown
+IsSound Dir = Unit {0}
 IsSound (Semantic query) = IsTrue (is_query query)
 
 -- the entries are sound, and they fit one another and the next number
 pub record IsValid (s : State) : Type 0 where
   pub numbers : NumbersRise 0 s.entries s.next
   pub names : AllByRecursion (λ entry. IsTrue (is_name entry.name)) s.entries
-  -- so far entries stand in the root alone
-  pub parents : AllByRecursion (λ entry. entry.parent ≡ 0) s.entries
+  -- each stands in a directory
+  pub parents : AllByRecursion (λ entry. IsTrue (is_directory_at s.entries entry.parent)) s.entries
   pub differ : NamesDiffer s.entries
   pub bodies : AllByRecursion (λ entry. IsSound entry.body) s.entries
+  -- so each path is short, which is to say that steps over parents end at the root
+  pub limits : passed s ≡ None

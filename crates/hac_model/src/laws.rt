@@ -1,8 +1,9 @@
 //! Theorems over the definitions alone. Each is the contract of a function that does nothing.
-ghost use Rattle.hac_model.specs.Laws.{ScriptsJoin, EmptyIsValid, EventsKeepValid, LinesSpell, CommandsHappen, StepsAreDue, StepsClean, IndexCleans, ScriptsKeepValid, LinksStay, LinksAreOnly, OneRoundIsEnough, LinksHaveTheTerm, PlainTellsState, FirstListings, IndexedListings, RefusedLines};
+ghost use Rattle.hac_model.specs.Laws.{ScriptsJoin, EmptyIsValid, EventsKeepValid, LinesSpell, CommandsHappen, StepsAreDue, StepsClean, IndexCleans, ScriptsKeepValid, LinksStay, LinksAreOnly, ValidIsAcyclic, PlainTellsState, MovesRename, PrintedTextIsRead, PrintedTextIsOneLine, QuotedWordIsRead, QuotesAreOneSpelling, FirstListings, IndexedListings, RefusedLines, MovedListings, RefusedPlaces, SpelledLines, PutBytes};
 
-/// Two scripts that are joined at a line end are played one after the other: no line looks ahead, and
-/// none looks back but to the tree.
+/// Two scripts that are joined are played one after the other, where the first is made of whole lines, each
+/// with its end and the bytes that belong to it: no line looks further ahead, and none looks back but to
+/// the tree.
 pub fn scripts_join()
     ensures { ScriptsJoin }
 {}
@@ -39,22 +40,35 @@ pub fn scripts_keep_valid()
     ensures { ScriptsKeepValid }
 {}
 
-/// The links of a valid state are those, and those alone, that one more round leaves as they are.
+/// Where no directory depends on itself, the links are those, and those alone, that one more round leaves
+/// as they are. So it is in every valid state.
 pub fn links_are_fixed()
     ensures stay { LinksStay }
     ensures only { LinksAreOnly }
-{}
-
-/// While entries stand in the root alone and queries are words, one round finds the links of a valid state:
-/// they are the files that have the word.
-pub fn one_round_is_enough()
-    ensures enough { OneRoundIsEnough }
-    ensures listed { LinksHaveTheTerm }
+    ensures valid { ValidIsAcyclic }
 {}
 
 /// A valid state is told by its plain tree and the number that it goes on with.
 pub fn plain_tells_state()
     ensures { PlainTellsState }
+{}
+
+/// A move gives what is moved, and all that stands below it, the new path in place of the old one, and
+/// leaves each other path as it is.
+pub fn moves_rename()
+    ensures { MovesRename }
+{}
+
+/// What is printed of a text is one line, and is read as that text.
+pub fn printed_text_is_read()
+    ensures read { PrintedTextIsRead }
+    ensures line { PrintedTextIsOneLine }
+{}
+
+/// Each word has one spelling in quotes, and is read from it.
+pub fn quoted_words_are_read()
+    ensures read { QuotedWordIsRead }
+    ensures only { QuotesAreOneSpelling }
 {}
 
 /// A small run, from its bytes to its bytes: what has the word is listed, and no directory is written over.
@@ -70,4 +84,24 @@ pub fn indexed_listings()
 /// A run of refusals, each in its place.
 pub fn refused_lines()
     ensures { RefusedLines }
+{}
+
+/// A run with directories in one another, in which files are moved into links and out of them.
+pub fn moved_listings()
+    ensures { MovedListings }
+{}
+
+/// A run of refusals of what stands in the tree, and of what goes once nothing is in its way.
+pub fn refused_places()
+    ensures { RefusedPlaces }
+{}
+
+/// A run of words in quotes and of texts with escapes.
+pub fn spelled_lines()
+    ensures { SpelledLines }
+{}
+
+/// A run of `put`s: the bytes behind each are taken, and no others.
+pub fn put_bytes()
+    ensures { PutBytes }
 {}

@@ -10,6 +10,8 @@ mod limits;
 mod memory;
 mod numbers;
 mod paths;
+mod places;
+mod putting;
 mod queries;
 mod replies;
 mod states;
@@ -18,10 +20,15 @@ mod terms;
 pub use bytes::{Name, Seq, Text};
 pub use commands::{Command, Line};
 pub use events::Event;
-pub use limits::{LINE_LIMIT, LimitWord, NAME_LIMIT, SCRIPT_LIMIT};
+pub use limits::{
+    DIRS_LIMIT, ITEMS_LIMIT, LINE_LIMIT, LimitWord, NAME_LIMIT, NUMBERS_LIMIT, PATH_LIMIT,
+    SCRIPT_LIMIT, SEMANTICS_LIMIT, TEXT_LIMIT, TEXTS_LIMIT,
+};
 pub use memory::Memory;
 pub use numbers::Number;
 pub use paths::{Path, PathWord};
+pub use places::Place;
+pub use putting::Taken;
 pub use queries::Query;
 pub use replies::{Deny, Refusal, Reply};
 pub use states::{Body, Entry, State};

@@ -6,8 +6,29 @@ pub const LINE_LIMIT: usize = 65_536;
 /// The most bytes of a name.
 pub const NAME_LIMIT: usize = 255;
 
+/// The most bytes of a file's text.
+pub const TEXT_LIMIT: u64 = 1_048_576;
+
 /// The most bytes of a script.
 pub const SCRIPT_LIMIT: u64 = 268_435_456;
+
+/// The most bytes of all files' texts, of each file the longer of its text and of what is shown of it.
+pub const TEXTS_LIMIT: u64 = 67_108_864;
+
+/// The most directories of any kind, with the root.
+pub const DIRS_LIMIT: u64 = 10_000;
+
+/// The most semantic directories.
+pub const SEMANTICS_LIMIT: u64 = 1_000;
+
+/// The most names of a path under which something stands.
+pub const PATH_LIMIT: u64 = 64;
+
+/// The most files.
+pub const ITEMS_LIMIT: u64 = 65_536;
+
+/// The greatest number that the next entry may take.
+pub const NUMBERS_LIMIT: u64 = 4_294_967_295;
 
 /// What a limit counts. A command that would pass a limit is refused with its word. Those that no
 /// command of today can pass are met once the commands that count them are there.

@@ -32,10 +32,20 @@ pub enum Refusal {
     NotFile(Path),
     /// Something stands there where something is to be made.
     Exists(Path),
+    /// Something stands in the directory that is to be removed.
+    NotEmpty(Path),
+    /// The entry would go into itself or below itself.
+    Under(Path),
+    /// The root neither goes nor moves.
+    Root,
     /// The bytes are no query: the least place, counted from 1, up to which they begin none.
     BadQuery(u64),
+    /// The directory has no query.
+    NotSemantic(Path),
     /// The command would pass a limit.
     Limit(LimitWord),
+    /// The script ends before all bytes of a `put` came.
+    ShortPut,
 }
 
 /// Why a call gives no value: the command is refused, or memory ran out.

@@ -53,6 +53,8 @@ pub enum Body {
         /// The text as it was last indexed, by which queries judge the file.
         shown: Option<Text>,
     },
+    /// A plain directory.
+    Dir,
     /// A directory that the system fills with links to the files that satisfy its query.
     Semantic {
         /// What it asks for.
@@ -70,6 +72,7 @@ impl Clone for Body {
                 dirty: *dirty,
                 shown: shown.clone()?,
             }),
+            Body::Dir => Ok(Body::Dir),
             Body::Semantic { query } => Ok(Body::Semantic {
                 query: query.clone()?,
             }),

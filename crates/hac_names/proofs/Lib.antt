@@ -1,3 +1,3 @@
 pub mod Walks
-pub mod Valid
 pub mod Printed
+pub mod Spelled

@@ -12,7 +12,7 @@ use Rattle.hac_model.specs.Names.{is_name, is_name_byte}
 use Rattle.hac_model.specs.Paths.{are_names, slashed, path_text}
 use Rattle.hac_model.specs.PathWords.{parts, is_part, is_long, is_bad, has_long_part, relative, at_root, untested_word, word_of}
 use Rattle.hac_names.specs.Laws.{PrintedPathIsRead}
-use Rattle.hac_names.proofs.Valid.{leads_down}
+use Rattle.hac_model.proofs.WordLemmas.{leads_down}
 
 no_slash_byte : (b : ℕ) → is_name_byte b ≡ true → is_slash b ≡ false
 no_slash_byte b h = grind (arith, nat_tests)

@@ -1,5 +1,5 @@
-//! Names, path words and paths: how they are read and printed, and where a word leads. It knows no
-//! tree, so that what a path leads to is for others to say.
+//! Names, path words, paths and texts: how they are read and printed, and where a word leads. It knows
+//! no tree, so that what a path leads to is for others to say.
 #![tactic(auto)]
 
 mod joining;
@@ -7,11 +7,13 @@ pub mod laws;
 mod names;
 mod printing;
 mod reading;
+mod texts;
 
 pub use joining::join;
 pub use names::is_name;
 pub use printing::print_path;
-pub use reading::{NameFault, parse_word};
+pub use reading::{NameFault, is_bad, parse_word};
+pub use texts::{parse_text, print_text};
 
 #[cfg(test)]
 mod tests;

@@ -54,7 +54,8 @@ pub fn parse_word(alloc: Global, bytes: &[u8]) -> Result<PathWord, NameFault>
     Ok(word)
 }
 
-fn is_bad(bytes: &[u8]) -> bool
+/// Whether bytes are no path word at all, however long its parts may be.
+pub fn is_bad(bytes: &[u8]) -> bool
     ensures { result ≡ words.is_bad bytes.now }
 {
     bytes.is_empty() || !bytes.split(|b| *b == b'/').all(|part| is_part(part))

@@ -104,3 +104,46 @@ fn words_lead_on(rt: HostRuntime) -> Result<(), Fail> {
     }
     Ok(())
 }
+
+#[test]
+fn texts_are_printed_and_read(rt: HostRuntime) -> Result<(), Fail> {
+    let alloc = rt.alloc();
+    let rows: [(&[u8], &[u8]); 9] = [
+        (b"", b""),
+        (b"a\nb\t", b"a\\nb\\t"),
+        (b"\\n", b"\\\\n"),
+        (b"\0\x1f\x7f", b"\\x00\\x1f\\x7f"),
+        (b"\r\x0b", b"\\x0d\\x0b"),
+        (b" ~", b" ~"),
+        (b"\"/", b"\"/"),
+        (b"\x80\xff", b"\x80\xff"),
+        (b"\xc3\x84", b"\xc3\x84"),
+    ];
+    for (text, printed) in rows {
+        assert_eq!(rt; print_text(alloc, text)?.as_slice(), printed, "at {text:?}");
+        match parse_text(alloc, printed)? {
+            Some(read) => assert_eq!(rt; read.as_slice(), text, "at {printed:?}"),
+            None => return Err(Fail::new("a printed text is bad")),
+        }
+    }
+    Ok(())
+}
+
+#[test]
+fn bad_escapes_are_told(rt: HostRuntime) -> Result<(), Fail> {
+    let alloc = rt.alloc();
+    let rows: [(&[u8], bool); 8] = [
+        (b"\\X41", true),
+        (b"\\x4", true),
+        (b"a\\x4 ", true),
+        (b"\\xg0", true),
+        (b"\\ n", true),
+        (b"\\", true),
+        (b"\\xaF", false),
+        (b"\\\\x", false),
+    ];
+    for (bytes, is_bad) in rows {
+        assert_eq!(rt; parse_text(alloc, bytes)?.is_none(), is_bad, "at {bytes:?}");
+    }
+    Ok(())
+}

@@ -1,4 +1,5 @@
 pub mod ObeyLemmas
 pub mod WrittenLemmas
 pub mod GoesOn
+pub mod TurnLemmas
 pub mod RunLemmas

@@ -5,8 +5,7 @@ use Rattle.hac_model.specs.Events.{accepted, apply, apply_all, dirty}
 use Rattle.hac_model.specs.Valid.{IsValid}
 use Rattle.hac_model.specs.declared.events.Event.TheVariants.{Step}
 use Rattle.hac_model.specs.declared.states.State.{State}
-use Rattle.hac_model.proofs.EventLemmas.{step-due, steps-clean}
-use Rattle.hac_model.proofs.ValidLemmas.{step-valid}
+use Rattle.hac_model.proofs.EventLemmas.{step-due, step-valid, steps-clean}
 
 -- so many steps are left of those that were due, and what they leave is what all of them leave
 pub record StepsGoOn (start : State) (count done : ℕ) (now : State) : Type 0 where
@@ -17,14 +16,14 @@ pub record StepsGoOn (start : State) (count done : ℕ) (now : State) : Type 0 w
 pub steps-begin : (s : State) (count : ℕ) → IsValid s → count ≡ dirty s → StepsGoOn s count 0 s
 steps-begin s count valid due = record { valid = valid; due = zero-add (dirty s) ∙ sym due; leaves = ap (λ (n : ℕ). apply_all s (replicate n Step)) (sym due) }
 
-one_fewer : (s : State) (n : ℕ) → n ≡ dirty s → 0 < n → IsTrue (accepted s Step)
-one_fewer s zero is more = absurd (omega arith)
-one_fewer s (suc n) is more = step-due s n (sym is)
+one_fewer : (s : State) (n : ℕ) → IsValid s → n ≡ dirty s → 0 < n → IsTrue (accepted s Step)
+one_fewer s zero h is more = absurd (omega arith)
+one_fewer s (suc n) h is more = step-due s n h (sym is)
 
 pub step-happens : (start now : State) (count done : ℕ) → StepsGoOn start count done now → done < count → IsTrue (accepted now Step)
 step-happens start now count done goes more =
     let due : done + dirty now ≡ count = goes.due in
-    one_fewer now (dirty now) refl (omega (arith, due, more))
+    one_fewer now (dirty now) goes.valid refl (omega (arith, due, more))
 
 next_leaves : (now : State) (n : ℕ) → n ≡ dirty now → n ≡ 1 + dirty (apply now Step) → apply_all (apply now Step) (replicate (dirty (apply now Step)) Step) ≡ apply_all now (replicate n Step)
 next_leaves now zero due fewer = absurd (omega (arith, fewer))

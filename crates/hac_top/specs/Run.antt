@@ -3,7 +3,7 @@ use Rattle.std.specs.Prelude.{◌≡◌, ℕ, ◌+◌, ◌<◌, ◌≤◌, ⊤, 
 use Rattle.std.specs.Io.KnownBytes.{Appends}
 use Rattle.hac_model.specs.Play.{play, has_refusal}
 use Rattle.hac_model.specs.Printed.{ended, text}
-use Rattle.hac_model.specs.Script.{after_line, whole}
+use Rattle.hac_model.specs.Script.{after_item, whole}
 use Rattle.hac_model.specs.Tree.{empty}
 use Rattle.hac_model.specs.declared.limits.TheConstants.{SCRIPT_LIMIT}
 use Rattle.hac_top.specs.Ends.{finished_status}
@@ -42,8 +42,8 @@ TakesWithin None new = ⊤
 TakesWithin (Some old) None = ⊥
 TakesWithin (Some old) (Some new) = length old ≤ length new + (SCRIPT_LIMIT + 1)
 
--- Of what was taken, all was answered but one line and less than one piece behind it. So no read goes beyond the piece
--- in which an unanswered line ends.
+-- Of what was taken, all was answered but one line with the bytes that belong to it, and less than one piece behind them.
+-- So no read goes beyond the piece in which an unanswered line ends, with its bytes.
 pub record AnswersPromptly (script : List ℕ) (left before after : Option (List ℕ)) : Type 0 where
   pub answered : List ℕ
   pub line : List ℕ
@@ -52,7 +52,7 @@ pub record AnswersPromptly (script : List ℕ) (left before after : Option (List
   pub script_is : script ≡ answered ++ (line ++ (behind ++ rest))
   pub left_is : left ≡ Some rest
   pub whole_is : whole answered ≡ answered
-  pub one : after_line line ≡ []
+  pub one : after_item line ≡ []
   pub near : length behind < PIECE
   pub told : List ℕ
   pub written : Appends before after (text (play answered empty) ++ told)

@@ -7,11 +7,14 @@ ghost use Rattle.hac_model.specs.Play.{reply_to, tree_after, replies, tree_after
 ghost use Rattle.hac_model.specs.Printed.{reply_text, text};
 ghost use Rattle.hac_model.specs.Tree.{empty};
 ghost use Rattle.hac_model.specs.Valid.{IsValid};
-ghost use Rattle.hac_top.specs.Stops.{items_of_piece, StopsAnswer};
+ghost use Rattle.hac_top.specs.Stops.{StopsAnswer};
+ghost use Rattle.hac_top.specs.Turns.{items_of_turn};
 
 use crate::obeying::carry_out;
+use crate::taking::Turn;
 use hac_core::Machine;
-use hac_model::{LimitWord, Memory, Refusal, Reply, Text};
+use hac_model::laws::empty_is_valid;
+use hac_model::{LimitWord, Memory, Refusal, Reply, Taken, Text};
 use hac_outside::{Failed, Sink, write_all};
 use shell_lang::{LineFault, Piece, print_reply};
 use std::alloc::Global;
@@ -79,8 +82,10 @@ impl Player {
     /// The player of a script that begins: the tree is empty, and no command was refused.
     pub fn new(alloc: Global) -> Result<Player, Memory>
         ensures tree { IfOk result (λ player. player.tree ≡ empty) }
+        ensures valid { IfOk result (λ player. IsValid player.tree) }
         ensures refused { IfOk result (λ player. player.refused ≡ false) }
     {
+        empty_is_valid();
         Ok(Player {
             alloc,
             tree: Machine::new(alloc)?,
@@ -88,35 +93,41 @@ impl Player {
         })
     }
 
-    /// Carries out what a piece of the script asks for, and tells the reply, where there is one.
-    pub fn answer<K: Sink>(&mut self, output: &mut K, piece: Piece) -> Result<(), Stop>
+    /// Carries out what a line of the script asks for, and tells the reply, where there is one.
+    pub fn answer<K: Sink>(&mut self, output: &mut K, turn: Turn) -> Result<(), Stop>
         requires valid { IsValid self.old.tree }
-        ensures tree { OnOk result (self.new.tree ≡ tree_after_all (items_of_piece piece) self.old.tree) }
-        ensures refused { OnOk result (self.new.refused ≡ (self.old.refused || has_refusal (replies (items_of_piece piece) self.old.tree))) }
-        ensures written { OnOk result (Appends (K.written output.old) (K.written output.new) (text (replies (items_of_piece piece) self.old.tree))) }
-        ensures err { OnErr result (AppendsSome (K.written output.old) (K.written output.new) (text (replies (items_of_piece piece) self.old.tree))) }
+        ensures tree { OnOk result (self.new.tree ≡ tree_after_all (items_of_turn turn) self.old.tree) }
+        ensures refused { OnOk result (self.new.refused ≡ (self.old.refused || has_refusal (replies (items_of_turn turn) self.old.tree))) }
+        ensures written { OnOk result (Appends (K.written output.old) (K.written output.new) (text (replies (items_of_turn turn) self.old.tree))) }
+        ensures err { OnErr result (AppendsSome (K.written output.old) (K.written output.new) (text (replies (items_of_turn turn) self.old.tree))) }
         ensures stops { IfErr result StopsAnswer }
         ensures fault { IsErrOf result Stop.WriteFault → Rose (K.faults output.old) (K.faults output.new) }
         ensures later { K.faults output.old ≤ K.faults output.new }
     {
+        let Turn { piece, taken } = turn;
         match piece {
-            Piece::Bytes(line) => self.answer_line(output, line),
+            Piece::Bytes(line) => self.answer_line(output, line, taken),
             Piece::LongLine => self.tell(output, Reply::Refused(Refusal::Limit(LimitWord::Line))),
             Piece::Blank | Piece::End | Piece::PastLimit => Ok(()),
         }
     }
 
-    fn answer_line<K: Sink>(&mut self, output: &mut K, line: Text) -> Result<(), Stop>
+    fn answer_line<K: Sink>(
+        &mut self,
+        output: &mut K,
+        line: Text,
+        taken: Option<Taken>,
+    ) -> Result<(), Stop>
         requires valid { IsValid self.old.tree }
-        ensures tree { OnOk result (self.new.tree ≡ tree_after (item_of line) self.old.tree) }
-        ensures refused { OnOk result (self.new.refused ≡ (self.old.refused || is_refused (reply_to (item_of line) self.old.tree))) }
-        ensures written { OnOk result (Appends (K.written output.old) (K.written output.new) (reply_text (reply_to (item_of line) self.old.tree))) }
-        ensures err { OnErr result (AppendsSome (K.written output.old) (K.written output.new) (reply_text (reply_to (item_of line) self.old.tree))) }
+        ensures tree { OnOk result (self.new.tree ≡ tree_after (item_of line taken) self.old.tree) }
+        ensures refused { OnOk result (self.new.refused ≡ (self.old.refused || is_refused (reply_to (item_of line taken) self.old.tree))) }
+        ensures written { OnOk result (Appends (K.written output.old) (K.written output.new) (reply_text (reply_to (item_of line taken) self.old.tree))) }
+        ensures err { OnErr result (AppendsSome (K.written output.old) (K.written output.new) (reply_text (reply_to (item_of line taken) self.old.tree))) }
         ensures stops { IfErr result StopsAnswer }
         ensures fault { IsErrOf result Stop.WriteFault → Rose (K.faults output.old) (K.faults output.new) }
         ensures later { K.faults output.old ≤ K.faults output.new }
     {
-        let reply = carry_out(self.alloc, &mut self.tree, line)?;
+        let reply = carry_out(self.alloc, &mut self.tree, line, taken)?;
         self.tell(output, reply)
     }
 

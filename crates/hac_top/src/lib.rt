@@ -6,6 +6,7 @@ mod answering;
 mod obeying;
 mod running;
 mod status;
+mod taking;
 
 pub use running::run;
 pub use status::Status;

@@ -9,17 +9,22 @@ ghost use Rattle.hac_model.specs.declared.events.Event.TheVariants.{Step};
 ghost use Rattle.hac_top.specs.Stops.{IsDenial};
 
 use hac_core::{Draft, Machine, Settled};
-use hac_model::{Deny, Event, Line, Memory, Reply, Seq, Text};
+use hac_model::{Deny, Event, Line, Memory, Reply, Seq, Taken, Text};
 use shell_lang::parse_line;
 use std::alloc::Global;
 
-/// Carries out the command that a line spells, or refuses it.
-pub fn carry_out(alloc: Global, tree: &mut Machine, line: Text) -> Result<Reply, Memory>
+/// Carries out the command that a line spells, told what came of the bytes behind it, or refuses it.
+pub fn carry_out(
+    alloc: Global,
+    tree: &mut Machine,
+    line: Text,
+    taken: Option<Taken>,
+) -> Result<Reply, Memory>
     requires valid { IsValid tree.old }
-    ensures reply { IfOk result (λ reply. reply ≡ reply_to (item_of line) tree.old) }
-    ensures tree { OnOk result (tree.new ≡ tree_after (item_of line) tree.old) }
+    ensures reply { IfOk result (λ reply. reply ≡ reply_to (item_of line taken) tree.old) }
+    ensures tree { OnOk result (tree.new ≡ tree_after (item_of line taken) tree.old) }
 {
-    match parse_line(alloc, line.as_slice(), None) {
+    match parse_line(alloc, line.as_slice(), taken) {
         Ok(line) => obey(alloc, tree, &line),
         Err(deny) => refused(deny),
     }
@@ -72,7 +77,7 @@ fn change(tree: &mut Machine, draft: Draft) -> Result<(), Memory>
     match tree.settle(draft) {
         Ok(Settled::Change(event)) => tree.apply(event),
         Ok(Settled::Steps(count)) => index(tree, count),
-        Err(_) => unreachable!(),
+        Err(_) => Err(Memory),
     }
 }
 

@@ -10,15 +10,17 @@ ghost use Rattle.hac_top.specs.Run.{usage_line, AnswersAll, AnswersTaken, Answer
 
 use crate::answering::{Player, Stop, tell_bytes};
 use crate::status::Status;
+use crate::taking::take_turn;
 use hac_model::SCRIPT_LIMIT;
 use hac_outside::{Sink, Source};
-use shell_lang::{Piece, Reader};
+use shell_lang::Reader;
 use std::alloc::Global;
 
 /// Plays the script that the source gives, and writes the reply to each command to the sink.
 ///
 /// `words` are those of the program behind its own name; it takes none. The source is read in pieces, and
-/// no line is carried out before the reply to the line before it was written and flushed.
+/// no line is carried out before the reply to the line before it was written and flushed. A `put` is carried
+/// out with the bytes that follow its line.
 pub fn run<S: Source, K: Sink>(
     alloc: Global,
     words: &[String],
@@ -103,10 +105,9 @@ fn play_script<S: Source, K: Sink>(
     let mut reader = Reader::new(alloc)?;
     let mut player = Player::new(alloc)?;
     'lines: loop {
-        match reader.next_line(input)? {
-            Piece::End => return Ok(player.refused),
-            Piece::PastLimit => return Err(Stop::TooLong),
-            piece => player.answer(output, piece)?,
+        match take_turn(&mut reader, input)? {
+            Some(turn) => player.answer(output, turn)?,
+            None => return Ok(player.refused),
         }
     }
 }

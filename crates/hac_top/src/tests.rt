@@ -5,6 +5,10 @@ use hac_outside::{Failed, MemorySink, MemorySource, Source};
 use std::alloc::{AllocError, Global};
 use std::test::Fail;
 
+mod edges;
+mod putting;
+mod rows;
+
 const ROOM: u64 = 1 << 20;
 
 /// A script from a source in pieces, to a sink of some room, each with the calls of it that fail.
@@ -66,7 +70,7 @@ fn scripts_are_answered(rt: HostRuntime) -> Result<(), Fail> {
     let alloc = rt.alloc();
     let rows: [(&[u8], &[u8], Status); 8] = [
         (
-            b"write /a hello\nfly\nwrite a x\n# note\n\nwrite /a",
+            b"write /a hello\nfly\nwrite \"\" x\n# note\n\nwrite /a",
             b"ok\nno bad-line\nno bad-name\nok\n",
             Status::SomeRefused,
         ),
@@ -121,7 +125,7 @@ fn files_are_listed_by_their_words(rt: HostRuntime) -> Result<(), Fail> {
         ),
         // What a line is refused for by its form comes before what stands in the tree.
         (
-            b"sls /m\nwrite /a x\nsls /a\nsmkdir /a y\nsmkdir /a AND\nsmkdir a AND\nsmkdir",
+            b"sls /m\nwrite /a x\nsls /a\nsmkdir /a y\nsmkdir /a AND\nsmkdir \"\" AND\nsmkdir",
             b"no no-path /m\nok\nno not-dir /a\nno exists /a\nno bad-query 1\nno bad-name\nno bad-line\n",
             Status::SomeRefused,
         ),
@@ -238,13 +242,14 @@ fn words_are_refused(rt: HostRuntime) -> Result<(), Fail> {
 /// A source that makes the bytes of a script of so many: each read gives a comment, and one read near the
 /// limit begins with a command.
 #[derive(Drop)]
-struct LongScript {
+struct LongScript<'a> {
+    command: &'a [u8],
     at: u64,
     end: u64,
     commands: u64,
 }
 
-impl Source for LongScript {
+impl<'a> Source for LongScript<'a> {
     ghost use Rattle.std.specs.Prelude.{None};
 
     ghost left = { λ _. None };
@@ -258,8 +263,8 @@ impl Source for LongScript {
         if count > 0 {
             into[count - 1] = b'\n';
         }
-        if self.commands == 0 && left <= 8192 && count > COMMAND.len() {
-            into[..COMMAND.len()].copy_from_slice(COMMAND);
+        if self.commands == 0 && left <= 8192 && count > self.command.len() {
+            into[..self.command.len()].copy_from_slice(self.command);
             self.commands = 1;
         }
         self.at = self.at.saturating_add(count as u64);
@@ -267,16 +272,21 @@ impl Source for LongScript {
     }
 }
 
-const COMMAND: &[u8] = b"write /a x\n";
-
 #[test]
 fn longest_script_is_played(rt: HostRuntime) -> Result<(), Fail> {
     let alloc = rt.alloc();
-    for (end, status) in [
-        (SCRIPT_LIMIT, Status::Done),
-        (SCRIPT_LIMIT + 1, Status::TooLong),
-    ] {
+    let write = b"write /a x\n".as_slice();
+    // A line that asks for more bytes than a script may have.
+    let put = b"put /a 9999999999\n".as_slice();
+    let rows: [(u64, &[u8], Status, &[u8]); 4] = [
+        (SCRIPT_LIMIT, write, Status::Done, b"ok\n"),
+        (SCRIPT_LIMIT + 1, write, Status::TooLong, b"ok\n"),
+        (SCRIPT_LIMIT, put, Status::SomeRefused, b"no short-put\n"),
+        (SCRIPT_LIMIT + 1, put, Status::TooLong, b""),
+    ];
+    for (end, command, status, text) in rows {
         let mut input = LongScript {
+            command,
             at: 0,
             end,
             commands: 0,
@@ -287,7 +297,7 @@ fn longest_script_is_played(rt: HostRuntime) -> Result<(), Fail> {
             status,
             "of {end} bytes"
         );
-        assert_eq!(rt; output.written(), b"ok\n".as_slice(), "of {end} bytes");
+        assert_eq!(rt; output.written(), text, "of {end} bytes");
     }
     Ok(())
 }

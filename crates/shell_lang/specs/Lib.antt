@@ -1,3 +1,6 @@
 pub mod Reading
 pub mod ReaderShape
 pub mod Pieces
+pub mod Quotes
+pub mod Takes
+pub mod RawWords

@@ -2,13 +2,16 @@
 //! It knows nothing of what a command does.
 #![tactic(auto)]
 
-mod names;
 mod parsing;
+mod paths;
 mod printing;
+mod putting;
 mod queries;
 mod reading;
 mod words;
 
-pub use parsing::{Taken, parse_line};
+pub use hac_model::Taken;
+pub use parsing::parse_line;
 pub use printing::print_reply;
+pub use putting::put_length;
 pub use reading::{LineFault, PIECE, Piece, Reader};

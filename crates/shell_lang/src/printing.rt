@@ -51,8 +51,13 @@ fn push_refusal(alloc: Global, out: &mut Vec<u8>, refusal: &Refusal) -> Result<(
         Refusal::NotDir(path) => push_path(alloc, out, b"not-dir ", path)?,
         Refusal::NotFile(path) => push_path(alloc, out, b"not-file ", path)?,
         Refusal::Exists(path) => push_path(alloc, out, b"exists ", path)?,
+        Refusal::NotEmpty(path) => push_path(alloc, out, b"not-empty ", path)?,
+        Refusal::Under(path) => push_path(alloc, out, b"under ", path)?,
+        Refusal::Root => out.extend_from_slice(b"root")?,
         Refusal::BadQuery(place) => push_number(alloc, out, b"bad-query ", *place)?,
+        Refusal::NotSemantic(path) => push_path(alloc, out, b"not-semantic ", path)?,
         Refusal::Limit(word) => push_detail(out, b"limit ", limit_word(*word))?,
+        Refusal::ShortPut => out.extend_from_slice(b"short-put")?,
     }
     Ok(())
 }
@@ -147,22 +152,18 @@ mod tests {
         Ok(path)
     }
 
+    fn is_told(alloc: Global, refusal: Refusal, want: &[u8]) -> Result<bool, Memory> {
+        let got = print_reply(alloc, &Reply::Refused(refusal))?;
+        Ok(got.as_slice() == want)
+    }
+
     #[test]
     fn refusals_are_told_in_one_line(rt: HostRuntime) -> Result<(), Fail> {
         let alloc = rt.alloc();
-        let rows: [(Refusal, &[u8]); 14] = [
+        let rows: [(Refusal, &[u8]); 12] = [
             (Refusal::BadLine, b"no bad-line\n"),
             (Refusal::BadName, b"no bad-name\n"),
-            (Refusal::NoPath(path(alloc, &[b"m"])?), b"no no-path /m\n"),
-            (
-                Refusal::NotDir(path(alloc, &[b"a b", b"c"])?),
-                b"no not-dir /a b/c\n",
-            ),
-            (Refusal::NotFile(path(alloc, &[])?), b"no not-file /\n"),
-            (
-                Refusal::Exists(path(alloc, &[b"\xff", b"~", b"."])?),
-                b"no exists /\xff/~/.\n",
-            ),
+            (Refusal::Root, b"no root\n"),
             (Refusal::BadQuery(0), b"no bad-query 0\n"),
             (Refusal::BadQuery(1), b"no bad-query 1\n"),
             (Refusal::BadQuery(10), b"no bad-query 10\n"),
@@ -174,11 +175,37 @@ mod tests {
             (Refusal::Limit(LimitWord::Line), b"no limit line\n"),
             (Refusal::Limit(LimitWord::Texts), b"no limit texts\n"),
             (Refusal::Limit(LimitWord::Store), b"no limit store\n"),
+            (Refusal::ShortPut, b"no short-put\n"),
         ];
         for (refusal, want) in rows {
-            let got = print_reply(alloc, &Reply::Refused(refusal))?;
-            assert_eq!(rt; got.as_slice(), want);
+            assert!(rt; is_told(alloc, refusal, want)?, "at {want:?}");
         }
+        Ok(())
+    }
+
+    #[test]
+    fn refusals_tell_their_paths(rt: HostRuntime) -> Result<(), Fail> {
+        let alloc = rt.alloc();
+        let missing = Refusal::NoPath(path(alloc, &[b"m"])?);
+        assert!(rt; is_told(alloc, missing, b"no no-path /m\n")?);
+        let other = Refusal::NotDir(path(alloc, &[b"a b", b"c"])?);
+        assert!(rt; is_told(alloc, other, b"no not-dir /a b/c\n")?);
+        let directory = Refusal::NotFile(path(alloc, &[])?);
+        assert!(rt; is_told(alloc, directory, b"no not-file /\n")?);
+        let there = Refusal::Exists(path(alloc, &[b"\xff", b"~", b"."])?);
+        assert!(rt; is_told(alloc, there, b"no exists /\xff/~/.\n")?);
+        Ok(())
+    }
+
+    #[test]
+    fn refusals_of_directories_tell_their_paths(rt: HostRuntime) -> Result<(), Fail> {
+        let alloc = rt.alloc();
+        let full = Refusal::NotEmpty(path(alloc, &[b"d"])?);
+        assert!(rt; is_told(alloc, full, b"no not-empty /d\n")?);
+        let inside = Refusal::Under(path(alloc, &[b"d", b"e"])?);
+        assert!(rt; is_told(alloc, inside, b"no under /d/e\n")?);
+        let plain = Refusal::NotSemantic(path(alloc, &[b"d"])?);
+        assert!(rt; is_told(alloc, plain, b"no not-semantic /d\n")?);
         Ok(())
     }
 }

@@ -6,7 +6,7 @@ ghost use Rattle.hac_model.specs.Lines.{query_of};
 ghost use Rattle.hac_model.specs.Queries.{is_operator, is_query_word};
 ghost use Rattle.hac_model.specs.Words.{is_word_byte};
 
-use crate::words::{is_blank, split_word};
+use crate::words::{is_blank, split_run};
 use hac_model::{Deny, Name, Query, Refusal, Term};
 use std::alloc::Global;
 
@@ -15,7 +15,7 @@ use std::alloc::Global;
 pub fn parse_query(alloc: Global, bytes: &[u8]) -> Result<Query, Deny>
     ensures { Answers result (query_of bytes.now) }
 {
-    let (word, rest) = split_word(bytes);
+    let (word, rest) = split_run(bytes);
     if !is_query_word(word) || !is_blank(rest) {
         return Err(Deny::Refused(Refusal::BadQuery(1)));
     }

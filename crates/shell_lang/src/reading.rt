@@ -9,6 +9,8 @@ ghost use Rattle.hac_model.specs.Script.{is_first_ended};
 ghost use Rattle.shell_lang.specs.Reading.{pending, given, IsUnended, IsReading, SameTotal, ReadsOn, ReadsPiece};
 ghost use Rattle.shell_lang.specs.Pieces.{piece_of, Gives, Advances, IsFound};
 
+mod taking;
+
 use crate::words::is_blank;
 use hac_model::{LINE_LIMIT, Memory, SCRIPT_LIMIT, Text};
 use hac_outside::Source;
@@ -34,7 +36,8 @@ pub enum Piece {
     PastLimit,
 }
 
-/// Why a reader gives nothing. It still holds all that it took.
+/// Why a reader gives nothing. After a line that can't be read it still holds all that it took; of bytes
+/// that can't be read, those that came are lost.
 #[derive(Clone, Copy, Debug, PartialEq, Eq, Error)]
 pub enum LineFault {
     #[error("the script can't be read")]
@@ -200,6 +203,8 @@ impl Reader {
         ensures ok { OnOk result ((self.new.ended ≡ true) ⊎ (self.old.taken < self.new.taken)) }
         ensures err { OnErr result (self.new ≡ self.old) }
         ensures sound { IsReading self.new }
+        ensures near { length self.new.held ≤ length self.old.held + PIECE }
+        ensures end { self.new.ended ≡ true → self.new.held ≡ self.old.held }
         ensures fault { IsErrOf result LineFault.Read → Rose (S.faults source.old) (S.faults source.new) }
         ensures later { S.faults source.old ≤ S.faults source.new }
     {

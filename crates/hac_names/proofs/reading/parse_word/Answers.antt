@@ -1,6 +1,6 @@
 use Rattle.std.proofs.Common.{◌≡◌, Ok, rules}
 use Rattle.hac_model.specs.PathWords.{word_of}
-use Rattle.hac_names.proofs.Valid.{word_of-names}
+use Rattle.hac_model.proofs.WordLemmas.{word_of-names}
 use Rattle.hac_names.proofs.reading.parse_word.Goals as goal
 
 pub returns-clause-names : goal.returns-clause-names

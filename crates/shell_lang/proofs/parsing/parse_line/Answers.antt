@@ -9,5 +9,5 @@ use Rattle.shell_lang.proofs.parsing.parse_line.Goals as goal
 pub returns-clause-spelled : goal.returns-clause-spelled
 returns-clause-spelled c =
     let line : Line = record { session = codes "main"; command = c.in_ok-command.command } in
-    let spelled : item_of c.args.line.now ≡ Ok line = search rules in
-    lines-spell c.args.line.now line spelled
+    let spelled : item_of c.args.line.now c.args.taken ≡ Ok line = search rules in
+    lines-spell c.args.line.now c.args.taken line spelled

@@ -1,62 +1,63 @@
-use Rattle.std.proofs.Common.{◌≡◌, ℕ, ◌-◌, true, ap, subst, sym, ◌∙◌, arith, Option, Some, None}
+use Rattle.std.proofs.Common.{◌≡◌, ℕ, Bool, ◌∙◌, ap, subst, sym, cond, false, Some, None}
+use Rattle.std.specs.BTreeMap.{is_at}
+use Rattle.std.specs.BTreeSet.{contains}
 use Rattle.std.specs.Option.{option_map_or}
 use Rattle.std.specs.Ordering.{nat_cmp}
-use Rattle.std.specs.Cmp.Lexicographic.{slice_cmp}
-use Rattle.std.specs.BTreeMap.{get}
-use Rattle.std.specs.BTreeSet.{contains}
-use Rattle.hac_model.specs.Events.{edited_at, indexed, next_dirty}
+use Rattle.std.specs.Prelude.{Option}
+use Rattle.hac_model.specs.Events.{changed_at, edited, indexed, next_dirty}
 use Rattle.hac_model.specs.Valid.{IsValid}
 use Rattle.hac_model.specs.declared.states.State.{State}
-use Rattle.hac_model.proofs.ValidLemmas.{step-valid}
-use Rattle.hac_core.specs.Tables.{is_dirty_at}
-use Rattle.hac_core.proofs.TableLemmas.{dirty_at, dirty-inside, least-next, none-next}
-use Rattle.hac_core.proofs.MachineLemmas.{kept-edit, state-edited, state_with, indexed-counted, indexed-filed}
+use Rattle.file_tree.specs.Seen.{Seen}
+use Rattle.hac_core.proofs.MachineLemmas.{IsKept, dirty-file, edited-small, indexed-clean, indexed-valid, kept-edited, kept-state, least-next, none-next, part-of, small-counts}
 use Rattle.hac_core.proofs.machine.Machine.step.Goals as goal
 
-pub returns-in_default-clause-ok : goal.returns-in_default-clause-ok
-returns-in_default-clause-ok c =
-    let was = c.self.inside in
-    let none : next_dirty was.entries.items ≡ None = none-next 1 was.entries.items c.self.invariant.tables.numbered (λ k. sym (c.self.invariant.tables.files k) ∙ c.in_default.ensures.none k) in
-    let still : next_dirty c.args.self.now.entries ≡ None = ap (λ (s : State). next_dirty s.entries) (sym c.self.view_is) ∙ none in
-    sym (ap (λ (o : Option ℕ). option_map_or (λ file. edited_at c.args.self.now file indexed) o c.args.self.now) still)
+pub returns-in_default : goal.returns-in_default
+returns-in_default c =
+    let s = c.self.inside.tree.state in
+    let none : next_dirty s.entries ≡ None = none-next 0 s.entries s.next c.know_valid.ensures.numbers (λ k. sym (c.self.invariant.dirty_are k) ∙ c.in_default.ensures.none k) in
+    sym (ap (λ (o : Option ℕ). option_map_or (λ file. changed_at c.args.self.now file (edited indexed)) o c.args.self.now) (ap (λ (x : State). next_dirty x.entries) (sym c.self.view_is) ∙ none))
 
-pub index_entry-requires-clause-above : goal.index_entry-requires-clause-above
-index_entry-requires-clause-above c =
-    (dirty-inside c.self.inside.entries.items c.in-Some.number c.self.invariant.tables.numbered (sym (c.self.invariant.tables.files c.in-Some.number) ∙ c.in-Some.ensures.member)).0
+pub mark_clean-requires : goal.mark_clean-requires
+mark_clean-requires c =
+    let s = c.self.inside.tree.state in
+    let next : next_dirty s.entries ≡ Some c.in-Some.number = least-next 0 s.entries s.next c.in-Some.number c.know_valid.ensures.numbers (sym (c.self.invariant.dirty_are c.in-Some.number) ∙ c.in-Some.ensures.member) (λ k below. sym (c.self.invariant.dirty_are k) ∙ c.in-Some.ensures.least k below) in
+    subst (λ (k : ℕ). IsValid (changed_at s k (edited indexed))) (sym c.new-file.ensures) (indexed-valid s c.in-Some.number c.know_valid.ensures next)
 
-pub index_entry-requires-clause-inside : goal.index_entry-requires-clause-inside
-index_entry-requires-clause-inside c =
-    (dirty-inside c.self.inside.entries.items c.in-Some.number c.self.invariant.tables.numbered (sym (c.self.invariant.tables.files c.in-Some.number) ∙ c.in-Some.ensures.member)).1
+pub replaced-self-inside-requires-clause-small : goal.replaced-self-inside-requires-clause-small
+replaced-self-inside-requires-clause-small c =
+    small-counts c.self.inside.tree.state c.self.inside.counts (λ n. contains nat_cmp c.self.inside.dirty n) c.know_valid.ensures (record { counts_are = c.self.invariant.counts_are; dirty_are = c.self.invariant.dirty_are })
 
-pub overflow_sub-self : goal.overflow_sub-self
-overflow_sub-self c =
-    let was = c.self.inside in
-    let on : is_dirty_at was.entries.items c.in-Some.number ≡ true = sym (c.self.invariant.tables.files c.in-Some.number) ∙ c.in-Some.ensures.member in
-    let found = dirty_at was.entries.items c.in-Some.number on in
-    let counted = indexed-counted was.entries.items c.in-Some.number found.0 (λ name. get (slice_cmp nat_cmp) was.numbers name) (λ n. contains nat_cmp was.dirty n) was.dirty_count c.self.invariant.tables found.1 found.2 in
-    omega (arith, counted.0)
+pub replaced-self-inside-requires-clause-new_small : goal.replaced-self-inside-requires-clause-new_small
+replaced-self-inside-requires-clause-new_small c =
+    let s = c.self.inside.tree.state in
+    let next : next_dirty s.entries ≡ Some c.in-Some.number = least-next 0 s.entries s.next c.in-Some.number c.know_valid.ensures.numbers (sym (c.self.invariant.dirty_are c.in-Some.number) ∙ c.in-Some.ensures.member) (λ k below. sym (c.self.invariant.dirty_are k) ∙ c.in-Some.ensures.least k below) in
+    let found = dirty-file s c.in-Some.number c.new-file.result c.new-file.ensures (sym (c.self.invariant.dirty_are c.in-Some.number) ∙ c.in-Some.ensures.member) in
+    edited-small s c.in-Some.number indexed found.0 c.indexed_share-new.result (indexed-valid s c.in-Some.number c.know_valid.ensures next) found.1 (c.indexed_share-new.ensures found.0 found.2)
 
-pub invariant_of-self-2 : goal.invariant_of-self-2
-invariant_of-self-2 c =
-    let was = c.self.inside in
-    let on : is_dirty_at was.entries.items c.in-Some.number ≡ true = sym (c.self.invariant.tables.files c.in-Some.number) ∙ c.in-Some.ensures.member in
-    let found = dirty_at was.entries.items c.in-Some.number on in
-    let counted = indexed-counted was.entries.items c.in-Some.number found.0 (λ name. get (slice_cmp nat_cmp) was.numbers name) (λ n. contains nat_cmp was.dirty n) was.dirty_count c.self.invariant.tables found.1 found.2 in
-    let next : next_dirty was.entries.items ≡ Some c.in-Some.number =
-    least-next 1 was.entries.items c.in-Some.number c.self.invariant.tables.numbered on (λ k below. sym (c.self.invariant.tables.files k) ∙ c.in-Some.ensures.least k below) in
-    let valid = subst (λ (o : Option ℕ). IsValid (option_map_or (λ file. edited_at (state_with was.entries.items) file indexed) o (state_with was.entries.items))) next (step-valid (state_with was.entries.items) c.self.invariant.valid) in
-    let kept = kept-edit was.entries.items c.index_entry.new.entries.items c.in-Some.number indexed found.0 (λ name. get (slice_cmp nat_cmp) was.numbers name) (λ n. contains nat_cmp was.dirty n) (λ n. contains nat_cmp c.remove.new.self n) was.dirty_count (was.dirty_count - 1)
-    c.self.invariant.tables valid c.in_ok-index_entry.ensures.ok found.1
-    (λ k. indexed-filed c.in-Some.number k found.0 (λ n. contains nat_cmp was.dirty n) (contains nat_cmp c.remove.new.self k) (c.remove.ensures.updates.0 k)) counted.1 in
-    record { valid = kept.0; tables = kept.1 }
+pub replaced-self-inside-requires-clause-part : goal.replaced-self-inside-requires-clause-part
+replaced-self-inside-requires-clause-part c =
+    let s = c.self.inside.tree.state in
+    let found = dirty-file s c.in-Some.number c.new-file.result c.new-file.ensures (sym (c.self.invariant.dirty_are c.in-Some.number) ∙ c.in-Some.ensures.member) in
+    part-of s c.self.inside.counts (λ n. contains nat_cmp c.self.inside.dirty n) c.in-Some.number found.0 c.share_at-old.result c.know_valid.ensures (record { counts_are = c.self.invariant.counts_are; dirty_are = c.self.invariant.dirty_are }) found.1 (c.share_at-old.ensures found.0 found.2)
 
-pub returns-clause-ok : goal.returns-clause-ok
-returns-clause-ok c =
-    let was = c.self.inside in
-    let on : is_dirty_at was.entries.items c.in-Some.number ≡ true = sym (c.self.invariant.tables.files c.in-Some.number) ∙ c.in-Some.ensures.member in
-    let next : next_dirty was.entries.items ≡ Some c.in-Some.number =
-    least-next 1 was.entries.items c.in-Some.number c.self.invariant.tables.numbered on (λ k below. sym (c.self.invariant.tables.files k) ∙ c.in-Some.ensures.least k below) in
-    let still : next_dirty c.args.self.now.entries ≡ Some c.in-Some.number = ap (λ (s : State). next_dirty s.entries) (sym c.self.view_is) ∙ next in
-    state-edited was.entries.items c.index_entry.new.entries.items c.in-Some.number indexed c.in_ok-index_entry.ensures.ok
-    ∙ ap (λ (s : State). edited_at s c.in-Some.number indexed) c.self.view_is
-    ∙ sym (ap (λ (o : Option ℕ). option_map_or (λ file. edited_at c.args.self.now file indexed) o c.args.self.now) still)
+pub invariant_of-self : goal.invariant_of-self
+invariant_of-self c =
+    let s = c.self.inside.tree.state in
+    let found = dirty-file s c.in-Some.number c.new-file.result c.new-file.ensures (sym (c.self.invariant.dirty_are c.in-Some.number) ∙ c.in-Some.ensures.member) in
+    let dirty : ℕ → Bool = λ n. contains nat_cmp c.self.inside.dirty n in
+    let dirty_next : ℕ → Bool = λ n. contains nat_cmp c.remove.new.self n in
+    let was : IsKept s c.self.inside.counts dirty = record { counts_are = c.self.invariant.counts_are; dirty_are = c.self.invariant.dirty_are } in
+    let same : c.mark_clean.new.self.state ≡ changed_at s c.in-Some.number (edited indexed) =
+    ap (λ (t : Seen). t.state) c.mark_clean.ensures ∙ ap (λ (k : ℕ). changed_at s k (edited indexed)) c.new-file.ensures in
+    let kept = kept-state (changed_at s c.in-Some.number (edited indexed)) c.mark_clean.new.self.state c.replaced-self-inside.result dirty_next same
+    (kept-edited s c.in-Some.number indexed found.0 c.self.inside.counts c.replaced-self-inside.result c.share_at-old.result c.indexed_share-new.result dirty dirty_next c.know_valid.ensures was found.1 (c.share_at-old.ensures found.0 found.2) (c.indexed_share-new.ensures found.0 found.2) c.replaced-self-inside.ensures
+    (λ n. c.remove.ensures.updates.0 n ∙ ap (λ (b : Bool). cond (is_at (nat_cmp c.in-Some.number) n) b (contains nat_cmp c.self.inside.dirty n)) (sym (indexed-clean found.0.body)))) in
+    record { counts_are = kept.counts_are; dirty_are = kept.dirty_are }
+
+pub returns : goal.returns
+returns c =
+    let s = c.self.inside.tree.state in
+    let next : next_dirty s.entries ≡ Some c.in-Some.number = least-next 0 s.entries s.next c.in-Some.number c.know_valid.ensures.numbers (sym (c.self.invariant.dirty_are c.in-Some.number) ∙ c.in-Some.ensures.member) (λ k below. sym (c.self.invariant.dirty_are k) ∙ c.in-Some.ensures.least k below) in
+    ap (λ (t : Seen). t.state) c.mark_clean.ensures ∙ ap (λ (k : ℕ). changed_at s k (edited indexed)) c.new-file.ensures
+    ∙ ap (λ (x : State). changed_at x c.in-Some.number (edited indexed)) c.self.view_is
+    ∙ sym (ap (λ (o : Option ℕ). option_map_or (λ file. changed_at c.args.self.now file (edited indexed)) o c.args.self.now) (ap (λ (x : State). next_dirty x.entries) (sym c.self.view_is) ∙ next))

@@ -1,0 +1,12 @@
+pub mod BelowLemmas
+pub mod ReadLemmas
+pub mod StepLemmas
+pub mod SearchLemmas
+pub mod ChildLemmas
+pub mod ListLemmas
+pub mod ShapeLemmas
+pub mod StateLemmas
+pub mod NewLemmas
+pub mod ReadyLemmas
+pub mod NextLemmas
+pub mod OrderLemmas

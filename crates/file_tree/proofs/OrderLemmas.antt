@@ -1,0 +1,247 @@
+-- What stands in a directory, in byte order of names, is what its list has.
+use Rattle.std.proofs.Common.{◌≡◌, ℕ, suc, ◌+◌, Bool, true, false, cond, List, [], ◌∷◌, subst, refl, ap, sym, ◌∙◌, arith, inl, inr, eq-eqb}
+use Rattle.std.specs.Prelude.{◌==◌, ◌&&◌, not, filter, map, Option, Some, None, IsTrue, slice_get}
+use Rattle.std.specs.List.{AllByRecursion}
+use Rattle.std.specs.Str.{bytes_eq}
+use Rattle.std.specs.Cmp.Lexicographic.{nat_list_eq_equiv}
+use Rattle.std.proofs.lemmas.Bool.{eqb-true}
+use Rattle.hac_model.specs.Listing.{children, in_order, is_before, put_in_order}
+use Rattle.hac_model.specs.Tree.{child, entry_at}
+use Rattle.hac_model.specs.Valid.{NamesDiffer}
+use Rattle.hac_model.specs.declared.states.Entry.{Entry}
+use Rattle.hac_model.proofs.ChangeLemmas.{all-filter, all-weaker}
+use Rattle.hac_model.proofs.TreeLemmas.{all-entries}
+use Rattle.file_tree.specs.Answers.{is_past, next_in}
+use Rattle.file_tree.specs.Nodes.{entry_of, kids_of, name_of}
+use Rattle.file_tree.specs.Search.{past_in}
+use Rattle.file_tree.specs.Seen.{Seen}
+use Rattle.file_tree.specs.Shape.{Among, IsShaped, Rises, parent_in, seen_of, state_of}
+use Rattle.file_tree.specs.declared.tree.Tree.TheInside.{Inside}
+use Rattle.file_tree.proofs.ChildLemmas.{name-told, parent-told}
+use Rattle.file_tree.proofs.ListLemmas.{among-all, before-itself}
+use Rattle.file_tree.proofs.ReadLemmas.{entry_of-number, seen-entry}
+use Rattle.file_tree.proofs.SearchLemmas.{before-other, before-trans}
+
+-- the numbers of entries
+abbrev pub numbers_of : List Entry → List ℕ
+numbers_of es = map (λ (e : Entry). e.number) es
+
+-- what stands in a directory, of these entries
+abbrev pub standing : ℕ → List Entry → List Entry
+standing dir es = filter (λ (e : Entry). e.parent == dir) es
+
+both-all : {X : Type 0} (P Q : X → Type 0) (xs : List X) → AllByRecursion P xs → AllByRecursion Q xs → AllByRecursion (λ x. P x × Q x) xs
+both-all P Q [] h k = tt
+both-all P Q (x ∷ xs) h k = ((h.0, k.0), both-all P Q xs h.1 k.1)
+
+-- what holds of entries holds of them in order
+all-put : (P : Entry → Type 0) (new : Entry) (es : List Entry) → P new → AllByRecursion P es → AllByRecursion P (put_in_order new es)
+all-put P new [] p h = (p, tt)
+all-put P new (e ∷ es) p h = elim (is_before new.name e.name) as (λ b. AllByRecursion P (cond b (new ∷ e ∷ es) (e ∷ put_in_order new es))) [
+  | true ↦ (p, h)
+  | false ↦ (h.0, all-put P new es p h.1)
+]
+
+all-order : (P : Entry → Type 0) (es : List Entry) → AllByRecursion P es → AllByRecursion P (in_order es)
+all-order P [] h = tt
+all-order P (e ∷ es) h = all-put P e (in_order es) h.0 (all-order P es h.1)
+
+-- an entry that is put in is there, and so is what was
+put-among : (new : Entry) (es : List Entry) → Among (numbers_of (put_in_order new es)) new.number
+put-among new [] = inl refl
+put-among new (e ∷ es) = elim (is_before new.name e.name) as (λ b. Among (numbers_of (cond b (new ∷ e ∷ es) (e ∷ put_in_order new es))) new.number) [
+  | true ↦ inl refl
+  | false ↦ inr (put-among new es)
+]
+
+put-kept : (new : Entry) (es : List Entry) (n : ℕ) → Among (numbers_of es) n → Among (numbers_of (put_in_order new es)) n
+put-kept new [] n among = absurd among
+put-kept new (e ∷ es) n among = elim (is_before new.name e.name) as (λ b. Among (numbers_of (cond b (new ∷ e ∷ es) (e ∷ put_in_order new es))) n) [
+  | true ↦ inr among
+  | false ↦ elim among [ inl here ↦ inl here | inr rest ↦ inr (put-kept new es n rest) ]
+]
+
+-- an entry that stands in the directory is among them
+order-among : (dir : ℕ) (es : List Entry) (n : ℕ) (e : Entry) → entry_at es n ≡ Some e → e.number ≡ n → e.parent ≡ dir → Among (numbers_of (in_order (standing dir es))) n
+order-among dir [] n e found number parent = absurd cc
+order-among dir (f ∷ es) n e found number parent =
+    elim (f.number == n) as (λ b. (f.number == n) ≡ b → cond b (Some f) (entry_at es n) ≡ Some e → Among (numbers_of (in_order (standing dir (f ∷ es)))) n) [
+      | true ↦ (λ here found.
+          let same : f ≡ e = cc in
+          let stands : (f.parent == dir) ≡ true = eq-eqb f.parent dir (ap (λ (x : Entry). x.parent) same ∙ parent) in
+          subst (λ (b : Bool). Among (numbers_of (in_order (cond b (f ∷ standing dir es) (standing dir es)))) n) (sym stands)
+          (subst (λ (k : ℕ). Among (numbers_of (put_in_order f (in_order (standing dir es)))) k) (eqb-true f.number n here) (put-among f (in_order (standing dir es)))))
+      | false ↦ (λ other found.
+          let rest = order-among dir es n e found number parent in
+          elim (f.parent == dir) as (λ b. Among (numbers_of (in_order (cond b (f ∷ standing dir es) (standing dir es)))) n) [
+            | true ↦ put-kept f (in_order (standing dir es)) n rest
+            | false ↦ rest
+          ])
+    ] refl found
+
+standing-all : (dir : ℕ) (es : List Entry) → AllByRecursion (λ e. (e.parent == dir) ≡ true) (standing dir es)
+standing-all dir [] = tt
+standing-all dir (e ∷ es) = elim (e.parent == dir) as (λ b. (e.parent == dir) ≡ b → AllByRecursion (λ e. (e.parent == dir) ≡ true) (cond b (e ∷ standing dir es) (standing dir es))) [
+  | true ↦ (λ here. (here, standing-all dir es))
+  | false ↦ (λ other. standing-all dir es)
+] refl
+
+-- nothing of a name stands in the directory
+free-all : (es : List Entry) (dir : ℕ) (name : List ℕ) → child es dir name ≡ None → AllByRecursion (λ e. (e.parent == dir && bytes_eq e.name name) ≡ false) es
+free-all [] dir name none = tt
+free-all (e ∷ es) dir name none = elim (e.parent == dir && bytes_eq e.name name) as (λ b. (e.parent == dir && bytes_eq e.name name) ≡ b → cond b (Some e.number) (child es dir name) ≡ None → AllByRecursion (λ e. (e.parent == dir && bytes_eq e.name name) ≡ false) (e ∷ es)) [
+  | true ↦ (λ here none. absurd cc)
+  | false ↦ (λ other none. (other, free-all es dir name none))
+] refl none
+
+module _ (names : ℕ → List ℕ) where
+  -- the name of an entry is told
+  abbrev pub IsTold : Entry → Type 0
+  IsTold e = names e.number ≡ e.name
+
+  all-numbers : (P : ℕ → Type 0) (es : List Entry) → AllByRecursion (λ e. P e.number) es → AllByRecursion P (numbers_of es)
+  all-numbers P [] h = tt
+  all-numbers P (e ∷ es) h = (h.0, all-numbers P es h.1)
+
+  numbers-all : (P : ℕ → Type 0) (es : List Entry) → AllByRecursion P (numbers_of es) → AllByRecursion (λ e. P e.number) es
+  numbers-all P [] h = tt
+  numbers-all P (e ∷ es) h = (h.0, numbers-all P es h.1)
+
+  -- an entry whose name is new is put into its place
+  put-rises : (new : Entry) (es : List Entry) → IsTold new → AllByRecursion (λ e. IsTold e × (bytes_eq e.name new.name ≡ false)) es → Rises names (numbers_of es) → Rises names (numbers_of (put_in_order new es))
+  put-rises new [] told all rises = (tt, tt)
+  put-rises new (e ∷ es) told all rises =
+      elim (is_before new.name e.name) as (λ b. is_before new.name e.name ≡ b → Rises names (numbers_of (cond b (new ∷ e ∷ es) (e ∷ put_in_order new es)))) [
+        | true ↦ (λ before.
+            let first : is_before (names new.number) (names e.number) ≡ true = ap (λ (x : List ℕ). is_before x (names e.number)) told ∙ ap (λ (y : List ℕ). is_before new.name y) all.0.0 ∙ before in (
+              (first, all-weaker (λ k. IsTrue (is_before (names e.number) (names k))) (λ k. IsTrue (is_before (names new.number) (names k))) (numbers_of es) (λ k h. before-trans (names new.number) (names e.number) (names k) first h) rises.0),
+              rises,
+            ))
+        | false ↦ (λ behind.
+            let differs : bytes_eq new.name e.name ≡ false = nat_list_eq_equiv.symm new.name e.name ∙ all.0.1 in
+            let first : is_before (names e.number) (names new.number) ≡ true = ap (λ (x : List ℕ). is_before x (names new.number)) all.0.0 ∙ ap (λ (y : List ℕ). is_before e.name y) told ∙ before-other new.name e.name behind differs in (
+              all-numbers (λ k. IsTrue (is_before (names e.number) (names k))) (put_in_order new es) (all-put (λ f. IsTrue (is_before (names e.number) (names f.number))) new es first (numbers-all (λ k. IsTrue (is_before (names e.number) (names k))) es rises.0)),
+              put-rises new es told all.1 rises.1,
+            ))
+      ] refl
+
+  -- what stands in a directory is in order of names
+  order-rises : (dir : ℕ) (es : List Entry) → NamesDiffer es → AllByRecursion IsTold es → Rises names (numbers_of (in_order (standing dir es)))
+  order-rises dir [] differ told = tt
+  order-rises dir (e ∷ es) differ told =
+      elim (e.parent == dir) as (λ b. (e.parent == dir) ≡ b → Rises names (numbers_of (in_order (cond b (e ∷ standing dir es) (standing dir es))))) [
+        | true ↦ (λ here.
+            let parent : e.parent ≡ dir = eqb-true e.parent dir here in
+            let none : child es dir e.name ≡ None = subst (λ (d : ℕ). child es d e.name ≡ None) parent differ.0 in
+            put-rises e (in_order (standing dir es)) told.0
+            (all-order (λ f. IsTold f × (bytes_eq f.name e.name ≡ false)) (standing dir es)
+            (all-weaker (λ f. (IsTold f × ((f.parent == dir && bytes_eq f.name e.name) ≡ false)) × ((f.parent == dir) ≡ true)) (λ f. IsTold f × (bytes_eq f.name e.name ≡ false)) (standing dir es) (λ f h. (h.0.0, sym (ap (λ (b : Bool). b && bytes_eq f.name e.name) h.1) ∙ h.0.1))
+            (both-all (λ f. IsTold f × ((f.parent == dir && bytes_eq f.name e.name) ≡ false)) (λ f. (f.parent == dir) ≡ true) (standing dir es)
+            (all-filter (λ f. IsTold f × ((f.parent == dir && bytes_eq f.name e.name) ≡ false)) (λ (f : Entry). f.parent == dir) es (both-all IsTold (λ f. (f.parent == dir && bytes_eq f.name e.name) ≡ false) es told.1 (free-all es dir e.name none)))
+            (standing-all dir es))))
+            (order-rises dir es differ.1 told.1))
+        | false ↦ (λ other. order-rises dir es differ.1 told.1)
+      ] refl
+
+  never-both : (x y : ℕ) → is_before (names x) (names y) ≡ true → is_before (names y) (names x) ≡ true → ⊥
+  never-both x y h k =
+      let yes_so : is_before (names x) (names x) ≡ true = before-trans (names x) (names y) (names x) h k in
+      let none : is_before (names x) (names x) ≡ false = before-itself names (names x) in
+      cc
+
+  -- two lists in order with the same numbers are one
+  rising-one : (ms ns : List ℕ) → Rises names ms → Rises names ns → ((k : ℕ) → Among ms k → Among ns k) → ((k : ℕ) → Among ns k → Among ms k) → ms ≡ ns
+  rising-one [] [] h k left right = refl
+  rising-one [] (n ∷ ns) h k left right = absurd (right n (inl refl))
+  rising-one (m ∷ ms) [] h k left right = absurd (left m (inl refl))
+  rising-one (m ∷ ms) (n ∷ ns) h k left right =
+      let tails : ms ≡ ns = rising-one ms ns h.1 k.1 forward backward in
+      ap (λ (x : ℕ). x ∷ ms) heads ∙ ap (λ (xs : List ℕ). n ∷ xs) tails
+    where
+      heads : m ≡ n
+      heads = elim (left m (inl refl)) [
+        | inl same ↦ sym same
+        | inr later ↦ elim (right n (inl refl)) [
+          | inl same ↦ same
+          | inr also ↦ absurd (never-both m n (among-all (λ k. IsTrue (is_before (names m) (names k))) ms n h.0 also) (among-all (λ k. IsTrue (is_before (names n) (names k))) ns m k.0 later))
+        ]
+      ]
+
+      forward : (x : ℕ) → Among ms x → Among ns x
+      forward x among = elim (left x (inr among)) [
+        | inl same ↦
+            (let before : is_before (names m) (names x) ≡ true = among-all (λ k. IsTrue (is_before (names m) (names k))) ms x h.0 among in
+            absurd (never-both m m (subst (λ (k : ℕ). is_before (names m) (names k) ≡ true) (sym same ∙ sym heads) before) (subst (λ (k : ℕ). is_before (names m) (names k) ≡ true) (sym same ∙ sym heads) before)))
+        | inr rest ↦ rest
+      ]
+
+      backward : (x : ℕ) → Among ns x → Among ms x
+      backward x among = elim (right x (inr among)) [
+        | inl same ↦
+            (let before : is_before (names n) (names x) ≡ true = among-all (λ k. IsTrue (is_before (names n) (names k))) ns x k.0 among in
+            absurd (never-both n n (subst (λ (k : ℕ). is_before (names n) (names k) ≡ true) (sym same ∙ heads) before) (subst (λ (k : ℕ). is_before (names n) (names k) ≡ true) (sym same ∙ heads) before)))
+        | inr rest ↦ rest
+      ]
+
+  -- the first number whose name stands behind one
+  next_among : List ℕ → Option (List ℕ) → Option ℕ
+  next_among [] after = None
+  next_among (n ∷ ns) after = cond (is_past after (names n)) (Some n) (next_among ns after)
+
+  next-numbers : (es : List Entry) (after : Option (List ℕ)) → AllByRecursion IsTold es → next_in es after ≡ next_among (numbers_of es) after
+  unfolding next_among
+  next-numbers [] after told = refl
+  next-numbers (e ∷ es) after told =
+      ap (λ (o : Option ℕ). cond (is_past after e.name) (Some e.number) o) (next-numbers es after told.1)
+      ∙ ap (λ (x : List ℕ). cond (is_past after x) (Some e.number) (next_among (numbers_of es) after)) (sym told.0)
+
+  next-first : (ns : List ℕ) → next_among ns None ≡ slice_get ns 0
+  unfolding next_among
+  next-first [] = refl
+  next-first (n ∷ ns) = refl
+
+  next-past : (ns : List ℕ) (name : List ℕ) → next_among ns (Some name) ≡ slice_get ns (past_in names name ns)
+  unfolding next_among
+  next-past [] name = refl
+  next-past (n ∷ ns) name =
+      elim (is_before name (names n)) as (λ b. cond b (Some n) (next_among ns (Some name)) ≡ slice_get (n ∷ ns) (cond (not b) (1 + past_in names name ns) 0)) [
+        | true ↦ refl
+        | false ↦ (let more : 1 + past_in names name ns ≡ suc (past_in names name ns) = omega arith in next-past ns name ∙ ap (λ (i : ℕ). slice_get (n ∷ ns) i) (sym more))
+      ]
+
+module _ (t : Inside) (h : IsShaped t) (dir : ℕ) where
+  told-all : AllByRecursion (λ e. entry_of t.nodes e.number ≡ Some e) (state_of t).entries
+  told-all = all-entries (λ e. entry_of t.nodes e.number ≡ Some e) 0 (state_of t).entries t.next h.valid.numbers (λ e found. sym (seen-entry t h e.number) ∙ found)
+
+  names-all : AllByRecursion (IsTold (name_of t.nodes)) (state_of t).entries
+  names-all = all-weaker (λ e. entry_of t.nodes e.number ≡ Some e) (IsTold (name_of t.nodes)) (state_of t).entries (λ e told. name-told t.nodes e.number e told) told-all
+
+  -- the numbers of what stands in a directory are those of its list
+  pub children-numbers : numbers_of (children (state_of t) dir) ≡ kids_of t.nodes dir
+  children-numbers = rising-one (name_of t.nodes) (numbers_of (children (state_of t) dir)) (kids_of t.nodes dir) (order-rises (name_of t.nodes) dir (state_of t).entries h.valid.differ names-all) (h.lists.rises dir) forward backward
+    where
+      parents : AllByRecursion (λ e. parent_in (entry_of t.nodes e.number) ≡ Some dir) (children (state_of t) dir)
+      parents = all-order (λ e. parent_in (entry_of t.nodes e.number) ≡ Some dir) (standing dir (state_of t).entries)
+          (all-weaker (λ e. (entry_of t.nodes e.number ≡ Some e) × ((e.parent == dir) ≡ true)) (λ e. parent_in (entry_of t.nodes e.number) ≡ Some dir) (standing dir (state_of t).entries) (λ e both. ap parent_in both.0 ∙ ap (λ (d : ℕ). Some d) (eqb-true e.parent dir both.1))
+          (both-all (λ e. entry_of t.nodes e.number ≡ Some e) (λ e. (e.parent == dir) ≡ true) (standing dir (state_of t).entries) (all-filter (λ e. entry_of t.nodes e.number ≡ Some e) (λ (e : Entry). e.parent == dir) (state_of t).entries told-all) (standing-all dir (state_of t).entries)))
+
+      forward : (n : ℕ) → Among (numbers_of (children (state_of t) dir)) n → Among (kids_of t.nodes dir) n
+      forward n among = h.lists.lists dir n (among-all (λ k. parent_in (entry_of t.nodes k) ≡ Some dir) (numbers_of (children (state_of t) dir)) n (all-numbers (name_of t.nodes) (λ k. parent_in (entry_of t.nodes k) ≡ Some dir) (children (state_of t) dir) parents) among)
+
+      backward : (n : ℕ) → Among (kids_of t.nodes dir) n → Among (numbers_of (children (state_of t) dir)) n
+      backward n among =
+          let found = parent-told (entry_of t.nodes n) dir (h.lists.listed dir n among) in
+          order-among dir (state_of t).entries n found.0 (seen-entry t h n ∙ found.1) (entry_of-number t.nodes n found.0 found.1) found.2
+
+  next-listed : (after : Option (List ℕ)) → next_in (children (state_of t) dir) after ≡ next_among (name_of t.nodes) (kids_of t.nodes dir) after
+  next-listed after =
+      next-numbers (name_of t.nodes) (children (state_of t) dir) after (all-order (IsTold (name_of t.nodes)) (standing dir (state_of t).entries) (all-filter (IsTold (name_of t.nodes)) (λ (e : Entry). e.parent == dir) (state_of t).entries names-all))
+      ∙ ap (λ (ns : List ℕ). next_among (name_of t.nodes) ns after) children-numbers
+
+-- the next of what stands in a directory is found in its list
+module _ (t : Inside) (s : Seen) (view : seen_of t ≡ s) (h : IsShaped t) (dir : ℕ) where
+  pub next-first-seen : next_in (children s.state dir) None ≡ slice_get (kids_of t.nodes dir) 0
+  next-first-seen = ap (λ (x : Seen). next_in (children x.state dir) None) (sym view) ∙ next-listed t h dir None ∙ next-first (name_of t.nodes) (kids_of t.nodes dir)
+
+  pub next-past-seen : (name : List ℕ) → next_in (children s.state dir) (Some name) ≡ slice_get (kids_of t.nodes dir) (past_in (name_of t.nodes) name (kids_of t.nodes dir))
+  next-past-seen name = ap (λ (x : Seen). next_in (children x.state dir) (Some name)) (sym view) ∙ next-listed t h dir (Some name) ∙ next-past (name_of t.nodes) (kids_of t.nodes dir) name

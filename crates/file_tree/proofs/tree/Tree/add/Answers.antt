@@ -1,0 +1,69 @@
+use Rattle.std.proofs.Common.{◌≡◌, ◌<◌, ◌≤◌, ◌+◌, ◌++◌, ◌∷◌, [], ℕ, List, Some, false, cond, ap, sym, subst, ◌∙◌, arith}
+use Rattle.std.specs.Prelude.{nat_eq, nat_lt, insert, IsSome}
+use Rattle.std.proofs.lemmas.Bool.Decides.{nat_tests}
+use Rattle.indexmap.specs.IndexMap.{get}
+use Rattle.hac_model.specs.Events.{added}
+use Rattle.hac_model.specs.declared.states.Body.{Body}
+use Rattle.hac_model.specs.declared.states.State.{State}
+use Rattle.hac_model.specs.declared.limits.TheConstants.{NUMBERS_LIMIT}
+use Rattle.hac_model.proofs.LimitLemmas.{limits-within}
+use Rattle.file_tree.specs.Nodes.{entry_of, kids_of, name_of}
+use Rattle.file_tree.specs.Ready.{body_in, room_in}
+use Rattle.file_tree.specs.Search.{rank_in}
+use Rattle.file_tree.specs.Seen.{Seen}
+use Rattle.file_tree.specs.Shape.{HasSpare}
+use Rattle.file_tree.specs.declared.ready.Ready.{Ready}
+use Rattle.file_tree.specs.declared.ready.Room.{Room}
+use Rattle.file_tree.specs.declared.ready.Room.TheVariants as room
+use Rattle.file_tree.proofs.ReadyLemmas.{spare-add}
+use Rattle.file_tree.proofs.ShapeLemmas.{told_at}
+use Rattle.file_tree.proofs.StateLemmas.{shaped-added, state-added}
+use Rattle.file_tree.proofs.tree.Tree.add.Goals as goal
+
+pub overflow_add-get : goal.overflow_add-get
+overflow_add-get c =
+    let within = limits-within (added c.args.self.now.state c.args.dir c.args.name (body_in c.args.self.now.ready)) c.requires.valid.limits in
+    let low : nat_lt NUMBERS_LIMIT (c.args.self.now.state.next + 1) ≡ false = within.numbers in
+    let same : c.self.inside.next ≡ c.args.self.now.state.next = ap (λ (x : Seen). x.state.next) c.self.view_is in
+    let small : c.args.self.now.state.next + 1 ≤ NUMBERS_LIMIT = grind (arith, nat_tests, low) in
+    omega (arith, c.get.ensures)
+
+module _ (c : goal.After-self-1) where
+  same-ready : c.self.inside.ready ≡ c.args.self.now.ready
+  same-ready = ap (λ (x : Seen). x.ready) c.self.view_is
+
+  room-here : room_in c.self.inside.ready ≡ Some (room.Add c.args.dir)
+  room-here = ap room_in same-ready ∙ c.requires.room ∙ ap (λ (r : Room). Some r) c.requires.place
+
+  spare : (c.self.inside.spare.items ≡ kids_of c.self.inside.nodes c.args.dir ++ c.self.inside.next ∷ []) × IsSome (get nat_eq c.self.inside.nodes c.self.inside.next) × IsSome (get nat_eq c.self.inside.nodes c.args.dir) × (c.args.dir < c.self.inside.next)
+  spare = spare-add c.self.inside.nodes c.self.inside.next c.self.inside.spare.items c.self.inside.ready c.args.dir room-here c.self.invariant.spare
+
+  body-here : c.in-Add.body ≡ body_in c.args.self.now.ready
+  body-here = ap body_in (sym c.in-Add.is ∙ c.replace.ensures.value ∙ same-ready)
+
+  listed : c.order_last.new.numbers.items ≡ insert (kids_of c.self.inside.nodes c.args.dir) (rank_in (name_of c.self.inside.nodes) c.args.name (kids_of c.self.inside.nodes c.args.dir)) c.self.inside.next
+  listed = c.order_last.ensures (kids_of c.self.inside.nodes c.args.dir) c.self.inside.next spare.0 (c.self.invariant.lists.rises c.args.dir)
+      ∙ ap (λ (x : List ℕ). insert (kids_of c.self.inside.nodes c.args.dir) (rank_in (name_of c.self.inside.nodes) x (kids_of c.self.inside.nodes c.args.dir)) c.self.inside.next) c.as_bytes.ensures
+
+  entries : (n : ℕ) → entry_of c.put_children.new.nodes n ≡ told_at c.self.inside.next (Some (record { number = c.self.inside.next; parent = c.args.dir; name = c.args.name; body = body_in c.args.self.now.ready })) (entry_of c.self.inside.nodes) n
+  entries n = c.put_children.ensures.entries n ∙ c.put.ensures.entries n
+      ∙ ap (λ (b : Body). told_at c.self.inside.next (Some (record { number = c.self.inside.next; parent = c.args.dir; name = c.args.name; body = b })) (entry_of c.self.inside.nodes) n) (c.new.ensures ∙ body-here)
+
+  kids : (d : ℕ) → kids_of c.put_children.new.nodes d ≡ told_at c.args.dir (insert (kids_of c.self.inside.nodes c.args.dir) (rank_in (name_of c.self.inside.nodes) c.args.name (kids_of c.self.inside.nodes c.args.dir)) c.self.inside.next) (kids_of c.self.inside.nodes) d
+  kids d = c.put_children.ensures.kids d
+      ∙ ap (λ (ns : List ℕ). cond (nat_eq c.args.dir d) ns (kids_of c.put.new.nodes d)) listed
+      ∙ ap (λ (ns : List ℕ). cond (nat_eq c.args.dir d) (insert (kids_of c.self.inside.nodes c.args.dir) (rank_in (name_of c.self.inside.nodes) c.args.name (kids_of c.self.inside.nodes c.args.dir)) c.self.inside.next) ns) (c.put.ensures.kids d)
+
+  next : c.new-self-inside.result ≡ c.self.inside.next + 1
+  next = c.new-self-inside.ensures ∙ ap (λ (k : ℕ). k + 1) c.get.ensures
+
+pub invariant_of-self : goal.invariant_of-self
+invariant_of-self c =
+    shaped-added c.self.inside c.args.self.now c.self.view_is c.self.invariant _ c.args.dir c.args.name (body_in c.args.self.now.ready) (next c) (entries c) (λ n. c.put_children.ensures.names n ∙ c.put.ensures.names n) (kids c)
+    (c.put_children.ensures.others 0 (c.put.ensures.others 0 c.self.invariant.root)) (spare c).3 c.requires.valid
+    (subst (λ (r : Ready). HasSpare r c.put_children.new.nodes c.new-self-inside.result c.put_children.new.children.items) (sym c.replace.ensures.after) tt)
+
+pub returns-clause-added : goal.returns-clause-added
+returns-clause-added c =
+    ap (λ (x : State). record { state = x; ready = c.replace.new.dest }) (state-added c.self.inside c.args.self.now c.self.view_is c.self.invariant (record { alloc = c.self.inside.alloc; next = c.new-self-inside.result; nodes = c.put_children.new.nodes; spare = c.put_children.new.children; ready = c.replace.new.dest }) c.args.dir c.args.name (body_in c.args.self.now.ready) (next c) (entries c))
+    ∙ ap (λ (r : Ready). record { state = added c.args.self.now.state c.args.dir c.args.name (body_in c.args.self.now.ready); ready = r }) c.replace.ensures.after

@@ -1,0 +1,15 @@
+use Rattle.std.proofs.Common.{refl}
+use Rattle.file_tree.proofs.StateLemmas.{directory-there, shaped-prepared}
+use Rattle.file_tree.proofs.tree.Tree.prepare_add.Goals as goal
+
+pub invariant_of-self : goal.invariant_of-self
+invariant_of-self c = shaped-prepared c.self.inside c.args.self.now c.self.view_is c.self.invariant _ refl c.prepare.ensures.entries c.prepare.ensures.names c.prepare.ensures.kids c.prepare.ensures.others tt
+
+pub invariant_of-self-in_err-self-inside : goal.invariant_of-self-in_err-self-inside
+invariant_of-self-in_err-self-inside c = shaped-prepared c.self.inside c.args.self.now c.self.view_is c.self.invariant _ refl c.prepare.ensures.entries c.prepare.ensures.names c.prepare.ensures.kids c.prepare.ensures.others tt
+
+pub invariant_of-self-2 : goal.invariant_of-self-2
+invariant_of-self-2 c =
+    let there = directory-there c.self.inside c.args.self.now c.self.view_is c.self.invariant c.self.inside c.args.dir c.requires in
+    shaped-prepared c.self.inside c.args.self.now c.self.view_is c.self.invariant _ refl c.prepare.ensures.entries c.prepare.ensures.names c.prepare.ensures.kids c.prepare.ensures.others
+    (c.in_ok-self-inside.ensures, c.in_ok-prepare.ensures.there, c.prepare.ensures.others c.args.dir there.0, there.1)

@@ -1,0 +1,54 @@
+-- The nodes of a tree, read as entries, names and lists of children.
+use Rattle.std.specs.Prelude.{ℕ, zero, suc, if◌then◌else◌, nat_eq, List, [], ◌∷◌, ◌++◌, Option, Some, None, option_and_then}
+use Rattle.std.specs.Option.{option_map, option_map_or}
+use Rattle.indexmap.specs.IndexMap.{IndexMap, get}
+use Rattle.hac_model.specs.declared.states.Body.{Body}
+use Rattle.hac_model.specs.declared.states.Body.TheVariants as body
+use Rattle.hac_model.specs.declared.states.Entry.{Entry}
+use Rattle.file_tree.specs.declared.nodes.Content.{Content}
+use Rattle.file_tree.specs.declared.nodes.Content.TheVariants.{File, Dir, Semantic}
+use Rattle.file_tree.specs.declared.nodes.Node.{Node}
+use Rattle.file_tree.specs.declared.nodes.Shown.{Shown}
+use Rattle.file_tree.specs.declared.nodes.Shown.TheVariants.{Never, AsItIs, Older}
+
+-- the text that is shown of a file with this text
+abbrev pub shown_in : List ℕ → Shown → Option (List ℕ)
+shown_in text Never = None
+shown_in text AsItIs = Some text
+shown_in text (Older shown) = Some shown
+
+-- what the content of a node says
+abbrev pub body_of : Content → Body
+body_of (File text dirty shown) = body.File text dirty (shown_in text shown)
+body_of Dir = body.Dir
+body_of (Semantic query) = body.Semantic query
+
+-- a node, where it is an entry
+abbrev pub if_placed : Node → Option Node
+if_placed node = if node.placed then Some node else None
+
+-- the node as the entry of a number
+abbrev pub entry_from : ℕ → Node → Entry
+entry_from number node = record { number = number; parent = node.parent; name = node.name; body = body_of node.content }
+
+module _ {S : Type 0} where
+  -- the node of a number, where it is an entry
+  abbrev pub placed_at : IndexMap ℕ Node S → ℕ → Option Node
+  placed_at nodes number = option_and_then if_placed (get nat_eq nodes number)
+
+  -- the entry of a number
+  abbrev pub entry_of : IndexMap ℕ Node S → ℕ → Option Entry
+  entry_of nodes number = option_map (entry_from number) (placed_at nodes number)
+
+  -- the name in the node of a number
+  abbrev pub name_of : IndexMap ℕ Node S → ℕ → List ℕ
+  name_of nodes number = option_map_or (λ node. node.name) (get nat_eq nodes number) []
+
+  -- the numbers of what stands in a directory
+  abbrev pub kids_of : IndexMap ℕ Node S → ℕ → List ℕ
+  kids_of nodes number = option_map_or (λ node. node.children.items) (get nat_eq nodes number) []
+
+-- the entries of the numbers below a number, in order, told the entry of each
+abbrev pub entries_below : ℕ → (ℕ → Option Entry) → List Entry
+entries_below zero at = []
+entries_below (suc number) at = option_map_or (λ entry. entries_below number at ++ entry ∷ []) (at number) (entries_below number at)

@@ -1,0 +1,58 @@
+-- How a tree keeps a state.
+use Rattle.std.specs.Prelude.{◌≡◌, ℕ, ◌<◌, ◌≤◌, nat_eq, List, [], ◌∷◌, ◌++◌, Option, Some, None, IsSome, IsTrue, ◌⊎◌}
+use Rattle.std.specs.List.{AllByRecursion}
+use Rattle.std.specs.Option.{option_map}
+use Rattle.indexmap.specs.IndexMap.{IndexMap, get}
+use Rattle.hac_model.specs.Listing.{is_before}
+use Rattle.hac_model.specs.Valid.{IsValid}
+use Rattle.hac_model.specs.declared.states.Entry.{Entry}
+use Rattle.hac_model.specs.declared.states.State.{State}
+use Rattle.file_tree.specs.Nodes.{entries_below, entry_of, kids_of, name_of}
+use Rattle.file_tree.specs.Seen.{Seen}
+use Rattle.file_tree.specs.declared.nodes.Node.{Node}
+use Rattle.file_tree.specs.declared.ready.Ready.{Ready}
+use Rattle.file_tree.specs.declared.ready.Ready.TheVariants.{Nothing, Add, Move, Edit}
+use Rattle.file_tree.specs.declared.tree.Tree.TheInside.{Inside}
+
+abbrev pub state_of : Inside → State
+state_of tree = record { next = tree.next; entries = entries_below tree.next (entry_of tree.nodes) }
+
+abbrev pub seen_of : Inside → Seen
+seen_of tree = record { state = state_of tree; ready = tree.ready }
+
+-- the number is one of these
+abbrev pub Among : List ℕ → ℕ → Type 0
+Among [] number = ⊥
+Among (other ∷ numbers) number = (other ≡ number) ⊎ Among numbers number
+
+-- the names of the numbers rise
+abbrev pub Rises : (ℕ → List ℕ) → List ℕ → Type 0
+Rises names [] = Unit {0}
+Rises names (number ∷ numbers) = AllByRecursion (λ other. IsTrue (is_before (names number) (names other))) numbers × Rises names numbers
+
+-- the directory in which the entry stands, where there is one
+abbrev pub parent_in : Option Entry → Option ℕ
+parent_in entry = option_map (λ entry. entry.parent) entry
+
+-- the lists of children are those of the entries, told the entry, the name and the children of each number
+pub record IsTree (next : ℕ) (at : ℕ → Option Entry) (names : ℕ → List ℕ) (kids : ℕ → List ℕ) : Type 0 where
+  pub root : at 0 ≡ None
+  pub above : (number : ℕ) → next ≤ number → at number ≡ None
+  pub fresh : (dir : ℕ) → next ≤ dir → kids dir ≡ []
+  pub listed : (dir number : ℕ) → Among (kids dir) number → parent_in (at number) ≡ Some dir
+  pub lists : (dir number : ℕ) → parent_in (at number) ≡ Some dir → Among (kids dir) number
+  pub rises : (dir : ℕ) → Rises names (kids dir)
+
+module _ {S : Type 0} where
+  -- what was prepared stands in the tree: a list of children with a place for one more, and the node of a new entry
+  abbrev pub HasSpare : Ready → IndexMap ℕ Node S → ℕ → List ℕ → Type 0
+  HasSpare Nothing nodes next spare = Unit {0}
+  HasSpare (Add dir body) nodes next spare = (spare ≡ kids_of nodes dir ++ next ∷ []) × IsSome (get nat_eq nodes next) × IsSome (get nat_eq nodes dir) × (dir < next)
+  HasSpare (Move dir name) nodes next spare = (spare ≡ kids_of nodes dir ++ 0 ∷ []) × IsSome (get nat_eq nodes dir) × (dir < next)
+  HasSpare (Edit entry body) nodes next spare = Unit {0}
+
+pub record IsShaped (tree : Inside) : Type 0 where
+  pub lists : IsTree tree.next (entry_of tree.nodes) (name_of tree.nodes) (kids_of tree.nodes)
+  pub valid : IsValid (state_of tree)
+  pub root : IsSome (get nat_eq tree.nodes 0)
+  pub spare : HasSpare tree.ready tree.nodes tree.next tree.spare.items

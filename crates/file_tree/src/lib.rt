@@ -1,0 +1,18 @@
+//! The tree of files and directories as numbered nodes: where a path leads, and changes by number. It knows no
+//! line, no store and no outside.
+#![tactic(auto)]
+
+mod changing;
+mod nodes;
+mod paths;
+mod placing;
+mod ready;
+mod searching;
+mod tree;
+
+pub use placing::Stop;
+pub use ready::{Ready, Room};
+pub use tree::{EntryKind, Tree};
+
+#[cfg(test)]
+mod tests;

@@ -1,0 +1,276 @@
+//! The nodes of a tree by number, each changed by itself. Nothing here knows how they hang together.
+ghost use Rattle.std.specs.Prelude.{◌≡◌, ℕ, ◌<◌, ◌∷◌, ◌++◌, [], List, Option, Some, None, nat_eq, if◌then◌else◌, length, remove, true, false, IsSome, OnOk, OnErr, IfOk};
+ghost use Rattle.std.specs.Option.{option_copied, option_map};
+ghost use Rattle.indexmap.specs.IndexMap.{get};
+ghost use Rattle.file_tree.specs.Nodes.{body_of, entry_of, kids_of, name_of, placed_at};
+ghost use Rattle.hac_model.specs.Events.{edited, indexed, reseated, rewritten};
+ghost use Rattle.hac_model.specs.Tree.{is_dirty, query_in, shown_text};
+
+use hac_model::{Body, Memory, Name, Number, Query, Text};
+use indexmap::IndexMap;
+use std::alloc::Global;
+use std::mem;
+
+/// The nodes by number.
+pub(crate) type Nodes = IndexMap<u64, Node>;
+
+/// What stands under a number.
+#[derive(Debug, Drop)]
+pub(crate) struct Node {
+    // It is an entry. The root is none, nor is what was prepared and isn't put into the tree yet.
+    pub(crate) placed: bool,
+    // The directory in which it stands, and its name there.
+    pub(crate) parent: Number,
+    pub(crate) name: Name,
+    pub(crate) content: Content,
+    // What stands in it, in byte order of names.
+    pub(crate) children: Vec<Number>,
+}
+
+/// What an entry is, with each text kept once.
+#[derive(Debug, Drop)]
+pub(crate) enum Content {
+    File {
+        text: Text,
+        dirty: bool,
+        shown: Shown,
+    },
+    Dir,
+    Semantic {
+        query: Query,
+    },
+}
+
+/// The text of a file as it was last indexed.
+#[derive(Debug, Drop)]
+pub(crate) enum Shown {
+    Never,
+    // It is the file's text still.
+    AsItIs,
+    Older(Text),
+}
+
+impl Content {
+    /// What the body says.
+    pub(crate) fn new(body: Body) -> Content
+        ensures { body_of result ≡ body }
+    {
+        match body {
+            Body::File { text, dirty, shown } => Content::File {
+                text,
+                dirty,
+                shown: match shown {
+                    Some(text) => Shown::Older(text),
+                    None => Shown::Never,
+                },
+            },
+            Body::Dir => Content::Dir,
+            Body::Semantic { query } => Content::Semantic { query },
+        }
+    }
+}
+
+impl Content {
+    /// The text of a file as it was last indexed, if it ever was.
+    pub(crate) fn shown(&self) -> Option<&[u8]>
+        ensures { option_copied result ≡ shown_text (body_of self.now) }
+    {
+        let Content::File { text, shown, .. } = self else {
+            return None;
+        };
+        match shown {
+            Shown::Never => None,
+            Shown::AsItIs => Some(text.as_slice()),
+            Shown::Older(text) => Some(text.as_slice()),
+        }
+    }
+
+    /// Whether this is a file that was made or written since it was last indexed.
+    pub(crate) fn is_dirty(&self) -> bool
+        ensures { result ≡ is_dirty (body_of self.now) }
+    {
+        match self {
+            Content::File { dirty, .. } => *dirty,
+            Content::Dir | Content::Semantic { .. } => false,
+        }
+    }
+
+    /// The query of a directory, where it has one.
+    pub(crate) fn query(&self) -> Option<&Query>
+        ensures { option_copied result ≡ query_in (body_of self.now) }
+    {
+        match self {
+            Content::Semantic { query } => Some(query),
+            Content::File { .. } | Content::Dir => None,
+        }
+    }
+
+    /// Replaces the text of a file. What was shown stays shown.
+    pub(crate) fn set_text(&mut self, new: Text)
+        ensures { body_of self.new ≡ rewritten new (body_of self.old) }
+    {
+        if let Content::File { text, dirty, shown } = self {
+            let old = mem::replace(text, new);
+            *dirty = true;
+            if matches!(shown, Shown::AsItIs) {
+                *shown = Shown::Older(old);
+            }
+        }
+    }
+
+    /// Shows the text of a file.
+    pub(crate) fn show_text(&mut self)
+        ensures { body_of self.new ≡ indexed (body_of self.old) }
+    {
+        if let Content::File { dirty, shown, .. } = self {
+            *dirty = false;
+            *shown = Shown::AsItIs;
+        }
+    }
+}
+
+/// The node of a number.
+pub(crate) fn node_at(nodes: &Nodes, number: Number) -> Option<&Node>
+    ensures { option_copied result ≡ get nat_eq nodes.now number }
+{
+    nodes.get(&number.get())
+}
+
+/// The node of a number, where it is an entry.
+pub(crate) fn entry_at(nodes: &Nodes, number: Number) -> Option<&Node>
+    ensures { option_copied result ≡ placed_at nodes.now number }
+{
+    let node = node_at(nodes, number)?;
+    if node.placed { Some(node) } else { None }
+}
+
+/// The name of a node.
+pub(crate) fn name_at(nodes: &Nodes, number: Number) -> &[u8]
+    ensures { result.now ≡ name_of nodes.now number }
+{
+    match node_at(nodes, number) {
+        Some(node) => node.name.as_bytes(),
+        None => &[],
+    }
+}
+
+/// What stands in a directory.
+pub(crate) fn children_at(nodes: &Nodes, dir: Number) -> &[Number]
+    ensures { result.now ≡ kids_of nodes.now dir }
+{
+    match node_at(nodes, dir) {
+        Some(node) => node.children.as_slice(),
+        None => &[],
+    }
+}
+
+/// Puts a node that is no entry under a number that has none.
+pub(crate) fn prepare(alloc: Global, nodes: &mut Nodes, number: Number) -> Result<(), Memory>
+    requires free { entry_of nodes.old number ≡ None }
+    requires bare { kids_of nodes.old number ≡ [] }
+    ensures there { OnOk result (IsSome (get nat_eq nodes.new number)) }
+    ensures others { (q : ℕ) → IsSome (get nat_eq nodes.old q) → IsSome (get nat_eq nodes.new q) }
+    ensures entries { (q : ℕ) → entry_of nodes.new q ≡ entry_of nodes.old q }
+    ensures names { (q : ℕ) → nat_eq number q ≡ false → name_of nodes.new q ≡ name_of nodes.old q }
+    ensures kids { (q : ℕ) → kids_of nodes.new q ≡ kids_of nodes.old q }
+{
+    let node = Node {
+        placed: false,
+        parent: Number::ROOT,
+        name: Name::new(Vec::new(alloc)),
+        content: Content::Dir,
+        children: Vec::new(alloc),
+    };
+    nodes.insert(number.get(), node)?;
+    Ok(())
+}
+
+/// Makes the node of a number an entry.
+pub(crate) fn put(nodes: &mut Nodes, number: Number, parent: Number, name: Name, content: Content)
+    requires { IsSome (get nat_eq nodes.old number) }
+    ensures others { (q : ℕ) → IsSome (get nat_eq nodes.old q) → IsSome (get nat_eq nodes.new q) }
+    ensures entries { (q : ℕ) → entry_of nodes.new q ≡ if nat_eq number q then Some (record { number = number; parent = parent; name = name; body = body_of content }) else entry_of nodes.old q }
+    ensures names { (q : ℕ) → name_of nodes.new q ≡ if nat_eq number q then name else name_of nodes.old q }
+    ensures kids { (q : ℕ) → kids_of nodes.new q ≡ kids_of nodes.old q }
+{
+    if let Some(node) = nodes.get_mut(&number.get()) {
+        node.placed = true;
+        node.parent = parent;
+        node.name = name;
+        node.content = content;
+    }
+}
+
+/// Gives an entry another place.
+pub(crate) fn reseat(nodes: &mut Nodes, number: Number, dir: Number, new_name: Name)
+    requires { IsSome (entry_of nodes.old number) }
+    ensures others { (q : ℕ) → IsSome (get nat_eq nodes.old q) → IsSome (get nat_eq nodes.new q) }
+    ensures entries { (q : ℕ) → entry_of nodes.new q ≡ if nat_eq number q then option_map (reseated dir new_name) (entry_of nodes.old q) else entry_of nodes.old q }
+    ensures names { (q : ℕ) → name_of nodes.new q ≡ if nat_eq number q then new_name else name_of nodes.old q }
+    ensures kids { (q : ℕ) → kids_of nodes.new q ≡ kids_of nodes.old q }
+{
+    if let Some(node) = nodes.get_mut(&number.get()) {
+        node.parent = dir;
+        node.name = new_name;
+    }
+}
+
+/// Takes a node out.
+pub(crate) fn take_out(nodes: &mut Nodes, number: Number)
+    ensures others { (q : ℕ) → nat_eq number q ≡ false → IsSome (get nat_eq nodes.old q) → IsSome (get nat_eq nodes.new q) }
+    ensures entries { (q : ℕ) → entry_of nodes.new q ≡ if nat_eq number q then None else entry_of nodes.old q }
+    ensures names { (q : ℕ) → nat_eq number q ≡ false → name_of nodes.new q ≡ name_of nodes.old q }
+    ensures kids { (q : ℕ) → kids_of nodes.new q ≡ if nat_eq number q then [] else kids_of nodes.old q }
+{
+    nodes.swap_remove(&number.get());
+}
+
+/// Gives a directory the list of what stands in it.
+pub(crate) fn put_children(nodes: &mut Nodes, dir: Number, children: &mut Vec<Number>)
+    requires { IsSome (get nat_eq nodes.old dir) }
+    ensures others { (q : ℕ) → IsSome (get nat_eq nodes.old q) → IsSome (get nat_eq nodes.new q) }
+    ensures entries { (q : ℕ) → entry_of nodes.new q ≡ entry_of nodes.old q }
+    ensures names { (q : ℕ) → name_of nodes.new q ≡ name_of nodes.old q }
+    ensures kids { (q : ℕ) → kids_of nodes.new q ≡ if nat_eq dir q then children.old.items else kids_of nodes.old q }
+{
+    if let Some(node) = nodes.get_mut(&dir.get()) {
+        mem::swap(&mut node.children, children);
+    }
+}
+
+/// Takes a place out of the list of what stands in a directory.
+pub(crate) fn drop_child(nodes: &mut Nodes, dir: Number, place: usize)
+    requires { place < length (kids_of nodes.old dir) }
+    ensures others { (q : ℕ) → IsSome (get nat_eq nodes.old q) → IsSome (get nat_eq nodes.new q) }
+    ensures entries { (q : ℕ) → entry_of nodes.new q ≡ entry_of nodes.old q }
+    ensures names { (q : ℕ) → name_of nodes.new q ≡ name_of nodes.old q }
+    ensures kids { (q : ℕ) → kids_of nodes.new q ≡ if nat_eq dir q then remove (kids_of nodes.old dir) place else kids_of nodes.old q }
+{
+    if let Some(node) = nodes.get_mut(&dir.get()) {
+        node.children.remove(place);
+    }
+}
+
+/// Replaces the text of a file.
+pub(crate) fn set_text(nodes: &mut Nodes, file: Number, text: Text)
+    ensures others { (q : ℕ) → IsSome (get nat_eq nodes.old q) → IsSome (get nat_eq nodes.new q) }
+    ensures entries { (q : ℕ) → entry_of nodes.new q ≡ if nat_eq file q then option_map (edited (rewritten text)) (entry_of nodes.old q) else entry_of nodes.old q }
+    ensures names { (q : ℕ) → name_of nodes.new q ≡ name_of nodes.old q }
+    ensures kids { (q : ℕ) → kids_of nodes.new q ≡ kids_of nodes.old q }
+{
+    if let Some(node) = nodes.get_mut(&file.get()) {
+        node.content.set_text(text);
+    }
+}
+
+/// Shows the text of a file.
+pub(crate) fn show_text(nodes: &mut Nodes, file: Number)
+    ensures others { (q : ℕ) → IsSome (get nat_eq nodes.old q) → IsSome (get nat_eq nodes.new q) }
+    ensures entries { (q : ℕ) → entry_of nodes.new q ≡ if nat_eq file q then option_map (edited indexed) (entry_of nodes.old q) else entry_of nodes.old q }
+    ensures names { (q : ℕ) → name_of nodes.new q ≡ name_of nodes.old q }
+    ensures kids { (q : ℕ) → kids_of nodes.new q ≡ kids_of nodes.old q }
+{
+    if let Some(node) = nodes.get_mut(&file.get()) {
+        node.content.show_text();
+    }
+}

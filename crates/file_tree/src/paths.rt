@@ -1,0 +1,56 @@
+//! Paths of entries, found by steps over parents.
+ghost use Rattle.std.specs.Prelude.{◌≡◌, ◌++◌, IfOk, IsTrue, OnOk};
+ghost use Rattle.hac_model.specs.Tree.{extends, names_to, path_of};
+ghost use Rattle.file_tree.specs.Answers.{is_live, stands_below};
+
+use crate::nodes::entry_at;
+use crate::tree::Tree;
+use hac_model::{Memory, Number, PATH_LIMIT, Path};
+
+impl Tree {
+    /// The path of an entry. That of the root has no names.
+    pub fn path_of(&self, entry: Number) -> Result<Path, Memory>
+        ensures { IfOk result (λ path. path ≡ path_of self.now.state entry) }
+    {
+        let mut path = Path::root(self.alloc);
+        self.push_names(PATH_LIMIT, entry, &mut path)?;
+        Ok(path)
+    }
+
+    /// Goes down by the names that lead to an entry, of which there are so many at most.
+    fn push_names(&self, steps: u64, entry: Number, path: &mut Path) -> Result<(), Memory>
+        ensures { OnOk result (path.new ≡ path.old ++ names_to steps self.now.state.entries entry) }
+    {
+        if steps == 0 {
+            return Ok(());
+        }
+        let Some(node) = entry_at(&self.nodes, entry) else {
+            return Ok(());
+        };
+        self.push_names(steps - 1, node.parent, path)?;
+        path.push(node.name.clone()?)
+    }
+
+    /// Whether an entry stands below a directory, at any depth.
+    pub fn is_below(&self, item: Number, dir: Number) -> bool
+        requires item { IsTrue (is_live self.now.state.entries item) }
+        requires dir { IsTrue (is_live self.now.state.entries dir) }
+        ensures { result ≡ extends (path_of self.now.state item) (path_of self.now.state dir) }
+    {
+        self.valid();
+        self.leads_up(PATH_LIMIT, item, dir)
+    }
+
+    /// Whether so many steps over parents, or fewer, lead from an entry to a directory.
+    fn leads_up(&self, steps: u64, item: Number, dir: Number) -> bool
+        ensures { result ≡ stands_below steps self.now.state.entries item dir }
+    {
+        if steps == 0 {
+            return false;
+        }
+        match entry_at(&self.nodes, item) {
+            Some(node) => node.parent == dir || self.leads_up(steps - 1, node.parent, dir),
+            None => false,
+        }
+    }
+}

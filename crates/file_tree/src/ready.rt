@@ -1,0 +1,50 @@
+//! What a tree is ready for. A change that may want memory is prepared first, and then made without any.
+use hac_model::{Body, Name, Number};
+
+/// The change that was prepared last, and what it will put into the tree.
+#[derive(Clone, Debug, Drop, PartialEq, Eq)]
+pub enum Ready {
+    /// Nothing was prepared, or the tree has changed since.
+    Nothing,
+    /// An entry is to come.
+    Add {
+        /// The directory in which it will stand.
+        dir: Number,
+        /// What it will be.
+        body: Body,
+    },
+    /// An entry is to go elsewhere.
+    Move {
+        /// The directory to which it will go.
+        dir: Number,
+        /// The name that it will have there.
+        name: Name,
+    },
+    /// A part of an entry is to be replaced.
+    Edit {
+        /// The entry.
+        entry: Number,
+        /// What has the new part.
+        body: Body,
+    },
+}
+
+/// The leave to make a change that was prepared, while the tree is ready for it.
+#[derive(Clone, Copy, Debug, PartialEq, Eq)]
+pub enum Room {
+    /// For a new entry.
+    Add {
+        /// The directory in which it will stand.
+        dir: Number,
+    },
+    /// For an entry that moves.
+    Move {
+        /// The directory to which it will go.
+        dir: Number,
+    },
+    /// For a new part of an entry.
+    Edit {
+        /// The entry.
+        entry: Number,
+    },
+}

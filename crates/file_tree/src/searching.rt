@@ -1,0 +1,55 @@
+//! Names among numbers that are in order of their names.
+ghost use Rattle.std.specs.Prelude.{◌≡◌, ◌≤◌, ◌<◌, ◌++◌, ◌∷◌, [], ℕ, List, length, insert, not, take};
+ghost use Rattle.std.specs.List.{prefix_len};
+ghost use Rattle.hac_model.specs.Listing.{is_before};
+ghost use Rattle.file_tree.specs.Nodes.{name_of};
+ghost use Rattle.file_tree.specs.Search.{named_in, past_in, rank_in};
+ghost use Rattle.file_tree.specs.Shape.{Rises};
+
+use crate::nodes::{Nodes, name_at};
+use hac_model::Number;
+use std::cmp::Ordering;
+
+fn is_before(name: &[u8], other: &[u8]) -> bool
+    ensures { result ≡ is_before name.now other.now }
+{
+    matches!(name.cmp(other), Ordering::Less)
+}
+
+/// How many of the numbers have names before this one.
+pub(crate) fn rank(nodes: &Nodes, numbers: &[Number], name: &[u8]) -> usize
+    ensures within { result ≤ length numbers.now }
+    ensures rank { Rises (name_of nodes.now) numbers.now → result ≡ rank_in (name_of nodes.now) name.now numbers.now }
+{
+    numbers.partition_point(|number| is_before(name_at(nodes, *number), name))
+}
+
+/// The place of the first of the numbers whose name is behind this one.
+pub(crate) fn first_past(nodes: &Nodes, numbers: &[Number], name: &[u8]) -> usize
+    ensures within { result ≤ length numbers.now }
+    ensures past { Rises (name_of nodes.now) numbers.now → result ≡ past_in (name_of nodes.now) name.now numbers.now }
+{
+    numbers.partition_point(|number| !is_before(name, name_at(nodes, *number)))
+}
+
+/// The one of the numbers that has the name.
+pub(crate) fn named(nodes: &Nodes, numbers: &[Number], name: &[u8]) -> Option<Number>
+    ensures { Rises (name_of nodes.now) numbers.now → result ≡ named_in (name_of nodes.now) numbers.now name.now }
+{
+    let number = *numbers.get(rank(nodes, numbers, name))?;
+    if name_at(nodes, number) == name {
+        Some(number)
+    } else {
+        None
+    }
+}
+
+/// Brings the last of the numbers, which is to have the name, into its place.
+pub(crate) fn order_last(nodes: &Nodes, numbers: &mut Vec<Number>, name: &[u8])
+    requires { 0 < length numbers.old.items }
+    ensures { (front : List ℕ) (last : ℕ) → numbers.old.items ≡ front ++ last ∷ [] → Rises (name_of nodes.now) front → numbers.new.items ≡ insert front (rank_in (name_of nodes.now) name.now front) last }
+{
+    let last = numbers.len() - 1;
+    let place = rank(nodes, &numbers[..last], name);
+    numbers[place..].rotate_right(1);
+}

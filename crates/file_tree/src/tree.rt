@@ -1,0 +1,220 @@
+//! The tree itself, and what it tells of its entries.
+ghost use Rattle.std.specs.Prelude.{◌≡◌, ◌<◌, ℕ, Some, None, IfOk, IsTrue, IsSome, Option, false};
+ghost use Rattle.std.specs.Option.{option_copied, option_map, option_map_or, option_and_then};
+ghost use Rattle.hac_model.specs.Links.{parent_of, query_at, shown_of};
+ghost use Rattle.hac_model.specs.Listing.{children};
+ghost use Rattle.hac_model.specs.Tree.{body_at, child, empty, entry_at, is_dirty, is_file_at, text_in};
+ghost use Rattle.hac_model.specs.Valid.{IsValid};
+ghost use Rattle.file_tree.specs.Answers.{kind_at, kind_in, next_from, next_in};
+ghost use Rattle.file_tree.specs.Nodes.{body_of};
+
+use crate::nodes::{self, Content, Nodes, children_at};
+use crate::ready::Ready;
+use crate::searching::{first_past, named};
+use hac_model::{Memory, Name, Number, Query};
+use indexmap::IndexMap;
+use std::alloc::Global;
+use std::marker::Model;
+
+/// The tree, seen as its state and as what it is ready for.
+#[derive(Drop)]
+pub struct Tree {
+    pub(crate) alloc: Global,
+    // The number that the next entry takes.
+    pub(crate) next: Number,
+    // The root, the entries, and what was prepared.
+    pub(crate) nodes: Nodes,
+    // The list of children that was prepared.
+    pub(crate) spare: Vec<Number>,
+    pub(crate) ready: Ready,
+}
+
+impl Model for Tree {
+    ghost use Rattle.file_tree.specs.Seen.{Seen, seen_code};
+
+    ghost Value = { Seen };
+
+    ghost coded = { seen_code };
+
+    ghost use Rattle.file_tree.specs.Shape.{seen_of, IsShaped};
+
+    ghost view = { seen_of };
+
+    ghost invariant = { IsShaped };
+}
+
+/// What kind of thing stands under a number.
+#[derive(Clone, Copy, Debug, PartialEq, Eq)]
+pub enum EntryKind {
+    /// A file.
+    File,
+    /// A plain directory.
+    Dir,
+    /// A symbolic link.
+    Symlink,
+    /// A directory with a query.
+    Semantic,
+    /// A directory that stands for another collection.
+    Mount,
+    /// What stands in a mount.
+    Document,
+}
+
+impl Tree {
+    /// The root alone.
+    pub fn new(alloc: Global) -> Result<Tree, Memory>
+        ensures { IfOk result (λ tree. tree ≡ record { state = empty; ready = Ready.Nothing }) }
+    {
+        let mut nodes = IndexMap::new(alloc);
+        nodes::prepare(alloc, &mut nodes, Number::ROOT)?;
+        Ok(Tree {
+            alloc,
+            next: Number::new(1),
+            nodes,
+            spare: Vec::new(alloc),
+            ready: Ready::Nothing,
+        })
+    }
+
+    /// The number that the next entry takes.
+    pub fn next_number(&self) -> Number
+        ensures number { result ≡ self.now.state.next }
+        ensures valid { IsValid self.now.state }
+    {
+        self.next
+    }
+
+    /// What a tree keeps: its state is valid.
+    pub(crate) fn valid(&self)
+        ensures { IsValid self.now.state }
+    {
+        let _next = self.next;
+    }
+
+    /// What a directory has under a name.
+    pub fn child(&self, dir: Number, name: &Name) -> Option<Number>
+        ensures { result ≡ child self.now.state.entries dir name.now }
+    {
+        named(&self.nodes, children_at(&self.nodes, dir), name.as_bytes())
+    }
+
+    /// The directory in which an entry stands. The root stands in itself.
+    pub fn parent(&self, entry: Number) -> Number
+        ensures { result ≡ parent_of self.now.state entry }
+    {
+        match nodes::entry_at(&self.nodes, entry) {
+            Some(node) => node.parent,
+            None => Number::ROOT,
+        }
+    }
+
+    /// What kind of thing an entry is. The root is a plain directory.
+    pub fn kind(&self, entry: Number) -> EntryKind
+        ensures { result ≡ kind_at self.now.state.entries entry }
+    {
+        match self.content(entry) {
+            Some(content) => kind_in(content),
+            None => EntryKind::Dir,
+        }
+    }
+
+    /// The text of a file.
+    pub fn text(&self, file: Number) -> &[u8]
+        requires { IsTrue (is_file_at self.now.state.entries file) }
+        ensures { option_and_then text_in (body_at self.now.state.entries file) ≡ Some result.now }
+    {
+        match self.content(file) {
+            Some(Content::File { text, .. }) => text.as_slice(),
+            Some(Content::Dir | Content::Semantic { .. }) | None => unreachable!(),
+        }
+    }
+
+    /// The text of a file as it was last indexed, if it ever was.
+    pub fn shown(&self, file: Number) -> Option<&[u8]>
+        ensures { option_copied result ≡ shown_of self.now.state file }
+    {
+        self.content(file)?.shown()
+    }
+
+    /// Whether a file was made or written since it was last indexed.
+    pub fn dirty(&self, file: Number) -> bool
+        ensures { result ≡ option_map_or is_dirty (body_at self.now.state.entries file) false }
+    {
+        match self.content(file) {
+            Some(content) => content.is_dirty(),
+            None => false,
+        }
+    }
+
+    /// The query of a directory, where it has one.
+    pub fn query(&self, dir: Number) -> Option<&Query>
+        ensures { option_copied result ≡ query_at self.now.state dir }
+    {
+        self.content(dir)?.query()
+    }
+
+    /// Whether a file has the number.
+    pub(crate) fn is_file(&self, number: Number) -> bool
+        ensures { result ≡ is_file_at self.now.state.entries number }
+    {
+        match self.content(number) {
+            Some(content) => matches!(content, Content::File { .. }),
+            None => false,
+        }
+    }
+
+    fn content(&self, entry: Number) -> Option<&Content>
+        ensures { option_map body_of (option_copied result) ≡ body_at self.now.state.entries entry }
+    {
+        match nodes::entry_at(&self.nodes, entry) {
+            Some(node) => Some(&node.content),
+            None => None,
+        }
+    }
+
+    /// The name of an entry.
+    pub fn name_of(&self, entry: Number) -> &Name
+        requires { IsSome (entry_at self.now.state.entries entry) }
+        ensures { option_map (λ entry. entry.name) (entry_at self.now.state.entries entry) ≡ Some result.now }
+    {
+        match nodes::entry_at(&self.nodes, entry) {
+            Some(node) => &node.name,
+            None => unreachable!(),
+        }
+    }
+
+    /// What stands next in a directory, in byte order of names: the first of all, or the first behind a name.
+    pub fn next_child(&self, dir: Number, after: Option<&Name>) -> Option<Number>
+        ensures { result ≡ next_in (children self.now.state dir) (option_copied after.entry) }
+    {
+        let numbers = children_at(&self.nodes, dir);
+        let place = match after {
+            Some(name) => first_past(&self.nodes, numbers, name.as_bytes()),
+            None => 0,
+        };
+        numbers.get(place).copied()
+    }
+
+    /// The first entry, in order of number, whose number isn't below the one given.
+    pub fn next_entry(&self, from: Number) -> Option<Number>
+        ensures { result ≡ next_from self.now.state.entries from }
+    {
+        for number in from.get()..self.next.get() {
+            let entry = Number::new(number);
+            if nodes::entry_at(&self.nodes, entry).is_some() {
+                return Some(entry);
+            }
+        }
+        None
+    }
+}
+
+fn kind_in(content: &Content) -> EntryKind
+    ensures { result ≡ kind_in (body_of content.now) }
+{
+    match content {
+        Content::File { .. } => EntryKind::File,
+        Content::Dir => EntryKind::Dir,
+        Content::Semantic { .. } => EntryKind::Semantic,
+    }
+}

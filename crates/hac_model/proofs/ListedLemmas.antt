@@ -1,0 +1,97 @@
+-- What a listing needs of the links: which items they are, and by what each is linked.
+use Rattle.std.proofs.Common.{◌≡◌, ℕ, Bool, true, false, cond, List, [], ◌∷◌, refl, ap, sym, ◌∙◌, eq-eqb}
+use Rattle.std.specs.Prelude.{◌&&◌, ◌||◌, ◌==◌, Some, map, filter}
+use Rattle.std.specs.List.{list_any}
+use Rattle.std.specs.Option.{option_map, option_map_or}
+use Rattle.std.proofs.lemmas.Bool.{eqb-true}
+use Rattle.hac_model.specs.Depends.{IsAcyclic}
+use Rattle.hac_model.specs.Links.{is_semantic, passes, column, links, items, round}
+use Rattle.hac_model.specs.Tree.{entry_at, is_file, is_file_at}
+use Rattle.hac_model.specs.declared.states.Entry.{Entry}
+use Rattle.hac_model.specs.declared.states.State.{State}
+use Rattle.hac_model.proofs.LinkLemmas.{links-fixed}
+
+abbrev pub has : List ℕ → ℕ → Bool
+has xs x = list_any (λ number. number == x) xs
+
+-- what is kept was there and passes
+has-filter : (p : ℕ → Bool) (xs : List ℕ) (x : ℕ) → has (filter p xs) x ≡ (p x && has xs x)
+has-filter p [] x = elim (p x) as (λ b. false ≡ (b && false)) [ true ↦ refl | false ↦ refl ]
+has-filter p (y ∷ xs) x =
+    elim (p y) as (λ b. p y ≡ b → has (cond b (y ∷ filter p xs) (filter p xs)) x ≡ (p x && (y == x || has xs x))) [
+      | true ↦ (λ passes.
+          elim (y == x) as (λ t. (y == x) ≡ t → (t || has (filter p xs) x) ≡ (p x && (t || has xs x))) [
+            | true ↦ (λ same. let is : p x ≡ true = ap p (sym (eqb-true y x same)) ∙ passes in ap (λ (b : Bool). b && true) (sym is))
+            | false ↦ (λ other. has-filter p xs x)
+          ] refl)
+      | false ↦ (λ fails.
+          elim (y == x) as (λ t. (y == x) ≡ t → has (filter p xs) x ≡ (p x && (t || has xs x))) [
+            | true ↦ (λ same. let not_it : p x ≡ false = ap p (sym (eqb-true y x same)) ∙ fails in has-filter p xs x ∙ ap (λ (b : Bool). b && has xs x) not_it ∙ ap (λ (b : Bool). b && true) (sym not_it))
+            | false ↦ (λ other. has-filter p xs x)
+          ] refl)
+    ] refl
+
+-- conditions that agree on the members keep the same
+filter-agree : (p q : ℕ → Bool) (xs : List ℕ) → ((x : ℕ) → has xs x ≡ true → p x ≡ q x) → filter p xs ≡ filter q xs
+filter-agree p q [] same = refl
+filter-agree p q (y ∷ xs) same =
+    let here : p y ≡ q y = same y (ap (λ (b : Bool). b || has xs y) (eq-eqb y y refl)) in
+    let rest : filter p xs ≡ filter q xs = filter-agree p q xs (λ x inside. same x (or-right (y == x) (has xs x) inside)) in
+    ap (λ (b : Bool). cond b (y ∷ filter p xs) (filter p xs)) here ∙ ap (λ (zs : List ℕ). cond (q y) (y ∷ zs) zs) rest
+  where
+    or-right : (a b : Bool) → b ≡ true → (a || b) ≡ true
+    or-right true b h = refl
+    or-right false b h = h
+
+filter-kept : (q : ℕ → Bool) (xs : List ℕ) → filter (λ x. has (filter q xs) x) xs ≡ filter q xs
+filter-kept q xs = filter-agree (λ x. has (filter q xs) x) q xs (λ x inside. has-filter q xs x ∙ ap (λ (b : Bool). q x && b) inside ∙ and-true (q x))
+  where
+    and-true : (b : Bool) → (b && true) ≡ b
+    and-true true = refl
+    and-true false = refl
+
+filter-none : (xs : List ℕ) → filter (λ x. false) xs ≡ []
+filter-none [] = refl
+filter-none (x ∷ xs) = filter-none xs
+
+-- the links of a directory are the items that are linked in it
+pub links-listed : (s : State) (dir : ℕ) → IsAcyclic s → links s dir ≡ filter (λ item. column (links s) item dir) (items s)
+links-listed s dir acyclic =
+    let q : ℕ → Bool = λ item. passes s (column (links s) item) dir item in
+    let fixed : round s (links s) dir ≡ links s dir = ap (λ (known : ℕ → List ℕ). known dir) (links-fixed s acyclic) in
+    let kept : filter (λ item. has (round s (links s) dir) item) (items s) ≡ round s (links s) dir =
+    elim (is_semantic s dir) as (λ b. filter (λ item. has (cond b (filter q (items s)) []) item) (items s) ≡ cond b (filter q (items s)) []) [
+      | true ↦ filter-kept q (items s)
+      | false ↦ filter-none (items s)
+    ] in
+    sym fixed ∙ sym kept ∙ ap (λ (found : List ℕ). filter (λ item. has found item) (items s)) fixed
+
+-- an item is linked in a semantic directory just where it passes there
+pub linked-item : (s : State) (item dir : ℕ) → IsAcyclic s → has (items s) item ≡ true → column (links s) item dir ≡ (is_semantic s dir && passes s (column (links s) item) dir item)
+linked-item s item dir acyclic inside =
+    let q : ℕ → Bool = λ item. passes s (column (links s) item) dir item in
+    let fixed : links s dir ≡ round s (links s) dir = ap (λ (known : ℕ → List ℕ). known dir) (sym (links-fixed s acyclic)) in
+    ap (λ (found : List ℕ). has found item) fixed
+    ∙ (elim (is_semantic s dir) as (λ b. has (cond b (filter q (items s)) []) item ≡ (b && q item)) [
+      | true ↦ has-filter q (items s) item ∙ ap (λ (b : Bool). q item && b) inside ∙ and-true (q item)
+      | false ↦ refl
+    ])
+  where
+    and-true : (b : Bool) → (b && true) ≡ b
+    and-true true = refl
+    and-true false = refl
+
+-- a file is an item
+pub file-item : (s : State) (item : ℕ) → is_file_at s.entries item ≡ true → has (items s) item ≡ true
+file-item s item file = in_entries s.entries item file
+  where
+    in_entries : (es : List Entry) (item : ℕ) → is_file_at es item ≡ true → has (map (λ (e : Entry). e.number) (filter (λ (e : Entry). is_file e.body) es)) item ≡ true
+    in_entries [] item h = absurd cc
+    in_entries (e ∷ es) item h =
+        elim (e.number == item) as (λ b. (e.number == item) ≡ b → option_map_or is_file (option_map (λ (e : Entry). e.body) (cond b (Some e) (entry_at es item))) false ≡ true → has (map (λ (e : Entry). e.number) (cond (is_file e.body) (e ∷ filter (λ (e : Entry). is_file e.body) es) (filter (λ (e : Entry). is_file e.body) es))) item ≡ true) [
+          | true ↦ (λ same h. ap (λ (t : Bool). has (map (λ (e : Entry). e.number) (cond t (e ∷ filter (λ (e : Entry). is_file e.body) es) (filter (λ (e : Entry). is_file e.body) es))) item) h ∙ ap (λ (t : Bool). t || has (map (λ (e : Entry). e.number) (filter (λ (e : Entry). is_file e.body) es)) item) same)
+          | false ↦ (λ other h. elim (is_file e.body) as (λ t. has (map (λ (e : Entry). e.number) (cond t (e ∷ filter (λ (e : Entry). is_file e.body) es) (filter (λ (e : Entry). is_file e.body) es))) item ≡ true) [
+            | true ↦ ap (λ (t : Bool). t || has (map (λ (e : Entry). e.number) (filter (λ (e : Entry). is_file e.body) es)) item) other ∙ in_entries es item h
+            | false ↦ in_entries es item h
+          ])
+        ] refl h

@@ -1,0 +1,202 @@
+-- Where look-ups lead.
+use Rattle.std.proofs.Common.{◌≡◌, ℕ, zero, suc, ◌-◌, Bool, true, false, cond, List, [], ◌∷◌, ◌++◌, subst, refl, ap, sym, ◌∙◌, eq-eqb, inl, inr, append_assoc}
+use Rattle.std.specs.Prelude.{◌==◌, ◌&&◌, ◌||◌, not, take, Option, Some, None, Result, Ok, Err, is_some, is_none}
+use Rattle.std.specs.Option.{option_map, option_map_or}
+use Rattle.std.specs.Str.{bytes_eq}
+use Rattle.std.proofs.lemmas.Bool.{and_from, and_parts}
+use Rattle.std.proofs.lemmas.List.{append-nil}
+use Rattle.hac_model.specs.Events.{is_free}
+use Rattle.hac_model.specs.Looks.{has_names, look, walk}
+use Rattle.hac_model.specs.Names.{is_name}
+use Rattle.hac_model.specs.Paths.{are_names, join, without_last}
+use Rattle.hac_model.specs.Refusals.{place}
+use Rattle.hac_model.specs.Tree.{child, entry_at, is_directory, is_directory_at, is_file, is_file_at, is_made_directory, path_of}
+use Rattle.hac_model.specs.Valid.{IsValid}
+use Rattle.hac_model.specs.declared.paths.PathWord.{PathWord}
+use Rattle.hac_model.specs.declared.places.Place.{Place}
+use Rattle.hac_model.specs.declared.places.Place.TheVariants.{There, Free}
+use Rattle.hac_model.specs.declared.replies.Refusal.{Refusal}
+use Rattle.hac_model.specs.declared.replies.Refusal.TheVariants.{NoPath, NotDir}
+use Rattle.hac_model.specs.declared.states.Body.{Body}
+use Rattle.hac_model.specs.declared.states.Body.TheVariants.{File, Dir, Semantic}
+use Rattle.hac_model.specs.declared.states.Entry.{Entry}
+use Rattle.hac_model.specs.declared.states.State.{State}
+use Rattle.hac_model.proofs.PathLemmas.{path_of-parent, path_of-root}
+use Rattle.hac_model.proofs.TreeLemmas.{Lives, child-entry, entry_at-cases}
+
+found-more : (b : Bool) (e : Entry) (o : Option Entry) → is_some o ≡ true → is_some (cond b (Some e) o) ≡ true
+found-more true e o h = refl
+found-more false e o h = h
+
+-- what a directory has under a name has an entry
+child-some : (es : List Entry) (dir : ℕ) (name : List ℕ) (n : ℕ) → child es dir name ≡ Some n → is_some (entry_at es n) ≡ true
+child-some [] dir name n h = absurd cc
+child-some (e ∷ es) dir name n h =
+    elim (e.parent == dir && bytes_eq e.name name) as (λ b. cond b (Some e.number) (child es dir name) ≡ Some n → is_some (entry_at (e ∷ es) n) ≡ true) [
+      | true ↦ (λ h. let same : e.number ≡ n = cc in ap (λ (b : Bool). is_some (cond b (Some e) (entry_at es n))) (eq-eqb e.number n same))
+      | false ↦ (λ h. found-more (e.number == n) e (entry_at es n) (child-some es dir name n h))
+    ] h
+
+pub child-lives : (es : List Entry) (dir : ℕ) (name : List ℕ) (n : ℕ) → child es dir name ≡ Some n → Lives es n
+child-lives es dir name n h = elim (entry_at-cases es n) [
+  | inl none ↦ (let never : false ≡ true = ap (λ (o : Option Entry). is_some o) (sym none) ∙ child-some es dir name n h in absurd cc)
+  | inr found ↦ inr found
+]
+
+kind-cases : (body : Body) → is_file body ≡ not (is_directory body)
+kind-cases (File text dirty shown) = refl
+kind-cases Dir = refl
+kind-cases (Semantic query) = refl
+
+-- what lives is a file or a directory
+pub file-or_directory : (es : List Entry) (n : ℕ) → Lives es n → is_directory_at es n ≡ false → is_file_at es n ≡ true
+file-or_directory es n (inl root) h = let never : true ≡ false = ap (λ (k : ℕ). is_directory_at es k) (sym root) ∙ h in absurd cc
+file-or_directory es n (inr found) h =
+    elim (n == 0) as (λ b. (b || is_made_directory es n) ≡ false → is_file_at es n ≡ true) [ true ↦ (λ h. absurd cc) | false ↦ (λ h. made h) ] h
+  where
+    made : is_made_directory es n ≡ false → is_file_at es n ≡ true
+    made h =
+        let other : is_directory found.0.body ≡ false = ap (λ (o : Option Entry). option_map_or is_directory (option_map (λ (e : Entry). e.body) o) false) (sym found.1) ∙ h in
+        ap (λ (o : Option Entry). option_map_or is_file (option_map (λ (e : Entry). e.body) o) false) found.1 ∙ kind-cases found.0.body ∙ ap not other
+
+pub directory-or_file : (es : List Entry) (n : ℕ) → Lives es n → is_file_at es n ≡ false → is_directory_at es n ≡ true
+directory-or_file es n lives h =
+    elim (is_directory_at es n) as (λ b. is_directory_at es n ≡ b → b ≡ true) [
+      | true ↦ (λ is. refl)
+      | false ↦ (λ other. let never : true ≡ false = sym (file-or_directory es n lives other) ∙ h in absurd cc)
+    ] refl
+
+-- where a name that isn't missing leads on
+on : List Entry → List (List ℕ) → List (List ℕ) → ℕ → Result Place Refusal
+on es walked names number = cond (has_names names && is_file_at es number) (Err (NotDir walked)) (walk es number walked names)
+
+-- what a missing name is
+missing : ℕ → List ℕ → List (List ℕ) → List (List ℕ) → Result Place Refusal
+missing dir name walked names = cond (has_names names) (Err (NoPath walked)) (Ok (Free dir name))
+
+walk-name : (es : List Entry) (dir : ℕ) (walked : List (List ℕ)) (name : List ℕ) (names : List (List ℕ)) → walk es dir walked (name ∷ names) ≡ option_map_or (on es (walked ++ name ∷ []) names) (child es dir name) (missing dir name (walked ++ name ∷ []) names)
+unfolding on missing
+walk-name es dir walked name names = refl
+
+missing-there : (dir : ℕ) (name : List ℕ) (walked names : List (List ℕ)) (n : ℕ) → missing dir name walked names ≡ Ok (There n) → ⊥
+unfolding missing
+missing-there dir name walked names n h = elim (has_names names) as (λ b. cond b (Err (NoPath walked)) (Ok (Free dir name)) ≡ Ok (There n) → ⊥) [ true ↦ (λ h. cc) | false ↦ (λ h. cc) ] h
+
+missing-free : (dir : ℕ) (name : List ℕ) (walked names : List (List ℕ)) (d : ℕ) (x : List ℕ) → missing dir name walked names ≡ Ok (Free d x) → (dir ≡ d) × (name ≡ x)
+unfolding missing
+missing-free dir name walked names d x h = elim (has_names names) as (λ b. cond b (Err (NoPath walked)) (Ok (Free dir name)) ≡ Ok (Free d x) → (dir ≡ d) × (name ≡ x)) [
+  | true ↦ (λ h. absurd cc)
+  | false ↦ (λ h. let dirs : dir ≡ d = cc in let names : name ≡ x = cc in (dirs, names))
+] h
+
+on-goes : (es : List Entry) (walked names : List (List ℕ)) (number : ℕ) (p : Place) → on es walked names number ≡ Ok p → ((has_names names && is_file_at es number) ≡ false) × (walk es number walked names ≡ Ok p)
+unfolding on
+on-goes es walked names number p h = elim (has_names names && is_file_at es number) as (λ b. cond b (Err (NotDir walked)) (walk es number walked names) ≡ Ok p → (b ≡ false) × (walk es number walked names ≡ Ok p)) [
+  | true ↦ (λ h. absurd cc)
+  | false ↦ (λ h. (refl, h))
+] h
+
+-- what a walk leads to lives
+walk-lives : (es : List Entry) (dir : ℕ) (walked names : List (List ℕ)) (n : ℕ) → Lives es dir → walk es dir walked names ≡ Ok (There n) → Lives es n
+walk-lives es dir walked [] n lives h = let same : dir ≡ n = cc in subst (λ (k : ℕ). Lives es k) same lives
+walk-lives es dir walked (name ∷ names) n lives h =
+    elim (child es dir name) as (λ o. child es dir name ≡ o → option_map_or (on es (walked ++ name ∷ []) names) o (missing dir name (walked ++ name ∷ []) names) ≡ Ok (There n) → Lives es n) [
+      | None ↦ (λ found h. absurd (missing-there dir name (walked ++ name ∷ []) names n h))
+      | Some m ↦ (λ found h. walk-lives es m (walked ++ name ∷ []) names n (child-lives es dir name m found) (on-goes es (walked ++ name ∷ []) names m (There n) h).1)
+    ] refl (sym (walk-name es dir walked name names) ∙ h)
+
+-- a place is free where a directory has nothing of a name
+pub record IsFreePlace (es : List Entry) (dir : ℕ) (name : List ℕ) : Type 0 where
+  pub directory : is_directory_at es dir ≡ true
+  pub named : is_name name ≡ true
+  pub empty : child es dir name ≡ None
+
+-- a walk from a directory over names stops at a directory that has nothing of the last name
+walk-free : (es : List Entry) (dir : ℕ) (walked names : List (List ℕ)) (d : ℕ) (x : List ℕ) → is_directory_at es dir ≡ true → are_names names ≡ true → walk es dir walked names ≡ Ok (Free d x) → IsFreePlace es d x
+walk-free es dir walked [] d x directory named h = absurd cc
+walk-free es dir walked (name ∷ names) d x directory named h =
+    let parts = and_parts (is_name name) (are_names names) named in
+    elim (child es dir name) as (λ o. child es dir name ≡ o → option_map_or (on es (walked ++ name ∷ []) names) o (missing dir name (walked ++ name ∷ []) names) ≡ Ok (Free d x) → IsFreePlace es d x) [
+      | None ↦ (λ found h.
+          let same = missing-free dir name (walked ++ name ∷ []) names d x h in
+          subst (λ (y : List ℕ). IsFreePlace es d y) same.1 (subst (λ (k : ℕ). IsFreePlace es k name) same.0 (record { directory = directory; named = parts.0; empty = found })))
+      | Some m ↦ (λ found h.
+          let goes = on-goes es (walked ++ name ∷ []) names m (Free d x) h in
+          further names m (child-lives es dir name m found) goes.0 goes.1 (λ directory. walk-free es m (walked ++ name ∷ []) names d x directory parts.1 goes.1))
+    ] refl (sym (walk-name es dir walked name names) ∙ h)
+  where
+    further : (rest : List (List ℕ)) (m : ℕ) → Lives es m → (has_names rest && is_file_at es m) ≡ false → walk es m (walked ++ name ∷ []) rest ≡ Ok (Free d x) → (is_directory_at es m ≡ true → IsFreePlace es d x) → IsFreePlace es d x
+    further [] m lives goes h on_from = absurd cc
+    further (y ∷ rest) m lives goes h on_from = on_from (directory-or_file es m lives goes)
+
+-- from the root no name is above
+take-nothing : (k : ℕ) → take {A = List ℕ} k [] ≡ []
+take-nothing zero = refl
+take-nothing (suc k) = refl
+
+pub join-root : (word : PathWord) → join [] word ≡ word.names
+join-root word = elim word.absolute as (λ b. cond b [] (without_last word.ups []) ++ word.names ≡ word.names) [
+  | true ↦ refl
+  | false ↦ ap (λ (front : List (List ℕ)). front ++ word.names) (take-nothing (0 - word.ups))
+]
+
+-- what a path word leads to lives
+pub place-lives : (s : State) (word : PathWord) (n : ℕ) → place s word ≡ Ok (There n) → Lives s.entries n
+place-lives s word n h = walk-lives s.entries 0 [] (join [] word) n (inl refl) h
+
+-- what it leads to and is missing is a free place
+pub place-free : (s : State) (word : PathWord) (dir : ℕ) (name : List ℕ) → are_names word.names ≡ true → place s word ≡ Ok (Free dir name) → IsFreePlace s.entries dir name
+place-free s word dir name named h = walk-free s.entries 0 [] (join [] word) dir name refl (ap are_names (join-root word) ∙ named) h
+
+pub free-is : (s : State) (dir : ℕ) (name : List ℕ) → IsFreePlace s.entries dir name → is_free s dir name ≡ true
+free-is s dir name h =
+    and_from (is_directory_at s.entries dir && is_name name) (is_none (child s.entries dir name)) (and_from (is_directory_at s.entries dir) (is_name name) h.directory h.named) (ap (λ (o : Option ℕ). is_none o) h.empty)
+
+-- In a valid state what is found has the path that was looked up.
+
+child-path : (s : State) (dir m : ℕ) (name : List ℕ) → IsValid s → child s.entries dir name ≡ Some m → path_of s m ≡ path_of s dir ++ name ∷ []
+child-path s dir m name h found =
+    let there = child-entry 0 s.entries s.next dir m name h.numbers found in
+    path_of-parent s m there.0 h there.1
+    ∙ ap (λ (d : ℕ). path_of s d ++ there.0.name ∷ []) there.2
+    ∙ ap (λ (x : List ℕ). path_of s dir ++ x ∷ []) there.3
+
+walk-found : (s : State) (dir : ℕ) (walked names : List (List ℕ)) (n : ℕ) → IsValid s → path_of s dir ≡ walked → walk s.entries dir walked names ≡ Ok (There n) → path_of s n ≡ walked ++ names
+walk-found s dir walked [] n h path leads = let same : dir ≡ n = cc in ap (λ (k : ℕ). path_of s k) (sym same) ∙ path ∙ sym (append-nil walked)
+walk-found s dir walked (name ∷ names) n h path leads =
+    elim (child s.entries dir name) as (λ o. child s.entries dir name ≡ o → option_map_or (on s.entries (walked ++ name ∷ []) names) o (missing dir name (walked ++ name ∷ []) names) ≡ Ok (There n) → path_of s n ≡ walked ++ name ∷ names) [
+      | None ↦ (λ found leads. absurd (missing-there dir name (walked ++ name ∷ []) names n leads))
+      | Some m ↦ (λ found leads.
+          let here : path_of s m ≡ walked ++ name ∷ [] = child-path s dir m name h found ∙ ap (λ (p : List (List ℕ)). p ++ name ∷ []) path in
+          walk-found s m (walked ++ name ∷ []) names n h here (on-goes s.entries (walked ++ name ∷ []) names m (There n) leads).1
+          ∙ append_assoc walked (name ∷ []) names)
+    ] refl (sym (walk-name s.entries dir walked name names) ∙ leads)
+
+missing-last : (dir : ℕ) (name : List ℕ) (walked names : List (List ℕ)) (d : ℕ) (x : List ℕ) → missing dir name walked names ≡ Ok (Free d x) → (dir ≡ d) × (name ≡ x) × (names ≡ [])
+unfolding missing
+missing-last dir name walked [] d x leads = let dirs : dir ≡ d = cc in let same : name ≡ x = cc in (dirs, same, refl)
+missing-last dir name walked (y ∷ names) d x leads = absurd cc
+
+walk-missing : (s : State) (dir : ℕ) (walked names : List (List ℕ)) (d : ℕ) (x : List ℕ) → IsValid s → path_of s dir ≡ walked → walk s.entries dir walked names ≡ Ok (Free d x) → path_of s d ++ x ∷ [] ≡ walked ++ names
+walk-missing s dir walked [] d x h path leads = absurd cc
+walk-missing s dir walked (name ∷ names) d x h path leads =
+    elim (child s.entries dir name) as (λ o. child s.entries dir name ≡ o → option_map_or (on s.entries (walked ++ name ∷ []) names) o (missing dir name (walked ++ name ∷ []) names) ≡ Ok (Free d x) → path_of s d ++ x ∷ [] ≡ walked ++ name ∷ names) [
+      | None ↦ (λ found leads.
+          let same = missing-last dir name (walked ++ name ∷ []) names d x leads in
+          ap (λ (k : ℕ). path_of s k ++ x ∷ []) (sym same.0)
+          ∙ ap (λ (y : List ℕ). path_of s dir ++ y ∷ []) (sym same.1)
+          ∙ ap (λ (p : List (List ℕ)). p ++ name ∷ []) path
+          ∙ ap (λ (rest : List (List ℕ)). walked ++ name ∷ rest) (sym same.2))
+      | Some m ↦ (λ found leads.
+          let here : path_of s m ≡ walked ++ name ∷ [] = child-path s dir m name h found ∙ ap (λ (p : List (List ℕ)). p ++ name ∷ []) path in
+          walk-missing s m (walked ++ name ∷ []) names d x h here (on-goes s.entries (walked ++ name ∷ []) names m (Free d x) leads).1
+          ∙ append_assoc walked (name ∷ []) names)
+    ] refl (sym (walk-name s.entries dir walked name names) ∙ leads)
+
+-- a path that leads to something is its path
+pub look-found : (s : State) (path : List (List ℕ)) (n : ℕ) → IsValid s → look s path ≡ Ok (There n) → path_of s n ≡ path
+look-found s path n h leads = walk-found s 0 [] path n h (path_of-root s h) leads
+
+-- one that leads to a free place is that of its directory with its name
+pub look-missing : (s : State) (path : List (List ℕ)) (dir : ℕ) (name : List ℕ) → IsValid s → look s path ≡ Ok (Free dir name) → path_of s dir ++ name ∷ [] ≡ path
+look-missing s path dir name h leads = walk-missing s 0 [] path dir name h (path_of-root s h) leads

@@ -1,0 +1,95 @@
+-- What a run takes up at a time: a line, and what came of the bytes that belong to it.
+use Rattle.std.specs.Prelude.{◌≡◌, ℕ, ◌<◌, ◌≤◌, Bool, true, false, ⊤, List, [], ◌∷◌, ◌++◌, length, drop, Option, None, Some, Err}
+use Rattle.std.specs.Option.{option_map, unwrap_or}
+use Rattle.hac_model.specs.Lines.{Item, item_of, put_length}
+use Rattle.hac_model.specs.Puts.{came}
+use Rattle.hac_model.specs.Script.{first_items, after_item, is_first_whole, whole}
+use Rattle.hac_model.specs.declared.limits.LimitWord.TheVariants as limit
+use Rattle.hac_model.specs.declared.limits.TheConstants.{SCRIPT_LIMIT}
+use Rattle.hac_model.specs.declared.putting.Taken.{Taken}
+use Rattle.hac_model.specs.declared.replies.Refusal.TheVariants.{Limit}
+use Rattle.shell_lang.specs.Pieces.{GoesOn}
+use Rattle.shell_lang.specs.Reading.{Reading}
+use Rattle.shell_lang.specs.declared.reading.Piece.{Piece}
+use Rattle.shell_lang.specs.declared.reading.Piece.TheVariants.{Blank, Bytes, LongLine, End, PastLimit}
+use Rattle.hac_top.specs.declared.taking.Turn.{Turn}
+
+-- the items of a piece of the script, told what came of the bytes that it asks for
+abbrev pub items_of_piece : Piece → Option Taken → List Item
+items_of_piece Blank taken = []
+items_of_piece (Bytes line) taken = item_of line taken ∷ []
+items_of_piece LongLine taken = Err (Limit limit.Line) ∷ []
+items_of_piece End taken = []
+items_of_piece PastLimit taken = []
+
+abbrev pub items_of_turn : Turn → List Item
+items_of_turn turn = items_of_piece turn.piece turn.taken
+
+-- how many bytes a piece asks for, where it is a line that takes bytes
+abbrev pub due_of_piece : Piece → Option ℕ
+due_of_piece Blank = None
+due_of_piece (Bytes line) = put_length line
+due_of_piece LongLine = None
+due_of_piece End = None
+due_of_piece PastLimit = None
+
+-- the turn is the first line of these bytes, which is whole where the stream goes on; then the rest is pending, and there
+-- is none where the stream has ended
+pub record GivesTurn (turn : Turn) (ended : Bool) (bytes rest : List ℕ) : Type 0 where
+  pub items : items_of_turn turn ≡ first_items bytes
+  pub some : 0 < length bytes
+  pub behind : rest ≡ after_item bytes
+  pub whole : ended ≡ false → is_first_whole bytes ≡ true
+  pub last : ended ≡ true → rest ≡ []
+
+abbrev pub GivesFrom : Option Turn → Bool → List ℕ → List ℕ → Type 0
+GivesFrom None ended bytes rest = (bytes ≡ []) × (rest ≡ [])
+GivesFrom (Some turn) ended bytes rest = GivesTurn turn ended bytes rest
+
+-- the same, where the source tells what it has left
+abbrev pub Gives : Option Turn → Bool → Option (List ℕ) → Option (List ℕ) → Type 0
+Gives turn ended None new = ⊤
+Gives turn ended (Some bytes) None = ⊥
+Gives turn ended (Some bytes) (Some rest) = GivesFrom turn ended bytes rest
+
+-- where the reader stands against the limit of a script
+abbrev pub Advances : Option Turn → Reading → Reading → Type 0
+Advances None old new = new.taken ≤ SCRIPT_LIMIT
+Advances (Some turn) old new = GoesOn old new
+
+-- of what stands behind a piece, the bytes that it asks for were taken: all, or as many as there are at the end
+pub record TakesDue (due : Option ℕ) (taken : Option Taken) (ended : Bool) (bytes rest : List ℕ) : Type 0 where
+  pub taken_is : taken ≡ option_map (λ count. came count bytes) due
+  pub behind : rest ≡ drop (unwrap_or due 0) bytes
+  pub all : ended ≡ false → unwrap_or due 0 ≤ length bytes
+
+abbrev pub TakesBehind : Option ℕ → Option Taken → Bool → Option (List ℕ) → Option (List ℕ) → Type 0
+TakesBehind due taken ended None new = ⊤
+TakesBehind due taken ended (Some bytes) None = ⊥
+TakesBehind due taken ended (Some bytes) (Some rest) = TakesDue due taken ended bytes rest
+
+-- not all bytes that a piece asks for came, and so many were taken beyond the limit of a script
+pub record LacksDue (due : Option ℕ) (beyond : ℕ) (bytes left : List ℕ) : Type 0 where
+  pub front : List ℕ
+  pub over : List ℕ
+  pub bytes_are : bytes ≡ front ++ (over ++ left)
+  pub over_is : length over ≡ beyond
+  pub short : length front < unwrap_or due 0
+
+abbrev pub Lacks : Option ℕ → ℕ → Option (List ℕ) → Option (List ℕ) → Type 0
+Lacks due beyond None left = ⊤
+Lacks due beyond (Some bytes) None = ⊥
+Lacks due beyond (Some bytes) (Some left) = LacksDue due beyond bytes left
+
+-- what was taken holds no whole line, and so many bytes of it lie beyond the limit of a script
+pub record CutsLine (beyond : ℕ) (bytes left : List ℕ) : Type 0 where
+  pub front : List ℕ
+  pub over : List ℕ
+  pub bytes_are : bytes ≡ front ++ (over ++ left)
+  pub over_is : length over ≡ beyond
+  pub none : whole front ≡ []
+
+abbrev pub Cuts : ℕ → Option (List ℕ) → Option (List ℕ) → Type 0
+Cuts beyond None left = ⊤
+Cuts beyond (Some bytes) None = ⊥
+Cuts beyond (Some bytes) (Some left) = CutsLine beyond bytes left

@@ -1,0 +1,61 @@
+-- How many bytes a `put` asks for, word by word.
+use Rattle.std.proofs.Common.{◌≡◌, ℕ, Bool, true, false, List, refl, ap, sym, ◌∙◌}
+use Rattle.std.specs.Prelude.{if◌then◌else◌, Option, Some, None, Result, Ok, Err}
+use Rattle.std.specs.List.{list_all}
+use Rattle.std.specs.Str.Parse.{digits_value}
+use Rattle.hac_model.specs.Answers.{◌>>=◌}
+use Rattle.hac_model.specs.Bytes.{is_space}
+use Rattle.hac_model.specs.LineWords.{first_word}
+use Rattle.hac_model.specs.Lines.{asked, is_put, put_length, put_words}
+use Rattle.hac_model.specs.Puts.{is_length}
+use Rattle.hac_model.specs.declared.replies.Refusal.{Refusal}
+use Rattle.hac_model.specs.declared.replies.Refusal.TheVariants.{BadLine}
+use Rattle.shell_lang.specs.RawWords.{IsRaw}
+use Rattle.shell_lang.proofs.RawLemmas.{raw-length, raw-number, raw-put}
+
+-- a line is a `put` where its first word, as it stands, is the name of that command
+pub named : (line raw word arguments : List ℕ) → IsRaw raw word → first_word line ≡ Ok (word, arguments) →
+    put_length line ≡ asked (if is_put raw then put_words arguments else Err BadLine)
+named line raw word arguments stands first =
+    ap (λ (first : Result (List ℕ × List ℕ) Refusal). asked (first >>= λ name. if is_put name.0 then put_words name.1 else Err BadLine)) first
+    ∙ ap (λ (t : Bool). asked (if t then put_words arguments else Err BadLine)) (sym (raw-put raw word stands))
+
+-- what is asked for behind the path, by the word that follows it
+abbrev pub behind_path : List ℕ → Result (List ℕ × List ℕ) Refusal → Option ℕ
+behind_path path second =
+    asked ((second >>= λ word. if list_all is_space word.1 then Ok word.0 else Err BadLine) >>= λ length. if is_length length then Ok (path, length) else Err BadLine)
+
+pub no-path : (arguments : List ℕ) → first_word arguments ≡ Err BadLine → asked (put_words arguments) ≡ None
+unfolding put_words
+no-path arguments bad =
+    ap (λ (first : Result (List ℕ × List ℕ) Refusal). asked (first >>= λ path. (first_word path.1 >>= λ word. if list_all is_space word.1 then Ok word.0 else Err BadLine) >>= λ length. if is_length length then Ok (path.0, length) else Err BadLine)) bad
+
+pub with-path : (arguments path rest : List ℕ) → first_word arguments ≡ Ok (path, rest) → asked (put_words arguments) ≡ behind_path path (first_word rest)
+unfolding put_words
+with-path arguments path rest first =
+    ap (λ (first : Result (List ℕ × List ℕ) Refusal). asked (first >>= λ path. (first_word path.1 >>= λ word. if list_all is_space word.1 then Ok word.0 else Err BadLine) >>= λ length. if is_length length then Ok (path.0, length) else Err BadLine)) first
+
+pub no-length : (path rest : List ℕ) → first_word rest ≡ Err BadLine → behind_path path (first_word rest) ≡ None
+no-length path rest bad = ap (λ (second : Result (List ℕ × List ℕ) Refusal). behind_path path second) bad
+
+pub more-words : (path rest word behind : List ℕ) → first_word rest ≡ Ok (word, behind) → list_all is_space behind ≡ false → behind_path path (first_word rest) ≡ None
+more-words path rest word behind second more =
+    ap (λ (second : Result (List ℕ × List ℕ) Refusal). behind_path path second) second
+    ∙ ap (λ (t : Bool). asked ((if t then Ok word else Err BadLine) >>= λ length. if is_length length then Ok (path, length) else Err BadLine)) more
+
+number-of : (path raw word : List ℕ) → IsRaw raw word → asked (if is_length word then Ok (path, word) else Err BadLine) ≡ (if is_length raw then Some (digits_value 10 raw) else None)
+number-of path raw word stands =
+    elim (is_length raw) as (λ t. is_length raw ≡ t → asked (if is_length word then Ok (path, word) else Err BadLine) ≡ (if t then Some (digits_value 10 raw) else None)) [
+      | true ↦ (λ is.
+          ap (λ (t : Bool). asked (if t then Ok (path, word) else Err BadLine)) (sym (raw-length raw word stands) ∙ is)
+          ∙ ap (λ (w : List ℕ). Some (digits_value 10 w)) (sym (raw-number raw word stands is)))
+      | false ↦ (λ other. ap (λ (t : Bool). asked (if t then Ok (path, word) else Err BadLine)) (sym (raw-length raw word stands) ∙ other))
+    ] refl
+
+-- the one word behind the path, as it stands, is the length
+pub one-length : (path rest raw word behind : List ℕ) → IsRaw raw word → first_word rest ≡ Ok (word, behind) → list_all is_space behind ≡ true →
+    behind_path path (first_word rest) ≡ (if is_length raw then Some (digits_value 10 raw) else None)
+one-length path rest raw word behind stands second blank =
+    ap (λ (second : Result (List ℕ × List ℕ) Refusal). behind_path path second) second
+    ∙ ap (λ (t : Bool). asked ((if t then Ok word else Err BadLine) >>= λ length. if is_length length then Ok (path, length) else Err BadLine)) blank
+    ∙ number-of path raw word stands

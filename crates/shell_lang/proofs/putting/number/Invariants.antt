@@ -1,0 +1,7 @@
+use Rattle.std.proofs.Common.{◌≡◌, take}
+use Rattle.std.specs.Str.Parse.{digits_value}
+use Rattle.shell_lang.proofs.putting.number.Given as goal
+
+-- the number of the digits that the loop has passed
+abbrev pub invariant-digits : goal.invariant-digits
+invariant-digits l = l.number ≡ digits_value 10 (take l.digit-index l.digits)

@@ -1,0 +1,164 @@
+//! The line of a `put`, and the command that it spells, told what came of the bytes behind it.
+ghost use Rattle.std.specs.Prelude.{◌≡◌, codes, true, if◌then◌else◌, Some, None, IfOk};
+ghost use Rattle.std.specs.Char.{is_ascii_digit};
+ghost use Rattle.std.specs.List.{list_all};
+ghost use Rattle.std.specs.Str.{bytes_eq};
+ghost use Rattle.std.specs.Str.Parse.{digits_value};
+ghost use Rattle.hac_model.specs.Answers.{Answers, AnswersSeen};
+ghost use Rattle.hac_model.specs.Lines.{asked, is_put, put_at, put_length, put_of, put_words};
+ghost use Rattle.hac_model.specs.Puts.{is_length};
+
+use crate::parsing::limited_text;
+use crate::paths::parse_path;
+use crate::words::{is_blank, only_word, raw_word, split_word};
+use hac_model::{Command, Deny, LimitWord, Refusal, Taken};
+use std::alloc::Global;
+
+/// How many bytes a `put` asks for behind its line. None where the line is no `put`, or is one that is
+/// refused for its form.
+pub fn put_length(line: &[u8]) -> Option<u64>
+    ensures { result ≡ put_length line.now }
+{
+    let (name, arguments) = raw_word(line)?;
+    if !is_put(name) {
+        return None;
+    }
+    asked(arguments)
+}
+
+/// The same, from what follows `put`: the path is any word.
+fn asked(arguments: &[u8]) -> Option<u64>
+    ensures { result ≡ asked (put_words arguments.now) }
+{
+    let (_, rest) = raw_word(arguments)?;
+    let (length, behind) = raw_word(rest)?;
+    if !is_blank(behind) {
+        return None;
+    }
+    length_of(length)
+}
+
+/// The number of a word that is a length.
+fn length_of(word: &[u8]) -> Option<u64>
+    ensures { result ≡ (if is_length word.now then Some (digits_value 10 word.now) else None) }
+{
+    if !is_length(word) {
+        return None;
+    }
+    Some(number(word))
+}
+
+/// Whether the word is the name of the command.
+pub fn is_put(name: &[u8]) -> bool
+    ensures { result ≡ is_put name.now }
+{
+    name == b"put".as_slice()
+}
+
+/// The path and the length, from what follows `put`: two words and no more.
+#[tactic(auto, unfolding(hac_model::specs::Lines::put_words))]
+fn put_words(alloc: Global, arguments: &[u8]) -> Result<(Vec<u8>, Vec<u8>), Deny>
+    ensures words { AnswersSeen (λ words. (words.0.items, words.1.items)) result (put_words arguments.now) }
+    ensures length { IfOk result (λ words. is_length words.1.items ≡ true) }
+{
+    let (path, rest) = split_word(alloc, arguments)?;
+    let length = only_word(alloc, rest)?;
+    if !is_length(&length) {
+        return Err(Deny::Refused(Refusal::BadLine));
+    }
+    Ok((path, length))
+}
+
+/// `put PATH LENGTH`, from what follows `put`: a file with the bytes that came as its text.
+pub fn parse_put(alloc: Global, arguments: &[u8], taken: Option<Taken>) -> Result<Command, Deny>
+    ensures { Answers result (put_of arguments.now taken) }
+{
+    let (path, _) = put_words(alloc, arguments)?;
+    put_at(alloc, &path, taken)
+}
+
+fn put_at(alloc: Global, word: &[u8], taken: Option<Taken>) -> Result<Command, Deny>
+    ensures { Answers result (put_at word.now taken) }
+{
+    match taken {
+        Some(Taken::Whole(bytes)) => {
+            let path = parse_path(alloc, word)?;
+            let text = limited_text(bytes)?;
+            Ok(Command::Write { path, text })
+        }
+        Some(Taken::Dropped) => {
+            parse_path(alloc, word)?;
+            Err(Deny::Refused(Refusal::Limit(LimitWord::Text)))
+        }
+        Some(Taken::Short) | Some(Taken::PastLimit) | None => {
+            Err(Deny::Refused(Refusal::ShortPut))
+        }
+    }
+}
+
+/// Whether the word is `0`, or 1 to 10 digits of which the first is no zero.
+fn is_length(word: &[u8]) -> bool
+    ensures { result ≡ is_length word.now }
+{
+    match word {
+        b"0" => true,
+        [b'0', ..] => false,
+        _ => (1..=10).contains(&word.len()) && are_digits(word),
+    }
+}
+
+fn are_digits(word: &[u8]) -> bool
+    ensures { result ≡ list_all is_ascii_digit word.now }
+{
+    word.iter().all(|byte| byte.is_ascii_digit())
+}
+
+/// The number that the digits of a length write.
+fn number(digits: &[u8]) -> u64
+    requires { is_length digits.now ≡ true }
+    ensures { result ≡ digits_value 10 digits.now }
+{
+    let mut number = 0;
+    'digits: for digit in digits {
+        number = number * 10 + u64::from(*digit - b'0');
+    }
+    number
+}
+
+#[cfg(test)]
+mod tests {
+    use super::*;
+
+    #[test]
+    fn lengths_are_asked_for(rt: HostRuntime) {
+        let rows: [(&[u8], Option<u64>); 23] = [
+            (b"\"put\" \"/a b\" \"10\"", Some(10)),
+            (b"put \"/a \\\"b\\\\\" 10", Some(10)),
+            (b"put \"/a\\b\" 10", None),
+            (b"put \"/a\"b 10", None),
+            (b"put \"/a 3", None),
+            (b"put /a 0", Some(0)),
+            (b"put /a 1", Some(1)),
+            (b" put  /a  10 ", Some(10)),
+            (b"put /a 1234567890", Some(1_234_567_890)),
+            (b"put /a 9999999999", Some(9_999_999_999)),
+            // The path isn't looked at.
+            (b"put /\x01 7", Some(7)),
+            (b"put /a 12345678901", None),
+            (b"put /a 00", None),
+            (b"put /a 01", None),
+            (b"put /a +1", None),
+            (b"put /a -1", None),
+            (b"put /a 1x", None),
+            (b"put /a 1 x", None),
+            (b"put /a", None),
+            (b"put 3", None),
+            (b"put", None),
+            (b"puts /a 3", None),
+            (b"write /a 3", None),
+        ];
+        for (line, want) in rows {
+            assert_eq!(rt; put_length(line), want, "at {line:?}");
+        }
+    }
+}
