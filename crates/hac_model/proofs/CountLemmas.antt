@@ -3,12 +3,12 @@ use Rattle.std.proofs.Common.{◌≡◌, ℕ, ◌+◌, ◌<◌, ◌≤◌, Bool,
 use Rattle.std.specs.Prelude.{◌==◌, not, filter, sum_by, Some, is_some}
 use Rattle.std.proofs.lemmas.Bool.{eqb-true, ne_eqb}
 use Rattle.std.proofs.lemmas.List.Sums.{sum_by-cons, sum_by_push}
-use Rattle.hac_model.specs.Events.{added, changed, changed_at, dirty_count, edited, indexed, removed, reseated, rewritten}
-use Rattle.hac_model.specs.Limits.{directory_count, file_count, semantic_count, text_size, weight}
+use Rattle.hac_model.specs.Events.{changed, changed_at, edited, indexed, reseated, rewritten}
+use Rattle.hac_model.specs.Limits.{directory_count, dirty_count, file_count, semantic_count, text_size, weight}
 use Rattle.hac_model.specs.Tree.{entry_at, is_directory, is_dirty, is_file, query_in}
-use Rattle.hac_model.specs.Valid.{IsValid, NumbersRise}
+use Rattle.hac_model.specs.Valid.{NumbersRise}
 use Rattle.hac_model.specs.declared.states.Body.{Body}
-use Rattle.hac_model.specs.declared.states.Body.TheVariants.{File, Dir, Semantic}
+use Rattle.hac_model.specs.declared.states.Body.TheVariants.{File, Dir, Symlink, Semantic, Mount}
 use Rattle.hac_model.specs.declared.states.Entry.{Entry}
 use Rattle.hac_model.specs.declared.states.State.{State}
 use Rattle.hac_model.proofs.ChangeLemmas.{changed-low, is_kept, touched}
@@ -101,41 +101,15 @@ measured-holds f (x ∷ es) n e found =
 
 -- The four counts of a state are such measures.
 
-pub text_size-is : (es : List Entry) → text_size es ≡ measured weight es
-text_size-is es = refl
-
 pub directory_count-is : (es : List Entry) → directory_count es ≡ measured (one_if is_directory) es + 1
 directory_count-is es = refl
-
-pub semantic_count-is : (es : List Entry) → semantic_count es ≡ measured (one_if is_queried) es
-semantic_count-is es = refl
-
-pub file_count-is : (es : List Entry) → file_count es ≡ measured (one_if is_file) es
-file_count-is es = refl
 
 pub dirty_count-is : (es : List Entry) → dirty_count es ≡ measured (one_if is_dirty) es
 dirty_count-is es = refl
 
 -- After an entry was added.
 
-pub text_size-added : (s : State) (dir : ℕ) (name : List ℕ) (body : Body) → text_size (added s dir name body).entries ≡ text_size s.entries + weight body
-text_size-added s dir name body = measured-added weight s.entries (record { number = s.next; parent = dir; name = name; body = body })
-
-pub directory_count-added : (s : State) (dir : ℕ) (name : List ℕ) (body : Body) → directory_count (added s dir name body).entries ≡ directory_count s.entries + one_if is_directory body
-directory_count-added s dir name body =
-    let more = measured-added (one_if is_directory) s.entries (record { number = s.next; parent = dir; name = name; body = body }) in
-    omega (arith, more, directory_count-is s.entries, directory_count-is (added s dir name body).entries)
-
-pub semantic_count-added : (s : State) (dir : ℕ) (name : List ℕ) (body : Body) → semantic_count (added s dir name body).entries ≡ semantic_count s.entries + one_if is_queried body
-semantic_count-added s dir name body = measured-added (one_if is_queried) s.entries (record { number = s.next; parent = dir; name = name; body = body })
-
-pub file_count-added : (s : State) (dir : ℕ) (name : List ℕ) (body : Body) → file_count (added s dir name body).entries ≡ file_count s.entries + one_if is_file body
-file_count-added s dir name body = measured-added (one_if is_file) s.entries (record { number = s.next; parent = dir; name = name; body = body })
-
 -- After a body was edited. Counts of kinds stay where the edit keeps the kind, as those of texts do.
-
-pub text_size-edited : (s : State) (n : ℕ) (edit : Body → Body) (e : Entry) → IsValid s → entry_at s.entries n ≡ Some e → text_size (changed_at s n (edited edit)).entries + weight e.body ≡ text_size s.entries + weight (edit e.body)
-text_size-edited s n edit e h found = measured-changed weight n (edited edit) 0 s.entries s.next e h.numbers found
 
 pub weight-within : (s : State) (n : ℕ) (e : Entry) → entry_at s.entries n ≡ Some e → weight e.body ≤ text_size s.entries
 weight-within s n e found = measured-holds weight s.entries n e found
@@ -148,16 +122,16 @@ pub record KeepsKind (edit : Body → Body) : Type 0 where
 
 pub rewritten-keeps : (text : List ℕ) → KeepsKind (rewritten text)
 rewritten-keeps text = record {
-  directories = (λ body. elim body as (λ b. is_directory (rewritten text b) ≡ is_directory b) [ File old dirty shown ↦ refl | Dir ↦ refl | Semantic query ↦ refl ]);
-  queries = (λ body. elim body as (λ b. is_queried (rewritten text b) ≡ is_queried b) [ File old dirty shown ↦ refl | Dir ↦ refl | Semantic query ↦ refl ]);
-  files = (λ body. elim body as (λ b. is_file (rewritten text b) ≡ is_file b) [ File old dirty shown ↦ refl | Dir ↦ refl | Semantic query ↦ refl ]);
+  directories = (λ body. elim body as (λ b. is_directory (rewritten text b) ≡ is_directory b) [ File old dirty shown ↦ refl | Dir ↦ refl | Symlink target ↦ refl | Semantic query permanent prohibited ↦ refl | Mount space documents answers ↦ refl ]);
+  queries = (λ body. elim body as (λ b. is_queried (rewritten text b) ≡ is_queried b) [ File old dirty shown ↦ refl | Dir ↦ refl | Symlink target ↦ refl | Semantic query permanent prohibited ↦ refl | Mount space documents answers ↦ refl ]);
+  files = (λ body. elim body as (λ b. is_file (rewritten text b) ≡ is_file b) [ File old dirty shown ↦ refl | Dir ↦ refl | Symlink target ↦ refl | Semantic query permanent prohibited ↦ refl | Mount space documents answers ↦ refl ]);
 }
 
 pub indexed-keeps : KeepsKind indexed
 indexed-keeps = record {
-  directories = (λ body. elim body as (λ b. is_directory (indexed b) ≡ is_directory b) [ File old dirty shown ↦ refl | Dir ↦ refl | Semantic query ↦ refl ]);
-  queries = (λ body. elim body as (λ b. is_queried (indexed b) ≡ is_queried b) [ File old dirty shown ↦ refl | Dir ↦ refl | Semantic query ↦ refl ]);
-  files = (λ body. elim body as (λ b. is_file (indexed b) ≡ is_file b) [ File old dirty shown ↦ refl | Dir ↦ refl | Semantic query ↦ refl ]);
+  directories = (λ body. elim body as (λ b. is_directory (indexed b) ≡ is_directory b) [ File old dirty shown ↦ refl | Dir ↦ refl | Symlink target ↦ refl | Semantic query permanent prohibited ↦ refl | Mount space documents answers ↦ refl ]);
+  queries = (λ body. elim body as (λ b. is_queried (indexed b) ≡ is_queried b) [ File old dirty shown ↦ refl | Dir ↦ refl | Symlink target ↦ refl | Semantic query permanent prohibited ↦ refl | Mount space documents answers ↦ refl ]);
+  files = (λ body. elim body as (λ b. is_file (indexed b) ≡ is_file b) [ File old dirty shown ↦ refl | Dir ↦ refl | Symlink target ↦ refl | Semantic query permanent prohibited ↦ refl | Mount space documents answers ↦ refl ]);
 }
 
 pub directory_count-edited : (s : State) (n : ℕ) (edit : Body → Body) → KeepsKind edit → directory_count (changed_at s n (edited edit)).entries ≡ directory_count s.entries
@@ -172,8 +146,7 @@ file_count-edited s n edit keeps = measured-same (one_if is_file) n (edited edit
 -- a text that is shown weighs no more than before
 pub indexed-lighter : (body : Body) → weight (indexed body) ≤ weight body
 indexed-lighter (File text dirty shown) = grind arith
-indexed-lighter Dir = omega arith
-indexed-lighter (Semantic query) = omega arith
+indexed-lighter other = omega arith
 
 pub text_size-indexed : (s : State) (n : ℕ) → text_size (changed_at s n (edited indexed)).entries ≤ text_size s.entries
 text_size-indexed s n = measured-less weight n (edited indexed) s.entries (λ e. indexed-lighter e.body)
@@ -183,30 +156,4 @@ text_size-indexed s n = measured-less weight n (edited indexed) s.entries (λ e.
 pub measured-reseated : (f : Body → ℕ) (s : State) (n dir : ℕ) (name : List ℕ) → measured f (changed_at s n (reseated dir name)).entries ≡ measured f s.entries
 measured-reseated f s n dir name = measured-same f n (reseated dir name) s.entries (λ e. refl)
 
-pub text_size-reseated : (s : State) (n dir : ℕ) (name : List ℕ) → text_size (changed_at s n (reseated dir name)).entries ≡ text_size s.entries
-text_size-reseated s n dir name = measured-reseated weight s n dir name
-
-pub directory_count-reseated : (s : State) (n dir : ℕ) (name : List ℕ) → directory_count (changed_at s n (reseated dir name)).entries ≡ directory_count s.entries
-directory_count-reseated s n dir name = ap (λ (k : ℕ). k + 1) (measured-reseated (one_if is_directory) s n dir name)
-
-pub semantic_count-reseated : (s : State) (n dir : ℕ) (name : List ℕ) → semantic_count (changed_at s n (reseated dir name)).entries ≡ semantic_count s.entries
-semantic_count-reseated s n dir name = measured-reseated (one_if is_queried) s n dir name
-
-pub file_count-reseated : (s : State) (n dir : ℕ) (name : List ℕ) → file_count (changed_at s n (reseated dir name)).entries ≡ file_count s.entries
-file_count-reseated s n dir name = measured-reseated (one_if is_file) s n dir name
-
 -- After an entry was removed each count is less by what it was.
-
-pub text_size-removed : (s : State) (n : ℕ) (e : Entry) → IsValid s → entry_at s.entries n ≡ Some e → text_size (removed s n).entries + weight e.body ≡ text_size s.entries
-text_size-removed s n e h found = measured-removed weight n 0 s.entries s.next e h.numbers found
-
-pub directory_count-removed : (s : State) (n : ℕ) (e : Entry) → IsValid s → entry_at s.entries n ≡ Some e → directory_count (removed s n).entries + one_if is_directory e.body ≡ directory_count s.entries
-directory_count-removed s n e h found =
-    let less = measured-removed (one_if is_directory) n 0 s.entries s.next e h.numbers found in
-    omega (arith, less, directory_count-is s.entries, directory_count-is (removed s n).entries)
-
-pub semantic_count-removed : (s : State) (n : ℕ) (e : Entry) → IsValid s → entry_at s.entries n ≡ Some e → semantic_count (removed s n).entries + one_if is_queried e.body ≡ semantic_count s.entries
-semantic_count-removed s n e h found = measured-removed (one_if is_queried) n 0 s.entries s.next e h.numbers found
-
-pub file_count-removed : (s : State) (n : ℕ) (e : Entry) → IsValid s → entry_at s.entries n ≡ Some e → file_count (removed s n).entries + one_if is_file e.body ≡ file_count s.entries
-file_count-removed s n e h found = measured-removed (one_if is_file) n 0 s.entries s.next e h.numbers found

@@ -1,136 +1,189 @@
--- The event of a command that isn't refused can happen, and steps leave fewer files dirty.
-use Rattle.std.proofs.Common.{◌≡◌, ℕ, zero, suc, ◌+◌, ◌<◌, Bool, true, false, cond, List, [], ◌∷◌, subst, refl, ap, sym, ◌∙◌, arith, eq-eqb, inl, inr, zero-add}
-use Rattle.std.specs.Prelude.{◌==◌, ◌&&◌, ◌||◌, not, nat_lt, replicate, Option, Some, None, Result, Ok, Err, IsTrue, is_some, is_none}
+-- The events of a command that isn't refused can happen, and steps leave fewer files dirty.
+use Rattle.std.proofs.Common.{◌≡◌, ℕ, zero, suc, ◌+◌, ◌<◌, Bool, true, false, cond, List, [], ◌∷◌, length, subst, refl, ap, sym, ◌∙◌, arith, eq-eqb, inl, inr, zero-add}
+use Rattle.std.specs.Prelude.{⊤, ◌==◌, ◌&&◌, ◌||◌, not, nat_lt, replicate, Option, Some, None, Result, Ok, Err, IsTrue, is_some, is_none}
 use Rattle.std.specs.Option.{option_map, option_map_or}
 use Rattle.std.proofs.lemmas.Bool.{and_from, and_parts, not_from_false}
-use Rattle.hac_model.specs.Answers.{and_then}
-use Rattle.hac_model.specs.Events.{accepted, apply, apply_all, changed_at, dirty, dirty_count, edited, indexed, is_bare, is_free, is_inside, is_possible, next_dirty}
-use Rattle.hac_model.specs.Limits.{is_text, passed}
+use Rattle.std.proofs.lemmas.Bool.Decides.{nat_tests}
+use Rattle.hac_model.specs.Answers.{and_then, first_cause}
+use Rattle.hac_model.specs.Events.{accepted, apply, apply_all, changed_at, dirty, edited, indexed, is_bare, is_free, is_inside, is_possible, next_dirty}
+use Rattle.hac_model.specs.Formula.{Formula}
+use Rattle.hac_model.specs.Formula as query
+use Rattle.hac_model.specs.Laws.{AllHappen}
+use Rattle.hac_model.specs.Limits.{answer_limits, counts, dirty_count, first_passed, is_text, layout_limits, passed}
 use Rattle.hac_model.specs.Lines.{is_spelled, is_word}
 use Rattle.hac_model.specs.Paths.{are_names}
 use Rattle.hac_model.specs.Queries.{is_query}
-use Rattle.hac_model.specs.Refusals.{cause_in, directed, directory, emptying, entry, events_in, events_of, file, intent, listed, making, moving, moving_to, none, one, place, refusal, removing, semantic, standing, writing}
+use Rattle.hac_model.specs.Refusals.{answer_cause, blocked, cause, directory_cause, early_cause, events_of, full_cause, layout_cause, led_to, root_cause, taken_cause, under_cause}
+use Rattle.hac_model.specs.Resolving.{directed, directory, entry, listed, numbered, place, resolve, resolved, standing}
+use Rattle.hac_model.specs.Sessions.{stands_in}
 use Rattle.hac_model.specs.Tree.{entry_at, is_directory_at, is_dirty, is_file_at, is_made_directory, path_of}
+use Rattle.hac_model.specs.Valid.{IsLayout, IsValid, NumbersRise}
 use Rattle.hac_model.specs.declared.commands.Command.{Command}
 use Rattle.hac_model.specs.declared.commands.Command.TheVariants as command
+use Rattle.hac_model.specs.declared.commands.Line.{Line}
 use Rattle.hac_model.specs.declared.events.Event.{Event}
-use Rattle.hac_model.specs.declared.events.Event.TheVariants.{Mkdir, NewFile, Rewrite, Smkdir, Mv, Rm, Rmdir, Step}
+use Rattle.hac_model.specs.declared.events.Event.TheVariants as event
+use Rattle.hac_model.specs.declared.events.Event.TheVariants.{Step}
 use Rattle.hac_model.specs.declared.limits.LimitWord.{LimitWord}
 use Rattle.hac_model.specs.declared.paths.PathWord.{PathWord}
 use Rattle.hac_model.specs.declared.places.Place.{Place}
 use Rattle.hac_model.specs.declared.places.Place.TheVariants.{There, Free}
 use Rattle.hac_model.specs.declared.replies.Refusal.{Refusal}
-use Rattle.hac_model.specs.declared.replies.Refusal.TheVariants.{NotDir, NotFile, NotEmpty, Under, Root, Limit}
-use Rattle.hac_model.specs.Valid.{IsValid, NumbersRise}
+use Rattle.hac_model.specs.declared.replies.Refusal.TheVariants as refusal
+use Rattle.hac_model.specs.declared.replies.Refusal.TheVariants.{NoPath, NotDir}
+use Rattle.hac_model.specs.declared.resolved.Resolved.{Resolved}
+use Rattle.hac_model.specs.declared.resolved.Resolved.TheVariants.{Mkdir, Rmdir, Write, Cat, Ls, Mv, Rm, Smkdir, Sls, Index}
 use Rattle.hac_model.specs.declared.states.Body.{Body}
-use Rattle.hac_model.specs.declared.states.Body.TheVariants.{File, Dir, Semantic}
+use Rattle.hac_model.specs.declared.states.Body.TheVariants.{File, Dir, Symlink, Semantic, Mount}
 use Rattle.hac_model.specs.declared.states.Entry.{Entry}
 use Rattle.hac_model.specs.declared.states.State.{State}
-use Rattle.std.proofs.lemmas.Bool.Decides.{nat_tests}
 use Rattle.hac_model.proofs.CountLemmas.{dirty_count-is, measured-changed, measured-cons, one_if}
-use Rattle.hac_model.proofs.LookLemmas.{file-or_directory, free-is, place-free, place-lives}
+use Rattle.hac_model.proofs.LimitLemmas.{passed-both}
+use Rattle.hac_model.proofs.LookLemmas.{IsFreePlace, file-or_directory, free-is, place-free, place-lives, session-root}
 use Rattle.hac_model.proofs.PassedLemmas.{step-passes}
 use Rattle.hac_model.proofs.TreeLemmas.{Lives, entry_at-above, entry_at-behind, entry_at-first}
-use Rattle.hac_model.proofs.ValidLemmas.{edited-valid, indexed-kind, indexed-sound}
+use Rattle.hac_model.proofs.ValidLemmas.{apply-valid}
+
+-- What the paths of a command lead to stands there.
+
+-- something lives there, or the place is free
+abbrev pub PlaceStands : State → Place → Type 0
+PlaceStands s (There number) = Lives s.entries number
+PlaceStands s (Free dir name) = IsFreePlace s.entries dir name
+
+-- what a command speaks of stands in the state, and its words are as a line spells them
+abbrev pub Stands : State → Resolved → Type 0
+Stands s (Mkdir place) = PlaceStands s place
+Stands s (Rmdir dir) = is_directory_at s.entries dir ≡ true
+Stands s (Write place text) = PlaceStands s place × (is_text text ≡ true)
+Stands s (Cat entry) = Lives s.entries entry
+Stands s (Ls dir) = is_directory_at s.entries dir ≡ true
+Stands s (Mv entry place) = Lives s.entries entry × PlaceStands s place
+Stands s (Rm entry) = Lives s.entries entry
+Stands s (Smkdir place query) = PlaceStands s place × (is_query query ≡ true)
+Stands s (Sls dir) = is_directory_at s.entries dir ≡ true
+Stands s Index = ⊤
 
 -- what comes of a step that went on
 pub then-ok : {A B : Type 0} (next : A → Result B Refusal) (r : Result A Refusal) (y : B) → and_then next r ≡ Ok y → (x : A) × (r ≡ Ok x) × (next x ≡ Ok y)
 then-ok next (Ok x) y h = (x, refl, h)
 then-ok next (Err e) y h = absurd cc
 
-one-ok : (r : Result Event Refusal) (event : Event) → one r ≡ Ok (event ∷ []) → r ≡ Ok event
-one-ok (Ok other) event h = let same : other ≡ event = cc in ap (λ (e : Event). Ok e) same
-one-ok (Err e) event h = absurd cc
-
-none-ok : (r : Result ℕ Refusal) (event : Event) → none r ≡ Ok (event ∷ []) → ⊥
-none-ok (Ok n) event h = cc
-none-ok (Err e) event h = cc
-
--- where a test refuses what passes it
-refused-if : {A : Type 0} (b : Bool) (e : Refusal) (r : Result A Refusal) (y : A) → cond b (Err e) r ≡ Ok y → (b ≡ false) × (r ≡ Ok y)
-refused-if true e r y h = absurd cc
-refused-if false e r y h = (refl, h)
-
 given-if : {A : Type 0} (b : Bool) (x : A) (e : Refusal) (y : A) → cond b (Ok x) (Err e) ≡ Ok y → (b ≡ true) × (x ≡ y)
 given-if true x e y h = let same : x ≡ y = cc in (refl, same)
 given-if false x e y h = absurd cc
 
+place-stands : (s : State) (session : List ℕ) (word : PathWord) (found : Place) → IsValid s → are_names word.names ≡ true → place s session word ≡ Ok found → PlaceStands s found
+place-stands s session word (There number) h named leads = place-lives s session word number leads
+place-stands s session word (Free dir name) h named leads = place-free s session word dir name h named leads
+
 -- what stands at the end of a path lives
-entry-lives : (s : State) (word : PathWord) (n : ℕ) → entry s word ≡ Ok n → Lives s.entries n
-entry-lives s word n h = there (then-ok (standing s) (place s word) n h)
+entry-lives : (s : State) (session : List ℕ) (word : PathWord) (n : ℕ) → entry s session word ≡ Ok n → Lives s.entries n
+entry-lives s session word n h = there (then-ok (standing s) (place s session word) n h)
   where
-    there : (p : Place) × (place s word ≡ Ok p) × (standing s p ≡ Ok n) → Lives s.entries n
-    there (There m, leads, is) = let same : m ≡ n = cc in subst (λ (k : ℕ). Lives s.entries k) same (place-lives s word m leads)
+    there : (p : Place) × (place s session word ≡ Ok p) × (standing s p ≡ Ok n) → Lives s.entries n
+    there (There m, leads, is) = let same : m ≡ n = cc in subst (λ (k : ℕ). Lives s.entries k) same (place-lives s session word m leads)
     there (Free dir name, leads, is) = absurd cc
+
+directory-stands : (s : State) (session : List ℕ) (word : PathWord) (n : ℕ) → directory s session word ≡ Ok n → is_directory_at s.entries n ≡ true
+directory-stands s session word n h =
+    let led = then-ok (directed s) (entry s session word) n h in
+    let is = given-if (is_directory_at s.entries led.0) led.0 (NotDir (path_of s led.0)) n led.2 in
+    subst (λ (k : ℕ). is_directory_at s.entries k ≡ true) is.1 is.0
+
+listed-stands : (s : State) (session : List ℕ) (word : Option PathWord) (n : ℕ) → IsValid s → listed s session word ≡ Ok n → is_directory_at s.entries n ≡ true
+listed-stands s session (Some word) n h leads = directory-stands s session word n leads
+listed-stands s session None n h leads =
+    let same : stands_in s.sessions session ≡ n = cc in
+    let root : n ≡ 0 = sym same ∙ session-root s session h in
+    ap (is_directory_at s.entries) root
+
+numbered-query : (s : State) (session : List ℕ) (raw : Formula PathWord) (asked : Formula ℕ) → is_query raw ≡ true → numbered s session raw ≡ Ok asked → is_query asked ≡ true
+numbered-query s session (query.Term term) asked fits h = let same : query.Term term ≡ asked = cc in subst (λ (q : Formula ℕ). is_query q ≡ true) same fits
+numbered-query s session (query.Dir dir) asked fits h = absurd cc
+numbered-query s session (query.Not q) asked fits h = absurd cc
+numbered-query s session (query.And p q) asked fits h = absurd cc
+numbered-query s session (query.Or p q) asked fits h = absurd cc
+
+pub resolved-stands : (s : State) (session : List ℕ) (c : Command) (r : Resolved) → IsValid s → is_spelled c ≡ true → resolved s session c ≡ Ok r → Stands s r
+resolved-stands s session (command.Mkdir path) r h spelled leads =
+    let found = then-ok (λ p. Ok (Mkdir p)) (place s session path) r leads in
+    let same : Mkdir found.0 ≡ r = cc (found.2) in
+    subst (Stands s) same (place-stands s session path found.0 h spelled found.1)
+resolved-stands s session (command.Rmdir path) r h spelled leads =
+    let found = then-ok (λ n. Ok (Rmdir n)) (directory s session path) r leads in
+    let same : Rmdir found.0 ≡ r = cc (found.2) in
+    subst (Stands s) same (directory-stands s session path found.0 found.1)
+resolved-stands s session (command.Write path text) r h spelled leads =
+    let parts = and_parts (is_word path) (is_text text) spelled in
+    let found = then-ok (λ p. Ok (Write p text)) (place s session path) r leads in
+    let same : Write found.0 text ≡ r = cc (found.2) in
+    subst (Stands s) same (place-stands s session path found.0 h parts.0 found.1, parts.1)
+resolved-stands s session (command.Cat path) r h spelled leads =
+    let found = then-ok (λ n. Ok (Cat n)) (entry s session path) r leads in
+    let same : Cat found.0 ≡ r = cc (found.2) in
+    subst (Stands s) same (entry-lives s session path found.0 found.1)
+resolved-stands s session (command.Ls path) r h spelled leads =
+    let found = then-ok (λ n. Ok (Ls n)) (listed s session path) r leads in
+    let same : Ls found.0 ≡ r = cc (found.2) in
+    subst (Stands s) same (listed-stands s session path found.0 h found.1)
+resolved-stands s session (command.Mv from to) r h spelled leads =
+    let parts = and_parts (is_word from) (is_word to) spelled in
+    let first = then-ok (λ n. and_then (λ p. Ok (Mv n p)) (place s session to)) (entry s session from) r leads in
+    let found = then-ok (λ p. Ok (Mv first.0 p)) (place s session to) r first.2 in
+    let same : Mv first.0 found.0 ≡ r = cc (found.2) in
+    subst (Stands s) same (entry-lives s session from first.0 first.1, place-stands s session to found.0 h parts.1 found.1)
+resolved-stands s session (command.Rm path) r h spelled leads =
+    let found = then-ok (λ n. Ok (Rm n)) (entry s session path) r leads in
+    let same : Rm found.0 ≡ r = cc (found.2) in
+    subst (Stands s) same (entry-lives s session path found.0 found.1)
+resolved-stands s session (command.Smkdir path raw) r h spelled leads =
+    let parts = and_parts (is_word path) (is_query raw) spelled in
+    let first = then-ok (λ p. and_then (λ q. Ok (Smkdir p q)) (numbered s session raw)) (place s session path) r leads in
+    let found = then-ok (λ q. Ok (Smkdir first.0 q)) (numbered s session raw) r first.2 in
+    let same : Smkdir first.0 found.0 ≡ r = cc (found.2) in
+    subst (Stands s) same (place-stands s session path first.0 h parts.0 first.1, numbered-query s session raw found.0 parts.1 found.1)
+resolved-stands s session (command.Sls path) r h spelled leads =
+    let found = then-ok (λ n. Ok (Sls n)) (listed s session path) r leads in
+    let same : Sls found.0 ≡ r = cc (found.2) in
+    subst (Stands s) same (listed-stands s session path found.0 h found.1)
+resolved-stands s session command.Index r h spelled leads = let same : Index ≡ r = cc in subst (Stands s) same tt
+resolved-stands s session other r h spelled leads = absurd cc
+
+-- A command that nothing speaks against comes to events that can happen.
+
+-- no cause of a list means that the first one isn't there, nor any behind it
+pub no_cause : (first : Option Refusal) (causes : List (Option Refusal)) → first_cause (first ∷ causes) ≡ None → (first ≡ None) × (first_cause causes ≡ None)
+no_cause None causes h = (refl, h)
+no_cause (Some refusal) causes h = absurd cc
+
+no_refusal : (b : Bool) (e : Refusal) → cond b (Some e) None ≡ None → b ≡ false
+no_refusal true e h = absurd cc
+no_refusal false e h = refl
+
+no_other : (b : Bool) (e : Refusal) → cond b None (Some e) ≡ None → b ≡ true
+no_other true e h = refl
+no_other false e h = absurd cc
+
+no_limit : (o : Option LimitWord) → option_map refusal.Limit o ≡ None → o ≡ None
+no_limit None h = refl
+no_limit (Some word) h = absurd cc
+
+-- nothing stands in the way, and the state that would come passes no limit
+pub cause-parts : (s : State) (r : Resolved) → cause s r ≡ None → (blocked s r ≡ None) × (passed (led_to s r) ≡ None)
+cause-parts s r h =
+    let both = no_cause (early_cause s r) (answer_cause s r ∷ []) h in
+    let early = no_cause (blocked s r) (layout_cause s r ∷ []) both.0 in
+    let layout = no_cause (layout_cause s r) [] early.1 in
+    let answers = no_cause (answer_cause s r) [] both.1 in
+    (early.0, passed-both (led_to s r) (no_limit (first_passed (layout_limits (counts (led_to s r)))) layout.0) (no_limit (first_passed (answer_limits (counts (led_to s r)))) answers.0))
 
 lives-some : (es : List Entry) (n : ℕ) → Lives es n → (n == 0) ≡ false → is_some (entry_at es n) ≡ true
 lives-some es n (inl root) other = let never : true ≡ false = sym (eq-eqb n 0 root) ∙ other in absurd cc
 lives-some es n (inr found) other = ap (λ (o : Option Entry). is_some o) found.1
 
--- an event that a command made can happen, limits left aside
-fits : State → Event → Type 0
-fits s event = is_possible s event ≡ true
-
-making-fits : (s : State) (make : ℕ → List ℕ → Event) (word : PathWord) (event : Event) → are_names word.names ≡ true → ((dir : ℕ) (name : List ℕ) → is_free s dir name ≡ true → is_possible s (make dir name) ≡ true) → and_then (making s make) (place s word) ≡ Ok event → is_possible s event ≡ true
-making-fits s make word event named makes h = made (then-ok (making s make) (place s word) event h)
-  where
-    made : (p : Place) × (place s word ≡ Ok p) × (making s make p ≡ Ok event) → is_possible s event ≡ true
-    made (There n, leads, is) = absurd cc
-    made (Free dir name, leads, is) =
-        let same : make dir name ≡ event = cc in
-        subst (λ (e : Event). is_possible s e ≡ true) same (makes dir name (free-is s dir name (place-free s word dir name named leads)))
-
-writing-fits : (s : State) (text : List ℕ) (word : PathWord) (event : Event) → are_names word.names ≡ true → is_text text ≡ true → and_then (writing s text) (place s word) ≡ Ok event → is_possible s event ≡ true
-writing-fits s text word event named short h = written (then-ok (writing s text) (place s word) event h)
-  where
-    written : (p : Place) × (place s word ≡ Ok p) × (writing s text p ≡ Ok event) → is_possible s event ≡ true
-    written (There n, leads, is) =
-        let parts = refused-if (is_directory_at s.entries n) (NotFile (path_of s n)) (Ok (Rewrite n text)) event is in
-        let made : Ok (Rewrite n text) ≡ Ok event = parts.1 in
-        let same : Rewrite n text ≡ event = cc (made) in
-        subst (λ (e : Event). is_possible s e ≡ true) same (and_from (is_file_at s.entries n) (is_text text) (file-or_directory s.entries n (place-lives s word n leads) parts.0) short)
-    written (Free dir name, leads, is) =
-        let same : NewFile dir name text ≡ event = cc in
-        subst (λ (e : Event). is_possible s e ≡ true) same (and_from (is_free s dir name) (is_text text) (free-is s dir name (place-free s word dir name named leads)) short)
-
-removing-fits : (s : State) (word : PathWord) (event : Event) → and_then (removing s) (entry s word) ≡ Ok event → is_possible s event ≡ true
-removing-fits s word event h =
-    let parts = then-ok (removing s) (entry s word) event h in
-    let n = parts.0 in
-    let other = refused-if (n == 0) Root (cond (is_directory_at s.entries n) (Err (NotFile (path_of s n))) (Ok (Rm n))) event parts.2 in
-    let file = refused-if (is_directory_at s.entries n) (NotFile (path_of s n)) (Ok (Rm n)) event other.1 in
-    let made : Ok (Rm n) ≡ Ok event = file.1 in
-    let same : Rm n ≡ event = cc (made) in
-    subst (λ (e : Event). is_possible s e ≡ true) same (file-or_directory s.entries n (entry-lives s word n parts.1) file.0)
-
-emptying-fits : (s : State) (word : PathWord) (event : Event) → and_then (emptying s) (directory s word) ≡ Ok event → is_possible s event ≡ true
-emptying-fits s word event h =
-    let parts = then-ok (emptying s) (directory s word) event h in
-    let n = parts.0 in
-    let other = refused-if (n == 0) Root (cond (is_bare s.entries n) (Ok (Rmdir n)) (Err (NotEmpty (path_of s n)))) event parts.2 in
-    let bare = given-if (is_bare s.entries n) (Rmdir n) (NotEmpty (path_of s n)) event other.1 in
-    let led = then-ok (directed s) (entry s word) n parts.1 in
-    let is = given-if (is_directory_at s.entries led.0) led.0 (NotDir (path_of s led.0)) n led.2 in
-    let there : is_directory_at s.entries n ≡ true = subst (λ (k : ℕ). is_directory_at s.entries k ≡ true) is.1 is.0 in
-    let made : is_made_directory s.entries n ≡ true = ap (λ (b : Bool). b || is_made_directory s.entries n) (sym other.0) ∙ there in
-    subst (λ (e : Event). is_possible s e ≡ true) bare.1 (and_from (is_made_directory s.entries n) (is_bare s.entries n) made bare.0)
-
-moving-fits : (s : State) (from to : PathWord) (event : Event) → are_names to.names ≡ true → and_then (λ number. and_then (moving s number) (place s to)) (entry s from) ≡ Ok event → is_possible s event ≡ true
-moving-fits s from to event named h =
-    let parts = then-ok (λ number. and_then (moving s number) (place s to)) (entry s from) event h in
-    let n = parts.0 in
-    let led = then-ok (moving s n) (place s to) event parts.2 in
-    let other = refused-if (n == 0) Root (moving_to s n led.0) event led.2 in
-    moved n (lives-some s.entries n (entry-lives s from n parts.1) other.0) (led.0, led.1, other.1)
-  where
-    moved : (n : ℕ) → is_some (entry_at s.entries n) ≡ true → (p : Place) × (place s to ≡ Ok p) × (moving_to s n p ≡ Ok event) → is_possible s event ≡ true
-    moved n there (There m, leads, is) = absurd cc
-    moved n there (Free dir name, leads, is) =
-        let parts = refused-if (is_inside s dir n) (Under (path_of s n)) (Ok (Mv n dir name)) event is in
-        let made : Ok (Mv n dir name) ≡ Ok event = parts.1 in
-        let same : Mv n dir name ≡ event = cc (made) in
-        let free = free-is s dir name (place-free s to dir name named leads) in
-        subst (λ (e : Event). is_possible s e ≡ true) same (and_from (is_some (entry_at s.entries n) && is_free s dir name) (not (is_inside s dir n)) (and_from (is_some (entry_at s.entries n)) (is_free s dir name) there free) (not_from_false (is_inside s dir n) parts.0))
+one-happens : (s : State) (e : Event) → is_possible s e ≡ true → passed (apply s e) ≡ None → AllHappen s (e ∷ [])
+one-happens s e possible limits = (and_from (is_possible s e) (is_none (passed (apply s e))) possible (ap (λ (o : Option LimitWord). is_none o) limits), tt)
 
 -- a file is dirty just where one is counted
 pub due : (es : List Entry) → is_some (next_dirty es) ≡ nat_lt 0 (dirty_count es)
@@ -140,51 +193,6 @@ due (e ∷ es) = due-cons (is_dirty e.body) e.number (dirty_count es) (next_dirt
     due-cons : (b : Bool) (n k : ℕ) (rest : Option ℕ) → is_some rest ≡ nat_lt 0 k → is_some (cond b (Some n) rest) ≡ nat_lt 0 (cond {A = ℕ} b 1 0 + k)
     due-cons true n k rest h = grind (arith, nat_tests)
     due-cons false n k rest h = h ∙ ap (λ (k : ℕ). nat_lt 0 k) (sym (zero-add k))
-
-step-one : (n : ℕ) (event : Event) → replicate n Step ≡ event ∷ [] → (Step ≡ event) × (nat_lt 0 n ≡ true)
-step-one zero event h = absurd cc
-step-one (suc n) event h = let same : Step ≡ event = cc in (same, grind (arith, nat_tests))
-
-stepping-fits : (s : State) (event : Event) → replicate (dirty s) Step ≡ event ∷ [] → is_possible s event ≡ true
-stepping-fits s event h =
-    let one = step-one (dirty s) event h in
-    subst (λ (e : Event). is_possible s e ≡ true) one.0 (due s.entries ∙ one.1)
-
--- what a command comes to can happen, limits left aside
-intent-fits : (s : State) (c : Command) (event : Event) → is_spelled c ≡ true → intent s c ≡ Ok (event ∷ []) → is_possible s event ≡ true
-intent-fits s (command.Mkdir path) event spelled h =
-    making-fits s Mkdir path event spelled (λ dir name free. free) (one-ok (and_then (making s Mkdir) (place s path)) event h)
-intent-fits s (command.Rmdir path) event spelled h = emptying-fits s path event (one-ok (and_then (emptying s) (directory s path)) event h)
-intent-fits s (command.Write path text) event spelled h =
-    let parts = and_parts (is_word path) (is_text text) spelled in
-    writing-fits s text path event parts.0 parts.1 (one-ok (and_then (writing s text) (place s path)) event h)
-intent-fits s (command.Cat path) event spelled h = absurd (none-ok (file s path) event h)
-intent-fits s (command.Ls path) event spelled h = absurd (none-ok (listed s path) event h)
-intent-fits s (command.Mv from to) event spelled h =
-    let parts = and_parts (is_word from) (is_word to) spelled in
-    moving-fits s from to event parts.1 (one-ok (and_then (λ number. and_then (moving s number) (place s to)) (entry s from)) event h)
-intent-fits s (command.Rm path) event spelled h = removing-fits s path event (one-ok (and_then (removing s) (entry s path)) event h)
-intent-fits s (command.Smkdir path query) event spelled h =
-    let parts = and_parts (is_word path) (is_query query) spelled in
-    making-fits s (λ dir name. Smkdir dir name query) path event parts.0 (λ dir name free. and_from (is_free s dir name) (is_query query) free parts.1) (one-ok (and_then (making s (λ dir name. Smkdir dir name query)) (place s path)) event h)
-intent-fits s (command.Sls path) event spelled h = absurd (none-ok (semantic s path) event h)
-intent-fits s command.Index event spelled h = let steps : replicate (dirty s) Step ≡ event ∷ [] = cc in stepping-fits s event steps
-
-no_limit : (o : Option LimitWord) → option_map Limit o ≡ None → o ≡ None
-no_limit None h = refl
-no_limit (Some word) h = absurd cc
-
--- a command that isn't refused comes to its events, which pass no limit
-pub unrefused : (s : State) (r : Result (List Event) Refusal) → cause_in s r ≡ None → (r ≡ Ok (events_in r)) × (passed (apply_all s (events_in r)) ≡ None)
-unrefused s (Ok events) free = (refl, no_limit (passed (apply_all s events)) free)
-unrefused s (Err cause) free = absurd cc
-
-pub commands-happen : (s : State) (c : Command) (event : Event) → IsTrue (is_spelled c) → refusal s c ≡ None → events_of s c ≡ event ∷ [] → IsTrue (accepted s event)
-commands-happen s c event spelled free same =
-    let parts = unrefused s (intent s c) free in
-    let fitting : is_possible s event ≡ true = intent-fits s c event spelled (parts.0 ∙ ap (λ (events : List Event). Ok events) same) in
-    let limits : passed (apply s event) ≡ None = subst (λ (events : List Event). passed (apply_all s events) ≡ None) same parts.1 in
-    and_from (is_possible s event) (is_none (passed (apply s event))) fitting (ap (λ (o : Option LimitWord). is_none o) limits)
 
 next_dirty-entry : (above : ℕ) (es : List Entry) (next n : ℕ) → NumbersRise above es next → next_dirty es ≡ Some n → (e : Entry) × (entry_at es n ≡ Some e) × (is_dirty e.body ≡ true)
 next_dirty-entry above [] next n h found = absurd cc
@@ -199,11 +207,10 @@ next_dirty-entry above (x ∷ es) next n h found =
 
 clean-indexed : (body : Body) → is_dirty (indexed body) ≡ false
 clean-indexed (File text dirty shown) = refl
-clean-indexed Dir = refl
-clean-indexed (Semantic query) = refl
+clean-indexed other = refl
 
 -- a step can happen just where a file is dirty
-pub steps-due : (s : State) → IsValid s → accepted s Step ≡ nat_lt 0 (dirty s)
+pub steps-due : (s : State) → IsLayout s → accepted s Step ≡ nat_lt 0 (dirty s)
 steps-due s h = ap (λ (o : Option LimitWord). is_some (next_dirty s.entries) && is_none o) (step-passes s h) ∙ and-true (is_some (next_dirty s.entries)) ∙ due s.entries
   where
     and-true : (b : Bool) → (b && true) ≡ b
@@ -211,7 +218,7 @@ steps-due s h = ap (λ (o : Option LimitWord). is_some (next_dirty s.entries) &&
     and-true false = refl
 
 -- and leaves one file less dirty
-pub steps-clean : (s : State) → IsValid s → IsTrue (accepted s Step) → dirty s ≡ dirty (apply s Step) + 1
+pub steps-clean : (s : State) → IsLayout s → IsTrue (accepted s Step) → dirty s ≡ dirty (apply s Step) + 1
 steps-clean s h ok =
     elim (next_dirty s.entries) as (λ o. next_dirty s.entries ≡ o → is_some o ≡ true → dirty s ≡ dirty (option_map_or (λ file. changed_at s file (edited indexed)) o s) + 1) [
       | None ↦ (λ found ok. absurd cc)
@@ -224,13 +231,69 @@ steps-clean s h ok =
     ] refl (and_parts (is_some (next_dirty s.entries)) (is_none (passed (apply s Step))) ok).0
 
 -- a step can happen where a file is dirty
-pub step-due : (s : State) (n : ℕ) → IsValid s → dirty s ≡ suc n → IsTrue (accepted s Step)
+pub step-due : (s : State) (n : ℕ) → IsLayout s → dirty s ≡ suc n → IsTrue (accepted s Step)
 step-due s n h more = steps-due s h ∙ ap (λ (k : ℕ). nat_lt 0 k) more ∙ grind (arith, nat_tests)
 
--- a step keeps a state valid, also where no file is dirty
-pub step-valid : (s : State) → IsValid s → IsValid (apply s Step)
-step-valid s h =
-    elim (next_dirty s.entries) as (λ o. passed (option_map_or (λ file. changed_at s file (edited indexed)) o s) ≡ None → IsValid (option_map_or (λ file. changed_at s file (edited indexed)) o s)) [
-      | None ↦ (λ limits. h)
-      | Some file ↦ (λ limits. edited-valid s file indexed indexed-kind indexed-sound h limits)
-    ] (step-passes s h)
+-- as many steps can happen as there are dirty files
+pub steps-happen : (n : ℕ) (s : State) → IsValid s → dirty s ≡ n → AllHappen s (replicate n Step)
+steps-happen zero s h none = tt
+steps-happen (suc n) s h more =
+    let due = step-due s n h.layout more in
+    let fewer : dirty (apply s Step) ≡ n = omega (arith, steps-clean s h.layout due, more) in
+    (due, steps-happen n (apply s Step) (apply-valid s Step h due) fewer)
+
+-- and leave none dirty
+pub steps-clean-all : (n : ℕ) (s : State) → IsValid s → dirty s ≡ n → dirty (apply_all s (replicate n Step)) ≡ 0
+steps-clean-all zero s h none = none
+steps-clean-all (suc n) s h more =
+    let due = step-due s n h.layout more in
+    let fewer : dirty (apply s Step) ≡ n = omega (arith, steps-clean s h.layout due, more) in
+    steps-clean-all n (apply s Step) (apply-valid s Step h due) fewer
+
+-- events that can happen keep a state valid
+pub all-valid : (events : List Event) (s : State) → IsValid s → AllHappen s events → IsValid (apply_all s events)
+all-valid [] s h happen = h
+all-valid (e ∷ events) s h happen = all-valid events (apply s e) (apply-valid s e h happen.0) happen.1
+
+free-root : (s : State) (n : ℕ) (more : List (Option Refusal)) → first_cause (root_cause n ∷ more) ≡ None → ((n == 0) ≡ false) × (first_cause more ≡ None)
+free-root s n more free = let parts = no_cause (root_cause n) more free in (no_refusal (n == 0) refusal.Root parts.0, parts.1)
+
+pub unblocked-happen : (s : State) (r : Resolved) → IsValid s → Stands s r → blocked s r ≡ None → passed (led_to s r) ≡ None → AllHappen s (events_of s r)
+unblocked-happen s (Mkdir (There number)) h there free limits = tt
+unblocked-happen s (Mkdir (Free dir name)) h there free limits = one-happens s (event.Mkdir dir name) (free-is s dir name there) limits
+unblocked-happen s (Rmdir dir) h there free limits =
+    let root = free-root s dir (full_cause s dir ∷ []) free in
+    let full = no_cause (full_cause s dir) [] root.1 in
+    let bare : is_bare s.entries dir ≡ true = no_other (is_bare s.entries dir) (refusal.NotEmpty (path_of s dir)) full.0 in
+    let made : is_made_directory s.entries dir ≡ true = ap (λ (b : Bool). b || is_made_directory s.entries dir) (sym root.0) ∙ there in
+    one-happens s (event.Rmdir dir) (and_from (is_made_directory s.entries dir) (is_bare s.entries dir) made bare) limits
+unblocked-happen s (Write (There number) text) h there free limits =
+    let other : is_directory_at s.entries number ≡ false = no_refusal (is_directory_at s.entries number) (refusal.NotFile (path_of s number)) free in
+    one-happens s (event.Rewrite number text) (and_from (is_file_at s.entries number) (is_text text) (file-or_directory s number h.layout there.0 other) there.1) limits
+unblocked-happen s (Write (Free dir name) text) h there free limits = one-happens s (event.NewFile dir name text) (and_from (is_free s dir name) (is_text text) (free-is s dir name there.0) there.1) limits
+unblocked-happen s (Cat entry) h there free limits = tt
+unblocked-happen s (Ls dir) h there free limits = tt
+unblocked-happen s (Mv entry (There number)) h there free limits = tt
+unblocked-happen s (Mv entry (Free dir name)) h there free limits =
+    let root = free-root s entry (taken_cause s (Free dir name) ∷ under_cause s entry (Free dir name) ∷ []) free in
+    let under = no_cause (under_cause s entry (Free dir name)) [] root.1 in
+    let outside : is_inside s dir entry ≡ false = no_refusal (is_inside s dir entry) (refusal.Under (path_of s entry)) under.0 in
+    let some = lives-some s.entries entry there.0 root.0 in
+    let fits = and_from (is_some (entry_at s.entries entry)) (is_free s dir name) some (free-is s dir name there.1) in
+    one-happens s (event.Mv entry dir name) (and_from (is_some (entry_at s.entries entry) && is_free s dir name) (not (is_inside s dir entry)) fits (not_from_false (is_inside s dir entry) outside)) limits
+unblocked-happen s (Rm entry) h there free limits =
+    let root = free-root s entry (directory_cause s entry ∷ []) free in
+    let file = no_cause (directory_cause s entry) [] root.1 in
+    let other : is_directory_at s.entries entry ≡ false = no_refusal (is_directory_at s.entries entry) (refusal.NotFile (path_of s entry)) file.0 in
+    one-happens s (event.Rm entry) (file-or_directory s entry h.layout there other) limits
+unblocked-happen s (Smkdir (There number) query) h there free limits = tt
+unblocked-happen s (Smkdir (Free dir name) query) h there free limits =
+    let fits = and_from (is_free s dir name) (is_query query) (free-is s dir name there.0) there.1 in
+    one-happens s (event.Smkdir dir name query []) (and_from (is_free s dir name && is_query query) (length {A = List ℕ} [] == 0) fits refl) limits
+unblocked-happen s (Sls dir) h there free limits = tt
+unblocked-happen s Index h there free limits = steps-happen (dirty s) s h refl
+
+pub commands-happen : (s : State) (line : Line) (r : Resolved) → IsValid s → IsTrue (is_spelled line.command) → resolve s line ≡ Ok r → cause s r ≡ None → AllHappen s (events_of s r)
+commands-happen s line r h spelled leads free =
+    let parts = cause-parts s r free in
+    unblocked-happen s r h (resolved-stands s line.session line.command r h spelled leads) parts.0 parts.1

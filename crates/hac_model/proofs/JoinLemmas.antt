@@ -1,8 +1,7 @@
 -- A line that is whole, in front of anything; and two scripts that are joined.
-use Rattle.std.proofs.Common.{◌≡◌, ℕ, zero, suc, ◌+◌, ◌<◌, ◌≤◌, Bool, true, false, List, [], ◌∷◌, ◌++◌, length, take, drop, get_or, refl, ap, sym, ◌∙◌, arith, append_assoc, length-append, Option, Some, None}
+use Rattle.std.proofs.Common.{◌≡◌, ℕ, zero, suc, ◌+◌, ◌<◌, ◌≤◌, Bool, true, false, List, [], ◌∷◌, ◌++◌, length, take, drop, get_or, refl, ap, sym, ◌∙◌, arith, append_assoc, length-append}
 use Rattle.std.specs.Prelude.{◌&&◌, not, if◌then◌else◌, nat_le, nat_lt}
 use Rattle.std.specs.List.{position_or_len}
-use Rattle.std.specs.Option.{option_map, unwrap_or}
 use Rattle.std.proofs.lemmas.Bool.{and_parts, eqb-true}
 use Rattle.std.proofs.lemmas.List.{append_cancel_left, length-take-le, take-append-drop, take-append-le, drop-append-le}
 use Rattle.std.proofs.lemmas.List.Folds.{prefix_len-append}
@@ -10,15 +9,10 @@ use Rattle.std.proofs.lemmas.List.Sums.{split_at_first, passes_at_first}
 use Rattle.std.proofs.Math.Seq.{take-append_seam, drop-append_seam, drop-append-add}
 use Rattle.std.proofs.lemmas.Grind.{common_steps}
 use Rattle.hac_model.specs.Bytes.{is_line_end}
-use Rattle.hac_model.specs.Lines.{Item, items_of, bytes_due}
-use Rattle.hac_model.specs.Puts.{came}
-use Rattle.hac_model.specs.Script.{first_line, after_line, is_first_ended, due, taken_of, first_items, after_item, script, is_first_whole, whole_line, whole}
-use Rattle.hac_model.specs.declared.limits.TheConstants.{TEXT_LIMIT}
-use Rattle.hac_model.specs.declared.putting.Taken.{Taken}
-use Rattle.hac_model.specs.declared.putting.Taken.TheVariants.{Whole, Dropped, Short}
-use Rattle.hac_model.specs.declared.states.State.{State}
-use Rattle.hac_model.specs.Play.{replies, tree_after_all, tree_after, reply_to, play}
-use Rattle.hac_model.specs.declared.replies.Reply.{Reply}
+use Rattle.hac_model.specs.Lines.{Item, items_of}
+use Rattle.hac_model.specs.Script.{first_line, after_line, is_first_ended, due, first_items, after_item, script, is_first_whole, whole_line, whole}
+use Rattle.hac_model.specs.Play.{Setting, Turn, left_by, play, turn, turns}
+use Rattle.hac_model.proofs.FrontLemmas.{items-front}
 use Rattle.hac_model.proofs.PrefixLemmas.{unended-take}
 use Rattle.hac_model.proofs.ScriptLemmas.{script-step, script-nothing, whole-step, length-after_item}
 
@@ -62,28 +56,12 @@ bytes-line b ended =
     let end : get_or b (position_or_len is_line_end b) 0 ≡ 10 = eqb-true (get_or b (position_or_len is_line_end b) 0) 10 (passes_at_first is_line_end b 0 inside) in
     split_at_first is_line_end b 0 inside ∙ ap (λ (e : ℕ). first_line b ++ e ∷ after_line b) end
 
--- of what stands behind a line, the bytes that it asks for are all that counts
-came-front : (count : ℕ) (xs more : List ℕ) → count ≡ length xs → came count (xs ++ more) ≡ came count xs
-came-front count xs more e =
-    let all : nat_lt (length (xs ++ more)) count ≡ false = grind (arith, common_steps, length-append xs more, e) in
-    let just : nat_lt (length xs) count ≡ false = grind (arith, common_steps, e) in
-    ap (λ (short : Bool). if short then Short else (if nat_le count TEXT_LIMIT then Whole (take count (xs ++ more)) else Dropped)) all
-    ∙ ap (λ (text : List ℕ). if nat_le count TEXT_LIMIT then Whole text else Dropped) (take-append-le count xs more (omega (arith, e)))
-    ∙ sym (ap (λ (short : Bool). if short then Short else (if nat_le count TEXT_LIMIT then Whole (take count xs) else Dropped)) just)
-
-taken-front : (line xs more : List ℕ) → due line ≡ length xs → taken_of line (xs ++ more) ≡ taken_of line xs
-taken-front line xs more e =
-    elim (bytes_due line) as (λ o. unwrap_or o 0 ≡ length xs → option_map (λ count. came count (xs ++ more)) o ≡ option_map (λ count. came count xs) o) [
-      | None ↦ (λ _. refl)
-      | Some count ↦ (λ asked. ap Some (came-front count xs more asked))
-    ] e
-
-pub first_items-line : (line xs more : List ℕ) → position_or_len is_line_end line ≡ length line → due line ≡ length xs → first_items (line ++ 10 ∷ (xs ++ more)) ≡ items_of line (taken_of line xs)
+pub first_items-line : (line xs more : List ℕ) → position_or_len is_line_end line ≡ length line → due line ≡ length xs → first_items (line ++ 10 ∷ (xs ++ more)) ≡ items_of line xs
 first_items-line line xs more unended asked =
     let b = line ++ 10 ∷ (xs ++ more) in
-    ap (λ (first : List ℕ). items_of first (taken_of first (after_line b))) (first_line-unended line (xs ++ more) unended)
-    ∙ ap (λ (behind : List ℕ). items_of line (taken_of line behind)) (after_line-unended line (xs ++ more) unended)
-    ∙ ap (λ (taken : Option Taken). items_of line taken) (taken-front line xs more asked)
+    ap (λ (first : List ℕ). items_of first (after_line b)) (first_line-unended line (xs ++ more) unended)
+    ∙ ap (λ (behind : List ℕ). items_of line behind) (after_line-unended line (xs ++ more) unended)
+    ∙ items-front line xs more asked
 
 pub after_item-line : (line xs more : List ℕ) → position_or_len is_line_end line ≡ length line → due line ≡ length xs → after_item (line ++ 10 ∷ (xs ++ more)) ≡ more
 after_item-line line xs more unended asked =
@@ -94,12 +72,12 @@ after_item-line line xs more unended asked =
 
 -- a whole line gives its items before all that follows
 pub script-line : (line xs more : List ℕ) → position_or_len is_line_end line ≡ length line → due line ≡ length xs →
-    script (line ++ 10 ∷ (xs ++ more)) ≡ items_of line (taken_of line xs) ++ script more
+    script (line ++ 10 ∷ (xs ++ more)) ≡ items_of line xs ++ script more
 script-line line xs more unended asked =
     let b = line ++ 10 ∷ (xs ++ more) in
     script-step b
     ∙ ap (λ (items : List Item). items ++ script (after_item b)) (first_items-line line xs more unended asked)
-    ∙ ap (λ (rest : List ℕ). items_of line (taken_of line xs) ++ script rest) (after_item-line line xs more unended asked)
+    ∙ ap (λ (rest : List ℕ). items_of line xs ++ script rest) (after_item-line line xs more unended asked)
 
 -- whether a line with its end is whole is told by the bytes behind it
 is_first_whole-line : (line behind : List ℕ) → position_or_len is_line_end line ≡ length line → is_first_whole (line ++ 10 ∷ behind) ≡ nat_le (due line) (length behind)
@@ -165,12 +143,12 @@ whole-rest b line xs rest unended is_cut lines =
     (sym (whole-line line xs rest unended is_cut.asked) ∙ ap (λ (all : List ℕ). whole all) (sym is_cut.bytes) ∙ lines ∙ is_cut.bytes ∙ sym (append_assoc line (10 ∷ xs) rest))
 
 -- a line, its end and its bytes, with more behind what is behind them
-cut-append : (line xs rest more : List ℕ) → (line ++ 10 ∷ (xs ++ rest)) ++ more ≡ line ++ 10 ∷ (xs ++ (rest ++ more))
+pub cut-append : (line xs rest more : List ℕ) → (line ++ 10 ∷ (xs ++ rest)) ++ more ≡ line ++ 10 ∷ (xs ++ (rest ++ more))
 cut-append line xs rest more = append_assoc line (10 ∷ (xs ++ rest)) more ∙ ap (λ (behind : List ℕ). line ++ 10 ∷ behind) (append_assoc xs rest more)
 
 joined_behind : (a b line xs rest : List ℕ) → position_or_len is_line_end line ≡ length line → IsCut a line xs rest → script (rest ++ b) ≡ script rest ++ script b → script (a ++ b) ≡ script a ++ script b
 joined_behind a b line xs rest unended is_cut behind =
-    let items = items_of line (taken_of line xs) in
+    let items = items_of line xs in
     ap (λ (all : List ℕ). script (all ++ b)) is_cut.bytes
     ∙ ap (λ (all : List ℕ). script all) (cut-append line xs rest b)
     ∙ script-line line xs (rest ++ b) unended is_cut.asked
@@ -204,10 +182,23 @@ script-joined-within (suc n) (x ∷ a) b h lines =
 pub script-joined : (a b : List ℕ) → whole a ≡ a → script (a ++ b) ≡ script a ++ script b
 script-joined a b lines = script-joined-within (length a) a b (omega arith) lines
 
-pub replies-append : (xs ys : List Item) (tree : State) → replies (xs ++ ys) tree ≡ replies xs tree ++ replies ys (tree_after_all xs tree)
-replies-append [] ys tree = refl
-replies-append (x ∷ xs) ys tree = ap (λ (told : List Reply). reply_to x tree ∷ told) (replies-append xs ys (tree_after x tree))
+-- turns that are joined go on from what the first ones leave
+pub turns-append : (setting : Setting) (xs ys : List Item) → turns setting (xs ++ ys) ≡ turns setting xs ++ turns (left_by setting (turns setting xs)) ys
+turns-append setting [] ys = refl
+turns-append setting (x ∷ xs) ys = ap (λ (rest : List Turn). turn setting x ∷ rest) (turns-append (turn setting x).after xs ys)
 
-pub scripts-join : (first second : List ℕ) (tree : State) → whole first ≡ first → play (first ++ second) tree ≡ play first tree ++ play second (tree_after_all (script first) tree)
-scripts-join first second tree lines =
-    ap (λ (items : List Item). replies items tree) (script-joined first second lines) ∙ replies-append (script first) (script second) tree
+pub left_by-append : (setting : Setting) (xs ys : List Turn) → left_by setting (xs ++ ys) ≡ left_by (left_by setting xs) ys
+left_by-append setting [] ys = refl
+left_by-append setting (x ∷ xs) ys = left_by-append x.after xs ys
+
+pub scripts-join : (setting : Setting) (first second : List ℕ) → whole first ≡ first → play setting (first ++ second) ≡ play setting first ++ play (left_by setting (play setting first)) second
+scripts-join setting first second lines = ap (turns setting) (script-joined first second lines) ∙ turns-append setting (script first) (script second)
+
+-- a script is played by its first line and what follows that
+pub play-line : (setting : Setting) (b : List ℕ) → play setting b ≡ turns setting (first_items b) ++ play (left_by setting (turns setting (first_items b))) (after_item b)
+play-line setting b = ap (turns setting) (script-step b) ∙ turns-append setting (first_items b) (script (after_item b))
+
+-- a whole line in front of anything is played first
+pub play-of_line : (setting : Setting) (line xs more : List ℕ) → position_or_len is_line_end line ≡ length line → due line ≡ length xs →
+    play setting (line ++ 10 ∷ (xs ++ more)) ≡ turns setting (items_of line xs) ++ play (left_by setting (turns setting (items_of line xs))) more
+play-of_line setting line xs more unended asked = ap (turns setting) (script-line line xs more unended asked) ∙ turns-append setting (items_of line xs) (script more)

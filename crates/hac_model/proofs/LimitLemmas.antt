@@ -1,11 +1,11 @@
 -- A state that passes no limit is within each of them.
-use Rattle.std.proofs.Common.{◌≡◌, Bool, true, false, cond, refl, ap, ◌∙◌}
-use Rattle.std.specs.Prelude.{not, nat_lt, Option, Some, None}
-use Rattle.std.proofs.lemmas.Bool.{not-false, not_from_true}
-use Rattle.hac_model.specs.Limits.{are_paths_short, directory_count, file_count, passed, semantic_count, text_size}
-use Rattle.hac_model.specs.declared.limits.LimitWord.{LimitWord}
-use Rattle.hac_model.specs.declared.limits.LimitWord.TheVariants.{Texts, Dirs, Semantics, Path, Items, Numbers}
+use Rattle.std.proofs.Common.{◌≡◌, Bool, true, false, cond, refl, ap, ◌∙◌, List, [], ◌∷◌, ◌++◌}
+use Rattle.std.specs.Prelude.{nat_lt, Option, Some, None}
+use Rattle.hac_model.specs.Limits.{answer_limits, are_paths_short, counts, directory_count, file_count, first_passed, layout_limits, long_paths, passed, semantic_count, text_size}
+use Rattle.hac_model.specs.declared.limits.Limit.{Limit}
 use Rattle.hac_model.specs.declared.limits.TheConstants.{TEXTS_LIMIT, DIRS_LIMIT, SEMANTICS_LIMIT, ITEMS_LIMIT, NUMBERS_LIMIT}
+use Rattle.hac_model.specs.declared.limits.LimitWord.{LimitWord}
+use Rattle.hac_model.specs.declared.states.Entry.{Entry}
 use Rattle.hac_model.specs.declared.states.State.{State}
 
 -- the state passes none of the limits
@@ -17,30 +17,56 @@ pub record IsWithinLimits (s : State) : Type 0 where
   pub items : nat_lt ITEMS_LIMIT (file_count s.entries) ≡ false
   pub numbers : nat_lt NUMBERS_LIMIT s.next ≡ false
 
+-- a limit that isn't passed, and those behind it
 behind : (b : Bool) (word : LimitWord) (rest : Option LimitWord) → cond b (Some word) rest ≡ None → (b ≡ false) × (rest ≡ None)
 behind true word rest h = absurd cc
 behind false word rest h = (refl, h)
 
+first-behind : (limit : Limit) (limits : List Limit) → first_passed (limit ∷ limits) ≡ None → (nat_lt limit.most limit.count ≡ false) × (first_passed limits ≡ None)
+unfolding first_passed
+first-behind limit limits h = behind (nat_lt limit.most limit.count) limit.word (first_passed limits) h
+
+pub first-before : (limit : Limit) (limits : List Limit) → nat_lt limit.most limit.count ≡ false → first_passed limits ≡ None → first_passed (limit ∷ limits) ≡ None
+unfolding first_passed
+first-before limit limits h rest = ap (λ (b : Bool). cond b (Some limit.word) (first_passed limits)) h ∙ rest
+
+pub none-passed : first_passed [] ≡ None
+unfolding first_passed
+none-passed = refl
+
+-- no path is long where all are short
+pub short-paths : (es : List Entry) → nat_lt 0 (long_paths es) ≡ false → are_paths_short es ≡ true
+short-paths es h = elim (are_paths_short es) as (λ b. nat_lt 0 (cond b 0 1) ≡ false → b ≡ true) [ true ↦ (λ h. refl) | false ↦ (λ h. absurd cc) ] h
+
+pub paths-short : (es : List Entry) → are_paths_short es ≡ true → nat_lt 0 (long_paths es) ≡ false
+paths-short es h = ap (λ (b : Bool). nat_lt 0 (cond b 0 1)) h
+
 pub limits-within : (s : State) → passed s ≡ None → IsWithinLimits s
 unfolding passed
 limits-within s h =
-    let texts = behind (nat_lt TEXTS_LIMIT (text_size s.entries)) Texts _ h in
-    let dirs = behind (nat_lt DIRS_LIMIT (directory_count s.entries)) Dirs _ texts.1 in
-    let semantics = behind (nat_lt SEMANTICS_LIMIT (semantic_count s.entries)) Semantics _ dirs.1 in
-    let paths = behind (not (are_paths_short s.entries)) Path _ semantics.1 in
-    let items = behind (nat_lt ITEMS_LIMIT (file_count s.entries)) Items _ paths.1 in
-    let numbers = behind (nat_lt NUMBERS_LIMIT s.next) Numbers _ items.1 in
-    record { texts = texts.0; dirs = dirs.0; semantics = semantics.0; paths = not-false (are_paths_short s.entries) paths.0; items = items.0; numbers = numbers.0 }
-
-before : (b : Bool) (word : LimitWord) (rest : Option LimitWord) → b ≡ false → rest ≡ None → cond b (Some word) rest ≡ None
-before b word rest h k = ap (λ (t : Bool). cond t (Some word) rest) h ∙ k
+    let texts = first-behind _ _ h in
+    let dirs = first-behind _ _ texts.1 in
+    let semantics = first-behind _ _ dirs.1 in
+    let paths = first-behind _ _ semantics.1 in
+    let items = first-behind _ _ paths.1 in
+    let numbers = first-behind _ _ items.1 in
+    record { texts = texts.0; dirs = dirs.0; semantics = semantics.0; paths = short-paths s.entries paths.0; items = items.0; numbers = numbers.0 }
 
 pub limits-none : (s : State) → IsWithinLimits s → passed s ≡ None
 unfolding passed
 limits-none s h =
-    before (nat_lt TEXTS_LIMIT (text_size s.entries)) Texts _ h.texts
-    (before (nat_lt DIRS_LIMIT (directory_count s.entries)) Dirs _ h.dirs
-    (before (nat_lt SEMANTICS_LIMIT (semantic_count s.entries)) Semantics _ h.semantics
-    (before (not (are_paths_short s.entries)) Path _ (not_from_true (are_paths_short s.entries) h.paths)
-    (before (nat_lt ITEMS_LIMIT (file_count s.entries)) Items _ h.items
-    (before (nat_lt NUMBERS_LIMIT s.next) Numbers None h.numbers refl)))))
+    first-before _ _ h.texts
+    (first-before _ _ h.dirs
+    (first-before _ _ h.semantics
+    (first-before _ _ (paths-short s.entries h.paths)
+    (first-before _ _ h.items
+    (first-before _ _ h.numbers none-passed)))))
+
+-- limits of two lists are passed by none where none of either is
+passed-append : (xs ys : List Limit) → first_passed xs ≡ None → first_passed ys ≡ None → first_passed (xs ++ ys) ≡ None
+passed-append [] ys h k = k
+passed-append (x ∷ xs) ys h k = let parts = first-behind x xs h in first-before x (xs ++ ys) parts.0 (passed-append xs ys parts.1 k)
+
+pub passed-both : (s : State) → first_passed (layout_limits (counts s)) ≡ None → first_passed (answer_limits (counts s)) ≡ None → passed s ≡ None
+unfolding passed
+passed-both s h k = passed-append (layout_limits (counts s)) (answer_limits (counts s)) h k

@@ -1,22 +1,25 @@
 -- The links are the one fixed point of a round, where no directory depends on itself.
 use Rattle.std.proofs.Common.{◌≡◌, ℕ, zero, suc, ◌+◌, ◌≤◌, Bool, true, false, cond, List, [], ◌∷◌, length, subst, refl, ap, sym, ◌∙◌, arith, eq-eqb, inl, inr}
-use Rattle.std.specs.Prelude.{◌&&◌, ◌||◌, ◌==◌, ◌⊎◌, Option, Some, None, is_some, map, filter, option_and_then}
-use Rattle.std.specs.List.{list_any}
+use Rattle.std.specs.Prelude.{◌&&◌, ◌||◌, ◌==◌, ◌⊎◌, ◌++◌, not, Option, Some, None, is_some, map, filter, option_and_then}
+use Rattle.std.specs.List.{AllByRecursion, list_any}
 use Rattle.std.specs.Option.{option_map_or, option_map}
 use Rattle.std.proofs.Math.Dec.{eqb}
 use Rattle.std.proofs.lemmas.Bool.{eqb-true}
 use Rattle.std.proofs.lemmas.List.Sums.{sum_by-cons}
-use Rattle.hac_model.specs.Depends.{depends, Among, Leads, IsAcyclic}
+use Rattle.hac_model.specs.Depends.{depends, named_in, Among, Leads, IsAcyclic}
+use Rattle.hac_model.specs.Formula.{Formula}
+use Rattle.hac_model.specs.Formula as query
 use Rattle.hac_model.specs.Limits.{semantic_count}
 use Rattle.hac_model.specs.Links.{parent_of, is_semantic, is_below, provide, holds, satisfies, passes, column, round, rounds, links, items, shown_of, query_at}
 use Rattle.hac_model.specs.Tree.{entry_at, body_at, path_of, query_in}
-use Rattle.hac_model.specs.Valid.{IsValid}
-use Rattle.hac_model.specs.declared.queries.Query.{Query}
-use Rattle.hac_model.specs.declared.queries.Query.TheVariants as query
+use Rattle.hac_model.specs.Queries.{is_query}
+use Rattle.hac_model.specs.Valid.{AsksWell, IsLayout}
+use Rattle.hac_model.specs.declared.states.Body.{Body}
+use Rattle.hac_model.specs.declared.states.Body.TheVariants.{File, Dir, Symlink, Semantic, Mount}
 use Rattle.hac_model.specs.declared.states.Entry.{Entry}
 use Rattle.hac_model.specs.declared.states.State.{State}
 use Rattle.hac_model.proofs.PathLemmas.{path_of-deeper}
-use Rattle.hac_model.proofs.TreeLemmas.{entry_at-cases}
+use Rattle.hac_model.proofs.TreeLemmas.{entry_at-all, entry_at-cases}
 
 -- the number is taken out, wherever it is
 abbrev without : ℕ → List ℕ → List ℕ
@@ -101,36 +104,50 @@ semantic-length (e ∷ es) =
 
 -- what depends on something is semantic
 edge-semantic : (s : State) (d e : ℕ) → Among (depends s d) e → is_semantic s d ≡ true
-edge-semantic s d e edge = elim (is_semantic s d) as (λ b. Among (cond b (parent_of s d ∷ []) []) e → b ≡ true) [ true ↦ (λ h. refl) | false ↦ (λ h. absurd h) ] edge
+edge-semantic s d e edge = elim (query_at s d) as (λ o. Among (option_map_or (λ q. parent_of s d ∷ named_in q) o []) e → is_some o ≡ true) [ None ↦ (λ h. absurd h) | Some q ↦ (λ h. refl) ] edge
 
 edge-among : (s : State) (d e : ℕ) → Among (depends s d) e → Among (semantic_numbers s.entries) d
 edge-among s d e edge = semantic-among s.entries d (edge-semantic s d e edge)
 
--- a query of one word looks at no links
-holds-same : (s : State) (a b : ℕ → Bool) (q : Query) (item : ℕ) → holds s a q item ≡ holds s b q item
-holds-same s a b (query.Term term) item = refl
+among-left : (xs ys : List ℕ) (n : ℕ) → Among xs n → Among (xs ++ ys) n
+among-left [] ys n h = absurd h
+among-left (x ∷ xs) ys n (inl here) = inl here
+among-left (x ∷ xs) ys n (inr later) = inr (among-left xs ys n later)
 
-satisfies-same : (s : State) (a b : ℕ → Bool) (dir item : ℕ) → satisfies s a dir item ≡ satisfies s b dir item
-satisfies-same s a b dir item =
-    elim (query_at s dir) as (λ o. option_map_or (λ (q : Query). holds s a q item) o false ≡ option_map_or (λ (q : Query). holds s b q item) o false) [ None ↦ refl | Some q ↦ holds-same s a b q item ]
+among-right : (xs ys : List ℕ) (n : ℕ) → Among ys n → Among (xs ++ ys) n
+among-right [] ys n h = h
+among-right (x ∷ xs) ys n h = inr (among-right xs ys n h)
 
 provide-same : (s : State) (a b : ℕ → Bool) (dir item : ℕ) → a dir ≡ b dir → provide s a dir item ≡ provide s b dir item
 provide-same s a b dir item same = ap (λ (t : Bool). is_below s dir item || (is_semantic s dir && t)) same
 
-passes-same : (s : State) (a b : ℕ → Bool) (dir item : ℕ) → a (parent_of s dir) ≡ b (parent_of s dir) → passes s a dir item ≡ passes s b dir item
-passes-same s a b dir item same =
-    ap (λ (t : Bool). t && is_some (shown_of s item) && satisfies s a dir item) (provide-same s a b (parent_of s dir) item same)
-    ∙ ap (λ (t : Bool). provide s b (parent_of s dir) item && is_some (shown_of s item) && t) (satisfies-same s a b dir item)
+-- a query looks at the links of the directories that it names
+holds-same : (s : State) (a b : ℕ → Bool) (q : Formula ℕ) (item : ℕ) → ((e : ℕ) → Among (named_in q) e → a e ≡ b e) → holds s a q item ≡ holds s b q item
+holds-same s a b (query.Term term) item same = refl
+holds-same s a b (query.Dir dir) item same = provide-same s a b dir item (same dir (inl refl))
+holds-same s a b (query.Not q) item same = ap not (holds-same s a b q item same)
+holds-same s a b (query.And p q) item same = λ i.
+    holds-same s a b p item (λ e edge. same e (among-left (named_in p) (named_in q) e edge)) i
+    && holds-same s a b q item (λ e edge. same e (among-right (named_in p) (named_in q) e edge)) i
+holds-same s a b (query.Or p q) item same = λ i.
+    holds-same s a b p item (λ e edge. same e (among-left (named_in p) (named_in q) e edge)) i
+    || holds-same s a b q item (λ e edge. same e (among-right (named_in p) (named_in q) e edge)) i
+
+satisfied : (s : State) (a : ℕ → Bool) (dir item : ℕ) (q : Formula ℕ) → query_at s dir ≡ Some q → satisfies s a dir item ≡ holds s a q item
+satisfied s a dir item q at = ap (λ (o : Option (Formula ℕ)). option_map_or (λ (q : Formula ℕ). holds s a q item) o false) at
+
+passes-same : (s : State) (a b : ℕ → Bool) (dir item : ℕ) (q : Formula ℕ) → query_at s dir ≡ Some q → ((e : ℕ) → Among (parent_of s dir ∷ named_in q) e → a e ≡ b e) → passes s a dir item ≡ passes s b dir item
+passes-same s a b dir item q at same =
+    ap (λ (t : Bool). t && is_some (shown_of s item) && satisfies s a dir item) (provide-same s a b (parent_of s dir) item (same (parent_of s dir) (inl refl)))
+    ∙ ap (λ (t : Bool). provide s b (parent_of s dir) item && is_some (shown_of s item) && t) (satisfied s a dir item q at ∙ holds-same s a b q item (λ e edge. same e (inr edge)) ∙ sym (satisfied s b dir item q at))
 
 -- a round finds the links of a directory from those on which it depends
 round-local : (s : State) (b c : ℕ → List ℕ) (d : ℕ) → ((e : ℕ) → Among (depends s d) e → b e ≡ c e) → round s b d ≡ round s c d
 round-local s b c d same =
-    elim (is_semantic s d) as (λ t. ((e : ℕ) → Among (cond t (parent_of s d ∷ []) []) e → b e ≡ c e) → cond t (filter (λ item. passes s (column b item) d item) (items s)) [] ≡ cond t (filter (λ item. passes s (column c item) d item) (items s)) []) [
-      | true ↦ (λ same.
-          let known : b (parent_of s d) ≡ c (parent_of s d) = same (parent_of s d) (inl refl) in
-          λ i. filter (λ item. passes-same s (column b item) (column c item) d item (λ j. list_any (λ number. number == item) (known j)) i) (items s))
-      | false ↦ (λ same. refl)
-    ] same
+    elim (query_at s d) as (λ o. query_at s d ≡ o → ((e : ℕ) → Among (option_map_or (λ q. parent_of s d ∷ named_in q) o []) e → b e ≡ c e) → cond (is_some o) (filter (λ item. passes s (column b item) d item) (items s)) [] ≡ cond (is_some o) (filter (λ item. passes s (column c item) d item) (items s)) []) [
+      | None ↦ (λ at same. refl)
+      | Some q ↦ (λ at same. λ i. filter (λ item. passes-same s (column b item) (column c item) d item q at (λ e edge. ap (λ (ns : List ℕ). list_any (λ n. n == item) ns) (same e edge)) i) (items s))
+    ] refl same
 
 -- and gives none to what is no semantic directory
 round-outside : (s : State) (b : ℕ → List ℕ) (d : ℕ) → (Among (semantic_numbers s.entries) d → ⊥) → round s b d ≡ []
@@ -193,30 +210,46 @@ links-only s acyclic known fixed =
     λ i d. settled_all s acyclic known start (λ v outside. (λ j. sym fixed j v) ∙ round-outside s known v outside) d i in
     sym (iterate_fixed n (round s) known fixed) ∙ same ∙ sym (rounds-iterate s n)
 
--- a directory depends on the one in which it stands
-edge-parent : (s : State) (d e : ℕ) → Among (depends s d) e → (entry : Entry) × (entry_at s.entries d ≡ Some entry) × (entry.parent ≡ e)
-edge-parent s d e edge = parent (entry_at-cases s.entries d) (edge-semantic s d e edge)
+-- a query that a directory may have names no directory yet
+asked-names : (q : Formula ℕ) → is_query q ≡ true → named_in q ≡ []
+asked-names (query.Term term) h = refl
+asked-names other h = absurd cc
+
+asked-in : (body : Body) (q : Formula ℕ) → AsksWell body → query_in body ≡ Some q → is_query q ≡ true
+asked-in (Semantic query permanent prohibited) q sound h = let same : query ≡ q = cc in subst (λ (q : Formula ℕ). is_query q ≡ true) same sound.fits
+asked-in other q sound h = absurd cc
+
+-- so a directory depends on the one in which it stands alone
+edge-parent : (s : State) (d e : ℕ) → AllByRecursion (λ e. AsksWell e.body) s.entries → Among (depends s d) e → (entry : Entry) × (entry_at s.entries d ≡ Some entry) × (entry.parent ≡ e)
+edge-parent s d e sound edge = parent (entry_at-cases s.entries d) (edge-semantic s d e edge)
   where
     parent : (entry_at s.entries d ≡ None) ⊎ ((entry : Entry) × (entry_at s.entries d ≡ Some entry)) → is_semantic s d ≡ true → (entry : Entry) × (entry_at s.entries d ≡ Some entry) × (entry.parent ≡ e)
     parent (inl nothing) semantic = let never : false ≡ true = ap (λ (o : Option Entry). is_some (option_and_then query_in (option_map (λ (e : Entry). e.body) o))) (sym nothing) ∙ semantic in absurd cc
     parent (inr found) semantic =
-        let among : Among (parent_of s d ∷ []) e = subst (λ (b : Bool). Among (cond b (parent_of s d ∷ []) []) e) semantic edge in
+        let at : query_at s d ≡ query_in found.0.body = ap (λ (o : Option Entry). option_and_then query_in (option_map (λ (e : Entry). e.body) o)) found.1 in
         let here : parent_of s d ≡ found.0.parent = ap (λ (o : Option Entry). option_map_or (λ (e : Entry). e.parent) o 0) found.1 in
-        (found.0, found.1, sym here ∙ only among)
+        (found.0, found.1, sym here ∙ named (query_at s d) refl edge)
       where
         only : Among (parent_of s d ∷ []) e → parent_of s d ≡ e
         only (inl same) = same
         only (inr never) = absurd never
 
+        named : (o : Option (Formula ℕ)) → query_at s d ≡ o → Among (option_map_or (λ q. parent_of s d ∷ named_in q) o []) e → parent_of s d ≡ e
+        named None at h = absurd h
+        named (Some q) at h =
+            let body : query_in found.0.body ≡ Some q = sym (ap (λ (o : Option Entry). option_and_then query_in (option_map (λ (e : Entry). e.body) o)) found.1) ∙ at in
+            let fits = asked-in found.0.body q (entry_at-all (λ e. AsksWell e.body) s.entries d found.0 sound found.1) body in
+            only (subst (λ (names : List ℕ). Among (parent_of s d ∷ names) e) (asked-names q fits) h)
+
 -- each step over dependencies leads to a path with a name less
-leads-shorter : (s : State) (steps d e : ℕ) → IsValid s → Leads s steps d e → length (path_of s d) ≡ length (path_of s e) + steps
-leads-shorter s zero d e h leads = ap (λ (k : ℕ). length (path_of s k)) leads ∙ omega arith
-leads-shorter s (suc steps) d e h (next, edge, more) =
-    let parent = edge-parent s d next edge in
-    let rest = leads-shorter s steps next e h more in
+leads-shorter : (s : State) (steps d e : ℕ) → IsLayout s → AllByRecursion (λ e. AsksWell e.body) s.entries → Leads s steps d e → length (path_of s d) ≡ length (path_of s e) + steps
+leads-shorter s zero d e h sound leads = ap (λ (k : ℕ). length (path_of s k)) leads ∙ omega arith
+leads-shorter s (suc steps) d e h sound (next, edge, more) =
+    let parent = edge-parent s d next sound edge in
+    let rest = leads-shorter s steps next e h sound more in
     let here : length (path_of s parent.0.parent) ≡ length (path_of s next) = ap (λ (k : ℕ). length (path_of s k)) parent.2 in
     omega (arith, path_of-deeper s d parent.0 h parent.1, here, rest)
 
 -- so none leads back
-pub valid-acyclic : (s : State) → IsValid s → IsAcyclic s
-valid-acyclic s h steps dir back = omega (arith, leads-shorter s (suc steps) dir dir h back)
+pub layout-acyclic : (s : State) → IsLayout s → AllByRecursion (λ e. AsksWell e.body) s.entries → IsAcyclic s
+layout-acyclic s h sound steps dir back = omega (arith, leads-shorter s (suc steps) dir dir h sound back)

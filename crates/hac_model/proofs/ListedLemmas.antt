@@ -1,15 +1,17 @@
 -- What a listing needs of the links: which items they are, and by what each is linked.
-use Rattle.std.proofs.Common.{◌≡◌, ℕ, Bool, true, false, cond, List, [], ◌∷◌, refl, ap, sym, ◌∙◌, eq-eqb}
-use Rattle.std.specs.Prelude.{◌&&◌, ◌||◌, ◌==◌, Some, map, filter}
-use Rattle.std.specs.List.{list_any}
+use Rattle.std.proofs.Common.{◌≡◌, ℕ, zero, suc, ◌+◌, ◌<◌, ◌≤◌, Bool, true, false, cond, List, [], ◌∷◌, refl, ap, sym, ◌∙◌, arith, eq-eqb, inl, inr}
+use Rattle.std.specs.Prelude.{◌&&◌, ◌||◌, ◌==◌, Option, filter}
+use Rattle.std.specs.List.{list_any, range_with_len}
 use Rattle.std.specs.Option.{option_map, option_map_or}
-use Rattle.std.proofs.lemmas.Bool.{eqb-true}
+use Rattle.std.proofs.lemmas.Bool.{cases_eq, cases_lt, eqb-true}
 use Rattle.hac_model.specs.Depends.{IsAcyclic}
-use Rattle.hac_model.specs.Links.{is_semantic, passes, column, links, items, round}
-use Rattle.hac_model.specs.Tree.{entry_at, is_file, is_file_at}
+use Rattle.hac_model.specs.Links.{is_item, is_semantic, passes, column, links, items, round}
+use Rattle.hac_model.specs.Tree.{is_file, is_file_at}
+use Rattle.hac_model.specs.Valid.{IsLayout}
 use Rattle.hac_model.specs.declared.states.Entry.{Entry}
 use Rattle.hac_model.specs.declared.states.State.{State}
 use Rattle.hac_model.proofs.LinkLemmas.{links-fixed}
+use Rattle.hac_model.proofs.TreeLemmas.{entry_at-next}
 
 abbrev pub has : List ℕ → ℕ → Bool
 has xs x = list_any (λ number. number == x) xs
@@ -81,17 +83,26 @@ linked-item s item dir acyclic inside =
     and-true true = refl
     and-true false = refl
 
--- a file is an item
-pub file-item : (s : State) (item : ℕ) → is_file_at s.entries item ≡ true → has (items s) item ≡ true
-file-item s item file = in_entries s.entries item file
+has-range : (a n x : ℕ) → a ≤ x → x < a + n → has (range_with_len a n) x ≡ true
+has-range a zero x low high = absurd (omega arith)
+has-range a (suc n) x low high =
+    elim (cases_eq a x) [
+      | inl same ↦ ap (λ (b : Bool). b || has (range_with_len (a + 1) n) x) (eq-eqb a x same)
+      | inr other ↦ or-right (a == x) (has (range_with_len (a + 1) n) x) (has-range (a + 1) n x (omega arith) (omega arith))
+    ]
   where
-    in_entries : (es : List Entry) (item : ℕ) → is_file_at es item ≡ true → has (map (λ (e : Entry). e.number) (filter (λ (e : Entry). is_file e.body) es)) item ≡ true
-    in_entries [] item h = absurd cc
-    in_entries (e ∷ es) item h =
-        elim (e.number == item) as (λ b. (e.number == item) ≡ b → option_map_or is_file (option_map (λ (e : Entry). e.body) (cond b (Some e) (entry_at es item))) false ≡ true → has (map (λ (e : Entry). e.number) (cond (is_file e.body) (e ∷ filter (λ (e : Entry). is_file e.body) es) (filter (λ (e : Entry). is_file e.body) es))) item ≡ true) [
-          | true ↦ (λ same h. ap (λ (t : Bool). has (map (λ (e : Entry). e.number) (cond t (e ∷ filter (λ (e : Entry). is_file e.body) es) (filter (λ (e : Entry). is_file e.body) es))) item) h ∙ ap (λ (t : Bool). t || has (map (λ (e : Entry). e.number) (filter (λ (e : Entry). is_file e.body) es)) item) same)
-          | false ↦ (λ other h. elim (is_file e.body) as (λ t. has (map (λ (e : Entry). e.number) (cond t (e ∷ filter (λ (e : Entry). is_file e.body) es) (filter (λ (e : Entry). is_file e.body) es))) item ≡ true) [
-            | true ↦ ap (λ (t : Bool). t || has (map (λ (e : Entry). e.number) (filter (λ (e : Entry). is_file e.body) es)) item) other ∙ in_entries es item h
-            | false ↦ in_entries es item h
-          ])
-        ] refl h
+    or-right : (p q : Bool) → q ≡ true → (p || q) ≡ true
+    or-right true q h = refl
+    or-right false q h = h
+
+-- a file is an item
+pub file-item : (s : State) (item : ℕ) → IsLayout s → is_file_at s.entries item ≡ true → has (items s) item ≡ true
+file-item s item h file =
+    let below = number-below s item h file in
+    has-filter (is_item s) (range_with_len 0 s.next) item ∙ ap (λ (b : Bool). b && has (range_with_len 0 s.next) item) file ∙ has-range 0 s.next item (omega arith) (omega (arith, below))
+  where
+    number-below : (s : State) (n : ℕ) → IsLayout s → is_file_at s.entries n ≡ true → n < s.next
+    number-below s n h file = elim (cases_lt n s.next) [
+      | inl less ↦ less
+      | inr high ↦ (let none : false ≡ true = ap (λ (o : Option Entry). option_map_or is_file (option_map (λ (e : Entry). e.body) o) false) (sym (entry_at-next 0 s.entries s.next n h.numbers high)) ∙ file in absurd cc)
+    ]

@@ -6,23 +6,26 @@ use Rattle.std.specs.Str.{bytes_eq}
 use Rattle.std.proofs.lemmas.Bool.{and_from, and_parts}
 use Rattle.std.proofs.lemmas.List.{append-nil}
 use Rattle.hac_model.specs.Events.{is_free}
-use Rattle.hac_model.specs.Looks.{has_names, look, walk}
+use Rattle.hac_model.specs.Looks.{has_names, look}
 use Rattle.hac_model.specs.Names.{is_name}
 use Rattle.hac_model.specs.Paths.{are_names, join, without_last}
-use Rattle.hac_model.specs.Refusals.{place}
+use Rattle.hac_model.specs.Resolving.{place}
+use Rattle.hac_model.specs.Sessions.{base_of, stands_in}
 use Rattle.hac_model.specs.Tree.{child, entry_at, is_directory, is_directory_at, is_file, is_file_at, is_made_directory, path_of}
-use Rattle.hac_model.specs.Valid.{IsValid}
+use Rattle.hac_model.specs.Valid.{IsLayout, IsSound, IsValid}
 use Rattle.hac_model.specs.declared.paths.PathWord.{PathWord}
 use Rattle.hac_model.specs.declared.places.Place.{Place}
 use Rattle.hac_model.specs.declared.places.Place.TheVariants.{There, Free}
 use Rattle.hac_model.specs.declared.replies.Refusal.{Refusal}
 use Rattle.hac_model.specs.declared.replies.Refusal.TheVariants.{NoPath, NotDir}
 use Rattle.hac_model.specs.declared.states.Body.{Body}
-use Rattle.hac_model.specs.declared.states.Body.TheVariants.{File, Dir, Semantic}
+use Rattle.hac_model.specs.declared.states.Body.TheVariants.{File, Dir, Symlink, Semantic, Mount}
 use Rattle.hac_model.specs.declared.states.Entry.{Entry}
+use Rattle.hac_model.specs.declared.states.Session.{Session}
 use Rattle.hac_model.specs.declared.states.State.{State}
 use Rattle.hac_model.proofs.PathLemmas.{path_of-parent, path_of-root}
-use Rattle.hac_model.proofs.TreeLemmas.{Lives, child-entry, entry_at-cases}
+use Rattle.hac_model.proofs.TreeLemmas.{Lives, child-entry, entry_at-all, entry_at-cases}
+use Rattle.hac_model.proofs.Walks.{look-walk, walk}
 
 found-more : (b : Bool) (e : Entry) (o : Option Entry) → is_some o ≡ true → is_some (cond b (Some e) o) ≡ true
 found-more true e o h = refl
@@ -43,27 +46,30 @@ child-lives es dir name n h = elim (entry_at-cases es n) [
   | inr found ↦ inr found
 ]
 
-kind-cases : (body : Body) → is_file body ≡ not (is_directory body)
-kind-cases (File text dirty shown) = refl
-kind-cases Dir = refl
-kind-cases (Semantic query) = refl
+kind-cases : (body : Body) → IsSound body → is_file body ≡ not (is_directory body)
+kind-cases (File text dirty shown) sound = refl
+kind-cases Dir sound = refl
+kind-cases (Semantic query permanent prohibited) sound = refl
+kind-cases (Symlink target) sound = absurd sound
+kind-cases (Mount space documents answers) sound = absurd sound
 
 -- what lives is a file or a directory
-pub file-or_directory : (es : List Entry) (n : ℕ) → Lives es n → is_directory_at es n ≡ false → is_file_at es n ≡ true
-file-or_directory es n (inl root) h = let never : true ≡ false = ap (λ (k : ℕ). is_directory_at es k) (sym root) ∙ h in absurd cc
-file-or_directory es n (inr found) h =
-    elim (n == 0) as (λ b. (b || is_made_directory es n) ≡ false → is_file_at es n ≡ true) [ true ↦ (λ h. absurd cc) | false ↦ (λ h. made h) ] h
+pub file-or_directory : (s : State) (n : ℕ) → IsLayout s → Lives s.entries n → is_directory_at s.entries n ≡ false → is_file_at s.entries n ≡ true
+file-or_directory s n layout (inl root) h = let never : true ≡ false = ap (λ (k : ℕ). is_directory_at s.entries k) (sym root) ∙ h in absurd cc
+file-or_directory s n layout (inr found) h =
+    elim (n == 0) as (λ b. (b || is_made_directory s.entries n) ≡ false → is_file_at s.entries n ≡ true) [ true ↦ (λ h. absurd cc) | false ↦ (λ h. made h) ] h
   where
-    made : is_made_directory es n ≡ false → is_file_at es n ≡ true
+    made : is_made_directory s.entries n ≡ false → is_file_at s.entries n ≡ true
     made h =
         let other : is_directory found.0.body ≡ false = ap (λ (o : Option Entry). option_map_or is_directory (option_map (λ (e : Entry). e.body) o) false) (sym found.1) ∙ h in
-        ap (λ (o : Option Entry). option_map_or is_file (option_map (λ (e : Entry). e.body) o) false) found.1 ∙ kind-cases found.0.body ∙ ap not other
+        let sound : IsSound found.0.body = entry_at-all (λ e. IsSound e.body) s.entries n found.0 layout.bodies found.1 in
+        ap (λ (o : Option Entry). option_map_or is_file (option_map (λ (e : Entry). e.body) o) false) found.1 ∙ kind-cases found.0.body sound ∙ ap not other
 
-pub directory-or_file : (es : List Entry) (n : ℕ) → Lives es n → is_file_at es n ≡ false → is_directory_at es n ≡ true
-directory-or_file es n lives h =
-    elim (is_directory_at es n) as (λ b. is_directory_at es n ≡ b → b ≡ true) [
+pub directory-or_file : (s : State) (n : ℕ) → IsLayout s → Lives s.entries n → is_file_at s.entries n ≡ false → is_directory_at s.entries n ≡ true
+directory-or_file s n layout lives h =
+    elim (is_directory_at s.entries n) as (λ b. is_directory_at s.entries n ≡ b → b ≡ true) [
       | true ↦ (λ is. refl)
-      | false ↦ (λ other. let never : true ≡ false = sym (file-or_directory es n lives other) ∙ h in absurd cc)
+      | false ↦ (λ other. let never : true ≡ false = sym (file-or_directory s n layout lives other) ∙ h in absurd cc)
     ] refl
 
 -- where a name that isn't missing leads on
@@ -112,22 +118,22 @@ pub record IsFreePlace (es : List Entry) (dir : ℕ) (name : List ℕ) : Type 0 
   pub empty : child es dir name ≡ None
 
 -- a walk from a directory over names stops at a directory that has nothing of the last name
-walk-free : (es : List Entry) (dir : ℕ) (walked names : List (List ℕ)) (d : ℕ) (x : List ℕ) → is_directory_at es dir ≡ true → are_names names ≡ true → walk es dir walked names ≡ Ok (Free d x) → IsFreePlace es d x
-walk-free es dir walked [] d x directory named h = absurd cc
-walk-free es dir walked (name ∷ names) d x directory named h =
+walk-free : (s : State) (dir : ℕ) (walked names : List (List ℕ)) (d : ℕ) (x : List ℕ) → IsLayout s → is_directory_at s.entries dir ≡ true → are_names names ≡ true → walk s.entries dir walked names ≡ Ok (Free d x) → IsFreePlace s.entries d x
+walk-free s dir walked [] d x layout directory named h = absurd cc
+walk-free s dir walked (name ∷ names) d x layout directory named h =
     let parts = and_parts (is_name name) (are_names names) named in
-    elim (child es dir name) as (λ o. child es dir name ≡ o → option_map_or (on es (walked ++ name ∷ []) names) o (missing dir name (walked ++ name ∷ []) names) ≡ Ok (Free d x) → IsFreePlace es d x) [
+    elim (child s.entries dir name) as (λ o. child s.entries dir name ≡ o → option_map_or (on s.entries (walked ++ name ∷ []) names) o (missing dir name (walked ++ name ∷ []) names) ≡ Ok (Free d x) → IsFreePlace s.entries d x) [
       | None ↦ (λ found h.
           let same = missing-free dir name (walked ++ name ∷ []) names d x h in
-          subst (λ (y : List ℕ). IsFreePlace es d y) same.1 (subst (λ (k : ℕ). IsFreePlace es k name) same.0 (record { directory = directory; named = parts.0; empty = found })))
+          subst (λ (y : List ℕ). IsFreePlace s.entries d y) same.1 (subst (λ (k : ℕ). IsFreePlace s.entries k name) same.0 (record { directory = directory; named = parts.0; empty = found })))
       | Some m ↦ (λ found h.
-          let goes = on-goes es (walked ++ name ∷ []) names m (Free d x) h in
-          further names m (child-lives es dir name m found) goes.0 goes.1 (λ directory. walk-free es m (walked ++ name ∷ []) names d x directory parts.1 goes.1))
-    ] refl (sym (walk-name es dir walked name names) ∙ h)
+          let goes = on-goes s.entries (walked ++ name ∷ []) names m (Free d x) h in
+          further names m (child-lives s.entries dir name m found) goes.0 goes.1 (λ directory. walk-free s m (walked ++ name ∷ []) names d x layout directory parts.1 goes.1))
+    ] refl (sym (walk-name s.entries dir walked name names) ∙ h)
   where
-    further : (rest : List (List ℕ)) (m : ℕ) → Lives es m → (has_names rest && is_file_at es m) ≡ false → walk es m (walked ++ name ∷ []) rest ≡ Ok (Free d x) → (is_directory_at es m ≡ true → IsFreePlace es d x) → IsFreePlace es d x
+    further : (rest : List (List ℕ)) (m : ℕ) → Lives s.entries m → (has_names rest && is_file_at s.entries m) ≡ false → walk s.entries m (walked ++ name ∷ []) rest ≡ Ok (Free d x) → (is_directory_at s.entries m ≡ true → IsFreePlace s.entries d x) → IsFreePlace s.entries d x
     further [] m lives goes h on_from = absurd cc
-    further (y ∷ rest) m lives goes h on_from = on_from (directory-or_file es m lives goes)
+    further (y ∷ rest) m lives goes h on_from = on_from (directory-or_file s m layout lives goes)
 
 -- from the root no name is above
 take-nothing : (k : ℕ) → take {A = List ℕ} k [] ≡ []
@@ -140,13 +146,32 @@ join-root word = elim word.absolute as (λ b. cond b [] (without_last word.ups [
   | false ↦ ap (λ (front : List (List ℕ)). front ++ word.names) (take-nothing (0 - word.ups))
 ]
 
--- what a path word leads to lives
-pub place-lives : (s : State) (word : PathWord) (n : ℕ) → place s word ≡ Ok (There n) → Lives s.entries n
-place-lives s word n h = walk-lives s.entries 0 [] (join [] word) n (inl refl) h
+-- what a path leads to lives
+pub look-lives : (s : State) (path : List (List ℕ)) (n : ℕ) → look s path ≡ Ok (There n) → Lives s.entries n
+look-lives s path n h = walk-lives s.entries 0 [] path n (inl refl) (sym (look-walk s path) ∙ h)
 
 -- what it leads to and is missing is a free place
-pub place-free : (s : State) (word : PathWord) (dir : ℕ) (name : List ℕ) → are_names word.names ≡ true → place s word ≡ Ok (Free dir name) → IsFreePlace s.entries dir name
-place-free s word dir name named h = walk-free s.entries 0 [] (join [] word) dir name refl (ap are_names (join-root word) ∙ named) h
+pub look-free : (s : State) (path : List (List ℕ)) (dir : ℕ) (name : List ℕ) → IsLayout s → are_names path ≡ true → look s path ≡ Ok (Free dir name) → IsFreePlace s.entries dir name
+look-free s path dir name layout named h = walk-free s 0 [] path dir name layout refl named (sym (look-walk s path) ∙ h)
+
+-- every session stands in the root
+pub session-root : (s : State) (session : List ℕ) → IsValid s → stands_in s.sessions session ≡ 0
+session-root s session h = ap (λ (sessions : List Session). stands_in sessions session) h.sessions
+
+pub base-root : (s : State) (session : List ℕ) → IsValid s → base_of s session ≡ []
+base-root s session h = ap (λ (n : ℕ). path_of s n) (session-root s session h) ∙ path_of-root s h.layout
+
+-- so a path word leads where its names lead
+pub place-names : (s : State) (session : List ℕ) (word : PathWord) → IsValid s → place s session word ≡ look s word.names
+place-names s session word h = ap (λ (base : List (List ℕ)). look s (join base word)) (base-root s session h) ∙ ap (look s) (join-root word)
+
+-- what a path word leads to lives
+pub place-lives : (s : State) (session : List ℕ) (word : PathWord) (n : ℕ) → place s session word ≡ Ok (There n) → Lives s.entries n
+place-lives s session word n h = look-lives s (join (base_of s session) word) n h
+
+-- what it leads to and is missing is a free place
+pub place-free : (s : State) (session : List ℕ) (word : PathWord) (dir : ℕ) (name : List ℕ) → IsValid s → are_names word.names ≡ true → place s session word ≡ Ok (Free dir name) → IsFreePlace s.entries dir name
+place-free s session word dir name h named leads = look-free s word.names dir name h.layout named (sym (place-names s session word h) ∙ leads)
 
 pub free-is : (s : State) (dir : ℕ) (name : List ℕ) → IsFreePlace s.entries dir name → is_free s dir name ≡ true
 free-is s dir name h =
@@ -154,14 +179,14 @@ free-is s dir name h =
 
 -- In a valid state what is found has the path that was looked up.
 
-child-path : (s : State) (dir m : ℕ) (name : List ℕ) → IsValid s → child s.entries dir name ≡ Some m → path_of s m ≡ path_of s dir ++ name ∷ []
+pub child-path : (s : State) (dir m : ℕ) (name : List ℕ) → IsLayout s → child s.entries dir name ≡ Some m → path_of s m ≡ path_of s dir ++ name ∷ []
 child-path s dir m name h found =
     let there = child-entry 0 s.entries s.next dir m name h.numbers found in
     path_of-parent s m there.0 h there.1
     ∙ ap (λ (d : ℕ). path_of s d ++ there.0.name ∷ []) there.2
     ∙ ap (λ (x : List ℕ). path_of s dir ++ x ∷ []) there.3
 
-walk-found : (s : State) (dir : ℕ) (walked names : List (List ℕ)) (n : ℕ) → IsValid s → path_of s dir ≡ walked → walk s.entries dir walked names ≡ Ok (There n) → path_of s n ≡ walked ++ names
+walk-found : (s : State) (dir : ℕ) (walked names : List (List ℕ)) (n : ℕ) → IsLayout s → path_of s dir ≡ walked → walk s.entries dir walked names ≡ Ok (There n) → path_of s n ≡ walked ++ names
 walk-found s dir walked [] n h path leads = let same : dir ≡ n = cc in ap (λ (k : ℕ). path_of s k) (sym same) ∙ path ∙ sym (append-nil walked)
 walk-found s dir walked (name ∷ names) n h path leads =
     elim (child s.entries dir name) as (λ o. child s.entries dir name ≡ o → option_map_or (on s.entries (walked ++ name ∷ []) names) o (missing dir name (walked ++ name ∷ []) names) ≡ Ok (There n) → path_of s n ≡ walked ++ name ∷ names) [
@@ -172,31 +197,6 @@ walk-found s dir walked (name ∷ names) n h path leads =
           ∙ append_assoc walked (name ∷ []) names)
     ] refl (sym (walk-name s.entries dir walked name names) ∙ leads)
 
-missing-last : (dir : ℕ) (name : List ℕ) (walked names : List (List ℕ)) (d : ℕ) (x : List ℕ) → missing dir name walked names ≡ Ok (Free d x) → (dir ≡ d) × (name ≡ x) × (names ≡ [])
-unfolding missing
-missing-last dir name walked [] d x leads = let dirs : dir ≡ d = cc in let same : name ≡ x = cc in (dirs, same, refl)
-missing-last dir name walked (y ∷ names) d x leads = absurd cc
-
-walk-missing : (s : State) (dir : ℕ) (walked names : List (List ℕ)) (d : ℕ) (x : List ℕ) → IsValid s → path_of s dir ≡ walked → walk s.entries dir walked names ≡ Ok (Free d x) → path_of s d ++ x ∷ [] ≡ walked ++ names
-walk-missing s dir walked [] d x h path leads = absurd cc
-walk-missing s dir walked (name ∷ names) d x h path leads =
-    elim (child s.entries dir name) as (λ o. child s.entries dir name ≡ o → option_map_or (on s.entries (walked ++ name ∷ []) names) o (missing dir name (walked ++ name ∷ []) names) ≡ Ok (Free d x) → path_of s d ++ x ∷ [] ≡ walked ++ name ∷ names) [
-      | None ↦ (λ found leads.
-          let same = missing-last dir name (walked ++ name ∷ []) names d x leads in
-          ap (λ (k : ℕ). path_of s k ++ x ∷ []) (sym same.0)
-          ∙ ap (λ (y : List ℕ). path_of s dir ++ y ∷ []) (sym same.1)
-          ∙ ap (λ (p : List (List ℕ)). p ++ name ∷ []) path
-          ∙ ap (λ (rest : List (List ℕ)). walked ++ name ∷ rest) (sym same.2))
-      | Some m ↦ (λ found leads.
-          let here : path_of s m ≡ walked ++ name ∷ [] = child-path s dir m name h found ∙ ap (λ (p : List (List ℕ)). p ++ name ∷ []) path in
-          walk-missing s m (walked ++ name ∷ []) names d x h here (on-goes s.entries (walked ++ name ∷ []) names m (Free d x) leads).1
-          ∙ append_assoc walked (name ∷ []) names)
-    ] refl (sym (walk-name s.entries dir walked name names) ∙ leads)
-
 -- a path that leads to something is its path
-pub look-found : (s : State) (path : List (List ℕ)) (n : ℕ) → IsValid s → look s path ≡ Ok (There n) → path_of s n ≡ path
-look-found s path n h leads = walk-found s 0 [] path n h (path_of-root s h) leads
-
--- one that leads to a free place is that of its directory with its name
-pub look-missing : (s : State) (path : List (List ℕ)) (dir : ℕ) (name : List ℕ) → IsValid s → look s path ≡ Ok (Free dir name) → path_of s dir ++ name ∷ [] ≡ path
-look-missing s path dir name h leads = walk-missing s 0 [] path dir name h (path_of-root s h) leads
+pub look-found : (s : State) (path : List (List ℕ)) (n : ℕ) → IsLayout s → look s path ≡ Ok (There n) → path_of s n ≡ path
+look-found s path n h leads = walk-found s 0 [] path n h (path_of-root s h) (sym (look-walk s path) ∙ leads)

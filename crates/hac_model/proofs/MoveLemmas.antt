@@ -1,33 +1,33 @@
 -- The paths of a state to which an entry was added, or in which one was moved.
-use Rattle.std.proofs.Common.{◌≡◌, ℕ, zero, suc, ◌+◌, ◌-◌, ◌<◌, ◌≤◌, Bool, true, false, cond, List, [], ◌∷◌, ◌++◌, length, drop, subst, refl, ap, sym, ◌∙◌, arith, eq-eqb, inl, inr, length-append, length-drop, append_assoc}
-use Rattle.std.specs.Prelude.{◌==◌, ◌&&◌, ◌||◌, not, nat_le, nat_lt, Option, Some, None, IsTrue, is_some}
-use Rattle.std.specs.Option.{option_map, option_map_or}
+use Rattle.std.proofs.Common.{◌≡◌, ℕ, zero, suc, ◌+◌, ◌-◌, ◌<◌, ◌≤◌, Bool, true, false, cond, List, [], ◌∷◌, ◌++◌, length, drop, reverse, subst, refl, ap, sym, ◌∙◌, arith, eq-eqb, inl, inr, length-append, length-drop, append_assoc}
+use Rattle.std.specs.Prelude.{◌==◌, ◌&&◌, ◌||◌, not, nat_le, nat_lt, min, take, Option, Some, None, IsTrue, is_some}
+use Rattle.std.specs.Option.{option_map}
 use Rattle.std.specs.List.{AllByRecursion, list_all}
 use Rattle.std.specs.Str.{bytes_eq}
 use Rattle.std.proofs.lemmas.Bool.{and_parts, cond-true, cond-false, eqb-true, le-leb, ne_eqb, not-true, or_parts}
 use Rattle.std.proofs.lemmas.Bool.Decides.{nat_tests}
-use Rattle.std.proofs.lemmas.List.{drop-append-le}
+use Rattle.std.proofs.lemmas.List.{drop-append-le, length-map, length-reverse, length-take, reverse-append, reverse-reverse, take_all}
 use Rattle.std.proofs.lemmas.List.Folds.{list_all-append}
 use Rattle.std.proofs.Math.Seq.{drop-length}
 use Rattle.hac_model.specs.Events.{accepted, added, apply, changed, changed_at, is_free, is_inside, renamed, reseated}
 use Rattle.hac_model.specs.Limits.{are_paths_short, passed}
-use Rattle.hac_model.specs.Tree.{entry_at, extends, is_path_short, is_within, names_to, path_of}
-use Rattle.hac_model.specs.Valid.{IsValid}
+use Rattle.hac_model.specs.Tree.{ancestors, entry_at, extends, is_path_short, lineage, path_of}
+use Rattle.hac_model.specs.Valid.{IsLayout}
 use Rattle.hac_model.specs.declared.events.Event.TheVariants.{Mv}
 use Rattle.hac_model.specs.declared.limits.TheConstants.{PATH_LIMIT}
 use Rattle.hac_model.specs.declared.states.Body.{Body}
 use Rattle.hac_model.specs.declared.states.Entry.{Entry}
 use Rattle.hac_model.specs.declared.states.State.{State}
 use Rattle.hac_model.proofs.ChangeLemmas.{entry_at-changed, entry_at-new, entry_at-other, touched}
-use Rattle.hac_model.proofs.DepthLemmas.{entry-no_root, within-length, within-step, within_by}
-use Rattle.hac_model.proofs.PathLemmas.{extends-parent, extends-root, from_root, parent-lives, path_of-few, path-short, path_of-parent, path_of-root}
+use Rattle.hac_model.proofs.DepthLemmas.{entry-no_root, names_of, short-names}
+use Rattle.hac_model.proofs.PathLemmas.{ancestors-none, ancestors-step, ancestors_by, few-ancestors, length-path, limit, lineage-is, lineage-take, path-names, root-none, short-is, extends-parent, extends-root, from_root, parent-lives, path_of-few, path-short, path_of-parent, path_of-root}
 use Rattle.hac_model.proofs.TreeLemmas.{Lives, all-entries, directory-lives, entry_at-below, entry_at-cases, entry_at-next, entry_at-number, rise-below}
-use Rattle.hac_model.proofs.ValidLemmas.{accepted-parts, apply-valid, free-parts}
+use Rattle.hac_model.proofs.ValidLemmas.{accepted-parts, apply-layout, free-parts}
 
 -- An entry is added.
 
 -- what lives has a number below the next one
-lives-below : (s : State) (n : ℕ) → IsValid s → Lives s.entries n → n < s.next
+lives-below : (s : State) (n : ℕ) → IsLayout s → Lives s.entries n → n < s.next
 lives-below s n h (inl root) = let more : 0 < s.next = rise-below 0 s.entries s.next h.numbers in omega arith
 lives-below s n h (inr found) = entry_at-below 0 s.entries s.next n found.0 h.numbers found.1
 
@@ -36,52 +36,36 @@ all_pass : (test : Entry → Bool) (es : List Entry) → AllByRecursion (λ e. t
 all_pass test [] h = refl
 all_pass test (e ∷ es) h = ap (λ (b : Bool). b && list_all test es) h.0 ∙ all_pass test es h.1
 
-within-added : (steps : ℕ) (s : State) (new : Entry) (m : ℕ) → IsValid s → new.number ≡ s.next → Lives s.entries m → is_within steps (s.entries ++ new ∷ []) m ≡ is_within steps s.entries m
-within-added zero s new m h number lives = refl
-within-added (suc steps) s new m h number lives =
-    ap (within_by steps (s.entries ++ new ∷ []) m) (entry_at-other s.entries new m (λ same. omega (arith, lives-below s m h lives)))
-    ∙ (elim (entry_at s.entries m) as (λ o. entry_at s.entries m ≡ o → within_by steps (s.entries ++ new ∷ []) m o ≡ within_by steps s.entries m o) [
+ancestors-added : (steps : ℕ) (s : State) (new : Entry) (m : ℕ) → IsLayout s → new.number ≡ s.next → Lives s.entries m → ancestors steps (s.entries ++ new ∷ []) m ≡ ancestors steps s.entries m
+ancestors-added zero s new m h number lives = refl
+ancestors-added (suc steps) s new m h number lives =
+    ap (ancestors_by steps (s.entries ++ new ∷ [])) (entry_at-other s.entries new m (λ same. omega (arith, lives-below s m h lives)))
+    ∙ (elim (entry_at s.entries m) as (λ o. entry_at s.entries m ≡ o → ancestors_by steps (s.entries ++ new ∷ []) o ≡ ancestors_by steps s.entries o) [
       | None ↦ (λ found. refl)
-      | Some e ↦ (λ found. ap (λ (b : Bool). m == 0 || b) (within-added steps s new e.parent h number (parent-lives s m e h found)))
+      | Some e ↦ (λ found. ap (λ (above : List Entry). e ∷ above) (ancestors-added steps s new e.parent h number (parent-lives s m e h found)))
     ] refl)
 
-names-added : (steps : ℕ) (s : State) (new : Entry) (m : ℕ) → IsValid s → new.number ≡ s.next → Lives s.entries m → names_to steps (s.entries ++ new ∷ []) m ≡ names_to steps s.entries m
-names-added zero s new m h number lives = refl
-names-added (suc steps) s new m h number lives =
-    ap (λ (o : Option Entry). option_map_or (λ (e : Entry). names_to steps (s.entries ++ new ∷ []) e.parent ++ e.name ∷ []) o []) (entry_at-other s.entries new m (λ same. omega (arith, lives-below s m h lives)))
-    ∙ (elim (entry_at s.entries m) as (λ o. entry_at s.entries m ≡ o → option_map_or (λ (e : Entry). names_to steps (s.entries ++ new ∷ []) e.parent ++ e.name ∷ []) o [] ≡ option_map_or (λ (e : Entry). names_to steps s.entries e.parent ++ e.name ∷ []) o []) [
-      | None ↦ (λ found. refl)
-      | Some e ↦ (λ found. ap (λ (names : List (List ℕ)). names ++ e.name ∷ []) (names-added steps s new e.parent h number (parent-lives s m e h found)))
-    ] refl)
+lineage-added : (s : State) (new : Entry) (m : ℕ) → IsLayout s → new.number ≡ s.next → Lives s.entries m → lineage (s.entries ++ new ∷ []) m ≡ lineage s.entries m
+lineage-added s new m h number lives = lineage-is (s.entries ++ new ∷ []) m ∙ ancestors-added (suc limit) s new m h number lives ∙ sym (lineage-is s.entries m)
 
--- what was there has its path as before
-pub path_of-added : (s : State) (dir : ℕ) (name : List ℕ) (body : Body) (m : ℕ) → IsValid s → Lives s.entries m → path_of (added s dir name body) m ≡ path_of s m
-unfolding path_of
-path_of-added s dir name body m h lives = names-added PATH_LIMIT s (record { number = s.next; parent = dir; name = name; body = body }) m h refl lives
-
-short-added : (s : State) (new : Entry) (m : ℕ) → IsValid s → new.number ≡ s.next → Lives s.entries m → is_path_short (s.entries ++ new ∷ []) m ≡ is_path_short s.entries m
-unfolding is_path_short
-short-added s new m h number lives = within-added PATH_LIMIT s new m h number lives
+short-added : (s : State) (new : Entry) (m : ℕ) → IsLayout s → new.number ≡ s.next → Lives s.entries m → is_path_short (s.entries ++ new ∷ []) m ≡ is_path_short s.entries m
+short-added s new m h number lives = short-names (s.entries ++ new ∷ []) s.entries m m (ap (λ (es : List Entry). length (names_of es)) (lineage-added s new m h number lives))
 
 -- the new entry is one step deeper than its directory
-within-new : (steps : ℕ) (s : State) (new : Entry) → IsValid s → new.number ≡ s.next → Lives s.entries new.parent → is_within steps (s.entries ++ new ∷ []) new.number ≡ nat_lt (length (path_of s new.parent)) steps
-within-new zero s new h number lives =
-    let more : 0 < s.next = rise-below 0 s.entries s.next h.numbers in
-    ne_eqb new.number 0 (λ root. omega arith) ∙ grind (arith, nat_tests)
-within-new (suc steps) s new h number lives =
-    let more : 0 < s.next = rise-below 0 s.entries s.next h.numbers in
+short-new : (s : State) (new : Entry) → IsLayout s → new.number ≡ s.next → Lives s.entries new.parent → is_path_short (s.entries ++ new ∷ []) new.number ≡ nat_lt (length (path_of s new.parent)) PATH_LIMIT
+unfolding limit
+short-new s new h number lives =
     let none : entry_at s.entries new.number ≡ None = entry_at-next 0 s.entries s.next new.number h.numbers (omega arith) in
-    within-step steps (s.entries ++ new ∷ []) new.number new (λ root. omega arith) (entry_at-new s.entries new none)
-    ∙ within-added steps s new new.parent h number lives
-    ∙ within-length s new.parent h lives steps
+    let above : lineage (s.entries ++ new ∷ []) new.number ≡ new ∷ lineage s.entries new.parent =
+    lineage-is (s.entries ++ new ∷ []) new.number
+    ∙ ancestors-step limit (s.entries ++ new ∷ []) new.number new (entry_at-new s.entries new none)
+    ∙ ap (λ (es : List Entry). new ∷ es) (ancestors-added limit s new new.parent h number lives ∙ lineage-take s new.parent h lives) in
+    short-is (s.entries ++ new ∷ []) new.number
+    ∙ ap (λ (k : ℕ). nat_le k limit) (ap length above ∙ ap suc (sym (length-path s new.parent)))
     ∙ grind (arith, nat_tests)
 
-short-new : (s : State) (new : Entry) → IsValid s → new.number ≡ s.next → Lives s.entries new.parent → is_path_short (s.entries ++ new ∷ []) new.number ≡ nat_lt (length (path_of s new.parent)) PATH_LIMIT
-unfolding is_path_short
-short-new s new h number lives = within-new PATH_LIMIT s new h number lives
-
 -- all paths are short just where that of the directory leaves room for a name
-pub paths-added : (s : State) (dir : ℕ) (name : List ℕ) (body : Body) → IsValid s → Lives s.entries dir → are_paths_short (added s dir name body).entries ≡ nat_lt (length (path_of s dir)) PATH_LIMIT
+pub paths-added : (s : State) (dir : ℕ) (name : List ℕ) (body : Body) → IsLayout s → Lives s.entries dir → are_paths_short (added s dir name body).entries ≡ nat_lt (length (path_of s dir)) PATH_LIMIT
 paths-added s dir name body h lives =
     let new : Entry = record { number = s.next; parent = dir; name = name; body = body } in
     let test : Entry → Bool = λ e. is_path_short (s.entries ++ new ∷ []) e.number in
@@ -104,11 +88,11 @@ pub record IsMove (s : State) (n dir : ℕ) (e : Entry) : Type 0 where
   pub outside : is_inside s dir n ≡ false
 
 -- an entry is inside of another one just where its directory is
-inside-parent : (s : State) (n m : ℕ) (f : Entry) → IsValid s → Lives s.entries n → (m ≡ n → ⊥) → entry_at s.entries m ≡ Some f → is_inside s m n ≡ is_inside s f.parent n
+inside-parent : (s : State) (n m : ℕ) (f : Entry) → IsLayout s → Lives s.entries n → (m ≡ n → ⊥) → entry_at s.entries m ≡ Some f → is_inside s m n ≡ is_inside s f.parent n
 inside-parent s n m f h lives other found =
     ap (λ (b : Bool). b || extends (path_of s m) (path_of s n)) (ne_eqb m n other) ∙ extends-parent s m n f h lives found
 
-inside-root : (s : State) (n : ℕ) (e : Entry) → IsValid s → entry_at s.entries n ≡ Some e → is_inside s 0 n ≡ false
+inside-root : (s : State) (n : ℕ) (e : Entry) → IsLayout s → entry_at s.entries n ≡ Some e → is_inside s 0 n ≡ false
 inside-root s n e h found =
     ap (λ (b : Bool). b || extends (path_of s 0) (path_of s n)) (ne_eqb 0 n (λ same. entry-no_root s n e h found (sym same)))
     ∙ extends-root s (path_of s n) h
@@ -153,7 +137,7 @@ renamed-itself s n dir name =
     ∙ ap (λ (rest : List (List ℕ)). path_of s dir ++ name ∷ rest) (drop-length (path_of s n))
 
 -- each other has that of its directory with its name
-renamed-parent : (s : State) (n dir : ℕ) (name : List ℕ) (m : ℕ) (f : Entry) → IsValid s → Lives s.entries n → (m ≡ n → ⊥) → entry_at s.entries m ≡ Some f → renamed s n dir name m ≡ renamed s n dir name f.parent ++ f.name ∷ []
+renamed-parent : (s : State) (n dir : ℕ) (name : List ℕ) (m : ℕ) (f : Entry) → IsLayout s → Lives s.entries n → (m ≡ n → ⊥) → entry_at s.entries m ≡ Some f → renamed s n dir name m ≡ renamed s n dir name f.parent ++ f.name ∷ []
 renamed-parent s n dir name m f h lives other found =
     elim (is_inside s f.parent n) as (λ b. is_inside s f.parent n ≡ b → renamed s n dir name m ≡ renamed s n dir name f.parent ++ f.name ∷ []) [
       | true ↦ (λ inside.
@@ -171,66 +155,84 @@ renamed-parent s n dir name m f h lives other found =
     path : path_of s m ≡ path_of s f.parent ++ f.name ∷ []
     path = path_of-parent s m f h found
 
--- what is outside is within as many steps as before
-within-outside : (s : State) (n dir : ℕ) (name : List ℕ) (e : Entry) (m : ℕ) → IsValid s → entry_at s.entries n ≡ Some e → Lives s.entries m → is_inside s m n ≡ false → (steps : ℕ) → is_within steps (changed n (reseated dir name) s.entries) m ≡ is_within steps s.entries m
-within-outside s n dir name e m h there lives outside = from_root s (λ m. is_inside s m n ≡ false → (steps : ℕ) → is_within steps (changed n (reseated dir name) s.entries) m ≡ is_within steps s.entries m) h root step m lives outside
-  where
-    root : is_inside s 0 n ≡ false → (steps : ℕ) → is_within steps (changed n (reseated dir name) s.entries) 0 ≡ is_within steps s.entries 0
-    root outside zero = refl
-    root outside (suc steps) = refl
+-- what isn't there is not there after a move
+entry_at-none : (s : State) (n dir : ℕ) (name : List ℕ) (m : ℕ) → entry_at s.entries m ≡ None → entry_at (changed n (reseated dir name) s.entries) m ≡ None
+entry_at-none s n dir name m none = entry_at-changed n (reseated dir name) s.entries m (λ e. refl) ∙ ap (option_map (touched n (reseated dir name))) none
 
-    step : (m : ℕ) (f : Entry) → entry_at s.entries m ≡ Some f → (is_inside s f.parent n ≡ false → (steps : ℕ) → is_within steps (changed n (reseated dir name) s.entries) f.parent ≡ is_within steps s.entries f.parent) → is_inside s m n ≡ false → (steps : ℕ) → is_within steps (changed n (reseated dir name) s.entries) m ≡ is_within steps s.entries m
+-- the last name of a path is the first one from below
+last-first : (path : List (List ℕ)) (name : List ℕ) → reverse (path ++ name ∷ []) ≡ name ∷ reverse path
+last-first path name = reverse-append path (name ∷ [])
+
+none-taken : (k : ℕ) (names : List (List ℕ)) → names ≡ [] → take k (reverse names) ≡ []
+none-taken zero names none = refl
+none-taken (suc k) names none = ap (λ (names : List (List ℕ)). take (suc k) (reverse names)) none
+
+-- the names above what is outside stay
+names-outside : (s : State) (n dir : ℕ) (name : List ℕ) (e : Entry) (m : ℕ) → IsLayout s → entry_at s.entries n ≡ Some e → Lives s.entries m → is_inside s m n ≡ false → (steps : ℕ) → names_of (ancestors steps (changed n (reseated dir name) s.entries) m) ≡ take steps (reverse (path_of s m))
+names-outside s n dir name e m h there lives outside = from_root s (λ m. is_inside s m n ≡ false → (steps : ℕ) → names_of (ancestors steps (changed n (reseated dir name) s.entries) m) ≡ take steps (reverse (path_of s m))) h root step m lives outside
+  where
+    root : is_inside s 0 n ≡ false → (steps : ℕ) → names_of (ancestors steps (changed n (reseated dir name) s.entries) 0) ≡ take steps (reverse (path_of s 0))
+    root outside steps = ap names_of (ancestors-none steps (changed n (reseated dir name) s.entries) 0 (entry_at-none s n dir name 0 (root-none s h))) ∙ sym (none-taken steps (path_of s 0) (path_of-root s h))
+
+    step : (m : ℕ) (f : Entry) → entry_at s.entries m ≡ Some f → (is_inside s f.parent n ≡ false → (steps : ℕ) → names_of (ancestors steps (changed n (reseated dir name) s.entries) f.parent) ≡ take steps (reverse (path_of s f.parent))) → is_inside s m n ≡ false → (steps : ℕ) → names_of (ancestors steps (changed n (reseated dir name) s.entries) m) ≡ take steps (reverse (path_of s m))
     step m f found known outside zero = refl
     step m f found known outside (suc steps) =
         let other : m ≡ n → ⊥ = λ same. let apart = (or_parts (m == n) (extends (path_of s m) (path_of s n)) outside).0 in let here : (m == n) ≡ true = eq-eqb m n same in cc in
-        ap (within_by steps (changed n (reseated dir name) s.entries) m) (entry_at-still s n dir name m f other found)
-        ∙ ap (λ (b : Bool). m == 0 || b) (known (sym (inside-parent s n m f h (inr (e, there)) other found) ∙ outside) steps)
-        ∙ ap (within_by steps s.entries m) (sym found)
+        ap names_of (ancestors-step steps (changed n (reseated dir name) s.entries) m f (entry_at-still s n dir name m f other found))
+        ∙ ap (λ (names : List (List ℕ)). f.name ∷ names) (known (sym (inside-parent s n m f h (inr (e, there)) other found) ∙ outside) steps)
+        ∙ sym (ap (λ (p : List (List ℕ)). take (suc steps) (reverse p)) (path_of-parent s m f h found) ∙ ap (take (suc steps)) (last-first (path_of s f.parent) f.name))
 
--- after the move each is within as many steps as its new path has names
-within-moved : (s : State) (n dir : ℕ) (name : List ℕ) (e : Entry) (m : ℕ) → IsValid s → IsMove s n dir e → Lives s.entries m → (steps : ℕ) → is_within steps (changed n (reseated dir name) s.entries) m ≡ nat_le (length (renamed s n dir name m)) steps
-within-moved s n dir name e m h move lives = from_root s (λ m. (steps : ℕ) → is_within steps (changed n (reseated dir name) s.entries) m ≡ nat_le (length (renamed s n dir name m)) steps) h root step m lives
+-- after the move the names above each are those of its new path
+names-moved : (s : State) (n dir : ℕ) (name : List ℕ) (e : Entry) (m : ℕ) → IsLayout s → IsMove s n dir e → Lives s.entries m → (steps : ℕ) → names_of (ancestors steps (changed n (reseated dir name) s.entries) m) ≡ take steps (reverse (renamed s n dir name m))
+names-moved s n dir name e m h move lives = from_root s (λ m. (steps : ℕ) → names_of (ancestors steps (changed n (reseated dir name) s.entries) m) ≡ take steps (reverse (renamed s n dir name m))) h root step m lives
   where
-    root : (steps : ℕ) → is_within steps (changed n (reseated dir name) s.entries) 0 ≡ nat_le (length (renamed s n dir name 0)) steps
+    root : (steps : ℕ) → names_of (ancestors steps (changed n (reseated dir name) s.entries) 0) ≡ take steps (reverse (renamed s n dir name 0))
     root steps =
-        within-outside s n dir name e 0 h move.there (inl refl) (inside-root s n e h move.there) steps
-        ∙ within-length s 0 h (inl refl) steps
-        ∙ ap (λ (p : List (List ℕ)). nat_le (length p) steps) (sym (renamed-outside s n dir name 0 (inside-root s n e h move.there)))
+        ap names_of (ancestors-none steps (changed n (reseated dir name) s.entries) 0 (entry_at-none s n dir name 0 (root-none s h)))
+        ∙ sym (none-taken steps (renamed s n dir name 0) (renamed-outside s n dir name 0 (inside-root s n e h move.there) ∙ path_of-root s h))
 
-    itself : (steps : ℕ) → is_within steps (changed n (reseated dir name) s.entries) n ≡ nat_le (length (renamed s n dir name n)) steps
-    itself zero =
-        let long : length (renamed s n dir name n) ≡ length (path_of s dir) + 1 = ap length (renamed-itself s n dir name) ∙ length-append (path_of s dir) (name ∷ []) in
-        ne_eqb n 0 (entry-no_root s n e h move.there) ∙ grind (arith, nat_tests)
+    itself : (steps : ℕ) → names_of (ancestors steps (changed n (reseated dir name) s.entries) n) ≡ take steps (reverse (renamed s n dir name n))
+    itself zero = refl
     itself (suc steps) =
-        let long : length (renamed s n dir name n) ≡ length (path_of s dir) + 1 = ap length (renamed-itself s n dir name) ∙ length-append (path_of s dir) (name ∷ []) in
-        within-step steps (changed n (reseated dir name) s.entries) n (reseated dir name e) (entry-no_root s n e h move.there) (entry_at-moved s n dir name e move.there)
-        ∙ within-outside s n dir name e dir h move.there move.lives move.outside steps
-        ∙ within-length s dir h move.lives steps
-        ∙ grind (arith, nat_tests)
+        ap names_of (ancestors-step steps (changed n (reseated dir name) s.entries) n (reseated dir name e) (entry_at-moved s n dir name e move.there))
+        ∙ ap (λ (names : List (List ℕ)). name ∷ names) (names-outside s n dir name e dir h move.there move.lives move.outside steps)
+        ∙ sym (ap (λ (p : List (List ℕ)). take (suc steps) (reverse p)) (renamed-itself s n dir name) ∙ ap (take (suc steps)) (last-first (path_of s dir) name))
 
-    below : (m : ℕ) (f : Entry) → (m ≡ n → ⊥) → entry_at s.entries m ≡ Some f → ((steps : ℕ) → is_within steps (changed n (reseated dir name) s.entries) f.parent ≡ nat_le (length (renamed s n dir name f.parent)) steps) → (steps : ℕ) → is_within steps (changed n (reseated dir name) s.entries) m ≡ nat_le (length (renamed s n dir name m)) steps
-    below m f other found known zero =
-        let long : length (renamed s n dir name m) ≡ length (renamed s n dir name f.parent) + 1 = ap length (renamed-parent s n dir name m f h (inr (e, move.there)) other found) ∙ length-append (renamed s n dir name f.parent) (f.name ∷ []) in
-        ne_eqb m 0 (entry-no_root s m f h found) ∙ grind (arith, nat_tests)
-    below m f other found known (suc steps) =
-        let long : length (renamed s n dir name m) ≡ length (renamed s n dir name f.parent) + 1 = ap length (renamed-parent s n dir name m f h (inr (e, move.there)) other found) ∙ length-append (renamed s n dir name f.parent) (f.name ∷ []) in
-        within-step steps (changed n (reseated dir name) s.entries) m f (entry-no_root s m f h found) (entry_at-still s n dir name m f other found)
-        ∙ known steps
-        ∙ grind (arith, nat_tests)
+    others : (m : ℕ) (f : Entry) → entry_at s.entries m ≡ Some f → ((steps : ℕ) → names_of (ancestors steps (changed n (reseated dir name) s.entries) f.parent) ≡ take steps (reverse (renamed s n dir name f.parent))) → (m ≡ n → ⊥) → (steps : ℕ) → names_of (ancestors steps (changed n (reseated dir name) s.entries) m) ≡ take steps (reverse (renamed s n dir name m))
+    others m f found known other zero = refl
+    others m f found known other (suc steps) =
+        ap names_of (ancestors-step steps (changed n (reseated dir name) s.entries) m f (entry_at-still s n dir name m f other found))
+        ∙ ap (λ (names : List (List ℕ)). f.name ∷ names) (known steps)
+        ∙ sym (ap (λ (p : List (List ℕ)). take (suc steps) (reverse p)) (renamed-parent s n dir name m f h (inr (e, move.there)) other found) ∙ ap (take (suc steps)) (last-first (renamed s n dir name f.parent) f.name))
 
-    step : (m : ℕ) (f : Entry) → entry_at s.entries m ≡ Some f → ((steps : ℕ) → is_within steps (changed n (reseated dir name) s.entries) f.parent ≡ nat_le (length (renamed s n dir name f.parent)) steps) → (steps : ℕ) → is_within steps (changed n (reseated dir name) s.entries) m ≡ nat_le (length (renamed s n dir name m)) steps
+    step : (m : ℕ) (f : Entry) → entry_at s.entries m ≡ Some f → ((steps : ℕ) → names_of (ancestors steps (changed n (reseated dir name) s.entries) f.parent) ≡ take steps (reverse (renamed s n dir name f.parent))) → (steps : ℕ) → names_of (ancestors steps (changed n (reseated dir name) s.entries) m) ≡ take steps (reverse (renamed s n dir name m))
     step m f found known steps =
-        elim (m == n) as (λ b. (m == n) ≡ b → is_within steps (changed n (reseated dir name) s.entries) m ≡ nat_le (length (renamed s n dir name m)) steps) [
-          | true ↦ (λ here. subst (λ (k : ℕ). is_within steps (changed n (reseated dir name) s.entries) k ≡ nat_le (length (renamed s n dir name k)) steps) (sym (eqb-true m n here)) (itself steps))
-          | false ↦ (λ apart. below m f (λ same. let here : (m == n) ≡ true = eq-eqb m n same in cc) found known steps)
+        elim (m == n) as (λ b. (m == n) ≡ b → names_of (ancestors steps (changed n (reseated dir name) s.entries) m) ≡ take steps (reverse (renamed s n dir name m))) [
+          | true ↦ (λ here. subst (λ (j : ℕ). names_of (ancestors steps (changed n (reseated dir name) s.entries) j) ≡ take steps (reverse (renamed s n dir name j))) (sym (eqb-true m n here)) (itself steps))
+          | false ↦ (λ apart. others m f found known (λ same. let here : (m == n) ≡ true = eq-eqb m n same in cc) steps)
         ] refl
 
-short-moved : (s : State) (n dir : ℕ) (name : List ℕ) (e : Entry) (m : ℕ) → IsValid s → IsMove s n dir e → Lives s.entries m → is_path_short (changed n (reseated dir name) s.entries) m ≡ nat_le (length (renamed s n dir name m)) PATH_LIMIT
-unfolding is_path_short
-short-moved s n dir name e m h move lives = within-moved s n dir name e m h move lives PATH_LIMIT
+-- the lineage after a move, by its names
+lineage-moved : (s : State) (n dir : ℕ) (name : List ℕ) (e : Entry) (m : ℕ) → IsLayout s → IsMove s n dir e → Lives s.entries m → names_of (lineage (changed n (reseated dir name) s.entries) m) ≡ take (suc limit) (reverse (renamed s n dir name m))
+lineage-moved s n dir name e m h move lives = ap names_of (lineage-is (changed n (reseated dir name) s.entries) m) ∙ names-moved s n dir name e m h move lives (suc limit)
+
+-- so many of them as the new path has names, or one more than it may have
+length-moved : (s : State) (n dir : ℕ) (name : List ℕ) (e : Entry) (m : ℕ) → IsLayout s → IsMove s n dir e → Lives s.entries m → length (lineage (changed n (reseated dir name) s.entries) m) ≡ min (suc limit) (length (renamed s n dir name m))
+length-moved s n dir name e m h move lives =
+    sym (length-map (lineage (changed n (reseated dir name) s.entries) m) (λ (e : Entry). e.name))
+    ∙ ap length (lineage-moved s n dir name e m h move lives)
+    ∙ length-take (suc limit) (reverse (renamed s n dir name m))
+    ∙ ap (λ (k : ℕ). min (suc limit) k) (length-reverse (renamed s n dir name m))
+
+short-moved : (s : State) (n dir : ℕ) (name : List ℕ) (e : Entry) (m : ℕ) → IsLayout s → IsMove s n dir e → Lives s.entries m → is_path_short (changed n (reseated dir name) s.entries) m ≡ nat_le (length (renamed s n dir name m)) PATH_LIMIT
+unfolding limit
+short-moved s n dir name e m h move lives =
+    short-is (changed n (reseated dir name) s.entries) m
+    ∙ ap (λ (k : ℕ). nat_le k limit) (length-moved s n dir name e m h move lives)
+    ∙ grind (arith, nat_tests)
 
 -- all paths are short after a move just where each new one is
-pub paths-moved : (s : State) (n dir : ℕ) (name : List ℕ) (e : Entry) → IsValid s → IsMove s n dir e → are_paths_short (changed_at s n (reseated dir name)).entries ≡ list_all (λ f. nat_le (length (renamed s n dir name f.number)) PATH_LIMIT) s.entries
+pub paths-moved : (s : State) (n dir : ℕ) (name : List ℕ) (e : Entry) → IsLayout s → IsMove s n dir e → are_paths_short (changed_at s n (reseated dir name)).entries ≡ list_all (λ f. nat_le (length (renamed s n dir name f.number)) PATH_LIMIT) s.entries
 paths-moved s n dir name e h move = each s.entries (all-entries (λ f. is_path_short (changed n (reseated dir name) s.entries) f.number ≡ nat_le (length (renamed s n dir name f.number)) PATH_LIMIT) 0 s.entries s.next h.numbers (λ f found. short-moved s n dir name e f.number h move (inr (f, found))))
   where
     number : (f : Entry) → (touched n (reseated dir name) f).number ≡ f.number
@@ -244,7 +246,7 @@ paths-moved s n dir name e h move = each s.entries (all-entries (λ f. is_path_s
         ∙ ap (λ (b : Bool). nat_le (length (renamed s n dir name f.number)) PATH_LIMIT && b) (each es same.1)
 
 -- so only what moves has to be looked at, whose paths grow by what the new place is deeper
-pub paths-moved-inside : (s : State) (n dir : ℕ) (name : List ℕ) (e : Entry) → IsValid s → IsMove s n dir e → are_paths_short (changed_at s n (reseated dir name)).entries
+pub paths-moved-inside : (s : State) (n dir : ℕ) (name : List ℕ) (e : Entry) → IsLayout s → IsMove s n dir e → are_paths_short (changed_at s n (reseated dir name)).entries
     ≡ list_all (λ f. not (is_inside s f.number n) || nat_le (length (path_of s dir) + 1 + (length (path_of s f.number) - length (path_of s n))) PATH_LIMIT) s.entries
 paths-moved-inside s n dir name e h move =
     paths-moved s n dir name e h move
@@ -264,42 +266,18 @@ paths-moved-inside s n dir name e h move =
     each [] same = refl
     each (f ∷ es) same = λ i. same.0 i && each es same.1 i
 
--- the paths after a move
-path_of-outside : (s t : State) (n dir : ℕ) (name : List ℕ) (e : Entry) (m : ℕ) → IsValid s → IsValid t → t.entries ≡ changed n (reseated dir name) s.entries → entry_at s.entries n ≡ Some e → Lives s.entries m → is_inside s m n ≡ false → path_of t m ≡ path_of s m
-path_of-outside s t n dir name e m h k is there lives outside = from_root s (λ m. is_inside s m n ≡ false → path_of t m ≡ path_of s m) h (λ outside. path_of-root t k ∙ sym (path_of-root s h)) step m lives outside
-  where
-    step : (m : ℕ) (f : Entry) → entry_at s.entries m ≡ Some f → (is_inside s f.parent n ≡ false → path_of t f.parent ≡ path_of s f.parent) → is_inside s m n ≡ false → path_of t m ≡ path_of s m
-    step m f found known outside =
-        let other : m ≡ n → ⊥ = λ same. let apart = (or_parts (m == n) (extends (path_of s m) (path_of s n)) outside).0 in let here : (m == n) ≡ true = eq-eqb m n same in cc in
-        let found_t : entry_at t.entries m ≡ Some f = ap (λ (es : List Entry). entry_at es m) is ∙ entry_at-still s n dir name m f other found in
-        path_of-parent t m f k found_t
-        ∙ ap (λ (p : List (List ℕ)). p ++ f.name ∷ []) (known (sym (inside-parent s n m f h (inr (e, there)) other found) ∙ outside))
-        ∙ sym (path_of-parent s m f h found)
+-- the paths after a move, where all are short
+path_of-moved : (s t : State) (n dir : ℕ) (name : List ℕ) (e : Entry) (m : ℕ) → IsLayout s → IsLayout t → t.entries ≡ changed n (reseated dir name) s.entries → IsMove s n dir e → Lives s.entries m → Lives t.entries m → path_of t m ≡ renamed s n dir name m
+path_of-moved s t n dir name e m h k is move lives still =
+    let few : length (lineage t.entries m) ≤ limit = few-ancestors t m k still in
+    let long : length (lineage t.entries m) ≡ min (suc limit) (length (renamed s n dir name m)) = ap (λ (es : List Entry). length (lineage es m)) is ∙ length-moved s n dir name e m h move lives in
+    let all : length (reverse (renamed s n dir name m)) ≤ suc limit = omega (arith, few, long, length-reverse (renamed s n dir name m)) in
+    path-names t m
+    ∙ ap (λ (es : List Entry). reverse (names_of (lineage es m))) is
+    ∙ ap reverse (lineage-moved s n dir name e m h move lives ∙ take_all (suc limit) (reverse (renamed s n dir name m)) all)
+    ∙ reverse-reverse (renamed s n dir name m)
 
-path_of-moved : (s t : State) (n dir : ℕ) (name : List ℕ) (e : Entry) (m : ℕ) → IsValid s → IsValid t → t.entries ≡ changed n (reseated dir name) s.entries → IsMove s n dir e → Lives s.entries m → path_of t m ≡ renamed s n dir name m
-path_of-moved s t n dir name e m h k is move lives = from_root s (λ m. path_of t m ≡ renamed s n dir name m) h root step m lives
-  where
-    root : path_of t 0 ≡ renamed s n dir name 0
-    root = path_of-root t k ∙ sym (path_of-root s h) ∙ sym (renamed-outside s n dir name 0 (inside-root s n e h move.there))
-
-    itself : path_of t n ≡ renamed s n dir name n
-    itself =
-        path_of-parent t n (reseated dir name e) k (ap (λ (es : List Entry). entry_at es n) is ∙ entry_at-moved s n dir name e move.there)
-        ∙ ap (λ (p : List (List ℕ)). p ++ name ∷ []) (path_of-outside s t n dir name e dir h k is move.there move.lives move.outside)
-        ∙ sym (renamed-itself s n dir name)
-
-    step : (m : ℕ) (f : Entry) → entry_at s.entries m ≡ Some f → path_of t f.parent ≡ renamed s n dir name f.parent → path_of t m ≡ renamed s n dir name m
-    step m f found known =
-        elim (m == n) as (λ b. (m == n) ≡ b → path_of t m ≡ renamed s n dir name m) [
-          | true ↦ (λ here. subst (λ (j : ℕ). path_of t j ≡ renamed s n dir name j) (sym (eqb-true m n here)) itself)
-          | false ↦ (λ apart.
-              let other : m ≡ n → ⊥ = λ same. let here : (m == n) ≡ true = eq-eqb m n same in cc in
-              path_of-parent t m f k (ap (λ (es : List Entry). entry_at es m) is ∙ entry_at-still s n dir name m f other found)
-              ∙ ap (λ (p : List (List ℕ)). p ++ f.name ∷ []) known
-              ∙ sym (renamed-parent s n dir name m f h (inr (e, move.there)) other found))
-        ] refl
-
-some-found : (es : List Entry) (n : ℕ) → is_some (entry_at es n) ≡ true → (e : Entry) × (entry_at es n ≡ Some e)
+pub some-found : (es : List Entry) (n : ℕ) → is_some (entry_at es n) ≡ true → (e : Entry) × (entry_at es n ≡ Some e)
 some-found es n h = elim (entry_at-cases es n) [
   | inl none ↦ (let never : false ≡ true = ap (λ (o : Option Entry). is_some o) (sym none) ∙ h in absurd cc)
   | inr found ↦ found
@@ -314,7 +292,13 @@ accepted-move s n dir name ok =
     let found = some-found s.entries n free.0 in
     (found.0, record { there = found.1; lives = directory-lives s.entries dir (free-parts s dir name free.1).0; outside = not-true (is_inside s dir n) there.1 })
 
-pub moves-rename : (s : State) (n dir : ℕ) (name : List ℕ) (m : ℕ) → IsValid s → IsTrue (accepted s (Mv n dir name)) → IsTrue (is_some (entry_at s.entries m)) → path_of (apply s (Mv n dir name)) m ≡ renamed s n dir name m
+-- what lives before a move lives after it
+still-lives : (s : State) (n dir : ℕ) (name : List ℕ) (e : Entry) (m : ℕ) → entry_at s.entries n ≡ Some e → Lives s.entries m → Lives (changed n (reseated dir name) s.entries) m
+still-lives s n dir name e m there (inl root) = inl root
+still-lives s n dir name e m there (inr (f, found)) = inr (touched n (reseated dir name) f, entry_at-changed n (reseated dir name) s.entries m (λ e. refl) ∙ ap (option_map (touched n (reseated dir name))) found)
+
+pub moves-rename : (s : State) (n dir : ℕ) (name : List ℕ) (m : ℕ) → IsLayout s → IsTrue (accepted s (Mv n dir name)) → IsTrue (is_some (entry_at s.entries m)) → path_of (apply s (Mv n dir name)) m ≡ renamed s n dir name m
 moves-rename s n dir name m h ok there =
     let move = accepted-move s n dir name ok in
-    path_of-moved s (apply s (Mv n dir name)) n dir name move.0 m h (apply-valid s (Mv n dir name) h ok) refl move.1 (inr (some-found s.entries m there))
+    let lives : Lives s.entries m = inr (some-found s.entries m there) in
+    path_of-moved s (apply s (Mv n dir name)) n dir name move.0 m h (apply-layout s (Mv n dir name) h ok) refl move.1 lives (still-lives s n dir name move.0 m move.1.there lives)

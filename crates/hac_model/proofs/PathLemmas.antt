@@ -1,18 +1,18 @@
 -- Paths in a valid state: each leads to the entry whose path it is, and no two entries have one.
-use Rattle.std.proofs.Common.{◌≡◌, ℕ, zero, suc, ◌+◌, ◌≤◌, Bool, true, false, cond, List, [], ◌∷◌, ◌++◌, length, subst, refl, ap, sym, ◌∙◌, arith, eq-eqb, inl, inr, append_assoc, length-append}
-use Rattle.std.specs.Prelude.{◌⊎◌, ◌==◌, ◌&&◌, ◌||◌, Option, Some, None, Result, Ok, Err, IsTrue}
+use Rattle.std.proofs.Common.{◌≡◌, ℕ, zero, suc, ◌+◌, ◌<◌, ◌≤◌, Bool, true, false, cond, List, [], ◌∷◌, ◌++◌, length, map, reverse, subst, refl, ap, sym, ◌∙◌, arith, eq-eqb, inl, inr, append_assoc, length-append}
+use Rattle.std.specs.Prelude.{◌==◌, ◌&&◌, ◌||◌, nat_le, take, Option, Some, None, Result, Ok, Err, IsTrue}
 use Rattle.std.specs.Option.{option_map_or}
 use Rattle.std.specs.List.{list_all}
 use Rattle.std.specs.Bool.{Decides}
 use Rattle.std.specs.Cmp.Lexicographic.{pointwise}
 use Rattle.std.specs.Str.{bytes_eq}
-use Rattle.std.proofs.lemmas.Bool.{and_parts, eqb-true, cond-false}
+use Rattle.std.proofs.lemmas.Bool.{and_parts, cond-false, eqb-true, le-leb, leb-true}
 use Rattle.std.proofs.lemmas.Bool.Decides.{same_from_decides, Decides-eqb, Decides-like}
-use Rattle.std.proofs.lemmas.List.{append-nil}
+use Rattle.std.proofs.lemmas.List.{append-nil, length-map, length-reverse, reverse-append, take_all}
 use Rattle.std.proofs.lemmas.Slice.Eq.{bytes_eq-Decides, slice_eq-Decides}
-use Rattle.hac_model.specs.Looks.{has_names, look, walk}
-use Rattle.hac_model.specs.Tree.{child, entry_at, extends, is_directory_at, is_file_at, is_path_short, is_within, names_to, path_of}
-use Rattle.hac_model.specs.Valid.{IsValid}
+use Rattle.hac_model.specs.Looks.{has_names, look}
+use Rattle.hac_model.specs.Tree.{ancestors, child, entry_at, extends, is_directory_at, is_file_at, is_path_short, lineage, path_of}
+use Rattle.hac_model.specs.Valid.{IsLayout}
 use Rattle.hac_model.specs.declared.limits.TheConstants.{PATH_LIMIT}
 use Rattle.hac_model.specs.declared.places.Place.{Place}
 use Rattle.hac_model.specs.declared.places.Place.TheVariants.{There, Free}
@@ -21,82 +21,62 @@ use Rattle.hac_model.specs.declared.replies.Refusal.TheVariants.{NoPath, NotDir}
 use Rattle.hac_model.specs.declared.states.Entry.{Entry}
 use Rattle.hac_model.specs.declared.states.State.{State}
 use Rattle.hac_model.proofs.LimitLemmas.{IsWithinLimits, limits-within}
-use Rattle.hac_model.proofs.TreeLemmas.{Lives, child-own, directory-lives, entry_of, directory-no_file, entry_at-all, entry_at-low, entry_at-number}
+use Rattle.hac_model.proofs.TreeLemmas.{Lives, child-own, directory-lives, directory-no_file, entry_at-all, entry_at-low, entry_at-number}
+use Rattle.hac_model.proofs.Walks.{look-walk, walk}
 
--- the names that an entry leads to, in so many steps from its directory on
-abbrev pub names_by : ℕ → List Entry → Option Entry → List (List ℕ)
-names_by steps es found = option_map_or (λ (e : Entry). names_to steps es e.parent ++ e.name ∷ []) found []
+-- what an entry leads to, or none
+abbrev pub ancestors_by : ℕ → List Entry → Option Entry → List Entry
+ancestors_by steps es found = option_map_or (λ (e : Entry). e ∷ ancestors steps es e.parent) found []
 
--- the root is reached in no steps
-within-root : (steps : ℕ) (es : List Entry) → is_within steps es 0 ≡ true
-within-root zero es = refl
-within-root (suc steps) es = refl
+pub ancestors-step : (steps : ℕ) (es : List Entry) (n : ℕ) (e : Entry) → entry_at es n ≡ Some e → ancestors (suc steps) es n ≡ e ∷ ancestors steps es e.parent
+ancestors-step steps es n e found = ap (ancestors_by steps es) found
 
--- what is within so many steps and isn't the root has an entry, whose directory is within one step less
-within-entry : (steps : ℕ) (es : List Entry) (n : ℕ) → is_within (suc steps) es n ≡ true → (n ≡ 0) ⊎ ((e : Entry) × (entry_at es n ≡ Some e) × (is_within steps es e.parent ≡ true))
-within-entry steps es n h =
-    elim (n == 0) as (λ b. (n == 0) ≡ b → (b || option_map_or (λ (e : Entry). is_within steps es e.parent) (entry_at es n) false) ≡ true → (n ≡ 0) ⊎ ((e : Entry) × (entry_at es n ≡ Some e) × (is_within steps es e.parent ≡ true))) [
-      | true ↦ (λ root h. inl (eqb-true n 0 root))
-      | false ↦ (λ root h. inr (entry_of es n (λ e. is_within steps es e.parent) h))
-    ] refl h
+pub ancestors-none : (steps : ℕ) (es : List Entry) (n : ℕ) → entry_at es n ≡ None → ancestors steps es n ≡ []
+ancestors-none zero es n none = refl
+ancestors-none (suc steps) es n none = ap (ancestors_by steps es) none
 
--- induction over the steps to the root
-within-from_root : (steps : ℕ) (es : List Entry) (P : ℕ → Type 0) → P 0 → ((n : ℕ) (e : Entry) → entry_at es n ≡ Some e → P e.parent → P n) → (n : ℕ) → is_within steps es n ≡ true → P n
-within-from_root zero es P root step n h = subst P (sym (eqb-true n 0 h)) root
-within-from_root (suc steps) es P root step n h =
-    elim (within-entry steps es n h) [
-      | inl here ↦ subst P (sym here) root
-      | inr found ↦ step n found.0 found.1 (within-from_root steps es P root step found.0.parent found.2)
+-- fewer steps tell the first ones
+pub ancestors-taken : (steps : ℕ) (es : List Entry) (n : ℕ) → ancestors steps es n ≡ take steps (ancestors (suc steps) es n)
+ancestors-taken zero es n = refl
+ancestors-taken (suc steps) es n =
+    elim (entry_at es n) as (λ o. ancestors_by steps es o ≡ take (suc steps) (ancestors_by (suc steps) es o)) [
+      | None ↦ refl
+      | Some e ↦ ap (λ (above : List Entry). e ∷ above) (ancestors-taken steps es e.parent)
     ]
 
-names_to-root : (steps : ℕ) (es : List Entry) → entry_at es 0 ≡ None → names_to steps es 0 ≡ []
-names_to-root zero es root = refl
-names_to-root (suc steps) es root = ap (names_by steps es) root
+-- where steps are left over, one step more tells no more
+pub ancestors-more : (steps : ℕ) (es : List Entry) (n : ℕ) → length (ancestors steps es n) < steps → ancestors (suc steps) es n ≡ ancestors steps es n
+ancestors-more zero es n few = absurd (omega arith)
+ancestors-more (suc steps) es n few =
+    elim (entry_at es n) as (λ o. entry_at es n ≡ o → ancestors (suc (suc steps)) es n ≡ ancestors (suc steps) es n) [
+      | None ↦ (λ none. ancestors-none (suc (suc steps)) es n none ∙ sym (ancestors-none (suc steps) es n none))
+      | Some e ↦ (λ found.
+          let fewer : length (ancestors steps es e.parent) < steps = omega (arith, few, ap length (ancestors-step steps es n e found)) in
+          ancestors-step (suc steps) es n e found ∙ ap (λ (above : List Entry). e ∷ above) (ancestors-more steps es e.parent fewer) ∙ sym (ancestors-step steps es n e found))
+    ] refl
 
-names_to-step : (steps : ℕ) (es : List Entry) (n : ℕ) (e : Entry) → entry_at es n ≡ Some e → names_to (suc steps) es n ≡ names_to steps es e.parent ++ e.name ∷ []
-names_to-step steps es n e found = ap (names_by steps es) found
-
--- one step more tells no more names
-names_to-more : (steps : ℕ) (es : List Entry) (n : ℕ) → entry_at es 0 ≡ None → is_within steps es n ≡ true → names_to (suc steps) es n ≡ names_to steps es n
-names_to-more zero es n root h = subst (λ (k : ℕ). names_to (suc zero) es k ≡ []) (sym (eqb-true n 0 h)) (names_to-root (suc zero) es root)
-names_to-more (suc steps) es n root h =
-    elim (within-entry steps es n h) [
-      | inl here ↦ subst (λ (k : ℕ). names_to (suc (suc steps)) es k ≡ names_to (suc steps) es k) (sym here) (names_to-root (suc (suc steps)) es root ∙ sym (names_to-root (suc steps) es root))
-      | inr found ↦
-          names_to-step (suc steps) es n found.0 found.1
-          ∙ ap (λ (names : List (List ℕ)). names ++ found.0.name ∷ []) (names_to-more steps es found.0.parent root found.2)
-          ∙ sym (names_to-step steps es n found.0 found.1)
-    ]
-
--- the names to an entry are those to its directory and its own
-names_to-parent : (steps : ℕ) (es : List Entry) (n : ℕ) (e : Entry) → entry_at es 0 ≡ None → is_within steps es n ≡ true → entry_at es n ≡ Some e → names_to steps es n ≡ names_to steps es e.parent ++ e.name ∷ []
-names_to-parent zero es n e root h found =
-    let none : entry_at es n ≡ None = subst (λ (k : ℕ). entry_at es k ≡ None) (sym (eqb-true n 0 h)) root in
-    absurd cc
-names_to-parent (suc steps) es n e root h found =
-    elim (within-entry steps es n h) [
-      | inl here ↦ (let none : entry_at es n ≡ None = subst (λ (k : ℕ). entry_at es k ≡ None) (sym here) root in absurd cc)
-      | inr other ↦
-          (let both : Some e ≡ Some other.0 = sym found ∙ other.1 in
-          let same : e ≡ other.0 = cc in
-          let within : is_within steps es e.parent ≡ true = subst (λ (f : Entry). is_within steps es f.parent ≡ true) (sym same) other.2 in
-          names_to-step steps es n e found ∙ ap (λ (names : List (List ℕ)). names ++ e.name ∷ []) (sym (names_to-more steps es e.parent root within)))
-    ]
-
--- how many steps a path is allowed
-limit : ℕ
+-- so many steps are enough for a short path, and one is left over
+unfoldable pub limit : ℕ
 limit = PATH_LIMIT
 
-path-names : (s : State) (n : ℕ) → path_of s n ≡ names_to limit s.entries n
-unfolding path_of limit
+pub lineage-is : (es : List Entry) (n : ℕ) → lineage es n ≡ ancestors (suc limit) es n
+unfolding lineage limit
+lineage-is es n = refl
+
+pub path-names : (s : State) (n : ℕ) → path_of s n ≡ reverse (map (λ (e : Entry). e.name) (lineage s.entries n))
+unfolding path_of
 path-names s n = refl
 
-short-within : (es : List Entry) (n : ℕ) → is_path_short es n ≡ is_within limit es n
+-- a path has as many names as the entry has ancestors
+pub length-path : (s : State) (n : ℕ) → length (path_of s n) ≡ length (lineage s.entries n)
+length-path s n = ap length (path-names s n) ∙ length-reverse (map (λ (e : Entry). e.name) (lineage s.entries n)) ∙ length-map (lineage s.entries n) (λ (e : Entry). e.name)
+
+pub short-is : (es : List Entry) (n : ℕ) → is_path_short es n ≡ nat_le (length (lineage es n)) limit
 unfolding is_path_short limit
-short-within es n = refl
+short-is es n = refl
 
 -- the root has no entry
-pub root-none : (s : State) → IsValid s → entry_at s.entries 0 ≡ None
+pub root-none : (s : State) → IsLayout s → entry_at s.entries 0 ≡ None
 root-none s h = entry_at-low 0 s.entries s.next 0 h.numbers (omega arith)
 
 all_short : (es all : List Entry) (n : ℕ) (e : Entry) → list_all (λ (e : Entry). is_path_short all e.number) es ≡ true → entry_at es n ≡ Some e → is_path_short all e.number ≡ true
@@ -108,37 +88,70 @@ all_short (first ∷ es) all n e h found =
       | false ↦ (λ found. all_short es all n e parts.1 found)
     ] found
 
--- the path of what lives is short
-pub path-short : (s : State) (n : ℕ) → IsValid s → Lives s.entries n → is_path_short s.entries n ≡ true
-path-short s n h (inl root) = subst (λ (k : ℕ). is_path_short s.entries k ≡ true) (sym root) (short-within s.entries 0 ∙ within-root limit s.entries)
-path-short s n h (inr found) =
+-- what lives has few ancestors
+pub few-ancestors : (s : State) (n : ℕ) → IsLayout s → Lives s.entries n → length (lineage s.entries n) ≤ limit
+few-ancestors s n h (inl root) =
+    let none : lineage s.entries n ≡ [] = ap (lineage s.entries) root ∙ lineage-is s.entries 0 ∙ ancestors-none (suc limit) s.entries 0 (root-none s h) in
+    omega (arith, ap length none)
+few-ancestors s n h (inr found) =
     let within : IsWithinLimits s = limits-within s h.limits in
-    subst (λ (k : ℕ). is_path_short s.entries k ≡ true) (entry_at-number s.entries n found.0 found.1) (all_short s.entries s.entries n found.0 within.paths found.1)
+    let short : is_path_short s.entries n ≡ true = subst (λ (k : ℕ). is_path_short s.entries k ≡ true) (entry_at-number s.entries n found.0 found.1) (all_short s.entries s.entries n found.0 within.paths found.1) in
+    leb-true (length (lineage s.entries n)) limit (sym (short-is s.entries n) ∙ short)
+
+-- the path of what lives is short
+pub path-short : (s : State) (n : ℕ) → IsLayout s → Lives s.entries n → is_path_short s.entries n ≡ true
+path-short s n h lives = short-is s.entries n ∙ le-leb (length (lineage s.entries n)) limit (few-ancestors s n h lives)
+
+-- and has at most as many names as a path may have
+pub path_of-few : (s : State) (n : ℕ) → IsLayout s → Lives s.entries n → length (path_of s n) ≤ PATH_LIMIT
+unfolding limit
+path_of-few s n h lives = subst (λ (k : ℕ). k ≤ PATH_LIMIT) (sym (length-path s n)) (few-ancestors s n h lives)
 
 -- what lives and is no root stands in a directory, which lives
-pub parent-directory : (s : State) (n : ℕ) (e : Entry) → IsValid s → entry_at s.entries n ≡ Some e → is_directory_at s.entries e.parent ≡ true
+pub parent-directory : (s : State) (n : ℕ) (e : Entry) → IsLayout s → entry_at s.entries n ≡ Some e → is_directory_at s.entries e.parent ≡ true
 parent-directory s n e h found = entry_at-all (λ e. IsTrue (is_directory_at s.entries e.parent)) s.entries n e h.parents found
 
-pub parent-lives : (s : State) (n : ℕ) (e : Entry) → IsValid s → entry_at s.entries n ≡ Some e → Lives s.entries e.parent
+pub parent-lives : (s : State) (n : ℕ) (e : Entry) → IsLayout s → entry_at s.entries n ≡ Some e → Lives s.entries e.parent
 parent-lives s n e h found = directory-lives s.entries e.parent (parent-directory s n e h found)
 
+-- the ancestors of what lives, told by its directory's
+pub lineage-parent : (s : State) (n : ℕ) (e : Entry) → IsLayout s → entry_at s.entries n ≡ Some e → lineage s.entries n ≡ e ∷ lineage s.entries e.parent
+lineage-parent s n e h found =
+    let step = lineage-is s.entries n ∙ ancestors-step limit s.entries n e found in
+    let few : length (ancestors limit s.entries e.parent) < limit = omega (arith, few-ancestors s n h (inr (e, found)), ap length step) in
+    step ∙ ap (λ (above : List Entry). e ∷ above) (sym (ancestors-more limit s.entries e.parent few) ∙ sym (lineage-is s.entries e.parent))
+
+-- so many steps are enough for what lives
+pub lineage-take : (s : State) (n : ℕ) → IsLayout s → Lives s.entries n → ancestors limit s.entries n ≡ lineage s.entries n
+lineage-take s n h lives =
+    ancestors-taken limit s.entries n
+    ∙ ap (take limit) (sym (lineage-is s.entries n))
+    ∙ take_all limit (lineage s.entries n) (few-ancestors s n h lives)
+
 -- what the root has, and each entry if its directory has it, each has that lives
-pub from_root : (s : State) (P : ℕ → Type 0) → IsValid s → P 0 → ((n : ℕ) (e : Entry) → entry_at s.entries n ≡ Some e → P e.parent → P n) → (n : ℕ) → Lives s.entries n → P n
-from_root s P h root step n lives = within-from_root limit s.entries P root step n (sym (short-within s.entries n) ∙ path-short s n h lives)
+up-from_root : (steps : ℕ) (s : State) (P : ℕ → Type 0) → IsLayout s → P 0 → ((n : ℕ) (e : Entry) → entry_at s.entries n ≡ Some e → P e.parent → P n) → (n : ℕ) → Lives s.entries n → length (lineage s.entries n) < steps → P n
+up-from_root zero s P h root step n lives few = absurd (omega arith)
+up-from_root (suc steps) s P h root step n (inl here) few = subst P (sym here) root
+up-from_root (suc steps) s P h root step n (inr (e, found)) few =
+    step n e found (up-from_root steps s P h root step e.parent (parent-lives s n e h found) (omega (arith, few, ap length (lineage-parent s n e h found))))
+
+pub from_root : (s : State) (P : ℕ → Type 0) → IsLayout s → P 0 → ((n : ℕ) (e : Entry) → entry_at s.entries n ≡ Some e → P e.parent → P n) → (n : ℕ) → Lives s.entries n → P n
+from_root s P h root step n lives = up-from_root (suc (length (lineage s.entries n))) s P h root step n lives (omega arith)
 
 -- the path of the root is empty
-pub path_of-root : (s : State) → IsValid s → path_of s 0 ≡ []
-path_of-root s h = path-names s 0 ∙ names_to-root limit s.entries (root-none s h)
+pub path_of-root : (s : State) → IsLayout s → path_of s 0 ≡ []
+path_of-root s h = path-names s 0 ∙ ap (λ (es : List Entry). reverse (map (λ (e : Entry). e.name) es)) (lineage-is s.entries 0 ∙ ancestors-none (suc limit) s.entries 0 (root-none s h))
 
 -- the path of an entry is that of its directory with its name
-pub path_of-parent : (s : State) (n : ℕ) (e : Entry) → IsValid s → entry_at s.entries n ≡ Some e → path_of s n ≡ path_of s e.parent ++ e.name ∷ []
+pub path_of-parent : (s : State) (n : ℕ) (e : Entry) → IsLayout s → entry_at s.entries n ≡ Some e → path_of s n ≡ path_of s e.parent ++ e.name ∷ []
 path_of-parent s n e h found =
     path-names s n
-    ∙ names_to-parent limit s.entries n e (root-none s h) (sym (short-within s.entries n) ∙ path-short s n h (inr (e, found))) found
+    ∙ ap (λ (es : List Entry). reverse (map (λ (e : Entry). e.name) es)) (lineage-parent s n e h found)
+    ∙ reverse-append (e.name ∷ []) (map (λ (e : Entry). e.name) (lineage s.entries e.parent))
     ∙ ap (λ (names : List (List ℕ)). names ++ e.name ∷ []) (sym (path-names s e.parent))
 
 -- depth falls to the parent
-pub path_of-deeper : (s : State) (n : ℕ) (e : Entry) → IsValid s → entry_at s.entries n ≡ Some e → length (path_of s n) ≡ length (path_of s e.parent) + 1
+pub path_of-deeper : (s : State) (n : ℕ) (e : Entry) → IsLayout s → entry_at s.entries n ≡ Some e → length (path_of s n) ≡ length (path_of s e.parent) + 1
 path_of-deeper s n e h found = ap length (path_of-parent s n e h found) ∙ length-append (path_of s e.parent) (e.name ∷ [])
 
 -- two paths with a last name are one where the directories' paths and the names are
@@ -153,7 +166,7 @@ snoc-parts (v ∷ xs) (w ∷ ys) x y h =
     ((λ i. heads i ∷ parts.0 i), parts.1)
 
 -- two numbers that live and have one path are one
-pub path_of-one : (s : State) (m n : ℕ) → IsValid s → Lives s.entries m → Lives s.entries n → path_of s m ≡ path_of s n → m ≡ n
+pub path_of-one : (s : State) (m n : ℕ) → IsLayout s → Lives s.entries m → Lives s.entries n → path_of s m ≡ path_of s n → m ≡ n
 path_of-one s m n h live lives same =
     from_root s (λ m. (n : ℕ) → Lives s.entries n → path_of s m ≡ path_of s n → m ≡ n) h root step m live n lives same
   where
@@ -186,7 +199,7 @@ walk_on es walked name rest number =
     cond (has_names rest && is_file_at es number) (Err (NotDir (walked ++ name ∷ []))) (walk es number (walked ++ name ∷ []) rest)
 
 -- a walk from the root over a path comes to where the path leads, and goes on from there
-pub walk-path : (s : State) (n : ℕ) (rest : List (List ℕ)) → IsValid s → Lives s.entries n → (has_names rest && is_file_at s.entries n) ≡ false → walk s.entries 0 [] (path_of s n ++ rest) ≡ walk s.entries n (path_of s n) rest
+pub walk-path : (s : State) (n : ℕ) (rest : List (List ℕ)) → IsLayout s → Lives s.entries n → (has_names rest && is_file_at s.entries n) ≡ false → walk s.entries 0 [] (path_of s n ++ rest) ≡ walk s.entries n (path_of s n) rest
 walk-path s n rest h lives goes =
     from_root s (λ n. (rest : List (List ℕ)) → (has_names rest && is_file_at s.entries n) ≡ false → walk s.entries 0 [] (path_of s n ++ rest) ≡ walk s.entries n (path_of s n) rest) h root step n lives rest goes
   where
@@ -204,8 +217,8 @@ walk-path s n rest h lives goes =
         ∙ ap (λ (p : List (List ℕ)). walk s.entries n p rest) (sym path)
 
 -- a look-up by the path of what lives finds it
-pub look-path : (s : State) (n : ℕ) → IsValid s → Lives s.entries n → look s (path_of s n) ≡ Ok (There n)
-look-path s n h lives = ap (λ (p : List (List ℕ)). walk s.entries 0 [] p) (sym (append-nil (path_of s n))) ∙ walk-path s n [] h lives refl
+pub look-path : (s : State) (n : ℕ) → IsLayout s → Lives s.entries n → look s (path_of s n) ≡ Ok (There n)
+look-path s n h lives = look-walk s (path_of s n) ∙ ap (λ (p : List (List ℕ)). walk s.entries 0 [] p) (sym (append-nil (path_of s n))) ∙ walk-path s n [] h lives refl
 
 -- the two paths are one, tested name by name
 abbrev pub is_same_path : List (List ℕ) → List (List ℕ) → Bool
@@ -223,11 +236,11 @@ extends-last (z ∷ path) (y ∷ base) x =
     ∙ (elim (bytes_eq z y) as (λ b. (b && (is_same_path path base || extends path base)) ≡ ((b && is_same_path path base) || (b && extends path base))) [ true ↦ refl | false ↦ refl ])
 
 -- nothing stands above the root
-pub extends-root : (s : State) (base : List (List ℕ)) → IsValid s → extends (path_of s 0) base ≡ false
+pub extends-root : (s : State) (base : List (List ℕ)) → IsLayout s → extends (path_of s 0) base ≡ false
 extends-root s base h = ap (λ (p : List (List ℕ)). extends p base) (path_of-root s h)
 
 -- what an entry stands below is its directory, and what that stands below
-pub extends-parent : (s : State) (n d : ℕ) (e : Entry) → IsValid s → Lives s.entries d → entry_at s.entries n ≡ Some e → extends (path_of s n) (path_of s d) ≡ (e.parent == d || extends (path_of s e.parent) (path_of s d))
+pub extends-parent : (s : State) (n d : ℕ) (e : Entry) → IsLayout s → Lives s.entries d → entry_at s.entries n ≡ Some e → extends (path_of s n) (path_of s d) ≡ (e.parent == d || extends (path_of s e.parent) (path_of s d))
 extends-parent s n d e h lives found =
     let one : Decides (is_same_path (path_of s e.parent) (path_of s d)) (e.parent ≡ d) =
     Decides-like (is_same_path (path_of s e.parent) (path_of s d)) (path_of-one s e.parent d h (parent-lives s n e h found) lives) (λ same. ap (λ (k : ℕ). path_of s k) same) (same_path-Decides (path_of s e.parent) (path_of s d)) in
@@ -241,7 +254,7 @@ Rises es zero n d = n ≡ d
 Rises es (suc steps) n d = (e : Entry) × (entry_at es n ≡ Some e) × Rises es steps e.parent d
 
 -- the path of what steps lead from goes on from the path of where they lead
-pub rises-extends : (s : State) (steps n d : ℕ) → IsValid s → Lives s.entries d → Rises s.entries (suc steps) n d → extends (path_of s n) (path_of s d) ≡ true
+pub rises-extends : (s : State) (steps n d : ℕ) → IsLayout s → Lives s.entries d → Rises s.entries (suc steps) n d → extends (path_of s n) (path_of s d) ≡ true
 rises-extends s zero n d h lives (e, found, here) =
     extends-parent s n d e h lives found ∙ ap (λ (b : Bool). b || extends (path_of s e.parent) (path_of s d)) (eq-eqb e.parent d here)
 rises-extends s (suc steps) n d h lives (e, found, more) =
@@ -252,7 +265,7 @@ rises-extends s (suc steps) n d h lives (e, found, more) =
     or-true false = refl
 
 -- and only there
-pub extends-rises : (s : State) (n d : ℕ) → IsValid s → Lives s.entries n → Lives s.entries d → extends (path_of s n) (path_of s d) ≡ true → (steps : ℕ) × Rises s.entries (suc steps) n d
+pub extends-rises : (s : State) (n d : ℕ) → IsLayout s → Lives s.entries n → Lives s.entries d → extends (path_of s n) (path_of s d) ≡ true → (steps : ℕ) × Rises s.entries (suc steps) n d
 extends-rises s n d h live lives below = from_root s (λ n. extends (path_of s n) (path_of s d) ≡ true → (steps : ℕ) × Rises s.entries (suc steps) n d) h root step n live below
   where
     root : extends (path_of s 0) (path_of s d) ≡ true → (steps : ℕ) × Rises s.entries (suc steps) 0 d
@@ -264,24 +277,3 @@ extends-rises s n d h live lives below = from_root s (λ n. extends (path_of s n
           | true ↦ (λ here below. (zero, (e, found, eqb-true e.parent d here)))
           | false ↦ (λ other below. let more = known below in (suc more.0, (e, found, more.1)))
         ] refl (sym (extends-parent s n d e h lives found) ∙ below)
-
--- a number that is within steps has no more names than steps
-names_to-few : (steps fuel : ℕ) (es : List Entry) (n : ℕ) → entry_at es 0 ≡ None → is_within steps es n ≡ true → length (names_to fuel es n) ≤ steps
-names_to-few steps zero es n root h = omega arith
-names_to-few zero (suc fuel) es n root h =
-    let none : names_to (suc fuel) es n ≡ [] = subst (λ (k : ℕ). names_to (suc fuel) es k ≡ []) (sym (eqb-true n 0 h)) (names_to-root (suc fuel) es root) in
-    omega (arith, ap length none)
-names_to-few (suc steps) (suc fuel) es n root h =
-    elim (within-entry steps es n h) [
-      | inl here ↦
-          (let none : names_to (suc fuel) es n ≡ [] = subst (λ (k : ℕ). names_to (suc fuel) es k ≡ []) (sym here) (names_to-root (suc fuel) es root) in
-          omega (arith, ap length none))
-      | inr found ↦ omega (arith, ap length (names_to-step fuel es n found.0 found.1), length-append (names_to fuel es found.0.parent) (found.0.name ∷ []), names_to-few steps fuel es found.0.parent root found.2)
-    ]
-
--- the path of what lives has at most as many names as a path may have
-pub path_of-few : (s : State) (n : ℕ) → IsValid s → Lives s.entries n → length (path_of s n) ≤ PATH_LIMIT
-unfolding limit
-path_of-few s n h lives =
-    let few = names_to-few limit limit s.entries n (root-none s h) (sym (short-within s.entries n) ∙ path-short s n h lives) in
-    subst (λ (p : List (List ℕ)). length p ≤ PATH_LIMIT) (sym (path-names s n)) few

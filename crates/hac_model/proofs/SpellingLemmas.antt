@@ -1,19 +1,23 @@
 -- Lines spell commands with words that the commands may have.
-use Rattle.std.proofs.Common.{◌≡◌, ℕ, Bool, true, false, List, [], ◌∷◌, length, refl, ap, sym, ◌∙◌, arith}
-use Rattle.std.specs.Prelude.{◌&&◌, ◌||◌, not, if◌then◌else◌, nat_le, map, codes, Option, Some, None, Result, Ok, Err, IsTrue, ⊤}
+use Rattle.std.proofs.Common.{◌≡◌, ℕ, ◌≤◌, Bool, true, false, List, [], ◌∷◌, length, refl, ap, sym, ◌∙◌, arith}
+use Rattle.std.specs.Prelude.{◌&&◌, ◌||◌, not, if◌then◌else◌, nat_le, nat_lt, map, take, codes, Some, None, Result, Ok, Err, IsTrue, ⊤}
 use Rattle.std.specs.Char.{to_ascii_lowercase}
 use Rattle.std.specs.List.{list_all}
 use Rattle.std.specs.Option.{ok_or}
+use Rattle.std.specs.Str.Parse.{digits_value}
 use Rattle.std.specs.Str.{bytes_eq}
-use Rattle.std.proofs.lemmas.Bool.{and_parts, and_from, cond_both}
+use Rattle.std.proofs.lemmas.Bool.{and_parts, and_from, cond_both, le-leb, leb-true}
+use Rattle.std.proofs.lemmas.List.{length-take}
 use Rattle.std.proofs.lemmas.Bool.Decides.{nat_tests}
 use Rattle.hac_model.specs.Answers.{◌>>=◌}
 use Rattle.hac_model.specs.Bytes.{is_space}
 use Rattle.hac_model.specs.Limits.{is_text}
 use Rattle.hac_model.specs.LineWords.{first_word, after_space, first_run, after_run}
-use Rattle.hac_model.specs.Lines.{Item, called_with, command_with, each_path, in_main, index_of, is_one_word, is_spelled, item_of, limited_text, ls_of, mv_of, named_command, one_path, only_path, only_word, put_at, put_of, put_words, query_of, is_put, smkdir_of, two_paths, write_of}
+use Rattle.hac_model.specs.Lines.{Item, called_with, command_with, each_path, in_main, index_of, is_one_word, is_spelled, item_of, limited_put, limited_text, ls_of, mv_of, named_command, one_path, only_path, only_word, put_at, put_of, put_words, query_of, is_put, smkdir_of, two_paths, write_of}
 use Rattle.hac_model.specs.PathWords.{is_bad, word_of}
 use Rattle.hac_model.specs.Paths.{are_names}
+use Rattle.hac_model.specs.Formula.{Formula}
+use Rattle.hac_model.specs.Formula as query
 use Rattle.hac_model.specs.Queries.{is_operator, is_query, is_query_word}
 use Rattle.hac_model.specs.Texts.{text_of}
 use Rattle.hac_model.specs.Words.{has_bytes, is_lower_word_byte, is_word, is_word_byte, lower_case}
@@ -21,12 +25,8 @@ use Rattle.hac_model.specs.declared.commands.Command.{Command}
 use Rattle.hac_model.specs.declared.commands.Command.TheVariants.{Mkdir, Rmdir, Write, Cat, Ls, Mv, Rm, Smkdir, Sls, Index}
 use Rattle.hac_model.specs.declared.commands.Line.{Line}
 use Rattle.hac_model.specs.declared.limits.LimitWord.TheVariants as limit
-use Rattle.hac_model.specs.declared.limits.TheConstants.{LINE_LIMIT}
+use Rattle.hac_model.specs.declared.limits.TheConstants.{LINE_LIMIT, TEXT_LIMIT}
 use Rattle.hac_model.specs.declared.paths.PathWord.{PathWord}
-use Rattle.hac_model.specs.declared.putting.Taken.{Taken}
-use Rattle.hac_model.specs.declared.putting.Taken.TheVariants.{Whole, Dropped, Short, PastLimit}
-use Rattle.hac_model.specs.declared.queries.Query.{Query}
-use Rattle.hac_model.specs.declared.queries.Query.TheVariants as query
 use Rattle.hac_model.specs.declared.replies.Refusal.{Refusal}
 use Rattle.hac_model.specs.declared.replies.Refusal.TheVariants.{BadLine, BadName, BadQuery, Limit}
 use Rattle.hac_model.specs.declared.terms.Term.TheVariants.{Word}
@@ -52,11 +52,11 @@ unfolding is_word
 word-lower bytes h k = and_from (has_bytes (lower_case bytes)) (list_all is_lower_word_byte (lower_case bytes)) (has_bytes-lower bytes h) (lower_bytes bytes k)
 
 -- what is spelled is a query that a directory may have, or a refusal
-SpellsQuery : Result Query Refusal → Type 0
+SpellsQuery : Result (Formula PathWord) Refusal → Type 0
 SpellsQuery (Ok query) = IsTrue (is_query query)
 SpellsQuery (Err refusal) = ⊤
 
-query-sound : (spelled : Result Query Refusal) (wanted : Query) → SpellsQuery spelled → spelled ≡ Ok wanted → is_query wanted ≡ true
+query-sound : (spelled : Result (Formula PathWord) Refusal) (wanted : Formula PathWord) → SpellsQuery spelled → spelled ≡ Ok wanted → is_query wanted ≡ true
 unfolding SpellsQuery
 query-sound (Ok given) wanted sound same = let even : given ≡ wanted = cc in ap is_query (sym even) ∙ sound
 query-sound (Err refusal) wanted sound same = absurd cc
@@ -163,7 +163,7 @@ spells_write arguments =
     spells-then (limited_text spelled) _ (λ text fits.
     command-spelled (Write path text) (and_from (are_names path.names) (is_text text) (path-spelled word.0 path named) (limited_text-is spelled text fits))))))
 
-query-spelled : (bytes : List ℕ) (wanted : Query) → query_of bytes ≡ Ok wanted → is_query wanted ≡ true
+query-spelled : (bytes : List ℕ) (wanted : Formula PathWord) → query_of bytes ≡ Ok wanted → is_query wanted ≡ true
 query-spelled bytes wanted given = query-sound (query_of bytes) wanted (spells_query bytes) given
 
 spells_smkdir : (arguments : List ℕ) → Spells (smkdir_of arguments)
@@ -189,29 +189,36 @@ spells_named name arguments =
     (λ _. cond_both (bytes_eq name (codes "mv")) _ _ P (λ _. spells_mv arguments)
     (λ _. cond_both (bytes_eq name (codes "rm")) _ _ P (λ _. spells_one Rm arguments (λ path names. names))
     (λ _. cond_both (bytes_eq name (codes "smkdir")) _ _ P (λ _. spells_smkdir arguments)
-    (λ _. cond_both (bytes_eq name (codes "sls")) _ _ P (λ _. spells_one Sls arguments (λ path names. names))
+    (λ _. cond_both (bytes_eq name (codes "sls")) _ _ P (λ _. spells_one (λ path. Sls (Some path)) arguments (λ path names. names))
     (λ _. cond_both (bytes_eq name (codes "index")) _ _ P (λ _. spells_index arguments)
     (λ _. spells_bad_line))))))))))
 
-spells_put_at : (word : List ℕ) (taken : Option Taken) → Spells (put_at word taken)
+limited_put-is : (count : ℕ) (behind text : List ℕ) → limited_put count behind ≡ Ok text → is_text text ≡ true
+limited_put-is count behind text given =
+    elim (nat_le count TEXT_LIMIT) as (λ b. nat_le count TEXT_LIMIT ≡ b → (let read : Result (List ℕ) Refusal = if b then Ok (take count behind) else Err (Limit limit.Text) in read) ≡ Ok text → is_text text ≡ true) [
+      | true ↦ (λ few same.
+          let even : take count behind ≡ text = cc in
+          let less : count ≤ TEXT_LIMIT = leb-true count TEXT_LIMIT few in
+          ap is_text (sym even) ∙ le-leb (length (take count behind)) TEXT_LIMIT (grind (arith, less, length-take count behind)))
+      | false ↦ (λ many same. absurd cc)
+    ] refl given
+
+spells_put_at : (word : List ℕ) (count : ℕ) (behind : List ℕ) → Spells (put_at word count behind)
 unfolding Spells
-spells_put_at word (Some (Whole bytes)) =
+spells_put_at word count behind =
+    cond_both (nat_lt (length behind) count) _ _ Spells (λ _. tt) (λ enough.
     spells-then (word_of word) _ (λ path named.
-    spells-then (limited_text bytes) _ (λ text fits.
-    command-spelled (Write path text) (and_from (are_names path.names) (is_text text) (path-spelled word path named) (limited_text-is bytes text fits))))
-spells_put_at word (Some Dropped) = spells-then (word_of word) _ (λ path named. tt)
-spells_put_at word (Some Short) = tt
-spells_put_at word (Some PastLimit) = tt
-spells_put_at word None = tt
+    spells-then (limited_put count behind) _ (λ text fits.
+    command-spelled (Write path text) (and_from (are_names path.names) (is_text text) (path-spelled word path named) (limited_put-is count behind text fits)))))
 
-spells_put : (arguments : List ℕ) (taken : Option Taken) → Spells (put_of arguments taken)
-spells_put arguments taken = spells-then (put_words arguments) _ (λ words _. spells_put_at words.0 taken)
+spells_put : (arguments behind : List ℕ) → Spells (put_of arguments behind)
+spells_put arguments behind = spells-then (put_words arguments) _ (λ words _. spells_put_at words.0 (digits_value 10 words.1) behind)
 
-spells_called : (name arguments : List ℕ) (taken : Option Taken) → Spells (called_with name arguments taken)
-spells_called name arguments taken = cond_both (is_put name) _ _ Spells (λ _. spells_put arguments taken) (λ _. spells_named name arguments)
+spells_called : (name arguments behind : List ℕ) → Spells (called_with name arguments behind)
+spells_called name arguments behind = cond_both (is_put name) _ _ Spells (λ _. spells_put arguments behind) (λ _. spells_named name arguments)
 
-spells_with : (line : List ℕ) (taken : Option Taken) → Spells (command_with line taken)
-spells_with line taken = spells-then (first_word line) _ (λ name _. spells_called name.0 name.1 taken)
+spells_with : (line behind : List ℕ) → Spells (command_with line behind)
+spells_with line behind = spells-then (first_word line) _ (λ name _. spells_called name.0 name.1 behind)
 
 -- an item is a line whose command has words that it may have, or a refusal
 abbrev pub IsItem : Item → Type 0
@@ -223,10 +230,10 @@ unfolding Spells
 in_main-item (Ok command) h = h
 in_main-item (Err refusal) h = tt
 
-pub item_of-item : (bytes : List ℕ) (taken : Option Taken) → IsItem (item_of bytes taken)
-item_of-item bytes taken =
-    elim (nat_le (length bytes) LINE_LIMIT) as (λ b. IsItem (if b then in_main (command_with bytes taken) else Err (Limit limit.Line))) [
-      | true ↦ in_main-item (command_with bytes taken) (spells_with bytes taken)
+pub item_of-item : (bytes behind : List ℕ) → IsItem (item_of bytes behind)
+item_of-item bytes behind =
+    elim (nat_le (length bytes) LINE_LIMIT) as (λ b. IsItem (if b then in_main (command_with bytes behind) else Err (Limit limit.Line))) [
+      | true ↦ in_main-item (command_with bytes behind) (spells_with bytes behind)
       | false ↦ tt
     ]
 
@@ -234,5 +241,5 @@ line-spelled : (item : Item) (line : Line) → IsItem item → item ≡ Ok line 
 line-spelled (Ok given) line h same = let even : given ≡ line = cc in ap (λ (l : Line). is_spelled l.command) (sym even) ∙ h
 line-spelled (Err refusal) line h same = absurd cc
 
-pub lines-spell : (bytes : List ℕ) (taken : Option Taken) (line : Line) → item_of bytes taken ≡ Ok line → IsTrue (is_spelled line.command)
-lines-spell bytes taken line same = line-spelled (item_of bytes taken) line (item_of-item bytes taken) same
+pub lines-spell : (bytes behind : List ℕ) (line : Line) → item_of bytes behind ≡ Ok line → IsTrue (is_spelled line.command)
+lines-spell bytes behind line same = line-spelled (item_of bytes behind) line (item_of-item bytes behind) same

@@ -9,7 +9,7 @@ use Rattle.std.proofs.lemmas.Slice.Eq.{bytes_eq-Decides}
 use Rattle.hac_model.specs.Tree.{child, entry_at, is_directory, is_directory_at, is_file, is_file_at, is_made_directory}
 use Rattle.hac_model.specs.Valid.{NamesDiffer, NumbersRise}
 use Rattle.hac_model.specs.declared.states.Body.{Body}
-use Rattle.hac_model.specs.declared.states.Body.TheVariants.{File, Dir, Semantic}
+use Rattle.hac_model.specs.declared.states.Body.TheVariants.{File, Dir, Symlink, Semantic, Mount}
 use Rattle.hac_model.specs.declared.states.Entry.{Entry}
 
 -- the root, or an entry
@@ -166,7 +166,9 @@ directory-lives es d h =
 other_kind : (body : Body) → is_directory body ≡ true → is_file body ≡ false
 other_kind (File text dirty shown) h = absurd cc
 other_kind Dir h = refl
-other_kind (Semantic query) h = refl
+other_kind (Semantic query permanent prohibited) h = refl
+other_kind (Symlink target) h = refl
+other_kind (Mount space documents answers) h = refl
 
 -- a directory is no file
 pub directory-no_file : (es : List Entry) (d : ℕ) → entry_at es 0 ≡ None → is_directory_at es d ≡ true → is_file_at es d ≡ false

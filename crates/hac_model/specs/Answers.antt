@@ -1,5 +1,6 @@
 -- Values and refusals.
-use Rattle.std.specs.Prelude.{◌≡◌, ⊤, Result, Ok, Err}
+use Rattle.std.specs.Prelude.{◌≡◌, ⊤, List, [], ◌∷◌, Option, None, Some, Result, Ok, Err}
+use Rattle.std.specs.Option.{option_map_or}
 use Rattle.hac_model.specs.declared.replies.Deny.{Deny}
 use Rattle.hac_model.specs.declared.replies.Deny.TheVariants.{Refused, Memory}
 use Rattle.hac_model.specs.declared.replies.Refusal.{Refusal}
@@ -28,3 +29,8 @@ and_then next (Err refusal) = Err refusal
 infixl 10 ◌>>=◌
 abbrev pub ◌>>=◌ : {A B : Type 0} → Result A Refusal → (A → Result B Refusal) → Result B Refusal
 value >>= next = and_then next value
+
+-- the first cause of a list in which each place may be empty
+abbrev pub first_cause : List (Option Refusal) → Option Refusal
+first_cause [] = None
+first_cause (cause ∷ causes) = option_map_or Some cause (first_cause causes)

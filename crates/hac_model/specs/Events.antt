@@ -1,8 +1,8 @@
 -- Which events happen, and what they do.
-use Rattle.std.specs.Prelude.{ℕ, Bool, true, false, ◌+◌, ◌==◌, ◌&&◌, ◌||◌, not, if◌then◌else◌, List, [], ◌∷◌, ◌++◌, length, drop, filter, count_by, Option, Some, None, is_some, is_none}
+use Rattle.std.specs.Prelude.{ℕ, Bool, true, false, ◌+◌, ◌==◌, ◌&&◌, ◌||◌, not, if◌then◌else◌, List, [], ◌∷◌, ◌++◌, length, drop, filter, Option, Some, None, is_some, is_none}
 use Rattle.std.specs.List.{list_all}
 use Rattle.std.specs.Option.{option_map_or}
-use Rattle.hac_model.specs.Limits.{is_text, passed}
+use Rattle.hac_model.specs.Limits.{dirty_count, is_text, passed}
 use Rattle.hac_model.specs.Names.{is_name}
 use Rattle.hac_model.specs.Queries.{is_query}
 use Rattle.hac_model.specs.Tree.{child, entry_at, extends, is_directory_at, is_dirty, is_file_at, is_made_directory, path_of}
@@ -19,9 +19,6 @@ next_dirty [] = None
 next_dirty (entry ∷ entries) = if is_dirty entry.body then Some entry.number else next_dirty entries
 
 -- how many files are dirty
-abbrev pub dirty_count : List Entry → ℕ
-dirty_count entries = count_by (λ entry. is_dirty entry.body) entries
-
 abbrev pub dirty : State → ℕ
 dirty s = dirty_count s.entries
 
@@ -37,20 +34,21 @@ is_bare entries dir = list_all (λ entry. not (entry.parent == dir)) entries
 abbrev pub is_inside : State → ℕ → ℕ → Bool
 is_inside s dir entry = dir == entry || extends (path_of s dir) (path_of s entry)
 
--- what the event speaks of stands there, limits left aside
+-- what the event speaks of stands there, limits left aside. An event that no command makes yet never happens.
 abbrev pub is_possible : State → Event → Bool
 is_possible s (Mkdir dir name) = is_free s dir name
 is_possible s (NewFile dir name text) = is_free s dir name && is_text text
 is_possible s (Rewrite file text) = is_file_at s.entries file && is_text text
-is_possible s (Smkdir dir name query) = is_free s dir name && is_query query
+is_possible s (Smkdir dir name query told) = is_free s dir name && is_query query && length told == 0
 is_possible s (Mv entry dir name) = is_some (entry_at s.entries entry) && is_free s dir name && not (is_inside s dir entry)
-is_possible s (Rm file) = is_file_at s.entries file
+is_possible s (Rm entry) = is_file_at s.entries entry
 is_possible s (Rmdir dir) = is_made_directory s.entries dir && is_bare s.entries dir
 is_possible s Step = is_some (next_dirty s.entries)
+is_possible s other = false
 
 -- a new entry, which takes the next number
 abbrev pub added : State → ℕ → List ℕ → Body → State
-added s dir name body = record {
+added s dir name body = record s {
   next = s.next + 1;
   entries = s.entries ++ record { number = s.next; parent = dir; name = name; body = body } ∷ [];
 }
@@ -68,14 +66,12 @@ changed_at s number change = record s { entries = changed number change s.entrie
 -- the text is replaced, and what was indexed stays shown
 abbrev pub rewritten : List ℕ → Body → Body
 rewritten new (File text dirty shown) = File new true shown
-rewritten new Dir = Dir
-rewritten new (Semantic query) = Semantic query
+rewritten new other = other
 
 -- the text is shown from now on
 abbrev pub indexed : Body → Body
 indexed (File text dirty shown) = File text false (Some text)
-indexed Dir = Dir
-indexed (Semantic query) = Semantic query
+indexed other = other
 
 -- the entry with its body edited
 abbrev pub edited : (Body → Body) → Entry → Entry
@@ -101,11 +97,12 @@ abbrev pub apply : State → Event → State
 apply s (Mkdir dir name) = added s dir name Dir
 apply s (NewFile dir name text) = added s dir name (File text true None)
 apply s (Rewrite file text) = changed_at s file (edited (rewritten text))
-apply s (Smkdir dir name query) = added s dir name (Semantic query)
+apply s (Smkdir dir name query told) = added s dir name (Semantic query [] [])
 apply s (Mv entry dir name) = changed_at s entry (reseated dir name)
-apply s (Rm file) = removed s file
+apply s (Rm entry) = removed s entry
 apply s (Rmdir dir) = removed s dir
 apply s Step = option_map_or (λ file. changed_at s file (edited indexed)) (next_dirty s.entries) s
+apply s other = s
 
 -- the event can happen to the state: what it speaks of stands there, and it passes no limit
 abbrev pub accepted : State → Event → Bool

@@ -1,13 +1,15 @@
 -- How much a state holds, and which limit it passes.
-use Rattle.std.specs.Prelude.{ℕ, Bool, ◌+◌, not, if◌then◌else◌, nat_lt, nat_le, max, List, length, sum_by, count_by, Option, Some, None, is_some}
+use Rattle.std.specs.Prelude.{ℕ, Bool, ◌+◌, if◌then◌else◌, nat_lt, nat_le, max, List, [], ◌∷◌, ◌++◌, length, sum_by, count_by, Option, Some, None, is_some}
 use Rattle.std.specs.List.{list_all}
 use Rattle.std.specs.Option.{option_map_or}
-use Rattle.hac_model.specs.Tree.{is_directory, is_file, is_path_short, query_in}
+use Rattle.hac_model.specs.Tree.{is_directory, is_dirty, is_file, is_path_short, query_in}
+use Rattle.hac_model.specs.declared.counts.Counts.{Counts}
+use Rattle.hac_model.specs.declared.limits.Limit.{Limit}
 use Rattle.hac_model.specs.declared.limits.LimitWord.{LimitWord}
 use Rattle.hac_model.specs.declared.limits.LimitWord.TheVariants.{Texts, Dirs, Semantics, Path, Items, Numbers}
 use Rattle.hac_model.specs.declared.limits.TheConstants.{TEXT_LIMIT, TEXTS_LIMIT, DIRS_LIMIT, SEMANTICS_LIMIT, ITEMS_LIMIT, NUMBERS_LIMIT}
 use Rattle.hac_model.specs.declared.states.Body.{Body}
-use Rattle.hac_model.specs.declared.states.Body.TheVariants.{File, Dir, Semantic}
+use Rattle.hac_model.specs.declared.states.Body.TheVariants.{File}
 use Rattle.hac_model.specs.declared.states.Entry.{Entry}
 use Rattle.hac_model.specs.declared.states.State.{State}
 
@@ -18,8 +20,7 @@ is_text text = nat_le (length text) TEXT_LIMIT
 -- the bytes of a file: the longer of its text and of what is shown of it
 abbrev pub weight : Body → ℕ
 weight (File text dirty shown) = max (length text) (option_map_or (λ shown. length shown) shown 0)
-weight Dir = 0
-weight (Semantic query) = 0
+weight other = 0
 
 -- the bytes of all files
 abbrev pub text_size : List Entry → ℕ
@@ -35,17 +36,55 @@ semantic_count entries = count_by (λ entry. is_some (query_in entry.body)) entr
 abbrev pub file_count : List Entry → ℕ
 file_count entries = count_by (λ entry. is_file entry.body) entries
 
+-- how many files are dirty
+abbrev pub dirty_count : List Entry → ℕ
+dirty_count entries = count_by (λ entry. is_dirty entry.body) entries
+
 -- no path has more names than a path may have
 abbrev pub are_paths_short : List Entry → Bool
 are_paths_short entries = list_all (λ entry. is_path_short entries entry.number) entries
 
--- the first limit that the state passes, in the order in which limits are named
+-- how many paths have more names than a path may have, told as 1 where there is any
+abbrev pub long_paths : List Entry → ℕ
+long_paths entries = if are_paths_short entries then 0 else 1
+
+-- how much a state holds
+abbrev pub counts : State → Counts
+counts s = record {
+  bytes = text_size s.entries;
+  directories = directory_count s.entries;
+  semantics = semantic_count s.entries;
+  files = file_count s.entries;
+  dirty = dirty_count s.entries;
+  long_paths = long_paths s.entries;
+  next = s.next;
+}
+
+-- a limit: how much there is, the most that there may be, and the word
+abbrev pub limit : ℕ → ℕ → LimitWord → Limit
+limit count most word = record { count = count; most = most; word = word }
+
+-- the limits on the tree itself, in the order in which they are told
+abbrev pub layout_limits : Counts → List Limit
+layout_limits counts =
+    limit counts.bytes TEXTS_LIMIT Texts
+    ∷ limit counts.directories DIRS_LIMIT Dirs
+    ∷ limit counts.semantics SEMANTICS_LIMIT Semantics
+    ∷ limit counts.long_paths 0 Path
+    ∷ []
+
+-- those that also hang on what spaces answer, which are told after all else
+abbrev pub answer_limits : Counts → List Limit
+answer_limits counts =
+    limit counts.files ITEMS_LIMIT Items
+    ∷ limit counts.next NUMBERS_LIMIT Numbers
+    ∷ []
+
+-- the word of the first limit that is passed
+unfoldable pub first_passed : List Limit → Option LimitWord
+first_passed [] = None
+first_passed (limit ∷ limits) = if nat_lt limit.most limit.count then Some limit.word else first_passed limits
+
+-- the first limit that the state passes
 unfoldable pub passed : State → Option LimitWord
-passed s =
-    if nat_lt TEXTS_LIMIT (text_size s.entries) then Some Texts
-    else (if nat_lt DIRS_LIMIT (directory_count s.entries) then Some Dirs
-    else (if nat_lt SEMANTICS_LIMIT (semantic_count s.entries) then Some Semantics
-    else (if not (are_paths_short s.entries) then Some Path
-    else (if nat_lt ITEMS_LIMIT (file_count s.entries) then Some Items
-    else (if nat_lt NUMBERS_LIMIT s.next then Some Numbers
-    else None)))))
+passed s = first_passed (layout_limits (counts s) ++ answer_limits (counts s))

@@ -1,11 +1,13 @@
 -- What one line of a script says.
-use Rattle.std.specs.Prelude.{ℕ, Bool, true, ◌==◌, ◌&&◌, ◌||◌, if◌then◌else◌, nat_le, List, [], ◌∷◌, length, slice_index, codes, Option, None, Some, Result, Ok, Err}
+use Rattle.std.specs.Prelude.{ℕ, Bool, true, false, ◌==◌, ◌&&◌, ◌||◌, if◌then◌else◌, nat_le, nat_lt, List, [], ◌∷◌, length, take, slice_index, codes, Option, None, Some, Result, Ok, Err}
 use Rattle.std.specs.List.{list_all}
 use Rattle.std.specs.Option.{ok_or, option_map_or}
 use Rattle.std.specs.Str.{bytes_eq}
 use Rattle.std.specs.Str.Parse.{digits_value}
 use Rattle.hac_model.specs.Answers.{◌>>=◌}
 use Rattle.hac_model.specs.Bytes.{is_space}
+use Rattle.hac_model.specs.Formula.{Formula}
+use Rattle.hac_model.specs.Formula as query
 use Rattle.hac_model.specs.Limits.{is_text}
 use Rattle.hac_model.specs.LineWords.{first_word, after_space, first_run, after_run}
 use Rattle.hac_model.specs.PathWords.{is_bad, word_of}
@@ -18,12 +20,8 @@ use Rattle.hac_model.specs.declared.commands.Command.{Command}
 use Rattle.hac_model.specs.declared.commands.Command.TheVariants.{Mkdir, Rmdir, Write, Cat, Ls, Mv, Rm, Smkdir, Sls, Index}
 use Rattle.hac_model.specs.declared.commands.Line.{Line}
 use Rattle.hac_model.specs.declared.limits.LimitWord.TheVariants as limit
-use Rattle.hac_model.specs.declared.limits.TheConstants.{LINE_LIMIT}
+use Rattle.hac_model.specs.declared.limits.TheConstants.{LINE_LIMIT, TEXT_LIMIT}
 use Rattle.hac_model.specs.declared.paths.PathWord.{PathWord}
-use Rattle.hac_model.specs.declared.putting.Taken.{Taken}
-use Rattle.hac_model.specs.declared.putting.Taken.TheVariants.{Whole, Dropped, Short, PastLimit}
-use Rattle.hac_model.specs.declared.queries.Query.{Query}
-use Rattle.hac_model.specs.declared.queries.Query.TheVariants as query
 use Rattle.hac_model.specs.declared.replies.Refusal.{Refusal}
 use Rattle.hac_model.specs.declared.replies.Refusal.TheVariants.{BadLine, BadName, BadQuery, Limit, ShortPut}
 use Rattle.hac_model.specs.declared.terms.Term.TheVariants.{Word}
@@ -87,7 +85,7 @@ abbrev pub is_one_word : List ℕ → Bool
 is_one_word bytes = is_query_word (first_run bytes) && list_all is_space (after_run bytes)
 
 -- the query that the bytes spell: so far one word. What isn't one is bad from its first byte on.
-abbrev pub query_of : List ℕ → Result Query Refusal
+abbrev pub query_of : List ℕ → Result (Formula PathWord) Refusal
 query_of bytes =
     if is_one_word bytes then Ok (query.Term (Word (lower_case (first_run bytes)))) else Err (BadQuery 1)
 
@@ -114,7 +112,7 @@ named_command name arguments =
     else (if bytes_eq name (codes "mv") then mv_of arguments
     else (if bytes_eq name (codes "rm") then one_path Rm arguments
     else (if bytes_eq name (codes "smkdir") then smkdir_of arguments
-    else (if bytes_eq name (codes "sls") then one_path Sls arguments
+    else (if bytes_eq name (codes "sls") then one_path (λ path. Sls (Some path)) arguments
     else (if bytes_eq name (codes "index") then index_of arguments
     else Err BadLine)))))))))
 
@@ -125,38 +123,39 @@ put_words arguments = do
   length ← only_word path.1
   if is_length length then Ok (path.0, length) else Err BadLine
 
--- a file at the path with this text, or the first refusal: not all bytes came, then the path, then their count
-abbrev pub put_at : List ℕ → Option Taken → Result Command Refusal
-put_at word (Some (Whole bytes)) = do
-  path ← word_of word
-  text ← limited_text bytes
-  Ok (Write path text)
-put_at word (Some Dropped) = do
-  path ← word_of word
-  Err (Limit limit.Text)
-put_at word (Some Short) = Err ShortPut
-put_at word (Some PastLimit) = Err ShortPut
-put_at word None = Err ShortPut
+-- so many bytes, where a file may have as many
+abbrev pub limited_put : ℕ → List ℕ → Result (List ℕ) Refusal
+limited_put count behind = if nat_le count TEXT_LIMIT then Ok (take count behind) else Err (Limit limit.Text)
 
--- `put PATH LENGTH`, from what stands behind `put`, told what came of the bytes behind the line
-abbrev pub put_of : List ℕ → Option Taken → Result Command Refusal
-put_of arguments taken = do
+-- the file of a path word gets so many of the bytes that follow the line, or the first refusal: not all came, then the
+-- path, then their count
+abbrev pub put_at : List ℕ → ℕ → List ℕ → Result Command Refusal
+put_at word count behind =
+    if nat_lt (length behind) count then Err ShortPut
+    else (do
+      path ← word_of word
+      text ← limited_put count behind
+      Ok (Write path text))
+
+-- `put PATH LENGTH`, from what stands behind `put`, told what follows the line
+abbrev pub put_of : List ℕ → List ℕ → Result Command Refusal
+put_of arguments behind = do
   words ← put_words arguments
-  put_at words.0 taken
+  put_at words.0 (digits_value 10 words.1) behind
 
 -- the line's first word is `put`
 abbrev pub is_put : List ℕ → Bool
 is_put name = bytes_eq name (codes "put")
 
--- the command of a name, from what stands behind it, told what came of the bytes behind the line
-abbrev pub called_with : List ℕ → List ℕ → Option Taken → Result Command Refusal
-called_with name arguments taken = if is_put name then put_of arguments taken else named_command name arguments
+-- the command of a name, from what stands behind it, told what follows the line
+abbrev pub called_with : List ℕ → List ℕ → List ℕ → Result Command Refusal
+called_with name arguments behind = if is_put name then put_of arguments behind else named_command name arguments
 
--- the command that a line spells, or why it is refused, told what came of the bytes behind it
-abbrev pub command_with : List ℕ → Option Taken → Result Command Refusal
-command_with line taken = do
+-- the command that a line spells, or why it is refused, told what follows it
+abbrev pub command_with : List ℕ → List ℕ → Result Command Refusal
+command_with line behind = do
   name ← first_word line
-  called_with name.0 name.1 taken
+  called_with name.0 name.1 behind
 
 -- the words of a line that is a `put` of the right form
 abbrev pub put_line : List ℕ → Result (List ℕ × List ℕ) Refusal
@@ -177,7 +176,7 @@ put_length line = asked (put_line line)
 abbrev pub is_word : PathWord → Bool
 is_word word = are_names word.names
 
--- the words of the command are as a line spells them
+-- the words of the command are as a line spells them. No line spells one that isn't built yet.
 abbrev pub is_spelled : Command → Bool
 is_spelled (Mkdir path) = is_word path
 is_spelled (Rmdir path) = is_word path
@@ -187,8 +186,9 @@ is_spelled (Ls path) = option_map_or is_word path true
 is_spelled (Mv from to) = is_word from && is_word to
 is_spelled (Rm path) = is_word path
 is_spelled (Smkdir path query) = is_word path && is_query query
-is_spelled (Sls path) = is_word path
+is_spelled (Sls path) = option_map_or is_word path true
 is_spelled Index = true
+is_spelled other = false
 
 -- so far every line is of the session `main`
 abbrev pub in_main : Result Command Refusal → Result Line Refusal
@@ -199,16 +199,17 @@ in_main (Err refusal) = Err refusal
 abbrev pub Item : Type 0
 Item = Result Line Refusal
 
-abbrev pub item_of : List ℕ → Option Taken → Item
-item_of line taken = if nat_le (length line) LINE_LIMIT then in_main (command_with line taken) else Err (Limit limit.Line)
+-- the item of a line, told all bytes that follow its end
+abbrev pub item_of : List ℕ → List ℕ → Item
+item_of line behind = if nat_le (length line) LINE_LIMIT then in_main (command_with line behind) else Err (Limit limit.Line)
 
 -- a blank line or a comment, which has no reply at any length
 abbrev pub is_quiet : List ℕ → Bool
 is_quiet line = slice_index line 0 == 35 || list_all is_space line
 
 -- what a line gives: nothing where it is quiet, else its item
-abbrev pub items_of : List ℕ → Option Taken → List Item
-items_of line taken = if is_quiet line then [] else item_of line taken ∷ []
+abbrev pub items_of : List ℕ → List ℕ → List Item
+items_of line behind = if is_quiet line then [] else item_of line behind ∷ []
 
 -- how many bytes a line takes behind its end, where it takes any: not where it is quiet or too long
 abbrev pub bytes_due : List ℕ → Option ℕ

@@ -1,18 +1,22 @@
 -- What directories provide, and the links that their queries give them.
-use Rattle.std.specs.Prelude.{ℕ, zero, suc, Bool, false, ◌==◌, ◌&&◌, ◌||◌, if◌then◌else◌, List, [], map, filter, Option, is_some, option_and_then}
-use Rattle.std.specs.List.{list_any}
+use Rattle.std.specs.Prelude.{ℕ, zero, suc, Bool, false, ◌==◌, ◌&&◌, ◌||◌, not, if◌then◌else◌, List, [], filter, Option, is_some, option_and_then}
+use Rattle.std.specs.List.{list_any, range_with_len}
 use Rattle.std.specs.Option.{option_map_or}
 use Rattle.hac_model.specs.Limits.{semantic_count}
-use Rattle.hac_model.specs.Tree.{entry_at, body_at, extends, is_file, is_file_at, path_of, shown_text, query_in}
+use Rattle.hac_model.specs.Formula.{Formula}
+use Rattle.hac_model.specs.Formula as query
+use Rattle.hac_model.specs.Tree.{body_at, entry_at, extends, is_directory_at, is_file_at, path_of, query_in, shown_text}
 use Rattle.hac_model.specs.Words.{has_term}
-use Rattle.hac_model.specs.declared.queries.Query.{Query}
-use Rattle.hac_model.specs.declared.queries.Query.TheVariants as query
 use Rattle.hac_model.specs.declared.states.State.{State}
 use Rattle.hac_model.specs.declared.terms.Term.{Term}
 
--- what can be linked, in order of number: the files
+-- what can be linked has the number: so far a file
+abbrev pub is_item : State → ℕ → Bool
+is_item s number = is_file_at s.entries number
+
+-- what can be linked, in order of number
 abbrev pub items : State → List ℕ
-items s = map (λ entry. entry.number) (filter (λ entry. is_file entry.body) s.entries)
+items s = filter (is_item s) (range_with_len 0 s.next)
 
 -- the directory in which an entry stands; the root, which is no entry, stands in itself
 abbrev pub parent_of : State → ℕ → ℕ
@@ -23,15 +27,15 @@ abbrev pub shown_of : State → ℕ → Option (List ℕ)
 shown_of s item = option_and_then shown_text (body_at s.entries item)
 
 -- the query of a directory, where it is semantic
-abbrev pub query_at : State → ℕ → Option Query
+abbrev pub query_at : State → ℕ → Option (Formula ℕ)
 query_at s dir = option_and_then query_in (body_at s.entries dir)
 
 abbrev pub is_semantic : State → ℕ → Bool
 is_semantic s dir = is_some (query_at s dir)
 
--- the item is stored below the directory, at any depth
+-- the item is stored below the directory, at any depth. Nothing is below a number that no directory has.
 abbrev pub is_below : State → ℕ → ℕ → Bool
-is_below s dir item = is_file_at s.entries item && extends (path_of s item) (path_of s dir)
+is_below s dir item = is_item s item && is_directory_at s.entries dir && extends (path_of s item) (path_of s dir)
 
 -- the item has the term, by its text as last indexed. One that was never indexed has none.
 abbrev pub atom : State → Term → ℕ → Bool
@@ -44,8 +48,12 @@ abbrev pub provide : State → (ℕ → Bool) → ℕ → ℕ → Bool
 provide s linked dir item = is_below s dir item || (is_semantic s dir && linked dir)
 
 -- the item satisfies the query
-abbrev pub holds : State → (ℕ → Bool) → Query → ℕ → Bool
+abbrev pub holds : State → (ℕ → Bool) → Formula ℕ → ℕ → Bool
 holds s linked (query.Term term) item = atom s term item
+holds s linked (query.Dir dir) item = provide s linked dir item
+holds s linked (query.Not query) item = not (holds s linked query item)
+holds s linked (query.And left right) item = holds s linked left item && holds s linked right item
+holds s linked (query.Or left right) item = holds s linked left item || holds s linked right item
 
 -- the item satisfies the directory's query
 abbrev pub satisfies : State → (ℕ → Bool) → ℕ → ℕ → Bool

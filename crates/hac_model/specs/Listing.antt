@@ -5,7 +5,7 @@ use Rattle.std.specs.declared.cmp.Ordering.{Ordering}
 use Rattle.std.specs.declared.cmp.Ordering.TheVariants.{Less, Equal, Greater}
 use Rattle.std.specs.Ordering.{nat_cmp}
 use Rattle.hac_model.specs.declared.states.Body.{Body}
-use Rattle.hac_model.specs.declared.states.Body.TheVariants.{File, Dir, Semantic}
+use Rattle.hac_model.specs.declared.states.Body.TheVariants.{File, Dir, Symlink, Semantic, Mount}
 use Rattle.hac_model.specs.declared.states.Entry.{Entry}
 use Rattle.hac_model.specs.declared.states.State.{State}
 
@@ -36,7 +36,9 @@ children s dir = in_order (filter (λ entry. entry.parent == dir) s.entries)
 abbrev pub letter : Body → List ℕ
 letter (File text dirty shown) = codes "f"
 letter Dir = codes "d"
-letter (Semantic query) = codes "s"
+letter (Symlink target) = codes "l"
+letter (Semantic query permanent prohibited) = codes "s"
+letter (Mount space documents answers) = codes "m"
 
 -- an entry as `ls` lists it
 abbrev pub entry_line : Entry → List ℕ

@@ -1,21 +1,23 @@
 -- A whole run: each command is answered, and changes the state for those behind it.
-use Rattle.std.specs.Prelude.{ℕ, Bool, true, false, List, [], ◌∷◌, ◌++◌, map, codes, Result, Ok, Err, option_and_then}
-use Rattle.std.specs.List.{list_any}
+use Rattle.std.specs.Prelude.{ℕ, zero, suc, ◌+◌, Bool, true, false, List, [], ◌∷◌, ◌++◌, length, map, take, codes, Result, Ok, Err, option_and_then}
+use Rattle.std.specs.List.{flat_map, list_any}
 use Rattle.std.specs.Option.{option_map_or}
 use Rattle.hac_model.specs.Events.{apply_all}
 use Rattle.hac_model.specs.Lines.{Item}
 use Rattle.hac_model.specs.Links.{links}
 use Rattle.hac_model.specs.Listing.{children, entry_line}
 use Rattle.hac_model.specs.Paths.{path_text}
-use Rattle.hac_model.specs.Refusals.{events_of, file, listed, refusal, semantic}
+use Rattle.hac_model.specs.Refusals.{cause, events_of, led_to}
+use Rattle.hac_model.specs.Resolving.{resolve}
 use Rattle.hac_model.specs.Script.{script}
 use Rattle.hac_model.specs.Texts.{escaped_text}
-use Rattle.hac_model.specs.Tree.{body_at, path_of, text_in}
-use Rattle.hac_model.specs.declared.commands.Command.{Command}
-use Rattle.hac_model.specs.declared.commands.Command.TheVariants.{Mkdir, Rmdir, Write, Cat, Ls, Mv, Rm, Smkdir, Sls, Index}
+use Rattle.hac_model.specs.Tree.{body_at, empty, path_of, text_in}
+use Rattle.hac_model.specs.declared.events.Event.{Event}
 use Rattle.hac_model.specs.declared.replies.Refusal.{Refusal}
 use Rattle.hac_model.specs.declared.replies.Reply.{Reply}
 use Rattle.hac_model.specs.declared.replies.Reply.TheVariants.{Lines, Refused}
+use Rattle.hac_model.specs.declared.resolved.Resolved.{Resolved}
+use Rattle.hac_model.specs.declared.resolved.Resolved.TheVariants.{Cat, Ls, Sls}
 use Rattle.hac_model.specs.declared.states.State.{State}
 
 -- a transient link, as `sls` lists it
@@ -30,64 +32,92 @@ text_line text = codes "= " ++ escaped_text text
 abbrev pub text_lines : State → ℕ → List (List ℕ)
 text_lines s number = option_map_or (λ text. text_line text ∷ []) (option_and_then text_in (body_at s.entries number)) []
 
--- what is told of that to which a path leads
-abbrev pub told : (ℕ → List (List ℕ)) → Result ℕ Refusal → List (List ℕ)
-told lines (Ok number) = lines number
-told lines (Err refusal) = []
+-- the data lines of an accepted command: only one that reads has any
+abbrev pub data_lines : State → Resolved → List (List ℕ)
+data_lines s (Cat entry) = text_lines s entry
+data_lines s (Ls dir) = map entry_line (children s dir)
+data_lines s (Sls dir) = map (link_line s) (links s dir)
+data_lines s other = []
 
--- the data lines of an accepted command
-abbrev pub data_lines : State → Command → List (List ℕ)
-data_lines s (Mkdir path) = []
-data_lines s (Rmdir path) = []
-data_lines s (Write path text) = []
-data_lines s (Cat path) = told (text_lines s) (file s path)
-data_lines s (Ls path) = told (λ dir. map entry_line (children s dir)) (listed s path)
-data_lines s (Mv from to) = []
-data_lines s (Rm path) = []
-data_lines s (Smkdir path query) = []
-data_lines s (Sls path) = told (λ dir. map (link_line s) (links s dir)) (semantic s path)
-data_lines s Index = []
+-- what a run goes on from: so far the state alone
+pub record Setting : Type 0 where
+  pub state : State
 
--- the reply of an accepted command
-abbrev pub reply_of : State → Command → Reply
-reply_of s command = Lines (data_lines s command)
+-- a run begins with the root alone
+abbrev pub opening : Setting
+opening = record { state = empty }
 
--- what a command is answered
-abbrev pub answer : State → Command → Reply
-answer s command = option_map_or Refused (refusal s command) (reply_of s command)
+-- what comes of one command: its reply, the events that it makes, the index steps behind it, and what the next command meets
+pub record Turn : Type 0 where
+  pub reply : Reply
+  pub events : List Event
+  pub steps : List Event
+  pub after : Setting
 
--- the state after a command. One that is refused changes nothing.
-abbrev pub state_after : State → Command → State
-state_after s command = option_map_or (λ _. s) (refusal s command) (apply_all s (events_of s command))
+-- a refused command changes nothing
+abbrev pub refused : Setting → Refusal → Turn
+refused setting refusal = record { reply = Refused refusal; events = []; steps = []; after = setting }
 
--- what a line is answered
-abbrev pub reply_to : Item → State → Reply
-reply_to (Ok line) s = answer s line.command
-reply_to (Err refusal) s = Refused refusal
+-- one that nothing speaks against tells its lines, and its events happen
+abbrev pub accepted : Setting → Resolved → Turn
+accepted setting command = record {
+  reply = Lines (data_lines setting.state command);
+  events = events_of setting.state command;
+  steps = [];
+  after = record setting { state = led_to setting.state command };
+}
 
--- the tree after a line
-abbrev pub tree_after : Item → State → State
-tree_after (Ok line) s = state_after s line.command
-tree_after (Err refusal) s = s
+-- the turn of a command whose paths were followed
+abbrev pub turn_of : Setting → Result Resolved Refusal → Turn
+turn_of setting (Err refusal) = refused setting refusal
+turn_of setting (Ok command) = option_map_or (refused setting) (cause setting.state command) (accepted setting command)
 
--- the replies to items in order
-abbrev pub replies : List Item → State → List Reply
-replies [] s = []
-replies (item ∷ items) s = reply_to item s ∷ replies items (tree_after item s)
+-- the turn of a line, which is a command or refused by its form
+abbrev pub turn : Setting → Item → Turn
+turn setting (Err refusal) = refused setting refusal
+turn setting (Ok line) = turn_of setting (resolve setting.state line)
 
--- the tree that items in order leave
-abbrev pub tree_after_all : List Item → State → State
-tree_after_all [] s = s
-tree_after_all (item ∷ items) s = tree_after_all items (tree_after item s)
+-- the turns of lines in order
+abbrev pub turns : Setting → List Item → List Turn
+turns setting [] = []
+turns setting (item ∷ items) = turn setting item ∷ turns (turn setting item).after items
 
--- the replies to a script
-abbrev pub play : List ℕ → State → List Reply
-play bytes s = replies (script bytes) s
+-- the turns of a script
+abbrev pub play : Setting → List ℕ → List Turn
+play setting bytes = turns setting (script bytes)
+
+-- what is told by turns
+abbrev pub replies : List Turn → List Reply
+replies told = map (λ turn. turn.reply) told
+
+-- what turns leave
+abbrev pub left_by : Setting → List Turn → Setting
+left_by setting [] = setting
+left_by setting (turn ∷ turns) = left_by turn.after turns
+
+-- all events of a turn, those of its command first
+abbrev pub events_in : Turn → List Event
+events_in turn = turn.events ++ turn.steps
+
+-- all events of turns, one after the other
+abbrev pub all_events : List Turn → List Event
+all_events turns = flat_map events_in turns
+
+-- the tree after the first k events of turns that began with a state
+abbrev pub tree_after : ℕ → State → List Turn → State
+tree_after k s turns = apply_all s (take k (all_events turns))
+
+-- how many events stand before the i-th reply, counted from 1
+abbrev pub events_before : ℕ → List Turn → ℕ
+events_before zero turns = 0
+events_before (suc i) [] = 0
+events_before (suc zero) (turn ∷ turns) = length turn.events
+events_before (suc (suc i)) (turn ∷ turns) = length (events_in turn) + events_before (suc i) turns
 
 abbrev pub is_refused : Reply → Bool
 is_refused (Lines lines) = false
 is_refused (Refused refusal) = true
 
 -- some command was refused
-abbrev pub has_refusal : List Reply → Bool
-has_refusal told = list_any is_refused told
+abbrev pub has_refusal : List Turn → Bool
+has_refusal turns = list_any (λ turn. is_refused turn.reply) turns

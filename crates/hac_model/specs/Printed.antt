@@ -5,7 +5,7 @@ use Rattle.hac_model.specs.Paths.{path_text}
 use Rattle.hac_model.specs.declared.limits.LimitWord.{LimitWord}
 use Rattle.hac_model.specs.declared.limits.LimitWord.TheVariants as limit
 use Rattle.hac_model.specs.declared.replies.Refusal.{Refusal}
-use Rattle.hac_model.specs.declared.replies.Refusal.TheVariants.{BadLine, BadName, NoPath, NotDir, NotFile, Exists, NotEmpty, Under, Root, BadQuery, NotSemantic, Limit, ShortPut}
+use Rattle.hac_model.specs.declared.replies.Refusal.TheVariants.{BadLine, BadName, NoPath, NotDir, NotFile, Exists, NotEmpty, Under, Root, BadQuery, Cycle, Referenced, Busy, NotSemantic, NotLinked, Already, NoMark, NoSpace, SpaceFault, Limit, InMount, Loop, NotLink, ShortPut, NotMount, Gone}
 use Rattle.hac_model.specs.declared.replies.Reply.{Reply}
 use Rattle.hac_model.specs.declared.replies.Reply.TheVariants.{Lines, Refused}
 
@@ -46,9 +46,22 @@ refusal_text (NotEmpty path) = codes "not-empty " ++ path_text path
 refusal_text (Under path) = codes "under " ++ path_text path
 refusal_text Root = codes "root"
 refusal_text (BadQuery place) = codes "bad-query " ++ decimal place
+refusal_text (Cycle path) = codes "cycle " ++ path_text path
+refusal_text (Referenced path) = codes "referenced " ++ path_text path
+refusal_text (Busy session) = codes "busy " ++ session
 refusal_text (NotSemantic path) = codes "not-semantic " ++ path_text path
+refusal_text (NotLinked path) = codes "not-linked " ++ path_text path
+refusal_text (Already path) = codes "already " ++ path_text path
+refusal_text (NoMark path) = codes "no-mark " ++ path_text path
+refusal_text (NoSpace space) = codes "no-space " ++ space
+refusal_text (SpaceFault space) = codes "space-fault " ++ space
 refusal_text (Limit word) = codes "limit " ++ limit_word word
+refusal_text (InMount path) = codes "in-mount " ++ path_text path
+refusal_text (Loop path) = codes "loop " ++ path_text path
+refusal_text (NotLink path) = codes "not-link " ++ path_text path
 refusal_text ShortPut = codes "short-put"
+refusal_text (NotMount path) = codes "not-mount " ++ path_text path
+refusal_text (Gone path) = codes "gone " ++ path_text path
 
 -- data lines and then `ok`, or one line `no CAUSE DETAIL`
 abbrev pub reply_text : Reply → List ℕ

@@ -1,10 +1,10 @@
 -- Queries, and the words of which they are made.
-use Rattle.std.specs.Prelude.{ℕ, Bool, ◌&&◌, ◌||◌, not, List, codes}
+use Rattle.std.specs.Prelude.{ℕ, Bool, false, ◌&&◌, ◌||◌, not, List, codes}
 use Rattle.std.specs.List.{list_all}
 use Rattle.std.specs.Str.{bytes_eq}
 use Rattle.hac_model.specs.Words.{has_bytes, is_word, is_word_byte}
-use Rattle.hac_model.specs.declared.queries.Query.{Query}
-use Rattle.hac_model.specs.declared.queries.Query.TheVariants as query
+use Rattle.hac_model.specs.Formula.{Formula}
+use Rattle.hac_model.specs.Formula as query
 use Rattle.hac_model.specs.declared.terms.Term.{Term}
 use Rattle.hac_model.specs.declared.terms.Term.TheVariants.{Word, Prefix}
 
@@ -21,6 +21,7 @@ abbrev pub is_term : Term → Bool
 is_term (Word letters) = is_word letters
 is_term (Prefix letters) = is_word letters
 
--- the query is one that a directory may have
-abbrev pub is_query : Query → Bool
+-- the query is one that a directory may have: so far one term
+abbrev pub is_query : {D : Type 0} → Formula D → Bool
 is_query (query.Term term) = is_term term
+is_query other = false

@@ -1,132 +1,114 @@
--- What a command comes to in a state, or why the state refuses it.
-use Rattle.std.specs.Prelude.{ℕ, ◌==◌, if◌then◌else◌, List, [], ◌∷◌, ◌++◌, replicate, Option, Some, Result, Ok, Err}
-use Rattle.std.specs.Option.{option_map, option_map_or}
-use Rattle.hac_model.specs.Answers.{and_then}
+-- Why a state refuses a command: the first cause of the one order.
+use Rattle.std.specs.Prelude.{ℕ, ◌==◌, if◌then◌else◌, List, [], ◌∷◌, replicate, Option, None, Some, Result, Ok, Err}
+use Rattle.std.specs.Option.{option_map}
+use Rattle.hac_model.specs.Answers.{first_cause}
 use Rattle.hac_model.specs.Events.{apply_all, dirty, is_bare, is_inside}
-use Rattle.hac_model.specs.Limits.{passed}
+use Rattle.hac_model.specs.Limits.{answer_limits, counts, first_passed, layout_limits}
 use Rattle.hac_model.specs.Links.{is_semantic}
-use Rattle.hac_model.specs.Looks.{look}
-use Rattle.hac_model.specs.Paths.{join}
+use Rattle.hac_model.specs.Resolving.{resolve}
 use Rattle.hac_model.specs.Tree.{is_directory_at, path_of}
-use Rattle.hac_model.specs.declared.commands.Command.{Command}
-use Rattle.hac_model.specs.declared.commands.Command.TheVariants as command
+use Rattle.hac_model.specs.declared.commands.Line.{Line}
 use Rattle.hac_model.specs.declared.events.Event.{Event}
-use Rattle.hac_model.specs.declared.events.Event.TheVariants.{Mkdir, NewFile, Rewrite, Smkdir, Mv, Rm, Rmdir, Step}
-use Rattle.hac_model.specs.declared.paths.PathWord.{PathWord}
+use Rattle.hac_model.specs.declared.events.Event.TheVariants as event
 use Rattle.hac_model.specs.declared.places.Place.{Place}
 use Rattle.hac_model.specs.declared.places.Place.TheVariants.{There, Free}
 use Rattle.hac_model.specs.declared.replies.Refusal.{Refusal}
-use Rattle.hac_model.specs.declared.replies.Refusal.TheVariants.{NoPath, NotDir, NotFile, Exists, NotEmpty, Under, Root, NotSemantic, Limit}
+use Rattle.hac_model.specs.declared.replies.Refusal.TheVariants.{NotFile, Exists, NotEmpty, Under, Root, NotSemantic, Limit}
+use Rattle.hac_model.specs.declared.resolved.Resolved.{Resolved}
+use Rattle.hac_model.specs.declared.resolved.Resolved.TheVariants.{Mkdir, Rmdir, Write, Cat, Ls, Mv, Rm, Smkdir, Sls, Index}
 use Rattle.hac_model.specs.declared.states.State.{State}
 
--- where a path word leads. A relative one starts at the root.
-abbrev pub place : State → PathWord → Result Place Refusal
-place s word = look s (join [] word)
+-- the root neither goes nor moves
+abbrev pub root_cause : ℕ → Option Refusal
+root_cause number = if number == 0 then Some Root else None
 
--- something is to stand there
-abbrev pub standing : State → Place → Result ℕ Refusal
-standing s (There number) = Ok number
-standing s (Free dir name) = Err (NoPath (path_of s dir ++ name ∷ []))
+-- a file is wanted, and a directory stands there
+abbrev pub directory_cause : State → ℕ → Option Refusal
+directory_cause s number = if is_directory_at s.entries number then Some (NotFile (path_of s number)) else None
 
--- the entry to which a path word leads, or the root
-abbrev pub entry : State → PathWord → Result ℕ Refusal
-entry s word = and_then (standing s) (place s word)
+-- the same of a place at which nothing may stand yet
+abbrev pub written_cause : State → Place → Option Refusal
+written_cause s (There number) = directory_cause s number
+written_cause s (Free dir name) = None
 
--- what stands there is to be a directory
-abbrev pub directed : State → ℕ → Result ℕ Refusal
-directed s number = if is_directory_at s.entries number then Ok number else Err (NotDir (path_of s number))
+-- something is made, and something stands there
+abbrev pub taken_cause : State → Place → Option Refusal
+taken_cause s (There number) = Some (Exists (path_of s number))
+taken_cause s (Free dir name) = None
 
--- the directory to which a path word leads
-abbrev pub directory : State → PathWord → Result ℕ Refusal
-directory s word = and_then (directed s) (entry s word)
+-- an entry would go into itself or below itself
+abbrev pub under_cause : State → ℕ → Place → Option Refusal
+under_cause s entry (There number) = None
+under_cause s entry (Free dir name) = if is_inside s dir entry then Some (Under (path_of s entry)) else None
 
--- the directory that is listed: the root, where no path is given
-abbrev pub listed : State → Option PathWord → Result ℕ Refusal
-listed s word = option_map_or (directory s) word (Ok 0)
+-- something stands in a directory that is to go
+abbrev pub full_cause : State → ℕ → Option Refusal
+full_cause s dir = if is_bare s.entries dir then None else Some (NotEmpty (path_of s dir))
 
--- something is made where nothing stands
-abbrev pub making : State → (ℕ → List ℕ → Event) → Place → Result Event Refusal
-making s make (There number) = Err (Exists (path_of s number))
-making s make (Free dir name) = Ok (make dir name)
+-- a semantic directory is wanted
+abbrev pub plain_cause : State → ℕ → Option Refusal
+plain_cause s dir = if is_semantic s dir then None else Some (NotSemantic (path_of s dir))
 
--- a text is written to a file that stands there, or to a new one
-abbrev pub writing : State → List ℕ → Place → Result Event Refusal
-writing s text (There number) =
-    if is_directory_at s.entries number then Err (NotFile (path_of s number)) else Ok (Rewrite number text)
-writing s text (Free dir name) = Ok (NewFile dir name text)
+-- what stands in the way of a command whose paths were followed
+abbrev pub blocked : State → Resolved → Option Refusal
+blocked s (Mkdir place) = taken_cause s place
+blocked s (Rmdir dir) = first_cause (root_cause dir ∷ full_cause s dir ∷ [])
+blocked s (Write place text) = written_cause s place
+blocked s (Cat entry) = directory_cause s entry
+blocked s (Ls dir) = None
+blocked s (Mv entry place) = first_cause (root_cause entry ∷ taken_cause s place ∷ under_cause s entry place ∷ [])
+blocked s (Rm entry) = first_cause (root_cause entry ∷ directory_cause s entry ∷ [])
+blocked s (Smkdir place query) = taken_cause s place
+blocked s (Sls dir) = plain_cause s dir
+blocked s Index = None
 
--- a directory is removed, in which nothing may stand
-abbrev pub emptying : State → ℕ → Result Event Refusal
-emptying s number =
-    if number == 0 then Err Root
-    else (if is_bare s.entries number then Ok (Rmdir number) else Err (NotEmpty (path_of s number)))
+-- something comes into being where nothing stands
+abbrev pub makes : Place → (ℕ → List ℕ → Event) → List Event
+makes (There number) make = []
+makes (Free dir name) make = make dir name ∷ []
 
--- a file is removed
-abbrev pub removing : State → ℕ → Result Event Refusal
-removing s number =
-    if number == 0 then Err Root
-    else (if is_directory_at s.entries number then Err (NotFile (path_of s number)) else Ok (Rm number))
+-- a text goes to a file that stands there, or to a new one
+abbrev pub writes : Place → List ℕ → List Event
+writes (There number) text = event.Rewrite number text ∷ []
+writes (Free dir name) text = event.NewFile dir name text ∷ []
 
--- an entry is moved to where nothing stands, and not into itself
-abbrev pub moving_to : State → ℕ → Place → Result Event Refusal
-moving_to s number (There other) = Err (Exists (path_of s other))
-moving_to s number (Free dir name) =
-    if is_inside s dir number then Err (Under (path_of s number)) else Ok (Mv number dir name)
+-- the events of a command in whose way nothing stands. `index` is as many steps as there are dirty files.
+abbrev pub events_of : State → Resolved → List Event
+events_of s (Mkdir place) = makes place event.Mkdir
+events_of s (Rmdir dir) = event.Rmdir dir ∷ []
+events_of s (Write place text) = writes place text
+events_of s (Cat entry) = []
+events_of s (Ls dir) = []
+events_of s (Mv entry place) = makes place (event.Mv entry)
+events_of s (Rm entry) = event.Rm entry ∷ []
+events_of s (Smkdir place query) = makes place (λ dir name. event.Smkdir dir name query [])
+events_of s (Sls dir) = []
+events_of s Index = replicate (dirty s) event.Step
 
-abbrev pub moving : State → ℕ → Place → Result Event Refusal
-moving s number to = if number == 0 then Err Root else moving_to s number to
+-- the state that a command would lead to
+abbrev pub led_to : State → Resolved → State
+led_to s command = apply_all s (events_of s command)
 
--- what stands there is to be a file
-abbrev pub filed : State → ℕ → Result ℕ Refusal
-filed s number = if is_directory_at s.entries number then Err (NotFile (path_of s number)) else Ok number
+-- the first limit of a list that the state which would come passes
+abbrev pub layout_cause : State → Resolved → Option Refusal
+layout_cause s command = option_map Limit (first_passed (layout_limits (counts (led_to s command))))
 
--- the file to which a path word leads
-abbrev pub file : State → PathWord → Result ℕ Refusal
-file s word = and_then (filed s) (entry s word)
+abbrev pub answer_cause : State → Resolved → Option Refusal
+answer_cause s command = option_map Limit (first_passed (answer_limits (counts (led_to s command))))
 
--- the directory is to have a query
-abbrev pub queried : State → ℕ → Result ℕ Refusal
-queried s number = if is_semantic s number then Ok number else Err (NotSemantic (path_of s number))
+-- the first cause that doesn't hang on spaces: what stands in the way, then the limits on the tree itself
+abbrev pub early_cause : State → Resolved → Option Refusal
+early_cause s command = first_cause (blocked s command ∷ layout_cause s command ∷ [])
 
--- the semantic directory to which a path word leads
-abbrev pub semantic : State → PathWord → Result ℕ Refusal
-semantic s word = and_then (queried s) (directory s word)
+-- the first cause of all, behind which come the limits that hang on what spaces answer
+abbrev pub cause : State → Resolved → Option Refusal
+cause s command = first_cause (early_cause s command ∷ answer_cause s command ∷ [])
 
--- the one event of a command
-abbrev pub one : Result Event Refusal → Result (List Event) Refusal
-one event = and_then (λ event. Ok (event ∷ [])) event
+-- the first cause against what a line came to
+abbrev pub cause_against : State → Result Resolved Refusal → Option Refusal
+cause_against s (Err refusal) = Some refusal
+cause_against s (Ok command) = cause s command
 
--- no event, since the command only reads
-abbrev pub none : Result ℕ Refusal → Result (List Event) Refusal
-none number = and_then (λ number. Ok []) number
-
--- The events that a command comes to, or the first cause against it that lies in its paths and in what stands there:
--- each path in turn, and then what it leads to. Limits are left aside. `index` is as many steps as there are dirty files.
-abbrev pub intent : State → Command → Result (List Event) Refusal
-intent s (command.Mkdir path) = one (and_then (making s Mkdir) (place s path))
-intent s (command.Rmdir path) = one (and_then (emptying s) (directory s path))
-intent s (command.Write path text) = one (and_then (writing s text) (place s path))
-intent s (command.Cat path) = none (file s path)
-intent s (command.Ls path) = none (listed s path)
-intent s (command.Mv from to) = one (and_then (λ number. and_then (moving s number) (place s to)) (entry s from))
-intent s (command.Rm path) = one (and_then (removing s) (entry s path))
-intent s (command.Smkdir path query) = one (and_then (making s (λ dir name. Smkdir dir name query)) (place s path))
-intent s (command.Sls path) = none (semantic s path)
-intent s command.Index = Ok (replicate (dirty s) Step)
-
--- the events that were found, none in place of a cause
-abbrev pub events_in : Result (List Event) Refusal → List Event
-events_in (Ok events) = events
-events_in (Err cause) = []
-
-abbrev pub events_of : State → Command → List Event
-events_of s command = events_in (intent s command)
-
--- the first cause, or the limit that the state after the events would pass
-abbrev pub cause_in : State → Result (List Event) Refusal → Option Refusal
-cause_in s (Ok events) = option_map Limit (passed (apply_all s events))
-cause_in s (Err cause) = Some cause
-
--- the cause for which the state refuses a command
-abbrev pub refusal : State → Command → Option Refusal
-refusal s command = cause_in s (intent s command)
+-- why the state refuses a line: a path comes before what stands in the way, and that before limits
+abbrev pub refusal : State → Line → Option Refusal
+refusal s line = cause_against s (resolve s line)

@@ -1,11 +1,9 @@
 -- The commands that the bytes of a script spell.
-use Rattle.std.specs.Prelude.{ℕ, zero, suc, Bool, ◌+◌, ◌&&◌, if◌then◌else◌, nat_le, nat_lt, List, [], ◌++◌, length, take, drop, Option}
+use Rattle.std.specs.Prelude.{ℕ, zero, suc, Bool, ◌+◌, ◌&&◌, if◌then◌else◌, nat_le, nat_lt, List, [], ◌++◌, length, take, drop}
 use Rattle.std.specs.List.{before_first, after_first, position_or_len}
-use Rattle.std.specs.Option.{option_map, unwrap_or}
+use Rattle.std.specs.Option.{unwrap_or}
 use Rattle.hac_model.specs.Bytes.{is_line_end}
 use Rattle.hac_model.specs.Lines.{Item, items_of, bytes_due}
-use Rattle.hac_model.specs.Puts.{came}
-use Rattle.hac_model.specs.declared.putting.Taken.{Taken}
 
 -- the first line, without its end; the last line may have none
 abbrev pub first_line : List ℕ → List ℕ
@@ -23,13 +21,9 @@ is_first_ended bytes = nat_lt (position_or_len is_line_end bytes) (length bytes)
 abbrev pub due : List ℕ → ℕ
 due line = unwrap_or (bytes_due line) 0
 
--- what comes of the bytes that a line takes, told what stands behind it
-abbrev pub taken_of : List ℕ → List ℕ → Option Taken
-taken_of line behind = option_map (λ count. came count behind) (bytes_due line)
-
 -- the items of the first line
 abbrev pub first_items : List ℕ → List Item
-first_items bytes = items_of (first_line bytes) (taken_of (first_line bytes) (after_line bytes))
+first_items bytes = items_of (first_line bytes) (after_line bytes)
 
 -- the bytes behind the first line, its end and the bytes that belong to it
 abbrev pub after_item : List ℕ → List ℕ

@@ -1,9 +1,9 @@
 -- The tree: what stands where.
-use Rattle.std.specs.Prelude.{ℕ, zero, suc, Bool, true, false, ◌==◌, ◌&&◌, ◌||◌, if◌then◌else◌, List, [], ◌∷◌, ◌++◌, map, Option, Some, None}
+use Rattle.std.specs.Prelude.{ℕ, zero, suc, ◌+◌, Bool, true, false, ◌==◌, ◌&&◌, ◌||◌, if◌then◌else◌, nat_le, List, [], ◌∷◌, length, map, reverse, Option, Some, None}
 use Rattle.std.specs.Option.{option_map, option_map_or}
 use Rattle.std.specs.Str.{bytes_eq}
 use Rattle.hac_model.specs.declared.limits.TheConstants.{PATH_LIMIT}
-use Rattle.hac_model.specs.declared.queries.Query.{Query}
+use Rattle.hac_model.specs.Formula.{Formula}
 use Rattle.hac_model.specs.declared.states.Body.{Body}
 use Rattle.hac_model.specs.declared.states.Body.TheVariants.{File, Dir, Semantic}
 use Rattle.hac_model.specs.declared.states.Entry.{Entry}
@@ -11,7 +11,7 @@ use Rattle.hac_model.specs.declared.states.State.{State}
 
 -- the root alone: the first entry will take the number 1
 abbrev pub empty : State
-empty = record { next = 1; entries = [] }
+empty = record { next = 1; entries = []; sessions = [] }
 
 -- the entry of a number. The root has none.
 abbrev pub entry_at : List Entry → ℕ → Option Entry
@@ -28,59 +28,52 @@ child [] dir name = None
 child (entry ∷ entries) dir name =
     if entry.parent == dir && bytes_eq entry.name name then Some entry.number else child entries dir name
 
--- the names that lead to the entry of a number, told within so many steps over parents
-abbrev pub names_to : ℕ → List Entry → ℕ → List (List ℕ)
-names_to zero entries number = []
-names_to (suc steps) entries number =
-    option_map_or (λ entry. names_to steps entries entry.parent ++ entry.name ∷ []) (entry_at entries number) []
+-- the entry of a number, then that of its directory, and so on up to the one in the root, told within so many steps
+abbrev pub ancestors : ℕ → List Entry → ℕ → List Entry
+ancestors zero entries number = []
+ancestors (suc steps) entries number = option_map_or (λ entry. entry ∷ ancestors steps entries entry.parent) (entry_at entries number) []
 
--- the path of an entry. That of the root has no names.
+-- all of them, where a path has no more names than it may; one more at most
+unfoldable pub lineage : List Entry → ℕ → List Entry
+lineage entries number = ancestors (PATH_LIMIT + 1) entries number
+
+-- the path of an entry: the names of its lineage from the root on. That of the root has none.
 unfoldable pub path_of : State → ℕ → List (List ℕ)
-path_of s number = names_to PATH_LIMIT s.entries number
-
--- so many steps over parents, or fewer, lead from a number to the root
-abbrev pub is_within : ℕ → List Entry → ℕ → Bool
-is_within zero entries number = number == 0
-is_within (suc steps) entries number =
-    number == 0 || option_map_or (λ entry. is_within steps entries entry.parent) (entry_at entries number) false
+path_of s number = reverse (map (λ entry. entry.name) (lineage s.entries number))
 
 -- the path of an entry has no more names than a path may have
 unfoldable pub is_path_short : List Entry → ℕ → Bool
-is_path_short entries number = is_within PATH_LIMIT entries number
+is_path_short entries number = nat_le (length (lineage entries number)) PATH_LIMIT
 
 abbrev pub is_file : Body → Bool
 is_file (File text dirty shown) = true
-is_file Dir = false
-is_file (Semantic query) = false
+is_file other = false
 
 -- a directory of any kind
 abbrev pub is_directory : Body → Bool
-is_directory (File text dirty shown) = false
 is_directory Dir = true
-is_directory (Semantic query) = true
+is_directory (Semantic query permanent prohibited) = true
+is_directory other = false
 
 -- was made or written since it was last indexed
 abbrev pub is_dirty : Body → Bool
 is_dirty (File text dirty shown) = dirty
-is_dirty Dir = false
-is_dirty (Semantic query) = false
+is_dirty other = false
 
 -- a file's text
 abbrev pub text_in : Body → Option (List ℕ)
 text_in (File text dirty shown) = Some text
-text_in Dir = None
-text_in (Semantic query) = None
+text_in other = None
 
 -- the text as it was last indexed
 abbrev pub shown_text : Body → Option (List ℕ)
 shown_text (File text dirty shown) = shown
-shown_text Dir = None
-shown_text (Semantic query) = None
+shown_text other = None
 
-abbrev pub query_in : Body → Option Query
-query_in (File text dirty shown) = None
-query_in Dir = None
-query_in (Semantic query) = Some query
+-- what a semantic directory asks for
+abbrev pub query_in : Body → Option (Formula ℕ)
+query_in (Semantic query permanent prohibited) = Some query
+query_in other = None
 
 -- a file has the number
 abbrev pub is_file_at : List Entry → ℕ → Bool
@@ -99,7 +92,3 @@ abbrev pub extends : List (List ℕ) → List (List ℕ) → Bool
 extends [] base = false
 extends (name ∷ names) [] = true
 extends (name ∷ names) (other ∷ base) = bytes_eq name other && extends names base
-
--- the tree as its user sees it: the path of each entry, with its number and what it is
-abbrev pub plain : State → List (List (List ℕ) × ℕ × Body)
-plain s = map (λ entry. (path_of s entry.number, entry.number, entry.body)) s.entries

@@ -2,6 +2,8 @@
 use Rattle.std.specs.Prelude.{◌≡◌, ℕ, ◌<◌, Bool, true, false, List, [], ◌∷◌, Option, Some, None, IsTrue}
 use Rattle.std.specs.List.{AllByRecursion}
 use Rattle.std.specs.Option.{option_map_or}
+use Rattle.hac_model.specs.Depends.{IsAcyclic}
+use Rattle.hac_model.specs.Formula.{Formula}
 use Rattle.hac_model.specs.Limits.{is_text, passed}
 use Rattle.hac_model.specs.Names.{is_name}
 use Rattle.hac_model.specs.Queries.{is_query}
@@ -27,14 +29,15 @@ pub record IsSoundFile (text : List ℕ) (dirty : Bool) (shown : Option (List �
   pub shown_fits : IsTrue (option_map_or is_text shown true)
   pub clean : dirty ≡ false → shown ≡ Some text
 
--- what an entry is fits together, and a query is one that a directory may have
+-- what an entry is fits together. No entry is yet of a kind that no command makes.
 abbrev pub IsSound : Body → Type 0
 IsSound (File text dirty shown) = IsSoundFile text dirty shown
 IsSound Dir = Unit {0}
-IsSound (Semantic query) = IsTrue (is_query query)
+IsSound (Semantic query permanent prohibited) = Unit {0}
+IsSound other = ⊥
 
--- the entries are sound, and they fit one another and the next number
-pub record IsValid (s : State) : Type 0 where
+-- the entries are sound, and they fit one another and the next number: what a tree is, its queries left aside
+pub record IsLayout (s : State) : Type 0 where
   pub numbers : NumbersRise 0 s.entries s.next
   pub names : AllByRecursion (λ entry. IsTrue (is_name entry.name)) s.entries
   -- each stands in a directory
@@ -43,3 +46,21 @@ pub record IsValid (s : State) : Type 0 where
   pub bodies : AllByRecursion (λ entry. IsSound entry.body) s.entries
   -- so each path is short, which is to say that steps over parents end at the root
   pub limits : passed s ≡ None
+
+-- a query is one that a directory may have, and no item has a mark yet
+pub record IsSoundQuery (query : Formula ℕ) (permanent prohibited : List ℕ) : Type 0 where
+  pub fits : IsTrue (is_query query)
+  pub added : permanent ≡ []
+  pub removed : prohibited ≡ []
+
+abbrev pub AsksWell : Body → Type 0
+AsksWell (Semantic query permanent prohibited) = IsSoundQuery query permanent prohibited
+AsksWell other = Unit {0}
+
+-- a tree whose queries and sessions are sound too
+pub record IsValid (s : State) : Type 0 where
+  pub layout : IsLayout s
+  pub queries : AllByRecursion (λ entry. AsksWell entry.body) s.entries
+  pub acyclic : IsAcyclic s
+  -- all sessions stand in the root so far
+  pub sessions : s.sessions ≡ []

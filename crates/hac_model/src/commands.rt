@@ -1,13 +1,10 @@
 //! What a line of a script asks for.
-ghost use Rattle.std.specs.Prelude.{◌≡◌};
-
 use crate::bytes::{Name, Text};
 use crate::paths::PathWord;
-use crate::queries::Query;
-use std::alloc::AllocError;
+use crate::queries::RawQuery;
 
 /// A command and the session that gives it.
-#[derive(Clone, Debug, Drop, PartialEq, Eq)]
+#[derive(Debug, Drop)]
 pub struct Line {
     /// The name of the session.
     pub session: Name,
@@ -15,8 +12,8 @@ pub struct Line {
     pub command: Command,
 }
 
-/// A command with its words. So far a relative path starts at the root.
-#[derive(Debug, Drop, PartialEq, Eq)]
+/// A command with its words. A relative path starts where the session stands.
+#[derive(Debug, Drop)]
 pub enum Command {
     /// Makes a plain directory.
     Mkdir { path: PathWord },
@@ -24,58 +21,52 @@ pub enum Command {
     Rmdir { path: PathWord },
     /// Makes the file, or replaces its text.
     Write { path: PathWord, text: Text },
-    /// Tells a file's text.
+    /// Tells the text of a file or a document.
     Cat { path: PathWord },
-    /// Lists what stands in a directory, the root where no path is given.
+    /// Lists what stands in a directory, that of the session where no path is given.
     Ls { path: Option<PathWord> },
+    /// Lets the session stand in a directory, in the root where no path is given.
+    Cd { path: Option<PathWord> },
+    /// Tells where the session stands.
+    Pwd,
     /// Moves an entry, with all that stands below it, to where nothing stands.
     Mv { from: PathWord, to: PathWord },
-    /// Removes a file.
+    /// Removes a file or a symbolic link.
     Rm { path: PathWord },
+    /// Makes a symbolic link.
+    Ln { target: Text, path: PathWord },
+    /// Tells the target of a symbolic link.
+    Readlink { path: PathWord },
     /// Makes a semantic directory.
-    Smkdir { path: PathWord, query: Query },
-    /// Lists the links of a semantic directory.
-    Sls { path: PathWord },
+    Smkdir { path: PathWord, query: RawQuery },
+    /// Gives a directory a query.
+    Setq { path: PathWord, query: RawQuery },
+    /// Takes a directory's query away.
+    Unq { path: PathWord },
+    /// Tells a directory's query.
+    Query { path: PathWord },
+    /// Lists the links of a semantic directory, that of the session where no path is given.
+    Sls { path: Option<PathWord> },
+    /// Makes an item a permanent link of a directory.
+    Sln { item: PathWord, dir: PathWord },
+    /// Makes an item prohibited in a directory.
+    Srm { item: PathWord, dir: PathWord },
+    /// Takes an item's mark in a directory away.
+    Sforget { item: PathWord, dir: PathWord },
+    /// Lists what satisfies a query.
+    Find { query: RawQuery },
+    /// Makes a mount of a space.
+    Smount { path: PathWord, space: Name },
+    /// Asks a mount's space anew.
+    Ssync { path: PathWord },
+    /// Removes a mount.
+    Sumount { path: PathWord },
     /// Indexes the dirty files, one after the other.
     Index,
-}
-
-impl Clone for Command {
-    ghost is_clone = { λ command copy. copy ≡ command };
-
-    fn clone(&self) -> Result<Command, AllocError> {
-        Ok(match self {
-            Command::Mkdir { path } => Command::Mkdir {
-                path: path.clone()?,
-            },
-            Command::Rmdir { path } => Command::Rmdir {
-                path: path.clone()?,
-            },
-            Command::Write { path, text } => Command::Write {
-                path: path.clone()?,
-                text: text.clone()?,
-            },
-            Command::Cat { path } => Command::Cat {
-                path: path.clone()?,
-            },
-            Command::Ls { path } => Command::Ls {
-                path: path.clone()?,
-            },
-            Command::Mv { from, to } => Command::Mv {
-                from: from.clone()?,
-                to: to.clone()?,
-            },
-            Command::Rm { path } => Command::Rm {
-                path: path.clone()?,
-            },
-            Command::Smkdir { path, query } => Command::Smkdir {
-                path: path.clone()?,
-                query: query.clone()?,
-            },
-            Command::Sls { path } => Command::Sls {
-                path: path.clone()?,
-            },
-            Command::Index => Command::Index,
-        })
-    }
+    /// Indexes so many dirty files at most.
+    Tick { steps: u64 },
+    /// Tells how much there is of everything.
+    Counts,
+    /// Writes the whole tree anew to the store.
+    Checkpoint,
 }

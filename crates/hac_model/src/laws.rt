@@ -1,11 +1,18 @@
 //! Theorems over the definitions alone. Each is the contract of a function that does nothing.
-ghost use Rattle.hac_model.specs.Laws.{ScriptsJoin, EmptyIsValid, EventsKeepValid, LinesSpell, CommandsHappen, StepsAreDue, StepsClean, IndexCleans, ScriptsKeepValid, LinksStay, LinksAreOnly, ValidIsAcyclic, PlainTellsState, MovesRename, PrintedTextIsRead, PrintedTextIsOneLine, QuotedWordIsRead, QuotesAreOneSpelling, FirstListings, IndexedListings, RefusedLines, MovedListings, RefusedPlaces, SpelledLines, PutBytes};
+ghost use Rattle.hac_model.specs.Laws.{ScriptsJoin, WholeIsLines, WholeIsFront, WholeIsLongest, EmptyIsValid, EventsKeepValid, BareCommutes, LinesSpell, CommandsHappen, StepsAreDue, StepsClean, IndexCleans, ScriptsKeepValid, EventsLead, LinksStay, LinksAreOnly, ValidIsAcyclic, PlainTellsState, LooksFind, LooksTell, MovesRename, PrintedTextIsRead, PrintedTextIsOneLine, QuotedWordIsRead, QuotesAreOneSpelling, FirstListings, MovedListings};
 
 /// Two scripts that are joined are played one after the other, where the first is made of whole lines, each
 /// with its end and the bytes that belong to it: no line looks further ahead, and none looks back but to
-/// the tree.
+/// what the lines before it left.
 pub fn scripts_join()
     ensures { ScriptsJoin }
+{}
+
+/// What is whole of a script is the longest front of it that is made of whole lines.
+pub fn whole_is_longest()
+    ensures lines { WholeIsLines }
+    ensures front { WholeIsFront }
+    ensures longest { WholeIsLongest }
 {}
 
 /// The empty state is valid.
@@ -18,12 +25,17 @@ pub fn events_keep_valid()
     ensures { EventsKeepValid }
 {}
 
+/// What an event makes of the tree hangs on the tree alone.
+pub fn bare_commutes()
+    ensures { BareCommutes }
+{}
+
 /// A command that a line spells has words that it may have.
 pub fn lines_spell()
     ensures { LinesSpell }
 {}
 
-/// A command that isn't refused is an event that can happen.
+/// The events of a command that isn't refused can happen, one after the other.
 pub fn commands_happen()
     ensures { CommandsHappen }
 {}
@@ -40,6 +52,12 @@ pub fn scripts_keep_valid()
     ensures { ScriptsKeepValid }
 {}
 
+/// The state after a run is what its events make of the first one, so each tree that a run goes through is
+/// told by how many events happened.
+pub fn events_lead()
+    ensures { EventsLead }
+{}
+
 /// Where no directory depends on itself, the links are those, and those alone, that one more round leaves
 /// as they are. So it is in every valid state.
 pub fn links_are_fixed()
@@ -51,6 +69,12 @@ pub fn links_are_fixed()
 /// A valid state is told by its plain tree and the number that it goes on with.
 pub fn plain_tells_state()
     ensures { PlainTellsState }
+{}
+
+/// A look-up by the path of an entry finds that entry, and what a look-up finds has the path that was looked up.
+pub fn looks_find()
+    ensures find { LooksFind }
+    ensures tell { LooksTell }
 {}
 
 /// A move gives what is moved, and all that stands below it, the new path in place of the old one, and
@@ -76,32 +100,7 @@ pub fn first_listings()
     ensures { FirstListings }
 {}
 
-/// A run in which files are listed by their texts as they were last indexed.
-pub fn indexed_listings()
-    ensures { IndexedListings }
-{}
-
-/// A run of refusals, each in its place.
-pub fn refused_lines()
-    ensures { RefusedLines }
-{}
-
 /// A run with directories in one another, in which files are moved into links and out of them.
 pub fn moved_listings()
     ensures { MovedListings }
-{}
-
-/// A run of refusals of what stands in the tree, and of what goes once nothing is in its way.
-pub fn refused_places()
-    ensures { RefusedPlaces }
-{}
-
-/// A run of words in quotes and of texts with escapes.
-pub fn spelled_lines()
-    ensures { SpelledLines }
-{}
-
-/// A run of `put`s: the bytes behind each are taken, and no others.
-pub fn put_bytes()
-    ensures { PutBytes }
 {}

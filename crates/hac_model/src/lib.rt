@@ -4,32 +4,42 @@
 
 mod bytes;
 mod commands;
+mod counts;
 mod events;
 pub mod laws;
 mod limits;
+mod marks;
+mod members;
 mod memory;
 mod numbers;
 mod paths;
 mod places;
-mod putting;
 mod queries;
+pub mod reading;
 mod replies;
+mod resolved;
+mod spaces;
 mod states;
 mod terms;
 
 pub use bytes::{Name, Seq, Text};
 pub use commands::{Command, Line};
+pub use counts::Counts;
 pub use events::Event;
 pub use limits::{
-    DIRS_LIMIT, ITEMS_LIMIT, LINE_LIMIT, LimitWord, NAME_LIMIT, NUMBERS_LIMIT, PATH_LIMIT,
-    SCRIPT_LIMIT, SEMANTICS_LIMIT, TEXT_LIMIT, TEXTS_LIMIT,
+    DIRS_LIMIT, ITEMS_LIMIT, LINE_LIMIT, Limit, LimitWord, NAME_LIMIT, NESTING_LIMIT,
+    NUMBERS_LIMIT, PATH_LIMIT, QUERY_LIMIT, SCRIPT_LIMIT, SEMANTICS_LIMIT, TERMS_LIMIT, TEXT_LIMIT,
+    TEXTS_LIMIT, first_passed,
 };
+pub use marks::{Kind, Mark};
+pub use members::Member;
 pub use memory::Memory;
 pub use numbers::Number;
 pub use paths::{Path, PathWord};
 pub use places::Place;
-pub use putting::Taken;
-pub use queries::Query;
+pub use queries::{Node, Query, RawQuery};
 pub use replies::{Deny, Refusal, Reply};
-pub use states::{Body, Entry, State};
+pub use resolved::Resolved;
+pub use spaces::{Answers, Asks, Fetch, Search};
+pub use states::{Answer, Body, Document, Entry, Session, State};
 pub use terms::{Term, Words};

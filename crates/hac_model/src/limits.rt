@@ -1,4 +1,8 @@
 //! The limits of a store, each with the word by which a refusal names it.
+ghost use Rattle.std.specs.Prelude.{◌≡◌};
+ghost use Rattle.hac_model.specs.Limits.{answer_limits, first_passed, layout_limits};
+
+use crate::counts::Counts;
 
 /// The most bytes of a line, its end left out.
 pub const LINE_LIMIT: usize = 65_536;
@@ -8,6 +12,15 @@ pub const NAME_LIMIT: usize = 255;
 
 /// The most bytes of a file's text.
 pub const TEXT_LIMIT: u64 = 1_048_576;
+
+/// The most bytes of a query.
+pub const QUERY_LIMIT: usize = 1_024;
+
+/// The most terms of a query: words, beginnings of words, and directories.
+pub const TERMS_LIMIT: u64 = 64;
+
+/// The most parentheses and `NOT`s round any one term of a query.
+pub const NESTING_LIMIT: u64 = 32;
 
 /// The most bytes of a script.
 pub const SCRIPT_LIMIT: u64 = 268_435_456;
@@ -72,4 +85,76 @@ pub enum LimitWord {
     Answers,
     /// Bytes of the store file, and the generation of its root.
     Store,
+}
+
+/// A limit that is tested: a count that is above `most` is refused with the word.
+#[derive(Clone, Copy, Debug, PartialEq, Eq)]
+pub struct Limit {
+    /// How much there is, or would be.
+    pub count: u64,
+    /// How much there may be.
+    pub most: u64,
+    /// What is counted.
+    pub word: LimitWord,
+}
+
+/// The word of the first limit that is passed.
+#[tactic(auto, unfolding(crate::specs::Limits::first_passed))]
+pub fn first_passed(limits: &[Limit]) -> Option<LimitWord>
+    ensures { result ≡ first_passed limits.now }
+{
+    for limit in limits {
+        if limit.count > limit.most {
+            return Some(limit.word);
+        }
+    }
+    None
+}
+
+impl Counts {
+    /// The limits on the tree itself, in the order in which they are told.
+    pub fn layout_limits(self) -> [Limit; 4]
+        ensures { result ≡ layout_limits self }
+    {
+        [
+            Limit {
+                count: self.bytes,
+                most: TEXTS_LIMIT,
+                word: LimitWord::Texts,
+            },
+            Limit {
+                count: self.directories,
+                most: DIRS_LIMIT,
+                word: LimitWord::Dirs,
+            },
+            Limit {
+                count: self.semantics,
+                most: SEMANTICS_LIMIT,
+                word: LimitWord::Semantics,
+            },
+            Limit {
+                count: self.long_paths,
+                most: 0,
+                word: LimitWord::Path,
+            },
+        ]
+    }
+
+    /// The limits that also hang on what spaces answer.
+    pub fn answer_limits(self) -> [Limit; 2]
+        ensures { result ≡ answer_limits self }
+    {
+        [
+            Limit {
+                count: self.files,
+                most: ITEMS_LIMIT,
+                word: LimitWord::Items,
+            },
+            Limit {
+                count: self.next,
+                most: NUMBERS_LIMIT,
+                word: LimitWord::Numbers,
+            },
+        ]
+    }
 }

@@ -3,7 +3,7 @@ use crate::bytes::Name;
 use crate::numbers::Number;
 
 /// What a path leads to. How it is found is said by `look` of the specs.
-#[derive(Clone, Debug, Drop, PartialEq, Eq)]
+#[derive(Debug, Drop)]
 pub enum Place {
     /// An entry, or the root.
     There(Number),

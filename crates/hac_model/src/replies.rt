@@ -40,12 +40,38 @@ pub enum Refusal {
     Root,
     /// The bytes are no query: the least place, counted from 1, up to which they begin none.
     BadQuery(u64),
+    /// The directory would depend on itself by way of this one.
+    Cycle(Path),
+    /// The query of this directory names the one that is to go.
+    Referenced(Path),
+    /// This session stands in the directory that is to go.
+    Busy(Name),
     /// The directory has no query.
     NotSemantic(Path),
+    /// The item isn't linked in the directory.
+    NotLinked(Path),
+    /// The item is a permanent link of the directory already.
+    Already(Path),
+    /// The item has no mark in the directory.
+    NoMark(Path),
+    /// The space isn't attached.
+    NoSpace(Name),
+    /// The space failed.
+    SpaceFault(Name),
     /// The command would pass a limit.
     Limit(LimitWord),
+    /// What stands in this mount is its space's alone.
+    InMount(Path),
+    /// The path follows more symbolic links than a path may.
+    Loop(Path),
+    /// The entry is no symbolic link.
+    NotLink(Path),
     /// The script ends before all bytes of a `put` came.
     ShortPut,
+    /// The directory is no mount.
+    NotMount(Path),
+    /// The document's space has it no more.
+    Gone(Path),
 }
 
 /// Why a call gives no value: the command is refused, or memory ran out.

@@ -1,22 +1,31 @@
 //! The tree as a list of entries. Which states there can be is said by `IsValid` of the specs.
-ghost use Rattle.std.specs.Prelude.{◌≡◌};
-
 use crate::bytes::{Name, Seq, Text};
 use crate::numbers::Number;
 use crate::queries::Query;
-use std::alloc::AllocError;
+use crate::terms::Term;
 
-/// The whole tree but its root, which has the number 0 and no entry.
-#[derive(Clone, Debug, Drop, PartialEq, Eq)]
+/// The whole tree but its root, which has the number 0 and no entry, and where sessions stand.
+#[derive(Debug, Drop)]
 pub struct State {
     /// The number that the next entry takes.
     pub next: Number,
     /// The entries, their numbers rising.
     pub entries: Seq<Entry>,
+    /// The sessions that stand elsewhere than in the root.
+    pub sessions: Seq<Session>,
+}
+
+/// Where a session stands.
+#[derive(Debug, Drop)]
+pub struct Session {
+    /// The session's name.
+    pub name: Name,
+    /// The directory.
+    pub dir: Number,
 }
 
 /// Something that stands in a directory.
-#[derive(Debug, Drop, PartialEq, Eq)]
+#[derive(Debug, Drop)]
 pub struct Entry {
     /// The number by which it is known.
     pub number: Number,
@@ -28,21 +37,8 @@ pub struct Entry {
     pub body: Body,
 }
 
-impl Clone for Entry {
-    ghost is_clone = { λ entry copy. copy ≡ entry };
-
-    fn clone(&self) -> Result<Entry, AllocError> {
-        Ok(Entry {
-            number: self.number,
-            parent: self.parent,
-            name: self.name.clone()?,
-            body: self.body.clone()?,
-        })
-    }
-}
-
 /// What an entry is, with what belongs to its kind.
-#[derive(Debug, Drop, PartialEq, Eq)]
+#[derive(Debug, Drop)]
 pub enum Body {
     /// A file.
     File {
@@ -55,27 +51,45 @@ pub enum Body {
     },
     /// A plain directory.
     Dir,
-    /// A directory that the system fills with links to the files that satisfy its query.
+    /// A symbolic link.
+    Symlink {
+        /// The path word to which it leads, as it was given.
+        target: Text,
+    },
+    /// A directory that the system fills with links to the items that satisfy its query.
     Semantic {
         /// What it asks for.
-        query: Query,
+        query: Query<Number>,
+        /// The items that the user added, rising.
+        permanent: Seq<Number>,
+        /// The items that the user removed, rising.
+        prohibited: Seq<Number>,
+    },
+    /// A directory whose entries are the documents of a space.
+    Mount {
+        /// The space.
+        space: Name,
+        /// The documents, their names rising.
+        documents: Seq<Document>,
+        /// What the space answered, the terms rising.
+        answers: Seq<Answer>,
     },
 }
 
-impl Clone for Body {
-    ghost is_clone = { λ body copy. copy ≡ body };
+/// An entry of a mount.
+#[derive(Debug, Drop)]
+pub struct Document {
+    /// The number by which it is known.
+    pub number: Number,
+    /// Its name in the space, and in the mount.
+    pub name: Name,
+}
 
-    fn clone(&self) -> Result<Body, AllocError> {
-        match self {
-            Body::File { text, dirty, shown } => Ok(Body::File {
-                text: text.clone()?,
-                dirty: *dirty,
-                shown: shown.clone()?,
-            }),
-            Body::Dir => Ok(Body::Dir),
-            Body::Semantic { query } => Ok(Body::Semantic {
-                query: query.clone()?,
-            }),
-        }
-    }
+/// What a space answered to the question for a term.
+#[derive(Debug, Drop)]
+pub struct Answer {
+    /// The term.
+    pub term: Term,
+    /// The documents that had it, rising.
+    pub documents: Seq<Number>,
 }

@@ -1,0 +1,93 @@
+-- What the paths of a command lead to, from left to right, the directories of its query last.
+use Rattle.std.specs.Prelude.{ℕ, if◌then◌else◌, List, [], ◌∷◌, ◌++◌, Option, Result, Ok, Err}
+use Rattle.std.specs.Option.{option_map_or}
+use Rattle.hac_model.specs.Answers.{◌>>=◌}
+use Rattle.hac_model.specs.Formula.{Formula}
+use Rattle.hac_model.specs.Formula as query
+use Rattle.hac_model.specs.Looks.{look}
+use Rattle.hac_model.specs.Paths.{join}
+use Rattle.hac_model.specs.Sessions.{base_of, stands_in}
+use Rattle.hac_model.specs.Tree.{is_directory_at, path_of}
+use Rattle.hac_model.specs.declared.commands.Command.{Command}
+use Rattle.hac_model.specs.declared.commands.Command.TheVariants as command
+use Rattle.hac_model.specs.declared.commands.Line.{Line}
+use Rattle.hac_model.specs.declared.paths.PathWord.{PathWord}
+use Rattle.hac_model.specs.declared.places.Place.{Place}
+use Rattle.hac_model.specs.declared.places.Place.TheVariants.{There, Free}
+use Rattle.hac_model.specs.declared.replies.Refusal.{Refusal}
+use Rattle.hac_model.specs.declared.replies.Refusal.TheVariants.{BadLine, NoPath, NotDir}
+use Rattle.hac_model.specs.declared.resolved.Resolved.{Resolved}
+use Rattle.hac_model.specs.declared.resolved.Resolved.TheVariants.{Mkdir, Rmdir, Write, Cat, Ls, Mv, Rm, Smkdir, Sls, Index}
+use Rattle.hac_model.specs.declared.states.State.{State}
+
+-- where a path word of a session leads: something may stand there or not
+abbrev pub place : State → List ℕ → PathWord → Result Place Refusal
+place s session word = look s (join (base_of s session) word)
+
+-- something is to stand there
+abbrev pub standing : State → Place → Result ℕ Refusal
+standing s (There number) = Ok number
+standing s (Free dir name) = Err (NoPath (path_of s dir ++ name ∷ []))
+
+-- the entry to which a path word leads, or the root
+abbrev pub entry : State → List ℕ → PathWord → Result ℕ Refusal
+entry s session word = do
+  found ← place s session word
+  standing s found
+
+-- what stands there is to be a directory
+abbrev pub directed : State → ℕ → Result ℕ Refusal
+directed s number = if is_directory_at s.entries number then Ok number else Err (NotDir (path_of s number))
+
+-- the directory to which a path word leads
+abbrev pub directory : State → List ℕ → PathWord → Result ℕ Refusal
+directory s session word = do
+  number ← entry s session word
+  directed s number
+
+-- the directory to which a path word leads, that of the session where none is given
+abbrev pub listed : State → List ℕ → Option PathWord → Result ℕ Refusal
+listed s session word = option_map_or (directory s session) word (Ok (stands_in s.sessions session))
+
+-- the query with each directory by its number. No query names one yet.
+abbrev pub numbered : State → List ℕ → Formula PathWord → Result (Formula ℕ) Refusal
+numbered s session (query.Term term) = Ok (query.Term term)
+numbered s session other = Err BadLine
+
+-- the command of a session with what its paths lead to, or the first cause against it that lies in them
+abbrev pub resolved : State → List ℕ → Command → Result Resolved Refusal
+resolved s session (command.Mkdir path) = do
+  found ← place s session path
+  Ok (Mkdir found)
+resolved s session (command.Rmdir path) = do
+  dir ← directory s session path
+  Ok (Rmdir dir)
+resolved s session (command.Write path text) = do
+  found ← place s session path
+  Ok (Write found text)
+resolved s session (command.Cat path) = do
+  number ← entry s session path
+  Ok (Cat number)
+resolved s session (command.Ls path) = do
+  dir ← listed s session path
+  Ok (Ls dir)
+resolved s session (command.Mv from to) = do
+  number ← entry s session from
+  found ← place s session to
+  Ok (Mv number found)
+resolved s session (command.Rm path) = do
+  number ← entry s session path
+  Ok (Rm number)
+resolved s session (command.Smkdir path raw) = do
+  found ← place s session path
+  asked ← numbered s session raw
+  Ok (Smkdir found asked)
+resolved s session (command.Sls path) = do
+  dir ← listed s session path
+  Ok (Sls dir)
+resolved s session command.Index = Ok Index
+resolved s session other = Err BadLine
+
+-- what a line comes to
+abbrev pub resolve : State → Line → Result Resolved Refusal
+resolve s line = resolved s line.session line.command

@@ -1,0 +1,20 @@
+//! How much a state holds of what limits count.
+
+/// How much there is of each thing that a limit or the program counts. Each is told of a state by `counts` of the specs.
+#[derive(Clone, Copy, Debug, PartialEq, Eq)]
+pub struct Counts {
+    /// Bytes of the files, of each the longer of its text and of what is shown of it.
+    pub bytes: u64,
+    /// Directories of any kind, with the root.
+    pub directories: u64,
+    /// Semantic directories.
+    pub semantics: u64,
+    /// Files.
+    pub files: u64,
+    /// Files that are to be indexed.
+    pub dirty: u64,
+    /// 1 where some path has more names than a path may have, else 0.
+    pub long_paths: u64,
+    /// The number that the next entry takes.
+    pub next: u64,
+}

@@ -1,0 +1,165 @@
+//! How far a query was read, byte by byte: what stands before the next byte. What a byte makes of it is
+//! said by `step` of the specs.
+ghost use Rattle.std.specs.Prelude.{◌≡◌, ◌∷◌, [], MatchOption, OnOk, OnErr};
+
+use crate::bytes::{Name, Text};
+use crate::memory::Memory;
+use crate::queries::Query;
+use std::alloc::Global;
+use std::marker::Model;
+
+/// Values one on the other, seen as a list with the topmost first.
+#[derive(Debug, Drop)]
+pub struct Pile<T>(Vec<T>);
+
+impl<T> Model for Pile<T> {
+    ghost use Rattle.std.specs.Prelude.{List, reverse};
+
+    ghost Value = { List T };
+
+    ghost view = { λ pile. reverse pile.0.items };
+}
+
+impl<T> Pile<T> {
+    /// No values.
+    pub fn new(alloc: Global) -> Pile<T>
+        ensures { result ≡ [] }
+    {
+        Pile(Vec::new(alloc))
+    }
+
+    /// Puts a value on the others.
+    pub fn push(&mut self, value: T) -> Result<(), Memory>
+    where
+        T: Drop,
+        ensures ok { OnOk result (self.new ≡ value ∷ self.old) }
+        ensures err { OnErr result (self.new ≡ self.old) }
+    {
+        self.0.push(value)?;
+        Ok(())
+    }
+
+    /// Takes the topmost value.
+    pub fn pop(&mut self) -> Option<T>
+        ensures { MatchOption result (self.old ≡ []) (λ value. self.old ≡ value ∷ self.new) }
+    {
+        self.0.pop()
+    }
+}
+
+/// A query as its bytes spell it, which names each directory by the bytes of its path.
+#[derive(Debug, Drop)]
+pub struct Part {
+    /// What it says.
+    pub query: Query<Name>,
+    /// The most parentheses and `NOT`s that stand round one of its terms.
+    pub nesting: u64,
+}
+
+/// What stands before an operand, from the last open parenthesis on.
+#[derive(Debug, Drop)]
+pub struct Level {
+    /// What an `OR` joins to what follows.
+    pub ors: Option<Part>,
+    /// What an `AND` joins to what follows.
+    pub ands: Option<Part>,
+    /// How many `NOT`s stand directly before it.
+    pub nots: u64,
+}
+
+/// What stands before the operand that is wanted.
+#[derive(Debug, Drop)]
+pub struct Wanted {
+    /// What stands behind the last open parenthesis.
+    pub level: Level,
+    /// What stands before each open parenthesis, the last one first.
+    pub outer: Pile<Level>,
+}
+
+/// What ends with an operand.
+#[derive(Debug, Drop)]
+pub struct Held {
+    /// What an `OR` joins to the part, from the last open parenthesis on.
+    pub ors: Option<Part>,
+    /// The operand, with all that stands before it of its `AND`s and `NOT`s.
+    pub part: Part,
+    /// What stands before each open parenthesis, the last one first.
+    pub outer: Pile<Level>,
+}
+
+/// How much was read of an operand that is wanted.
+#[derive(Debug, Drop)]
+pub enum Operand {
+    /// Nothing.
+    Nothing,
+    /// A run of word bytes.
+    Run(Text),
+    /// The opening brace of a directory.
+    Brace,
+    /// The opening brace and some of the path, which is here without escapes.
+    Path(Text),
+    /// The same and a backslash.
+    Escape(Text),
+}
+
+/// How much was read of an operator that is due.
+#[derive(Clone, Copy, Debug, PartialEq, Eq)]
+pub enum Operator {
+    /// Nothing.
+    Nothing,
+    /// `A`.
+    A,
+    /// `AN`.
+    An,
+    /// `AND`, behind which a byte decides whether the run ends.
+    And,
+    /// `O`.
+    O,
+    /// `OR`, behind which a byte decides whether the run ends.
+    Or,
+}
+
+/// What stands before the next token.
+#[derive(Debug, Drop)]
+pub enum Stack {
+    /// An operand is wanted.
+    Wanting(Wanted),
+    /// An operand ended.
+    Holding(Held),
+}
+
+/// How far a query was read.
+#[derive(Debug, Drop)]
+pub enum Reader {
+    /// An operand is wanted.
+    Wants(Operand, Wanted),
+    /// An operand ended, so that an operator, a closing parenthesis or the end may follow.
+    Holds(Operator, Held),
+}
+
+/// What a byte is in a query.
+#[derive(Clone, Copy, Debug, PartialEq, Eq)]
+pub enum ByteKind {
+    /// A letter, a digit or a byte from 128 on.
+    Word,
+    /// A space.
+    Space,
+    /// `(`.
+    Open,
+    /// `)`.
+    Close,
+    /// `*`.
+    Star,
+    /// `{`.
+    Brace,
+    /// `}`.
+    EndBrace,
+    /// `\`.
+    Backslash,
+    /// `/`.
+    Slash,
+    /// A byte below 32, or 127.
+    Control,
+    /// Any other byte, which only a path may hold.
+    Foreign,
+}
