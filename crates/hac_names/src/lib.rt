@@ -12,8 +12,5 @@ mod texts;
 pub use joining::join;
 pub use names::is_name;
 pub use printing::print_path;
-pub use reading::{NameFault, is_bad, parse_word};
+pub use reading::{NameFault, has_long_part, is_bad, parse_word};
 pub use texts::{parse_text, print_text};
-
-#[cfg(test)]
-mod tests;

@@ -61,7 +61,8 @@ pub fn is_bad(bytes: &[u8]) -> bool
     bytes.is_empty() || !bytes.split(|b| *b == b'/').all(|part| is_part(part))
 }
 
-fn has_long_part(bytes: &[u8]) -> bool
+/// Whether a part of the bytes is longer than a name may be, whatever else they are.
+pub fn has_long_part(bytes: &[u8]) -> bool
     ensures { result ≡ words.has_long_part bytes.now }
 {
     bytes

@@ -23,22 +23,3 @@ pub(crate) fn is_word_byte(b: u8) -> bool
 {
     b.is_ascii_alphanumeric() || b >= 128
 }
-
-#[cfg(test)]
-mod tests {
-    use super::*;
-
-    #[test]
-    fn knows_words(rt: HostRuntime) {
-        for (bytes, want) in [
-            (b"".as_slice(), false),
-            (b"ant", true),
-            (b"4x4\xc3\x89", true),
-            (b"Ant", false),
-            (b"an ant", false),
-            (b"ant\x7f", false),
-        ] {
-            assert_eq!(rt; is_word(bytes), want, "{bytes:?}");
-        }
-    }
-}

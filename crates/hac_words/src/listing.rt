@@ -35,34 +35,3 @@ fn names(alloc: Global, words: &[&[u8]]) -> Result<Vec<Name>, AllocError>
     }
     Ok(names)
 }
-
-#[cfg(test)]
-mod tests {
-    use super::*;
-    use std::test::Fail;
-
-    #[test]
-    fn lists_words(rt: HostRuntime) -> Result<(), Fail> {
-        for (text, want) in [
-            (b"".as_slice(), b"".as_slice()),
-            (b" .,-\t\n", b""),
-            (b"one", b"one "),
-            (b"Zebra, ant; the ANT-zoo", b"ant the zebra zoo "),
-            (b"(ants) an 9 10 4x4 Ant", b"10 4x4 9 an ant ants "),
-            (b"a@b[c`d{e/f:g\x7fh\x80i", b"a b c d e f g h\x80i "),
-            (
-                b"\xc3\x89t\xc3\xa9 \xc3\xa9T\xc3\xa9",
-                b"\xc3\x89t\xc3\xa9 \xc3\xa9t\xc3\xa9 ",
-            ),
-            (b"\xff~\x00\xff", b"\xff "),
-        ] {
-            let mut told = Vec::new(rt.alloc());
-            for word in words_of(rt.alloc(), text)?.as_slice() {
-                told.extend_from_slice(word.as_bytes())?;
-                told.push(b' ')?;
-            }
-            assert_eq!(rt; told.as_slice(), want, "in {text:?}");
-        }
-        Ok(())
-    }
-}

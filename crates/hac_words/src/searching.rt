@@ -48,34 +48,3 @@ fn begins(run: &[u8], letters: &[u8]) -> bool
             .zip(run)
             .all(|(letter, b)| *letter == b.to_ascii_lowercase())
 }
-
-#[cfg(test)]
-mod tests {
-    use super::*;
-    use hac_model::Name;
-    use std::test::Fail;
-
-    #[test]
-    fn finds_words_and_prefixes(rt: HostRuntime) -> Result<(), Fail> {
-        let text = b"The Anthill, 4x4 caf\xc3\xa9";
-        for (letters, is_word, is_prefix) in [
-            (b"the".as_slice(), true, true),
-            (b"anthill", true, true),
-            (b"ant", false, true),
-            (b"hill", false, false),
-            (b"Ant", false, false),
-            (b"anthills", false, false),
-            (b"the anthill", false, false),
-            (b"4", false, true),
-            (b"caf\xc3\xa9", true, true),
-            (b"", false, true),
-        ] {
-            let word = Term::Word(Name::new(Vec::from_slice(rt.alloc(), letters)?));
-            let prefix = Term::Prefix(Name::new(Vec::from_slice(rt.alloc(), letters)?));
-            assert_eq!(rt; has_term(text, &word), is_word, "{letters:?}");
-            assert_eq!(rt; has_term(text, &prefix), is_prefix, "{letters:?}*");
-            assert_eq!(rt; has_term(b", ;", &prefix), false, "{letters:?}*");
-        }
-        Ok(())
-    }
-}
