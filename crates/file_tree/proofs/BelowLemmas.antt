@@ -1,7 +1,7 @@
 -- The entries of the numbers below a number, told the entry of each.
 use Rattle.std.proofs.Common.{◌≡◌, ℕ, zero, suc, ◌+◌, ◌<◌, ◌≤◌, Bool, true, false, cond, List, [], ◌∷◌, ◌++◌, refl, ap, sym, ◌∙◌, arith, eq-eqb, inl, inr, add-one}
-use Rattle.std.specs.Prelude.{◌⊎◌, ◌==◌, not, nat_eq, filter, Option, Some, None}
-use Rattle.std.specs.Option.{option_map, option_map_or}
+use Rattle.std.specs.Prelude.{◌==◌, not, nat_eq, filter, Option, Some, None}
+use Rattle.std.specs.Option.{option_map, option_to_list}
 use Rattle.std.proofs.lemmas.Bool.{ne_eqb, cases_lt}
 use Rattle.std.proofs.lemmas.Bool.Decides.{nat_tests}
 use Rattle.std.proofs.lemmas.List.{append-nil}
@@ -15,51 +15,36 @@ use Rattle.file_tree.specs.Nodes.{entries_below}
 abbrev pub IsNumbered : (ℕ → Option Entry) → Type 0
 IsNumbered at = (n : ℕ) (e : Entry) → at n ≡ Some e → e.number ≡ n
 
--- one more number, told what is there
-abbrev pub with_last : List Entry → Option Entry → List Entry
-with_last es found = option_map_or (λ (e : Entry). es ++ e ∷ []) found es
+-- what comes last isn't found under another number
+last-other : (es : List Entry) (o : Option Entry) (n : ℕ) → ((e : Entry) → o ≡ Some e → e.number ≡ n → ⊥) → entry_at (es ++ option_to_list o) n ≡ entry_at es n
+last-other es None n other = ap (λ (xs : List Entry). entry_at xs n) (append-nil es)
+last-other es (Some e) n other = entry_at-other es e n (other e refl)
 
-option_cases : {X : Type 0} (o : Option X) → (o ≡ None) ⊎ ((x : X) × (o ≡ Some x))
-option_cases None = inl refl
-option_cases (Some x) = inr (x, refl)
+-- and is under its own
+last-own : (es : List Entry) (o : Option Entry) (n : ℕ) → ((e : Entry) → o ≡ Some e → e.number ≡ n) → entry_at es n ≡ None → entry_at (es ++ option_to_list o) n ≡ o
+last-own es None n own none = ap (λ (xs : List Entry). entry_at xs n) (append-nil es) ∙ none
+last-own es (Some e) n own none =
+    let number : e.number ≡ n = own e refl in
+    ap (λ (m : ℕ). entry_at (es ++ e ∷ []) m) (sym number) ∙ entry_at-new es e (ap (λ (m : ℕ). entry_at es m) number ∙ none)
 
 -- no entry has a number that isn't below
 pub below-none : (k : ℕ) (at : ℕ → Option Entry) (n : ℕ) → IsNumbered at → k ≤ n → entry_at (entries_below k at) n ≡ None
 below-none zero at n numbered high = refl
 below-none (suc k) at n numbered high =
-    let rest : entry_at (entries_below k at) n ≡ None = below-none k at n numbered (omega arith) in
-    elim (option_cases (at k)) [
-      | inl none ↦ ap (λ (o : Option Entry). entry_at (with_last (entries_below k at) o) n) none ∙ rest
-      | inr found ↦
-          (let number : found.0.number ≡ k = numbered k found.0 found.1 in
-          ap (λ (o : Option Entry). entry_at (with_last (entries_below k at) o) n) found.1
-          ∙ entry_at-other (entries_below k at) found.0 n (λ same. omega arith) ∙ rest)
-    ]
+    last-other (entries_below k at) (at k) n (λ e found same. let number : e.number ≡ k = numbered k e found in omega arith)
+    ∙ below-none k at n numbered (omega arith)
 
 -- an entry whose number is below is there
 pub below-at : (k : ℕ) (at : ℕ → Option Entry) (n : ℕ) → IsNumbered at → n < k → entry_at (entries_below k at) n ≡ at n
 below-at zero at n numbered low = absurd (omega arith)
-below-at (suc k) at n numbered low =
-    elim (option_cases (at k)) [
-      | inl none ↦ ap (λ (o : Option Entry). entry_at (with_last (entries_below k at) o) n) none ∙ (elim (cases_lt n k) [
-        | inl less ↦ below-at k at n numbered less
-        | inr high ↦
-            (let same : n ≡ k = omega arith in
-            below-none k at n numbered high ∙ sym none ∙ ap at (sym same))
-      ])
-      | inr found ↦ ap (λ (o : Option Entry). entry_at (with_last (entries_below k at) o) n) found.1 ∙ (elim (cases_lt n k) [
-        | inl less ↦
-            (let number : found.0.number ≡ k = numbered k found.0 found.1 in
-            entry_at-other (entries_below k at) found.0 n (λ same. omega arith) ∙ below-at k at n numbered less)
-        | inr high ↦
-            (let same : n ≡ k = omega arith in
-            let number : found.0.number ≡ k = numbered k found.0 found.1 in
-            let own : found.0.number ≡ n = omega arith in
-            ap (λ (m : ℕ). entry_at (entries_below k at ++ found.0 ∷ []) m) (sym own)
-            ∙ entry_at-new (entries_below k at) found.0 (ap (λ (m : ℕ). entry_at (entries_below k at) m) number ∙ below-none k at k numbered (omega arith))
-            ∙ sym found.1 ∙ ap at (sym same))
-      ])
-    ]
+below-at (suc k) at n numbered low = elim (cases_lt n k) [
+  | inl less ↦
+      last-other (entries_below k at) (at k) n (λ e found same. let number : e.number ≡ k = numbered k e found in omega arith)
+      ∙ below-at k at n numbered less
+  | inr high ↦
+      (let same : k ≡ n = omega arith in
+      last-own (entries_below k at) (at k) n (λ e found. numbered k e found ∙ same) (below-none k at n numbered high) ∙ ap at same)
+]
 
 -- all entries are there, where none has a number that isn't below
 pub below-all : (k : ℕ) (at : ℕ → Option Entry) (n : ℕ) → IsNumbered at → ((m : ℕ) → k ≤ m → at m ≡ None) → entry_at (entries_below k at) n ≡ at n
@@ -68,19 +53,24 @@ below-all k at n numbered above = elim (cases_lt n k) [
   | inr high ↦ below-none k at n numbered high ∙ sym (above n high)
 ]
 
+-- what is made of the entries part by part is made of them all
+below-made : (make : List Entry → List Entry) → make [] ≡ [] → ((xs ys : List Entry) → make (xs ++ ys) ≡ make xs ++ make ys) → (k : ℕ) (at other : ℕ → Option Entry) → ((n : ℕ) → n < k → option_to_list (other n) ≡ make (option_to_list (at n))) → entries_below k other ≡ make (entries_below k at)
+below-made make nothing parts zero at other told = sym nothing
+below-made make nothing parts (suc k) at other told =
+    ap (λ (es : List Entry). es ++ option_to_list (other k)) (below-made make nothing parts k at other (λ n low. told n (omega arith)))
+    ∙ ap (λ (es : List Entry). make (entries_below k at) ++ es) (told k (omega arith))
+    ∙ sym (parts (entries_below k at) (option_to_list (at k)))
+
 -- numbers told alike give the same entries
 pub below-same : (k : ℕ) (at other : ℕ → Option Entry) → ((n : ℕ) → n < k → other n ≡ at n) → entries_below k other ≡ entries_below k at
-below-same zero at other same = refl
-below-same (suc k) at other same =
-    ap (λ (es : List Entry). with_last es (other k)) (below-same k at other (λ n low. same n (omega arith)))
-    ∙ ap (λ (o : Option Entry). with_last (entries_below k at) o) (same k (omega arith))
+below-same k at other same = below-made (λ es. es) refl (λ xs ys. refl) k at other (λ n low. ap (λ (o : Option Entry). option_to_list o) (same n low))
 
 -- a new entry comes last
 pub below-added : (k : ℕ) (at other : ℕ → Option Entry) (e : Entry) → ((n : ℕ) → other n ≡ cond (nat_eq k n) (Some e) (at n)) → entries_below (k + 1) other ≡ entries_below k at ++ e ∷ []
 below-added k at other e told =
     let last : other k ≡ Some e = told k ∙ ap (λ (b : Bool). cond b (Some e) (at k)) (eq-eqb k k refl) in
-    rw add-one (ap (λ (es : List Entry). with_last es (other k)) (below-same k at other (λ n low. told n ∙ ap (λ (b : Bool). cond b (Some e) (at n)) (ne_eqb k n (λ same. omega arith))))
-    ∙ ap (λ (o : Option Entry). with_last (entries_below k at) o) last)
+    rw add-one (ap (λ (es : List Entry). es ++ option_to_list (other k)) (below-same k at other (λ n low. told n ∙ ap (λ (b : Bool). cond b (Some e) (at n)) (ne_eqb k n (λ same. omega arith))))
+    ∙ ap (λ (o : Option Entry). entries_below k at ++ option_to_list o) last)
 
 changed-append : (n : ℕ) (change : Entry → Entry) (xs ys : List Entry) → changed n change (xs ++ ys) ≡ changed n change xs ++ changed n change ys
 changed-append n change [] ys = refl
@@ -88,32 +78,18 @@ changed-append n change (x ∷ xs) ys = ap (λ (es : List Entry). cond (x.number
 
 -- an entry is changed
 pub below-changed : (k : ℕ) (at other : ℕ → Option Entry) (m : ℕ) (change : Entry → Entry) → IsNumbered at → ((n : ℕ) → other n ≡ cond (nat_eq m n) (option_map change (at n)) (at n)) → entries_below k other ≡ changed m change (entries_below k at)
-below-changed zero at other m change numbered told = refl
-below-changed (suc k) at other m change numbered told =
-    ap (λ (es : List Entry). with_last es (other k)) (below-changed k at other m change numbered told)
-    ∙ ap (λ (o : Option Entry). with_last (changed m change (entries_below k at)) o) (told k)
-    ∙ (elim (option_cases (at k)) [
-      | inl none ↦
-          ap (λ (o : Option Entry). with_last (changed m change (entries_below k at)) (cond (nat_eq m k) (option_map change o) o)) none
-          ∙ ap (λ (o : Option Entry). with_last (changed m change (entries_below k at)) o) (neither (nat_eq m k))
-          ∙ ap (λ (o : Option Entry). changed m change (with_last (entries_below k at) o)) (sym none)
-      | inr found ↦
-          (let number : found.0.number ≡ k = numbered k found.0 found.1 in
-          let test : nat_eq m k ≡ (found.0.number == m) = grind (arith, nat_tests) in
-          ap (λ (o : Option Entry). with_last (changed m change (entries_below k at)) (cond (nat_eq m k) (option_map change o) o)) found.1
-          ∙ ap (λ (o : Option Entry). with_last (changed m change (entries_below k at)) o) (either (nat_eq m k) found.0)
-          ∙ ap (λ (b : Bool). changed m change (entries_below k at) ++ cond b (change found.0) found.0 ∷ []) test
-          ∙ sym (changed-append m change (entries_below k at) (found.0 ∷ []))
-          ∙ ap (λ (o : Option Entry). changed m change (with_last (entries_below k at) o)) (sym found.1))
-    ])
+below-changed k at other m change numbered told =
+    below-made (changed m change) refl (changed-append m change) k at other (λ n low. ap (λ (o : Option Entry). option_to_list o) (told n) ∙ one n (at n) (numbered n))
   where
-    neither : (b : Bool) → cond b (option_map change None) None ≡ None
-    neither true = refl
-    neither false = refl
-
-    either : (b : Bool) (e : Entry) → cond b (option_map change (Some e)) (Some e) ≡ Some (cond b (change e) e)
-    either true e = refl
-    either false e = refl
+    one : (n : ℕ) (o : Option Entry) → ((e : Entry) → o ≡ Some e → e.number ≡ n) → option_to_list (cond (nat_eq m n) (option_map change o) o) ≡ changed m change (option_to_list o)
+    one n None number = elim (nat_eq m n) as (λ b. option_to_list (cond {A = Option Entry} b None None) ≡ []) [ true ↦ refl | false ↦ refl ]
+    one n (Some e) number =
+        let own : e.number ≡ n = number e refl in
+        let test : nat_eq m n ≡ (e.number == m) = grind (arith, nat_tests) in
+        elim (nat_eq m n) as (λ b. b ≡ (e.number == m) → option_to_list (cond b (Some (change e)) (Some e)) ≡ cond (e.number == m) (change e) e ∷ []) [
+          | true ↦ (λ is. ap (λ (b : Bool). cond b (change e) e ∷ []) is)
+          | false ↦ (λ is. ap (λ (b : Bool). cond b (change e) e ∷ []) is)
+        ] test
 
 -- all but the entry of a number
 abbrev pub kept : ℕ → List Entry → List Entry
@@ -127,29 +103,15 @@ kept-append m (x ∷ xs) ys =
 
 -- an entry is taken out
 pub below-removed : (k : ℕ) (at other : ℕ → Option Entry) (m : ℕ) → IsNumbered at → ((n : ℕ) → other n ≡ cond (nat_eq m n) None (at n)) → entries_below k other ≡ kept m (entries_below k at)
-below-removed zero at other m numbered told = refl
-below-removed (suc k) at other m numbered told =
-    ap (λ (es : List Entry). with_last es (other k)) (below-removed k at other m numbered told)
-    ∙ ap (λ (o : Option Entry). with_last (kept m (entries_below k at)) o) (told k)
-    ∙ (elim (option_cases (at k)) [
-      | inl none ↦
-          ap (λ (o : Option Entry). with_last (kept m (entries_below k at)) (cond (nat_eq m k) None o)) none
-          ∙ ap (λ (o : Option Entry). with_last (kept m (entries_below k at)) o) (neither (nat_eq m k))
-          ∙ ap (λ (o : Option Entry). kept m (with_last (entries_below k at) o)) (sym none)
-      | inr found ↦
-          (let number : found.0.number ≡ k = numbered k found.0 found.1 in
-          let test : nat_eq m k ≡ (found.0.number == m) = grind (arith, nat_tests) in
-          ap (λ (o : Option Entry). with_last (kept m (entries_below k at)) (cond (nat_eq m k) None o)) found.1
-          ∙ ap (λ (b : Bool). with_last (kept m (entries_below k at)) (cond b None (Some found.0))) test
-          ∙ either (found.0.number == m) found.0
-          ∙ sym (kept-append m (entries_below k at) (found.0 ∷ []))
-          ∙ ap (λ (o : Option Entry). kept m (with_last (entries_below k at) o)) (sym found.1))
-    ])
+below-removed k at other m numbered told =
+    below-made (kept m) refl (kept-append m) k at other (λ n low. ap (λ (o : Option Entry). option_to_list o) (told n) ∙ one n (at n) (numbered n))
   where
-    neither : (b : Bool) → cond {A = Option Entry} b None None ≡ None
-    neither true = refl
-    neither false = refl
-
-    either : (b : Bool) (e : Entry) → with_last (kept m (entries_below k at)) (cond b None (Some e)) ≡ kept m (entries_below k at) ++ cond (not b) (e ∷ []) []
-    either true e = sym (append-nil (kept m (entries_below k at)))
-    either false e = refl
+    one : (n : ℕ) (o : Option Entry) → ((e : Entry) → o ≡ Some e → e.number ≡ n) → option_to_list (cond (nat_eq m n) None o) ≡ kept m (option_to_list o)
+    one n None number = elim (nat_eq m n) as (λ b. option_to_list (cond {A = Option Entry} b None None) ≡ []) [ true ↦ refl | false ↦ refl ]
+    one n (Some e) number =
+        let own : e.number ≡ n = number e refl in
+        let test : nat_eq m n ≡ (e.number == m) = grind (arith, nat_tests) in
+        elim (nat_eq m n) as (λ b. b ≡ (e.number == m) → option_to_list (cond b None (Some e)) ≡ cond (not (e.number == m)) (e ∷ []) []) [
+          | true ↦ (λ is. ap (λ (b : Bool). cond (not b) (e ∷ []) []) is)
+          | false ↦ (λ is. ap (λ (b : Bool). cond (not b) (e ∷ []) []) is)
+        ] test

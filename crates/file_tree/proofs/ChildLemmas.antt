@@ -66,12 +66,12 @@ child-named t h dir name = by_found (named_in (name_of t.nodes) (kids_of t.nodes
         let named : entry.0.name ≡ name = sym (name-told t.nodes n entry.0 entry.1) ∙ (bytes_eq-Decides (name_of t.nodes n) name).0 member.1 in
         ap (λ (d : ℕ). child (state_of t).entries d name) (sym entry.2)
         ∙ ap (λ (x : List ℕ). child (state_of t).entries entry.0.parent x) (sym named)
-        ∙ child-own (state_of t).entries n entry.0 h.valid.differ (seen-entry t h n ∙ entry.1)
+        ∙ child-own (state_of t).entries n entry.0 h.layout.differ (seen-entry t h n ∙ entry.1)
 
     nothing : named_in (name_of t.nodes) (kids_of t.nodes dir) name ≡ None → (o : Option ℕ) → child (state_of t).entries dir name ≡ o → o ≡ None
     nothing none None is = refl
     nothing none (Some n) is =
-        let entry = child-entry 0 (state_of t).entries t.next dir n name h.valid.numbers is in
+        let entry = child-entry 0 (state_of t).entries t.next dir n name h.layout.numbers is in
         let found : entry_of t.nodes n ≡ Some entry.0 = sym (seen-entry t h n) ∙ entry.1 in
         let parent : parent_in (entry_of t.nodes n) ≡ Some dir = ap parent_in found ∙ ap (λ (d : ℕ). Some d) entry.2 in
         let named : name_of t.nodes n ≡ name = name-told t.nodes n entry.0 found ∙ entry.3 in

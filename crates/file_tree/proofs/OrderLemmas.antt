@@ -1,19 +1,19 @@
 -- What stands in a directory, in byte order of names, is what its list has.
-use Rattle.std.proofs.Common.{◌≡◌, ℕ, suc, ◌+◌, Bool, true, false, cond, List, [], ◌∷◌, subst, refl, ap, sym, ◌∙◌, arith, inl, inr, eq-eqb}
-use Rattle.std.specs.Prelude.{◌==◌, ◌&&◌, not, filter, map, Option, Some, None, IsTrue, slice_get}
+use Rattle.std.proofs.Common.{◌≡◌, ℕ, Bool, true, false, cond, List, [], ◌∷◌, length, subst, refl, ap, sym, ◌∙◌, arith, inl, inr, eq-eqb}
+use Rattle.std.specs.Prelude.{◌==◌, ◌&&◌, not, filter, map, Some, None, IsTrue}
 use Rattle.std.specs.List.{AllByRecursion}
 use Rattle.std.specs.Str.{bytes_eq}
 use Rattle.std.specs.Cmp.Lexicographic.{nat_list_eq_equiv}
-use Rattle.std.proofs.lemmas.Bool.{eqb-true}
+use Rattle.std.proofs.lemmas.Bool.{eqb-true, ne_eqb}
+use Rattle.hac_model.specs.Events.{is_bare}
 use Rattle.hac_model.specs.Listing.{children, in_order, is_before, put_in_order}
 use Rattle.hac_model.specs.Tree.{child, entry_at}
-use Rattle.hac_model.specs.Valid.{NamesDiffer}
+use Rattle.hac_model.specs.Valid.{NamesDiffer, NumbersRise}
 use Rattle.hac_model.specs.declared.states.Entry.{Entry}
-use Rattle.hac_model.proofs.ChangeLemmas.{all-filter, all-weaker}
+use Rattle.hac_model.specs.declared.states.State.{State}
+use Rattle.hac_model.proofs.ChangeLemmas.{all-weaker}
 use Rattle.hac_model.proofs.TreeLemmas.{all-entries}
-use Rattle.file_tree.specs.Answers.{is_past, next_in}
 use Rattle.file_tree.specs.Nodes.{entry_of, kids_of, name_of}
-use Rattle.file_tree.specs.Search.{past_in}
 use Rattle.file_tree.specs.Seen.{Seen}
 use Rattle.file_tree.specs.Shape.{Among, IsShaped, Rises, parent_in, seen_of, state_of}
 use Rattle.file_tree.specs.declared.tree.Tree.TheInside.{Inside}
@@ -29,10 +29,6 @@ numbers_of es = map (λ (e : Entry). e.number) es
 -- what stands in a directory, of these entries
 abbrev pub standing : ℕ → List Entry → List Entry
 standing dir es = filter (λ (e : Entry). e.parent == dir) es
-
-both-all : {X : Type 0} (P Q : X → Type 0) (xs : List X) → AllByRecursion P xs → AllByRecursion Q xs → AllByRecursion (λ x. P x × Q x) xs
-both-all P Q [] h k = tt
-both-all P Q (x ∷ xs) h k = ((h.0, k.0), both-all P Q xs h.1 k.1)
 
 -- what holds of entries holds of them in order
 all-put : (P : Entry → Type 0) (new : Entry) (es : List Entry) → P new → AllByRecursion P es → AllByRecursion P (put_in_order new es)
@@ -79,19 +75,26 @@ order-among dir (f ∷ es) n e found number parent =
           ])
     ] refl found
 
-standing-all : (dir : ℕ) (es : List Entry) → AllByRecursion (λ e. (e.parent == dir) ≡ true) (standing dir es)
-standing-all dir [] = tt
-standing-all dir (e ∷ es) = elim (e.parent == dir) as (λ b. (e.parent == dir) ≡ b → AllByRecursion (λ e. (e.parent == dir) ≡ true) (cond b (e ∷ standing dir es) (standing dir es))) [
-  | true ↦ (λ here. (here, standing-all dir es))
-  | false ↦ (λ other. standing-all dir es)
+-- what holds of entries holds of those that stand in the directory
+standing-all : (P : Entry → Type 0) (dir : ℕ) (es : List Entry) → AllByRecursion P es → AllByRecursion (λ e. P e × (e.parent ≡ dir)) (standing dir es)
+standing-all P dir [] h = tt
+standing-all P dir (e ∷ es) h = elim (e.parent == dir) as (λ b. (e.parent == dir) ≡ b → AllByRecursion (λ e. P e × (e.parent ≡ dir)) (cond b (e ∷ standing dir es) (standing dir es))) [
+  | true ↦ (λ here. ((h.0, eqb-true e.parent dir here), standing-all P dir es h.1))
+  | false ↦ (λ other. standing-all P dir es h.1)
 ] refl
 
+-- what stands in a directory are entries, each found by its number
+pub children-found : (s : State) (dir : ℕ) → NumbersRise 0 s.entries s.next → AllByRecursion (λ e. (entry_at s.entries e.number ≡ Some e) × (e.parent ≡ dir)) (children s dir)
+children-found s dir numbers =
+    all-order (λ e. (entry_at s.entries e.number ≡ Some e) × (e.parent ≡ dir)) (standing dir s.entries)
+    (standing-all (λ e. entry_at s.entries e.number ≡ Some e) dir s.entries (all-entries (λ e. entry_at s.entries e.number ≡ Some e) 0 s.entries s.next numbers (λ e found. found)))
+
 -- nothing of a name stands in the directory
-free-all : (es : List Entry) (dir : ℕ) (name : List ℕ) → child es dir name ≡ None → AllByRecursion (λ e. (e.parent == dir && bytes_eq e.name name) ≡ false) es
-free-all [] dir name none = tt
-free-all (e ∷ es) dir name none = elim (e.parent == dir && bytes_eq e.name name) as (λ b. (e.parent == dir && bytes_eq e.name name) ≡ b → cond b (Some e.number) (child es dir name) ≡ None → AllByRecursion (λ e. (e.parent == dir && bytes_eq e.name name) ≡ false) (e ∷ es)) [
+free-all : (P : Entry → Type 0) (es : List Entry) (dir : ℕ) (name : List ℕ) → child es dir name ≡ None → AllByRecursion P es → AllByRecursion (λ e. P e × ((e.parent == dir && bytes_eq e.name name) ≡ false)) es
+free-all P [] dir name none h = tt
+free-all P (e ∷ es) dir name none h = elim (e.parent == dir && bytes_eq e.name name) as (λ b. (e.parent == dir && bytes_eq e.name name) ≡ b → cond b (Some e.number) (child es dir name) ≡ None → AllByRecursion (λ e. P e × ((e.parent == dir && bytes_eq e.name name) ≡ false)) (e ∷ es)) [
   | true ↦ (λ here none. absurd cc)
-  | false ↦ (λ other none. (other, free-all es dir name none))
+  | false ↦ (λ other none. ((h.0, other), free-all P es dir name none h.1))
 ] refl none
 
 module _ (names : ℕ → List ℕ) where
@@ -135,10 +138,8 @@ module _ (names : ℕ → List ℕ) where
             let none : child es dir e.name ≡ None = subst (λ (d : ℕ). child es d e.name ≡ None) parent differ.0 in
             put-rises e (in_order (standing dir es)) told.0
             (all-order (λ f. IsTold f × (bytes_eq f.name e.name ≡ false)) (standing dir es)
-            (all-weaker (λ f. (IsTold f × ((f.parent == dir && bytes_eq f.name e.name) ≡ false)) × ((f.parent == dir) ≡ true)) (λ f. IsTold f × (bytes_eq f.name e.name ≡ false)) (standing dir es) (λ f h. (h.0.0, sym (ap (λ (b : Bool). b && bytes_eq f.name e.name) h.1) ∙ h.0.1))
-            (both-all (λ f. IsTold f × ((f.parent == dir && bytes_eq f.name e.name) ≡ false)) (λ f. (f.parent == dir) ≡ true) (standing dir es)
-            (all-filter (λ f. IsTold f × ((f.parent == dir && bytes_eq f.name e.name) ≡ false)) (λ (f : Entry). f.parent == dir) es (both-all IsTold (λ f. (f.parent == dir && bytes_eq f.name e.name) ≡ false) es told.1 (free-all es dir e.name none)))
-            (standing-all dir es))))
+            (all-weaker (λ f. (IsTold f × ((f.parent == dir && bytes_eq f.name e.name) ≡ false)) × (f.parent ≡ dir)) (λ f. IsTold f × (bytes_eq f.name e.name ≡ false)) (standing dir es) (λ f h. (h.0.0, sym (ap (λ (b : Bool). b && bytes_eq f.name e.name) (eq-eqb f.parent dir h.1)) ∙ h.0.1))
+            (standing-all (λ f. IsTold f × ((f.parent == dir && bytes_eq f.name e.name) ≡ false)) dir es (free-all IsTold es dir e.name none told.1))))
             (order-rises dir es differ.1 told.1))
         | false ↦ (λ other. order-rises dir es differ.1 told.1)
       ] refl
@@ -183,47 +184,17 @@ module _ (names : ℕ → List ℕ) where
         | inr rest ↦ rest
       ]
 
-  -- the first number whose name stands behind one
-  next_among : List ℕ → Option (List ℕ) → Option ℕ
-  next_among [] after = None
-  next_among (n ∷ ns) after = cond (is_past after (names n)) (Some n) (next_among ns after)
-
-  next-numbers : (es : List Entry) (after : Option (List ℕ)) → AllByRecursion IsTold es → next_in es after ≡ next_among (numbers_of es) after
-  unfolding next_among
-  next-numbers [] after told = refl
-  next-numbers (e ∷ es) after told =
-      ap (λ (o : Option ℕ). cond (is_past after e.name) (Some e.number) o) (next-numbers es after told.1)
-      ∙ ap (λ (x : List ℕ). cond (is_past after x) (Some e.number) (next_among (numbers_of es) after)) (sym told.0)
-
-  next-first : (ns : List ℕ) → next_among ns None ≡ slice_get ns 0
-  unfolding next_among
-  next-first [] = refl
-  next-first (n ∷ ns) = refl
-
-  next-past : (ns : List ℕ) (name : List ℕ) → next_among ns (Some name) ≡ slice_get ns (past_in names name ns)
-  unfolding next_among
-  next-past [] name = refl
-  next-past (n ∷ ns) name =
-      elim (is_before name (names n)) as (λ b. cond b (Some n) (next_among ns (Some name)) ≡ slice_get (n ∷ ns) (cond (not b) (1 + past_in names name ns) 0)) [
-        | true ↦ refl
-        | false ↦ (let more : 1 + past_in names name ns ≡ suc (past_in names name ns) = omega arith in next-past ns name ∙ ap (λ (i : ℕ). slice_get (n ∷ ns) i) (sym more))
-      ]
-
 module _ (t : Inside) (h : IsShaped t) (dir : ℕ) where
-  told-all : AllByRecursion (λ e. entry_of t.nodes e.number ≡ Some e) (state_of t).entries
-  told-all = all-entries (λ e. entry_of t.nodes e.number ≡ Some e) 0 (state_of t).entries t.next h.valid.numbers (λ e found. sym (seen-entry t h e.number) ∙ found)
-
   names-all : AllByRecursion (IsTold (name_of t.nodes)) (state_of t).entries
-  names-all = all-weaker (λ e. entry_of t.nodes e.number ≡ Some e) (IsTold (name_of t.nodes)) (state_of t).entries (λ e told. name-told t.nodes e.number e told) told-all
+  names-all = all-entries (IsTold (name_of t.nodes)) 0 (state_of t).entries t.next h.layout.numbers (λ e found. name-told t.nodes e.number e (sym (seen-entry t h e.number) ∙ found))
 
   -- the numbers of what stands in a directory are those of its list
   pub children-numbers : numbers_of (children (state_of t) dir) ≡ kids_of t.nodes dir
-  children-numbers = rising-one (name_of t.nodes) (numbers_of (children (state_of t) dir)) (kids_of t.nodes dir) (order-rises (name_of t.nodes) dir (state_of t).entries h.valid.differ names-all) (h.lists.rises dir) forward backward
+  children-numbers = rising-one (name_of t.nodes) (numbers_of (children (state_of t) dir)) (kids_of t.nodes dir) (order-rises (name_of t.nodes) dir (state_of t).entries h.layout.differ names-all) (h.lists.rises dir) forward backward
     where
       parents : AllByRecursion (λ e. parent_in (entry_of t.nodes e.number) ≡ Some dir) (children (state_of t) dir)
-      parents = all-order (λ e. parent_in (entry_of t.nodes e.number) ≡ Some dir) (standing dir (state_of t).entries)
-          (all-weaker (λ e. (entry_of t.nodes e.number ≡ Some e) × ((e.parent == dir) ≡ true)) (λ e. parent_in (entry_of t.nodes e.number) ≡ Some dir) (standing dir (state_of t).entries) (λ e both. ap parent_in both.0 ∙ ap (λ (d : ℕ). Some d) (eqb-true e.parent dir both.1))
-          (both-all (λ e. entry_of t.nodes e.number ≡ Some e) (λ e. (e.parent == dir) ≡ true) (standing dir (state_of t).entries) (all-filter (λ e. entry_of t.nodes e.number ≡ Some e) (λ (e : Entry). e.parent == dir) (state_of t).entries told-all) (standing-all dir (state_of t).entries)))
+      parents = all-weaker (λ e. (entry_at (state_of t).entries e.number ≡ Some e) × (e.parent ≡ dir)) (λ e. parent_in (entry_of t.nodes e.number) ≡ Some dir) (children (state_of t) dir)
+          (λ e both. ap parent_in (sym (seen-entry t h e.number) ∙ both.0) ∙ ap (λ (d : ℕ). Some d) both.1) (children-found (state_of t) dir h.layout.numbers)
 
       forward : (n : ℕ) → Among (numbers_of (children (state_of t) dir)) n → Among (kids_of t.nodes dir) n
       forward n among = h.lists.lists dir n (among-all (λ k. parent_in (entry_of t.nodes k) ≡ Some dir) (numbers_of (children (state_of t) dir)) n (all-numbers (name_of t.nodes) (λ k. parent_in (entry_of t.nodes k) ≡ Some dir) (children (state_of t) dir) parents) among)
@@ -233,15 +204,21 @@ module _ (t : Inside) (h : IsShaped t) (dir : ℕ) where
           let found = parent-told (entry_of t.nodes n) dir (h.lists.listed dir n among) in
           order-among dir (state_of t).entries n found.0 (seen-entry t h n ∙ found.1) (entry_of-number t.nodes n found.0 found.1) found.2
 
-  next-listed : (after : Option (List ℕ)) → next_in (children (state_of t) dir) after ≡ next_among (name_of t.nodes) (kids_of t.nodes dir) after
-  next-listed after =
-      next-numbers (name_of t.nodes) (children (state_of t) dir) after (all-order (IsTold (name_of t.nodes)) (standing dir (state_of t).entries) (all-filter (IsTold (name_of t.nodes)) (λ (e : Entry). e.parent == dir) (state_of t).entries names-all))
-      ∙ ap (λ (ns : List ℕ). next_among (name_of t.nodes) ns after) children-numbers
+-- nothing stands in a directory where its list is empty
+bare-list : (dir : ℕ) (es : List Entry) → is_bare es dir ≡ (length (numbers_of (in_order (standing dir es))) == 0)
+bare-list dir [] = refl
+bare-list dir (e ∷ es) = elim (e.parent == dir) as (λ b. (not b && is_bare es dir) ≡ (length (numbers_of (in_order (cond b (e ∷ standing dir es) (standing dir es)))) == 0)) [
+  | true ↦ sym (some_in (numbers_of (put_in_order e (in_order (standing dir es)))) (put-among e (in_order (standing dir es))))
+  | false ↦ bare-list dir es
+]
+  where
+    some_in : (ns : List ℕ) → Among ns e.number → (length ns == 0) ≡ false
+    some_in [] among = absurd among
+    some_in (m ∷ ns) among = ne_eqb (length (m ∷ ns)) 0 (λ same. omega arith)
 
--- the next of what stands in a directory is found in its list
 module _ (t : Inside) (s : Seen) (view : seen_of t ≡ s) (h : IsShaped t) (dir : ℕ) where
-  pub next-first-seen : next_in (children s.state dir) None ≡ slice_get (kids_of t.nodes dir) 0
-  next-first-seen = ap (λ (x : Seen). next_in (children x.state dir) None) (sym view) ∙ next-listed t h dir None ∙ next-first (name_of t.nodes) (kids_of t.nodes dir)
+  pub children-seen : numbers_of (children s.state dir) ≡ kids_of t.nodes dir
+  children-seen = ap (λ (x : Seen). numbers_of (children x.state dir)) (sym view) ∙ children-numbers t h dir
 
-  pub next-past-seen : (name : List ℕ) → next_in (children s.state dir) (Some name) ≡ slice_get (kids_of t.nodes dir) (past_in (name_of t.nodes) name (kids_of t.nodes dir))
-  next-past-seen name = ap (λ (x : Seen). next_in (children x.state dir) (Some name)) (sym view) ∙ next-listed t h dir (Some name) ∙ next-past (name_of t.nodes) (kids_of t.nodes dir) name
+  pub bare-seen : is_bare s.state.entries dir ≡ (length (kids_of t.nodes dir) == 0)
+  bare-seen = bare-list dir s.state.entries ∙ ap (λ (ns : List ℕ). length ns == 0) children-seen

@@ -4,7 +4,7 @@ use Rattle.std.specs.Prelude.{IsSome, is_some, Option, Some, None, Result, Ok, E
 use Rattle.std.specs.Option.{option_copied, option_map}
 use Rattle.indexmap.specs.IndexMap.{IndexMap}
 use Rattle.hac_model.specs.Tree.{entry_at}
-use Rattle.hac_model.specs.Valid.{IsValid}
+use Rattle.hac_model.specs.Valid.{IsLayout}
 use Rattle.hac_model.specs.declared.states.Entry.{Entry}
 use Rattle.file_tree.specs.Nodes.{entry_from, entry_of, placed_at}
 use Rattle.file_tree.specs.Seen.{Seen}
@@ -41,9 +41,9 @@ module _ (t : Inside) (s : Seen) (view : seen_of t ≡ s) (h : IsShaped t) (n : 
 pub none-there : {X : Type 0} {o : Option X} → o ≡ None → IsSome o → ⊥
 none-there {X} none there = let never : false ≡ true = subst (λ (o : Option X). IsSome o) none there in cc
 
--- the state that is seen is valid
-pub seen-valid : (t : Inside) (s : Seen) → seen_of t ≡ s → IsShaped t → IsValid s.state
-seen-valid t s view h = subst (λ (x : Seen). IsValid x.state) view h.valid
+-- the state that is seen has a sound layout
+pub seen-layout : (t : Inside) (s : Seen) → seen_of t ≡ s → IsShaped t → IsLayout s.state
+seen-layout t s view h = subst (λ (x : Seen). IsLayout x.state) view h.layout
 
 -- what follows where a call succeeds
 pub on_ok-map : {A E P Q : Type 0} (r : Result A E) → OnOk r P → (P → Q) → OnOk r Q

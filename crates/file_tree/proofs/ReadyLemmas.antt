@@ -1,8 +1,8 @@
 -- What a tree is ready for, told its room.
 use Rattle.std.proofs.Common.{◌≡◌, ℕ, ◌<◌, List, [], ◌∷◌, ◌++◌, subst, ap}
-use Rattle.std.specs.Prelude.{nat_eq, Some, IsSome}
-use Rattle.indexmap.specs.IndexMap.{IndexMap, get}
-use Rattle.file_tree.specs.Nodes.{kids_of}
+use Rattle.std.specs.Prelude.{Some, IsTrue}
+use Rattle.indexmap.specs.IndexMap.{IndexMap}
+use Rattle.file_tree.specs.Nodes.{has_node, kids_of}
 use Rattle.file_tree.specs.Ready.{body_in, name_in, room_in}
 use Rattle.file_tree.specs.Shape.{HasSpare}
 use Rattle.file_tree.specs.declared.nodes.Node.{Node}
@@ -23,8 +23,8 @@ ready-move (Move d name) dir h = let same : d ≡ dir = cc in ap (λ (k : ℕ). 
 ready-move (Edit entry body) dir h = absurd cc
 
 module _ {S : Type 0} (nodes : IndexMap ℕ Node S) (next : ℕ) (spare : List ℕ) (ready : Ready) (dir : ℕ) where
-  pub spare-add : room_in ready ≡ Some (room.Add dir) → HasSpare ready nodes next spare → (spare ≡ kids_of nodes dir ++ next ∷ []) × IsSome (get nat_eq nodes next) × IsSome (get nat_eq nodes dir) × (dir < next)
+  pub spare-add : room_in ready ≡ Some (room.Add dir) → HasSpare ready nodes next spare → (spare ≡ kids_of nodes dir ++ next ∷ []) × IsTrue (has_node nodes next) × IsTrue (has_node nodes dir) × (dir < next)
   spare-add h has = subst (λ (r : Ready). HasSpare r nodes next spare) (ready-add ready dir h) has
 
-  pub spare-move : room_in ready ≡ Some (room.Move dir) → HasSpare ready nodes next spare → (spare ≡ kids_of nodes dir ++ 0 ∷ []) × IsSome (get nat_eq nodes dir) × (dir < next)
+  pub spare-move : room_in ready ≡ Some (room.Move dir) → HasSpare ready nodes next spare → (spare ≡ kids_of nodes dir ++ 0 ∷ []) × IsTrue (has_node nodes dir) × (dir < next)
   spare-move h has = subst (λ (r : Ready). HasSpare r nodes next spare) (ready-move ready dir h) has

@@ -1,8 +1,7 @@
 -- Names among numbers that are in order of their names.
-use Rattle.std.proofs.Common.{Bor, ◌≡◌, ℕ, zero, suc, ◌+◌, ◌<◌, ◌≤◌, Bool, true, false, cond, List, [], ◌∷◌, length, get_or, refl, ap, sym, ◌∙◌, arith}
-use Rattle.std.specs.Prelude.{not, Option, Some, None, IsTrue, slice_get}
-use Rattle.std.specs.List.{AllByRecursion, HoldsAt, prefix_len}
-use Rattle.std.specs.Option.{MatchOption, option_copied}
+use Rattle.std.proofs.Common.{◌≡◌, ℕ, zero, suc, ◌+◌, ◌<◌, ◌≤◌, Bool, true, false, cond, List, [], ◌∷◌, length, get_or, refl, ap, sym, ◌∙◌, arith}
+use Rattle.std.specs.Prelude.{Option, Some, None, IsTrue, slice_get}
+use Rattle.std.specs.List.{AllByRecursion, prefix_len}
 use Rattle.std.specs.List.Sorted.{IsPartitionPoint, IsPartitionedBy}
 use Rattle.std.specs.Cmp.Lexicographic.{slice_cmp, nat_list_cmp_total, nat_list_eq_equiv, texts_ties}
 use Rattle.std.specs.Ordering.{nat_cmp, is_eq, ordering_reverse}
@@ -60,22 +59,6 @@ module _ (names : ℕ → List ℕ) (name : List ℕ) where
   rank-partition (n ∷ ns) h (suc i) zero d le inside passes = absurd (omega arith)
   rank-partition (n ∷ ns) h (suc i) (suc j) d le inside passes = rank-partition ns h.1 i j d (omega arith) (omega arith) passes
 
-  not-before : (x y : List ℕ) → is_before x y ≡ true → not (is_before name y) ≡ true → not (is_before name x) ≡ true
-  not-before x y h passes =
-      elim (is_before name x) as (λ b. is_before name x ≡ b → not b ≡ true) [
-        | true ↦ (λ past. let more : not (is_before name y) ≡ false = ap not (before-trans name x y past h) in absurd cc)
-        | false ↦ (λ past. refl)
-      ] refl
-
-  -- the names that aren't behind a name come first
-  pub past-partition : (ns : List ℕ) → Rises names ns → IsPartitionedBy (λ n. not (is_before name (names n))) ns
-  past-partition [] h i j d le inside passes = absurd (omega arith)
-  past-partition (n ∷ ns) h zero zero d le inside passes = passes
-  past-partition (n ∷ ns) h zero (suc j) d le inside passes =
-      not-before (names n) (names (get_or ns j d)) (all-index (λ m. IsTrue (is_before (names n) (names m))) ns j d h.0 (omega arith)) passes
-  past-partition (n ∷ ns) h (suc i) zero d le inside passes = absurd (omega arith)
-  past-partition (n ∷ ns) h (suc i) (suc j) d le inside passes = past-partition ns h.1 i j d (omega arith) (omega arith) passes
-
   -- the number that was come upon, if it has the name
   abbrev pub if_named : Option ℕ → Option ℕ
   if_named None = None
@@ -128,8 +111,3 @@ module _ (names : ℕ → List ℕ) (name : List ℕ) (ns : List ℕ) (rises : R
       named-rank names name ns rises ∙ ap (λ (k : ℕ). if_named names name (slice_get ns k)) (sym rank)
       ∙ ap (λ (o : Option ℕ). if_named names name o) (get-inside ns i n inside)
       ∙ ap (λ (m : ℕ). if_named names name (Some m)) (sym is)
-
--- what a slice gives at a place
-pub got-copied : (ns : List ℕ) (i : ℕ) (found : Option (Bor ℕ)) → MatchOption found (length ns ≤ i) (λ x. (i < length ns) × HoldsAt (λ y. x.now ≡ y) ns i) → option_copied found ≡ slice_get ns i
-got-copied ns i None h = sym (get-outside ns i h)
-got-copied ns i (Some x) h = ap (λ (n : ℕ). Some n) (h.1 0) ∙ sym (get-inside ns i 0 h.0)

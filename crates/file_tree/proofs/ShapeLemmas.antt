@@ -24,7 +24,7 @@ same-or-not m n = elim (nat_eq m n) as (λ b. nat_eq m n ≡ b → (m ≡ n) ⊎
   | false ↦ (λ other. inr (λ same. let never : nat_eq m n ≡ true = eq-eqb m n same in cc))
 ] refl
 
-none-standing : (found : Option Entry) → parent_in found ≡ None → found ≡ None
+pub none-standing : (found : Option Entry) → parent_in found ≡ None → found ≡ None
 none-standing None h = refl
 none-standing (Some e) h = absurd cc
 

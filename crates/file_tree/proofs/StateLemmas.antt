@@ -5,28 +5,27 @@ use Rattle.std.specs.Option.{option_map}
 use Rattle.std.specs.Str.{bytes_eq}
 use Rattle.std.proofs.lemmas.Slice.Eq.{bytes_eq-Decides}
 use Rattle.std.proofs.lemmas.Bool.{ne_eqb}
-use Rattle.indexmap.specs.IndexMap.{get}
 use Rattle.hac_model.specs.Events.{added, changed_at, edited, removed, reseated}
 use Rattle.hac_model.specs.Tree.{child, entry_at, is_directory_at, path_of}
-use Rattle.hac_model.specs.Valid.{IsValid}
+use Rattle.hac_model.specs.Valid.{IsLayout}
 use Rattle.hac_model.specs.declared.states.Body.{Body}
 use Rattle.hac_model.specs.declared.states.Entry.{Entry}
 use Rattle.hac_model.specs.declared.states.State.{State}
 use Rattle.hac_model.proofs.PathLemmas.{parent-directory, path_of-deeper}
 use Rattle.hac_model.proofs.TreeLemmas.{Lives, child-own, directory-lives, entry_at-below, rise-below}
-use Rattle.file_tree.specs.Nodes.{entries_below, entry_of, kids_of, name_of}
+use Rattle.file_tree.specs.Nodes.{entries_below, entry_of, has_node, kids_of, name_of}
 use Rattle.file_tree.specs.Search.{rank_in}
 use Rattle.file_tree.specs.Seen.{Seen}
-use Rattle.file_tree.specs.Shape.{Among, HasSpare, IsShaped, IsTree, parent_in, seen_of, state_of}
+use Rattle.file_tree.specs.Shape.{Among, HasNoOther, HasSpare, IsShaped, IsTree, parent_in, seen_of, state_of}
 use Rattle.file_tree.specs.declared.tree.Tree.TheInside.{Inside}
 use Rattle.file_tree.proofs.BelowLemmas.{below-added, below-all, below-changed, below-removed, below-same}
 use Rattle.file_tree.proofs.ChildLemmas.{entry-node, name-told, parent-told}
 use Rattle.file_tree.proofs.ListLemmas.{none-among, rank-inside}
 use Rattle.file_tree.proofs.ReadLemmas.{entry_of-number, none-there, seen-at, seen-entry}
-use Rattle.file_tree.proofs.ShapeLemmas.{same-or-not, told_at, told-here, told-there, tree-linked, tree-same, tree-unlinked}
+use Rattle.file_tree.proofs.ShapeLemmas.{none-standing, same-or-not, told_at, told-here, told-there, tree-linked, tree-same, tree-unlinked}
 
 abbrev state_with : ℕ → List Entry → State
-state_with next entries = record { next = next; entries = entries }
+state_with next entries = record { next = next; entries = entries; sessions = [] }
 
 -- what is there after a change of one entry
 abbrev pub touched_at : ℕ → (Entry → Entry) → (ℕ → Option Entry) → ℕ → Option Entry
@@ -69,60 +68,69 @@ module _ (t : Inside) (s : Seen) (view : seen_of t ≡ s) (h : IsShaped t) (u : 
       ∙ ap (λ (es : List Entry). state_with (t.next + 1) es) (below-added t.next (entry_of t.nodes) (entry_of u.nodes) (record { number = t.next; parent = dir; name = name; body = body }) told)
       ∙ ap (λ (x : State). added x dir name body) seen-state
 
+  -- the root has its node still
+  root-there : ((n : ℕ) → (t.next ≡ n → ⊥) → has_node u.nodes n ≡ has_node t.nodes n) → has_node u.nodes 0 ≡ true
+  root-there numbers = let positive : 0 < t.next = rise-below 0 (state_of t).entries t.next h.layout.numbers in numbers 0 (λ same. omega arith) ∙ h.root
+
+  -- no number got a node and no entry, but for the next one
+  none-other : u.next ≡ t.next → ((n : ℕ) → (t.next ≡ n → ⊥) → has_node u.nodes n ≡ has_node t.nodes n) → ((n : ℕ) → entry_of u.nodes n ≡ None → entry_of t.nodes n ≡ None) → HasNoOther u.nodes u.next
+  none-other next numbers none n root ahead gone = numbers n (λ same. ahead (sym (next ∙ same))) ∙ h.others n root (λ same. ahead (same ∙ sym next)) (none n gone)
+
   -- the tree keeps what it kept where neither parents nor children changed
   pub shaped-same : u.next ≡ t.next → ((n : ℕ) → parent_in (entry_of u.nodes n) ≡ parent_in (entry_of t.nodes n)) → ((dir n : ℕ) → parent_in (entry_of t.nodes n) ≡ Some dir → name_of u.nodes n ≡ name_of t.nodes n) → ((dir : ℕ) → kids_of u.nodes dir ≡ kids_of t.nodes dir) →
-      IsValid (state_of u) → IsSome (get nat_eq u.nodes 0) → HasSpare u.ready u.nodes u.next u.spare.items → IsShaped u
-  shaped-same next parents names kids valid root spare = record {
+      ((n : ℕ) → (t.next ≡ n → ⊥) → has_node u.nodes n ≡ has_node t.nodes n) → IsLayout (state_of u) → HasSpare u.ready u.nodes u.next u.spare.items → IsShaped u
+  shaped-same next parents names kids numbers layout spare = record {
     lists = subst (λ (k : ℕ). IsTree k (entry_of u.nodes) (name_of u.nodes) (kids_of u.nodes)) (sym next)
         (tree-same t.next (entry_of t.nodes) (entry_of u.nodes) (name_of t.nodes) (name_of u.nodes) (kids_of t.nodes) (kids_of u.nodes) h.lists parents names kids);
-    valid = valid;
-    root = root;
+    layout = layout;
+    root = root-there numbers;
     spare = spare;
+    others = none-other next numbers (λ n gone. none-standing (entry_of t.nodes n) (sym (parents n) ∙ ap parent_in gone));
   }
 
   -- a body is edited
   pub shaped-edited : (m : ℕ) (edit : Body → Body) → u.next ≡ t.next → ((n : ℕ) → entry_of u.nodes n ≡ touched_at m (edited edit) (entry_of t.nodes) n) → ((n : ℕ) → name_of u.nodes n ≡ name_of t.nodes n) → ((dir : ℕ) → kids_of u.nodes dir ≡ kids_of t.nodes dir) →
-      ((n : ℕ) → IsSome (get nat_eq t.nodes n) → IsSome (get nat_eq u.nodes n)) → IsValid (changed_at s.state m (edited edit)) → HasSpare u.ready u.nodes u.next u.spare.items → IsShaped u
-  shaped-edited m edit next told names kids others valid spare =
-      shaped-same next (λ n. ap parent_in (told n) ∙ parent-edited (nat_eq m n) edit (entry_of t.nodes n)) (λ dir n stands. names n) kids
-      (subst (λ (x : State). IsValid x) (sym (state-changed m (edited edit) next told)) valid) (others 0 h.root) spare
+      ((n : ℕ) → has_node u.nodes n ≡ has_node t.nodes n) → IsLayout (changed_at s.state m (edited edit)) → HasSpare u.ready u.nodes u.next u.spare.items → IsShaped u
+  shaped-edited m edit next told names kids numbers layout spare =
+      shaped-same next (λ n. ap parent_in (told n) ∙ parent-edited (nat_eq m n) edit (entry_of t.nodes n)) (λ dir n stands. names n) kids (λ n other. numbers n)
+      (subst IsLayout (sym (state-changed m (edited edit) next told)) layout) spare
 
   -- a number that has an entry is below the next one
   entry-low : (n : ℕ) (e : Entry) → entry_of t.nodes n ≡ Some e → n < t.next
-  entry-low n e found = entry_at-below 0 (state_of t).entries t.next n e h.valid.numbers (seen-entry t h n ∙ found)
+  entry-low n e found = entry_at-below 0 (state_of t).entries t.next n e h.layout.numbers (seen-entry t h n ∙ found)
 
   -- a node that is no entry stands under the next number
   pub shaped-prepared : u.next ≡ t.next → ((n : ℕ) → entry_of u.nodes n ≡ entry_of t.nodes n) → ((n : ℕ) → nat_eq t.next n ≡ false → name_of u.nodes n ≡ name_of t.nodes n) → ((dir : ℕ) → kids_of u.nodes dir ≡ kids_of t.nodes dir) →
-      ((n : ℕ) → IsSome (get nat_eq t.nodes n) → IsSome (get nat_eq u.nodes n)) → HasSpare u.ready u.nodes u.next u.spare.items → IsShaped u
-  shaped-prepared next told names kids others spare =
+      ((n : ℕ) → nat_eq t.next n ≡ false → has_node u.nodes n ≡ has_node t.nodes n) → HasSpare u.ready u.nodes u.next u.spare.items → IsShaped u
+  shaped-prepared next told names kids numbers spare =
       shaped-same next (λ n. ap parent_in (told n))
       (λ dir n stands.
       let found = parent-told (entry_of t.nodes n) dir stands in
       let low : n < t.next = entry-low n found.0 found.1 in
       names n (ne_eqb t.next n (λ same. omega arith)))
-      kids (subst (λ (x : State). IsValid x) (sym (state-same next told)) (subst (λ (x : Seen). IsValid x.state) view h.valid)) (others 0 h.root) spare
+      kids (λ n other. numbers n (ne_eqb t.next n other)) (subst IsLayout (sym (state-same next told)) (subst (λ (x : Seen). IsLayout x.state) view h.layout)) spare
 
   -- a directory has a node, and its number is below the next one
-  pub directory-there : (dir : ℕ) → is_directory_at s.state.entries dir ≡ true → IsSome (get nat_eq t.nodes dir) × (dir < t.next)
+  pub directory-there : (dir : ℕ) → is_directory_at s.state.entries dir ≡ true → (has_node t.nodes dir ≡ true) × (dir < t.next)
   directory-there dir is = by_life (directory-lives (state_of t).entries dir (subst (λ (x : Seen). is_directory_at x.state.entries dir ≡ true) (sym view) is))
     where
-      by_life : Lives (state_of t).entries dir → IsSome (get nat_eq t.nodes dir) × (dir < t.next)
+      by_life : Lives (state_of t).entries dir → (has_node t.nodes dir ≡ true) × (dir < t.next)
       by_life (inl root) = (
-        subst (λ (n : ℕ). IsSome (get nat_eq t.nodes n)) (sym root) h.root,
-        let positive : 0 < t.next = rise-below 0 (state_of t).entries t.next h.valid.numbers in omega arith,
+        ap (λ (n : ℕ). has_node t.nodes n) root ∙ h.root,
+        let positive : 0 < t.next = rise-below 0 (state_of t).entries t.next h.layout.numbers in omega arith,
       )
       by_life (inr found) =
           let there : entry_of t.nodes dir ≡ Some found.0 = sym (seen-entry t h dir) ∙ found.1 in
           (entry-node t.nodes dir found.0 there, entry-low dir found.0 there)
 
--- two entries of a valid state that stand in one directory under one name are one
-apart : (u : Inside) → IsValid (state_of u) → ((n : ℕ) → u.next ≤ n → entry_of u.nodes n ≡ None) → (m n : ℕ) (e f : Entry) → entry_of u.nodes m ≡ Some e → entry_of u.nodes n ≡ Some f → e.parent ≡ f.parent → e.name ≡ f.name → m ≡ n
-apart u valid above m n e f found other parents names =
+-- two entries of a sound layout that stand in one directory under one name are one
+apart : (u : Inside) → IsLayout (state_of u) → ((n : ℕ) → u.next ≤ n → entry_of u.nodes n ≡ None) → (m n : ℕ) (e f : Entry) → entry_of u.nodes m ≡ Some e → entry_of u.nodes n ≡ Some f → e.parent ≡ f.parent → e.name ≡ f.name → m ≡ n
+apart u layout above m n e f found other parents names =
     let both : Some m ≡ Some n =
-    sym (child-own (state_of u).entries m e valid.differ (below-all u.next (entry_of u.nodes) m (entry_of-number u.nodes) above ∙ found))
+    sym (child-own (state_of u).entries m e layout.differ (below-all u.next (entry_of u.nodes) m (entry_of-number u.nodes) above ∙ found))
     ∙ ap (λ (d : ℕ). child (state_of u).entries d e.name) parents
     ∙ ap (λ (x : List ℕ). child (state_of u).entries f.parent x) names
-    ∙ child-own (state_of u).entries n f valid.differ (below-all u.next (entry_of u.nodes) n (entry_of-number u.nodes) above ∙ other) in
+    ∙ child-own (state_of u).entries n f layout.differ (below-all u.next (entry_of u.nodes) n (entry_of-number u.nodes) above ∙ other) in
     cc
 
 true-or-false : (b : Bool) → (b ≡ true) ⊎ (b ≡ false)
@@ -133,24 +141,28 @@ module _ (t : Inside) (s : Seen) (view : seen_of t ≡ s) (h : IsShaped t) (u : 
   -- an entry is added
   pub shaped-added : (dir : ℕ) (name : List ℕ) (body : Body) → u.next ≡ t.next + 1 → ((n : ℕ) → entry_of u.nodes n ≡ told_at t.next (Some (record { number = t.next; parent = dir; name = name; body = body })) (entry_of t.nodes) n) →
       ((n : ℕ) → name_of u.nodes n ≡ told_at t.next name (name_of t.nodes) n) → ((d : ℕ) → kids_of u.nodes d ≡ told_at dir (insert (kids_of t.nodes dir) (rank_in (name_of t.nodes) name (kids_of t.nodes dir)) t.next) (kids_of t.nodes) d) →
-      IsSome (get nat_eq u.nodes 0) → dir < t.next → IsValid (added s.state dir name body) → HasSpare u.ready u.nodes u.next u.spare.items → IsShaped u
-  shaped-added dir name body next told names kids root low valid spare = record {
+      ((n : ℕ) → has_node u.nodes n ≡ has_node t.nodes n) → dir < t.next → IsLayout (added s.state dir name body) → HasSpare u.ready u.nodes u.next u.spare.items → IsShaped u
+  shaped-added dir name body next told names kids numbers low layout spare = record {
     lists = subst (λ (k : ℕ). IsTree k (entry_of u.nodes) (name_of u.nodes) (kids_of u.nodes)) (sym next)
         (tree-same (t.next + 1) (told_at t.next (Some new) (entry_of t.nodes)) (entry_of u.nodes) (told_at t.next name (name_of t.nodes)) (name_of u.nodes) (told_at dir (insert (kids_of t.nodes dir) (rank_in (name_of t.nodes) name (kids_of t.nodes dir)) t.next) (kids_of t.nodes)) (kids_of u.nodes) linked
         (λ n. ap parent_in (told n)) (λ d n stands. names n) kids);
-    valid = sound;
-    root = root;
+    layout = sound;
+    root = numbers 0 ∙ h.root;
     spare = spare;
+    others = λ n root ahead gone. numbers n ∙ h.others n root (new-there n gone) (sym (told-there t.next (Some new) (entry_of t.nodes) n (λ same. new-there n gone (sym same))) ∙ sym (told n) ∙ gone);
   }
     where
       new : Entry
       new = record { number = t.next; parent = dir; name = name; body = body }
 
-      sound : IsValid (state_of u)
-      sound = subst (λ (x : State). IsValid x) (sym (state-added t s view h u dir name body next told)) valid
+      sound : IsLayout (state_of u)
+      sound = subst IsLayout (sym (state-added t s view h u dir name body next told)) layout
 
       here : entry_of u.nodes t.next ≡ Some new
       here = told t.next ∙ told-here t.next (Some new) (entry_of t.nodes)
+
+      new-there : (n : ℕ) → entry_of u.nodes n ≡ None → n ≡ t.next → ⊥
+      new-there n gone same = let none : Some new ≡ None = sym here ∙ ap (λ (k : ℕ). entry_of u.nodes k) (sym same) ∙ gone in cc
 
       above : (n : ℕ) → u.next ≤ n → entry_of u.nodes n ≡ None
       above n high = let more : t.next + 1 ≤ n = subst (λ (k : ℕ). k ≤ n) next high in told n ∙ told-there t.next (Some new) (entry_of t.nodes) n (λ same. omega arith) ∙ h.lists.above n (omega arith)
@@ -167,29 +179,33 @@ module _ (t : Inside) (s : Seen) (view : seen_of t ≡ s) (h : IsShaped t) (u : 
       ]
 
       linked : IsTree (t.next + 1) (told_at t.next (Some new) (entry_of t.nodes)) (told_at t.next name (name_of t.nodes)) (told_at dir (insert (kids_of t.nodes dir) (rank_in (name_of t.nodes) name (kids_of t.nodes dir)) t.next) (kids_of t.nodes))
-      linked = tree-linked t.next (t.next + 1) (entry_of t.nodes) (name_of t.nodes) (kids_of t.nodes) t.next dir new name h.lists (h.lists.above t.next (omega arith)) (rise-below 0 (state_of t).entries t.next h.valid.numbers) (omega arith) (omega arith) (omega arith) refl free
+      linked = tree-linked t.next (t.next + 1) (entry_of t.nodes) (name_of t.nodes) (kids_of t.nodes) t.next dir new name h.lists (h.lists.above t.next (omega arith)) (rise-below 0 (state_of t).entries t.next h.layout.numbers) (omega arith) (omega arith) (omega arith) refl free
 
   -- an entry is taken out, with its list, which is empty
   pub shaped-removed : (n dir : ℕ) → u.next ≡ t.next → parent_in (entry_of t.nodes n) ≡ Some dir → ((q : ℕ) → entry_of u.nodes q ≡ told_at n None (entry_of t.nodes) q) → ((q : ℕ) → nat_eq n q ≡ false → name_of u.nodes q ≡ name_of t.nodes q) →
       ((d : ℕ) → kids_of u.nodes d ≡ told_at n [] (told_at dir (remove (kids_of t.nodes dir) (rank_in (name_of t.nodes) (name_of t.nodes n) (kids_of t.nodes dir))) (kids_of t.nodes)) d) →
-      IsSome (get nat_eq u.nodes 0) → IsValid (removed s.state n) → HasSpare u.ready u.nodes u.next u.spare.items → IsShaped u
-  shaped-removed n dir next stands told names kids root valid spare = record {
+      ((q : ℕ) → has_node u.nodes q ≡ told_at n false (has_node t.nodes) q) → IsLayout (removed s.state n) → HasSpare u.ready u.nodes u.next u.spare.items → IsShaped u
+  shaped-removed n dir next stands told names kids numbers layout spare = record {
     lists = subst (λ (k : ℕ). IsTree k (entry_of u.nodes) (name_of u.nodes) (kids_of u.nodes)) (sym next)
         (tree-same t.next (told_at n None (entry_of t.nodes)) (entry_of u.nodes) (name_of t.nodes) (name_of u.nodes) cut (kids_of u.nodes) (tree-unlinked t.next (entry_of t.nodes) (name_of t.nodes) (kids_of t.nodes) n dir h.lists stands)
         (λ q. ap parent_in (told q)) (λ d q there. names q (ne_eqb n q (λ same.
         let none : parent_in (told_at n None (entry_of t.nodes) q) ≡ None = ap (λ (k : ℕ). parent_in (told_at n None (entry_of t.nodes) k)) (sym same) ∙ ap parent_in (told-here n None (entry_of t.nodes)) in
         let some : parent_in (told_at n None (entry_of t.nodes) q) ≡ Some d = there in cc)))
         (λ d. kids d ∙ bare d));
-    valid = sound;
-    root = root;
+    layout = sound;
+    root = numbers 0 ∙ told-there n false (has_node t.nodes) 0 (λ root. none-there (ap (λ (k : ℕ). entry_of t.nodes k) root ∙ h.lists.root) (subst IsSome (sym entry.1) refl)) ∙ h.root;
     spare = spare;
+    others = λ q root ahead gone. numbers q ∙ (elim (same-or-not n q) [
+      | inl same ↦ ap (λ (k : ℕ). told_at n false (has_node t.nodes) k) (sym same) ∙ told-here n false (has_node t.nodes)
+      | inr other ↦ told-there n false (has_node t.nodes) q other ∙ h.others q root (λ same. ahead (same ∙ sym next)) (sym (told-there n None (entry_of t.nodes) q other) ∙ sym (told q) ∙ gone)
+    ]);
   }
     where
       cut : ℕ → List ℕ
       cut = told_at dir (remove (kids_of t.nodes dir) (rank_in (name_of t.nodes) (name_of t.nodes n) (kids_of t.nodes dir))) (kids_of t.nodes)
 
-      sound : IsValid (state_of u)
-      sound = subst (λ (x : State). IsValid x) (sym (state-removed t s view h u n next told)) valid
+      sound : IsLayout (state_of u)
+      sound = subst IsLayout (sym (state-removed t s view h u n next told)) layout
 
       above : (q : ℕ) → u.next ≤ q → entry_of u.nodes q ≡ None
       above q high = told q ∙ (elim (nat_eq n q) as (λ b. cond b None (entry_of t.nodes q) ≡ None) [ true ↦ refl | false ↦ h.lists.above q (subst (λ (k : ℕ). k ≤ q) next high) ])
@@ -200,7 +216,7 @@ module _ (t : Inside) (s : Seen) (view : seen_of t ≡ s) (h : IsShaped t) (u : 
       -- it doesn't stand in itself
       outside : dir ≡ n → ⊥
       outside same =
-          let deeper = path_of-deeper (state_of t) n entry.0 h.valid (seen-entry t h n ∙ entry.1) in
+          let deeper = path_of-deeper (state_of t) n entry.0 h.layout (seen-entry t h n ∙ entry.1) in
           let own : entry.0.parent ≡ n = entry.2 ∙ same in
           let never = subst (λ (k : ℕ). length (path_of (state_of t) n) ≡ length (path_of (state_of t) k) + 1) own deeper in
           omega arith
@@ -238,10 +254,6 @@ module _ (t : Inside) (s : Seen) (view : seen_of t ≡ s) (h : IsShaped t) (n : 
   pub entry-there : IsSome (entry_at s.state.entries n) → IsSome (entry_of t.nodes n)
   entry-there there = subst (λ (o : Option Entry). IsSome o) (seen-at t s view h n) there
 
-  -- and isn't the root
-  pub entry-above : IsSome (entry_at s.state.entries n) → nat_eq n 0 ≡ false
-  entry-above there = ne_eqb n 0 (λ root. none-there (ap (λ (k : ℕ). entry_of t.nodes k) root ∙ h.lists.root) (entry-there there))
-
   -- it stands in the list of its directory
   pub entry-listed : (dir : ℕ) → parent_in (entry_of t.nodes n) ≡ Some dir → rank_in (name_of t.nodes) (name_of t.nodes n) (kids_of t.nodes dir) < length (kids_of t.nodes dir)
   entry-listed dir stands = rank-inside (name_of t.nodes) (kids_of t.nodes dir) n (h.lists.rises dir) (h.lists.lists dir n stands)
@@ -251,13 +263,14 @@ module _ (t : Inside) (s : Seen) (view : seen_of t ≡ s) (h : IsShaped t) (u : 
   pub shaped-moved : (n dir old : ℕ) (name : List ℕ) → u.next ≡ t.next → parent_in (entry_of t.nodes n) ≡ Some old → ((q : ℕ) → entry_of u.nodes q ≡ touched_at n (reseated dir name) (entry_of t.nodes) q) → ((q : ℕ) → name_of u.nodes q ≡ told_at n name (name_of t.nodes) q) →
       (cut : ℕ → List ℕ) → ((d : ℕ) → cut d ≡ told_at old (remove (kids_of t.nodes old) (rank_in (name_of t.nodes) (name_of t.nodes n) (kids_of t.nodes old))) (kids_of t.nodes) d) →
       ((d : ℕ) → kids_of u.nodes d ≡ told_at dir (insert (cut dir) (rank_in (name_of t.nodes) name (cut dir)) n) cut d) →
-      IsSome (get nat_eq u.nodes 0) → dir < t.next → IsValid (changed_at s.state n (reseated dir name)) → HasSpare u.ready u.nodes u.next u.spare.items → IsShaped u
-  shaped-moved n dir old name next stands told names cut left kids root low valid spare = record {
+      ((q : ℕ) → has_node u.nodes q ≡ has_node t.nodes q) → dir < t.next → IsLayout (changed_at s.state n (reseated dir name)) → HasSpare u.ready u.nodes u.next u.spare.items → IsShaped u
+  shaped-moved n dir old name next stands told names cut left kids numbers low layout spare = record {
     lists = subst (λ (k : ℕ). IsTree k (entry_of u.nodes) (name_of u.nodes) (kids_of u.nodes)) (sym next)
         (tree-same t.next (told_at n (Some new) (told_at n None (entry_of t.nodes))) (entry_of u.nodes) (told_at n name (name_of t.nodes)) (name_of u.nodes) (told_at dir (insert (cut dir) (rank_in (name_of t.nodes) name (cut dir)) n) cut) (kids_of u.nodes) linked parents (λ d q there. names q) kids);
-    valid = sound;
-    root = root;
+    layout = sound;
+    root = numbers 0 ∙ h.root;
     spare = spare;
+    others = none-other t s view h u next (λ q other. numbers q) (λ q gone. untouched (nat_eq n q) (entry_of t.nodes q) (sym (told q) ∙ gone));
   }
     where
       entry : (e : Entry) × (entry_of t.nodes n ≡ Some e) × (e.parent ≡ old)
@@ -266,8 +279,13 @@ module _ (t : Inside) (s : Seen) (view : seen_of t ≡ s) (h : IsShaped t) (u : 
       new : Entry
       new = reseated dir name entry.0
 
-      sound : IsValid (state_of u)
-      sound = subst (λ (x : State). IsValid x) (sym (state-changed t s view h u n (reseated dir name) next told)) valid
+      sound : IsLayout (state_of u)
+      sound = subst IsLayout (sym (state-changed t s view h u n (reseated dir name) next told)) layout
+
+      untouched : (b : Bool) (found : Option Entry) → cond b (option_map (reseated dir name) found) found ≡ None → found ≡ None
+      untouched b None none = refl
+      untouched true (Some e) none = absurd cc
+      untouched false (Some e) none = absurd cc
 
       above : (q : ℕ) → u.next ≤ q → entry_of u.nodes q ≡ None
       above q high =

@@ -1,7 +1,6 @@
 -- What the calls of a tree answer.
-use Rattle.std.specs.Prelude.{◌≡◌, ⊤, ℕ, zero, suc, Bool, true, false, ◌==◌, ◌||◌, if◌then◌else◌, nat_le, is_some, List, [], ◌∷◌, Option, Some, None, Result, Ok, Err}
+use Rattle.std.specs.Prelude.{◌≡◌, ⊤, ℕ, Bool, ◌==◌, ◌||◌, if◌then◌else◌, nat_le, is_some, List, [], ◌∷◌, Option, Some, None, Result, Ok, Err}
 use Rattle.std.specs.Option.{option_map_or}
-use Rattle.hac_model.specs.Listing.{is_before}
 use Rattle.hac_model.specs.Tree.{body_at, entry_at}
 use Rattle.hac_model.specs.declared.places.Place.{Place}
 use Rattle.hac_model.specs.declared.replies.Refusal.{Refusal}
@@ -12,7 +11,7 @@ use Rattle.hac_model.specs.declared.states.Entry.{Entry}
 use Rattle.file_tree.specs.declared.placing.Stop.{Stop}
 use Rattle.file_tree.specs.declared.placing.Stop.TheVariants.{Missing, NotDir, Loop, Memory}
 use Rattle.file_tree.specs.declared.tree.EntryKind.{EntryKind}
-use Rattle.file_tree.specs.declared.tree.EntryKind.TheVariants.{File, Dir, Semantic}
+use Rattle.file_tree.specs.declared.tree.EntryKind.TheVariants.{File, Dir, Symlink, Semantic, Mount}
 
 -- the stop is for the refusal that is wanted; want of memory may come in place of any answer
 abbrev pub IsFor : Stop → Result Place Refusal → Type 0
@@ -29,32 +28,18 @@ Finds (Err stop) wanted = IsFor stop wanted
 abbrev pub kind_in : Body → EntryKind
 kind_in (body.File text dirty shown) = File
 kind_in body.Dir = Dir
-kind_in (body.Semantic query) = Semantic
+kind_in (body.Symlink target) = Symlink
+kind_in (body.Semantic query permanent prohibited) = Semantic
+kind_in (body.Mount space documents answers) = Mount
 
 -- the kind of the entry of a number. The root, which is no entry, is a directory.
 abbrev pub kind_at : List Entry → ℕ → EntryKind
 kind_at entries number = option_map_or kind_in (body_at entries number) Dir
 
--- the name stands behind the one that was given, if one was
-abbrev pub is_past : Option (List ℕ) → List ℕ → Bool
-is_past None name = true
-is_past (Some after) name = is_before after name
-
--- the number of the first of the entries whose name stands behind the one given
-abbrev pub next_in : List Entry → Option (List ℕ) → Option ℕ
-next_in [] after = None
-next_in (entry ∷ entries) after = if is_past after entry.name then Some entry.number else next_in entries after
-
 -- the number of the first of the entries that isn't below the one given
 abbrev pub next_from : List Entry → ℕ → Option ℕ
 next_from [] from = None
 next_from (entry ∷ entries) from = if nat_le from entry.number then Some entry.number else next_from entries from
-
--- so many steps over parents, or fewer, lead from an entry to a directory
-abbrev pub stands_below : ℕ → List Entry → ℕ → ℕ → Bool
-stands_below zero entries item dir = false
-stands_below (suc steps) entries item dir =
-    option_map_or (λ entry. entry.parent == dir || stands_below steps entries entry.parent dir) (entry_at entries item) false
 
 -- the root has the number, or an entry
 abbrev pub is_live : List Entry → ℕ → Bool

@@ -1,12 +1,12 @@
 -- The nodes of a tree, read as entries, names and lists of children.
-use Rattle.std.specs.Prelude.{ℕ, zero, suc, if◌then◌else◌, nat_eq, List, [], ◌∷◌, ◌++◌, Option, Some, None, option_and_then}
-use Rattle.std.specs.Option.{option_map, option_map_or}
+use Rattle.std.specs.Prelude.{ℕ, zero, suc, Bool, is_some, if◌then◌else◌, nat_eq, List, [], ◌++◌, Option, Some, None, option_and_then}
+use Rattle.std.specs.Option.{option_map, option_map_or, option_to_list}
 use Rattle.indexmap.specs.IndexMap.{IndexMap, get}
 use Rattle.hac_model.specs.declared.states.Body.{Body}
 use Rattle.hac_model.specs.declared.states.Body.TheVariants as body
 use Rattle.hac_model.specs.declared.states.Entry.{Entry}
 use Rattle.file_tree.specs.declared.nodes.Content.{Content}
-use Rattle.file_tree.specs.declared.nodes.Content.TheVariants.{File, Dir, Semantic}
+use Rattle.file_tree.specs.declared.nodes.Content.TheVariants.{File, Dir, Symlink, Semantic, Mount}
 use Rattle.file_tree.specs.declared.nodes.Node.{Node}
 use Rattle.file_tree.specs.declared.nodes.Shown.{Shown}
 use Rattle.file_tree.specs.declared.nodes.Shown.TheVariants.{Never, AsItIs, Older}
@@ -21,7 +21,9 @@ shown_in text (Older shown) = Some shown
 abbrev pub body_of : Content → Body
 body_of (File text dirty shown) = body.File text dirty (shown_in text shown)
 body_of Dir = body.Dir
-body_of (Semantic query) = body.Semantic query
+body_of (Symlink target) = body.Symlink target
+body_of (Semantic query permanent prohibited) = body.Semantic query permanent prohibited
+body_of (Mount space documents answers) = body.Mount space documents answers
 
 -- a node, where it is an entry
 abbrev pub if_placed : Node → Option Node
@@ -32,6 +34,10 @@ abbrev pub entry_from : ℕ → Node → Entry
 entry_from number node = record { number = number; parent = node.parent; name = node.name; body = body_of node.content }
 
 module _ {S : Type 0} where
+  -- there is a node of the number
+  abbrev pub has_node : IndexMap ℕ Node S → ℕ → Bool
+  has_node nodes number = is_some (get nat_eq nodes number)
+
   -- the node of a number, where it is an entry
   abbrev pub placed_at : IndexMap ℕ Node S → ℕ → Option Node
   placed_at nodes number = option_and_then if_placed (get nat_eq nodes number)
@@ -51,4 +57,4 @@ module _ {S : Type 0} where
 -- the entries of the numbers below a number, in order, told the entry of each
 abbrev pub entries_below : ℕ → (ℕ → Option Entry) → List Entry
 entries_below zero at = []
-entries_below (suc number) at = option_map_or (λ entry. entries_below number at ++ entry ∷ []) (at number) (entries_below number at)
+entries_below (suc number) at = entries_below number at ++ option_to_list (at number)

@@ -1,5 +1,5 @@
 -- Names among numbers, told the name of each.
-use Rattle.std.specs.Prelude.{ℕ, not, if◌then◌else◌, List, [], ◌∷◌, Option, Some, None}
+use Rattle.std.specs.Prelude.{ℕ, if◌then◌else◌, List, [], ◌∷◌, Option, Some, None}
 use Rattle.std.specs.List.{prefix_len}
 use Rattle.std.specs.Str.{bytes_eq}
 use Rattle.hac_model.specs.Listing.{is_before}
@@ -7,10 +7,6 @@ use Rattle.hac_model.specs.Listing.{is_before}
 -- how many of the first have names before this one
 abbrev pub rank_in : (ℕ → List ℕ) → List ℕ → List ℕ → ℕ
 rank_in names name numbers = prefix_len (λ number. is_before (names number) name) numbers
-
--- how many of the first have names that aren't behind this one
-abbrev pub past_in : (ℕ → List ℕ) → List ℕ → List ℕ → ℕ
-past_in names name numbers = prefix_len (λ number. not (is_before name (names number))) numbers
 
 -- the first that has the name
 abbrev pub named_in : (ℕ → List ℕ) → List ℕ → List ℕ → Option ℕ

@@ -1,13 +1,13 @@
 -- How a tree keeps a state.
-use Rattle.std.specs.Prelude.{◌≡◌, ℕ, ◌<◌, ◌≤◌, nat_eq, List, [], ◌∷◌, ◌++◌, Option, Some, None, IsSome, IsTrue, ◌⊎◌}
+use Rattle.std.specs.Prelude.{◌≡◌, ℕ, ◌<◌, ◌≤◌, false, List, [], ◌∷◌, ◌++◌, Option, Some, None, IsTrue, ◌⊎◌}
 use Rattle.std.specs.List.{AllByRecursion}
 use Rattle.std.specs.Option.{option_map}
-use Rattle.indexmap.specs.IndexMap.{IndexMap, get}
+use Rattle.indexmap.specs.IndexMap.{IndexMap}
 use Rattle.hac_model.specs.Listing.{is_before}
-use Rattle.hac_model.specs.Valid.{IsValid}
+use Rattle.hac_model.specs.Valid.{IsLayout}
 use Rattle.hac_model.specs.declared.states.Entry.{Entry}
 use Rattle.hac_model.specs.declared.states.State.{State}
-use Rattle.file_tree.specs.Nodes.{entries_below, entry_of, kids_of, name_of}
+use Rattle.file_tree.specs.Nodes.{entries_below, entry_of, has_node, kids_of, name_of}
 use Rattle.file_tree.specs.Seen.{Seen}
 use Rattle.file_tree.specs.declared.nodes.Node.{Node}
 use Rattle.file_tree.specs.declared.ready.Ready.{Ready}
@@ -15,7 +15,7 @@ use Rattle.file_tree.specs.declared.ready.Ready.TheVariants.{Nothing, Add, Move,
 use Rattle.file_tree.specs.declared.tree.Tree.TheInside.{Inside}
 
 abbrev pub state_of : Inside → State
-state_of tree = record { next = tree.next; entries = entries_below tree.next (entry_of tree.nodes) }
+state_of tree = record { next = tree.next; entries = entries_below tree.next (entry_of tree.nodes); sessions = [] }
 
 abbrev pub seen_of : Inside → Seen
 seen_of tree = record { state = state_of tree; ready = tree.ready }
@@ -47,12 +47,17 @@ module _ {S : Type 0} where
   -- what was prepared stands in the tree: a list of children with a place for one more, and the node of a new entry
   abbrev pub HasSpare : Ready → IndexMap ℕ Node S → ℕ → List ℕ → Type 0
   HasSpare Nothing nodes next spare = Unit {0}
-  HasSpare (Add dir body) nodes next spare = (spare ≡ kids_of nodes dir ++ next ∷ []) × IsSome (get nat_eq nodes next) × IsSome (get nat_eq nodes dir) × (dir < next)
-  HasSpare (Move dir name) nodes next spare = (spare ≡ kids_of nodes dir ++ 0 ∷ []) × IsSome (get nat_eq nodes dir) × (dir < next)
+  HasSpare (Add dir body) nodes next spare = (spare ≡ kids_of nodes dir ++ next ∷ []) × IsTrue (has_node nodes next) × IsTrue (has_node nodes dir) × (dir < next)
+  HasSpare (Move dir name) nodes next spare = (spare ≡ kids_of nodes dir ++ 0 ∷ []) × IsTrue (has_node nodes dir) × (dir < next)
   HasSpare (Edit entry body) nodes next spare = Unit {0}
+
+  -- nothing else has a node than the entries, the root, and what may stand ready under the next number
+  abbrev pub HasNoOther : IndexMap ℕ Node S → ℕ → Type 0
+  HasNoOther nodes next = (number : ℕ) → (number ≡ 0 → ⊥) → (number ≡ next → ⊥) → entry_of nodes number ≡ None → has_node nodes number ≡ false
 
 pub record IsShaped (tree : Inside) : Type 0 where
   pub lists : IsTree tree.next (entry_of tree.nodes) (name_of tree.nodes) (kids_of tree.nodes)
-  pub valid : IsValid (state_of tree)
-  pub root : IsSome (get nat_eq tree.nodes 0)
+  pub layout : IsLayout (state_of tree)
+  pub root : IsTrue (has_node tree.nodes 0)
   pub spare : HasSpare tree.ready tree.nodes tree.next tree.spare.items
+  pub others : HasNoOther tree.nodes tree.next

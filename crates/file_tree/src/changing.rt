@@ -2,7 +2,7 @@
 ghost use Rattle.std.specs.Prelude.{◌≡◌, ◌<◌, ◌-◌, ◌++◌, ◌∷◌, [], true, ℕ, List, length, remove, if◌then◌else◌, Some, None, IfOk, OnOk, OnErr, IsSome, IsTrue};
 ghost use Rattle.hac_model.specs.Events.{added, changed_at, edited, indexed, removed, reseated, rewritten};
 ghost use Rattle.hac_model.specs.Tree.{entry_at, is_directory_at, is_file};
-ghost use Rattle.hac_model.specs.Valid.{IsValid};
+ghost use Rattle.hac_model.specs.Valid.{IsLayout};
 ghost use Rattle.file_tree.specs.Nodes.{entry_of, kids_of, name_of};
 ghost use Rattle.file_tree.specs.Ready.{body_in, name_in, new_text, room_in};
 ghost use Rattle.file_tree.specs.Search.{rank_in};
@@ -58,7 +58,7 @@ impl Tree {
     pub fn add(&mut self, dir: Number, name: Name, room: Room) -> Number
         requires room { room_in self.old.ready ≡ Some room }
         requires place { room ≡ Room.Add dir }
-        requires valid { IsValid (added self.old.state dir name (body_in self.old.ready)) }
+        requires layout { IsLayout (added self.old.state dir name (body_in self.old.ready)) }
         ensures number { result ≡ self.old.state.next }
         ensures added { self.new ≡ record { state = added self.old.state dir name (body_in self.old.ready); ready = Ready.Nothing } }
     {
@@ -78,7 +78,7 @@ impl Tree {
         requires room { room_in self.old.ready ≡ Some room }
         requires place { room ≡ Room.Move dir }
         requires there { IsSome (entry_at self.old.state.entries entry) }
-        requires valid { IsValid (changed_at self.old.state entry (reseated dir (name_in self.old.ready))) }
+        requires layout { IsLayout (changed_at self.old.state entry (reseated dir (name_in self.old.ready))) }
         ensures { self.new ≡ record { state = changed_at self.old.state entry (reseated dir (name_in self.old.ready)); ready = Ready.Nothing } }
     {
         let Ready::Move { name, .. } = mem::replace(&mut self.ready, Ready::Nothing) else {
@@ -96,7 +96,7 @@ impl Tree {
     /// Takes an entry out.
     pub fn remove(&mut self, entry: Number)
         requires there { IsSome (entry_at self.old.state.entries entry) }
-        requires valid { IsValid (removed self.old.state entry) }
+        requires layout { IsLayout (removed self.old.state entry) }
         ensures { self.new ≡ record { state = removed self.old.state entry; ready = Ready.Nothing } }
     {
         self.ready = Ready::Nothing;
@@ -111,7 +111,7 @@ impl Tree {
         requires room { room_in self.old.ready ≡ Some room }
         requires file { room ≡ Room.Edit file }
         requires text { IsTrue (is_file (body_in self.old.ready)) }
-        requires valid { IsValid (changed_at self.old.state file (edited (rewritten (new_text self.old.ready)))) }
+        requires layout { IsLayout (changed_at self.old.state file (edited (rewritten (new_text self.old.ready)))) }
         ensures { self.new ≡ record { state = changed_at self.old.state file (edited (rewritten (new_text self.old.ready))); ready = Ready.Nothing } }
     {
         let Ready::Edit {
@@ -126,7 +126,7 @@ impl Tree {
 
     /// Shows the text of a file.
     pub fn mark_clean(&mut self, file: Number)
-        requires { IsValid (changed_at self.old.state file (edited indexed)) }
+        requires { IsLayout (changed_at self.old.state file (edited indexed)) }
         ensures { self.new ≡ record { state = changed_at self.old.state file (edited indexed); ready = Ready.Nothing } }
     {
         self.ready = Ready::Nothing;

@@ -13,6 +13,3 @@ mod tree;
 pub use placing::Stop;
 pub use ready::{Ready, Room};
 pub use tree::{EntryKind, Tree};
-
-#[cfg(test)]
-mod tests;

@@ -1,12 +1,12 @@
 //! The nodes of a tree by number, each changed by itself. Nothing here knows how they hang together.
-ghost use Rattle.std.specs.Prelude.{◌≡◌, ℕ, ◌<◌, ◌∷◌, ◌++◌, [], List, Option, Some, None, nat_eq, if◌then◌else◌, length, remove, true, false, IsSome, OnOk, OnErr, IfOk};
+ghost use Rattle.std.specs.Prelude.{◌≡◌, ℕ, ◌<◌, [], Some, None, nat_eq, if◌then◌else◌, length, remove, false, IsSome, IsTrue, OnOk};
 ghost use Rattle.std.specs.Option.{option_copied, option_map};
 ghost use Rattle.indexmap.specs.IndexMap.{get};
-ghost use Rattle.file_tree.specs.Nodes.{body_of, entry_of, kids_of, name_of, placed_at};
+ghost use Rattle.file_tree.specs.Nodes.{body_of, entry_of, has_node, kids_of, name_of, placed_at};
 ghost use Rattle.hac_model.specs.Events.{edited, indexed, reseated, rewritten};
 ghost use Rattle.hac_model.specs.Tree.{is_dirty, query_in, shown_text};
 
-use hac_model::{Body, Memory, Name, Number, Query, Text};
+use hac_model::{Answer, Body, Document, Memory, Name, Number, Query, Seq, Text};
 use indexmap::IndexMap;
 use std::alloc::Global;
 use std::mem;
@@ -36,8 +36,18 @@ pub(crate) enum Content {
         shown: Shown,
     },
     Dir,
+    Symlink {
+        target: Text,
+    },
     Semantic {
-        query: Query,
+        query: Query<Number>,
+        permanent: Seq<Number>,
+        prohibited: Seq<Number>,
+    },
+    Mount {
+        space: Name,
+        documents: Seq<Document>,
+        answers: Seq<Answer>,
     },
 }
 
@@ -65,7 +75,25 @@ impl Content {
                 },
             },
             Body::Dir => Content::Dir,
-            Body::Semantic { query } => Content::Semantic { query },
+            Body::Symlink { target } => Content::Symlink { target },
+            Body::Semantic {
+                query,
+                permanent,
+                prohibited,
+            } => Content::Semantic {
+                query,
+                permanent,
+                prohibited,
+            },
+            Body::Mount {
+                space,
+                documents,
+                answers,
+            } => Content::Mount {
+                space,
+                documents,
+                answers,
+            },
         }
     }
 }
@@ -91,17 +119,17 @@ impl Content {
     {
         match self {
             Content::File { dirty, .. } => *dirty,
-            Content::Dir | Content::Semantic { .. } => false,
+            _ => false,
         }
     }
 
     /// The query of a directory, where it has one.
-    pub(crate) fn query(&self) -> Option<&Query>
+    pub(crate) fn query(&self) -> Option<&Query<Number>>
         ensures { option_copied result ≡ query_in (body_of self.now) }
     {
         match self {
-            Content::Semantic { query } => Some(query),
-            Content::File { .. } | Content::Dir => None,
+            Content::Semantic { query, .. } => Some(query),
+            _ => None,
         }
     }
 
@@ -168,8 +196,8 @@ pub(crate) fn children_at(nodes: &Nodes, dir: Number) -> &[Number]
 pub(crate) fn prepare(alloc: Global, nodes: &mut Nodes, number: Number) -> Result<(), Memory>
     requires free { entry_of nodes.old number ≡ None }
     requires bare { kids_of nodes.old number ≡ [] }
-    ensures there { OnOk result (IsSome (get nat_eq nodes.new number)) }
-    ensures others { (q : ℕ) → IsSome (get nat_eq nodes.old q) → IsSome (get nat_eq nodes.new q) }
+    ensures there { OnOk result (IsTrue (has_node nodes.new number)) }
+    ensures others { (q : ℕ) → nat_eq number q ≡ false → has_node nodes.new q ≡ has_node nodes.old q }
     ensures entries { (q : ℕ) → entry_of nodes.new q ≡ entry_of nodes.old q }
     ensures names { (q : ℕ) → nat_eq number q ≡ false → name_of nodes.new q ≡ name_of nodes.old q }
     ensures kids { (q : ℕ) → kids_of nodes.new q ≡ kids_of nodes.old q }
@@ -187,8 +215,8 @@ pub(crate) fn prepare(alloc: Global, nodes: &mut Nodes, number: Number) -> Resul
 
 /// Makes the node of a number an entry.
 pub(crate) fn put(nodes: &mut Nodes, number: Number, parent: Number, name: Name, content: Content)
-    requires { IsSome (get nat_eq nodes.old number) }
-    ensures others { (q : ℕ) → IsSome (get nat_eq nodes.old q) → IsSome (get nat_eq nodes.new q) }
+    requires { IsTrue (has_node nodes.old number) }
+    ensures numbers { (q : ℕ) → has_node nodes.new q ≡ has_node nodes.old q }
     ensures entries { (q : ℕ) → entry_of nodes.new q ≡ if nat_eq number q then Some (record { number = number; parent = parent; name = name; body = body_of content }) else entry_of nodes.old q }
     ensures names { (q : ℕ) → name_of nodes.new q ≡ if nat_eq number q then name else name_of nodes.old q }
     ensures kids { (q : ℕ) → kids_of nodes.new q ≡ kids_of nodes.old q }
@@ -204,7 +232,7 @@ pub(crate) fn put(nodes: &mut Nodes, number: Number, parent: Number, name: Name,
 /// Gives an entry another place.
 pub(crate) fn reseat(nodes: &mut Nodes, number: Number, dir: Number, new_name: Name)
     requires { IsSome (entry_of nodes.old number) }
-    ensures others { (q : ℕ) → IsSome (get nat_eq nodes.old q) → IsSome (get nat_eq nodes.new q) }
+    ensures numbers { (q : ℕ) → has_node nodes.new q ≡ has_node nodes.old q }
     ensures entries { (q : ℕ) → entry_of nodes.new q ≡ if nat_eq number q then option_map (reseated dir new_name) (entry_of nodes.old q) else entry_of nodes.old q }
     ensures names { (q : ℕ) → name_of nodes.new q ≡ if nat_eq number q then new_name else name_of nodes.old q }
     ensures kids { (q : ℕ) → kids_of nodes.new q ≡ kids_of nodes.old q }
@@ -217,7 +245,7 @@ pub(crate) fn reseat(nodes: &mut Nodes, number: Number, dir: Number, new_name: N
 
 /// Takes a node out.
 pub(crate) fn take_out(nodes: &mut Nodes, number: Number)
-    ensures others { (q : ℕ) → nat_eq number q ≡ false → IsSome (get nat_eq nodes.old q) → IsSome (get nat_eq nodes.new q) }
+    ensures numbers { (q : ℕ) → has_node nodes.new q ≡ if nat_eq number q then false else has_node nodes.old q }
     ensures entries { (q : ℕ) → entry_of nodes.new q ≡ if nat_eq number q then None else entry_of nodes.old q }
     ensures names { (q : ℕ) → nat_eq number q ≡ false → name_of nodes.new q ≡ name_of nodes.old q }
     ensures kids { (q : ℕ) → kids_of nodes.new q ≡ if nat_eq number q then [] else kids_of nodes.old q }
@@ -227,8 +255,8 @@ pub(crate) fn take_out(nodes: &mut Nodes, number: Number)
 
 /// Gives a directory the list of what stands in it.
 pub(crate) fn put_children(nodes: &mut Nodes, dir: Number, children: &mut Vec<Number>)
-    requires { IsSome (get nat_eq nodes.old dir) }
-    ensures others { (q : ℕ) → IsSome (get nat_eq nodes.old q) → IsSome (get nat_eq nodes.new q) }
+    requires { IsTrue (has_node nodes.old dir) }
+    ensures numbers { (q : ℕ) → has_node nodes.new q ≡ has_node nodes.old q }
     ensures entries { (q : ℕ) → entry_of nodes.new q ≡ entry_of nodes.old q }
     ensures names { (q : ℕ) → name_of nodes.new q ≡ name_of nodes.old q }
     ensures kids { (q : ℕ) → kids_of nodes.new q ≡ if nat_eq dir q then children.old.items else kids_of nodes.old q }
@@ -241,7 +269,7 @@ pub(crate) fn put_children(nodes: &mut Nodes, dir: Number, children: &mut Vec<Nu
 /// Takes a place out of the list of what stands in a directory.
 pub(crate) fn drop_child(nodes: &mut Nodes, dir: Number, place: usize)
     requires { place < length (kids_of nodes.old dir) }
-    ensures others { (q : ℕ) → IsSome (get nat_eq nodes.old q) → IsSome (get nat_eq nodes.new q) }
+    ensures numbers { (q : ℕ) → has_node nodes.new q ≡ has_node nodes.old q }
     ensures entries { (q : ℕ) → entry_of nodes.new q ≡ entry_of nodes.old q }
     ensures names { (q : ℕ) → name_of nodes.new q ≡ name_of nodes.old q }
     ensures kids { (q : ℕ) → kids_of nodes.new q ≡ if nat_eq dir q then remove (kids_of nodes.old dir) place else kids_of nodes.old q }
@@ -253,7 +281,7 @@ pub(crate) fn drop_child(nodes: &mut Nodes, dir: Number, place: usize)
 
 /// Replaces the text of a file.
 pub(crate) fn set_text(nodes: &mut Nodes, file: Number, text: Text)
-    ensures others { (q : ℕ) → IsSome (get nat_eq nodes.old q) → IsSome (get nat_eq nodes.new q) }
+    ensures numbers { (q : ℕ) → has_node nodes.new q ≡ has_node nodes.old q }
     ensures entries { (q : ℕ) → entry_of nodes.new q ≡ if nat_eq file q then option_map (edited (rewritten text)) (entry_of nodes.old q) else entry_of nodes.old q }
     ensures names { (q : ℕ) → name_of nodes.new q ≡ name_of nodes.old q }
     ensures kids { (q : ℕ) → kids_of nodes.new q ≡ kids_of nodes.old q }
@@ -265,7 +293,7 @@ pub(crate) fn set_text(nodes: &mut Nodes, file: Number, text: Text)
 
 /// Shows the text of a file.
 pub(crate) fn show_text(nodes: &mut Nodes, file: Number)
-    ensures others { (q : ℕ) → IsSome (get nat_eq nodes.old q) → IsSome (get nat_eq nodes.new q) }
+    ensures numbers { (q : ℕ) → has_node nodes.new q ≡ has_node nodes.old q }
     ensures entries { (q : ℕ) → entry_of nodes.new q ≡ if nat_eq file q then option_map (edited indexed) (entry_of nodes.old q) else entry_of nodes.old q }
     ensures names { (q : ℕ) → name_of nodes.new q ≡ name_of nodes.old q }
     ensures kids { (q : ℕ) → kids_of nodes.new q ≡ kids_of nodes.old q }

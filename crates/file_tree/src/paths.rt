@@ -1,7 +1,8 @@
 //! Paths of entries, found by steps over parents.
-ghost use Rattle.std.specs.Prelude.{◌≡◌, ◌++◌, IfOk, IsTrue, OnOk};
-ghost use Rattle.hac_model.specs.Tree.{extends, names_to, path_of};
-ghost use Rattle.file_tree.specs.Answers.{is_live, stands_below};
+ghost use Rattle.std.specs.Prelude.{◌≡◌, ◌==◌, ◌++◌, map, reverse, IfOk, IsTrue, OnOk};
+ghost use Rattle.std.specs.List.{list_any};
+ghost use Rattle.hac_model.specs.Tree.{ancestors, extends, path_of};
+ghost use Rattle.file_tree.specs.Answers.{is_live};
 
 use crate::nodes::entry_at;
 use crate::tree::Tree;
@@ -13,13 +14,13 @@ impl Tree {
         ensures { IfOk result (λ path. path ≡ path_of self.now.state entry) }
     {
         let mut path = Path::root(self.alloc);
-        self.push_names(PATH_LIMIT, entry, &mut path)?;
+        self.push_names(PATH_LIMIT + 1, entry, &mut path)?;
         Ok(path)
     }
 
     /// Goes down by the names that lead to an entry, of which there are so many at most.
     fn push_names(&self, steps: u64, entry: Number, path: &mut Path) -> Result<(), Memory>
-        ensures { OnOk result (path.new ≡ path.old ++ names_to steps self.now.state.entries entry) }
+        ensures { OnOk result (path.new ≡ path.old ++ reverse (map (λ entry. entry.name) (ancestors steps self.now.state.entries entry))) }
     {
         if steps == 0 {
             return Ok(());
@@ -37,13 +38,13 @@ impl Tree {
         requires dir { IsTrue (is_live self.now.state.entries dir) }
         ensures { result ≡ extends (path_of self.now.state item) (path_of self.now.state dir) }
     {
-        self.valid();
-        self.leads_up(PATH_LIMIT, item, dir)
+        self.keep();
+        self.leads_up(PATH_LIMIT + 1, item, dir)
     }
 
     /// Whether so many steps over parents, or fewer, lead from an entry to a directory.
     fn leads_up(&self, steps: u64, item: Number, dir: Number) -> bool
-        ensures { result ≡ stands_below steps self.now.state.entries item dir }
+        ensures { result ≡ list_any (λ entry. entry.parent == dir) (ancestors steps self.now.state.entries item) }
     {
         if steps == 0 {
             return false;

@@ -2,7 +2,7 @@
 use hac_model::{Body, Name, Number};
 
 /// The change that was prepared last, and what it will put into the tree.
-#[derive(Clone, Debug, Drop, PartialEq, Eq)]
+#[derive(Debug, Drop)]
 pub enum Ready {
     /// Nothing was prepared, or the tree has changed since.
     Nothing,

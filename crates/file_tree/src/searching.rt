@@ -1,9 +1,8 @@
 //! Names among numbers that are in order of their names.
-ghost use Rattle.std.specs.Prelude.{◌≡◌, ◌≤◌, ◌<◌, ◌++◌, ◌∷◌, [], ℕ, List, length, insert, not, take};
-ghost use Rattle.std.specs.List.{prefix_len};
+ghost use Rattle.std.specs.Prelude.{◌≡◌, ◌≤◌, ◌<◌, ◌++◌, ◌∷◌, [], ℕ, List, length, insert};
 ghost use Rattle.hac_model.specs.Listing.{is_before};
 ghost use Rattle.file_tree.specs.Nodes.{name_of};
-ghost use Rattle.file_tree.specs.Search.{named_in, past_in, rank_in};
+ghost use Rattle.file_tree.specs.Search.{named_in, rank_in};
 ghost use Rattle.file_tree.specs.Shape.{Rises};
 
 use crate::nodes::{Nodes, name_at};
@@ -22,14 +21,6 @@ pub(crate) fn rank(nodes: &Nodes, numbers: &[Number], name: &[u8]) -> usize
     ensures rank { Rises (name_of nodes.now) numbers.now → result ≡ rank_in (name_of nodes.now) name.now numbers.now }
 {
     numbers.partition_point(|number| is_before(name_at(nodes, *number), name))
-}
-
-/// The place of the first of the numbers whose name is behind this one.
-pub(crate) fn first_past(nodes: &Nodes, numbers: &[Number], name: &[u8]) -> usize
-    ensures within { result ≤ length numbers.now }
-    ensures past { Rises (name_of nodes.now) numbers.now → result ≡ past_in (name_of nodes.now) name.now numbers.now }
-{
-    numbers.partition_point(|number| !is_before(name, name_at(nodes, *number)))
 }
 
 /// The one of the numbers that has the name.

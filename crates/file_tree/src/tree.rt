@@ -1,16 +1,17 @@
 //! The tree itself, and what it tells of its entries.
-ghost use Rattle.std.specs.Prelude.{◌≡◌, ◌<◌, ℕ, Some, None, IfOk, IsTrue, IsSome, Option, false};
+ghost use Rattle.std.specs.Prelude.{◌≡◌, ◌==◌, Some, IfOk, IsTrue, IsSome, [], false, length, map};
 ghost use Rattle.std.specs.Option.{option_copied, option_map, option_map_or, option_and_then};
+ghost use Rattle.hac_model.specs.Events.{is_bare};
 ghost use Rattle.hac_model.specs.Links.{parent_of, query_at, shown_of};
 ghost use Rattle.hac_model.specs.Listing.{children};
 ghost use Rattle.hac_model.specs.Tree.{body_at, child, empty, entry_at, is_dirty, is_file_at, text_in};
-ghost use Rattle.hac_model.specs.Valid.{IsValid};
-ghost use Rattle.file_tree.specs.Answers.{kind_at, kind_in, next_from, next_in};
+ghost use Rattle.hac_model.specs.Valid.{IsLayout};
+ghost use Rattle.file_tree.specs.Answers.{kind_at, kind_in, next_from};
 ghost use Rattle.file_tree.specs.Nodes.{body_of};
 
 use crate::nodes::{self, Content, Nodes, children_at};
 use crate::ready::Ready;
-use crate::searching::{first_past, named};
+use crate::searching::named;
 use hac_model::{Memory, Name, Number, Query};
 use indexmap::IndexMap;
 use std::alloc::Global;
@@ -79,14 +80,15 @@ impl Tree {
     /// The number that the next entry takes.
     pub fn next_number(&self) -> Number
         ensures number { result ≡ self.now.state.next }
-        ensures valid { IsValid self.now.state }
+        ensures layout { IsLayout self.now.state }
+        ensures sessions { self.now.state.sessions ≡ [] }
     {
         self.next
     }
 
-    /// What a tree keeps: its state is valid.
-    pub(crate) fn valid(&self)
-        ensures { IsValid self.now.state }
+    /// What a tree keeps: its entries fit one another.
+    pub(crate) fn keep(&self)
+        ensures { IsLayout self.now.state }
     {
         let _next = self.next;
     }
@@ -125,7 +127,7 @@ impl Tree {
     {
         match self.content(file) {
             Some(Content::File { text, .. }) => text.as_slice(),
-            Some(Content::Dir | Content::Semantic { .. }) | None => unreachable!(),
+            _ => unreachable!(),
         }
     }
 
@@ -147,7 +149,7 @@ impl Tree {
     }
 
     /// The query of a directory, where it has one.
-    pub fn query(&self, dir: Number) -> Option<&Query>
+    pub fn query(&self, dir: Number) -> Option<&Query<Number>>
         ensures { option_copied result ≡ query_at self.now.state dir }
     {
         self.content(dir)?.query()
@@ -183,16 +185,12 @@ impl Tree {
         }
     }
 
-    /// What stands next in a directory, in byte order of names: the first of all, or the first behind a name.
-    pub fn next_child(&self, dir: Number, after: Option<&Name>) -> Option<Number>
-        ensures { result ≡ next_in (children self.now.state dir) (option_copied after.entry) }
+    /// What stands in a directory, in byte order of names.
+    pub fn children(&self, dir: Number) -> &[Number]
+        ensures numbers { result.now ≡ map (λ entry. entry.number) (children self.now.state dir) }
+        ensures bare { is_bare self.now.state.entries dir ≡ (length result.now == 0) }
     {
-        let numbers = children_at(&self.nodes, dir);
-        let place = match after {
-            Some(name) => first_past(&self.nodes, numbers, name.as_bytes()),
-            None => 0,
-        };
-        numbers.get(place).copied()
+        children_at(&self.nodes, dir)
     }
 
     /// The first entry, in order of number, whose number isn't below the one given.
@@ -215,6 +213,8 @@ fn kind_in(content: &Content) -> EntryKind
     match content {
         Content::File { .. } => EntryKind::File,
         Content::Dir => EntryKind::Dir,
+        Content::Symlink { .. } => EntryKind::Symlink,
         Content::Semantic { .. } => EntryKind::Semantic,
+        Content::Mount { .. } => EntryKind::Mount,
     }
 }

@@ -1,13 +1,12 @@
 use Rattle.std.proofs.Common.{◌≡◌, ◌<◌, ◌≤◌, ◌+◌, ◌++◌, ◌∷◌, [], ℕ, List, Some, false, cond, ap, sym, subst, ◌∙◌, arith}
-use Rattle.std.specs.Prelude.{nat_eq, nat_lt, insert, IsSome}
+use Rattle.std.specs.Prelude.{nat_eq, nat_lt, insert, IsTrue}
 use Rattle.std.proofs.lemmas.Bool.Decides.{nat_tests}
-use Rattle.indexmap.specs.IndexMap.{get}
 use Rattle.hac_model.specs.Events.{added}
 use Rattle.hac_model.specs.declared.states.Body.{Body}
 use Rattle.hac_model.specs.declared.states.State.{State}
 use Rattle.hac_model.specs.declared.limits.TheConstants.{NUMBERS_LIMIT}
 use Rattle.hac_model.proofs.LimitLemmas.{limits-within}
-use Rattle.file_tree.specs.Nodes.{entry_of, kids_of, name_of}
+use Rattle.file_tree.specs.Nodes.{entry_of, has_node, kids_of, name_of}
 use Rattle.file_tree.specs.Ready.{body_in, room_in}
 use Rattle.file_tree.specs.Search.{rank_in}
 use Rattle.file_tree.specs.Seen.{Seen}
@@ -22,7 +21,7 @@ use Rattle.file_tree.proofs.tree.Tree.add.Goals as goal
 
 pub overflow_add-get : goal.overflow_add-get
 overflow_add-get c =
-    let within = limits-within (added c.args.self.now.state c.args.dir c.args.name (body_in c.args.self.now.ready)) c.requires.valid.limits in
+    let within = limits-within (added c.args.self.now.state c.args.dir c.args.name (body_in c.args.self.now.ready)) c.requires.layout.limits in
     let low : nat_lt NUMBERS_LIMIT (c.args.self.now.state.next + 1) ≡ false = within.numbers in
     let same : c.self.inside.next ≡ c.args.self.now.state.next = ap (λ (x : Seen). x.state.next) c.self.view_is in
     let small : c.args.self.now.state.next + 1 ≤ NUMBERS_LIMIT = grind (arith, nat_tests, low) in
@@ -35,7 +34,7 @@ module _ (c : goal.After-self-1) where
   room-here : room_in c.self.inside.ready ≡ Some (room.Add c.args.dir)
   room-here = ap room_in same-ready ∙ c.requires.room ∙ ap (λ (r : Room). Some r) c.requires.place
 
-  spare : (c.self.inside.spare.items ≡ kids_of c.self.inside.nodes c.args.dir ++ c.self.inside.next ∷ []) × IsSome (get nat_eq c.self.inside.nodes c.self.inside.next) × IsSome (get nat_eq c.self.inside.nodes c.args.dir) × (c.args.dir < c.self.inside.next)
+  spare : (c.self.inside.spare.items ≡ kids_of c.self.inside.nodes c.args.dir ++ c.self.inside.next ∷ []) × IsTrue (has_node c.self.inside.nodes c.self.inside.next) × IsTrue (has_node c.self.inside.nodes c.args.dir) × (c.args.dir < c.self.inside.next)
   spare = spare-add c.self.inside.nodes c.self.inside.next c.self.inside.spare.items c.self.inside.ready c.args.dir room-here c.self.invariant.spare
 
   body-here : c.in-Add.body ≡ body_in c.args.self.now.ready
@@ -60,7 +59,7 @@ module _ (c : goal.After-self-1) where
 pub invariant_of-self : goal.invariant_of-self
 invariant_of-self c =
     shaped-added c.self.inside c.args.self.now c.self.view_is c.self.invariant _ c.args.dir c.args.name (body_in c.args.self.now.ready) (next c) (entries c) (λ n. c.put_children.ensures.names n ∙ c.put.ensures.names n) (kids c)
-    (c.put_children.ensures.others 0 (c.put.ensures.others 0 c.self.invariant.root)) (spare c).3 c.requires.valid
+    (λ n. c.put_children.ensures.numbers n ∙ c.put.ensures.numbers n) (spare c).3 c.requires.layout
     (subst (λ (r : Ready). HasSpare r c.put_children.new.nodes c.new-self-inside.result c.put_children.new.children.items) (sym c.replace.ensures.after) tt)
 
 pub returns-clause-added : goal.returns-clause-added

@@ -6,7 +6,7 @@ use Rattle.file_tree.proofs.StateLemmas.{shaped-edited, state-changed}
 use Rattle.file_tree.proofs.tree.Tree.mark_clean.Goals as goal
 
 pub invariant_of-self : goal.invariant_of-self
-invariant_of-self c = shaped-edited c.self.inside c.args.self.now c.self.view_is c.self.invariant _ c.args.file indexed refl c.show_text.ensures.entries c.show_text.ensures.names c.show_text.ensures.kids c.show_text.ensures.others c.requires tt
+invariant_of-self c = shaped-edited c.self.inside c.args.self.now c.self.view_is c.self.invariant _ c.args.file indexed refl c.show_text.ensures.entries c.show_text.ensures.names c.show_text.ensures.kids c.show_text.ensures.numbers c.requires tt
 
 pub returns : goal.returns
 returns c = ap (λ (x : State). record { state = x; ready = Nothing }) (state-changed c.self.inside c.args.self.now c.self.view_is c.self.invariant (record { alloc = c.self.inside.alloc; next = c.self.inside.next; nodes = c.show_text.new.nodes; spare = c.self.inside.spare; ready = Nothing }) c.args.file (edited indexed) refl c.show_text.ensures.entries)

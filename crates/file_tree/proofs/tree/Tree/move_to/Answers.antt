@@ -1,12 +1,11 @@
 use Rattle.std.proofs.Common.{◌≡◌, ◌<◌, ◌+◌, ◌++◌, ◌∷◌, ℕ, List, [], Bool, true, false, Option, Some, length, cond, ap, sym, subst, refl, ◌∙◌, arith, length-append}
-use Rattle.std.specs.Prelude.{nat_eq, insert, remove, IsSome}
+use Rattle.std.specs.Prelude.{nat_eq, insert, remove, IsTrue}
 use Rattle.std.specs.Option.{option_map}
 use Rattle.std.proofs.lemmas.Bool.{eqb-true}
-use Rattle.indexmap.specs.IndexMap.{get}
 use Rattle.hac_model.specs.Events.{changed_at, reseated}
 use Rattle.hac_model.specs.declared.states.Entry.{Entry}
 use Rattle.hac_model.specs.declared.states.State.{State}
-use Rattle.file_tree.specs.Nodes.{entry_of, kids_of, name_of}
+use Rattle.file_tree.specs.Nodes.{entry_of, has_node, kids_of, name_of}
 use Rattle.file_tree.specs.Ready.{name_in, room_in}
 use Rattle.file_tree.specs.Search.{rank_in}
 use Rattle.file_tree.specs.Seen.{Seen}
@@ -47,7 +46,7 @@ module _ (c : goal.After-put_children) where
   room-here : room_in c.self.inside.ready ≡ Some (room.Move c.args.dir)
   room-here = ap room_in same-ready ∙ c.requires.room ∙ ap (λ (r : Room). Some r) c.requires.place
 
-  spare : (c.self.inside.spare.items ≡ kids_of c.self.inside.nodes c.args.dir ++ 0 ∷ []) × IsSome (get nat_eq c.self.inside.nodes c.args.dir) × (c.args.dir < c.self.inside.next)
+  spare : (c.self.inside.spare.items ≡ kids_of c.self.inside.nodes c.args.dir ++ 0 ∷ []) × IsTrue (has_node c.self.inside.nodes c.args.dir) × (c.args.dir < c.self.inside.next)
   spare = spare-move c.self.inside.nodes c.self.inside.next c.self.inside.spare.items c.self.inside.ready c.args.dir room-here c.self.invariant.spare
 
   name-here : c.in-Move.name ≡ name_in c.args.self.now.ready
@@ -99,7 +98,7 @@ module _ (c : goal.After-put_children) where
 pub invariant_of-self : goal.invariant_of-self
 invariant_of-self c =
     shaped-moved c.self.inside c.args.self.now c.self.view_is c.self.invariant _ c.args.entry c.args.dir c.parent_at-parent.result (name_in c.args.self.now.ready) refl c.parent_at-parent.ensures (entries c) (names c) (kids_of c.drop_child.new.nodes) (left c) (kids c)
-    (c.put_children.ensures.others 0 (c.reseat.ensures.others 0 (c.drop_child.ensures.others 0 c.self.invariant.root))) (spare c).2 c.requires.valid
+    (λ q. c.put_children.ensures.numbers q ∙ c.reseat.ensures.numbers q ∙ c.drop_child.ensures.numbers q) (spare c).2 c.requires.layout
     (subst (λ (r : Ready). HasSpare r c.put_children.new.nodes c.self.inside.next c.put_children.new.children.items) (sym c.replace.ensures.after) tt)
 
 pub returns : goal.returns

@@ -1,4 +1,5 @@
-use Rattle.std.proofs.Common.{refl}
+use Rattle.std.proofs.Common.{refl, arith, ◌∙◌}
+use Rattle.std.proofs.lemmas.Bool.{ne_eqb}
 use Rattle.file_tree.proofs.StateLemmas.{directory-there, shaped-prepared}
 use Rattle.file_tree.proofs.tree.Tree.prepare_add.Goals as goal
 
@@ -12,4 +13,4 @@ pub invariant_of-self-2 : goal.invariant_of-self-2
 invariant_of-self-2 c =
     let there = directory-there c.self.inside c.args.self.now c.self.view_is c.self.invariant c.self.inside c.args.dir c.requires in
     shaped-prepared c.self.inside c.args.self.now c.self.view_is c.self.invariant _ refl c.prepare.ensures.entries c.prepare.ensures.names c.prepare.ensures.kids c.prepare.ensures.others
-    (c.in_ok-self-inside.ensures, c.in_ok-prepare.ensures.there, c.prepare.ensures.others c.args.dir there.0, there.1)
+    (c.in_ok-self-inside.ensures, c.in_ok-prepare.ensures.there, c.prepare.ensures.others c.args.dir (ne_eqb c.self.inside.next c.args.dir (λ same. omega (arith, there.1))) ∙ there.0, there.1)

@@ -5,4 +5,4 @@ use Rattle.file_tree.proofs.tree.Tree.prepare_move.Goals as goal
 pub invariant_of-self-2 : goal.invariant_of-self-2
 invariant_of-self-2 c =
     let there = directory-there c.self.inside c.args.self.now c.self.view_is c.self.invariant c.self.inside c.args.dir c.requires in
-    shaped-prepared c.self.inside c.args.self.now c.self.view_is c.self.invariant _ refl (λ n. refl) (λ n other. refl) (λ dir. refl) (λ n there. there) (c.in_ok-self-inside.ensures, there.0, there.1)
+    shaped-prepared c.self.inside c.args.self.now c.self.view_is c.self.invariant _ refl (λ n. refl) (λ n other. refl) (λ dir. refl) (λ n other. refl) (c.in_ok-self-inside.ensures, there.0, there.1)

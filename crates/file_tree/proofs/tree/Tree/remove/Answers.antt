@@ -1,4 +1,4 @@
-use Rattle.std.proofs.Common.{◌≡◌, ◌<◌, ℕ, List, [], Option, None, length, cond, ap, sym, subst, refl, ◌∙◌}
+use Rattle.std.proofs.Common.{◌≡◌, ◌<◌, ℕ, List, [], Bool, false, Option, None, length, cond, ap, sym, subst, refl, ◌∙◌}
 use Rattle.std.specs.Prelude.{nat_eq, remove}
 use Rattle.hac_model.specs.declared.states.Entry.{Entry}
 use Rattle.hac_model.specs.declared.states.State.{State}
@@ -6,7 +6,7 @@ use Rattle.file_tree.specs.Nodes.{entry_of, kids_of, name_of}
 use Rattle.file_tree.specs.Search.{rank_in}
 use Rattle.file_tree.specs.declared.ready.Ready.TheVariants.{Nothing}
 use Rattle.file_tree.proofs.ShapeLemmas.{told_at}
-use Rattle.file_tree.proofs.StateLemmas.{entry-above, entry-listed, entry-there, shaped-removed, state-removed}
+use Rattle.file_tree.proofs.StateLemmas.{entry-listed, entry-there, shaped-removed, state-removed}
 use Rattle.file_tree.proofs.tree.Tree.remove.Goals as goal
 
 pub parent_at-parent-requires : goal.parent_at-parent-requires
@@ -29,7 +29,7 @@ pub invariant_of-self : goal.invariant_of-self
 invariant_of-self c =
     shaped-removed c.self.inside c.args.self.now c.self.view_is c.self.invariant _ c.args.entry c.parent_at-parent.result refl c.parent_at-parent.ensures (entries c)
     (λ q other. c.take_out.ensures.names q other ∙ c.drop_child.ensures.names q) (kids c)
-    (c.take_out.ensures.others 0 (entry-above c.self.inside c.args.self.now c.self.view_is c.self.invariant c.args.entry c.requires.there) (c.drop_child.ensures.others 0 c.self.invariant.root)) c.requires.valid tt
+    (λ q. c.take_out.ensures.numbers q ∙ ap (λ (b : Bool). cond (nat_eq c.args.entry q) false b) (c.drop_child.ensures.numbers q)) c.requires.layout tt
 
 pub returns : goal.returns
 returns c = ap (λ (x : State). record { state = x; ready = Nothing }) (state-removed c.self.inside c.args.self.now c.self.view_is c.self.invariant (record { alloc = c.self.inside.alloc; next = c.self.inside.next; nodes = c.take_out.new.nodes; spare = c.self.inside.spare; ready = Nothing }) c.args.entry refl (entries c))

@@ -1,6 +1,6 @@
 use Rattle.std.proofs.Common.{◌≡◌, ℕ, List, ap, refl, sym, subst, ◌∙◌}
 use Rattle.hac_model.specs.Events.{changed_at, edited, rewritten}
-use Rattle.hac_model.specs.Valid.{IsValid}
+use Rattle.hac_model.specs.Valid.{IsLayout}
 use Rattle.hac_model.specs.declared.states.Body.{Body}
 use Rattle.hac_model.specs.declared.states.State.{State}
 use Rattle.file_tree.specs.Ready.{new_text}
@@ -19,8 +19,8 @@ text-new c =
 
 pub invariant_of-self : goal.invariant_of-self
 invariant_of-self c =
-    shaped-edited c.self.inside c.args.self.now c.self.view_is c.self.invariant _ c.args.file (rewritten c.in-Edit-default-File.text) refl c.set_text.ensures.entries c.set_text.ensures.names c.set_text.ensures.kids c.set_text.ensures.others
-    (subst (λ (x : List ℕ). IsValid (changed_at c.args.self.now.state c.args.file (edited (rewritten x)))) (text-new c) c.requires.valid)
+    shaped-edited c.self.inside c.args.self.now c.self.view_is c.self.invariant _ c.args.file (rewritten c.in-Edit-default-File.text) refl c.set_text.ensures.entries c.set_text.ensures.names c.set_text.ensures.kids c.set_text.ensures.numbers
+    (subst (λ (x : List ℕ). IsLayout (changed_at c.args.self.now.state c.args.file (edited (rewritten x)))) (text-new c) c.requires.layout)
     (subst (λ (r : Ready). HasSpare r c.set_text.new.nodes c.self.inside.next c.self.inside.spare.items) (sym c.replace.ensures.after) tt)
 
 pub returns : goal.returns
