@@ -1,9 +1,10 @@
-pub mod LookingLemmas
-pub mod AimingLemmas
-pub mod LimitingLemmas
+pub mod StandingLemmas
 pub mod CountingLemmas
-pub mod EntryLemmas
-pub mod MachineLemmas
+pub mod DirtyLemmas
+pub mod CountedLemmas
+pub mod ShallowLemmas
+pub mod LimitingLemmas
+pub mod ListingLemmas
 pub mod LinkedLemmas
-pub mod LinesLemmas
-pub mod ChildrenLemmas
+pub mod ReadyLemmas
+pub mod MachineLemmas

@@ -1,7 +1,11 @@
+pub mod Standing
 pub mod Counting
-pub mod Looking
-pub mod Aiming
 pub mod Limiting
-pub mod Drafts
-pub mod Shape
 pub mod Listing
+pub mod Drafts
+pub mod Blocking
+pub mod Settling
+pub mod Ready
+pub mod Seen
+pub mod Counted
+pub mod Shape

@@ -1,162 +1,170 @@
-//! How much a tree holds, counted as entries come and go, so that a limit is tested without a look at them.
-ghost use Rattle.std.specs.Prelude.{◌≡◌, IsTrue};
-ghost use Rattle.hac_model.specs.Limits.{weight};
-ghost use Rattle.hac_model.specs.Tree.{is_dirty, is_file};
-ghost use Rattle.hac_model.specs.declared.queries.Query.{Query};
-ghost use Rattle.hac_core.specs.Counting.{AreSmall, plus, share_of, first_passed};
+//! What entries count for, and sums of counts, so that a limit is tested without a look at all entries.
+ghost use Rattle.std.specs.Prelude.{◌≡◌, ℕ, List, length, IsTrue, Some};
+ghost use Rattle.std.specs.Option.{option_map_or};
+ghost use Rattle.hac_model.specs.Events.{rewritten};
+ghost use Rattle.hac_model.specs.Limits.{counts, weight};
+ghost use Rattle.hac_model.specs.Links.{shown_of};
+ghost use Rattle.hac_model.specs.Tree.{empty, entry_at, is_dirty, is_file, is_file_at};
+ghost use Rattle.hac_model.specs.Formula.{Formula};
+ghost use Rattle.hac_model.specs.declared.states.Body.{Body};
+ghost use Rattle.hac_model.specs.declared.states.Entry.{Entry};
+ghost use Rattle.hac_core.specs.Counting.{AreSmall, one_if, plus, share_of};
 
-use hac_model::{
-    Body, DIRS_LIMIT, ITEMS_LIMIT, LimitWord, NUMBERS_LIMIT, SEMANTICS_LIMIT, TEXTS_LIMIT,
+use file_tree::{EntryKind, Tree};
+use hac_model::{Counts, Number};
+
+const NOTHING: Counts = Counts {
+    bytes: 0,
+    directories: 0,
+    semantics: 0,
+    files: 0,
+    dirty: 0,
+    long_paths: 0,
+    next: 0,
 };
 
-/// How much there is of each thing that a limit or the program counts.
-#[derive(Clone, Copy, Debug, PartialEq, Eq)]
-pub struct Counts {
-    /// Bytes of the files, of each the longer of its text and of what is shown of it.
-    pub bytes: u64,
-    /// Directories of any kind.
-    pub directories: u64,
-    /// Semantic directories.
-    pub semantics: u64,
-    /// Files.
-    pub files: u64,
-    /// Files that are to be indexed.
-    pub dirty: u64,
+/// Those of the root alone, behind which the number 1 is next.
+pub fn of_root() -> Counts
+    ensures { result ≡ counts empty }
+{
+    Counts {
+        directories: 1,
+        next: 1,
+        ..NOTHING
+    }
 }
 
-impl Counts {
-    /// Those of the root alone.
-    pub fn of_root() -> Counts
-        ensures { result ≡ record { bytes = 0; directories = 1; semantics = 0; files = 0; dirty = 0 } }
-    {
-        Counts {
-            bytes: 0,
-            directories: 1,
-            semantics: 0,
-            files: 0,
-            dirty: 0,
-        }
+/// What a plain directory counts for.
+pub fn of_directory() -> Counts
+    ensures { result ≡ share_of Body.Dir }
+{
+    Counts {
+        directories: 1,
+        ..NOTHING
     }
+}
 
-    /// What a plain directory counts for.
-    pub fn of_directory() -> Counts
-        ensures { result ≡ share_of Body.Dir }
-    {
-        Counts {
-            bytes: 0,
-            directories: 1,
-            semantics: 0,
-            files: 0,
-            dirty: 0,
-        }
+/// What a semantic directory counts for.
+pub fn of_semantic() -> Counts
+    ensures { (query : Formula ℕ) (permanent prohibited : List ℕ) → result ≡ share_of (Body.Semantic query permanent prohibited) }
+{
+    Counts {
+        directories: 1,
+        semantics: 1,
+        ..NOTHING
     }
+}
 
-    /// What a semantic directory counts for.
-    pub fn of_semantic() -> Counts
-        ensures { (query : Query) → result ≡ share_of (Body.Semantic query) }
-    {
-        Counts {
-            bytes: 0,
-            directories: 1,
-            semantics: 1,
-            files: 0,
-            dirty: 0,
-        }
+/// What a file counts for, of which so many bytes are kept.
+pub fn of_file(bytes: u64, dirty: bool) -> Counts
+    ensures { (body : Body) → IsTrue (is_file body) → weight body ≡ bytes → is_dirty body ≡ dirty → result ≡ share_of body }
+{
+    Counts {
+        bytes,
+        files: 1,
+        dirty: u64::from(dirty),
+        ..NOTHING
     }
+}
 
-    /// What a file counts for, of which so many bytes are kept.
-    pub fn of_file(bytes: u64, dirty: bool) -> Counts
-        ensures { (body : Body) → IsTrue (is_file body) → weight body ≡ bytes → is_dirty body ≡ dirty → result ≡ share_of body }
-    {
-        Counts {
-            bytes,
-            directories: 0,
-            semantics: 0,
-            files: 1,
-            dirty: u64::from(dirty),
-        }
+/// What an entry counts for.
+pub fn share_at(tree: &Tree, entry: Number) -> Counts
+    ensures { (e : Entry) → entry_at tree.now.state.entries entry ≡ Some e → result ≡ share_of e.body }
+{
+    match tree.kind(entry) {
+        EntryKind::File => share_of_file(tree, entry),
+        EntryKind::Semantic => of_semantic(),
+        EntryKind::Dir => of_directory(),
+        EntryKind::Symlink | EntryKind::Mount | EntryKind::Document => NOTHING,
     }
+}
 
-    /// What a body counts for.
-    pub fn of(body: &Body) -> Counts
-        ensures { result ≡ share_of body.now }
-    {
-        match body {
-            Body::File { text, dirty, shown } => {
-                let shown = match shown {
-                    Some(shown) => shown.as_slice().len() as u64,
-                    None => 0,
-                };
-                Counts::of_file((text.as_slice().len() as u64).max(shown), *dirty)
-            }
-            Body::Dir => Counts::of_directory(),
-            Body::Semantic { .. } => Counts::of_semantic(),
-        }
-    }
+fn share_of_file(tree: &Tree, file: Number) -> Counts
+    requires { IsTrue (is_file_at tree.now.state.entries file) }
+    ensures { (e : Entry) → entry_at tree.now.state.entries file ≡ Some e → result ≡ share_of e.body }
+{
+    let bytes = tree.text(file).len() as u64;
+    of_file(bytes.max(shown_len(tree, file)), tree.dirty(file))
+}
 
-    /// Both together.
-    pub fn plus(self, more: Counts) -> Counts
-        requires small { AreSmall self }
-        requires more_small { AreSmall more }
-        ensures { result ≡ plus self more }
-    {
-        Counts {
-            bytes: self.bytes + more.bytes,
-            directories: self.directories + more.directories,
-            semantics: self.semantics + more.semantics,
-            files: self.files + more.files,
-            dirty: self.dirty + more.dirty,
-        }
+/// How many bytes of a file are shown.
+fn shown_len(tree: &Tree, file: Number) -> u64
+    ensures { result ≡ option_map_or (λ text. length text) (shown_of tree.now.state file) 0 }
+{
+    match tree.shown(file) {
+        Some(text) => text.len() as u64,
+        None => 0,
     }
+}
 
-    /// What is left when a part goes.
-    pub fn minus(self, part: Counts) -> Counts
-        requires { (rest : Counts) × (self ≡ plus rest part) }
-        ensures { plus result part ≡ self }
-    {
-        Counts {
-            bytes: self.bytes - part.bytes,
-            directories: self.directories - part.directories,
-            semantics: self.semantics - part.semantics,
-            files: self.files - part.files,
-            dirty: self.dirty - part.dirty,
-        }
-    }
+/// What a file will count for once a text of so many bytes is written to it.
+pub fn written_share(tree: &Tree, file: Number, bytes: u64) -> Counts
+    requires { IsTrue (is_file_at tree.now.state.entries file) }
+    ensures { (e : Entry) (text : List ℕ) → entry_at tree.now.state.entries file ≡ Some e → length text ≡ bytes → result ≡ share_of (rewritten text e.body) }
+{
+    of_file(bytes.max(shown_len(tree, file)), true)
+}
 
-    /// The same with another part in place of a part.
-    pub fn replaced(self, old: Counts, new: Counts) -> Counts
-        requires small { AreSmall self }
-        requires new_small { AreSmall new }
-        requires part { (rest : Counts) × (self ≡ plus rest old) }
-        ensures { plus result old ≡ plus self new }
-    {
-        Counts {
-            bytes: self.bytes + new.bytes - old.bytes,
-            directories: self.directories + new.directories - old.directories,
-            semantics: self.semantics + new.semantics - old.semantics,
-            files: self.files + new.files - old.files,
-            dirty: self.dirty + new.dirty - old.dirty,
-        }
+/// The same of a new entry, which takes a number, and whose path may be too long.
+pub fn as_new(share: Counts, is_long: bool) -> Counts
+    ensures { result ≡ record share { long_paths = one_if is_long; next = 1 } }
+{
+    Counts {
+        long_paths: u64::from(is_long),
+        next: 1,
+        ..share
     }
+}
 
-    /// The first limit that is passed by so much, told whether every path is short and which number is next.
-    pub fn passed(self, are_paths_short: bool, next: u64) -> Option<LimitWord>
-        ensures { result ≡ first_passed self are_paths_short next }
-    {
-        if self.bytes > TEXTS_LIMIT {
-            Some(LimitWord::Texts)
-        } else if self.directories > DIRS_LIMIT {
-            Some(LimitWord::Dirs)
-        } else if self.semantics > SEMANTICS_LIMIT {
-            Some(LimitWord::Semantics)
-        } else if !are_paths_short {
-            Some(LimitWord::Path)
-        } else if self.files > ITEMS_LIMIT {
-            Some(LimitWord::Items)
-        } else if next > NUMBERS_LIMIT {
-            Some(LimitWord::Numbers)
-        } else {
-            None
-        }
+/// The same where some path is too long, or none is.
+pub fn with_long_paths(counts: Counts, is_long: bool) -> Counts
+    ensures { result ≡ record counts { long_paths = one_if is_long } }
+{
+    Counts {
+        long_paths: u64::from(is_long),
+        ..counts
     }
+}
+
+/// Both together.
+pub fn plus(counts: Counts, more: Counts) -> Counts
+    requires small { AreSmall counts }
+    requires more_small { AreSmall more }
+    ensures { result ≡ plus counts more }
+{
+    Counts {
+        bytes: counts.bytes + more.bytes,
+        directories: counts.directories + more.directories,
+        semantics: counts.semantics + more.semantics,
+        files: counts.files + more.files,
+        dirty: counts.dirty + more.dirty,
+        long_paths: counts.long_paths + more.long_paths,
+        next: counts.next + more.next,
+    }
+}
+
+/// What is left when a part goes.
+pub fn minus(counts: Counts, part: Counts) -> Counts
+    requires { (rest : Counts) × (counts ≡ plus rest part) }
+    ensures { plus result part ≡ counts }
+{
+    Counts {
+        bytes: counts.bytes - part.bytes,
+        directories: counts.directories - part.directories,
+        semantics: counts.semantics - part.semantics,
+        files: counts.files - part.files,
+        dirty: counts.dirty - part.dirty,
+        long_paths: counts.long_paths - part.long_paths,
+        next: counts.next - part.next,
+    }
+}
+
+/// The same with another part in place of a part.
+pub fn replaced(counts: Counts, old: Counts, new: Counts) -> Counts
+    requires small { AreSmall counts }
+    requires new_small { AreSmall new }
+    requires part { (rest : Counts) × (counts ≡ plus rest old) }
+    ensures { plus result old ≡ plus counts new }
+{
+    minus(plus(counts, new), old)
 }

@@ -1,57 +1,54 @@
 //! Commands between the test whether a state refuses them and what they come to.
-ghost use Rattle.std.specs.Prelude.{◌≡◌, IfOk};
+ghost use Rattle.std.specs.Prelude.{◌≡◌};
 ghost use Rattle.hac_core.specs.Drafts.{reads};
 
-use hac_model::{Command, Event, Line};
-use std::alloc::AllocError;
+use hac_model::{Event, Resolved};
 use std::marker::Model;
 
-/// A line that a machine's state doesn't refuse. It says nothing of later states.
+/// A command that a machine's state doesn't refuse so far, its paths followed. It says nothing of later states.
 #[derive(Drop)]
 pub struct Draft {
-    line: Line,
+    command: Resolved,
 }
 
 impl Model for Draft {
-    ghost use Rattle.hac_model.specs.declared.commands.Line.{Line};
-    ghost use Rattle.hac_model.specs.contracts.commands.Line.{the_row};
+    ghost use Rattle.hac_model.specs.declared.resolved.Resolved.{Resolved};
+    ghost use Rattle.hac_model.specs.contracts.resolved.Resolved.{the_row};
 
-    ghost Value = { Line };
+    ghost Value = { Resolved };
 
     ghost coded = { the_row.coded };
 
-    ghost view = { λ draft. draft.line };
+    ghost view = { λ draft. draft.command };
 }
 
 impl Draft {
-    pub(crate) fn of(line: &Line) -> Result<Draft, AllocError>
-        ensures { IfOk result (λ draft. draft ≡ line.now) }
+    pub(crate) fn new(command: Resolved) -> Draft
+        ensures { result ≡ command }
     {
-        Ok(Draft {
-            line: line.clone()?,
-        })
+        Draft { command }
     }
 
     /// Whether the command only reads, so that it is answered by `ask` and not by `settle`.
     pub fn reads(&self) -> bool
-        ensures { result ≡ reads self.now.command }
+        ensures { result ≡ reads self.now }
     {
         matches!(
-            self.line.command,
-            Command::Cat { .. } | Command::Ls { .. } | Command::Sls { .. }
+            self.command,
+            Resolved::Cat { .. } | Resolved::Ls { .. } | Resolved::Sls { .. }
         )
     }
 
-    pub(crate) fn command(&self) -> &Command
-        ensures { result.now ≡ self.now.command }
+    pub(crate) fn command(&self) -> &Resolved
+        ensures { result.now ≡ self.now }
     {
-        &self.line.command
+        &self.command
     }
 
-    pub(crate) fn into_command(self) -> Command
-        ensures { result ≡ self.command }
+    pub(crate) fn into_command(self) -> Resolved
+        ensures { result ≡ self }
     {
-        self.line.command
+        self.command
     }
 }
 

@@ -1,17 +1,17 @@
-//! The machine: a state that is kept so that commands are quick, and seen as that state. It knows no
-//! line's bytes and no outside, and of the text of replies only their data lines.
+//! The machine: a state that is kept so that commands are quick, and seen as that state and as the events for which
+//! memory was taken. It knows no line's bytes and no outside, and of the text of replies only their data lines.
 #![tactic(auto)]
 
-mod aiming;
+mod blocking;
+mod counted;
 mod counting;
 mod drafts;
+mod events;
 mod limiting;
 mod listing;
-mod looking;
 mod machine;
-mod settling;
-mod sharing;
-mod telling;
+mod ready;
+mod resolving;
 
 pub use drafts::{Draft, Settled};
 pub use machine::Machine;

@@ -1,23 +1,41 @@
 //! What the commands that read tell: the text of a file, what stands in a directory, and the links of one.
-ghost use Rattle.std.specs.Prelude.{◌≡◌, ◌&&◌, ◌∷◌, [], IfOk, IsSome, IsTrue, Some, map};
+ghost use Rattle.std.specs.Prelude.{◌≡◌, ◌&&◌, ◌∷◌, [], None, IfOk, IsSome, IsTrue, Some, map};
 ghost use Rattle.std.specs.Option.{option_map};
 ghost use Rattle.hac_model.specs.Links.{column, links};
 ghost use Rattle.hac_model.specs.Listing.{children, entry_line, letter};
-ghost use Rattle.hac_model.specs.Play.{link_line, text_lines};
+ghost use Rattle.hac_model.specs.Play.{data_lines, link_line, text_lines};
+ghost use Rattle.hac_model.specs.Refusals.{blocked};
 ghost use Rattle.hac_model.specs.Tree.{entry_at, is_file_at};
+ghost use Rattle.hac_model.specs.Valid.{IsValid};
 ghost use Rattle.hac_model.specs.declared.states.Body.{Body};
 ghost use Rattle.file_tree.specs.Answers.{kind_in};
 ghost use Rattle.hac_core.specs.Listing.{is_met};
+ghost use Rattle.hac_core.specs.Standing.{Stands};
 
-use crate::looking::know_valid;
+use crate::resolving::know_layout;
 use file_tree::{EntryKind, Tree};
-use hac_model::{Memory, Name, Number, Query};
+use hac_model::{Memory, Name, Node, Number, Query, Resolved};
 use hac_names::{print_path, print_text};
 use hac_words::has_term;
 use std::alloc::Global;
 
+/// The data lines of a command in whose way nothing stands. One that changes the state has none.
+pub fn data_lines(alloc: Global, tree: &Tree, command: &Resolved) -> Result<Vec<Name>, Memory>
+    requires valid { IsValid tree.now.state }
+    requires stands { Stands tree.now.state command.now }
+    requires free { blocked tree.now.state command.now ≡ None }
+    ensures { IfOk result (λ lines. lines.items ≡ data_lines tree.now.state command.now) }
+{
+    match command {
+        Resolved::Cat { entry } => text_lines(alloc, tree, *entry),
+        Resolved::Ls { dir } => child_lines(alloc, tree, *dir),
+        Resolved::Sls { dir } => link_lines(alloc, tree, *dir),
+        _ => Ok(Vec::new(alloc)),
+    }
+}
+
 /// The text of a file, on one line.
-pub fn text_lines(alloc: Global, tree: &Tree, file: Number) -> Result<Vec<Name>, Memory>
+fn text_lines(alloc: Global, tree: &Tree, file: Number) -> Result<Vec<Name>, Memory>
     requires { IsTrue (is_file_at tree.now.state.entries file) }
     ensures { IfOk result (λ lines. lines.items ≡ text_lines tree.now.state file) }
 {
@@ -29,15 +47,13 @@ pub fn text_lines(alloc: Global, tree: &Tree, file: Number) -> Result<Vec<Name>,
 }
 
 /// What stands in a directory, in byte order of names.
-pub fn child_lines(alloc: Global, tree: &Tree, dir: Number) -> Result<Vec<Name>, Memory>
+fn child_lines(alloc: Global, tree: &Tree, dir: Number) -> Result<Vec<Name>, Memory>
     ensures { IfOk result (λ lines. lines.items ≡ map entry_line (children tree.now.state dir)) }
 {
-    know_valid(tree);
+    know_layout(tree);
     let mut lines = Vec::new(alloc);
-    let mut after = None;
-    'children: while let Some(entry) = tree.next_child(dir, after) {
-        lines.push(child_line(alloc, tree, entry)?)?;
-        after = Some(tree.name_of(entry));
+    for child in tree.children(dir) {
+        lines.push(child_line(alloc, tree, *child)?)?;
     }
     Ok(lines)
 }
@@ -59,24 +75,25 @@ fn letter(kind: EntryKind) -> u8
     ensures { (body : Body) → kind ≡ kind_in body → result ∷ [] ≡ letter body }
 {
     match kind {
-        EntryKind::Dir | EntryKind::Mount => b'd',
+        EntryKind::Dir => b'd',
+        EntryKind::Symlink => b'l',
         EntryKind::Semantic => b's',
-        EntryKind::File | EntryKind::Symlink | EntryKind::Document => b'f',
+        EntryKind::Mount => b'm',
+        EntryKind::File | EntryKind::Document => b'f',
     }
 }
 
 /// The links of a directory, in order of the files' numbers.
-pub fn link_lines(alloc: Global, tree: &Tree, dir: Number) -> Result<Vec<Name>, Memory>
+fn link_lines(alloc: Global, tree: &Tree, dir: Number) -> Result<Vec<Name>, Memory>
+    requires { IsValid tree.now.state }
     ensures { IfOk result (λ lines. lines.items ≡ map (link_line tree.now.state) (links tree.now.state dir)) }
 {
-    know_valid(tree);
     let mut lines = Vec::new(alloc);
-    let mut from = 0;
-    'entries: while let Some(entry) = tree.next_entry(Number::new(from)) {
-        if is_listed(tree, dir, entry) {
-            lines.push(link_line(alloc, tree, entry)?)?;
+    for number in 0..tree.next_number().get() {
+        let item = Number::new(number);
+        if is_listed(tree, dir, item) {
+            lines.push(link_line(alloc, tree, item)?)?;
         }
-        from = entry.get() + 1;
     }
     Ok(lines)
 }
@@ -90,11 +107,12 @@ fn link_line(alloc: Global, tree: &Tree, item: Number) -> Result<Name, Memory>
     Ok(Name::new(line))
 }
 
-/// Whether an entry is a file that is linked in a directory.
-fn is_listed(tree: &Tree, dir: Number, entry: Number) -> bool
-    ensures { result ≡ (is_file_at tree.now.state.entries entry && column (links tree.now.state) entry dir) }
+/// Whether a number is that of a file that is linked in a directory.
+fn is_listed(tree: &Tree, dir: Number, number: Number) -> bool
+    requires { IsValid tree.now.state }
+    ensures { result ≡ (is_file_at tree.now.state.entries number && column (links tree.now.state) number dir) }
 {
-    is_file(tree, entry) && is_linked(tree, dir, entry)
+    is_file(tree, number) && is_linked(tree, dir, number)
 }
 
 /// Whether a number is that of a file.
@@ -107,10 +125,10 @@ fn is_file(tree: &Tree, number: Number) -> bool
 /// Whether a file is linked in a directory: the one above provides it, and its text as last indexed satisfies the
 /// query. Texts are read last, since a step over directories costs less.
 fn is_linked(tree: &Tree, dir: Number, item: Number) -> bool
-    requires { IsTrue (is_file_at tree.now.state.entries item) }
+    requires valid { IsValid tree.now.state }
+    requires file { IsTrue (is_file_at tree.now.state.entries item) }
     ensures { result ≡ column (links tree.now.state) item dir }
 {
-    know_valid(tree);
     let Some(query) = tree.query(dir) else {
         return false;
     };
@@ -121,10 +139,12 @@ fn is_linked(tree: &Tree, dir: Number, item: Number) -> bool
     (tree.is_below(item, parent) || is_linked(tree, parent, item)) && is_met(query, text)
 }
 
-/// Whether a text satisfies a query.
-fn is_met(query: &Query, text: &[u8]) -> bool
+/// Whether a text satisfies a query. Each is one term so far.
+fn is_met(query: &Query<Number>, text: &[u8]) -> bool
     ensures { result ≡ is_met query.now text.now }
 {
-    let Query::Term(term) = query;
-    has_term(text, term)
+    match &query.node {
+        Node::Term(term) => has_term(text, term),
+        _ => false,
+    }
 }

@@ -1,50 +1,51 @@
 //! The machine itself.
-ghost use Rattle.std.specs.Prelude.{◌≡◌, IfOk, IfErr, OnOk, OnErr, IfSome, IfNone, IsTrue, ℕ, ◌<◌, is_some, true, false};
-ghost use Rattle.std.specs.Ordering.{nat_cmp};
-ghost use Rattle.std.specs.BTreeSet.{contains};
-ghost use Rattle.hac_model.specs.Events.{accepted, added, apply, dirty, removed};
+ghost use Rattle.std.specs.Prelude.{◌≡◌, [], IfOk, IfErr, IsTrue, None, OnOk, OnErr, true, false};
+ghost use Rattle.std.specs.Option.{option_map};
+ghost use Rattle.hac_model.specs.Events.{apply_all, dirty};
+ghost use Rattle.hac_model.specs.Laws.{AllHappen};
+ghost use Rattle.hac_model.specs.Limits.{first_passed};
 ghost use Rattle.hac_model.specs.Lines.{is_spelled};
-ghost use Rattle.hac_model.specs.Play.{reply_of};
-ghost use Rattle.hac_model.specs.Refusals.{refusal};
-ghost use Rattle.hac_model.specs.Tree.{empty, entry_at, is_directory_at, is_dirty};
+ghost use Rattle.hac_model.specs.Play.{data_lines};
+ghost use Rattle.hac_model.specs.Refusals.{cause, early_cause, refusal};
+ghost use Rattle.hac_model.specs.Tree.{empty};
 ghost use Rattle.hac_model.specs.Valid.{IsValid};
-ghost use Rattle.hac_core.specs.Drafts.{IsAdmitted, Refuses, Settles, reads};
+ghost use Rattle.hac_core.specs.Blocking.{Passes};
+ghost use Rattle.hac_core.specs.Drafts.{IsDraft, IsDraftOf, Refuses, reads};
+ghost use Rattle.hac_core.specs.Limiting.{are_texts};
+ghost use Rattle.hac_core.specs.Settling.{Settles, events_in};
+ghost use Rattle.hac_core.specs.Standing.{Stands};
 
-use crate::aiming::aim_of;
-use crate::counting::Counts;
+use crate::blocking::unblocked;
+use crate::counted::CountedTree;
 use crate::drafts::{Draft, Settled};
-use crate::limiting::limit_of;
-use crate::looking::know_valid;
-use crate::settling::event_of;
-use crate::sharing::{indexed_share, share_at, written_share};
-use crate::telling::told;
-use file_tree::Tree;
-use hac_model::{Body, Deny, Event, Line, Memory, Name, Number, Refusal, Reply, Seq, Text};
+use crate::events::events_of;
+use crate::limiting::counts_after;
+use crate::listing::data_lines;
+use crate::ready::{self, Ready};
+use crate::resolving::resolve;
+use hac_model::{Deny, Limit, Line, Memory, Refusal, Reply, Resolved, Seq, first_passed};
 use std::alloc::Global;
-use std::collections::BTreeSet;
 use std::marker::Model;
+use std::mem;
 
-/// The tree, seen as its state. How much it holds is counted, and the dirty files are known.
+/// A state that is kept so that commands are quick, and the events for which memory was taken.
 #[derive(Drop)]
 pub struct Machine {
     alloc: Global,
-    tree: Tree,
-    counts: Counts,
-    // The numbers of the dirty files.
-    dirty: BTreeSet<u64>,
+    tree: CountedTree,
+    ready: Ready,
 }
 
 impl Model for Machine {
-    ghost use Rattle.hac_model.specs.declared.states.State.{State};
-    ghost use Rattle.hac_model.specs.contracts.states.State.{the_row};
+    ghost use Rattle.hac_core.specs.Seen.{Seen, seen_code};
 
-    ghost Value = { State };
+    ghost Value = { Seen };
 
-    ghost coded = { the_row.coded };
+    ghost coded = { seen_code };
 
-    ghost use Rattle.hac_core.specs.Shape.{state_of, IsMachine};
+    ghost use Rattle.hac_core.specs.Shape.{seen_of, IsMachine};
 
-    ghost view = { state_of };
+    ghost view = { seen_of };
 
     ghost invariant = { IsMachine };
 }
@@ -52,199 +53,101 @@ impl Model for Machine {
 impl Machine {
     /// The root alone.
     pub fn new(alloc: Global) -> Result<Machine, Memory>
-        ensures { IfOk result (λ machine. machine ≡ empty) }
+        ensures { IfOk result (λ machine. machine ≡ record { state = empty; ready = [] }) }
     {
         Ok(Machine {
             alloc,
-            tree: Tree::new(alloc)?,
-            counts: Counts::of_root(),
-            dirty: BTreeSet::new(alloc),
+            tree: CountedTree::new(alloc)?,
+            ready: Ready::Nothing,
         })
     }
 
     /// How many files are to be indexed.
     pub fn dirty(&self) -> u64
-        ensures { result ≡ dirty self.now }
+        ensures dirty { result ≡ dirty self.now.state }
+        ensures valid { IsValid self.now.state }
     {
-        self.counts.dirty
+        self.tree.counts().dirty
     }
 
-    /// Tells whether the state refuses a command that a line has spelled.
-    pub fn check(&self, line: &Line) -> Result<Draft, Deny>
-        requires { IsTrue (is_spelled line.now.command) }
-        ensures draft { IfOk result (λ draft. (draft ≡ line.now) × IsAdmitted self.now draft.command) }
-        ensures refused { IfErr result (λ deny. Refuses deny (refusal self.now line.now.command)) }
+    /// Follows the paths of a line that spells a command, and tells whether the state refuses it: for what the paths
+    /// lead to, for what stands in the way, or for a limit on the tree itself, in this order.
+    pub fn check(&self, line: Line) -> Result<Draft, Deny>
+        requires { IsTrue (is_spelled line.command) }
+        ensures draft { IfOk result (IsDraftOf self.now.state line) }
+        ensures refused { IfErr result (λ deny. Refuses deny (refusal self.now.state line)) }
     {
-        let aim = aim_of(&self.tree, &line.command)?;
-        match limit_of(&self.tree, self.counts, &line.command, &aim) {
-            Some(word) => Err(Deny::Refused(Refusal::Limit(word))),
-            None => Ok(Draft::of(line)?),
+        let command = resolve(self.tree.tree(), line)?;
+        match allowed(&self.tree, &command) {
+            Ok(()) => Ok(Draft::new(command)),
+            Err(deny) => Err(deny),
         }
     }
 
     /// Answers a command that reads.
-    pub fn ask(&self, draft: Draft) -> Result<Reply, Deny>
-        requires made { IsAdmitted self.now draft.command }
-        requires reads { reads draft.command ≡ true }
-        ensures reply { IfOk result (λ reply. reply ≡ reply_of self.now draft.command) }
-        ensures err { IfErr result (λ deny. deny ≡ Deny.Memory) }
+    pub fn ask(&self, draft: Draft) -> Result<Reply, Memory>
+        requires made { IsDraft self.now.state draft }
+        requires reads { reads draft ≡ true }
+        ensures reply { IfOk result (λ reply. reply ≡ Reply.Lines (data_lines self.now.state draft)) }
+        ensures cause { cause self.now.state draft ≡ None }
     {
-        Ok(Reply::Lines(Seq::new(told(self.alloc, &self.tree, draft.command())?)))
+        let lines = data_lines(self.alloc, self.tree.tree(), draft.command())?;
+        Ok(Reply::Lines(Seq::new(lines)))
     }
 
-    /// What a command comes to that changes the state.
+    /// What a command comes to that changes the state, unless it would pass a limit that `check` leaves aside.
     pub fn settle(&self, draft: Draft) -> Result<Settled, Deny>
-        requires made { IsAdmitted self.now draft.command }
-        requires changes { reads draft.command ≡ false }
-        ensures settled { IfOk result (λ settled. Settles settled self.now draft.command) }
-        ensures err { IfErr result (λ deny. deny ≡ Deny.Memory) }
+        requires made { IsDraft self.now.state draft }
+        requires changes { reads draft ≡ false }
+        ensures settled { IfOk result (Settles self.now.state draft) }
+        ensures refused { IfErr result (λ deny. Refuses deny (cause self.now.state draft)) }
     {
         let command = draft.into_command();
-        let aim = aim_of(&self.tree, &command)?;
-        match event_of(command, aim) {
-            Some(event) => Ok(Settled::Change(event)),
-            None => Ok(Settled::Steps(self.dirty())),
-        }
+        let _valid = self.tree.counts();
+        within(&counts_after(&self.tree, &command).answer_limits())?;
+        Ok(events_of(self.alloc, &self.tree, command))
     }
 
-    /// Lets an event happen. After want of memory the state is as before.
-    pub fn apply(&mut self, event: Event) -> Result<(), Memory>
-        requires { IsTrue (accepted self.old event) }
-        ensures ok { OnOk result (self.new ≡ apply self.old event) }
-        ensures err { OnErr result (self.new ≡ self.old) }
+    /// Takes the memory that events want, so that `commit` lets them happen. The state stays as it is, whatever the
+    /// answer, and what was ready before no longer is.
+    pub fn prepare(&mut self, settled: Settled) -> Result<(), Memory>
+        requires { AllHappen self.old.state (events_in settled) }
+        ensures ok { OnOk result (self.new ≡ record { state = self.old.state; ready = events_in settled }) }
+        ensures err { OnErr result (self.new ≡ record { state = self.old.state; ready = [] }) }
     {
-        know_valid(&self.tree);
-        match event {
-            Event::Mkdir { dir, name } => self.add_directory(dir, name, Body::Dir),
-            Event::NewFile { dir, name, text } => self.add_file(dir, name, text),
-            Event::Smkdir { dir, name, query } => {
-                self.add_directory(dir, name, Body::Semantic { query })
-            }
-            Event::Rewrite { file, text } => self.rewrite(file, text),
-            Event::Mv { entry, dir, name } => self.move_to(entry, dir, name),
-            Event::Rm { file } => {
-                self.remove(file);
-                Ok(())
-            }
-            Event::Rmdir { dir } => {
-                self.remove(dir);
-                Ok(())
-            }
-            Event::Step => {
-                self.step();
-                Ok(())
-            }
-        }
-    }
-
-    /// Puts a new file into a directory.
-    fn add_file(&mut self, dir: Number, name: Name, text: Text) -> Result<(), Memory>
-        requires { IsTrue (accepted self.old (Event.NewFile dir name text)) }
-        ensures ok { OnOk result (self.new ≡ apply self.old (Event.NewFile dir name text)) }
-        ensures err { OnErr result (self.new ≡ self.old) }
-    {
-        know_valid(&self.tree);
-        let body = new_file(text);
-        let share = Counts::of(&body);
-        let number = self.tree.next_number().get();
-        let room = self.tree.prepare_add(dir, body)?;
-        self.dirty.insert(number)?;
-        self.tree.add(dir, name, room);
-        self.counts = self.counts.plus(share);
-        Ok(())
-    }
-
-    /// Puts a new directory into a directory.
-    fn add_directory(&mut self, dir: Number, name: Name, body: Body) -> Result<(), Memory>
-        requires valid { IsValid (added self.old dir name body) }
-        requires dir { IsTrue (is_directory_at self.old.entries dir) }
-        requires clean { is_dirty body ≡ false }
-        ensures ok { OnOk result (self.new ≡ added self.old dir name body) }
-        ensures err { OnErr result (self.new ≡ self.old) }
-    {
-        know_valid(&self.tree);
-        let share = Counts::of(&body);
-        let room = self.tree.prepare_add(dir, body)?;
-        self.tree.add(dir, name, room);
-        self.counts = self.counts.plus(share);
-        Ok(())
-    }
-
-    /// Replaces a file's text.
-    fn rewrite(&mut self, file: Number, text: Text) -> Result<(), Memory>
-        requires { IsTrue (accepted self.old (Event.Rewrite file text)) }
-        ensures ok { OnOk result (self.new ≡ apply self.old (Event.Rewrite file text)) }
-        ensures err { OnErr result (self.new ≡ self.old) }
-    {
-        know_valid(&self.tree);
-        let old = share_at(&self.tree, file);
-        let new = written_share(&self.tree, file, text.as_slice().len() as u64);
-        let room = self.tree.prepare_body(file, new_file(text))?;
-        self.dirty.insert(file.get())?;
-        self.tree.set_text(file, room);
-        self.counts = self.counts.replaced(old, new);
-        Ok(())
-    }
-
-    /// Takes an entry elsewhere.
-    fn move_to(&mut self, entry: Number, dir: Number, name: Name) -> Result<(), Memory>
-        requires { IsTrue (accepted self.old (Event.Mv entry dir name)) }
-        ensures ok { OnOk result (self.new ≡ apply self.old (Event.Mv entry dir name)) }
-        ensures err { OnErr result (self.new ≡ self.old) }
-    {
-        know_valid(&self.tree);
-        let room = self.tree.prepare_move(dir, name)?;
-        self.tree.move_to(entry, dir, room);
-        Ok(())
-    }
-
-    /// Takes an entry out in which nothing stands.
-    fn remove(&mut self, entry: Number)
-        requires there { IsTrue (is_some (entry_at self.old.entries entry)) }
-        requires valid { IsValid (removed self.old entry) }
-        ensures { self.new ≡ removed self.old entry }
-    {
-        know_valid(&self.tree);
-        let share = share_at(&self.tree, entry);
-        self.dirty.remove(&entry.get());
-        self.tree.remove(entry);
-        self.counts = self.counts.minus(share);
-    }
-
-    /// Indexes the dirty file of the least number.
-    fn step(&mut self)
-        requires { IsTrue (accepted self.old Event.Step) }
-        ensures { self.new ≡ apply self.old Event.Step }
-    {
-        know_valid(&self.tree);
-        let Some(number) = least(&self.dirty) else {
-            return;
+        self.ready = Ready::Nothing;
+        self.ready = match settled {
+            Settled::Change(event) => ready::prepare(self.alloc, &mut self.tree, event)?,
+            Settled::Steps(count) => Ready::Steps(count),
         };
-        let file = Number::new(number);
-        let old = share_at(&self.tree, file);
-        let new = indexed_share(&self.tree, file);
-        self.dirty.remove(&number);
-        self.tree.mark_clean(file);
-        self.counts = self.counts.replaced(old, new);
+        Ok(())
+    }
+
+    /// Lets happen what is ready. This takes no memory, and can't fail.
+    pub fn commit(&mut self)
+        ensures { self.new ≡ record { state = apply_all self.old.state self.old.ready; ready = [] } }
+    {
+        let ready = mem::replace(&mut self.ready, Ready::Nothing);
+        ready::put(&mut self.tree, ready);
     }
 }
 
-/// A file that is new, or the new text of one.
-fn new_file(text: Text) -> Body
-    ensures { result ≡ Body.File text true None }
+/// Denies a command for what stands in its way, or for the first limit on the tree itself that it would pass.
+fn allowed(tree: &CountedTree, command: &Resolved) -> Result<(), Deny>
+    requires stands { Stands tree.now.state command.now }
+    requires texts { IsTrue (are_texts command.now) }
+    ensures { Passes result (early_cause tree.now.state command.now) }
 {
-    Body::File {
-        text,
-        dirty: true,
-        shown: None,
-    }
+    unblocked(tree.tree(), command)?;
+    within(&counts_after(tree, command).layout_limits())
 }
 
-/// The least number of a set.
-fn least(numbers: &BTreeSet<u64>) -> Option<u64>
-    ensures member { IfSome result (λ number. contains nat_cmp numbers.now number ≡ true) }
-    ensures least { IfSome result (λ number. (other : ℕ) → other < number → contains nat_cmp numbers.now other ≡ false) }
-    ensures none { IfNone result ((other : ℕ) → contains nat_cmp numbers.now other ≡ false) }
+/// Denies a command for the first limit that is passed.
+fn within(limits: &[Limit]) -> Result<(), Deny>
+    ensures { Passes result (option_map Refusal.Limit (first_passed limits.now)) }
 {
-    numbers.first().copied()
+    match first_passed(limits) {
+        Some(word) => Err(Deny::Refused(Refusal::Limit(word))),
+        None => Ok(()),
+    }
 }

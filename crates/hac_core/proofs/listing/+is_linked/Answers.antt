@@ -8,20 +8,20 @@ use Rattle.hac_core.proofs.listing.+is_linked.Goals.{then-is_below, else-is_belo
 use Rattle.hac_core.proofs.listing.+is_linked.Goals as goal
 
 pub returns-in_default : goal.returns-in_default
-returns-in_default t c = sym (unlinked-query c.args.tree.now.state c.know_valid.ensures c.args.item c.requires c.args.dir (sym c.in_default.ensures))
+returns-in_default t c = sym (unlinked-query c.args.tree.now.state c.requires.valid c.args.item c.requires.file c.args.dir (sym c.in_default.ensures))
 
 pub returns-in_default-shown : goal.returns-in_default-shown
-returns-in_default-shown t c = sym (unlinked-shown c.args.tree.now.state c.know_valid.ensures c.args.item c.requires c.args.dir (sym c.in_default-shown.ensures))
+returns-in_default-shown t c = sym (unlinked-shown c.args.tree.now.state c.requires.valid c.args.item c.requires.file c.args.dir (sym c.in_default-shown.ensures))
 
 pub is_below-requires-clause-dir : goal.is_below-requires-clause-dir
-is_below-requires-clause-dir t c = above-lives c.args.tree.now.state c.know_valid.ensures c.args.dir c.in-Some.query.now c.parent-parent.result c.parent-parent.ensures (sym c.in-Some.ensures)
+is_below-requires-clause-dir t c = above-lives c.args.tree.now.state c.requires.valid c.args.dir c.in-Some.query.now c.parent-parent.result c.parent-parent.ensures (sym c.in-Some.ensures)
 
 pub is_linked-requires : goal.is_linked-requires
 is_linked-requires t c =
     let s = c.args.tree.now.state in
-    let fewer = above-shorter s c.know_valid.ensures c.args.dir c.in-Some.query.now c.parent-parent.result c.parent-parent.ensures (sym c.in-Some.ensures) in
+    let fewer = above-shorter s c.requires.valid c.args.dir c.in-Some.query.now c.parent-parent.result c.parent-parent.ensures (sym c.in-Some.ensures) in
     let less : length (path_of s c.parent-parent.result) < t = omega (arith, fewer, c.decreases) in
-    (less, c.requires)
+    (less, (c.requires.valid, c.requires.file))
 
 pub returns-then-is_linked : goal.returns-then-is_linked
 returns-then-is_linked t c =
@@ -34,7 +34,7 @@ returns-then-is_linked t c =
     ] in
     c.is_met.ensures
     ∙ ap (λ (b : Bool). b && is_met c.in-Some.query.now c.in-Some-shown.text.now) (sym (provided ∙ c.if-is_linked.true))
-    ∙ sym (linked-query s c.know_valid.ensures c.args.item c.requires c.args.dir c.in-Some.query.now c.in-Some-shown.text.now c.parent-parent.result c.parent-parent.ensures (sym c.in-Some.ensures) (sym c.in-Some-shown.ensures))
+    ∙ sym (linked-query s c.requires.valid c.args.item c.requires.file c.args.dir c.in-Some.query.now c.in-Some-shown.text.now c.parent-parent.result c.parent-parent.ensures (sym c.in-Some.ensures) (sym c.in-Some-shown.ensures))
 
 pub returns-else-is_linked : goal.returns-else-is_linked
 returns-else-is_linked t c =
@@ -47,4 +47,4 @@ returns-else-is_linked t c =
     ] in
     c.if-is_linked.false
     ∙ ap (λ (b : Bool). b && is_met c.in-Some.query.now c.in-Some-shown.text.now) (sym (provided ∙ c.if-is_linked.false))
-    ∙ sym (linked-query s c.know_valid.ensures c.args.item c.requires c.args.dir c.in-Some.query.now c.in-Some-shown.text.now c.parent-parent.result c.parent-parent.ensures (sym c.in-Some.ensures) (sym c.in-Some-shown.ensures))
+    ∙ sym (linked-query s c.requires.valid c.args.item c.requires.file c.args.dir c.in-Some.query.now c.in-Some-shown.text.now c.parent-parent.result c.parent-parent.ensures (sym c.in-Some.ensures) (sym c.in-Some-shown.ensures))

@@ -1,11 +1,10 @@
-use Rattle.std.proofs.Common.{◌≡◌, ◌++◌, length}
-use Rattle.hac_core.specs.Limiting.{entries_from}
-use Rattle.hac_core.specs.Listing.{lines_of}
+use Rattle.std.proofs.Common.{◌≡◌, map}
+use Rattle.std.specs.Prelude.{filter}
+use Rattle.std.specs.List.{range_with_len}
+use Rattle.hac_model.specs.Play.{link_line}
+use Rattle.hac_core.proofs.ListingLemmas.{is_listed}
 use Rattle.hac_core.proofs.listing.link_lines.Given as goal
 
--- the lines so far, and those of the entries to come, are those of all entries
-abbrev pub invariant-entries : goal.invariant-entries
-invariant-entries l = l.lines.items ++ lines_of l.tree.state l.dir (entries_from l.from l.tree.state.entries) ≡ lines_of l.tree.state l.dir l.tree.state.entries
-
-abbrev pub decreases-entries : goal.decreases-entries
-decreases-entries l = length (entries_from l.from l.tree.state.entries)
+-- a line for each link among the numbers so far
+abbrev pub invariant-loop-number : goal.invariant-loop-number
+invariant-loop-number l = l.lines.items ≡ map (link_line l.tree.state) (filter (is_listed l.tree.state l.dir) (range_with_len 0 l.number))

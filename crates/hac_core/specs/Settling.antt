@@ -1,0 +1,21 @@
+-- What commands come to that change the state.
+use Rattle.std.specs.Prelude.{◌≡◌, List, [], ◌∷◌, replicate, None}
+use Rattle.hac_model.specs.Laws.{AllHappen}
+use Rattle.hac_model.specs.Refusals.{cause, events_of}
+use Rattle.hac_model.specs.declared.events.Event.{Event}
+use Rattle.hac_model.specs.declared.events.Event.TheVariants.{Step}
+use Rattle.hac_model.specs.declared.resolved.Resolved.{Resolved}
+use Rattle.hac_model.specs.declared.states.State.{State}
+use Rattle.hac_core.specs.declared.drafts.Settled.{Settled}
+use Rattle.hac_core.specs.declared.drafts.Settled.TheVariants.{Change, Steps}
+
+-- the events, one after the other
+abbrev pub events_in : Settled → List Event
+events_in (Change event) = event ∷ []
+events_in (Steps count) = replicate count Step
+
+-- nothing speaks against the command, and these are its events, which can happen
+pub record Settles (s : State) (draft : Resolved) (settled : Settled) : Type 0 where
+  pub cause : cause s draft ≡ None
+  pub events : events_in settled ≡ events_of s draft
+  pub happen : AllHappen s (events_in settled)

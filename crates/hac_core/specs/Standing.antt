@@ -1,0 +1,32 @@
+-- What a command whose paths were followed speaks of.
+use Rattle.std.specs.Prelude.{⊤, IsTrue}
+use Rattle.hac_model.specs.Tree.{is_directory_at}
+use Rattle.hac_model.specs.declared.places.Place.{Place}
+use Rattle.hac_model.specs.declared.places.Place.TheVariants.{There, Free}
+use Rattle.hac_model.specs.declared.resolved.Resolved.{Resolved}
+use Rattle.hac_model.specs.declared.resolved.Resolved.TheVariants.{Mkdir, Rmdir, Write, Cat, Ls, Mv, Rm, Smkdir, Sls, Index}
+use Rattle.hac_model.specs.declared.states.State.{State}
+use Rattle.file_tree.specs.Answers.{is_live}
+
+-- the entry or the root that was found stands in the state, or the directory that has room for the name
+abbrev pub StandsAt : State → Place → Type 0
+StandsAt s (There number) = IsTrue (is_live s.entries number)
+StandsAt s (Free dir name) = IsTrue (is_directory_at s.entries dir)
+
+-- nothing stands at the place
+abbrev pub IsFree : Place → Type 0
+IsFree (There number) = ⊥
+IsFree (Free dir name) = ⊤
+
+-- so does all that the command speaks of
+abbrev pub Stands : State → Resolved → Type 0
+Stands s (Mkdir place) = StandsAt s place
+Stands s (Rmdir dir) = IsTrue (is_directory_at s.entries dir)
+Stands s (Write place text) = StandsAt s place
+Stands s (Cat entry) = IsTrue (is_live s.entries entry)
+Stands s (Ls dir) = IsTrue (is_directory_at s.entries dir)
+Stands s (Mv entry place) = IsTrue (is_live s.entries entry) × StandsAt s place
+Stands s (Rm entry) = IsTrue (is_live s.entries entry)
+Stands s (Smkdir place query) = StandsAt s place
+Stands s (Sls dir) = IsTrue (is_directory_at s.entries dir)
+Stands s Index = ⊤

@@ -1,0 +1,149 @@
+//! Where the paths of a command lead, from left to right.
+ghost use Rattle.std.specs.Prelude.{◌≡◌, ◌++◌, ◌∷◌, [], ℕ, List, IfOk, IsTrue};
+ghost use Rattle.hac_model.specs.Answers.{Answers};
+ghost use Rattle.hac_model.specs.Resolving.{place, entry, directory, listed, numbered, resolve, resolved};
+ghost use Rattle.hac_model.specs.Tree.{is_directory_at, path_of};
+ghost use Rattle.hac_model.specs.Valid.{IsLayout};
+ghost use Rattle.file_tree.specs.Answers.{is_live};
+
+use file_tree::{EntryKind, Stop, Tree};
+use hac_model::{
+    Command, Deny, Line, Memory, Name, Node, Number, Path, PathWord, Place, Query, RawQuery,
+    Refusal, Resolved,
+};
+
+/// The command of a line with what its paths lead to, or the first cause against it that lies in them.
+pub fn resolve(tree: &Tree, line: Line) -> Result<Resolved, Deny>
+    ensures { Answers result (resolve tree.now.state line) }
+{
+    let Line { command, .. } = line;
+    match command {
+        Command::Mkdir { path } => Ok(Resolved::Mkdir {
+            place: place(tree, &path)?,
+        }),
+        Command::Rmdir { path } => Ok(Resolved::Rmdir {
+            dir: directory(tree, &path)?,
+        }),
+        Command::Write { path, text } => Ok(Resolved::Write {
+            place: place(tree, &path)?,
+            text,
+        }),
+        Command::Cat { path } => Ok(Resolved::Cat {
+            entry: entry(tree, &path)?,
+        }),
+        Command::Ls { path } => Ok(Resolved::Ls {
+            dir: listed(tree, &path)?,
+        }),
+        Command::Mv { from, to } => Ok(Resolved::Mv {
+            entry: entry(tree, &from)?,
+            place: place(tree, &to)?,
+        }),
+        Command::Rm { path } => Ok(Resolved::Rm {
+            entry: entry(tree, &path)?,
+        }),
+        Command::Smkdir { path, query } => semantic(tree, &path, query),
+        Command::Sls { path } => Ok(Resolved::Sls {
+            dir: listed(tree, &path)?,
+        }),
+        Command::Index => Ok(Resolved::Index),
+        _ => Err(Deny::Refused(Refusal::BadLine)),
+    }
+}
+
+/// Where a path word leads. All sessions stand in the root so far, from which a relative word goes on.
+fn place(tree: &Tree, word: &PathWord) -> Result<Place, Deny>
+    ensures { (session : List ℕ) → Answers result (place tree.now.state session word.now) }
+{
+    know_layout(tree);
+    match tree.place(Number::ROOT, word, true) {
+        Ok(place) => Ok(place),
+        Err(Stop::Missing(path)) => Err(Deny::Refused(Refusal::NoPath(path))),
+        Err(Stop::NotDir(path)) => Err(Deny::Refused(Refusal::NotDir(path))),
+        Err(Stop::Loop(_)) => unreachable!(),
+        Err(Stop::Memory) => Err(Deny::Memory),
+    }
+}
+
+/// The entries of a tree fit one another. This does nothing: it is called where a proof has to know so.
+pub fn know_layout(tree: &Tree)
+    ensures layout { IsLayout tree.now.state }
+    ensures sessions { tree.now.state.sessions ≡ [] }
+{
+    let _next = tree.next_number();
+}
+
+/// The entry to which a path word leads, or the root.
+fn entry(tree: &Tree, word: &PathWord) -> Result<Number, Deny>
+    ensures entry { (session : List ℕ) → Answers result (entry tree.now.state session word.now) }
+    ensures lives { IfOk result (λ number. IsTrue (is_live tree.now.state.entries number)) }
+{
+    match place(tree, word)? {
+        Place::There(number) => Ok(number),
+        Place::Free { dir, name } => Err(Deny::Refused(Refusal::NoPath(named(tree, dir, name)?))),
+    }
+}
+
+/// The path of a name in a directory.
+fn named(tree: &Tree, dir: Number, name: Name) -> Result<Path, Memory>
+    ensures { IfOk result (λ path. path ≡ path_of tree.now.state dir ++ name ∷ []) }
+{
+    let mut path = tree.path_of(dir)?;
+    path.push(name)?;
+    Ok(path)
+}
+
+/// Whether the entry of a number, or the root, is a directory of any kind.
+pub fn is_directory(tree: &Tree, number: Number) -> bool
+    requires { IsTrue (is_live tree.now.state.entries number) }
+    ensures { result ≡ is_directory_at tree.now.state.entries number }
+{
+    know_layout(tree);
+    match tree.kind(number) {
+        EntryKind::Dir | EntryKind::Semantic => true,
+        EntryKind::File | EntryKind::Symlink | EntryKind::Mount | EntryKind::Document => false,
+    }
+}
+
+/// The directory to which a path word leads.
+fn directory(tree: &Tree, word: &PathWord) -> Result<Number, Deny>
+    ensures { (session : List ℕ) → Answers result (directory tree.now.state session word.now) }
+{
+    let number = entry(tree, word)?;
+    if is_directory(tree, number) {
+        Ok(number)
+    } else {
+        Err(Deny::Refused(Refusal::NotDir(tree.path_of(number)?)))
+    }
+}
+
+/// The directory to which a path word leads, that of the session where none is given.
+fn listed(tree: &Tree, word: &Option<PathWord>) -> Result<Number, Deny>
+    ensures { (session : List ℕ) → Answers result (listed tree.now.state session word.now) }
+{
+    know_layout(tree);
+    match word {
+        Some(word) => directory(tree, word),
+        None => Ok(Number::ROOT),
+    }
+}
+
+/// A semantic directory where a path word leads, with its query.
+fn semantic(tree: &Tree, word: &PathWord, query: RawQuery) -> Result<Resolved, Deny>
+    ensures { (session : List ℕ) → Answers result (resolved tree.now.state session (Command.Smkdir word.now query)) }
+{
+    let place = place(tree, word)?;
+    match numbered(tree, query) {
+        Ok(query) => Ok(Resolved::Smkdir { place, query }),
+        Err(deny) => Err(deny),
+    }
+}
+
+/// The query with each directory by its number. No query names one yet.
+fn numbered(_tree: &Tree, query: RawQuery) -> Result<Query<Number>, Deny>
+    ensures { (session : List ℕ) → Answers result (numbered _tree.now.state session query) }
+{
+    match query.node {
+        Node::Term(term) => Ok(Query::term(term)),
+        _ => Err(Deny::Refused(Refusal::BadLine)),
+    }
+}
