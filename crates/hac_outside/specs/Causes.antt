@@ -1,17 +1,17 @@
--- What an answer says of the outside: a failure has a fault behind it, and a failed write left a beginning of its bytes.
-use Rattle.std.specs.Prelude.{ℕ, ◌+◌, ◌-◌, ◌^◌, ◌≤◌, min, List, take, Result, OnErr}
-use Rattle.std.specs.Io.KnownBytes.{Appends}
-use Rattle.std.specs.declared.option.Option.{Option}
+-- What an answer says of the outside: there is a fault where it is a failure, and none where it isn't.
+use Rattle.std.specs.Prelude.{◌≡◌, ℕ, ◌+◌, ◌-◌, ◌^◌, ◌≤◌, Bool, true, false, min, Result, OnOk, OnErr}
 
 -- the count of faults has risen, or it stands at the end of its type
 abbrev pub Rose : ℕ → ℕ → Type 0
 Rose before now = min (before + 1) (2 ^ 64 - 1) ≤ now
 
--- the count of faults has not fallen, and it rose where the answer is a failure
+-- the count of faults has not fallen, it rose where the answer is a failure, and it stands where it isn't
 pub record HasCause {T E : Type 0} (before now : ℕ) (result : Result T E) : Type 0 where
   pub later : before ≤ now
   pub failed : OnErr result (Rose before now)
+  pub none : OnOk result (now ≡ before)
 
--- known bytes grow by some beginning of these bytes
-abbrev pub AppendsSome : Option (List ℕ) → Option (List ℕ) → List ℕ → Type 0
-AppendsSome old new bytes = (n : ℕ) × Appends old new (take n bytes)
+-- where the answer tells of a fault there was one, and else there was none
+abbrev pub TellsFault : Bool → ℕ → ℕ → Type 0
+TellsFault true before now = (before ≤ now) × Rose before now
+TellsFault false before now = now ≡ before

@@ -1,5 +1,5 @@
 -- What a source and a sink in memory are seen as.
-use Rattle.std.specs.Prelude.{◌≡◌, ℕ, ◌+◌, ◌-◌, ◌^◌, ◌<◌, ◌⊎◌, min, max, List, length, Contains, None, Some}
+use Rattle.std.specs.Prelude.{◌≡◌, ℕ, Bool, ◌+◌, ◌-◌, ◌^◌, ◌<◌, ◌⊎◌, min, max, List, length, Contains, None, Some}
 use Rattle.std.specs.declared.option.Option.{Option}
 
 -- the number after this one, or the last number of its type
@@ -11,17 +11,21 @@ abbrev pub cut_to : Option ℕ → ℕ → ℕ
 cut_to None count = count
 cut_to (Some piece) count = min (max piece 1) count
 
--- a source: the bytes that it has left, the pieces that it gives them in, the calls that are to fail, the calls and the faults so far
+-- a source: the bytes that it has left, the pieces that it gives them in, the calls that are to fail, the calls and the
+-- faults so far, and whether its end was given
 pub record SourceState : Type 0 where
   pub left : List ℕ
   pub pieces : List ℕ
   pub failing : List ℕ
   pub calls : ℕ
   pub faults : ℕ
+  pub ended : Bool
 
--- a sink: the bytes that it holds, how many more it has room for, the last call that it has room for, the calls that are to fail, the calls and the faults so far
+-- a sink: the bytes that it holds, how many of them were passed on, how many more it has room for, the last call that it
+-- has room for, the calls that are to fail, the calls and the faults so far
 pub record SinkState : Type 0 where
   pub written : List ℕ
+  pub flushed : ℕ
   pub room : ℕ
   pub last_call : ℕ
   pub failing : List ℕ

@@ -1,5 +1,5 @@
 //! A source and a sink over std's readers and writers: a real stream tells nothing of its bytes.
-ghost use Rattle.std.specs.Prelude.{◌≡◌, ◌≢◌, ◌<◌, Ok, length};
+ghost use Rattle.std.specs.Prelude.{◌≡◌, ◌≢◌, ◌<◌, false, Ok, length};
 ghost use Rattle.std.specs.Io.{ReadsAtMost, WritesAtMost};
 ghost use Rattle.std.specs.Io.KnownBytes.{Keeps, ReadConsumes, WriteAppends};
 
@@ -15,6 +15,7 @@ pub struct StdSource<R: Read> {
     /// The reader.
     pub inner: R,
     faults: u64,
+    ended: bool,
 }
 
 impl<R: Read> StdSource<R> {
@@ -22,20 +23,24 @@ impl<R: Read> StdSource<R> {
     pub fn new(inner: R) -> StdSource<R>
         ensures inner { result.inner ≡ inner }
         ensures faults { result.faults ≡ 0 }
+        ensures ended { result.ended ≡ false }
     {
-        StdSource { inner, faults: 0 }
+        StdSource {
+            inner,
+            faults: 0,
+            ended: false,
+        }
     }
 }
 
 impl<R: Read> Source for StdSource<R> {
-    ghost left = { λ source. R.remaining source.inner };
-
-    ghost faults = { λ source. source.faults };
+    ghost seen = { λ source. record { left = R.remaining source.inner; faults = source.faults; ended = source.ended } };
 
     fn read(&mut self, into: &mut [u8]) -> Result<usize, Failed> {
         let result = read_again(&mut self.inner, into);
-        if result.is_err() {
-            self.faults = self.faults.saturating_add(1);
+        match result {
+            Ok(count) => self.ended = count == 0 && !into.is_empty(),
+            Err(_) => self.faults = self.faults.saturating_add(1),
         }
         result
     }
@@ -62,36 +67,43 @@ fn read_again<R: Read>(inner: &mut R, into: &mut [u8]) -> Result<usize, Failed>
 pub struct StdSink<W: Write> {
     /// The writer.
     pub inner: W,
+    held_back: u64,
     faults: u64,
 }
 
 impl<W: Write> StdSink<W> {
-    /// The sink over a writer, with no faults so far.
+    /// The sink over a writer, with no faults so far. What the writer holds back already isn't counted.
     pub fn new(inner: W) -> StdSink<W>
         ensures inner { result.inner ≡ inner }
+        ensures held { result.held_back ≡ 0 }
         ensures faults { result.faults ≡ 0 }
     {
-        StdSink { inner, faults: 0 }
+        StdSink {
+            inner,
+            held_back: 0,
+            faults: 0,
+        }
     }
 }
 
 impl<W: Write> Sink for StdSink<W> {
-    ghost written = { λ sink. W.contents sink.inner };
-
-    ghost faults = { λ sink. sink.faults };
+    // Whatever the writer is, each byte counts as held back until it is flushed, up to the end of the type.
+    ghost seen = { λ sink. record { written = W.contents sink.inner; held_back = sink.held_back; faults = sink.faults } };
 
     fn write(&mut self, bytes: &[u8]) -> Result<usize, Failed> {
         let result = write_again(&mut self.inner, bytes);
-        if result.is_err() {
-            self.faults = self.faults.saturating_add(1);
+        match result {
+            Ok(count) => self.held_back = self.held_back.saturating_add(count as u64),
+            Err(_) => self.faults = self.faults.saturating_add(1),
         }
         result
     }
 
     fn flush(&mut self) -> Result<(), Failed> {
         let result = flush_again(&mut self.inner);
-        if result.is_err() {
-            self.faults = self.faults.saturating_add(1);
+        match result {
+            Ok(()) => self.held_back = 0,
+            Err(_) => self.faults = self.faults.saturating_add(1),
         }
         result
     }
@@ -130,7 +142,8 @@ fn flush_again<W: Write>(inner: &mut W) -> Result<(), Failed>
 #[cfg(test)]
 mod tests {
     use super::*;
-    use std::io::BufWriter;
+    use crate::write_all;
+    use std::io::{self, BufWriter};
     use std::test::Fail;
 
     #[test]
@@ -138,9 +151,9 @@ mod tests {
         let text: &[u8] = b"abcd";
         let mut source = StdSource::new(text);
         let mut into = [0; 3];
-        for want in [Ok(3), Ok(1), Ok(0)] {
-            assert_eq!(rt; source.read(&mut into), want);
-        }
+        assert_eq!(rt; source.read(&mut into), Ok(3));
+        assert_eq!(rt; into, *b"abc");
+        assert_eq!(rt; source.read(&mut into), Ok(1));
         assert_eq!(rt; into, *b"dbc");
     }
 
@@ -148,10 +161,59 @@ mod tests {
     fn sink_over_a_writer(rt: HostRuntime) -> Result<(), Fail> {
         let held = BufWriter::new(rt.alloc(), Vec::new(rt.alloc()))?;
         let mut sink = StdSink::new(held);
-        assert_eq!(rt; sink.write(b"abcd"), Ok(4));
-        assert_eq!(rt; sink.inner.get_ref().as_slice(), b"".as_slice());
+        assert_eq!(rt; write_all(&mut sink, &[b'x'; 2000]), Ok(()));
+        assert_eq!(rt; sink.inner.get_ref().len(), 0);
         assert_eq!(rt; sink.flush(), Ok(()));
-        assert_eq!(rt; sink.inner.get_ref().as_slice(), b"abcd".as_slice());
+        assert_eq!(rt; sink.inner.get_ref().len(), 2000);
         Ok(())
+    }
+
+    /// The first call of it is interrupted, the second fails, and those behind it succeed.
+    #[derive(Drop)]
+    struct Stumbling {
+        calls: u64,
+    }
+
+    impl Stumbling {
+        fn call(&mut self) -> io::Result<()> {
+            self.calls = self.calls.saturating_add(1);
+            match self.calls {
+                1 => Err(io::Error::from(ErrorKind::Interrupted)),
+                2 => Err(io::Error::from(ErrorKind::Other)),
+                _ => Ok(()),
+            }
+        }
+    }
+
+    impl Read for Stumbling {
+        fn read(&mut self, _into: &mut [u8]) -> io::Result<usize> {
+            self.call()?;
+            Ok(0)
+        }
+    }
+
+    impl Write for Stumbling {
+        fn write(&mut self, bytes: &[u8]) -> io::Result<usize> {
+            self.call()?;
+            Ok(bytes.len())
+        }
+
+        fn flush(&mut self) -> io::Result<()> {
+            self.call()
+        }
+    }
+
+    // An interrupted call is tried again, and one that failed isn't: it is told at once.
+    #[test]
+    fn failures_are_told_at_once(rt: HostRuntime) {
+        let mut source = StdSource::new(Stumbling { calls: 0 });
+        assert_eq!(rt; source.read(&mut [0; 3]), Err(Failed));
+        assert_eq!(rt; source.inner.calls, 2);
+        let mut sink = StdSink::new(Stumbling { calls: 0 });
+        assert_eq!(rt; sink.write(b"ab"), Err(Failed));
+        assert_eq!(rt; sink.inner.calls, 2);
+        let mut sink = StdSink::new(Stumbling { calls: 0 });
+        assert_eq!(rt; sink.flush(), Err(Failed));
+        assert_eq!(rt; sink.inner.calls, 2);
     }
 }

@@ -1,9 +1,10 @@
 //! A source and a sink in memory, which cut their bytes into pieces and fail at chosen calls.
-ghost use Rattle.std.specs.Prelude.{◌≡◌, ◌≢◌, ◌<◌, ◌≤◌, ◌↔◌, ◌⊎◌, [], Contains, IfOk, IsErr, Ok, OnErr, OnOk, length, min, slice_get, take};
+ghost use Rattle.std.specs.Prelude.{◌≡◌, ◌≢◌, ◌<◌, ◌≤◌, ◌-◌, ◌↔◌, ◌⊎◌, [], false, Contains, IfOk, IsErr, Ok, OnErr, OnOk, length, min, slice_get, take};
 ghost use Rattle.std.specs.Io.{ReadsAtMost, WritesAtMost};
 ghost use Rattle.std.specs.Io.KnownBytes.{Keeps, ReadConsumes, WriteAppends};
 ghost use Rattle.hac_outside.specs.Causes.{HasCause};
 ghost use Rattle.hac_outside.specs.Memory.{IsFailing, IsNextCall, IsNextRead, cut_to, next_number};
+ghost use Rattle.hac_outside.specs.Seen.{HoldsMore, gives_end};
 
 use super::calls::Calls;
 use super::fault::Failed;
@@ -19,6 +20,7 @@ pub struct MemorySource {
     given: usize,
     pieces: Vec<u64>,
     calls: Calls,
+    ended: bool,
 }
 
 impl Model for MemorySource {
@@ -33,6 +35,7 @@ impl Model for MemorySource {
       failing = source.calls.failing.items;
       calls = source.calls.made;
       faults = source.calls.faults;
+      ended = source.ended;
     } };
 
     ghost invariant = { λ source. source.given ≤ vec_len source.bytes };
@@ -53,12 +56,14 @@ impl MemorySource {
         ensures failing { IfOk result (λ source. source.failing ≡ failing.now) }
         ensures calls { IfOk result (λ source. source.calls ≡ 0) }
         ensures faults { IfOk result (λ source. source.faults ≡ 0) }
+        ensures ended { IfOk result (λ source. source.ended ≡ false) }
     {
         Ok(MemorySource {
             bytes: Vec::from_slice(alloc, bytes)?,
             given: 0,
             pieces: Vec::from_slice(alloc, pieces)?,
             calls: Calls::new(alloc, failing)?,
+            ended: false,
         })
     }
 }
@@ -66,20 +71,19 @@ impl MemorySource {
 impl Source for MemorySource {
     ghost use Rattle.std.specs.Prelude.{Some};
 
-    ghost left = { λ source. Some source.left };
-
-    ghost faults = { λ source. source.faults };
+    ghost seen = { λ source. record { left = Some source.left; faults = source.faults; ended = source.ended } };
 
     fn read(&mut self, into: &mut [u8]) -> Result<usize, Failed>
+        requires { self.old.ended ≡ false }
         ensures bound { ReadsAtMost result into.new }
         ensures bytes { ReadConsumes (Some self.old.left) (Some self.new.left) result into.new }
+        ensures end { self.new.ended ≡ gives_end result into.new }
         ensures cause { HasCause self.old.faults self.new.faults result }
 
         // Which reads fail, and how much the others give.
         ensures fails { IsErr result ↔ Contains self.old.failing (next_number self.old.calls) }
         ensures count { IfOk result (λ count. count ≡ cut_to (slice_get self.old.pieces self.old.calls)
             (min (length into.new) (length self.old.left))) }
-        ensures uncounted { OnOk result (self.new.faults ≡ self.old.faults) }
         ensures counted { OnErr result (self.new.faults ≡ next_number self.old.faults) }
 
         // The plan stays, and the next read has the next number.
@@ -89,6 +93,7 @@ impl Source for MemorySource {
         self.calls.begin()?;
         let count = give(&self.bytes[self.given..], piece, into);
         self.given += count;
+        self.ended = count == 0 && !into.is_empty();
         Ok(count)
     }
 }
@@ -126,6 +131,7 @@ fn cut_to(piece: Option<u64>, count: usize) -> usize
 #[derive(Drop)]
 pub struct MemorySink {
     bytes: Vec<u8>,
+    flushed: usize,
     room: usize,
     last_call: u64,
     calls: Calls,
@@ -139,6 +145,7 @@ impl Model for MemorySink {
 
     ghost view = { λ sink. record {
       written = sink.bytes.items;
+      flushed = sink.flushed;
       room = sink.room;
       last_call = sink.last_call;
       failing = sink.calls.failing.items;
@@ -146,7 +153,7 @@ impl Model for MemorySink {
       faults = sink.calls.faults;
     } };
 
-    ghost invariant = { λ sink. vec_len sink.bytes + sink.room ≤ vec_capacity sink.bytes };
+    ghost invariant = { λ sink. (sink.flushed ≤ vec_len sink.bytes) × (vec_len sink.bytes + sink.room ≤ vec_capacity sink.bytes) };
 }
 
 impl MemorySink {
@@ -160,6 +167,7 @@ impl MemorySink {
         failing: &[u64],
     ) -> Result<MemorySink, AllocError>
         ensures written { IfOk result (λ sink. sink.written ≡ []) }
+        ensures flushed { IfOk result (λ sink. sink.flushed ≡ 0) }
         ensures room { IfOk result (λ sink. sink.room ≡ bytes) }
         ensures last_call { IfOk result (λ sink. sink.last_call ≡ calls) }
         ensures failing { IfOk result (λ sink. sink.failing ≡ failing.now) }
@@ -169,6 +177,7 @@ impl MemorySink {
         let room = bytes as usize;
         Ok(MemorySink {
             bytes: Vec::with_capacity(alloc, room)?,
+            flushed: 0,
             room,
             last_call: calls,
             calls: Calls::new(alloc, failing)?,
@@ -181,26 +190,38 @@ impl MemorySink {
     {
         &self.bytes
     }
+
+    /// How many of them were passed on by a flush.
+    pub fn flushed(&self) -> usize
+        ensures { result ≡ self.now.flushed }
+    {
+        self.flushed
+    }
 }
 
 impl Sink for MemorySink {
-    ghost use Rattle.std.specs.Prelude.{Some};
+    ghost use Rattle.std.specs.Prelude.{◌-◌, Some, length};
 
-    ghost written = { λ sink. Some sink.written };
-
-    ghost faults = { λ sink. sink.faults };
+    ghost seen = { λ sink. record {
+      written = Some sink.written;
+      held_back = length sink.written - sink.flushed;
+      faults = sink.faults;
+    } };
 
     fn write(&mut self, bytes: &[u8]) -> Result<usize, Failed>
         ensures bound { WritesAtMost result bytes.now }
         ensures some { 0 < length bytes.now → result ≢ Ok 0 }
         ensures bytes { WriteAppends (Some self.old.written) (Some self.new.written) result bytes.now }
+        ensures held { HoldsMore (length self.old.written - self.old.flushed) (length self.new.written - self.new.flushed) result }
         ensures cause { HasCause self.old.faults self.new.faults result }
 
         // Which writes fail, and how much the others take.
         ensures fails { IsErr result ↔ (IsFailing self.old ⊎ ((0 < length bytes.now) × (self.old.room ≡ 0))) }
         ensures count { IfOk result (λ count. count ≡ min (length bytes.now) self.old.room) }
-        ensures uncounted { OnOk result (self.new.faults ≡ self.old.faults) }
         ensures counted { OnErr result (self.new.faults ≡ next_number self.old.faults) }
+
+        // What is taken is held back until it is flushed.
+        ensures flushed { self.new.flushed ≡ self.old.flushed }
 
         // The plan stays, and the next call has the next number.
         ensures plan { IsNextCall self.old self.new }
@@ -217,13 +238,17 @@ impl Sink for MemorySink {
 
     fn flush(&mut self) -> Result<(), Failed>
         ensures bytes { Keeps (Some self.old.written) (Some self.new.written) }
+        ensures passed { OnOk result (length self.new.written - self.new.flushed ≡ 0) }
+        ensures held { length self.new.written - self.new.flushed ≤ length self.old.written - self.old.flushed }
         ensures cause { HasCause self.old.faults self.new.faults result }
         ensures fails { IsErr result ↔ IsFailing self.old }
-        ensures uncounted { OnOk result (self.new.faults ≡ self.old.faults) }
         ensures counted { OnErr result (self.new.faults ≡ next_number self.old.faults) }
+        ensures failed { OnErr result (self.new.flushed ≡ self.old.flushed) }
         ensures plan { IsNextCall self.old self.new }
     {
-        self.calls.begin_within(self.last_call)
+        self.calls.begin_within(self.last_call)?;
+        self.flushed = self.bytes.len();
+        Ok(())
     }
 }
 
@@ -238,9 +263,12 @@ mod tests {
         let mut source = MemorySource::new(rt.alloc(), b"abcdefg", &[0, 1, 3, 3], &[3])?;
         let mut into = [0; 8];
         for want in [Ok(1), Ok(1), Err(Failed), Ok(3), Ok(2), Ok(0)] {
-            assert_eq!(rt; source.read(&mut into), want);
+            if !source.ended {
+                assert_eq!(rt; source.read(&mut into), want);
+            }
         }
         assert_eq!(rt; &into[..3], b"fge".as_slice());
+        assert_eq!(rt; source.ended, true);
         Ok(())
     }
 
@@ -251,7 +279,9 @@ mod tests {
         assert_eq!(rt; sink.flush(), Err(Failed));
         assert_eq!(rt; write_all(&mut sink, b"def"), Err(Failed));
         assert_eq!(rt; sink.written(), b"abcde".as_slice());
+        assert_eq!(rt; sink.flushed(), 0);
         assert_eq!(rt; sink.flush(), Ok(()));
+        assert_eq!(rt; sink.flushed(), 5);
         assert_eq!(rt; sink.flush(), Err(Failed));
         Ok(())
     }

@@ -8,5 +8,6 @@ loop-done-preserved g c = record {
   within = omega (arith, c.in_ok-done.ensures.bound);
   written = Appends-take-more _ _ _ c.args.bytes.now c.loop-done.done c.in_ok-done.field-0 c.loop-done.invariant.written
       (rw take_rest at c.in_ok-done.ensures.bytes);
-  later = omega (arith, c.in_ok-done.ensures.cause.later);
+  held = omega (arith, c.loop-done.invariant.held, c.in_ok-done.ensures.held);
+  faults = omega (arith, c.loop-done.invariant.faults, c.in_ok-done.ensures.cause.none);
 }
