@@ -2,7 +2,8 @@
 use Rattle.std.proofs.Common.{◌≡◌, ℕ, ◌+◌, ◌<◌, Bool, true, false, List, ◌++◌, length, take, drop, ap, sym, ◌∙◌, arith, rules, length-append, subst, refl, Option, Some, None, Result, Ok, Err, IfOk, OnOk}
 use Rattle.std.specs.Prelude.{nat_le, nat_lt, if◌then◌else◌}
 use Rattle.std.specs.List.{position_or_len}
-use Rattle.std.specs.Io.KnownBytes.{prepend_known}
+use Rattle.std.specs.Io.KnownBytes.{Keeps, prepend_known}
+use Rattle.hac_outside.specs.Seen.{SourceSeen}
 use Rattle.std.proofs.lemmas.Grind.{common_steps}
 use Rattle.hac_model.specs.Bytes.{is_line_end}
 use Rattle.hac_model.specs.Lines.{is_quiet}
@@ -49,12 +50,12 @@ goes_on reading sound inside =
     ] sound.last
 
 -- an ended line is given of what is pending
-pub gives-ended : (old mid new : Reading) (before after : Option (List ℕ)) (piece : Piece) (end : ℕ) → IsReading mid → ReadsOn old mid before after →
+pub gives-ended : (old mid new : Reading) (before after : Option (List ℕ)) (piece : Piece) (end : ℕ) → IsReading mid → Keeps (prepend_known old.held before) (prepend_known mid.held after) →
     end ≡ position_or_len is_line_end mid.held → end < length mid.held → piece ≡ piece_of (take end mid.held) → new ≡ record mid { held = drop (end + 1) mid.held } →
     Gives piece new.ended (prepend_known old.held before) (prepend_known new.held after)
-gives-ended old mid new None after piece end sound reads place inside piece_is new_is = search rules
-gives-ended old mid new (Some x) None piece end sound reads place inside piece_is new_is = absurd reads.pending
-gives-ended old mid new (Some x) (Some y) piece end sound reads place inside piece_is new_is =
+gives-ended old mid new None after piece end sound keeps place inside piece_is new_is = search rules
+gives-ended old mid new (Some x) None piece end sound keeps place inside piece_is new_is = absurd keeps
+gives-ended old mid new (Some x) (Some y) piece end sound keeps place inside piece_is new_is =
     let inside_is : position_or_len is_line_end mid.held < length mid.held = rw (sym place) inside in
     let goes : new.ended ≡ false = ap (λ (r : Reading). r.ended) new_is ∙ goes_on mid sound inside_is in
     let line = take (position_or_len is_line_end mid.held) mid.held in
@@ -63,13 +64,13 @@ gives-ended old mid new (Some x) (Some y) piece end sound reads place inside pie
     let given : GivesFrom (piece_of line) new.ended (mid.held ++ y) (drop (position_or_len is_line_end mid.held + 1) mid.held ++ y) =
     from_line line new.ended (mid.held ++ y) (drop (position_or_len is_line_end mid.held + 1) mid.held ++ y) (ended_line_given mid.held y new.ended goes inside_is) in
     subst (λ (p : Piece). GivesFrom p new.ended (old.held ++ x) (new.held ++ y)) (sym as_line)
-    (subst (λ (bytes : List ℕ). GivesFrom (piece_of line) new.ended bytes (new.held ++ y)) reads.pending
+    (subst (λ (bytes : List ℕ). GivesFrom (piece_of line) new.ended bytes (new.held ++ y)) keeps
     (subst (λ (held : List ℕ). GivesFrom (piece_of line) new.ended (mid.held ++ y) (held ++ y)) rest given))
 
 -- the same of what the call that gives an ended line answers
-pub gives-ended-told : (result : Result Piece LineFault) (old mid new : Reading) (before after : Option (List ℕ)) (end : ℕ) → IsReading mid → ReadsOn old mid before after →
+pub gives-ended-told : (result : Result Piece LineFault) (old mid new : Reading) (before after : SourceSeen) (end : ℕ) → IsReading mid → ReadsOn old mid before after →
     IsFound (Ended end) mid → IfOk result (λ piece. piece ≡ piece_of (take end mid.held)) → OnOk result (new ≡ record mid { held = drop (end + 1) mid.held }) →
-    IfOk result (λ piece. Gives piece new.ended (prepend_known old.held before) (prepend_known new.held after))
+    IfOk result (λ piece. Gives piece new.ended (prepend_known old.held before.left) (prepend_known new.held after.left))
 gives-ended-told (Ok piece) old mid new before after end sound reads found piece_is new_is =
-    gives-ended old mid new before after piece end sound reads found.0 found.1 piece_is new_is
+    gives-ended old mid new before.left after.left piece end sound reads.pending found.0 found.1 piece_is new_is
 gives-ended-told (Err fault) old mid new before after end sound reads found piece_is new_is = search rules

@@ -5,3 +5,4 @@ pub mod QuoteLemmas
 pub mod TakeLemmas
 pub mod RawLemmas
 pub mod PutLemmas
+pub mod ToldLemmas

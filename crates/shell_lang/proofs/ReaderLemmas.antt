@@ -4,12 +4,13 @@ use Rattle.std.proofs.lemmas.Bool.{eqb-true}
 use Rattle.std.specs.Prelude.{nat_eq, position, not}
 use Rattle.std.proofs.lemmas.List.Folds.{prefix_len-append}
 use Rattle.std.specs.List.{position_or_len}
-use Rattle.std.specs.Io.KnownBytes.{prepend_known, Keeps, Consumes, IsAtEnd}
+use Rattle.std.specs.Io.KnownBytes.{prepend_known, Keeps, Consumes}
 use Rattle.std.proofs.lemmas.Grind.{common_steps}
 use Rattle.hac_model.specs.Bytes.{is_line_end}
 use Rattle.hac_model.specs.Script.{is_first_ended}
 use Rattle.hac_model.specs.declared.limits.TheConstants.{SCRIPT_LIMIT}
-use Rattle.shell_lang.specs.Reading.{Reading, IsReading, IsUnended, SameTotal, ReadsOn, ReadsPiece}
+use Rattle.hac_outside.specs.Seen.{SourceSeen}
+use Rattle.shell_lang.specs.Reading.{Reading, IsReading, IsUnended, IsReaderOf, SameTotal, ReadsOn, ReadsPiece}
 use Rattle.shell_lang.specs.declared.reading.TheConstants.{PIECE}
 use Rattle.shell_lang.specs.Pieces.{IsPastLimit}
 use Rattle.hac_model.proofs.JoinLemmas.{position-ended}
@@ -52,16 +53,16 @@ total_piece taken piece (Some left) None consumed = absurd consumed
 total_piece taken piece (Some left) (Some rest) consumed = omega (arith, ap length consumed, length-append piece rest)
 
 -- a piece that was put behind what is held
-pub reads-piece : (old : Reading) (bytes : List ℕ) (count most : ℕ) (before after : Option (List ℕ)) → old.ended ≡ false → length old.held ≤ old.taken →
+pub reads-piece : (old : Reading) (bytes : List ℕ) (count most : ℕ) (before after : SourceSeen) → old.ended ≡ false → length old.held ≤ old.taken →
     ReadsPiece old.held bytes before after count most → ReadsOn old (record { held = bytes; taken = old.taken + count; ended = nat_eq count 0 }) before after
 reads-piece old bytes count most before after unended kept read =
     record {
-      pending = subst (λ (all : List ℕ). Keeps (prepend_known old.held before) (prepend_known all after)) (sym read.bytes) (pending_piece old.held read.piece before after read.source);
+      pending = subst (λ (all : List ℕ). Keeps (prepend_known old.held before.left) (prepend_known all after.left)) (sym read.bytes) (pending_piece old.held read.piece before.left after.left read.source);
       held = (read.piece, read.bytes);
       taken = omega arith;
       given = omega (arith, ap length read.bytes, length-append old.held read.piece, read.length_is);
-      total = subst (λ (n : ℕ). SameTotal old.taken before (old.taken + n) after) read.length_is (total_piece old.taken read.piece before after read.source);
-      ended = λ e. read.end (eqb-true count 0 e);
+      total = subst (λ (n : ℕ). SameTotal old.taken before.left (old.taken + n) after.left) read.length_is (total_piece old.taken read.piece before.left after.left read.source);
+      source = record { ended = read.ended; nothing = λ e. read.end (eqb-true count 0 e) };
       stays = λ e. cc;
     }
 
@@ -78,15 +79,15 @@ total_on m n o (Some x) (Some y) None first second = absurd second
 total_on m n o (Some x) (Some y) (Some z) first second = omega arith
 
 -- reading nothing
-pub reads-nothing : (r : Reading) (left : Option (List ℕ)) → (r.ended ≡ true → IsAtEnd left) → ReadsOn r r left left
-reads-nothing r left end =
+pub reads-nothing : (r : Reading) (source : SourceSeen) → IsReaderOf r source → ReadsOn r r source source
+reads-nothing r source reader =
     record {
-      pending = keeps_same (prepend_known r.held left);
+      pending = keeps_same (prepend_known r.held source.left);
       held = ([], sym (append-nil r.held));
       taken = omega arith;
       given = refl;
-      total = total_same r.taken left;
-      ended = end;
+      total = total_same r.taken source.left;
+      source = reader;
       stays = λ e. e;
     }
   where
@@ -99,15 +100,15 @@ reads-nothing r left end =
     total_same n (Some x) = refl
 
 -- reading once and once more
-pub reads-on : (r s t : Reading) (a b c : Option (List ℕ)) → ReadsOn r s a b → ReadsOn s t b c → ReadsOn r t a c
+pub reads-on : (r s t : Reading) (a b c : SourceSeen) → ReadsOn r s a b → ReadsOn s t b c → ReadsOn r t a c
 reads-on r s t a b c first second =
     record {
-      pending = keeps_on (prepend_known r.held a) (prepend_known s.held b) (prepend_known t.held c) first.pending second.pending;
+      pending = keeps_on (prepend_known r.held a.left) (prepend_known s.held b.left) (prepend_known t.held c.left) first.pending second.pending;
       held = (first.held.0 ++ second.held.0, second.held.1 ∙ ap (λ (xs : List ℕ). xs ++ second.held.0) first.held.1 ∙ append_assoc r.held first.held.0 second.held.0);
       taken = omega (arith, first.taken, second.taken);
       given = second.given ∙ first.given;
-      total = total_on r.taken s.taken t.taken a b c first.total second.total;
-      ended = second.ended;
+      total = total_on r.taken s.taken t.taken a.left b.left c.left first.total second.total;
+      source = second.source;
       stays = λ e. second.stays (first.stays e);
     }
 
@@ -131,7 +132,7 @@ no_bytes [] none = refl
 no_bytes (byte ∷ bytes) none = absurd (omega arith)
 
 -- a piece that was put behind a line that has no end leaves a reader sound
-pub reading-piece : (old : Reading) (bytes : List ℕ) (count most : ℕ) (before after : Option (List ℕ)) → IsReading old → old.taken ≤ SCRIPT_LIMIT → IsUnended old.held →
+pub reading-piece : (old : Reading) (bytes : List ℕ) (count most : ℕ) (before after : SourceSeen) → IsReading old → old.taken ≤ SCRIPT_LIMIT → IsUnended old.held →
     most ≤ PIECE → most + old.taken ≤ SCRIPT_LIMIT + 1 → ReadsPiece old.held bytes before after count most →
     IsReading (record { held = bytes; taken = old.taken + count; ended = nat_eq count 0 })
 reading-piece old bytes count most before after sound more_may unended small room read =
@@ -147,3 +148,11 @@ reading-piece old bytes count most before after sound more_may unended small roo
           let none : read.piece ≡ [] = no_bytes read.piece (read.length_is ∙ eqb-true count 0 e) in
           subst (λ (xs : List ℕ). IsUnended xs) (sym (read.bytes ∙ ap (λ (xs : List ℕ). old.held ++ xs) none ∙ append-nil old.held)) unended;
     }
+
+-- what was scanned is still so, and what is behind it is one piece at most
+pub scanned-on : (old bytes : List ℕ) (count most : ℕ) (before after : SourceSeen) → IsUnended old → most ≤ PIECE → ReadsPiece old bytes before after count most →
+    (length old ≤ position_or_len is_line_end bytes) × (length bytes ≤ length old + PIECE)
+scanned-on old bytes count most before after unended small read = (
+  subst (λ (xs : List ℕ). length old ≤ position_or_len is_line_end xs) (sym read.bytes) (scanned-piece old read.piece unended),
+  omega (arith, ap length read.bytes, length-append old read.piece, read.length_is, read.within, small),
+)

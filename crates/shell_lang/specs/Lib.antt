@@ -2,5 +2,6 @@ pub mod Reading
 pub mod ReaderShape
 pub mod Pieces
 pub mod Quotes
+pub mod Told
 pub mod Takes
 pub mod RawWords

@@ -1,10 +1,14 @@
 -- What a reader of lines holds.
-use Rattle.std.specs.Prelude.{◌≡◌, ℕ, ◌+◌, ◌-◌, ◌≤◌, ◌<◌, Bool, true, ⊤, List, ◌++◌, length, Option, None, Some, refl}
+use Rattle.std.specs.Prelude.{◌≡◌, ℕ, ◌+◌, ◌-◌, ◌≤◌, ◌<◌, ◌==◌, Bool, true, ⊤, List, ◌++◌, length, Option, None, Some, Result, Ok, Err, false, refl}
 use Rattle.std.specs.List.{position_or_len}
 use Rattle.std.specs.Coded.{Coded, code_by, coded×, coded_ℕ, coded_bool, coded_list}
 use Rattle.std.specs.Io.KnownBytes.{prepend_known, Keeps, Consumes, IsAtEnd}
+use Rattle.hac_outside.specs.Causes.{TellsFault}
+use Rattle.hac_outside.specs.Seen.{SourceSeen}
 use Rattle.hac_model.specs.Bytes.{is_line_end}
 use Rattle.hac_model.specs.declared.limits.TheConstants.{SCRIPT_LIMIT}
+use Rattle.shell_lang.specs.declared.reading.LineFault.{LineFault}
+use Rattle.shell_lang.specs.declared.reading.LineFault.TheVariants.{Read, Memory}
 use Rattle.shell_lang.specs.declared.reading.TheConstants.{PIECE}
 
 -- the bytes that were read and not given yet, how many were read in all, and whether the source has ended
@@ -46,21 +50,42 @@ SameTotal old_taken None new_taken new = ⊤
 SameTotal old_taken (Some old) new_taken None = ⊥
 SameTotal old_taken (Some old) new_taken (Some new) = new_taken + length new ≡ old_taken + length old
 
+-- the reader is one of this source: it knows whether the source has given its end, and then nothing is left
+pub record IsReaderOf (reading : Reading) (source : SourceSeen) : Type 0 where
+  pub ended : source.ended ≡ reading.ended
+  pub nothing : reading.ended ≡ true → IsAtEnd source.left
+
+-- a read failed
+abbrev pub is_read_fault : {T : Type 0} → Result T LineFault → Bool
+is_read_fault (Ok value) = false
+is_read_fault (Err Read) = true
+is_read_fault (Err Memory) = false
+
+-- What each call of a reader leaves. What it took is what the source lost, at most one byte above the limit of a script.
+-- Behind the first line that it holds, it holds less than one piece. A fault of the source is told as one, and nothing else is.
+pub record Reads {T : Type 0} (result : Result T LineFault) (old new : Reading) (before after : SourceSeen) : Type 0 where
+  pub source : IsReaderOf new after
+  pub sound : IsReading new
+  pub stays : old.ended ≡ true → new.ended ≡ true
+  pub total : SameTotal old.taken before.left new.taken after.left
+  pub faults : TellsFault (is_read_fault result) before.faults after.faults
+
 -- the reader took bytes of the source, none or more, and gave none
-pub record ReadsOn (old new : Reading) (left_before left_after : Option (List ℕ)) : Type 0 where
-  pub pending : Keeps (prepend_known old.held left_before) (prepend_known new.held left_after)
+pub record ReadsOn (old new : Reading) (before after : SourceSeen) : Type 0 where
+  pub pending : Keeps (pending old before.left) (pending new after.left)
   pub held : (piece : List ℕ) × (new.held ≡ old.held ++ piece)
   pub taken : old.taken ≤ new.taken
-  pub given : new.taken - length new.held ≡ old.taken - length old.held
-  pub total : SameTotal old.taken left_before new.taken left_after
-  pub ended : new.ended ≡ true → IsAtEnd left_after
+  pub given : given new ≡ given old
+  pub total : SameTotal old.taken before.left new.taken after.left
+  pub source : IsReaderOf new after
   pub stays : old.ended ≡ true → new.ended ≡ true
 
 -- a piece of the source was put behind the bytes: at the end of the source none, else some, and at most so many
-pub record ReadsPiece (old new : List ℕ) (left_before left_after : Option (List ℕ)) (count most : ℕ) : Type 0 where
+pub record ReadsPiece (old new : List ℕ) (before after : SourceSeen) (count most : ℕ) : Type 0 where
   pub piece : List ℕ
   pub bytes : new ≡ old ++ piece
   pub length_is : length piece ≡ count
   pub within : count ≤ most
-  pub source : Consumes left_before left_after piece
-  pub end : count ≡ 0 → IsAtEnd left_after
+  pub source : Consumes before.left after.left piece
+  pub end : count ≡ 0 → IsAtEnd after.left
+  pub ended : after.ended ≡ (count == 0)

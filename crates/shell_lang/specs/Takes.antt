@@ -1,9 +1,9 @@
 -- What a reader gives of the bytes that follow a line.
 use Rattle.std.specs.Prelude.{◌≡◌, ℕ, ◌+◌, ◌-◌, ◌<◌, ◌≤◌, true, false, ⊤, List, ◌++◌, length, drop, Option, None, Some}
-use Rattle.hac_model.specs.Puts.{came}
+use Rattle.shell_lang.specs.Told.{came}
 use Rattle.hac_model.specs.declared.limits.TheConstants.{SCRIPT_LIMIT, TEXT_LIMIT}
-use Rattle.hac_model.specs.declared.putting.Taken.{Taken}
-use Rattle.hac_model.specs.declared.putting.Taken.TheVariants.{Whole, Dropped, Short, PastLimit}
+use Rattle.shell_lang.specs.declared.taken.Taken.{Taken}
+use Rattle.shell_lang.specs.declared.taken.Taken.TheVariants.{Whole, Dropped, Short, PastLimit}
 use Rattle.shell_lang.specs.Reading.{Reading, given}
 use Rattle.shell_lang.specs.declared.reading.TheConstants.{PIECE}
 
@@ -33,11 +33,19 @@ IsTakenOf count Dropped = TEXT_LIMIT < count
 IsTakenOf count Short = 0 < count
 IsTakenOf count PastLimit = 0 < count
 
--- a read failed before all bytes came
-abbrev pub FallsShort : ℕ → Option (List ℕ) → Option (List ℕ) → Type 0
-FallsShort count None new = ⊤
-FallsShort count (Some bytes) None = ⊥
-FallsShort count (Some bytes) (Some rest) = Misses count bytes rest
+-- A failure came before all bytes did. Those that came are gone, and of what is held less than one piece lies behind those
+-- that are still due.
+pub record Loses (count held : ℕ) (bytes rest : List ℕ) : Type 0 where
+  pub front : List ℕ
+  pub bytes_are : bytes ≡ front ++ rest
+  pub short : length front < count
+  pub near : length front + held < count + PIECE
+
+-- the same, where the source tells what it has left
+abbrev pub FallsShort : ℕ → Reading → Option (List ℕ) → Option (List ℕ) → Type 0
+FallsShort count reading None left = ⊤
+FallsShort count reading (Some bytes) None = ⊥
+FallsShort count reading (Some bytes) (Some left) = Loses count (length reading.held) bytes (reading.held ++ left)
 
 -- the bytes lie within the limit of a script, and less than one piece is held then
 pub record TakesOn (old new : Reading) : Type 0 where

@@ -8,10 +8,11 @@ mod printing;
 mod putting;
 mod queries;
 mod reading;
+mod taken;
 mod words;
 
-pub use hac_model::Taken;
 pub use parsing::parse_line;
 pub use printing::print_reply;
 pub use putting::put_length;
 pub use reading::{LineFault, PIECE, Piece, Reader};
+pub use taken::Taken;

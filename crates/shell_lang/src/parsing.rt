@@ -1,26 +1,29 @@
 //! A line's command. What a command does is not known here.
-ghost use Rattle.std.specs.Prelude.{◌≡◌, None, IfOk, IsTrue};
+ghost use Rattle.std.specs.Prelude.{◌≡◌, ℕ, List, Some, None, IfOk, IsTrue};
 ghost use Rattle.std.specs.Option.{ok_or};
 ghost use Rattle.hac_model.specs.Answers.{Answers, AnswersSeen};
-ghost use Rattle.hac_model.specs.Lines.{item_of, called_with, command_with, named_command, one_path, write_of, ls_of, mv_of, smkdir_of, index_of, limited_text, is_spelled};
+ghost use Rattle.hac_model.specs.Lines.{item_of, named_command, one_path, write_of, ls_of, mv_of, smkdir_of, index_of, limited_text, is_spelled};
 ghost use Rattle.hac_model.specs.Texts.{text_of};
+ghost use Rattle.shell_lang.specs.Told.{called_taken, command_taken, item_taken, taken_of};
 ghost use Rattle.hac_model.specs.declared.commands.Command.TheVariants.{Mkdir, Rmdir, Cat, Rm, Sls};
 ghost use Rattle.hac_model.specs.declared.replies.Refusal.TheVariants.{BadLine};
 
 use crate::paths::{only_path, parse_path, two_paths};
 use crate::putting::{is_put, parse_put};
 use crate::queries::parse_query;
+use crate::taken::Taken;
 use crate::words::{is_blank, only_word, skip_one, split_word};
-use hac_model::{
-    Command, Deny, LINE_LIMIT, LimitWord, Line, Name, Refusal, TEXT_LIMIT, Taken, Text,
-};
+use hac_model::{Command, Deny, LINE_LIMIT, LimitWord, Line, Name, Refusal, TEXT_LIMIT, Text};
 use hac_names::parse_text;
 use std::alloc::Global;
 
-/// The command that a line spells, or the first refusal of its spelling. `taken` is what came of the
-/// bytes behind the line, where it is one that takes bytes.
+/// The command that a line spells, or the first refusal of its spelling. `taken` is what the reader took
+/// of the bytes behind the line, where it is one that takes bytes.
 pub fn parse_line(alloc: Global, line: &[u8], taken: Option<Taken>) -> Result<Line, Deny>
-    ensures item { Answers result (item_of line.now taken) }
+    ensures told { Answers result (item_taken line.now taken) }
+
+    // So the answer is right for all bytes behind the line of which this is what is taken.
+    ensures item { (behind : List ℕ) → taken ≡ taken_of line.now behind → Answers result (item_of line.now behind) }
     ensures spelled { IfOk result (λ line. IsTrue (is_spelled line.command)) }
 {
     if line.len() > LINE_LIMIT {
@@ -33,7 +36,7 @@ pub fn parse_line(alloc: Global, line: &[u8], taken: Option<Taken>) -> Result<Li
 
 /// The command that a line of any length spells, told what came of the bytes behind it.
 fn parse_with(alloc: Global, line: &[u8], taken: Option<Taken>) -> Result<Command, Deny>
-    ensures { Answers result (command_with line.now taken) }
+    ensures { Answers result (command_taken line.now taken) }
 {
     let (name, arguments) = split_word(alloc, line)?;
     parse_called(alloc, &name, arguments, taken)
@@ -46,7 +49,7 @@ fn parse_called(
     arguments: &[u8],
     taken: Option<Taken>,
 ) -> Result<Command, Deny>
-    ensures { Answers result (called_with name.now arguments.now taken) }
+    ensures { Answers result (called_taken name.now arguments.now taken) }
 {
     if is_put(name) {
         parse_put(alloc, arguments, taken)
@@ -189,10 +192,10 @@ fn parse_smkdir(alloc: Global, arguments: &[u8]) -> Result<Command, Deny>
 /// `sls PATH`, from what follows `sls`.
 #[tactic(auto, unfolding(hac_model::specs::Lines::one_path))]
 fn parse_sls(alloc: Global, arguments: &[u8]) -> Result<Command, Deny>
-    ensures { Answers result (one_path Sls arguments.now) }
+    ensures { Answers result (one_path (λ path. Sls (Some path)) arguments.now) }
 {
     let path = only_path(alloc, arguments)?;
-    Ok(Command::Sls { path })
+    Ok(Command::Sls { path: Some(path) })
 }
 
 /// `index`, from what follows it.
@@ -206,6 +209,3 @@ fn parse_index(arguments: &[u8]) -> Result<Command, Deny>
         Err(Deny::Refused(Refusal::BadLine))
     }
 }
-
-#[cfg(test)]
-mod tests;

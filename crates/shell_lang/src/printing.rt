@@ -45,20 +45,40 @@ fn push_refusal(alloc: Global, out: &mut Vec<u8>, refusal: &Refusal) -> Result<(
     ensures { OnOk result (out.new.items ≡ out.old.items ++ refusal_text refusal.now) }
 {
     match refusal {
-        Refusal::BadLine => out.extend_from_slice(b"bad-line")?,
-        Refusal::BadName => out.extend_from_slice(b"bad-name")?,
-        Refusal::NoPath(path) => push_path(alloc, out, b"no-path ", path)?,
-        Refusal::NotDir(path) => push_path(alloc, out, b"not-dir ", path)?,
-        Refusal::NotFile(path) => push_path(alloc, out, b"not-file ", path)?,
-        Refusal::Exists(path) => push_path(alloc, out, b"exists ", path)?,
-        Refusal::NotEmpty(path) => push_path(alloc, out, b"not-empty ", path)?,
-        Refusal::Under(path) => push_path(alloc, out, b"under ", path)?,
-        Refusal::Root => out.extend_from_slice(b"root")?,
-        Refusal::BadQuery(place) => push_number(alloc, out, b"bad-query ", *place)?,
-        Refusal::NotSemantic(path) => push_path(alloc, out, b"not-semantic ", path)?,
-        Refusal::Limit(word) => push_detail(out, b"limit ", limit_word(*word))?,
-        Refusal::ShortPut => out.extend_from_slice(b"short-put")?,
+        Refusal::BadLine => push_word(out, b"bad-line"),
+        Refusal::BadName => push_word(out, b"bad-name"),
+        Refusal::NoPath(path) => push_path(alloc, out, b"no-path ", path),
+        Refusal::NotDir(path) => push_path(alloc, out, b"not-dir ", path),
+        Refusal::NotFile(path) => push_path(alloc, out, b"not-file ", path),
+        Refusal::Exists(path) => push_path(alloc, out, b"exists ", path),
+        Refusal::NotEmpty(path) => push_path(alloc, out, b"not-empty ", path),
+        Refusal::Under(path) => push_path(alloc, out, b"under ", path),
+        Refusal::Root => push_word(out, b"root"),
+        Refusal::BadQuery(place) => push_number(alloc, out, b"bad-query ", *place),
+        Refusal::Cycle(path) => push_path(alloc, out, b"cycle ", path),
+        Refusal::Referenced(path) => push_path(alloc, out, b"referenced ", path),
+        Refusal::Busy(session) => push_detail(out, b"busy ", session.as_bytes()),
+        Refusal::NotSemantic(path) => push_path(alloc, out, b"not-semantic ", path),
+        Refusal::NotLinked(path) => push_path(alloc, out, b"not-linked ", path),
+        Refusal::Already(path) => push_path(alloc, out, b"already ", path),
+        Refusal::NoMark(path) => push_path(alloc, out, b"no-mark ", path),
+        Refusal::NoSpace(space) => push_detail(out, b"no-space ", space.as_bytes()),
+        Refusal::SpaceFault(space) => push_detail(out, b"space-fault ", space.as_bytes()),
+        Refusal::Limit(word) => push_detail(out, b"limit ", limit_word(*word)),
+        Refusal::InMount(path) => push_path(alloc, out, b"in-mount ", path),
+        Refusal::Loop(path) => push_path(alloc, out, b"loop ", path),
+        Refusal::NotLink(path) => push_path(alloc, out, b"not-link ", path),
+        Refusal::ShortPut => push_word(out, b"short-put"),
+        Refusal::NotMount(path) => push_path(alloc, out, b"not-mount ", path),
+        Refusal::Gone(path) => push_path(alloc, out, b"gone ", path),
     }
+}
+
+/// Appends a cause that has no detail.
+fn push_word(out: &mut Vec<u8>, cause: &[u8]) -> Result<(), Memory>
+    ensures { OnOk result (out.new.items ≡ out.old.items ++ cause.now) }
+{
+    out.extend_from_slice(cause)?;
     Ok(())
 }
 
@@ -119,93 +139,4 @@ fn push_line(out: &mut Vec<u8>, bytes: &[u8]) -> Result<(), Memory>
     out.extend_from_slice(bytes)?;
     out.push(b'\n')?;
     Ok(())
-}
-
-#[cfg(test)]
-mod tests {
-    use super::*;
-    use hac_model::Seq;
-    use std::test::Fail;
-
-    #[test]
-    fn lines_end_in_ok(rt: HostRuntime) -> Result<(), Fail> {
-        let alloc = rt.alloc();
-        let none = Reply::Lines(Seq::new(Vec::new(alloc)));
-        assert_eq!(rt; print_reply(alloc, &none)?.as_slice(), b"ok\n".as_slice());
-        let mut lines = Vec::new(alloc);
-        for line in [b"a b".as_slice(), b"".as_slice(), b"\xff".as_slice()] {
-            lines.push(Name::new(Vec::from_slice(alloc, line)?))?;
-        }
-        let three = Reply::Lines(Seq::new(lines));
-        assert_eq!(rt;
-            print_reply(alloc, &three)?.as_slice(),
-            b"a b\n\n\xff\nok\n".as_slice()
-        );
-        Ok(())
-    }
-
-    fn path(alloc: Global, names: &[&[u8]]) -> Result<Path, Memory> {
-        let mut path = Path::root(alloc);
-        for name in names {
-            path.push(Name::new(Vec::from_slice(alloc, *name)?))?;
-        }
-        Ok(path)
-    }
-
-    fn is_told(alloc: Global, refusal: Refusal, want: &[u8]) -> Result<bool, Memory> {
-        let got = print_reply(alloc, &Reply::Refused(refusal))?;
-        Ok(got.as_slice() == want)
-    }
-
-    #[test]
-    fn refusals_are_told_in_one_line(rt: HostRuntime) -> Result<(), Fail> {
-        let alloc = rt.alloc();
-        let rows: [(Refusal, &[u8]); 12] = [
-            (Refusal::BadLine, b"no bad-line\n"),
-            (Refusal::BadName, b"no bad-name\n"),
-            (Refusal::Root, b"no root\n"),
-            (Refusal::BadQuery(0), b"no bad-query 0\n"),
-            (Refusal::BadQuery(1), b"no bad-query 1\n"),
-            (Refusal::BadQuery(10), b"no bad-query 10\n"),
-            (Refusal::BadQuery(65_536), b"no bad-query 65536\n"),
-            (
-                Refusal::BadQuery(u64::MAX),
-                b"no bad-query 18446744073709551615\n",
-            ),
-            (Refusal::Limit(LimitWord::Line), b"no limit line\n"),
-            (Refusal::Limit(LimitWord::Texts), b"no limit texts\n"),
-            (Refusal::Limit(LimitWord::Store), b"no limit store\n"),
-            (Refusal::ShortPut, b"no short-put\n"),
-        ];
-        for (refusal, want) in rows {
-            assert!(rt; is_told(alloc, refusal, want)?, "at {want:?}");
-        }
-        Ok(())
-    }
-
-    #[test]
-    fn refusals_tell_their_paths(rt: HostRuntime) -> Result<(), Fail> {
-        let alloc = rt.alloc();
-        let missing = Refusal::NoPath(path(alloc, &[b"m"])?);
-        assert!(rt; is_told(alloc, missing, b"no no-path /m\n")?);
-        let other = Refusal::NotDir(path(alloc, &[b"a b", b"c"])?);
-        assert!(rt; is_told(alloc, other, b"no not-dir /a b/c\n")?);
-        let directory = Refusal::NotFile(path(alloc, &[])?);
-        assert!(rt; is_told(alloc, directory, b"no not-file /\n")?);
-        let there = Refusal::Exists(path(alloc, &[b"\xff", b"~", b"."])?);
-        assert!(rt; is_told(alloc, there, b"no exists /\xff/~/.\n")?);
-        Ok(())
-    }
-
-    #[test]
-    fn refusals_of_directories_tell_their_paths(rt: HostRuntime) -> Result<(), Fail> {
-        let alloc = rt.alloc();
-        let full = Refusal::NotEmpty(path(alloc, &[b"d"])?);
-        assert!(rt; is_told(alloc, full, b"no not-empty /d\n")?);
-        let inside = Refusal::Under(path(alloc, &[b"d", b"e"])?);
-        assert!(rt; is_told(alloc, inside, b"no under /d/e\n")?);
-        let plain = Refusal::NotSemantic(path(alloc, &[b"d"])?);
-        assert!(rt; is_told(alloc, plain, b"no not-semantic /d\n")?);
-        Ok(())
-    }
 }

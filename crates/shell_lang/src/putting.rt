@@ -5,13 +5,15 @@ ghost use Rattle.std.specs.List.{list_all};
 ghost use Rattle.std.specs.Str.{bytes_eq};
 ghost use Rattle.std.specs.Str.Parse.{digits_value};
 ghost use Rattle.hac_model.specs.Answers.{Answers, AnswersSeen};
-ghost use Rattle.hac_model.specs.Lines.{asked, is_put, put_at, put_length, put_of, put_words};
+ghost use Rattle.hac_model.specs.Lines.{asked, is_put, put_length, put_words};
 ghost use Rattle.hac_model.specs.Puts.{is_length};
+ghost use Rattle.shell_lang.specs.Told.{put_at_taken, put_taken};
 
 use crate::parsing::limited_text;
 use crate::paths::parse_path;
+use crate::taken::Taken;
 use crate::words::{is_blank, only_word, raw_word, split_word};
-use hac_model::{Command, Deny, LimitWord, Refusal, Taken};
+use hac_model::{Command, Deny, LimitWord, Refusal};
 use std::alloc::Global;
 
 /// How many bytes a `put` asks for behind its line. None where the line is no `put`, or is one that is
@@ -71,14 +73,14 @@ fn put_words(alloc: Global, arguments: &[u8]) -> Result<(Vec<u8>, Vec<u8>), Deny
 
 /// `put PATH LENGTH`, from what follows `put`: a file with the bytes that came as its text.
 pub fn parse_put(alloc: Global, arguments: &[u8], taken: Option<Taken>) -> Result<Command, Deny>
-    ensures { Answers result (put_of arguments.now taken) }
+    ensures { Answers result (put_taken arguments.now taken) }
 {
     let (path, _) = put_words(alloc, arguments)?;
     put_at(alloc, &path, taken)
 }
 
 fn put_at(alloc: Global, word: &[u8], taken: Option<Taken>) -> Result<Command, Deny>
-    ensures { Answers result (put_at word.now taken) }
+    ensures { Answers result (put_at_taken word.now taken) }
 {
     match taken {
         Some(Taken::Whole(bytes)) => {
@@ -123,42 +125,4 @@ fn number(digits: &[u8]) -> u64
         number = number * 10 + u64::from(*digit - b'0');
     }
     number
-}
-
-#[cfg(test)]
-mod tests {
-    use super::*;
-
-    #[test]
-    fn lengths_are_asked_for(rt: HostRuntime) {
-        let rows: [(&[u8], Option<u64>); 23] = [
-            (b"\"put\" \"/a b\" \"10\"", Some(10)),
-            (b"put \"/a \\\"b\\\\\" 10", Some(10)),
-            (b"put \"/a\\b\" 10", None),
-            (b"put \"/a\"b 10", None),
-            (b"put \"/a 3", None),
-            (b"put /a 0", Some(0)),
-            (b"put /a 1", Some(1)),
-            (b" put  /a  10 ", Some(10)),
-            (b"put /a 1234567890", Some(1_234_567_890)),
-            (b"put /a 9999999999", Some(9_999_999_999)),
-            // The path isn't looked at.
-            (b"put /\x01 7", Some(7)),
-            (b"put /a 12345678901", None),
-            (b"put /a 00", None),
-            (b"put /a 01", None),
-            (b"put /a +1", None),
-            (b"put /a -1", None),
-            (b"put /a 1x", None),
-            (b"put /a 1 x", None),
-            (b"put /a", None),
-            (b"put 3", None),
-            (b"put", None),
-            (b"puts /a 3", None),
-            (b"write /a 3", None),
-        ];
-        for (line, want) in rows {
-            assert_eq!(rt; put_length(line), want, "at {line:?}");
-        }
-    }
 }

@@ -7,12 +7,12 @@ ghost use Rattle.hac_model.specs.Queries.{is_operator, is_query_word};
 ghost use Rattle.hac_model.specs.Words.{is_word_byte};
 
 use crate::words::{is_blank, split_run};
-use hac_model::{Deny, Name, Query, Refusal, Term};
+use hac_model::{Deny, Name, Query, RawQuery, Refusal, Term};
 use std::alloc::Global;
 
 /// The query that the bytes spell. So far it is one word, in letters of either case, round which spaces
 /// may stand.
-pub fn parse_query(alloc: Global, bytes: &[u8]) -> Result<Query, Deny>
+pub fn parse_query(alloc: Global, bytes: &[u8]) -> Result<RawQuery, Deny>
     ensures { Answers result (query_of bytes.now) }
 {
     let (word, rest) = split_run(bytes);
@@ -20,7 +20,7 @@ pub fn parse_query(alloc: Global, bytes: &[u8]) -> Result<Query, Deny>
         return Err(Deny::Refused(Refusal::BadQuery(1)));
     }
     let letters = Name::new(word.to_ascii_lowercase(alloc)?);
-    Ok(Query::Term(Term::Word(letters)))
+    Ok(Query::term(Term::Word(letters)))
 }
 
 /// Whether the bytes are a word that a query may ask for.

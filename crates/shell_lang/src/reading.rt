@@ -1,12 +1,12 @@
 //! Lines out of a stream of bytes, in whatever pieces the stream comes.
 ghost use Rattle.std.specs.Prelude.{◌≡◌, ℕ, ◌+◌, ◌-◌, ◌<◌, ◌≤◌, ◌⊎◌, ◌++◌, true, false, [], length, vec_len, take, drop, IfOk, OnOk, OnErr, IsErrOf, IfSome, IfNone, MatchOption, Ok, slice_index, ◌==◌, position};
 ghost use Rattle.std.specs.List.{position_or_len};
-ghost use Rattle.std.specs.Io.KnownBytes.{Keeps, IsAtEnd};
-ghost use Rattle.hac_outside.specs.Causes.{Rose};
+ghost use Rattle.std.specs.Io.KnownBytes.{Keeps};
+ghost use Rattle.hac_outside.specs.Causes.{TellsFault};
 ghost use Rattle.hac_model.specs.Bytes.{is_line_end};
 ghost use Rattle.hac_model.specs.Lines.{is_quiet};
 ghost use Rattle.hac_model.specs.Script.{is_first_ended};
-ghost use Rattle.shell_lang.specs.Reading.{pending, given, IsUnended, IsReading, SameTotal, ReadsOn, ReadsPiece};
+ghost use Rattle.shell_lang.specs.Reading.{pending, given, is_read_fault, IsUnended, IsReading, IsReaderOf, Reads, ReadsOn, ReadsPiece};
 ghost use Rattle.shell_lang.specs.Pieces.{piece_of, Gives, Advances, IsFound};
 
 mod taking;
@@ -57,7 +57,7 @@ impl From<AllocError> for LineFault {
     }
 }
 
-/// Takes lines from a source. But for a fault it scans no byte twice, and behind the first line that it
+/// Takes lines from a source. It scans no byte twice for a line's end, and behind the first line that it
 /// holds it holds less than one piece.
 #[derive(Debug, Drop)]
 pub struct Reader {
@@ -65,6 +65,8 @@ pub struct Reader {
     bytes: Vec<u8>,
     // Where what is held begins.
     start: usize,
+    // Where scanning goes on: between the two there is no line end.
+    scanned: usize,
     taken: u64,
     ended: bool,
 }
@@ -104,30 +106,27 @@ impl Reader {
             alloc,
             bytes,
             start: 0,
+            scanned: 0,
             taken: 0,
             ended: false,
         })
     }
 
-    /// The next line of the script, or how the script ends. It reads only where no line is held.
+    /// The next line of the script, or how the script ends. It reads only where no line is held, and never
+    /// behind the end.
     pub fn next_line<S: Source>(&mut self, source: &mut S) -> Result<Piece, LineFault>
-        // A source that has ended stays so: a reader is given the source that it began with.
-        requires { self.old.ended ≡ true → IsAtEnd (S.left source.old) }
+        // A reader is given the source that it began with.
+        requires { IsReaderOf self.old (S.seen source.old) }
 
-        ensures piece { IfOk result (λ piece. Gives piece self.new.ended (pending self.old (S.left source.old)) (pending self.new (S.left source.new))) }
+        ensures piece { IfOk result (λ piece. Gives piece self.new.ended (pending self.old (S.seen source.old).left) (pending self.new (S.seen source.new).left)) }
         ensures advances { IfOk result (λ piece. Advances piece self.old self.new) }
-        ensures err { OnErr result (Keeps (pending self.old (S.left source.old)) (pending self.new (S.left source.new))) }
+        ensures err { OnErr result (Keeps (pending self.old (S.seen source.old).left) (pending self.new (S.seen source.new).left)) }
 
         // A line that is held is given without a read, so a fault comes only where none is.
         ensures unread { is_first_ended self.old.held ≡ true → source.new ≡ source.old }
-        ensures fault { IsErrOf result LineFault.Read → Rose (S.faults source.old) (S.faults source.new) }
         ensures unended { IsErrOf result LineFault.Read → (self.new.ended ≡ false) × IsUnended self.new.held }
 
-        ensures ended { self.new.ended ≡ true → IsAtEnd (S.left source.new) }
-        ensures stays { self.old.ended ≡ true → self.new.ended ≡ true }
-        ensures total { SameTotal self.old.taken (S.left source.old) self.new.taken (S.left source.new) }
-        ensures limit { self.new.taken ≤ SCRIPT_LIMIT + 1 }
-        ensures later { S.faults source.old ≤ S.faults source.new }
+        ensures reads { Reads result self.old self.new (S.seen source.old) (S.seen source.new) }
     {
         match self.find_line(source)? {
             Found::Ended(end) => self.give(end, end + 1),
@@ -138,34 +137,29 @@ impl Reader {
 
     /// Reads until the first line is held, or all that there is of it.
     fn find_line<S: Source>(&mut self, source: &mut S) -> Result<Found, LineFault>
-        requires { self.old.ended ≡ true → IsAtEnd (S.left source.old) }
+        requires { IsReaderOf self.old (S.seen source.old) }
         ensures found { IfOk result (λ found. IsFound found self.new) }
         ensures sound { IsReading self.new }
-        ensures reads { ReadsOn self.old self.new (S.left source.old) (S.left source.new) }
+        ensures reads { ReadsOn self.old self.new (S.seen source.old) (S.seen source.new) }
         ensures unread { is_first_ended self.old.held ≡ true → source.new ≡ source.old }
         ensures unended { OnErr result ((self.new.ended ≡ false) × IsUnended self.new.held) }
-        ensures fault { IsErrOf result LineFault.Read → Rose (S.faults source.old) (S.faults source.new) }
-        ensures later { S.faults source.old ≤ S.faults source.new }
+        ensures faults { TellsFault (is_read_fault result) (S.seen source.old).faults (S.seen source.new).faults }
     {
-        let mut scanned = 0;
         loop {
-            if let Some(found) = self.look(scanned) {
+            if let Some(found) = self.look() {
                 return Ok(found);
             }
-            scanned = self.held().len();
             self.fill(source)?;
         }
     }
 
-    /// Where the first line ends by what is held, of which the first `scanned` bytes have no line end.
-    /// None where more is to be read.
-    fn look(&self, scanned: usize) -> Option<Found>
-        requires { scanned ≤ position_or_len is_line_end self.now.held }
+    /// Where the first line ends by what is held. None where more is to be read.
+    fn look(&self) -> Option<Found>
         ensures sound { IsReading self.now }
         ensures found { IfSome result (λ found. IsFound found self.now) }
         ensures none { IfNone result ((self.now.ended ≡ false) × (self.now.taken ≤ SCRIPT_LIMIT) × IsUnended self.now.held) }
     {
-        match line_end(self.held(), scanned) {
+        match line_end(self.held(), self.scanned - self.start) {
             Some(end) => Some(self.found_at(end)),
             None if self.ended => Some(Found::Last),
             None if self.taken > SCRIPT_LIMIT => Some(Found::Past),
@@ -194,22 +188,23 @@ impl Reader {
         &self.bytes[self.start..]
     }
 
-    /// Takes one more piece of the source.
+    /// Takes one more piece of the source, where what is held has no line end.
     fn fill<S: Source>(&mut self, source: &mut S) -> Result<(), LineFault>
+        requires source { IsReaderOf self.old (S.seen source.old) }
         requires open { self.old.ended ≡ false }
         requires room { self.old.taken ≤ SCRIPT_LIMIT }
         requires unended { IsUnended self.old.held }
-        ensures reads { ReadsOn self.old self.new (S.left source.old) (S.left source.new) }
+        ensures reads { ReadsOn self.old self.new (S.seen source.old) (S.seen source.new) }
         ensures ok { OnOk result ((self.new.ended ≡ true) ⊎ (self.old.taken < self.new.taken)) }
         ensures err { OnErr result (self.new ≡ self.old) }
         ensures sound { IsReading self.new }
         ensures near { length self.new.held ≤ length self.old.held + PIECE }
         ensures end { self.new.ended ≡ true → self.new.held ≡ self.old.held }
-        ensures fault { IsErrOf result LineFault.Read → Rose (S.faults source.old) (S.faults source.new) }
-        ensures later { S.faults source.old ≤ S.faults source.new }
+        ensures faults { TellsFault (is_read_fault result) (S.seen source.old).faults (S.seen source.new).faults }
     {
         drop_front(&mut self.bytes, self.start);
         self.start = 0;
+        self.scanned = self.bytes.len();
         let room = SCRIPT_LIMIT + 1 - self.taken;
         let most = if room < PIECE as u64 {
             room as usize
@@ -233,9 +228,11 @@ impl Reader {
         ensures ok { OnOk result (self.new ≡ record self.old { held = drop end self.old.held }) }
         ensures err { OnErr result (self.new ≡ self.old) }
         ensures memory { OnErr result (IsErrOf result LineFault.Memory) }
+        ensures sound { IsReading self.new }
     {
         let piece = piece_of(self.alloc, &self.held()[..count])?;
         self.start += end;
+        self.scanned = self.start;
         Ok(piece)
     }
 
@@ -247,6 +244,7 @@ impl Reader {
         ensures ok { OnOk result (self.new ≡ record self.old { held = [] }) }
         ensures err { OnErr result (self.new ≡ self.old) }
         ensures memory { OnErr result (IsErrOf result LineFault.Memory) }
+        ensures sound { IsReading self.new }
     {
         let all = self.held().len();
         if all == 0 {
@@ -272,12 +270,13 @@ fn read_onto<S: Source>(
     source: &mut S,
     most: usize,
 ) -> Result<usize, LineFault>
+    requires open { (S.seen source.old).ended ≡ false }
     requires some { 0 < most }
     requires most { most ≤ PIECE }
-    ensures ok { IfOk result (λ count. ReadsPiece bytes.old.items bytes.new.items (S.left source.old) (S.left source.new) count most) }
-    ensures err { OnErr result ((bytes.new.items ≡ bytes.old.items) × Keeps (S.left source.old) (S.left source.new)) }
-    ensures fault { IsErrOf result LineFault.Read → Rose (S.faults source.old) (S.faults source.new) }
-    ensures later { S.faults source.old ≤ S.faults source.new }
+    ensures ok { IfOk result (λ count. ReadsPiece bytes.old.items bytes.new.items (S.seen source.old) (S.seen source.new) count most) }
+    ensures err { OnErr result ((bytes.new.items ≡ bytes.old.items) × Keeps (S.seen source.old).left (S.seen source.new).left) }
+    ensures open { OnErr result ((S.seen source.new).ended ≡ false) }
+    ensures faults { TellsFault (is_read_fault result) (S.seen source.old).faults (S.seen source.new).faults }
 {
     bytes.reserve(PIECE)?;
     let mut piece = [0u8; PIECE];

@@ -1,25 +1,24 @@
 //! The bytes that follow a line, in whatever pieces the stream comes.
 ghost use Rattle.std.specs.Prelude.{◌≡◌, ◌+◌, ◌-◌, ◌<◌, ◌≤◌, ◌⊎◌, ◌++◌, true, false, [], length, min, take, drop, if◌then◌else◌, Ok, IfOk, OnErr, IsErrOf, IfSome, IfNone};
-ghost use Rattle.std.specs.Io.KnownBytes.{IsAtEnd};
-ghost use Rattle.hac_outside.specs.Causes.{Rose};
-ghost use Rattle.hac_model.specs.declared.putting.Taken.TheVariants.{Whole, Dropped};
-ghost use Rattle.shell_lang.specs.Reading.{pending, given, IsReading, SameTotal};
+ghost use Rattle.shell_lang.specs.declared.taken.Taken.TheVariants.{Whole, Dropped};
+ghost use Rattle.shell_lang.specs.Reading.{pending, IsReading, IsReaderOf, Reads};
 ghost use Rattle.shell_lang.specs.Takes.{Takes, IsTakenOf, FallsShort, Follows, IsCut, within};
 
 use super::{LineFault, PIECE, Reader};
-use hac_model::{SCRIPT_LIMIT, TEXT_LIMIT, Taken, Text};
+use crate::taken::Taken;
+use hac_model::{SCRIPT_LIMIT, TEXT_LIMIT, Text};
 use hac_outside::Source;
 
 impl Reader {
     /// Takes the bytes that follow a line, as many as it asks for, or as many as the script has. They are
     /// kept where they are no more than a text may have. It reads only where none is held.
     pub fn take_put<S: Source>(&mut self, source: &mut S, asked: u64) -> Result<Taken, LineFault>
-        requires end { self.old.ended ≡ true → IsAtEnd (S.left source.old) }
+        requires source { IsReaderOf self.old (S.seen source.old) }
 
         // The line that asks for the bytes was given.
         requires near { length self.old.held < PIECE }
 
-        ensures taken { IfOk result (λ taken. Takes taken asked (pending self.old (S.left source.old)) (pending self.new (S.left source.new))) }
+        ensures taken { IfOk result (λ taken. Takes taken asked (pending self.old (S.seen source.old).left) (pending self.new (S.seen source.new).left)) }
         ensures kept { IfOk result (IsTakenOf asked) }
         ensures follows { IfOk result (λ taken. Follows taken self.old self.new) }
 
@@ -29,22 +28,21 @@ impl Reader {
         // Too few bytes are there only where the source has ended.
         ensures short { result ≡ Ok Taken.Short → self.new.ended ≡ true }
 
-        // At a fault of reading, all that was taken of the bytes is gone.
-        ensures read { IsErrOf result LineFault.Read → (self.new.ended ≡ false) × (self.new.held ≡ [])
-            × FallsShort asked (pending self.old (S.left source.old)) (pending self.new (S.left source.new)) }
-        ensures fault { IsErrOf result LineFault.Read → Rose (S.faults source.old) (S.faults source.new) }
+        // After a failure all that was taken of the bytes is gone; where it is one of reading, nothing is held.
+        ensures err { OnErr result (FallsShort asked self.new (pending self.old (S.seen source.old).left) (S.seen source.new).left) }
+        ensures read { IsErrOf result LineFault.Read → (self.new.ended ≡ false) × (self.new.held ≡ []) }
 
-        // A source that is found to have ended has nothing more, and then nothing is held.
-        ensures ended { self.new.ended ≡ true → IsAtEnd (S.left source.new) }
+        // Where the source is found to have ended here, nothing is held.
         ensures last { self.new.ended ≡ true → (self.old.ended ≡ true) ⊎ (self.new.held ≡ []) }
-        ensures stays { self.old.ended ≡ true → self.new.ended ≡ true }
-        ensures total { SameTotal self.old.taken (S.left source.old) self.new.taken (S.left source.new) }
-        ensures limit { self.new.taken ≤ SCRIPT_LIMIT + 1 }
-        ensures later { S.faults source.old ≤ S.faults source.new }
+
+        ensures reads { Reads result self.old self.new (S.seen source.old) (S.seen source.new) }
     {
         let keeps = asked <= TEXT_LIMIT;
         let mut text = Vec::new(self.alloc);
         let mut due = asked;
+        if asked == 0 {
+            return Ok(all_of(text, keeps));
+        }
         'bytes: loop {
             let count = self.take_held(&mut text, due, keeps)?;
             due -= count;
@@ -63,6 +61,7 @@ impl Reader {
         ensures count { IfOk result (λ count. count ≡ min most (within self.old)) }
         ensures held { IfOk result (λ count. self.new ≡ record self.old { held = drop count self.old.held }) }
         ensures kept { IfOk result (λ count. keeps ≡ true → text.new.items ≡ text.old.items ++ take count self.old.held) }
+        ensures dropped { keeps ≡ false → text.new.items ≡ text.old.items }
         ensures err { OnErr result (self.new ≡ self.old) }
         ensures memory { OnErr result (IsErrOf result LineFault.Memory) }
         ensures was { IsReading self.old }
@@ -78,6 +77,7 @@ impl Reader {
             text.extend_from_slice(&self.held()[..count])?;
         }
         self.start += count;
+        self.scanned = self.scanned.max(self.start);
         Ok(count as u64)
     }
 
@@ -96,8 +96,9 @@ impl Reader {
     }
 }
 
-/// What came where all bytes came.
+/// What came where all bytes came. Of bytes that aren't kept none were.
 fn all_of(text: Vec<u8>, keeps: bool) -> Taken
+    requires { keeps ≡ false → text.items ≡ [] }
     ensures { result ≡ (if keeps then Whole text.items else Dropped) }
 {
     if keeps {

@@ -1,19 +1,17 @@
-use Rattle.std.proofs.Common.{◌≡◌, true, ◌≤◌, ◌+◌, ◌-◌, cond}
-use Rattle.std.specs.List.{position_or_len}
-use Rattle.hac_model.specs.Bytes.{is_line_end}
+use Rattle.std.proofs.Common.{◌≡◌, true, ◌+◌, ◌-◌, cond}
 use Rattle.hac_model.specs.declared.limits.TheConstants.{SCRIPT_LIMIT}
 use Rattle.hac_model.specs.Script.{is_first_ended}
 use Rattle.shell_lang.specs.Reading.{ReadsOn}
 use Rattle.shell_lang.proofs.reading.Reader.find_line.Given as goal
 
--- only reading was done, and what was scanned has no line end
+-- only reading was done, and no read failed
 abbrev pub invariant-loop-found : goal.invariant-loop-found
 invariant-loop-found g l =
+    let seen = g.S.Source.seen in
     record {
-      reads : ReadsOn l.fn.self l.self (g.S.Source.left l.fn.source) (g.S.Source.left l.source);
-      scanned : l.scanned ≤ position_or_len is_line_end l.self.held;
+      reads : ReadsOn l.fn.self l.self (seen l.fn.source) (seen l.source);
       unread : is_first_ended l.fn.self.held ≡ true → l.source ≡ l.fn.source;
-      later : g.S.Source.faults l.fn.source ≤ g.S.Source.faults l.source;
+      faults : (seen l.source).faults ≡ (seen l.fn.source).faults;
     }
 
 -- a read takes a byte, or ends the source

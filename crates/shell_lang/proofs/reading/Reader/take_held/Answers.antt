@@ -1,7 +1,7 @@
 use Rattle.std.proofs.Common.{◌≡◌, ◌≤◌, List, ℕ, length, drop, drop-drop, length-drop, ap, arith, subst, sym, ◌∙◌}
 use Rattle.shell_lang.specs.Reading.{Reading, IsReading}
 use Rattle.shell_lang.specs.Takes.{within}
-use Rattle.shell_lang.proofs.TakeLemmas.{reading-moved}
+use Rattle.shell_lang.proofs.TakeLemmas.{reading-moved, scanned-moved}
 use Rattle.shell_lang.proofs.reading.Reader.take_held.Goals as goal
 use Rattle.shell_lang.proofs.reading.Reader.take_held.Goals.{then-most-within, else-most-within}
 
@@ -17,8 +17,13 @@ invariant_of-self c =
       | else-most-within w ↦ omega (arith, w.count-is, held, taken, c.saturating_sub.ensures)
     ] in
     let moved = reading-moved old count c.self.invariant.reading bound in
+    let scanned = scanned-moved inside.start inside.scanned count inside.bytes.items c.self.invariant.begun c.self.invariant.scanned (omega (arith, bound)) in
     record {
       start = omega (arith, bound, length-drop inside.start inside.bytes.items, c.self.invariant.start);
+      begun = omega (arith, c.max-self-inside.ensures);
+      scanned = omega (arith, scanned, c.max-self-inside.ensures);
+      near = omega (arith, c.self.invariant.near, c.max-self-inside.ensures);
+      kept = c.self.invariant.kept;
       reading = subst (λ (held : List ℕ). IsReading (record { held = held; taken = inside.taken; ended = inside.ended })) (drop-drop count inside.start inside.bytes.items) moved;
     }
 

@@ -1,18 +1,18 @@
-use Rattle.std.proofs.Common.{◌≡◌, ◌≤◌, ◌+◌, ◌-◌, cond}
+use Rattle.std.proofs.Common.{◌≡◌, ◌<◌, ◌≤◌, ◌+◌, ◌-◌, cond}
 use Rattle.hac_model.specs.declared.limits.TheConstants.{SCRIPT_LIMIT}
 use Rattle.shell_lang.specs.Takes.{within}
 use Rattle.shell_lang.proofs.TakeLemmas.{TakesSome}
 use Rattle.shell_lang.proofs.reading.Reader.take_put.Given as goal
 
--- what was taken so far, and what is still due, are the bytes that were asked for
+-- what was taken so far, and what is still due, are the bytes that were asked for, and no read failed
 abbrev pub invariant-bytes : goal.invariant-bytes
 invariant-bytes g l =
-    let left = g.S.Source.left in
+    let seen = g.S.Source.seen in
     record {
-      takes : TakesSome l.fn.self l.self (left l.fn.source) (left l.source) l.asked l.due l.keeps l.text.items;
+      takes : TakesSome l.fn.self l.self (seen l.fn.source) (seen l.source) l.asked l.due l.keeps l.text.items;
+      more : 0 < l.due;
       unread : l.asked ≤ within l.fn.self → (l.source ≡ l.fn.source) × (l.due ≤ within l.self);
-      limit : l.self.taken ≤ SCRIPT_LIMIT + 1;
-      later : g.S.Source.faults l.fn.source ≤ g.S.Source.faults l.source;
+      faults : (seen l.source).faults ≡ (seen l.fn.source).faults;
     }
 
 -- a read takes a byte, or ends the source

@@ -1,0 +1,15 @@
+//! What the reader took of the bytes that a line asks for.
+use hac_model::Text;
+
+/// What came of the bytes that a line asks for behind its end.
+#[derive(Debug, Drop)]
+pub enum Taken {
+    /// All of them.
+    Whole(Text),
+    /// All came, and they are more than a text may have, so they weren't kept.
+    Dropped,
+    /// The script ended before they did.
+    Short,
+    /// The script's limit came before their end.
+    PastLimit,
+}
