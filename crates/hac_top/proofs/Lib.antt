@@ -1,5 +1,4 @@
-pub mod ObeyLemmas
 pub mod WrittenLemmas
+pub mod TakenLemmas
 pub mod GoesOn
-pub mod TurnLemmas
 pub mod RunLemmas

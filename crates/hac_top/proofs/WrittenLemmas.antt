@@ -1,19 +1,20 @@
--- What a sink holds after two writes, the second of which may fail.
-use Rattle.std.proofs.Common.{ℕ, List, length, sym, ◌∙◌, rules, append-nil, subst, Option, Some, None}
+-- What a sink holds after one write and another.
+use Rattle.std.proofs.Common.{◌≡◌, ℕ, ◌≤◌, List, [], ◌++◌, length, refl, ap, sym, ◌∙◌, arith, rules, append_assoc, append-nil, subst, Option, Some, None}
 use Rattle.std.specs.Prelude.{Result, Ok, Err, OnErr}
 use Rattle.std.specs.Io.KnownBytes.{Appends, Keeps}
 use Rattle.std.proofs.Math.Seq.{take-length}
-use Rattle.hac_outside.specs.Causes.{AppendsSome}
+use Rattle.hac_outside.specs.Seen.{SinkSeen, Writes, WritesSome}
+use Rattle.hac_top.specs.Run.{AppendsSome}
+use Rattle.hac_top.specs.Stops.{CutsAnswer}
+use Rattle.hac_top.specs.declared.answering.Stop.{Stop}
+use Rattle.hac_top.specs.declared.answering.Stop.TheVariants.{WriteFault}
 
--- all of the bytes are some of them
-pub some-all : (old new : Option (List ℕ)) (bytes : List ℕ) → Appends old new bytes → AppendsSome old new bytes
-some-all old new bytes all = (length bytes, subst (λ (xs : List ℕ). Appends old new xs) (sym (take-length bytes)) all)
-
--- nothing is some of any bytes
-pub some-none : (old new : Option (List ℕ)) (bytes : List ℕ) → Keeps old new → AppendsSome old new bytes
-some-none None new bytes keeps = (0, search rules)
-some-none (Some xs) None bytes keeps = absurd keeps
-some-none (Some xs) (Some ys) bytes keeps = (0, keeps ∙ sym (append-nil xs))
+-- bytes and then more bytes are all of them
+pub appends-then : (a b c : Option (List ℕ)) (xs ys : List ℕ) → Appends a b xs → Appends b c ys → Appends a c (xs ++ ys)
+appends-then None b c xs ys first second = search rules
+appends-then (Some x) None c xs ys first second = absurd first
+appends-then (Some x) (Some y) None xs ys first second = absurd second
+appends-then (Some x) (Some y) (Some z) xs ys first second = second ∙ ap (λ (all : List ℕ). all ++ ys) first ∙ append_assoc x xs ys
 
 -- a sink that keeps what it holds holds no less
 pub appends-keeps : (a b c : Option (List ℕ)) (bytes : List ℕ) → Appends a b bytes → Keeps b c → Appends a c bytes
@@ -22,7 +23,33 @@ appends-keeps (Some x) None c bytes first second = absurd first
 appends-keeps (Some x) (Some y) None bytes first second = absurd second
 appends-keeps (Some x) (Some y) (Some z) bytes first second = second ∙ first
 
--- the same, whether the flush fails or not
-pub some-flushed : {E : Type 0} (result : Result (Unit {0}) E) (a b c : Option (List ℕ)) (bytes : List ℕ) → Appends a b bytes → Keeps b c → OnErr result (AppendsSome a c bytes)
-some-flushed (Ok done) a b c bytes first second = search rules
-some-flushed (Err fault) a b c bytes first second = some-all a c bytes (appends-keeps a b c bytes first second)
+-- nothing was written
+pub appends-nothing : (a : Option (List ℕ)) → Appends a a []
+appends-nothing None = search rules
+appends-nothing (Some x) = sym (append-nil x)
+
+-- all bytes were written, and the flush failed or not
+pub some-flushed : {E : Type 0} (result : Result (Unit {0}) E) (a b c : SinkSeen) (bytes : List ℕ) → Writes a b bytes → Keeps b.written c.written → c.held_back ≤ b.held_back → OnErr result (WritesSome a c bytes)
+some-flushed (Ok done) a b c bytes writes keeps less = search rules
+some-flushed (Err fault) a b c bytes writes keeps less =
+    record {
+      count = length bytes;
+      within = omega arith;
+      front = subst (λ (xs : List ℕ). Writes a c xs) (sym (take-length bytes)) (record { written = appends-keeps a.written b.written c.written bytes writes.written keeps; held = omega (arith, writes.held, less) });
+    }
+
+-- some of the bytes are some of them
+pub some-written : (a b : SinkSeen) (bytes : List ℕ) → WritesSome a b bytes → AppendsSome a.written b.written bytes
+some-written a b bytes some = (some.count, some.front.written)
+
+pub some-all : (a b : Option (List ℕ)) (bytes : List ℕ) → Appends a b bytes → AppendsSome a b bytes
+some-all a b bytes all = (length bytes, subst (λ (xs : List ℕ). Appends a b xs) (sym (take-length bytes)) all)
+
+-- an answer that stops before a write
+pub cut-none : (stop : Stop) (sink : SinkSeen) (bytes : List ℕ) → CutsAnswer stop sink sink bytes
+cut-none stop sink bytes =
+    record { count = 0; within = omega arith; front = record { written = appends-nothing sink.written; held = omega arith }; none = λ _. refl }
+
+-- an answer that stops at a write or a flush
+pub cut-some : (stop : Stop) (a b : SinkSeen) (bytes : List ℕ) → stop ≡ WriteFault → WritesSome a b bytes → CutsAnswer stop a b bytes
+cut-some stop a b bytes is some = record { count = some.count; within = some.within; front = some.front; none = λ other. absurd (other is) }

@@ -1,5 +1,7 @@
--- The statuses of a run that reads its script to the end.
-use Rattle.std.specs.Prelude.{◌≡◌, ◌⊎◌, ℕ, Bool, if◌then◌else◌}
+-- The statuses of a run.
+use Rattle.std.specs.Prelude.{◌≡◌, ◌⊎◌, ℕ, Bool, true, false, if◌then◌else◌, Result, Ok, Err}
+use Rattle.hac_top.specs.declared.answering.Stop.{Stop}
+use Rattle.hac_top.specs.declared.answering.Stop.TheVariants as stop
 use Rattle.hac_top.specs.declared.status.Status.{Status}
 use Rattle.hac_top.specs.declared.status.Status.TheVariants.{Done, SomeRefused, Usage, ReadFault, WriteFault, Memory, TooLong}
 
@@ -16,6 +18,28 @@ status_number TooLong = 9
 abbrev pub finished_status : Bool → Status
 finished_status refused = if refused then SomeRefused else Done
 
+-- the status of a run that stopped
+abbrev pub stopped_status : Stop → Status
+stopped_status stop.ReadFault = ReadFault
+stopped_status stop.WriteFault = WriteFault
+stopped_status stop.Memory = Memory
+stopped_status stop.TooLong = TooLong
+
+-- the status of a run, told whether some command was refused, or why it stopped
+abbrev pub end_status : Result Bool Stop → Status
+end_status (Ok refused) = finished_status refused
+end_status (Err why) = stopped_status why
+
 -- the script was read to its end
 abbrev pub IsFinished : Status → Type 0
 IsFinished status = (status ≡ Done) ⊎ (status ≡ SomeRefused)
+
+-- the run tells of a read that failed
+abbrev pub is_read_fault : Status → Bool
+is_read_fault ReadFault = true
+is_read_fault other = false
+
+-- the run tells of a write or a flush that failed
+abbrev pub is_write_fault : Status → Bool
+is_write_fault WriteFault = true
+is_write_fault other = false

@@ -1,4 +1,6 @@
 pub mod Ends
+pub mod Settings
 pub mod Stops
-pub mod Turns
+pub mod TakenLines
+pub mod Told
 pub mod Run

@@ -1,40 +1,40 @@
--- What a run over a script promises, where its source tells the script.
-use Rattle.std.specs.Prelude.{◌≡◌, ℕ, ◌+◌, ◌<◌, ◌≤◌, ⊤, List, [], ◌++◌, length, take, drop, codes, Option, None, Some}
+-- What a run promises. Most of it hangs on the script, which its source may tell.
+use Rattle.std.specs.Prelude.{◌≡◌, ◌⊎◌, ℕ, ◌+◌, ◌<◌, ◌≤◌, ⊤, List, [], ◌++◌, length, take, drop, codes, Option, None, Some}
 use Rattle.std.specs.Io.KnownBytes.{Appends}
-use Rattle.hac_model.specs.Play.{play, has_refusal}
-use Rattle.hac_model.specs.Printed.{ended, text}
+use Rattle.hac_outside.specs.Causes.{TellsFault}
+use Rattle.hac_outside.specs.Seen.{SourceSeen, SinkSeen}
+use Rattle.hac_model.specs.Play.{Turn, opening, play, has_refusal}
+use Rattle.hac_model.specs.Printed.{ended}
 use Rattle.hac_model.specs.Script.{after_item, whole}
-use Rattle.hac_model.specs.Tree.{empty}
 use Rattle.hac_model.specs.declared.limits.TheConstants.{SCRIPT_LIMIT}
-use Rattle.hac_top.specs.Ends.{finished_status}
+use Rattle.hac_top.specs.Ends.{IsFinished, finished_status, is_read_fault, is_write_fault}
+use Rattle.hac_top.specs.Told.{Told}
 use Rattle.hac_top.specs.declared.status.Status.{Status}
+use Rattle.hac_top.specs.declared.status.Status.TheVariants.{Usage, ReadFault, WriteFault, Memory, TooLong}
 use Rattle.shell_lang.specs.declared.reading.TheConstants.{PIECE}
+
+-- what a run works on, as it is seen
+pub record Outside : Type 0 where
+  pub source : SourceSeen
+  pub sink : SinkSeen
+
+abbrev pub outside : SourceSeen → SinkSeen → Outside
+outside source sink = record { source = source; sink = sink }
 
 -- what is written where the words of the program are none that it takes
 abbrev pub usage_line : List ℕ
 usage_line = ended (codes "usage: hac")
 
--- the script was read to its end, and each reply was written: no more and no less
-pub record AnswersAll (status : Status) (script : List ℕ) (left before after : Option (List ℕ)) : Type 0 where
-  pub read : left ≡ Some []
-  pub within : length script ≤ SCRIPT_LIMIT
-  pub status_is : status ≡ finished_status (has_refusal (play script empty))
-  pub written : Appends before after (text (play script empty))
+-- known bytes grow by some beginning of these bytes
+abbrev pub AppendsSome : Option (List ℕ) → Option (List ℕ) → List ℕ → Type 0
+AppendsSome old new bytes = (n : ℕ) × Appends old new (take n bytes)
 
--- a part of the script was taken, and each whole line of it was answered
-pub record AnswersTaken (script : List ℕ) (left before after : Option (List ℕ)) : Type 0 where
-  pub taken : List ℕ
-  pub rest : List ℕ
-  pub script_is : script ≡ taken ++ rest
-  pub left_is : left ≡ Some rest
-  pub written : Appends before after (text (play (whole taken) empty))
-
--- the script is longer than a script may be, so much of it and one byte were taken, and each line within the limit was
--- answered
-pub record AnswersWithin (script : List ℕ) (left before after : Option (List ℕ)) : Type 0 where
-  pub longer : SCRIPT_LIMIT < length script
-  pub left_is : left ≡ Some (drop (SCRIPT_LIMIT + 1) script)
-  pub written : Appends before after (text (play (whole (take SCRIPT_LIMIT script)) empty))
+-- words are refused: nothing is read, and the usage is told or the sink fails
+pub record RefusesWords (status : Status) (before after : Outside) : Type 0 where
+  pub status_is : (status ≡ Usage) ⊎ (status ≡ WriteFault)
+  pub unread : after.source ≡ before.source
+  pub told : status ≡ Usage → Appends before.sink.written after.sink.written usage_line
+  pub some : AppendsSome before.sink.written after.sink.written usage_line
 
 -- at most one byte more than the limit of a script was taken
 abbrev pub TakesWithin : Option (List ℕ) → Option (List ℕ) → Type 0
@@ -42,9 +42,39 @@ TakesWithin None new = ⊤
 TakesWithin (Some old) None = ⊥
 TakesWithin (Some old) (Some new) = length old ≤ length new + (SCRIPT_LIMIT + 1)
 
+-- What any run says of its source and sink. A fault that happened is told, and no other is. Unless the sink failed, it has
+-- passed on all that it was written, if it had before.
+pub record Ends (status : Status) (before after : Outside) : Type 0 where
+  pub reads : TellsFault (is_read_fault status) before.source.faults after.source.faults
+  pub writes : TellsFault (is_write_fault status) before.sink.faults after.sink.faults
+  pub within : TakesWithin before.source.left after.source.left
+  pub passed : (status ≡ WriteFault → ⊥) → before.sink.held_back ≡ 0 → after.sink.held_back ≡ 0
+
+-- the script was read to its end, and each reply was written: no more and no less
+pub record AnswersAll (status : Status) (script : List ℕ) (done : ℕ) (left : Option (List ℕ)) : Type 0 where
+  pub read : left ≡ Some []
+  pub within : length script ≤ SCRIPT_LIMIT
+  pub status_is : status ≡ finished_status (has_refusal (play opening script))
+  pub all : done ≡ length (play opening script)
+
+-- a part of the script was taken, and each whole line of it was answered
+pub record AnswersTaken (script : List ℕ) (done : ℕ) (left : Option (List ℕ)) : Type 0 where
+  pub taken : List ℕ
+  pub rest : List ℕ
+  pub script_is : script ≡ taken ++ rest
+  pub left_is : left ≡ Some rest
+  pub all : take done (play opening script) ≡ play opening (whole taken)
+
+-- the script is longer than a script may be, so much of it and one byte were taken, and each line within the limit was
+-- answered
+pub record AnswersWithin (script : List ℕ) (done : ℕ) (left : Option (List ℕ)) : Type 0 where
+  pub longer : SCRIPT_LIMIT < length script
+  pub left_is : left ≡ Some (drop (SCRIPT_LIMIT + 1) script)
+  pub all : take done (play opening script) ≡ play opening (whole (take SCRIPT_LIMIT script))
+
 -- Of what was taken, all was answered but one line with the bytes that belong to it, and less than one piece behind them.
 -- So no read goes beyond the piece in which an unanswered line ends, with its bytes.
-pub record AnswersPromptly (script : List ℕ) (left before after : Option (List ℕ)) : Type 0 where
+pub record AnswersPromptly (script : List ℕ) (done : ℕ) (left : Option (List ℕ)) : Type 0 where
   pub answered : List ℕ
   pub line : List ℕ
   pub behind : List ℕ
@@ -54,5 +84,19 @@ pub record AnswersPromptly (script : List ℕ) (left before after : Option (List
   pub whole_is : whole answered ≡ answered
   pub one : after_item line ≡ []
   pub near : length behind < PIECE
-  pub told : List ℕ
-  pub written : Appends before after (text (play answered empty) ++ told)
+  pub all : (more : List Turn) × (take done (play opening script) ≡ play opening answered ++ more)
+
+-- However the run ends, the replies are those of the plain tree, none ahead of time and none late. A reply is cut off only
+-- where the sink failed.
+pub record Plays (status : Status) (script : List ℕ) (before after : Outside) : Type 0 where
+  pub told : Told (play opening script) before.sink after.sink
+  pub whole : (status ≡ WriteFault → ⊥) → told.cut ≡ []
+  pub prompt : AnswersPromptly script told.done after.source.left
+  pub finished : IsFinished status → AnswersAll status script told.done after.source.left
+  pub read_fault : status ≡ ReadFault → AnswersTaken script told.done after.source.left
+  pub too_long : status ≡ TooLong → AnswersWithin script told.done after.source.left
+
+-- without a fault a script within the limit is read to its end, and a longer one is told as such, unless memory runs out
+pub record Completes (status : Status) (script : List ℕ) : Type 0 where
+  pub within : length script ≤ SCRIPT_LIMIT → IsFinished status ⊎ (status ≡ Memory)
+  pub past : SCRIPT_LIMIT < length script → (status ≡ TooLong) ⊎ (status ≡ Memory)

@@ -1,22 +1,22 @@
 //! Answering: a command is carried out, and its reply is written and flushed.
-ghost use Rattle.std.specs.Prelude.{◌≡◌, ◌≤◌, ◌||◌, false, IfOk, IfErr, OnOk, OnErr, IsErrOf};
+ghost use Rattle.std.specs.Prelude.{◌≡◌, ◌||◌, false, IfOk, IfErr, OnOk, OnErr};
 ghost use Rattle.std.specs.Io.KnownBytes.{Appends};
-ghost use Rattle.hac_outside.specs.Causes.{AppendsSome, HasCause, Rose};
-ghost use Rattle.hac_model.specs.Lines.{item_of};
-ghost use Rattle.hac_model.specs.Play.{reply_to, tree_after, replies, tree_after_all, is_refused, has_refusal};
-ghost use Rattle.hac_model.specs.Printed.{reply_text, text};
-ghost use Rattle.hac_model.specs.Tree.{empty};
-ghost use Rattle.hac_model.specs.Valid.{IsValid};
-ghost use Rattle.hac_top.specs.Stops.{StopsAnswer};
-ghost use Rattle.hac_top.specs.Turns.{items_of_turn};
+ghost use Rattle.hac_outside.specs.Causes.{HasCause, TellsFault};
+ghost use Rattle.hac_outside.specs.Seen.{WritesSome};
+ghost use Rattle.hac_model.specs.Play.{turn, turns, left_by, is_refused, has_refusal, opening};
+ghost use Rattle.hac_model.specs.Printed.{reply_text};
+ghost use Rattle.hac_top.specs.Settings.{setting_of};
+ghost use Rattle.hac_top.specs.Stops.{CutsAnswer, StopsAnswer, is_write_stop};
+ghost use Rattle.hac_top.specs.TakenLines.{items_of_taken};
+ghost use Rattle.hac_top.specs.Told.{told_text};
+ghost use Rattle.shell_lang.specs.Told.{item_taken};
 
 use crate::obeying::carry_out;
-use crate::taking::Turn;
+use crate::taking::TakenLine;
 use hac_core::Machine;
-use hac_model::laws::empty_is_valid;
-use hac_model::{LimitWord, Memory, Refusal, Reply, Taken, Text};
+use hac_model::{LimitWord, Memory, Refusal, Reply, Text};
 use hac_outside::{Failed, Sink, write_all};
-use shell_lang::{LineFault, Piece, print_reply};
+use shell_lang::{LineFault, Piece, Taken, print_reply};
 use std::alloc::Global;
 
 /// Why a run stops before the end of its script.
@@ -81,11 +81,9 @@ pub struct Player {
 impl Player {
     /// The player of a script that begins: the tree is empty, and no command was refused.
     pub fn new(alloc: Global) -> Result<Player, Memory>
-        ensures tree { IfOk result (λ player. player.tree ≡ empty) }
-        ensures valid { IfOk result (λ player. IsValid player.tree) }
+        ensures tree { IfOk result (λ player. setting_of player.tree ≡ opening) }
         ensures refused { IfOk result (λ player. player.refused ≡ false) }
     {
-        empty_is_valid();
         Ok(Player {
             alloc,
             tree: Machine::new(alloc)?,
@@ -94,17 +92,16 @@ impl Player {
     }
 
     /// Carries out what a line of the script asks for, and tells the reply, where there is one.
-    pub fn answer<K: Sink>(&mut self, output: &mut K, turn: Turn) -> Result<(), Stop>
-        requires valid { IsValid self.old.tree }
-        ensures tree { OnOk result (self.new.tree ≡ tree_after_all (items_of_turn turn) self.old.tree) }
-        ensures refused { OnOk result (self.new.refused ≡ (self.old.refused || has_refusal (replies (items_of_turn turn) self.old.tree))) }
-        ensures written { OnOk result (Appends (K.written output.old) (K.written output.new) (text (replies (items_of_turn turn) self.old.tree))) }
-        ensures err { OnErr result (AppendsSome (K.written output.old) (K.written output.new) (text (replies (items_of_turn turn) self.old.tree))) }
+    pub fn answer<K: Sink>(&mut self, output: &mut K, line: TakenLine) -> Result<(), Stop>
+        ensures tree { OnOk result (setting_of self.new.tree ≡ left_by (setting_of self.old.tree) (turns (setting_of self.old.tree) (items_of_taken line))) }
+        ensures refused { OnOk result (self.new.refused ≡ (self.old.refused || has_refusal (turns (setting_of self.old.tree) (items_of_taken line)))) }
+        ensures written { OnOk result (Appends (K.seen output.old).written (K.seen output.new).written (told_text (turns (setting_of self.old.tree) (items_of_taken line)))) }
+        ensures passed { OnOk result ((K.seen output.old).held_back ≡ 0 → (K.seen output.new).held_back ≡ 0) }
+        ensures cut { IfErr result (λ stop. CutsAnswer stop (K.seen output.old) (K.seen output.new) (told_text (turns (setting_of self.old.tree) (items_of_taken line)))) }
         ensures stops { IfErr result StopsAnswer }
-        ensures fault { IsErrOf result Stop.WriteFault → Rose (K.faults output.old) (K.faults output.new) }
-        ensures later { K.faults output.old ≤ K.faults output.new }
+        ensures faults { TellsFault (is_write_stop result) (K.seen output.old).faults (K.seen output.new).faults }
     {
-        let Turn { piece, taken } = turn;
+        let TakenLine { piece, taken } = line;
         match piece {
             Piece::Bytes(line) => self.answer_line(output, line, taken),
             Piece::LongLine => self.tell(output, Reply::Refused(Refusal::Limit(LimitWord::Line))),
@@ -118,14 +115,13 @@ impl Player {
         line: Text,
         taken: Option<Taken>,
     ) -> Result<(), Stop>
-        requires valid { IsValid self.old.tree }
-        ensures tree { OnOk result (self.new.tree ≡ tree_after (item_of line taken) self.old.tree) }
-        ensures refused { OnOk result (self.new.refused ≡ (self.old.refused || is_refused (reply_to (item_of line taken) self.old.tree))) }
-        ensures written { OnOk result (Appends (K.written output.old) (K.written output.new) (reply_text (reply_to (item_of line taken) self.old.tree))) }
-        ensures err { OnErr result (AppendsSome (K.written output.old) (K.written output.new) (reply_text (reply_to (item_of line taken) self.old.tree))) }
+        ensures tree { OnOk result (setting_of self.new.tree ≡ (turn (setting_of self.old.tree) (item_taken line taken)).after) }
+        ensures refused { OnOk result (self.new.refused ≡ (self.old.refused || is_refused (turn (setting_of self.old.tree) (item_taken line taken)).reply)) }
+        ensures written { OnOk result (Appends (K.seen output.old).written (K.seen output.new).written (reply_text (turn (setting_of self.old.tree) (item_taken line taken)).reply)) }
+        ensures passed { OnOk result ((K.seen output.new).held_back ≡ 0) }
+        ensures cut { IfErr result (λ stop. CutsAnswer stop (K.seen output.old) (K.seen output.new) (reply_text (turn (setting_of self.old.tree) (item_taken line taken)).reply)) }
         ensures stops { IfErr result StopsAnswer }
-        ensures fault { IsErrOf result Stop.WriteFault → Rose (K.faults output.old) (K.faults output.new) }
-        ensures later { K.faults output.old ≤ K.faults output.new }
+        ensures faults { TellsFault (is_write_stop result) (K.seen output.old).faults (K.seen output.new).faults }
     {
         let reply = carry_out(self.alloc, &mut self.tree, line, taken)?;
         self.tell(output, reply)
@@ -135,11 +131,11 @@ impl Player {
     fn tell<K: Sink>(&mut self, output: &mut K, reply: Reply) -> Result<(), Stop>
         ensures tree { self.new.tree ≡ self.old.tree }
         ensures refused { OnOk result (self.new.refused ≡ (self.old.refused || is_refused reply)) }
-        ensures written { OnOk result (Appends (K.written output.old) (K.written output.new) (reply_text reply)) }
-        ensures err { OnErr result (AppendsSome (K.written output.old) (K.written output.new) (reply_text reply)) }
+        ensures written { OnOk result (Appends (K.seen output.old).written (K.seen output.new).written (reply_text reply)) }
+        ensures passed { OnOk result ((K.seen output.new).held_back ≡ 0) }
+        ensures cut { IfErr result (λ stop. CutsAnswer stop (K.seen output.old) (K.seen output.new) (reply_text reply)) }
         ensures stops { IfErr result StopsAnswer }
-        ensures fault { IsErrOf result Stop.WriteFault → Rose (K.faults output.old) (K.faults output.new) }
-        ensures later { K.faults output.old ≤ K.faults output.new }
+        ensures faults { TellsFault (is_write_stop result) (K.seen output.old).faults (K.seen output.new).faults }
     {
         let bytes = print_reply(self.alloc, &reply)?;
         self.refused = self.refused | is_refused(&reply);
@@ -159,9 +155,10 @@ fn is_refused(reply: &Reply) -> bool
 
 /// Writes bytes and flushes them, so that their reader has them before anything else is done.
 pub fn tell_bytes<K: Sink>(output: &mut K, bytes: &[u8]) -> Result<(), Failed>
-    ensures ok { OnOk result (Appends (K.written output.old) (K.written output.new) bytes.now) }
-    ensures err { OnErr result (AppendsSome (K.written output.old) (K.written output.new) bytes.now) }
-    ensures cause { HasCause (K.faults output.old) (K.faults output.new) result }
+    ensures ok { OnOk result (Appends (K.seen output.old).written (K.seen output.new).written bytes.now) }
+    ensures passed { OnOk result ((K.seen output.new).held_back ≡ 0) }
+    ensures err { OnErr result (WritesSome (K.seen output.old) (K.seen output.new) bytes.now) }
+    ensures cause { HasCause (K.seen output.old).faults (K.seen output.new).faults result }
 {
     write_all(output, bytes)?;
     output.flush()

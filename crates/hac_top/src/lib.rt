@@ -10,6 +10,3 @@ mod taking;
 
 pub use running::run;
 pub use status::Status;
-
-#[cfg(test)]
-mod tests;

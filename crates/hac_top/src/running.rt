@@ -1,17 +1,13 @@
 //! The run: the script is taken line by line, and each line is answered before the next is taken up.
-ghost use Rattle.std.specs.Prelude.{◌≡◌, ◌⊎◌, ◌<◌, ◌≤◌, ◌+◌, [], length, IfOk, IfSome, Ok, Err, Some};
-ghost use Rattle.std.specs.Io.KnownBytes.{Appends, Keeps};
-ghost use Rattle.hac_outside.specs.Causes.{AppendsSome, Rose};
-ghost use Rattle.hac_model.specs.Play.{play, has_refusal};
-ghost use Rattle.hac_model.specs.Printed.{text};
-ghost use Rattle.hac_model.specs.Tree.{empty};
-ghost use Rattle.hac_top.specs.Ends.{IsFinished, finished_status};
-ghost use Rattle.hac_top.specs.Run.{usage_line, AnswersAll, AnswersTaken, AnswersWithin, AnswersPromptly, TakesWithin};
+ghost use Rattle.std.specs.Prelude.{◌≡◌, ◌⊎◌, ◌<◌, false, length, IfSome};
+ghost use Rattle.std.specs.Io.KnownBytes.{Appends};
+ghost use Rattle.hac_outside.specs.Causes.{Rose, TellsFault};
+ghost use Rattle.hac_top.specs.Ends.{end_status, is_write_fault};
+ghost use Rattle.hac_top.specs.Run.{usage_line, outside, AppendsSome, RefusesWords, Ends, Plays, Completes};
 
 use crate::answering::{Player, Stop, tell_bytes};
 use crate::status::Status;
-use crate::taking::take_turn;
-use hac_model::SCRIPT_LIMIT;
+use crate::taking::take_line;
 use hac_outside::{Sink, Source};
 use shell_lang::Reader;
 use std::alloc::Global;
@@ -27,35 +23,26 @@ pub fn run<S: Source, K: Sink>(
     input: &mut S,
     output: &mut K,
 ) -> Status
-    // Words are refused, and then nothing is read.
+    requires { (S.seen input.old).ended ≡ false }
+
+    // Words are refused.
     ensures usage { result ≡ Status.Usage → 0 < length words.now }
-    ensures words { 0 < length words.now → (result ≡ Status.Usage) ⊎ (result ≡ Status.WriteFault) }
-    ensures unread { 0 < length words.now → Keeps (S.left input.old) (S.left input.new) }
-    ensures usage_written { result ≡ Status.Usage → Appends (K.written output.old) (K.written output.new) usage_line }
-    ensures usage_prefix { 0 < length words.now → AppendsSome (K.written output.old) (K.written output.new) usage_line }
+    ensures words { 0 < length words.now → RefusesWords result (outside (S.seen input.old) (K.seen output.old)) (outside (S.seen input.new) (K.seen output.new)) }
 
-    // Else the replies are those of the plain tree, however the run ends.
-    ensures finished { IsFinished result → IfSome (S.left input.old) (λ script.
-        AnswersAll result script (S.left input.new) (K.written output.old) (K.written output.new)) }
-    ensures read_fault { result ≡ Status.ReadFault → IfSome (S.left input.old) (λ script.
-        AnswersTaken script (S.left input.new) (K.written output.old) (K.written output.new)) }
-    ensures too_long { result ≡ Status.TooLong → IfSome (S.left input.old) (λ script.
-        AnswersWithin script (S.left input.new) (K.written output.old) (K.written output.new)) }
-    ensures prompt { length words.now ≡ 0 → result ≡ Status.WriteFault → IfSome (S.left input.old) (λ script.
-        AnswersPromptly script (S.left input.new) (K.written output.old) (K.written output.new)) }
-    ensures prefix { length words.now ≡ 0 → IfSome (S.left input.old) (λ script.
-        AppendsSome (K.written output.old) (K.written output.new) (text (play script empty))) }
-    ensures within { TakesWithin (S.left input.old) (S.left input.new) }
+    // Else the script is played, where the source tells it.
+    ensures plays { length words.now ≡ 0 → IfSome (S.seen input.old).left (λ script.
+        Plays result script (outside (S.seen input.old) (K.seen output.old)) (outside (S.seen input.new) (K.seen output.new))) }
 
-    // A fault has its cause in this run.
-    ensures read_cause { result ≡ Status.ReadFault → Rose (S.faults input.old) (S.faults input.new) }
-    ensures write_cause { result ≡ Status.WriteFault → Rose (K.faults output.old) (K.faults output.new) }
+    // Whatever the source tells, a fault is told, and nothing is left behind in the sink.
+    ensures ends { Ends result (outside (S.seen input.old) (K.seen output.old)) (outside (S.seen input.new) (K.seen output.new)) }
+    ensures read_told { (S.seen input.old).faults < (S.seen input.new).faults → result ≡ Status.ReadFault }
+    ensures write_told { (K.seen output.old).faults < (K.seen output.new).faults → result ≡ Status.WriteFault }
+    ensures read_cause { result ≡ Status.ReadFault → Rose (S.seen input.old).faults (S.seen input.new).faults }
+    ensures write_cause { result ≡ Status.WriteFault → Rose (K.seen output.old).faults (K.seen output.new).faults }
 
     // Without a fault the script is played, unless memory runs out.
-    ensures complete { length words.now ≡ 0 → ¬ Rose (S.faults input.old) (S.faults input.new) → ¬ Rose (K.faults output.old) (K.faults output.new) →
-        IfSome (S.left input.old) (λ script. length script ≤ SCRIPT_LIMIT → IsFinished result ⊎ (result ≡ Status.Memory)) }
-    ensures complete_past { length words.now ≡ 0 → ¬ Rose (S.faults input.old) (S.faults input.new) → ¬ Rose (K.faults output.old) (K.faults output.new) →
-        IfSome (S.left input.old) (λ script. SCRIPT_LIMIT < length script → (result ≡ Status.TooLong) ⊎ (result ≡ Status.Memory)) }
+    ensures complete { length words.now ≡ 0 → ¬ Rose (S.seen input.old).faults (S.seen input.new).faults → ¬ Rose (K.seen output.old).faults (K.seen output.new).faults →
+        IfSome (S.seen input.old).left (Completes result) }
 {
     if !words.is_empty() {
         return tell_usage(output);
@@ -72,9 +59,10 @@ pub fn run<S: Source, K: Sink>(
 
 fn tell_usage<K: Sink>(output: &mut K) -> Status
     ensures status { (result ≡ Status.Usage) ⊎ (result ≡ Status.WriteFault) }
-    ensures written { result ≡ Status.Usage → Appends (K.written output.old) (K.written output.new) usage_line }
-    ensures some { AppendsSome (K.written output.old) (K.written output.new) usage_line }
-    ensures cause { result ≡ Status.WriteFault → Rose (K.faults output.old) (K.faults output.new) }
+    ensures written { result ≡ Status.Usage → Appends (K.seen output.old).written (K.seen output.new).written usage_line }
+    ensures passed { result ≡ Status.Usage → (K.seen output.new).held_back ≡ 0 }
+    ensures some { AppendsSome (K.seen output.old).written (K.seen output.new).written usage_line }
+    ensures faults { TellsFault (is_write_fault result) (K.seen output.old).faults (K.seen output.new).faults }
 {
     match tell_bytes(output, b"usage: hac\n") {
         Ok(()) => Status::Usage,
@@ -88,25 +76,16 @@ fn play_script<S: Source, K: Sink>(
     input: &mut S,
     output: &mut K,
 ) -> Result<bool, Stop>
-    ensures finished { IfOk result (λ refused. IfSome (S.left input.old) (λ script.
-        AnswersAll (finished_status refused) script (S.left input.new) (K.written output.old) (K.written output.new))) }
-    ensures read_fault { result ≡ Err Stop.ReadFault → IfSome (S.left input.old) (λ script.
-        AnswersTaken script (S.left input.new) (K.written output.old) (K.written output.new)) }
-    ensures too_long { result ≡ Err Stop.TooLong → IfSome (S.left input.old) (λ script.
-        AnswersWithin script (S.left input.new) (K.written output.old) (K.written output.new)) }
-    ensures prompt { result ≡ Err Stop.WriteFault → IfSome (S.left input.old) (λ script.
-        AnswersPromptly script (S.left input.new) (K.written output.old) (K.written output.new)) }
-    ensures prefix { IfSome (S.left input.old) (λ script.
-        AppendsSome (K.written output.old) (K.written output.new) (text (play script empty))) }
-    ensures within { TakesWithin (S.left input.old) (S.left input.new) }
-    ensures read_cause { result ≡ Err Stop.ReadFault → Rose (S.faults input.old) (S.faults input.new) }
-    ensures write_cause { result ≡ Err Stop.WriteFault → Rose (K.faults output.old) (K.faults output.new) }
+    requires { (S.seen input.old).ended ≡ false }
+    ensures plays { IfSome (S.seen input.old).left (λ script.
+        Plays (end_status result) script (outside (S.seen input.old) (K.seen output.old)) (outside (S.seen input.new) (K.seen output.new))) }
+    ensures ends { Ends (end_status result) (outside (S.seen input.old) (K.seen output.old)) (outside (S.seen input.new) (K.seen output.new)) }
 {
     let mut reader = Reader::new(alloc)?;
     let mut player = Player::new(alloc)?;
     'lines: loop {
-        match take_turn(&mut reader, input)? {
-            Some(turn) => player.answer(output, turn)?,
+        match take_line(&mut reader, input)? {
+            Some(line) => player.answer(output, line)?,
             None => return Ok(player.refused),
         }
     }

@@ -3,5 +3,5 @@ use Rattle.hac_top.proofs.answering.tell_bytes.Goals as goal
 
 pub returns-clause-err : goal.returns-clause-err
 returns-clause-err g c =
-    let written = g.K.Sink.written in
-    some-flushed c.flush.result (written c.args.output.now) (written c.write_all.new.sink) (written c.flush.new.self) c.args.bytes.now c.in_ok-write_all.ensures.ok c.flush.ensures.bytes
+    let seen = g.K.Sink.seen in
+    some-flushed c.flush.result (seen c.args.output.now) (seen c.write_all.new.sink) (seen c.flush.new.self) c.args.bytes.now c.in_ok-write_all.ensures.ok c.flush.ensures.bytes c.flush.ensures.held

@@ -1,109 +1,177 @@
-use Rattle.std.proofs.Common.{◌≡◌, Bool, Err, arith, sym, subst}
+use Rattle.std.proofs.Common.{◌≡◌, ℕ, Bool, Err, refl, ap, arith, sym, ◌∙◌, subst}
+use Rattle.std.specs.Prelude.{Option, Result, IfSome}
 use Rattle.std.proofs.lemmas.Result.{err_from_is_err_and}
-use Rattle.hac_model.specs.declared.states.State.{State}
-use Rattle.hac_model.specs.Play.{tree_after_all}
-use Rattle.hac_model.specs.Valid.{IsValid}
-use Rattle.hac_model.proofs.PlayLemmas.{tree_after_all-valid}
-use Rattle.hac_top.specs.Turns.{items_of_turn}
-use Rattle.hac_top.specs.declared.answering.Stop.TheVariants.{ReadFault, TooLong}
-use Rattle.shell_lang.specs.Reading.{pending}
+use Rattle.hac_outside.specs.Causes.{TellsFault}
+use Rattle.hac_model.specs.Play.{Setting, left_by, turns}
+use Rattle.shell_lang.specs.Reading.{Reading, pending}
 use Rattle.shell_lang.proofs.ReaderLemmas.{total_on}
-use Rattle.hac_top.proofs.GoesOn.{TextGoesOn, StatusGoesOn, WholeGoesOn}
-use Rattle.hac_top.proofs.RunLemmas.{prefix-stop, finishes, fails, passes, goes_on, status_goes_on, whole_goes_on, last-line, turn-items, prefix-answer, prompt-answer}
-use Rattle.hac_top.proofs.TurnLemmas.{still_open, handed-on}
+use Rattle.hac_top.specs.Ends.{end_status}
+use Rattle.hac_top.specs.Run.{outside, Plays}
+use Rattle.hac_top.specs.Settings.{setting_of}
+use Rattle.hac_top.specs.Stops.{CutsAnswer, StopsAnswer, is_read_stop, is_write_stop}
+use Rattle.hac_top.specs.TakenLines.{items_of_taken}
+use Rattle.hac_top.specs.Told.{told_text}
+use Rattle.hac_top.specs.declared.answering.Stop.{Stop}
+use Rattle.hac_top.specs.declared.taking.TakenLine.{TakenLine}
+use Rattle.hac_top.specs.declared.answering.Stop.TheVariants.{ReadFault, TooLong}
+use Rattle.hac_top.proofs.GoesOn.{GoesOn}
+use Rattle.hac_top.proofs.RunLemmas.{goes-begin, reader-begin, total-begin, stops-first, stops-before, stops-within, finishes, goes-on, ends-before, ends-within, ends-all}
+use Rattle.hac_top.proofs.TakenLemmas.{still_open}
 use Rattle.hac_top.proofs.running.play_script.Goals as goal
 
--- a stop before an answer leaves what was written
+pub returns-in_err-reader-clause-plays : goal.returns-in_err-reader-clause-plays
+returns-in_err-reader-clause-plays g c =
+    let stop = err_from_is_err_and c.from_residual.result c.from_residual.ensures.1 in
+    stops-first stop.0 c.from_residual.result (outside (g.S.Source.seen c.args.input.now) (g.K.Sink.seen c.args.output.now)) stop.1 stop.2
 
-pub returns-in_err-turn-clause-prefix : goal.returns-in_err-turn-clause-prefix
-returns-in_err-turn-clause-prefix g c =
-    prefix-stop (g.K.Sink.written c.args.output.now) (g.K.Sink.written c.lines.output) (g.S.Source.left c.args.input.now) (pending c.lines.reader (g.S.Source.left c.lines.input)) c.lines.player.tree
-    c.lines.invariant.told
+pub returns-in_err-player-clause-plays : goal.returns-in_err-player-clause-plays
+returns-in_err-player-clause-plays g c =
+    let stop = err_from_is_err_and c.from_residual-in_err-player.result c.from_residual-in_err-player.ensures.1 in
+    stops-first stop.0 c.from_residual-in_err-player.result (outside (g.S.Source.seen c.args.input.now) (g.K.Sink.seen c.args.output.now)) stop.1 stop.2
 
-pub returns-in-None-clause-prefix : goal.returns-in-None-clause-prefix
-returns-in-None-clause-prefix g c =
-    prefix-stop (g.K.Sink.written c.args.output.now) (g.K.Sink.written c.lines.output) (g.S.Source.left c.args.input.now) (pending c.lines.reader (g.S.Source.left c.lines.input)) c.lines.player.tree
-    c.lines.invariant.told
+pub lines-init : goal.lines-init
+lines-init g c =
+    let input = g.S.Source.seen c.args.input.now in
+    let output = g.K.Sink.seen c.args.output.now in
+    let reader = c.in_ok-reader.ensures in
+    let player = c.in_ok-player.ensures in
+    record {
+      goes = goes-begin input.left output c.in_ok-reader.reader (setting_of c.in_ok-player.player.tree) c.in_ok-player.player.refused reader player.tree player.refused;
+      passed = λ none. none;
+      source = reader-begin c.in_ok-reader.reader input reader c.requires;
+      total = total-begin c.in_ok-reader.reader input.left reader;
+      limit = omega (arith, ap (λ (r : Reading). r.taken) reader);
+      read = refl;
+      wrote = refl;
+    }
 
-pub returns-in_err-turn-clause-read_fault : goal.returns-in_err-turn-clause-read_fault
-returns-in_err-turn-clause-read_fault g c =
-    let stop = err_from_is_err_and c.from_residual-in_err-turn.result c.from_residual-in_err-turn.ensures.1 in
-    let left = g.S.Source.left in
-    λ fault.
-    let got : c.take_turn.result ≡ Err ReadFault = handed-on c.take_turn.result c.from_residual-in_err-turn.result c.in_err-turn.field-0.0 stop.0 ReadFault c.in_err-turn.was stop.1 stop.2 fault in
-    let read = c.take_turn.ensures.read_fault got in
-    fails (g.K.Sink.written c.args.output.now) (g.K.Sink.written c.lines.output) (left c.args.input.now) (pending c.lines.reader (left c.lines.input)) c.lines.player.tree
-    (left c.take_turn.new.input) c.lines.invariant.told
-    (c.lines.invariant.whole (still_open c.lines.reader.ended c.take_turn.new.reader.ended c.take_turn.ensures.stays read.0)) read.1
+pub take_line-requires : goal.take_line-requires
+take_line-requires g c = c.lines.invariant.source
 
-pub returns-in_err-turn-clause-too_long : goal.returns-in_err-turn-clause-too_long
-returns-in_err-turn-clause-too_long g c =
-    let stop = err_from_is_err_and c.from_residual-in_err-turn.result c.from_residual-in_err-turn.ensures.1 in
-    let left = g.S.Source.left in
-    λ long.
-    let got : c.take_turn.result ≡ Err TooLong = handed-on c.take_turn.result c.from_residual-in_err-turn.result c.in_err-turn.field-0.0 stop.0 TooLong c.in_err-turn.was stop.1 stop.2 long in
-    let past = c.take_turn.ensures.too_long got in
-    passes (g.K.Sink.written c.args.output.now) (g.K.Sink.written c.lines.output) (left c.args.input.now) (pending c.lines.reader (left c.lines.input)) c.lines.player.tree
-    c.take_turn.new.reader.taken (left c.take_turn.new.input) c.lines.invariant.told
-    (c.lines.invariant.whole (still_open c.lines.reader.ended c.take_turn.new.reader.ended c.take_turn.ensures.stays past.0)) past.2 past.1
-    (total_on 0 c.lines.reader.taken c.take_turn.new.reader.taken (left c.args.input.now) (left c.lines.input) (left c.take_turn.new.input) c.lines.invariant.total c.take_turn.ensures.total)
+pub returns-in_err-line-clause-plays : goal.returns-in_err-line-clause-plays
+returns-in_err-line-clause-plays g c =
+    let stop = err_from_is_err_and c.from_residual-in_err-line.result c.from_residual-in_err-line.ensures.1 in
+    let seen = g.S.Source.seen in
+    let was = c.lines.invariant in
+    let took = c.take_line.ensures in
+    let reader = c.take_line.new.reader in
+    let script = (seen c.args.input.now).left in
+    let before = outside (seen c.args.input.now) (g.K.Sink.seen c.args.output.now) in
+    let after = outside (seen c.take_line.new.input) (g.K.Sink.seen c.lines.output) in
+    let left = (seen c.take_line.new.input).left in
+    let got : (want : Stop) → stop.0 ≡ want → c.take_line.result ≡ Err want = λ want is. c.in_err-line.was ∙ ap Err (sym stop.2 ∙ is) in
+    subst (λ (r : Result Bool Stop). IfSome (g.S.Source.seen c.args.input.now).left (λ s. Plays (end_status r) s before after)) (sym stop.1)
+    (stops-before stop.0 script (pending c.lines.reader (seen c.lines.input).left) left reader.taken c.lines.reader.ended (setting_of c.lines.player.tree) c.lines.player.refused before after refl was.goes was.passed c.in_err-line.ensures.stops
+    (λ read. let cut = took.read_fault (got ReadFault read) in (still_open c.lines.reader.ended reader.ended took.stays cut.0, cut.1))
+    (λ long. let cut = took.too_long (got TooLong long) in (still_open c.lines.reader.ended reader.ended took.stays cut.0, cut.1, cut.2))
+    (total_on 0 c.lines.reader.taken reader.taken script (seen c.lines.input).left left was.total took.total))
 
-pub returns-in-None-clause-finished : goal.returns-in-None-clause-finished
-returns-in-None-clause-finished g c =
-    let left = g.S.Source.left in
-    finishes (g.K.Sink.written c.args.output.now) (g.K.Sink.written c.lines.output) (left c.args.input.now) (pending c.lines.reader (left c.lines.input)) c.lines.player.tree c.lines.player.refused
-    c.take_turn.new.reader (left c.take_turn.new.input) c.lines.invariant.told c.lines.invariant.status (rw c.in-None.is at c.in_ok-turn.ensures.turn)
-    (total_on 0 c.lines.reader.taken c.take_turn.new.reader.taken (left c.args.input.now) (left c.lines.input) (left c.take_turn.new.input) c.lines.invariant.total c.take_turn.ensures.total)
-    (rw c.in-None.is at c.in_ok-turn.ensures.advances)
+pub returns-in_err-line-clause-ends : goal.returns-in_err-line-clause-ends
+returns-in_err-line-clause-ends g c =
+    let stop = err_from_is_err_and c.from_residual-in_err-line.result c.from_residual-in_err-line.ensures.1 in
+    let seen = g.S.Source.seen in
+    let was = c.lines.invariant in
+    let took = c.take_line.ensures in
+    let reader = c.take_line.new.reader in
+    let before = outside (seen c.args.input.now) (g.K.Sink.seen c.args.output.now) in
+    let after = outside (seen c.take_line.new.input) (g.K.Sink.seen c.lines.output) in
+    let got : c.take_line.result ≡ Err stop.0 = c.in_err-line.was ∙ ap Err (sym stop.2) in
+    ends-before (Option TakenLine) stop.0 c.from_residual-in_err-line.result c.take_line.result reader.taken before after stop.1 got (λ write. took.answers (got ∙ ap Err write))
+    (subst (λ (n : ℕ). TellsFault (is_read_stop c.take_line.result) n (g.S.Source.seen c.take_line.new.input).faults) was.read took.faults) was.wrote
+    (total_on 0 c.lines.reader.taken reader.taken (seen c.args.input.now).left (seen c.lines.input).left (seen c.take_line.new.input).left was.total took.total) took.limit was.passed
+
+pub returns-in_err-answer-in-Some-clause-plays : goal.returns-in_err-answer-in-Some-clause-plays
+returns-in_err-answer-in-Some-clause-plays g c =
+    let stop = err_from_is_err_and c.from_residual-in_err-answer-in-Some.result c.from_residual-in_err-answer-in-Some.ensures.1 in
+    let seen = g.S.Source.seen in
+    let was = c.lines.invariant in
+    let reader = c.take_line.new.reader in
+    let line = c.in-Some.line in
+    let setting = setting_of c.lines.player.tree in
+    let script = (seen c.args.input.now).left in
+    let mid = g.K.Sink.seen c.lines.output in
+    let after_sink = g.K.Sink.seen c.answer.new.output in
+    let before = outside (seen c.args.input.now) (g.K.Sink.seen c.args.output.now) in
+    let after = outside (seen c.take_line.new.input) (g.K.Sink.seen c.answer.new.output) in
+    let goes = rw c.in-Some.is at c.in_ok-line.ensures.advances in
+    let text = told_text (turns setting (items_of_taken line)) in
+    subst (λ (r : Result Bool Stop). IfSome (g.S.Source.seen c.args.input.now).left (λ s. Plays (end_status r) s before after)) (sym stop.1)
+    (stops-within stop.0 script (pending c.lines.reader (seen c.lines.input).left) (seen c.take_line.new.input).left line reader c.lines.reader.ended setting c.lines.player.refused mid before after refl was.goes was.passed
+    (rw c.in-Some.is at c.in_ok-line.ensures.line) goes.near
+    (subst (λ (s : Stop). CutsAnswer s mid after_sink text) (sym stop.2) c.in_err-answer-in-Some.ensures.cut)
+    (subst (λ (s : Stop). StopsAnswer s) (sym stop.2) c.in_err-answer-in-Some.ensures.stops))
+
+pub returns-in_err-answer-in-Some-clause-ends : goal.returns-in_err-answer-in-Some-clause-ends
+returns-in_err-answer-in-Some-clause-ends g c =
+    let stop = err_from_is_err_and c.from_residual-in_err-answer-in-Some.result c.from_residual-in_err-answer-in-Some.ensures.1 in
+    let seen = g.S.Source.seen in
+    let was = c.lines.invariant in
+    let took = c.take_line.ensures in
+    let reader = c.take_line.new.reader in
+    let setting = setting_of c.lines.player.tree in
+    let text = told_text (turns setting (items_of_taken c.in-Some.line)) in
+    let mid = g.K.Sink.seen c.lines.output in
+    let after_sink = g.K.Sink.seen c.answer.new.output in
+    let before = outside (seen c.args.input.now) (g.K.Sink.seen c.args.output.now) in
+    let after = outside (seen c.take_line.new.input) (g.K.Sink.seen c.answer.new.output) in
+    let got : c.answer.result ≡ Err stop.0 = c.in_err-answer-in-Some.was ∙ ap Err (sym stop.2) in
+    let read : (g.S.Source.seen c.take_line.new.input).faults ≡ (g.S.Source.seen c.lines.input).faults = c.in_ok-line.ensures.faults in
+    ends-within stop.0 c.from_residual-in_err-answer-in-Some.result c.answer.result reader.taken text mid before after stop.1 got
+    (subst (λ (s : Stop). StopsAnswer s) (sym stop.2) c.in_err-answer-in-Some.ensures.stops)
+    (subst (λ (n : ℕ). TellsFault (is_write_stop c.answer.result) n (g.K.Sink.seen c.answer.new.output).faults) was.wrote c.answer.ensures.faults) (read ∙ was.read)
+    (total_on 0 c.lines.reader.taken reader.taken (seen c.args.input.now).left (seen c.lines.input).left (seen c.take_line.new.input).left was.total took.total) took.limit was.passed
+    (subst (λ (s : Stop). CutsAnswer s mid after_sink text) (sym stop.2) c.in_err-answer-in-Some.ensures.cut)
+
+pub returns-in-None-clause-plays : goal.returns-in-None-clause-plays
+returns-in-None-clause-plays g c =
+    let seen = g.S.Source.seen in
+    let was = c.lines.invariant in
+    let reader = c.take_line.new.reader in
+    let before = outside (seen c.args.input.now) (g.K.Sink.seen c.args.output.now) in
+    let after = outside (seen c.take_line.new.input) (g.K.Sink.seen c.lines.output) in
+    finishes (seen c.args.input.now).left (pending c.lines.reader (seen c.lines.input).left) (seen c.take_line.new.input).left reader c.lines.reader.ended (setting_of c.lines.player.tree) c.lines.player.refused before after refl
+    was.goes was.passed (rw c.in-None.is at c.in_ok-line.ensures.line)
+    (total_on 0 c.lines.reader.taken reader.taken (seen c.args.input.now).left (seen c.lines.input).left (seen c.take_line.new.input).left was.total c.take_line.ensures.total)
+    (rw c.in-None.is at c.in_ok-line.ensures.advances)
+
+pub returns-in-None-clause-ends : goal.returns-in-None-clause-ends
+returns-in-None-clause-ends g c =
+    let seen = g.S.Source.seen in
+    let was = c.lines.invariant in
+    let took = c.take_line.ensures in
+    let reader = c.take_line.new.reader in
+    let before = outside (seen c.args.input.now) (g.K.Sink.seen c.args.output.now) in
+    let after = outside (seen c.take_line.new.input) (g.K.Sink.seen c.lines.output) in
+    let read : (g.S.Source.seen c.take_line.new.input).faults ≡ (g.S.Source.seen c.lines.input).faults = c.in_ok-line.ensures.faults in
+    ends-all c.lines.player.refused reader.taken before after (read ∙ was.read) was.wrote
+    (total_on 0 c.lines.reader.taken reader.taken (seen c.args.input.now).left (seen c.lines.input).left (seen c.take_line.new.input).left was.total took.total) took.limit was.passed
 
 pub lines-preserved : goal.lines-preserved
 lines-preserved g c =
-    let left = g.S.Source.left in
-    let written = g.K.Sink.written in
+    let seen = g.S.Source.seen in
+    let sink = g.K.Sink.seen in
     let was = c.lines.invariant in
-    let turn = c.in-Some.turn in
-    let script = left c.args.input.now in
-    let new = c.take_turn.new.reader in
-    let was_pending = pending c.lines.reader (left c.lines.input) in
-    let now_pending = pending new (left c.take_turn.new.input) in
-    let before = written c.args.output.now in
-    let after = written c.lines.output in
-    let next = written c.answer.new.output in
-    let tree = c.lines.player.tree in
-    let gives = rw c.in-Some.is at c.in_ok-turn.ensures.turn in
+    let took = c.take_line.ensures in
+    let reader = c.take_line.new.reader in
     let answer = c.in_ok-answer-in-Some.ensures in
+    let line = c.in-Some.line in
+    let setting = setting_of c.lines.player.tree in
+    let script = (seen c.args.input.now).left in
+    let behind = pending reader (seen c.take_line.new.input).left in
+    let before = g.K.Sink.seen c.args.output.now in
+    let now = g.K.Sink.seen c.answer.new.output in
+    let read : (g.S.Source.seen c.take_line.new.input).faults ≡ (g.S.Source.seen c.lines.input).faults = c.in_ok-line.ensures.faults in
+    let wrote : (g.K.Sink.seen c.answer.new.output).faults ≡ (g.K.Sink.seen c.lines.output).faults = answer.faults in
     record {
-      told = subst (λ (t : State). TextGoesOn before next script now_pending t) (sym answer.tree) (goes_on before after next script was_pending now_pending turn new.ended tree was.told gives answer.written);
-      status =
-          subst (λ (t : State). StatusGoesOn script now_pending t c.answer.new.self.refused) (sym answer.tree)
-          (subst (λ (b : Bool). StatusGoesOn script now_pending (tree_after_all (items_of_turn turn) tree) b) (sym answer.refused)
-          (status_goes_on script was_pending now_pending turn new.ended tree c.lines.player.refused was.status gives));
-      whole = λ goes.
-          subst (λ (t : State). WholeGoesOn before next script now_pending t) (sym answer.tree)
-          (whole_goes_on before after next script was_pending now_pending turn new.ended tree goes (was.whole (still_open c.lines.reader.ended new.ended c.take_turn.ensures.stays goes)) gives answer.written);
-      last = last-line before after script was_pending now_pending turn new.ended tree was.told gives;
-      valid = subst (λ (t : State). IsValid t) (sym answer.tree) (tree_after_all-valid (items_of_turn turn) tree (turn-items turn) was.valid);
-      ended = c.take_turn.ensures.ended;
-      total = total_on 0 c.lines.reader.taken new.taken script (left c.lines.input) (left c.take_turn.new.input) was.total c.take_turn.ensures.total;
-      limit = c.take_turn.ensures.limit;
-      read = omega (arith, was.read, c.take_turn.ensures.later);
-      wrote = omega (arith, was.wrote, c.answer.ensures.later);
+      goes =
+          subst (λ (t : Setting). GoesOn script behind reader.ended t c.answer.new.self.refused before now) (sym answer.tree)
+          (subst (λ (b : Bool). GoesOn script behind reader.ended (left_by setting (turns setting (items_of_taken line))) b before now) (sym answer.refused)
+          (goes-on script (pending c.lines.reader (seen c.lines.input).left) behind line c.lines.reader.ended reader.ended setting c.lines.player.refused before (sink c.lines.output) now was.goes
+          (rw c.in-Some.is at c.in_ok-line.ensures.line) answer.written));
+      passed = λ none. answer.passed (was.passed none);
+      source = took.source;
+      total = total_on 0 c.lines.reader.taken reader.taken script (seen c.lines.input).left (seen c.take_line.new.input).left was.total took.total;
+      limit = took.limit;
+      read = read ∙ was.read;
+      wrote = wrote ∙ was.wrote;
     }
-
-pub returns-in_err-answer-in-Some-clause-prefix : goal.returns-in_err-answer-in-Some-clause-prefix
-returns-in_err-answer-in-Some-clause-prefix g c =
-    let left = g.S.Source.left in
-    let written = g.K.Sink.written in
-    let new = c.take_turn.new.reader in
-    prefix-answer (written c.args.output.now) (written c.lines.output) (written c.answer.new.output) (left c.args.input.now) (pending c.lines.reader (left c.lines.input)) (pending new (left c.take_turn.new.input))
-    c.in-Some.turn new.ended c.lines.player.tree c.lines.invariant.told (rw c.in-Some.is at c.in_ok-turn.ensures.turn) c.in_err-answer-in-Some.ensures.err
-
-pub returns-in_err-answer-in-Some-clause-prompt : goal.returns-in_err-answer-in-Some-clause-prompt
-returns-in_err-answer-in-Some-clause-prompt g c = λ stopped.
-    let left = g.S.Source.left in
-    let written = g.K.Sink.written in
-    let was = c.lines.invariant in
-    let new = c.take_turn.new.reader in
-    let goes = rw c.in-Some.is at c.in_ok-turn.ensures.advances in
-    prompt-answer (written c.args.output.now) (written c.lines.output) (written c.answer.new.output) (left c.args.input.now) (pending c.lines.reader (left c.lines.input)) new (left c.take_turn.new.input)
-    c.in-Some.turn c.lines.reader.ended c.lines.player.tree was.told was.last was.whole (rw c.in-Some.is at c.in_ok-turn.ensures.turn) goes.near c.in_err-answer-in-Some.ensures.err

@@ -1,29 +1,30 @@
 -- What a run takes up at a time: a line, and what came of the bytes that belong to it.
 use Rattle.std.specs.Prelude.{◌≡◌, ℕ, ◌<◌, ◌≤◌, Bool, true, false, ⊤, List, [], ◌∷◌, ◌++◌, length, drop, Option, None, Some, Err}
 use Rattle.std.specs.Option.{option_map, unwrap_or}
-use Rattle.hac_model.specs.Lines.{Item, item_of, put_length}
-use Rattle.hac_model.specs.Puts.{came}
+use Rattle.hac_model.specs.Lines.{Item, put_length}
 use Rattle.hac_model.specs.Script.{first_items, after_item, is_first_whole, whole}
 use Rattle.hac_model.specs.declared.limits.LimitWord.TheVariants as limit
 use Rattle.hac_model.specs.declared.limits.TheConstants.{SCRIPT_LIMIT}
-use Rattle.hac_model.specs.declared.putting.Taken.{Taken}
+use Rattle.shell_lang.specs.Told.{came, item_taken}
+use Rattle.shell_lang.specs.declared.taken.Taken.{Taken}
 use Rattle.hac_model.specs.declared.replies.Refusal.TheVariants.{Limit}
 use Rattle.shell_lang.specs.Pieces.{GoesOn}
 use Rattle.shell_lang.specs.Reading.{Reading}
+use Rattle.shell_lang.specs.declared.reading.TheConstants.{PIECE}
 use Rattle.shell_lang.specs.declared.reading.Piece.{Piece}
 use Rattle.shell_lang.specs.declared.reading.Piece.TheVariants.{Blank, Bytes, LongLine, End, PastLimit}
-use Rattle.hac_top.specs.declared.taking.Turn.{Turn}
+use Rattle.hac_top.specs.declared.taking.TakenLine.{TakenLine}
 
 -- the items of a piece of the script, told what came of the bytes that it asks for
 abbrev pub items_of_piece : Piece → Option Taken → List Item
 items_of_piece Blank taken = []
-items_of_piece (Bytes line) taken = item_of line taken ∷ []
+items_of_piece (Bytes line) taken = item_taken line taken ∷ []
 items_of_piece LongLine taken = Err (Limit limit.Line) ∷ []
 items_of_piece End taken = []
 items_of_piece PastLimit taken = []
 
-abbrev pub items_of_turn : Turn → List Item
-items_of_turn turn = items_of_piece turn.piece turn.taken
+abbrev pub items_of_taken : TakenLine → List Item
+items_of_taken line = items_of_piece line.piece line.taken
 
 -- how many bytes a piece asks for, where it is a line that takes bytes
 abbrev pub due_of_piece : Piece → Option ℕ
@@ -33,29 +34,29 @@ due_of_piece LongLine = None
 due_of_piece End = None
 due_of_piece PastLimit = None
 
--- the turn is the first line of these bytes, which is whole where the stream goes on; then the rest is pending, and there
+-- it is the first line of these bytes, which is whole where the stream goes on; then the rest is pending, and there
 -- is none where the stream has ended
-pub record GivesTurn (turn : Turn) (ended : Bool) (bytes rest : List ℕ) : Type 0 where
-  pub items : items_of_turn turn ≡ first_items bytes
+pub record GivesTaken (line : TakenLine) (ended : Bool) (bytes rest : List ℕ) : Type 0 where
+  pub items : items_of_taken line ≡ first_items bytes
   pub some : 0 < length bytes
   pub behind : rest ≡ after_item bytes
   pub whole : ended ≡ false → is_first_whole bytes ≡ true
   pub last : ended ≡ true → rest ≡ []
 
-abbrev pub GivesFrom : Option Turn → Bool → List ℕ → List ℕ → Type 0
+abbrev pub GivesFrom : Option TakenLine → Bool → List ℕ → List ℕ → Type 0
 GivesFrom None ended bytes rest = (bytes ≡ []) × (rest ≡ [])
-GivesFrom (Some turn) ended bytes rest = GivesTurn turn ended bytes rest
+GivesFrom (Some line) ended bytes rest = GivesTaken line ended bytes rest
 
 -- the same, where the source tells what it has left
-abbrev pub Gives : Option Turn → Bool → Option (List ℕ) → Option (List ℕ) → Type 0
-Gives turn ended None new = ⊤
-Gives turn ended (Some bytes) None = ⊥
-Gives turn ended (Some bytes) (Some rest) = GivesFrom turn ended bytes rest
+abbrev pub Gives : Option TakenLine → Bool → Option (List ℕ) → Option (List ℕ) → Type 0
+Gives line ended None new = ⊤
+Gives line ended (Some bytes) None = ⊥
+Gives line ended (Some bytes) (Some rest) = GivesFrom line ended bytes rest
 
 -- where the reader stands against the limit of a script
-abbrev pub Advances : Option Turn → Reading → Reading → Type 0
+abbrev pub Advances : Option TakenLine → Reading → Reading → Type 0
 Advances None old new = new.taken ≤ SCRIPT_LIMIT
-Advances (Some turn) old new = GoesOn old new
+Advances (Some line) old new = GoesOn old new
 
 -- of what stands behind a piece, the bytes that it asks for were taken: all, or as many as there are at the end
 pub record TakesDue (due : Option ℕ) (taken : Option Taken) (ended : Bool) (bytes rest : List ℕ) : Type 0 where
@@ -93,3 +94,16 @@ abbrev pub Cuts : ℕ → Option (List ℕ) → Option (List ℕ) → Type 0
 Cuts beyond None left = ⊤
 Cuts beyond (Some bytes) None = ⊥
 Cuts beyond (Some bytes) (Some left) = CutsLine beyond bytes left
+
+-- of what was pending one line was taken, with those of its bytes that came, and less than one piece behind them
+pub record StopsIn (bytes left : List ℕ) : Type 0 where
+  pub line : List ℕ
+  pub behind : List ℕ
+  pub bytes_are : bytes ≡ line ++ (behind ++ left)
+  pub one : after_item line ≡ []
+  pub near : length behind < PIECE
+
+abbrev pub StopsAt : Option (List ℕ) → Option (List ℕ) → Type 0
+StopsAt None left = ⊤
+StopsAt (Some bytes) None = ⊥
+StopsAt (Some bytes) (Some left) = StopsIn bytes left
