@@ -1,0 +1,5 @@
+pub mod RisingLemmas
+pub mod RowLemmas
+pub mod BlockLemmas
+pub mod SlotLemmas
+pub mod PoolLemmas

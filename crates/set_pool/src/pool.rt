@@ -1,0 +1,185 @@
+//! The pool: sets by name, and what was set aside for those to come. It knows nothing of how a set is kept.
+ghost use Rattle.std.specs.Prelude.{◌≡◌, ◌+◌, ◌<◌, ◌≤◌, [], length, not, IfOk, IsTrue, None, OnErr, OnOk, Some, false, vec_len, ℕ};
+ghost use Rattle.set_pool.specs.Rising.{first_from, inserted, is_among, removed};
+ghost use Rattle.set_pool.specs.Sets.{AllListsRise, Begins, Changes, Clears, Ends, Joins, Leaves, SameLive, SameMembers, SameSets, is_in, is_live, list_of, members_of};
+
+use crate::rows::Row;
+use crate::slots::Slots;
+use crate::trees::Block;
+use std::alloc::{AllocError, Global};
+use std::marker::Model;
+
+/// The name of a set. Once the set is freed, another may get its name.
+#[derive(Clone, Copy, Debug, PartialEq, Eq)]
+pub struct SetId(u64);
+
+impl Model for SetId {
+    ghost use Rattle.std.specs.Prelude.{ℕ};
+
+    ghost Value = { ℕ };
+
+    ghost view = { λ id. id.0 };
+
+    ghost inverse = { λ n. record { 0 = n } };
+}
+
+// How many calls a pool grants in its life. No run comes near it; it bounds what `len` counts.
+const MOST: u64 = 1 << 62;
+
+/// Sets of numbers, each told by its name. Room comes first: after `reserve(n)`, `n` calls of `make` and `insert`
+/// take no memory.
+#[derive(Drop)]
+pub struct SetPool {
+    alloc: Global,
+    slots: Slots,
+    blocks: Vec<Box<Block>>,
+    spare: u64,
+    granted: u64,
+}
+
+impl Model for SetPool {
+    ghost use Rattle.std.specs.Prelude.{vec_len};
+    ghost use Rattle.set_pool.specs.Sets.{Sets};
+
+    ghost Value = { Sets };
+
+    ghost use Rattle.set_pool.specs.Pool.{IsBacked};
+
+    ghost view = { λ pool. record { lists = pool.slots.lists; spare = pool.spare } };
+
+    ghost invariant = { λ pool. IsBacked pool.slots (vec_len pool.blocks) pool.spare pool.granted };
+}
+
+impl SetPool {
+    /// A pool without sets, in which nothing is spare.
+    pub fn new(alloc: Global) -> Result<SetPool, AllocError>
+        ensures none { IfOk result (λ pool. (set : ℕ) → list_of pool set ≡ None) }
+        ensures spare { IfOk result (λ pool. pool.spare ≡ 0) }
+    {
+        Ok(SetPool {
+            alloc,
+            slots: Slots::new(alloc),
+            blocks: Vec::new(alloc),
+            spare: 0,
+            granted: 0,
+        })
+    }
+
+    /// Sets aside what `count` calls of `make` and `insert` may need. What is left of earlier calls counts.
+    pub fn reserve(&mut self, count: u64) -> Result<(), AllocError>
+        ensures room { OnOk result (count ≤ self.new.spare) }
+        ensures spare { self.old.spare ≤ self.new.spare }
+        ensures same { SameSets self.old self.new }
+
+        // After want of memory all is as before.
+        ensures err { OnErr result (self.new.spare ≡ self.old.spare) }
+    {
+        let more = count.saturating_sub(self.spare);
+        if more > MOST - self.granted {
+            return Err(AllocError);
+        }
+        if more > 0 {
+            self.slots.reserve(count as usize)?;
+            set_aside(self.alloc, &mut self.blocks, count as usize)?;
+            self.spare = count;
+            self.granted += more;
+        }
+        Ok(())
+    }
+
+    /// A new set, which is empty.
+    pub fn make(&mut self) -> SetId
+        requires { 0 < self.old.spare }
+        ensures fresh { is_live self.old result ≡ false }
+        ensures made { Changes self.old self.new result (Some []) }
+        ensures members { SameMembers self.old self.new }
+        ensures live { Begins self.old self.new result }
+        ensures spare { self.old.spare ≤ self.new.spare + 1 }
+        ensures rise { AllListsRise self.new }
+    {
+        self.spare -= 1;
+        SetId(self.slots.make() as u64)
+    }
+
+    /// Puts `value` into the set, and tells whether it is new there.
+    pub fn insert(&mut self, set: SetId, value: u64) -> bool
+        requires live { IsTrue (is_live self.old set) }
+        requires room { 0 < self.old.spare }
+        ensures list { Changes self.old self.new set (Some (inserted value (members_of self.old set))) }
+        ensures fresh { result ≡ not (is_in self.old set value) }
+        ensures members { Joins self.old self.new set value }
+        ensures live { SameLive self.old self.new }
+        ensures spare { self.old.spare ≤ self.new.spare + 1 }
+        ensures rise { AllListsRise self.new }
+    {
+        self.spare -= 1;
+        self.slots.insert(set.0 as usize, value, &mut self.blocks)
+    }
+
+    /// Takes `value` out of the set, and tells whether it was there.
+    pub fn remove(&mut self, set: SetId, value: u64) -> bool
+        requires { IsTrue (is_live self.old set) }
+        ensures list { Changes self.old self.new set (Some (removed value (members_of self.old set))) }
+        ensures there { result ≡ is_in self.old set value }
+        ensures members { Leaves self.old self.new set value }
+        ensures live { SameLive self.old self.new }
+        ensures spare { self.old.spare ≤ self.new.spare }
+        ensures rise { AllListsRise self.new }
+    {
+        self.slots.remove(set.0 as usize, value)
+    }
+
+    /// Whether `value` is in the set.
+    pub fn contains(&self, set: SetId, value: u64) -> bool
+        requires { IsTrue (is_live self.now set) }
+        ensures told { result ≡ is_in self.now set value }
+        ensures rise { AllListsRise self.now }
+    {
+        self.slots.tree(set.0 as usize).contains(value)
+    }
+
+    /// How many numbers the set has. It goes over the whole set.
+    pub fn len(&self, set: SetId) -> u64
+        requires { IsTrue (is_live self.now set) }
+        ensures told { result ≡ length (members_of self.now set) }
+        ensures rise { AllListsRise self.now }
+    {
+        self.slots.tree(set.0 as usize).len()
+    }
+
+    /// The least number of the set that isn't below `value`.
+    pub fn first_from(&self, set: SetId, value: u64) -> Option<u64>
+        requires { IsTrue (is_live self.now set) }
+        ensures told { result ≡ first_from value (members_of self.now set) }
+        ensures rise { AllListsRise self.now }
+    {
+        self.slots.tree(set.0 as usize).first_from(value)
+    }
+
+    /// Ends the set. Its name is free for another.
+    pub fn free(&mut self, set: SetId)
+        requires { IsTrue (is_live self.old set) }
+        ensures freed { Changes self.old self.new set None }
+        ensures members { Clears self.old self.new set }
+        ensures live { Ends self.old self.new set }
+        ensures spare { self.old.spare ≤ self.new.spare }
+        ensures rise { AllListsRise self.new }
+    {
+        self.slots.free(set.0 as usize);
+    }
+}
+
+// Sees to it that there are so many blocks.
+fn set_aside(alloc: Global, blocks: &mut Vec<Box<Block>>, count: usize) -> Result<(), AllocError>
+    ensures room { OnOk result (count ≤ vec_len blocks.new) }
+    ensures kept { vec_len blocks.old ≤ vec_len blocks.new }
+{
+    let more = count.saturating_sub(blocks.len());
+    for _ in 0..more {
+        blocks.push(Box::new(alloc, Block::new(Row::new(0)))?)?;
+    }
+    Ok(())
+}
+
+#[cfg(test)]
+mod tests;
