@@ -1,0 +1,11 @@
+//! Roots: the head of a store says which area is live. This crate knows nothing of what stands in an area.
+#![tactic(auto)]
+
+mod heads;
+mod laws;
+
+pub use heads::{Root, RootFault, Slot, roots};
+pub use laws::roots_agree;
+
+#[cfg(test)]
+mod tests;

@@ -1,0 +1,7 @@
+pub mod Images
+pub mod Kept
+pub mod Memory
+pub mod MemoryLaws
+pub mod Parts
+pub mod Told
+pub mod Untold

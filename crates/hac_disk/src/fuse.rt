@@ -1,0 +1,117 @@
+//! A disk that stops after so many calls.
+ghost use Rattle.std.specs.Prelude.{◌≡◌, ◌+◌, ◌-◌, ◌↔◌, IsErr, if◌then◌else◌, is_ok};
+ghost use Rattle.hac_outside.specs.Causes.{HasCause};
+ghost use Rattle.hac_disk.specs.Memory.{next_number};
+
+use super::disks::Disk;
+use hac_outside::Failed;
+
+/// Passes its first calls on to a disk, and fails every later one without passing it on: so a program over it
+/// stops between two calls of the disk, as at a crash.
+#[derive(Drop)]
+pub struct FuseDisk<D: Disk> {
+    disk: D,
+    calls: u64,
+    blown: u64,
+}
+
+impl<D: Disk> FuseDisk<D> {
+    /// A fuse that passes so many calls.
+    pub fn new(disk: D, calls: u64) -> FuseDisk<D>
+        ensures disk { result.disk ≡ disk }
+        ensures calls { result.calls ≡ calls }
+        ensures blown { result.blown ≡ 0 }
+    {
+        FuseDisk {
+            disk,
+            calls,
+            blown: 0,
+        }
+    }
+
+    /// The disk, as the calls that were passed left it.
+    pub fn into_disk(self) -> D
+        ensures { result ≡ self.disk }
+    {
+        self.disk
+    }
+
+    // Counts a call. One behind the last is a fault.
+    fn burn(&mut self) -> Result<(), Failed>
+        ensures fails { IsErr result ↔ (self.old.calls ≡ 0) }
+        ensures calls { self.new.calls ≡ self.old.calls - 1 }
+        ensures blown { self.new.blown ≡ (if is_ok result then self.old.blown else next_number self.old.blown) }
+        ensures disk { self.new.disk ≡ self.old.disk }
+        ensures cause { HasCause (D.faults self.old.disk + self.old.blown) (D.faults self.new.disk + self.new.blown) result }
+    {
+        if self.calls == 0 {
+            self.blown = self.blown.saturating_add(1);
+            return Err(Failed);
+        }
+        self.calls -= 1;
+        Ok(())
+    }
+}
+
+impl<D: Disk> Disk for FuseDisk<D> {
+    ghost seen = { λ fuse. D.seen fuse.disk };
+
+    ghost image = { λ fuse c. D.image fuse.disk c };
+
+    ghost moment = { λ fuse. D.moment fuse.disk };
+
+    ghost image_since = { λ fuse t c. D.image_since fuse.disk t c };
+
+    ghost attached = { λ fuse. D.attached fuse.disk };
+
+    ghost faults = { λ fuse. D.faults fuse.disk + fuse.blown };
+
+    ghost read_is_image = { λ fuse file same. D.read_is_image fuse.disk file same };
+
+    ghost counts_now = { λ fuse t c le now. D.counts_now fuse.disk t c le now };
+
+    ghost only_now = { λ fuse c left. D.only_now fuse.disk c left };
+
+    fn attach(&mut self, name: &str, make: bool) -> Result<(), Failed> {
+        self.burn()?;
+        self.disk.attach(name, make)
+    }
+
+    fn len(&mut self) -> Result<u64, Failed> {
+        self.burn()?;
+        self.disk.len()
+    }
+
+    fn read_at(&mut self, at: u64, into: &mut [u8]) -> Result<(), Failed> {
+        self.burn()?;
+        self.disk.read_at(at, into)
+    }
+
+    fn write_at(&mut self, at: u64, bytes: &[u8]) -> Result<(), Failed> {
+        self.burn()?;
+        self.disk.write_at(at, bytes)
+    }
+
+    fn sync(&mut self) -> Result<(), Failed> {
+        self.burn()?;
+        self.disk.sync()
+    }
+}
+
+#[cfg(test)]
+mod tests {
+    use super::*;
+    use crate::{MemoryDisk, write_stable};
+    use std::test::Fail;
+
+    #[test]
+    fn fuse_stops_between_two_calls(rt: HostRuntime) -> Result<(), Fail> {
+        let disk = MemoryDisk::new(rt.alloc(), b"", 0, b"", 9, 9, &[])?;
+        let mut fuse = FuseDisk::new(disk, 3);
+        assert_eq!(rt; write_stable(&mut fuse, 0, b"ab"), Ok(()));
+        assert_eq!(rt; write_stable(&mut fuse, 2, b"cd"), Err(Failed));
+        assert_eq!(rt; fuse.len(), Err(Failed));
+        assert_eq!(rt; fuse.into_disk().len(), Ok(4));
+        Ok(())
+    }
+}

@@ -1,0 +1,244 @@
+//! A disk in memory. It keeps what it held at first and each call since, so that it can tell what a crash may
+//! leave; and it fails at chosen calls.
+ghost use Rattle.std.specs.Prelude.{◌≡◌, ◌⊎◌, ◌-◌, ◌<◌, ◌↔◌, ◌==◌, [], IfOk, IsErr, OnErr, OnOk, if◌then◌else◌, is_ok, length};
+ghost use Rattle.hac_outside.specs.Causes.{HasCause};
+ghost use Rattle.hac_disk.specs.Images.{Elapses, Follows, IsQuiet, Torn};
+ghost use Rattle.hac_disk.specs.Memory.{Attached, IsFailing, IsNextCall, Synced, TouchesGap, Wrote, attached_to, left_by, left_since, moment_of, told_by, with_call};
+ghost use Rattle.hac_disk.specs.Parts.{contents};
+ghost use Rattle.hac_disk.specs.Told.{Attaches, HasLength, IsSettled, RangeWithin, StandAt, StartsWithin, Written, WrittenInPart};
+
+use super::calls::Calls;
+use super::disks::Disk;
+use super::parts::{joined, read_parts, write_parts};
+use hac_outside::Failed;
+use std::alloc::{AllocError, Global};
+use std::marker::Model;
+
+/// A disk over a file in memory. A call that is to fail, that passes the room, or that writes into the gap is
+/// a fault; it changes nothing but the counts.
+#[derive(Drop)]
+pub struct MemoryDisk {
+    first_head: Vec<u8>,
+    first_tail: Vec<u8>,
+    head: Vec<u8>,
+    gap: usize,
+    tail: Vec<u8>,
+    log: Vec<Step>,
+    kept: Vec<u8>,
+    room: usize,
+    calls: Calls,
+}
+
+// A call that went well: a write of so many bytes at a place, a sync, or an attached name of so many bytes.
+// The bytes stand in `kept`, one step's behind the other's.
+#[derive(Clone, Copy, Drop)]
+enum Step {
+    Write(u64, u64),
+    Sync,
+    Attach(u64, bool),
+}
+
+impl Model for MemoryDisk {
+    ghost use Rattle.hac_disk.specs.Memory.{DiskState};
+
+    ghost Value = { DiskState };
+
+    ghost use Rattle.hac_disk.specs.Kept.{IsKept, state_of};
+
+    ghost view = { state_of };
+
+    ghost invariant = { IsKept };
+}
+
+impl MemoryDisk {
+    /// A disk that holds `head`, a gap of so many zeros and `tail`, with nothing pending and nothing attached. It
+    /// has room for so many bytes, written or in names, and so many calls. A call whose number, from 1, stands in
+    /// `failing` is a fault. The gap takes no memory. Where all of it passes what 64 bits count, it is want of
+    /// memory.
+    pub fn new(
+        alloc: Global,
+        head: &[u8],
+        gap: u64,
+        tail: &[u8],
+        bytes: u64,
+        calls: u64,
+        failing: &[u64],
+    ) -> Result<MemoryDisk, AllocError>
+        ensures first { IfOk result (λ disk. disk.first ≡ contents head.now gap tail.now) }
+        ensures done { IfOk result (λ disk. disk.done ≡ []) }
+        ensures gap { IfOk result (λ disk. disk.gap ≡ gap) }
+        ensures gap_at { IfOk result (λ disk. disk.gap_at ≡ (if gap == 0 then 0 else length head.now)) }
+        ensures room { IfOk result (λ disk. disk.room ≡ bytes) }
+        ensures last_call { IfOk result (λ disk. disk.last_call ≡ calls) }
+        ensures failing { IfOk result (λ disk. disk.failing ≡ failing.now) }
+        ensures calls { IfOk result (λ disk. disk.calls ≡ 0) }
+        ensures faults { IfOk result (λ disk. disk.faults ≡ 0) }
+    {
+        let none: &[u8] = &[];
+        let (front, behind) = if gap == 0 { (none, head) } else { (head, none) };
+        let first_tail = joined(alloc, behind, tail)?;
+        let room = bytes as usize;
+        let gap = gap as usize;
+        let size = front
+            .len()
+            .saturating_add(gap)
+            .saturating_add(first_tail.len())
+            .saturating_add(room);
+        if size == usize::MAX {
+            return Err(AllocError);
+        }
+        let mut tail = Vec::with_capacity(alloc, first_tail.len() + room)?;
+        tail.extend_from_slice(&first_tail)?;
+        Ok(MemoryDisk {
+            first_head: Vec::from_slice(alloc, front)?,
+            first_tail,
+            head: Vec::from_slice(alloc, front)?,
+            gap,
+            tail,
+            log: Vec::with_capacity(alloc, calls as usize)?,
+            kept: Vec::with_capacity(alloc, room)?,
+            room,
+            calls: Calls::new(alloc, calls, failing)?,
+        })
+    }
+}
+
+impl Disk for MemoryDisk {
+    ghost use Rattle.hac_disk.specs.MemoryLaws.{image_counts_now, image_only_now, told_is_image};
+
+    ghost seen = { told_by };
+
+    ghost image = { left_by };
+
+    ghost moment = { moment_of };
+
+    ghost image_since = { left_since };
+
+    ghost attached = { attached_to };
+
+    ghost faults = { λ disk. disk.faults };
+
+    ghost read_is_image = { λ disk file same. told_is_image disk.first disk.done file same };
+
+    ghost counts_now = { λ disk t c le now. image_counts_now disk.first disk.done t c le now };
+
+    ghost only_now = { λ disk c left. image_only_now disk.first disk.done c left };
+
+    fn attach(&mut self, name: &str, make: bool) -> Result<(), Failed>
+        ensures attached { Attaches (attached_to self.old) name.now make result (attached_to self.new) }
+        ensures quiet { IsQuiet told_by left_by moment_of left_since self.old self.new }
+        ensures cause { HasCause self.old.faults self.new.faults result }
+
+        // Which calls fail, and what the others change.
+        ensures fails { IsErr result ↔ (IsFailing self.old ⊎ (self.old.room < length name.now)) }
+        ensures done { self.new.done ≡ with_call result (Attached name.now make) self.old.done }
+        ensures room { self.new.room ≡ (if is_ok result then self.old.room - length name.now else self.old.room) }
+        ensures plan { IsNextCall self.old self.new result }
+    {
+        self.calls.begin()?;
+        let name = name.as_bytes();
+        if name.len() > self.room {
+            return Err(self.calls.fail());
+        }
+        self.kept.extend_from_slice(name).unwrap();
+        self.log
+            .push(Step::Attach(name.len() as u64, make))
+            .unwrap();
+        self.room -= name.len();
+        Ok(())
+    }
+
+    fn len(&mut self) -> Result<u64, Failed>
+        ensures len { IfOk result (λ len. HasLength (told_by self.old) len) }
+        ensures attached { attached_to self.new ≡ attached_to self.old }
+        ensures quiet { IsQuiet told_by left_by moment_of left_since self.old self.new }
+        ensures cause { HasCause self.old.faults self.new.faults result }
+        ensures fails { IsErr result ↔ IsFailing self.old }
+        ensures done { self.new.done ≡ self.old.done }
+        ensures room { self.new.room ≡ self.old.room }
+        ensures plan { IsNextCall self.old self.new result }
+    {
+        self.calls.begin()?;
+        Ok((self.head.len() + self.gap + self.tail.len()) as u64)
+    }
+
+    fn read_at(&mut self, at: u64, into: &mut [u8]) -> Result<(), Failed>
+        requires { RangeWithin (told_by self.old) at (length into.old) }
+        ensures read { OnOk result (StandAt (told_by self.old) at into.new) }
+        ensures attached { attached_to self.new ≡ attached_to self.old }
+        ensures quiet { IsQuiet told_by left_by moment_of left_since self.old self.new }
+        ensures cause { HasCause self.old.faults self.new.faults result }
+        ensures fails { IsErr result ↔ IsFailing self.old }
+        ensures done { self.new.done ≡ self.old.done }
+        ensures room { self.new.room ≡ self.old.room }
+        ensures plan { IsNextCall self.old self.new result }
+    {
+        self.calls.begin()?;
+        read_parts(&self.head, self.gap, &self.tail, at as usize, into);
+        Ok(())
+    }
+
+    fn write_at(&mut self, at: u64, bytes: &[u8]) -> Result<(), Failed>
+        requires { StartsWithin (told_by self.old) at }
+        ensures written { OnOk result (Written (told_by self.old) at bytes.now (told_by self.new)) }
+        ensures in_part { OnErr result (WrittenInPart (told_by self.old) at (length bytes.now) (told_by self.new)) }
+        ensures images { Follows (Torn at (length bytes.now)) (left_by self.old) (left_by self.new) }
+        ensures time { Elapses (moment_of self.old) (moment_of self.new) (left_since self.old) (left_since self.new) (left_by self.new) }
+        ensures attached { attached_to self.new ≡ attached_to self.old }
+        ensures cause { HasCause self.old.faults self.new.faults result }
+        ensures fails { IsErr result ↔ (IsFailing self.old ⊎ ((self.old.room < length bytes.now) ⊎ TouchesGap self.old at (length bytes.now))) }
+        ensures done { self.new.done ≡ with_call result (Wrote at bytes.now) self.old.done }
+        ensures room { self.new.room ≡ (if is_ok result then self.old.room - length bytes.now else self.old.room) }
+        ensures plan { IsNextCall self.old self.new result }
+    {
+        self.calls.begin()?;
+        if bytes.len() > self.room {
+            return Err(self.calls.fail());
+        }
+        if !write_parts(&mut self.head, self.gap, &mut self.tail, at as usize, bytes) {
+            return Err(self.calls.fail());
+        }
+        self.kept.extend_from_slice(bytes).unwrap();
+        self.log.push(Step::Write(at, bytes.len() as u64)).unwrap();
+        self.room -= bytes.len();
+        Ok(())
+    }
+
+    fn sync(&mut self) -> Result<(), Failed>
+        ensures settled { OnOk result (IsSettled (told_by self.new) (left_by self.new)) }
+        ensures attached { attached_to self.new ≡ attached_to self.old }
+        ensures quiet { IsQuiet told_by left_by moment_of left_since self.old self.new }
+        ensures cause { HasCause self.old.faults self.new.faults result }
+        ensures fails { IsErr result ↔ IsFailing self.old }
+        ensures done { self.new.done ≡ with_call result Synced self.old.done }
+        ensures room { self.new.room ≡ self.old.room }
+        ensures plan { IsNextCall self.old self.new result }
+    {
+        self.calls.begin()?;
+        self.log.push(Step::Sync).unwrap();
+        Ok(())
+    }
+}
+
+#[cfg(test)]
+mod tests {
+    use super::*;
+    use std::test::Fail;
+
+    #[test]
+    fn calls_of_a_disk_in_memory(rt: HostRuntime) -> Result<(), Fail> {
+        let mut disk = MemoryDisk::new(rt.alloc(), b"ab", 3, b"cd", 9, 8, &[3])?;
+        let mut into = [9; 8];
+        assert_eq!(rt; disk.attach("s", true), Ok(()));
+        assert_eq!(rt; disk.write_at(6, b"xyz"), Ok(()));
+        assert_eq!(rt; disk.sync(), Err(Failed));
+        assert_eq!(rt; disk.sync(), Ok(()));
+        assert_eq!(rt; disk.write_at(1, b"m"), Ok(()));
+        assert_eq!(rt; disk.write_at(1, b"mn"), Err(Failed));
+        assert_eq!(rt; disk.len(), Ok(9));
+        assert_eq!(rt; disk.read_at(1, &mut into), Ok(()));
+        assert_eq!(rt; into, *b"m\0\0\0cxyz");
+        assert_eq!(rt; disk.len(), Err(Failed));
+        Ok(())
+    }
+}

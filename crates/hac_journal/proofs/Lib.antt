@@ -1,0 +1,6 @@
+pub mod AppendLemmas
+pub mod CrashLemmas
+pub mod FoundLemmas
+pub mod LawLemmas
+pub mod RecordLemmas
+pub mod WindowLemmas

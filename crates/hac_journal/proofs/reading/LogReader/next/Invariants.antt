@@ -1,0 +1,16 @@
+use Rattle.std.proofs.Common.{◌≡◌, ◌≤◌, ◌-◌, ◌^◌, length}
+use Rattle.hac_disk.specs.Images.{IsQuiet}
+use Rattle.hac_disk.specs.Told.{StandAt}
+use Rattle.hac_journal.specs.Finding.{held_from}
+use Rattle.hac_journal.proofs.reading.LogReader.next.Given as goal
+
+abbrev pub invariant-loop-size : goal.invariant-loop-size
+invariant-loop-size g l = let disk = g.D.Disk in record {
+  held : StandAt (disk.seen l.disk) l.self.start l.self.bytes;
+  quiet : IsQuiet disk.seen disk.image disk.moment disk.image_since l.initial.disk l.disk;
+  attached : disk.attached l.disk ≡ disk.attached l.initial.disk;
+  later : disk.faults l.initial.disk ≤ disk.faults l.disk;
+}
+
+abbrev pub decreases-loop-size : goal.decreases-loop-size
+decreases-loop-size g l = 2 ^ 33 - length (held_from l.self l.at)

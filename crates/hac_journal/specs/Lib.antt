@@ -1,0 +1,4 @@
+pub mod Appending
+pub mod Finding
+pub mod Laws
+pub mod Records
