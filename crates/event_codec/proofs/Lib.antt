@@ -1,0 +1,6 @@
+pub mod FieldLemmas
+pub mod LoopLemmas
+pub mod PileLemmas
+pub mod PutLemmas
+pub mod QueryLemmas
+pub mod PayloadLemmas

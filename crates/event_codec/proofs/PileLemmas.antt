@@ -1,0 +1,90 @@
+-- Lists that are kept with the first one last.
+use Rattle.std.proofs.Common.{◌≡◌, ℕ, zero, suc, ◌+◌, ◌-◌, ◌<◌, ◌≤◌, List, [], ◌∷◌, ◌++◌, length, Option, Some, None, Result, Ok, Err, refl, sym, ap, ◌∙◌, append_assoc, arith}
+use Rattle.std.specs.Prelude.{map, reverse}
+use Rattle.std.proofs.lemmas.List.{reverse-append, append-nil}
+use Rattle.hac_model.specs.Fields.{◌>>=◌}
+use Rattle.hac_model.specs.Formula.{Formula}
+use Rattle.hac_model.specs.QueryFields.{Room, Token, built, put, room_after, token_at, tokens_at}
+use Rattle.event_codec.specs.declared.faults.Fault.{Fault}
+use Rattle.event_codec.specs.declared.faults.Fault.TheVariants as fault
+use Rattle.event_codec.specs.Reading.{Fails}
+
+-- one more stands in front
+pub reverse-push : {A : Type 0} (xs : List A) (x : A) → reverse (xs ++ x ∷ []) ≡ x ∷ reverse xs
+reverse-push xs x = reverse-append xs (x ∷ [])
+
+pub ruleset piles = (reverse-push, append-nil)
+
+-- ---- parts of queries are joined from the last one on
+
+pub built-last : {A : Type 0} (view : A → Token) (front : List A) (t : A) (qs : List (Formula ℕ)) → built (map view (front ++ t ∷ [])) qs ≡ built (map view front) (put (view t) qs)
+unfolding built
+built-last view [] t qs = refl
+built-last view (u ∷ front) t qs = ap (λ x. put (view u) x) (built-last view front t qs)
+
+pub built-none : (qs : List (Formula ℕ)) → built [] qs ≡ qs
+unfolding built
+built-none qs = refl
+
+pub map-last : {A B : Type 0} (view : A → B) (front : List A) (x : A) → map view (front ++ x ∷ []) ≡ map view front ++ view x ∷ []
+map-last view [] x = refl
+map-last view (y ∷ ys) x = ap (λ xs. view y ∷ xs) (map-last view ys x)
+
+-- ---- and read one by one
+
+-- parts in front of those that are read
+abbrev pub with_parts : List Token → Result (List Token × List ℕ) ℕ → Result (List Token × List ℕ) ℕ
+with_parts front (Ok x) = Ok (front ++ x.0, x.1)
+with_parts front (Err left) = Err left
+
+regroup : (front : List Token) (t : Token) (read : Result (List Token × List ℕ) ℕ) → with_parts front (read >>= λ others. Ok (t ∷ others.0, others.1)) ≡ with_parts (front ++ t ∷ []) read
+regroup front t (Ok others) = ap (λ ts. Ok (ts, others.1)) (sym (append_assoc front (t ∷ []) others.0))
+regroup front t (Err left) = refl
+
+pub none_before : (read : Result (List Token × List ℕ) ℕ) → with_parts [] read ≡ read
+none_before (Ok x) = refl
+none_before (Err left) = refl
+
+-- what is read behind the parts from here on is what is read in all
+abbrev pub PartsGoOn : List Token → Room → ℕ → List ℕ → Result (List Token × List ℕ) ℕ → Type 0
+PartsGoOn front room due bytes total = with_parts front (tokens_at due room.wanted room.terms room.letters bytes) ≡ total
+
+pub parts_done : (front : List Token) (terms letters due : ℕ) (bytes : List ℕ) (total : Result (List Token × List ℕ) ℕ) → PartsGoOn front (record { wanted = []; terms = terms; letters = letters }) due bytes total → total ≡ Ok (front, bytes)
+unfolding tokens_at
+parts_done front terms letters zero bytes total so_far = sym so_far ∙ ap (λ ts. Ok (ts, bytes)) (append-nil front)
+parts_done front terms letters (suc due) bytes total so_far = sym so_far ∙ ap (λ ts. Ok (ts, bytes)) (append-nil front)
+
+pub parts_short : (front : List Token) (wanted : List ℕ) (terms letters count i : ℕ) (bytes : List ℕ) (total : Result (List Token × List ℕ) ℕ) → count ≤ i → 0 < length wanted → PartsGoOn front (record { wanted = wanted; terms = terms; letters = letters }) (count - i) bytes total → total ≡ Err 0
+unfolding tokens_at
+parts_short front [] terms letters count i bytes total le some so_far = absurd (omega arith)
+parts_short front (nots ∷ wanted) terms letters count i bytes total le some so_far =
+    let k : count - i ≡ 0 = omega arith in
+    let one : with_parts front (tokens_at (count - i) (nots ∷ wanted) terms letters bytes) ≡ Err 0 = rw k refl in
+    sym so_far ∙ one
+
+pub part_fails : (f : Fault) (front : List Token) (nots : ℕ) (wanted : List ℕ) (terms letters count i : ℕ) (bytes : List ℕ) (total : Result (List Token × List ℕ) ℕ)
+    → i < count → Fails f (token_at terms bytes) → PartsGoOn front (record { wanted = nots ∷ wanted; terms = terms; letters = letters }) (count - i) bytes total → Fails f total
+unfolding tokens_at
+part_fails fault.Memory front nots wanted terms letters count i bytes total lt fails so_far = tt
+part_fails (fault.Bad left) front nots wanted terms letters count i bytes total lt fails so_far =
+    let k : count - i ≡ suc (count - (i + 1)) = omega arith in
+    let one : with_parts front (tokens_at (count - i) (nots ∷ wanted) terms letters bytes) ≡ Err left = rw (k, fails) refl in
+    sym so_far ∙ one
+
+pub part_barred : (front : List Token) (nots : ℕ) (wanted : List ℕ) (terms letters count i : ℕ) (bytes after : List ℕ) (t : Token) (total : Result (List Token × List ℕ) ℕ)
+    → i < count → token_at terms bytes ≡ Ok (t, after) → room_after nots wanted terms letters t ≡ None → PartsGoOn front (record { wanted = nots ∷ wanted; terms = terms; letters = letters }) (count - i) bytes total → total ≡ Err (length bytes)
+unfolding tokens_at
+part_barred front nots wanted terms letters count i bytes after t total lt read none so_far =
+    let k : count - i ≡ suc (count - (i + 1)) = omega arith in
+    let one : with_parts front (tokens_at (count - i) (nots ∷ wanted) terms letters bytes) ≡ Err (length bytes) = rw (k, read, none) refl in
+    sym so_far ∙ one
+
+pub part_read : (front : List Token) (nots : ℕ) (wanted : List ℕ) (terms letters count i : ℕ) (bytes after : List ℕ) (t : Token) (room : Room) (total : Result (List Token × List ℕ) ℕ)
+    → i < count → token_at terms bytes ≡ Ok (t, after) → room_after nots wanted terms letters t ≡ Some room → PartsGoOn front (record { wanted = nots ∷ wanted; terms = terms; letters = letters }) (count - i) bytes total
+    → PartsGoOn (front ++ t ∷ []) room (count - (i + 1)) after total
+unfolding tokens_at
+part_read front nots wanted terms letters count i bytes after t room total lt read some so_far =
+    let k : count - i ≡ suc (count - (i + 1)) = omega arith in
+    let one : with_parts front (tokens_at (count - i) (nots ∷ wanted) terms letters bytes) ≡ with_parts (front ++ t ∷ []) (tokens_at (count - (i + 1)) room.wanted room.terms room.letters after) =
+    rw (k, read, some) (regroup front t (tokens_at (count - (i + 1)) room.wanted room.terms room.letters after)) in
+    sym one ∙ so_far

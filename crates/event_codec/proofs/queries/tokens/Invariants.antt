@@ -1,0 +1,8 @@
+use Rattle.std.proofs.Common.{◌-◌, [], ◌∷◌, length}
+use Rattle.hac_model.specs.QueryFields.{tokens_at}
+use Rattle.event_codec.specs.Tokens.{tokens_of, room_of}
+use Rattle.event_codec.proofs.PileLemmas.{PartsGoOn}
+use Rattle.event_codec.proofs.queries.tokens.Given as goal
+
+abbrev pub invariant-parts : goal.invariant-parts
+invariant-parts l = PartsGoOn (tokens_of l.tokens.items) (room_of l.room) (length l.fn.bytes - l.counter) l.bytes (tokens_at (length l.fn.bytes) (32 ∷ []) 64 1024 l.fn.bytes)

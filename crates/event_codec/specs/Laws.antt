@@ -1,0 +1,16 @@
+-- Theorems over the definitions of hac_model, each proved as the contract of a function of the module `laws`.
+use Rattle.std.specs.Prelude.{◌≡◌, ℕ, ◌<◌, List, slice_index, IsTrue, Ok}
+use Rattle.hac_model.specs.Payloads.{event_text, is_spellable, spelled}
+use Rattle.hac_model.specs.declared.events.Event.{Event}
+
+-- the numbers are bytes
+abbrev pub AreBytes : List ℕ → Type 0
+AreBytes bytes = (i : ℕ) → slice_index bytes i < 256
+
+-- what is written is read back
+abbrev pub WrittenIsRead : Type 0
+WrittenIsRead = (event : Event) → IsTrue (is_spellable event) → spelled (event_text event) ≡ Ok event
+
+-- what is read is an event that has a spelling, and the bytes are that spelling
+abbrev pub ReadIsWritten : Type 0
+ReadIsWritten = (bytes : List ℕ) (event : Event) → AreBytes bytes → spelled bytes ≡ Ok event → IsTrue (is_spellable event) × (bytes ≡ event_text event)

@@ -1,0 +1,46 @@
+-- What calls answer that read a part of a payload.
+use Rattle.std.specs.Prelude.{◌≡◌, ⊤, ℕ, ◌+◌, ◌&&◌, if◌then◌else◌, nat_le, List, length, take, drop, Option, None, Some, Result, Ok, Err, IsTrue}
+use Rattle.std.specs.Int.{Width, byte_len, from_le_bytes}
+use Rattle.hac_model.specs.Payloads.{is_spellable}
+use Rattle.hac_model.specs.declared.events.Event.{Event}
+use Rattle.event_codec.specs.declared.faults.Fault.{Fault}
+use Rattle.event_codec.specs.declared.faults.Fault.TheVariants as fault
+use Rattle.event_codec.specs.declared.faults.CodecFault.{CodecFault}
+use Rattle.event_codec.specs.declared.faults.CodecFault.TheVariants as codec
+use Rattle.event_codec.specs.declared.reading.Payload.{Payload}
+use Rattle.event_codec.specs.declared.reading.Payload.TheVariants as payload
+
+-- the fault is for what is read; want of memory may come in place of anything
+abbrev pub Fails : {A : Type 0} → Fault → Result A ℕ → Type 0
+Fails fault.Memory read = ⊤
+Fails (fault.Bad left) read = read ≡ Err left
+
+-- the call gave what is read, a value and the bytes behind it, or the fault
+abbrev pub Gives : {A : Type 0} → Result A Fault → List ℕ → Result (A × List ℕ) ℕ → Type 0
+Gives (Ok value) rest read = read ≡ Ok (value, rest)
+Gives (Err fault) rest read = Fails fault read
+
+-- the same, where a value of the call is seen by a view
+abbrev pub GivesSeen : {A B : Type 0} → (A → B) → Result A Fault → List ℕ → Result (B × List ℕ) ℕ → Type 0
+GivesSeen view (Ok value) rest read = read ≡ Ok (view value, rest)
+GivesSeen view (Err fault) rest read = Fails fault read
+
+-- the fault is for what the payload says
+abbrev pub IsFor : CodecFault → Result Event ℕ → Type 0
+IsFor codec.Memory wanted = ⊤
+IsFor (codec.Bad at) wanted = wanted ≡ Err at
+
+-- the call gave what the payload says, the event or the place of the fault
+abbrev pub Reads : Result Payload CodecFault → Result Event ℕ → Type 0
+Reads (Ok (payload.Event event)) wanted = wanted ≡ Ok event
+Reads (Err fault) wanted = IsFor fault wanted
+
+-- what the payload holds has a spelling
+abbrev pub IsSpellable : Payload → Type 0
+IsSpellable (payload.Event event) = IsTrue (is_spellable event)
+
+-- the bytes behind the number that says how many they are, where all are there and they are at most so many
+abbrev pub run_in : Width → ℕ → List ℕ → Option (List ℕ)
+run_in width most bytes =
+    let count = from_le_bytes width (take (byte_len width) bytes) in
+    if nat_le (byte_len width + count) (length bytes) && nat_le count most then Some (take count (drop (byte_len width) bytes)) else None

@@ -1,0 +1,33 @@
+-- Parts of queries and room for them, as the code holds them.
+use Rattle.std.specs.Prelude.{◌≡◌, ℕ, Bool, if◌then◌else◌, List, ◌∷◌, map, reverse, Option, Some, None}
+use Rattle.hac_model.specs.Formula.{Formula}
+use Rattle.hac_model.specs.QueryFields as query
+use Rattle.hac_model.specs.QueryFields.{room_after}
+use Rattle.event_codec.specs.declared.queries.Token.{Token}
+use Rattle.event_codec.specs.declared.queries.Token.TheVariants.{Term, Dir, Not, And, Or}
+use Rattle.event_codec.specs.declared.rooms.Room.{Room}
+
+-- the part that the code holds
+abbrev pub token_of : Token → query.Token
+token_of (Term term) = query.Term term
+token_of (Dir dir) = query.Dir dir
+token_of Not = query.Not
+token_of And = query.And
+token_of Or = query.Or
+
+abbrev pub tokens_of : List Token → List query.Token
+tokens_of tokens = map token_of tokens
+
+-- the room that the code holds: it has what is wanted next at the end
+abbrev pub room_of : Room → query.Room
+room_of room = record { wanted = reverse room.wanted.items; terms = room.terms; letters = room.letters }
+
+-- a part was taken, and the room behind it is left; or there is no room for it
+abbrev pub Takes : ℕ → query.Token → Room → Room → Bool → Type 0
+Takes nots token old new taken =
+    room_after nots (reverse old.wanted.items) old.terms old.letters token ≡ if taken then Some (room_of new) else None
+
+-- the first two queries of a pile are taken, where it has two; else it is cleared
+abbrev pub TakesTwo : List (Formula ℕ) → List (Formula ℕ) → Option (Formula ℕ × Formula ℕ) → Type 0
+TakesTwo old new None = (join : Formula ℕ → Formula ℕ → Formula ℕ) → query.joined join old ≡ new
+TakesTwo old new (Some two) = old ≡ two.0 ∷ two.1 ∷ new

@@ -1,0 +1,174 @@
+//! The fields that are numbers or runs of bytes.
+ghost use Rattle.std.specs.Prelude.{◌≡◌, ◌≤◌, ◌+◌, ◌&&◌, if◌then◌else◌, nat_le, length, take, drop, Some, None};
+ghost use Rattle.std.specs.Int.{w8, w16, w32};
+ghost use Rattle.std.specs.List.{list_all};
+ghost use Rattle.std.specs.Option.{option_copied};
+ghost use Rattle.hac_model.specs.Fields.{num};
+ghost use Rattle.hac_model.specs.Payloads.{name_field, space_field, target_field, text_field, is_path_word};
+ghost use Rattle.hac_model.specs.QueryFields.{word_field};
+ghost use Rattle.hac_model.specs.SpaceNames.{is_space_byte, is_space_name};
+ghost use Rattle.event_codec.specs.Reading.{Gives, run_in};
+
+use crate::bytes::Bytes;
+use crate::faults::Fault;
+use byteorder::{ByteOrder, LittleEndian};
+use hac_model::{NAME_LIMIT, Name, Number, TEXT_LIMIT, Text};
+use hac_names::{has_long_part, is_bad, is_name};
+use hac_words::is_word;
+use std::alloc::Global;
+
+/// The most bytes of the name of a space.
+pub(crate) const SPACE_LIMIT: usize = 32;
+
+/// The most bytes of a symbolic link's target, and of the letters of a term.
+pub(crate) const WORD_LIMIT: usize = 1_024;
+
+/// The number at the front.
+#[tactic(auto, unfolding(hac_model::specs::Fields::number_at))]
+pub(crate) fn num(bytes: &mut Bytes) -> Result<Number, Fault>
+    ensures { Gives result bytes.new (num.read bytes.old) }
+{
+    if bytes.left() < 4 {
+        return Err(bytes.bad());
+    }
+    let number = LittleEndian::read_u32(&bytes.rest()[..4]);
+    bytes.skip(4);
+    Ok(Number::new(u64::from(number)))
+}
+
+/// The name of an entry.
+#[tactic(auto, unfolding(hac_model::specs::Fields::run_at))]
+pub(crate) fn name(alloc: Global, bytes: &mut Bytes) -> Result<Name, Fault>
+    ensures { Gives result bytes.new (name_field.read bytes.old) }
+{
+    match short_run(bytes.rest(), NAME_LIMIT) {
+        Some(run) if is_name(run) => {
+            bytes.skip(1 + run.len());
+            Ok(Name::new(run.to_vec(alloc)?))
+        }
+        _ => Err(bytes.bad()),
+    }
+}
+
+/// The bytes behind a byte that says how many they are.
+fn short_run(bytes: &[u8], most: usize) -> Option<&[u8]>
+    ensures { option_copied result ≡ run_in w8 most bytes.now }
+{
+    let count = bytes.first()?;
+    run(&bytes[1..], usize::from(*count), most)
+}
+
+/// The bytes behind two bytes that say how many they are.
+fn middle_run(bytes: &[u8], most: usize) -> Option<&[u8]>
+    ensures { option_copied result ≡ run_in w16 most bytes.now }
+{
+    if bytes.len() < 2 {
+        return None;
+    }
+    let count = LittleEndian::read_u16(&bytes[..2]);
+    run(&bytes[2..], usize::from(count), most)
+}
+
+/// The bytes behind four bytes that say how many they are.
+fn long_run(bytes: &[u8], most: usize) -> Option<&[u8]>
+    ensures { option_copied result ≡ run_in w32 most bytes.now }
+{
+    if bytes.len() < 4 {
+        return None;
+    }
+    let count = LittleEndian::read_u32(&bytes[..4]);
+    run(&bytes[4..], count as usize, most)
+}
+
+/// The first bytes, where there are so many and they are at most so many.
+fn run(bytes: &[u8], count: usize, most: usize) -> Option<&[u8]>
+    ensures { option_copied result ≡ if nat_le count (length bytes.now) && nat_le count most then Some (take count bytes.now) else None }
+{
+    if count > bytes.len() || count > most {
+        return None;
+    }
+    Some(&bytes[..count])
+}
+
+/// The name of a space.
+#[tactic(auto, unfolding(hac_model::specs::Fields::run_at))]
+pub(crate) fn space(alloc: Global, bytes: &mut Bytes) -> Result<Name, Fault>
+    ensures { Gives result bytes.new (space_field.read bytes.old) }
+{
+    match short_run(bytes.rest(), SPACE_LIMIT) {
+        Some(run) if is_space_name(run) => {
+            bytes.skip(1 + run.len());
+            Ok(Name::new(run.to_vec(alloc)?))
+        }
+        _ => Err(bytes.bad()),
+    }
+}
+
+/// Whether bytes are the name of a space: 1 to 32 ASCII letters, ASCII digits, `_` or `-`.
+#[tactic(auto, unfolding(hac_model::specs::SpaceNames::is_space_name))]
+fn is_space_name(bytes: &[u8]) -> bool
+    ensures { result ≡ is_space_name bytes.now }
+{
+    !bytes.is_empty() && bytes.len() <= SPACE_LIMIT && are_space_bytes(bytes)
+}
+
+fn are_space_bytes(bytes: &[u8]) -> bool
+    ensures { result ≡ list_all is_space_byte bytes.now }
+{
+    bytes.iter().all(|b| is_space_byte(*b))
+}
+
+#[tactic(auto, unfolding(hac_model::specs::SpaceNames::is_space_byte))]
+fn is_space_byte(b: u8) -> bool
+    ensures { result ≡ is_space_byte b }
+{
+    b.is_ascii_alphanumeric() || b == b'_' || b == b'-'
+}
+
+/// The bytes of a file.
+#[tactic(auto, unfolding(hac_model::specs::Fields::run_at))]
+pub(crate) fn text(alloc: Global, bytes: &mut Bytes) -> Result<Text, Fault>
+    ensures { Gives result bytes.new (text_field.read bytes.old) }
+{
+    match long_run(bytes.rest(), TEXT_LIMIT as usize) {
+        Some(run) => {
+            bytes.skip(4 + run.len());
+            Ok(Text::new(run.to_vec(alloc)?))
+        }
+        None => Err(bytes.bad()),
+    }
+}
+
+/// Where a symbolic link leads.
+#[tactic(auto, unfolding(hac_model::specs::Fields::run_at))]
+pub(crate) fn target(alloc: Global, bytes: &mut Bytes) -> Result<Text, Fault>
+    ensures { Gives result bytes.new (target_field.read bytes.old) }
+{
+    match middle_run(bytes.rest(), WORD_LIMIT) {
+        Some(run) if is_path_word(run) => {
+            bytes.skip(2 + run.len());
+            Ok(Text::new(run.to_vec(alloc)?))
+        }
+        _ => Err(bytes.bad()),
+    }
+}
+
+fn is_path_word(bytes: &[u8]) -> bool
+    ensures { result ≡ is_path_word bytes.now }
+{
+    !is_bad(bytes) && !has_long_part(bytes)
+}
+
+/// The letters of a term.
+#[tactic(auto, unfolding(hac_model::specs::Fields::run_at))]
+pub(crate) fn word(alloc: Global, bytes: &mut Bytes) -> Result<Name, Fault>
+    ensures { Gives result bytes.new (word_field.read bytes.old) }
+{
+    match middle_run(bytes.rest(), WORD_LIMIT) {
+        Some(run) if is_word(run) => {
+            bytes.skip(2 + run.len());
+            Ok(Name::new(run.to_vec(alloc)?))
+        }
+        _ => Err(bytes.bad()),
+    }
+}

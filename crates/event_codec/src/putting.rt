@@ -1,0 +1,135 @@
+//! The fields of events as bytes, each added to those before it.
+ghost use Rattle.std.specs.Prelude.{◌≡◌, ◌++◌, ◌∷◌, ◌<◌, ◌^◌, [], IsTrue, OnOk, length};
+ghost use Rattle.std.specs.Int.{w8, w16, w32, to_le_bytes};
+ghost use Rattle.hac_model.specs.Fields.{num};
+ghost use Rattle.hac_model.specs.Payloads.{mark_field, name_field};
+ghost use Rattle.hac_model.specs.QueryFields.{query_text, terms_fit, token_field};
+ghost use Rattle.hac_model.specs.QueryFields as token;
+
+use byteorder::{ByteOrder, LittleEndian};
+use hac_model::{Kind, Memory, Name, Node, Number, Query, Term};
+
+/// Adds a number.
+pub(crate) fn put_num(out: &mut Vec<u8>, number: u64) -> Result<(), Memory>
+    requires { IsTrue (num.fits number) }
+    ensures { OnOk result (out.new.items ≡ out.old.items ++ num.text number) }
+{
+    let mut bytes = [0; 4];
+    LittleEndian::write_u32(&mut bytes, number as u32);
+    out.extend_from_slice(&bytes)?;
+    Ok(())
+}
+
+/// Adds bytes behind a byte that says how many they are.
+#[tactic(auto, using(crate::proofs::PutLemmas::puts))]
+pub(crate) fn put_short(out: &mut Vec<u8>, run: &[u8]) -> Result<(), Memory>
+    requires { length run.now < 2 ^ 8 }
+    ensures { OnOk result (out.new.items ≡ out.old.items ++ (to_le_bytes w8 (length run.now) ++ run.now)) }
+{
+    out.push(run.len() as u8)?;
+    out.extend_from_slice(run)?;
+    Ok(())
+}
+
+/// Adds bytes behind two bytes that say how many they are.
+#[tactic(auto, using(crate::proofs::PutLemmas::puts))]
+pub(crate) fn put_middle(out: &mut Vec<u8>, run: &[u8]) -> Result<(), Memory>
+    requires { length run.now < 2 ^ 16 }
+    ensures { OnOk result (out.new.items ≡ out.old.items ++ (to_le_bytes w16 (length run.now) ++ run.now)) }
+{
+    let mut bytes = [0; 2];
+    LittleEndian::write_u16(&mut bytes, run.len() as u16);
+    out.extend_from_slice(&bytes)?;
+    out.extend_from_slice(run)?;
+    Ok(())
+}
+
+/// Adds bytes behind four bytes that say how many they are.
+#[tactic(auto, using(crate::proofs::PutLemmas::puts))]
+pub(crate) fn put_long(out: &mut Vec<u8>, run: &[u8]) -> Result<(), Memory>
+    requires { length run.now < 2 ^ 32 }
+    ensures { OnOk result (out.new.items ≡ out.old.items ++ (to_le_bytes w32 (length run.now) ++ run.now)) }
+{
+    put_num(out, run.len() as u64)?;
+    out.extend_from_slice(run)?;
+    Ok(())
+}
+
+/// Adds a kind and a number.
+#[tactic(auto, using(crate::proofs::PutLemmas::puts))]
+pub(crate) fn put_numbered(out: &mut Vec<u8>, kind: u8, number: Number) -> Result<(), Memory>
+    requires { IsTrue (num.fits number) }
+    ensures { OnOk result (out.new.items ≡ out.old.items ++ kind ∷ num.text number) }
+{
+    out.push(kind)?;
+    put_num(out, number.get())
+}
+
+/// Adds a kind, the number of a directory and a name in it.
+#[tactic(auto, using(crate::proofs::PutLemmas::puts))]
+pub(crate) fn put_named(out: &mut Vec<u8>, kind: u8, dir: Number, name: &Name) -> Result<(), Memory>
+    requires dir { IsTrue (num.fits dir) }
+    requires name { IsTrue (name_field.fits name.now) }
+    ensures { OnOk result (out.new.items ≡ out.old.items ++ kind ∷ (num.text dir ++ name_field.text name.now)) }
+{
+    put_numbered(out, kind, dir)?;
+    put_short(out, name.as_bytes())
+}
+
+/// Adds what an item is marked as.
+pub(crate) fn put_mark(out: &mut Vec<u8>, kind: Kind) -> Result<(), Memory>
+    ensures { OnOk result (out.new.items ≡ out.old.items ++ mark_field.text kind) }
+{
+    match kind {
+        Kind::Unlinked => out.push(0)?,
+        Kind::Permanent => out.push(1)?,
+        Kind::Prohibited => out.push(2)?,
+        Kind::Transient => {}
+    }
+    Ok(())
+}
+
+/// Adds a query: each `NOT`, `AND` and `OR` before what it joins.
+#[tactic(auto, using(crate::proofs::PutLemmas::puts))]
+pub(crate) fn put_query(out: &mut Vec<u8>, query: &Query<Number>) -> Result<(), Memory>
+    requires { IsTrue (terms_fit query.now) }
+    ensures { OnOk result (out.new.items ≡ out.old.items ++ query_text query.now) }
+{
+    match &query.node {
+        Node::Term(term) => put_term(out, term),
+        Node::Dir(dir) => put_numbered(out, 3, *dir),
+        Node::Not(query) => {
+            out.push(4)?;
+            put_query(out, query)
+        }
+        Node::And(left, right) => {
+            out.push(5)?;
+            put_query(out, left)?;
+            put_query(out, right)
+        }
+        Node::Or(left, right) => {
+            out.push(6)?;
+            put_query(out, left)?;
+            put_query(out, right)
+        }
+    }
+}
+
+/// Adds a term.
+#[tactic(auto, using(crate::proofs::PutLemmas::puts))]
+fn put_term(out: &mut Vec<u8>, term: &Term) -> Result<(), Memory>
+    requires { IsTrue (token_field.fits (token.Term term.now)) }
+    ensures { OnOk result (out.new.items ≡ out.old.items ++ token_field.text (token.Term term.now)) }
+{
+    let letters = match term {
+        Term::Word(letters) => {
+            out.push(1)?;
+            letters
+        }
+        Term::Prefix(letters) => {
+            out.push(2)?;
+            letters
+        }
+    };
+    put_middle(out, letters.as_bytes())
+}

@@ -1,0 +1,150 @@
+//! Queries. Their parts are read one by one, and then joined, so that no bytes make this go deep.
+ghost use Rattle.std.specs.Prelude.{◌≡◌, ◌∷◌, [], IfOk, OnOk, length, reverse};
+ghost use Rattle.hac_model.specs.Fields.{failing_at};
+ghost use Rattle.hac_model.specs.QueryFields.{built, put, query_field, term_size, token_at, tokens_at, word_field};
+ghost use Rattle.event_codec.specs.Reading.{Gives, GivesSeen};
+ghost use Rattle.event_codec.specs.Tokens.{TakesTwo, token_of, tokens_of};
+
+use crate::bytes::Bytes;
+use crate::faults::Fault;
+use crate::fields::{num, word};
+use crate::rooms::Room;
+use hac_model::{Memory, Name, Node, Number, Query, Term};
+use std::alloc::Global;
+
+/// A part of a query without what it joins.
+#[derive(Debug, Drop)]
+pub(crate) enum Token {
+    /// A word or a prefix.
+    Term(Term),
+    /// A directory.
+    Dir(Number),
+    /// `NOT`, before one query.
+    Not,
+    /// `AND`, before two.
+    And,
+    /// `OR`, before two.
+    Or,
+}
+
+/// A query.
+#[tactic(auto, unfolding(hac_model::specs::QueryFields::query_at))]
+pub(crate) fn query(alloc: Global, bytes: &mut Bytes) -> Result<Query<Number>, Fault>
+    ensures { Gives result bytes.new (query_field.read bytes.old) }
+{
+    let tokens = tokens(alloc, bytes)?;
+    let mut pile = build(alloc, tokens)?;
+    match pile.pop() {
+        Some(query) => Ok(query),
+        None => Err(bytes.bad()),
+    }
+}
+
+/// The parts of a query, as long as one is wanted.
+fn tokens(alloc: Global, bytes: &mut Bytes) -> Result<Vec<Token>, Fault>
+    ensures { GivesSeen (λ tokens. tokens_of tokens.items) result bytes.new (tokens_at (length bytes.old) (32 ∷ []) 64 1024 bytes.old) }
+{
+    let mut room = Room::new(alloc)?;
+    let mut tokens = Vec::new(alloc);
+    'parts: for _ in 0..bytes.left() {
+        let Some(nots) = room.wanted.pop() else {
+            return Ok(tokens);
+        };
+        let bad = bytes.bad();
+        let token = next_token(alloc, bytes, room.terms)?;
+        if !room.take(nots, &token)? {
+            return Err(bad);
+        }
+        tokens.push(token)?;
+    }
+    if room.wanted.is_empty() {
+        Ok(tokens)
+    } else {
+        Err(Fault::Bad { left: 0 })
+    }
+}
+
+/// The part at the front, where so many terms may still come.
+#[tactic(auto, unfolding(hac_model::specs::Fields::choice_at, hac_model::specs::Fields::way_at))]
+fn next_token(alloc: Global, bytes: &mut Bytes, terms: u64) -> Result<Token, Fault>
+    ensures { GivesSeen token_of result bytes.new (token_at terms bytes.old) }
+{
+    let left = bytes.left();
+    let Some(kind) = bytes.byte() else {
+        return Err(Fault::Bad { left });
+    };
+    match kind {
+        1 => Ok(Token::Term(Term::Word(whole_word(alloc, bytes, left)?))),
+        2 => Ok(Token::Term(Term::Prefix(whole_word(alloc, bytes, left)?))),
+        3 if terms > 0 => Ok(Token::Dir(num(bytes)?)),
+        4 => Ok(Token::Not),
+        5 => Ok(Token::And),
+        6 => Ok(Token::Or),
+        _ => Err(Fault::Bad { left }),
+    }
+}
+
+/// The letters of a term, which fail where so many bytes are left.
+fn whole_word(alloc: Global, bytes: &mut Bytes, left: usize) -> Result<Name, Fault>
+    ensures { Gives result bytes.new (failing_at left (word_field.read bytes.old)) }
+{
+    match word(alloc, bytes) {
+        Ok(letters) => Ok(letters),
+        Err(Fault::Memory) => Err(Fault::Memory),
+        Err(Fault::Bad { .. }) => Err(Fault::Bad { left }),
+    }
+}
+
+/// The queries that parts make, one behind the other, the first one last.
+#[tactic(auto, using(crate::proofs::PileLemmas::piles))]
+fn build(alloc: Global, tokens: Vec<Token>) -> Result<Vec<Query<Number>>, Memory>
+    ensures { IfOk result (λ pile. reverse pile.items ≡ built (tokens_of tokens.items) []) }
+{
+    let mut tokens = tokens;
+    let mut pile = Vec::new(alloc);
+    'parts: while let Some(token) = tokens.pop() {
+        put(alloc, &mut pile, token)?;
+    }
+    Ok(pile)
+}
+
+/// Puts a part in front of queries, of which it takes those that it joins.
+#[tactic(auto, using(crate::proofs::PileLemmas::piles))]
+fn put(alloc: Global, pile: &mut Vec<Query<Number>>, token: Token) -> Result<(), Memory>
+    ensures { OnOk result (reverse pile.new.items ≡ put (token_of token) (reverse pile.old.items)) }
+{
+    let node = match token {
+        Token::Term(term) => Node::Term(term),
+        Token::Dir(dir) => Node::Dir(dir),
+        Token::Not => {
+            let Some(query) = pile.pop() else {
+                return Ok(());
+            };
+            Node::Not(Box::new(alloc, query)?)
+        }
+        Token::And => {
+            let Some((left, right)) = two(pile) else {
+                return Ok(());
+            };
+            Node::And(Box::new(alloc, left)?, Box::new(alloc, right)?)
+        }
+        Token::Or => {
+            let Some((left, right)) = two(pile) else {
+                return Ok(());
+            };
+            Node::Or(Box::new(alloc, left)?, Box::new(alloc, right)?)
+        }
+    };
+    pile.push(Query { node })?;
+    Ok(())
+}
+
+/// The first two queries of a pile.
+#[tactic(auto, using(crate::proofs::PileLemmas::piles))]
+fn two(pile: &mut Vec<Query<Number>>) -> Option<(Query<Number>, Query<Number>)>
+    ensures { TakesTwo (reverse pile.old.items) (reverse pile.new.items) result }
+{
+    let left = pile.pop()?;
+    let right = pile.pop()?;
+    Some((left, right))
+}

@@ -1,0 +1,83 @@
+//! What may still come of a query.
+ghost use Rattle.std.specs.Prelude.{◌≡◌, ◌∷◌, [], ◌&&◌, ◌-◌, nat_le, if◌then◌else◌, IfOk, length};
+ghost use Rattle.hac_model.specs.QueryFields.{term_size};
+ghost use Rattle.event_codec.specs.Tokens.{Takes, room_of, token_of};
+
+use crate::queries::Token;
+use hac_model::{Memory, TERMS_LIMIT, Term};
+use std::alloc::Global;
+
+/// The most bytes of the letters of a query's terms.
+const LETTERS_LIMIT: u64 = 1_024;
+
+/// The most `NOT`s on any way down to a term.
+const NOTS_LIMIT: u64 = 32;
+
+/// What may still come of a query whose parts are read one by one.
+#[derive(Debug, Drop)]
+pub(crate) struct Room {
+    /// For each query that is still wanted how many `NOT`s it may have. The next one stands last.
+    pub wanted: Vec<u64>,
+    /// How many terms.
+    pub terms: u64,
+    /// How many bytes of letters.
+    pub letters: u64,
+}
+
+impl Room {
+    /// One query is wanted.
+    pub(crate) fn new(alloc: Global) -> Result<Room, Memory>
+        ensures { IfOk result (λ room. room_of room ≡ record { wanted = 32 ∷ []; terms = 64; letters = 1024 }) }
+    {
+        Ok(Room {
+            wanted: vec![in alloc; NOTS_LIMIT]?,
+            terms: TERMS_LIMIT,
+            letters: LETTERS_LIMIT,
+        })
+    }
+
+    /// Whether a part may come that may have so many `NOT`s. It makes room for what it joins.
+    #[tactic(auto, using(crate::proofs::PileLemmas::piles))]
+    pub(crate) fn take(&mut self, nots: u64, token: &Token) -> Result<bool, Memory>
+        ensures { IfOk result (λ taken. Takes nots (token_of token.now) self.old self.new taken) }
+    {
+        match token {
+            Token::Term(term) => Ok(self.take_term(letters_of(term))),
+            Token::Dir(_) => Ok(self.take_term(0)),
+            Token::Not => {
+                if nots == 0 {
+                    return Ok(false);
+                }
+                self.wanted.push(nots - 1)?;
+                Ok(true)
+            }
+            Token::And | Token::Or => {
+                self.wanted.push(nots)?;
+                self.wanted.push(nots)?;
+                Ok(true)
+            }
+        }
+    }
+
+    /// Whether a term of so many letters may come.
+    fn take_term(&mut self, size: u64) -> bool
+        ensures taken { result ≡ (nat_le 1 self.old.terms && nat_le size self.old.letters) }
+        ensures room { self.new ≡ if result then record self.old { terms = self.old.terms - 1; letters = self.old.letters - size } else self.old }
+    {
+        if self.terms == 0 || size > self.letters {
+            return false;
+        }
+        self.terms -= 1;
+        self.letters -= size;
+        true
+    }
+}
+
+/// How many letters a term has.
+fn letters_of(term: &Term) -> u64
+    ensures { result ≡ term_size term.now }
+{
+    match term {
+        Term::Word(letters) | Term::Prefix(letters) => letters.as_bytes().len() as u64,
+    }
+}
