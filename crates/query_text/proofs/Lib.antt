@@ -1,0 +1,10 @@
+pub mod TokenLemmas
+pub mod KindLemmas
+pub mod ByteLemmas
+pub mod ShowLemmas
+pub mod FaultLemmas
+pub mod ReadLemmas
+pub mod PrintLemmas
+pub mod LeastLemmas
+pub mod SoundLemmas
+pub mod BackLemmas

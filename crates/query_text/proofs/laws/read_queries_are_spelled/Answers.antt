@@ -1,0 +1,5 @@
+use Rattle.query_text.proofs.SoundLemmas.{read_spelled}
+use Rattle.query_text.proofs.laws.read_queries_are_spelled.Goals as goal
+
+pub returns : goal.returns
+returns c = read_spelled

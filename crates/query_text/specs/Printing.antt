@@ -1,0 +1,33 @@
+-- Queries as they are printed, told the paths of their directories.
+use Rattle.std.specs.Prelude.{ℕ, Bool, true, ◌==◌, ◌&&◌, if◌then◌else◌, List, [], ◌∷◌, Option, Some, None, is_some}
+use Rattle.std.specs.Option.{option_map_or}
+use Rattle.hac_model.specs.Formula.{Formula}
+use Rattle.hac_model.specs.Formula as query
+use Rattle.hac_model.specs.Paths.{path_text}
+use Rattle.hac_model.specs.QueryText.{query_text, renamed}
+use Rattle.query_text.specs.declared.paths.Told.{Told}
+
+-- the path that was told of a directory, the first of it
+abbrev pub path_at : List Told → ℕ → Option (List (List ℕ))
+path_at [] dir = None
+path_at (told ∷ paths) dir = if told.dir == dir then Some told.path else path_at paths dir
+
+-- each directory of the query has a path
+abbrev pub are_known : List Told → Formula ℕ → Bool
+are_known paths (query.Term asked) = true
+are_known paths (query.Dir dir) = is_some (path_at paths dir)
+are_known paths (query.Not query) = are_known paths query
+are_known paths (query.And left right) = are_known paths left && are_known paths right
+are_known paths (query.Or left right) = are_known paths left && are_known paths right
+
+-- the path of a directory as it is printed
+abbrev pub dir_path : List Told → ℕ → List ℕ
+dir_path paths dir = option_map_or path_text (path_at paths dir) []
+
+-- the query with the paths of its directories
+abbrev pub pathed : List Told → Formula ℕ → Formula (List ℕ)
+pathed paths asked = renamed (dir_path paths) asked
+
+-- the query as it is printed
+abbrev pub printed_query : List Told → Formula ℕ → List ℕ
+printed_query paths asked = query_text (pathed paths asked)

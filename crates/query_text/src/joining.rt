@@ -1,0 +1,207 @@
+//! Operands, and how what stands before them joins them.
+ghost use Rattle.std.specs.Prelude.{◌≡◌, ◌+◌, IfOk};
+ghost use Rattle.hac_model.specs.Grammar as grammar;
+ghost use Rattle.hac_model.specs.QueryReading as reading;
+
+use hac_model::reading::{Held, Level, Part, Pile, Wanted};
+use hac_model::{Memory, Query};
+use std::alloc::Global;
+
+/// A level on which nothing stands yet.
+pub(crate) fn empty_level() -> Level
+    ensures { result ≡ reading.empty_level }
+{
+    Level {
+        ors: None,
+        ands: None,
+        nots: 0,
+    }
+}
+
+/// Behind `(`.
+pub(crate) fn enter(wanted: Wanted) -> Result<Wanted, Memory>
+    ensures { IfOk result (λ inner. inner ≡ reading.enter wanted) }
+{
+    let Wanted { level, mut outer } = wanted;
+    outer.push(level)?;
+    Ok(Wanted {
+        level: empty_level(),
+        outer,
+    })
+}
+
+/// Behind `NOT`.
+pub(crate) fn negate(wanted: Wanted) -> Result<Wanted, Memory>
+    ensures { IfOk result (λ negated. negated ≡ reading.negate wanted) }
+{
+    let Wanted { level, outer } = wanted;
+    let Level { ors, ands, nots } = level;
+    Ok(Wanted {
+        level: Level {
+            ors,
+            ands,
+            nots: one_more(nots)?,
+        },
+        outer,
+    })
+}
+
+/// Behind the operand that was wanted.
+pub(crate) fn receive(alloc: Global, part: Part, wanted: Wanted) -> Result<Held, Memory>
+    ensures { IfOk result (λ held. held ≡ reading.receive part wanted) }
+{
+    let Wanted { level, outer } = wanted;
+    let Level { ors, ands, nots } = level;
+    let negated = nots_part(alloc, nots, part)?;
+    let joined = join_and(alloc, ands, negated)?;
+    Ok(Held {
+        ors,
+        part: joined,
+        outer,
+    })
+}
+
+/// Behind `AND`.
+pub(crate) fn after_and(held: Held) -> Wanted
+    ensures { result ≡ reading.after_and held }
+{
+    let Held { ors, part, outer } = held;
+    Wanted {
+        level: Level {
+            ors,
+            ands: Some(part),
+            nots: 0,
+        },
+        outer,
+    }
+}
+
+/// Behind `OR`.
+pub(crate) fn after_or(alloc: Global, held: Held) -> Result<Wanted, Memory>
+    ensures { IfOk result (λ wanted. wanted ≡ reading.after_or held) }
+{
+    let Held { ors, part, outer } = held;
+    let whole = join_or(alloc, ors, part)?;
+    Ok(Wanted {
+        level: Level {
+            ors: Some(whole),
+            ands: None,
+            nots: 0,
+        },
+        outer,
+    })
+}
+
+/// Behind `)`.
+pub(crate) fn leave(alloc: Global, held: Held) -> Result<Option<Held>, Memory>
+    ensures { IfOk result (λ left. left ≡ reading.leave held) }
+{
+    let Held { ors, part, outer } = held;
+    let whole = join_or(alloc, ors, part)?;
+    grouped(alloc, whole, outer)
+}
+
+/// The part in parentheses, told what stands before each open one.
+fn grouped(alloc: Global, part: Part, mut outer: Pile<Level>) -> Result<Option<Held>, Memory>
+    ensures { IfOk result (λ held. held ≡ reading.grouped part outer) }
+{
+    match outer.pop() {
+        None => Ok(None),
+        Some(level) => {
+            let group = group_part(part)?;
+            let held = receive(alloc, group, Wanted { level, outer })?;
+            Ok(Some(held))
+        }
+    }
+}
+
+/// The query, where nothing follows.
+pub(crate) fn finish(alloc: Global, held: Held) -> Result<Option<Part>, Memory>
+    ensures { IfOk result (λ part. part ≡ reading.finish held) }
+{
+    let Held { ors, part, outer } = held;
+    let whole = join_or(alloc, ors, part)?;
+    Ok(ungrouped(whole, outer))
+}
+
+fn ungrouped(part: Part, mut outer: Pile<Level>) -> Option<Part>
+    ensures { result ≡ reading.ungrouped part outer }
+{
+    match outer.pop() {
+        None => Some(part),
+        Some(_level) => None,
+    }
+}
+
+fn join_and(alloc: Global, left: Option<Part>, part: Part) -> Result<Part, Memory>
+    ensures { IfOk result (λ joined. joined ≡ reading.join_and left part) }
+{
+    match left {
+        None => Ok(part),
+        Some(left) => and_part(alloc, left, part),
+    }
+}
+
+fn join_or(alloc: Global, left: Option<Part>, part: Part) -> Result<Part, Memory>
+    ensures { IfOk result (λ joined. joined ≡ reading.join_or left part) }
+{
+    match left {
+        None => Ok(part),
+        Some(left) => or_part(alloc, left, part),
+    }
+}
+
+fn and_part(alloc: Global, left: Part, right: Part) -> Result<Part, Memory>
+    ensures { IfOk result (λ both. both ≡ grammar.and_part left right) }
+{
+    Ok(Part {
+        query: Query::both(alloc, left.query, right.query)?,
+        nesting: left.nesting.max(right.nesting),
+    })
+}
+
+fn or_part(alloc: Global, left: Part, right: Part) -> Result<Part, Memory>
+    ensures { IfOk result (λ both. both ≡ grammar.or_part left right) }
+{
+    Ok(Part {
+        query: Query::either(alloc, left.query, right.query)?,
+        nesting: left.nesting.max(right.nesting),
+    })
+}
+
+/// A part behind so many `NOT`s.
+fn nots_part(alloc: Global, mut nots: u64, part: Part) -> Result<Part, Memory>
+    ensures { IfOk result (λ all. all ≡ reading.nots_part nots part) }
+{
+    let mut negated = part;
+    while nots > 0 {
+        negated = not_part(alloc, negated)?;
+        nots -= 1;
+    }
+    Ok(negated)
+}
+
+fn not_part(alloc: Global, part: Part) -> Result<Part, Memory>
+    ensures { IfOk result (λ negated. negated ≡ grammar.not_part part) }
+{
+    Ok(Part {
+        query: Query::negation(alloc, part.query)?,
+        nesting: one_more(part.nesting)?,
+    })
+}
+
+fn group_part(part: Part) -> Result<Part, Memory>
+    ensures { IfOk result (λ group. group ≡ grammar.group_part part) }
+{
+    Ok(Part {
+        query: part.query,
+        nesting: one_more(part.nesting)?,
+    })
+}
+
+/// One more. What is counted stands in memory, which has no room for so much that it doesn't fit.
+fn one_more(count: u64) -> Result<u64, Memory>
+    ensures { IfOk result (λ more. more ≡ count + 1) }
+{
+    count.checked_add(1).ok_or(Memory)
+}

@@ -1,0 +1,22 @@
+//! Queries as bytes: how they are read and printed. It knows no tree, so that where a directory's path leads
+//! is for others to say.
+#![tactic(auto)]
+
+mod barring;
+mod faults;
+mod joining;
+mod kinds;
+pub mod laws;
+mod paths;
+mod printing;
+mod reading;
+mod stepping;
+
+pub use barring::without_directories;
+pub use faults::QueryFault;
+pub use paths::{Paths, Told};
+pub use printing::print;
+pub use reading::parse;
+
+#[cfg(test)]
+mod tests;

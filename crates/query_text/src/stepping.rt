@@ -1,0 +1,338 @@
+//! What one byte more makes of what was read of a query.
+ghost use Rattle.std.specs.Prelude.{◌≡◌, ◌==◌, ◌∷◌, ◌++◌, [], if◌then◌else◌, option_and_then, IfOk};
+ghost use Rattle.std.specs.Option.{option_map};
+ghost use Rattle.hac_model.specs.Queries as queries;
+ghost use Rattle.hac_model.specs.QueryReading as reading;
+ghost use Rattle.hac_model.specs.Words as words;
+
+use crate::joining::{after_and, after_or, empty_level, enter, finish, leave, negate, receive};
+use crate::kinds::kind_of;
+use hac_model::reading::{ByteKind, Held, Operand, Operator, Part, Pile, Reader, Stack, Wanted};
+use hac_model::{Memory, Name, Query, Term, Text};
+use std::alloc::Global;
+
+/// Before the first byte.
+pub(crate) fn start(alloc: Global) -> Reader
+    ensures { result ≡ reading.start }
+{
+    Reader::Wants(
+        Operand::Nothing,
+        Wanted {
+            level: empty_level(),
+            outer: Pile::new(alloc),
+        },
+    )
+}
+
+/// Behind a byte; None where no query goes on so.
+pub(crate) fn step(alloc: Global, reader: Reader, byte: u8) -> Result<Option<Reader>, Memory>
+    ensures { IfOk result (λ next. next ≡ reading.step byte reader) }
+{
+    match reader {
+        Reader::Wants(operand, wanted) => {
+            operand_step(alloc, kind_of(byte), byte, operand, wanted)
+        }
+        Reader::Holds(operator, held) => operator_step(alloc, kind_of(byte), byte, operator, held),
+    }
+}
+
+/// The query that was read, where nothing follows.
+pub(crate) fn ended(alloc: Global, reader: Reader) -> Result<Option<Part>, Memory>
+    ensures { IfOk result (λ part. part ≡ reading.ended reader) }
+{
+    match reader {
+        Reader::Wants(operand, wanted) => ended_wanting(alloc, operand, wanted),
+        Reader::Holds(operator, held) => ended_holding(alloc, operator, held),
+    }
+}
+
+fn ended_wanting(alloc: Global, operand: Operand, wanted: Wanted) -> Result<Option<Part>, Memory>
+    ensures { IfOk result (λ part. part ≡ reading.ended (Reader.Wants operand wanted)) }
+{
+    match operand {
+        Operand::Run(run) => ended_run(alloc, run, wanted),
+        _ => Ok(None),
+    }
+}
+
+fn ended_holding(alloc: Global, operator: Operator, held: Held) -> Result<Option<Part>, Memory>
+    ensures { IfOk result (λ part. part ≡ reading.ended (Reader.Holds operator held)) }
+{
+    match operator {
+        Operator::Nothing => finish(alloc, held),
+        _ => Ok(None),
+    }
+}
+
+fn ended_run(alloc: Global, run: Text, wanted: Wanted) -> Result<Option<Part>, Memory>
+    ensures { IfOk result (λ part. part ≡ option_and_then reading.ended_token (reading.after_run run wanted)) }
+{
+    match after_run(alloc, run, wanted)? {
+        Some(Stack::Holding(held)) => finish(alloc, held),
+        _ => Ok(None),
+    }
+}
+
+/// A byte where an operand is wanted.
+fn operand_step(
+    alloc: Global,
+    kind: ByteKind,
+    byte: u8,
+    operand: Operand,
+    wanted: Wanted,
+) -> Result<Option<Reader>, Memory>
+    ensures { IfOk result (λ next. next ≡ reading.operand_step kind byte operand wanted) }
+{
+    match operand {
+        Operand::Nothing => operand_begins(alloc, kind, byte, wanted),
+        Operand::Run(run) => run_step(alloc, kind, byte, run, wanted),
+        Operand::Brace => brace_step(alloc, kind, byte, wanted),
+        Operand::Path(path) => path_step(alloc, kind, byte, path, wanted),
+        Operand::Escape(path) => escape_step(kind, byte, path, wanted),
+    }
+}
+
+/// A byte behind a token, where an operand is wanted.
+fn operand_begins(
+    alloc: Global,
+    kind: ByteKind,
+    byte: u8,
+    wanted: Wanted,
+) -> Result<Option<Reader>, Memory>
+    ensures { IfOk result (λ next. next ≡ reading.operand_begins kind byte wanted) }
+{
+    match kind {
+        ByteKind::Word => Ok(Some(Reader::Wants(Operand::Run(first_byte(alloc, byte)?), wanted))),
+        ByteKind::Space => Ok(Some(Reader::Wants(Operand::Nothing, wanted))),
+        ByteKind::Open => Ok(Some(Reader::Wants(Operand::Nothing, enter(wanted)?))),
+        ByteKind::Brace => Ok(Some(Reader::Wants(Operand::Brace, wanted))),
+        _ => Ok(None),
+    }
+}
+
+/// A byte behind a part of a run.
+fn run_step(
+    alloc: Global,
+    kind: ByteKind,
+    byte: u8,
+    run: Text,
+    wanted: Wanted,
+) -> Result<Option<Reader>, Memory>
+    ensures { IfOk result (λ next. next ≡ reading.run_step kind byte run wanted) }
+{
+    match kind {
+        ByteKind::Word => Ok(Some(Reader::Wants(Operand::Run(with_byte(run, byte)?), wanted))),
+        ByteKind::Star => {
+            let letters = lower_case(alloc, run.as_slice())?;
+            received(alloc, Query::term(Term::Prefix(letters)), wanted)
+        }
+        _ => run_ends(alloc, kind, byte, run, wanted),
+    }
+}
+
+/// A byte behind a run that ended.
+fn run_ends(
+    alloc: Global,
+    kind: ByteKind,
+    byte: u8,
+    run: Text,
+    wanted: Wanted,
+) -> Result<Option<Reader>, Memory>
+    ensures { IfOk result (λ next. next ≡ reading.run_ends kind byte run wanted) }
+{
+    match after_run(alloc, run, wanted)? {
+        Some(Stack::Wanting(wanted)) => operand_begins(alloc, kind, byte, wanted),
+        Some(Stack::Holding(held)) => operator_begins(alloc, kind, byte, held),
+        None => Ok(None),
+    }
+}
+
+/// Behind a run that ended where an operand was wanted.
+#[tactic(auto, unfolding(hac_model::specs::QueryReading::after_run))]
+fn after_run(alloc: Global, run: Text, wanted: Wanted) -> Result<Option<Stack>, Memory>
+    ensures { IfOk result (λ stack. stack ≡ reading.after_run run wanted) }
+{
+    if run.as_slice() == b"NOT".as_slice() {
+        return Ok(Some(Stack::Wanting(negate(wanted)?)));
+    }
+    if is_operator(run.as_slice()) {
+        return Ok(None);
+    }
+    let letters = lower_case(alloc, run.as_slice())?;
+    let held = receive(alloc, leaf_part(Query::term(Term::Word(letters))), wanted)?;
+    Ok(Some(Stack::Holding(held)))
+}
+
+fn is_operator(run: &[u8]) -> bool
+    ensures { result ≡ queries.is_operator run.now }
+{
+    run == b"AND".as_slice() || run == b"OR".as_slice() || run == b"NOT".as_slice()
+}
+
+/// A byte behind an opening brace.
+fn brace_step(
+    alloc: Global,
+    kind: ByteKind,
+    byte: u8,
+    wanted: Wanted,
+) -> Result<Option<Reader>, Memory>
+    ensures { IfOk result (λ next. next ≡ reading.brace_step kind byte wanted) }
+{
+    match kind {
+        ByteKind::Slash => Ok(Some(Reader::Wants(Operand::Path(first_byte(alloc, byte)?), wanted))),
+        _ => Ok(None),
+    }
+}
+
+/// A byte behind a part of a path.
+fn path_step(
+    alloc: Global,
+    kind: ByteKind,
+    byte: u8,
+    path: Text,
+    wanted: Wanted,
+) -> Result<Option<Reader>, Memory>
+    ensures { IfOk result (λ next. next ≡ reading.path_step kind byte path wanted) }
+{
+    match kind {
+        ByteKind::EndBrace => received(alloc, Query::dir(Name::new(path.into_vec())), wanted),
+        ByteKind::Backslash => Ok(Some(Reader::Wants(Operand::Escape(path), wanted))),
+        ByteKind::Control => Ok(None),
+        _ => Ok(Some(Reader::Wants(Operand::Path(with_byte(path, byte)?), wanted))),
+    }
+}
+
+/// A byte behind a backslash in a path.
+fn escape_step(
+    kind: ByteKind,
+    byte: u8,
+    path: Text,
+    wanted: Wanted,
+) -> Result<Option<Reader>, Memory>
+    ensures { IfOk result (λ next. next ≡ reading.escape_step kind byte path wanted) }
+{
+    match kind {
+        ByteKind::EndBrace | ByteKind::Backslash => {
+            Ok(Some(Reader::Wants(Operand::Path(with_byte(path, byte)?), wanted)))
+        }
+        _ => Ok(None),
+    }
+}
+
+/// A byte where an operand ended.
+fn operator_step(
+    alloc: Global,
+    kind: ByteKind,
+    byte: u8,
+    operator: Operator,
+    held: Held,
+) -> Result<Option<Reader>, Memory>
+    ensures { IfOk result (λ next. next ≡ reading.operator_step kind byte operator held) }
+{
+    match operator {
+        Operator::Nothing => operator_begins(alloc, kind, byte, held),
+        Operator::A => Ok(letter(b'N', byte, Operator::An, held)),
+        Operator::An => Ok(letter(b'D', byte, Operator::And, held)),
+        Operator::And => sign_ends(alloc, kind, byte, after_and(held)),
+        Operator::O => Ok(letter(b'R', byte, Operator::Or, held)),
+        Operator::Or => sign_ends(alloc, kind, byte, after_or(alloc, held)?),
+    }
+}
+
+/// A byte that is to be the next letter of an operator.
+fn letter(wanted: u8, byte: u8, next: Operator, held: Held) -> Option<Reader>
+    ensures { result ≡ (if byte == wanted then Some (Reader.Holds next held) else None) }
+{
+    if byte == wanted {
+        Some(Reader::Holds(next, held))
+    } else {
+        None
+    }
+}
+
+/// A byte behind a token, where an operand ended.
+fn operator_begins(
+    alloc: Global,
+    kind: ByteKind,
+    byte: u8,
+    held: Held,
+) -> Result<Option<Reader>, Memory>
+    ensures { IfOk result (λ next. next ≡ reading.operator_begins kind byte held) }
+{
+    match kind {
+        ByteKind::Word => Ok(sign_begins(byte, held)),
+        ByteKind::Space => Ok(Some(Reader::Holds(Operator::Nothing, held))),
+        ByteKind::Close => closed(alloc, held),
+        _ => Ok(None),
+    }
+}
+
+/// The first letter of an operator.
+fn sign_begins(byte: u8, held: Held) -> Option<Reader>
+    ensures { result ≡ reading.sign_begins byte held }
+{
+    match byte {
+        b'A' => Some(Reader::Holds(Operator::A, held)),
+        b'O' => Some(Reader::Holds(Operator::O, held)),
+        _ => None,
+    }
+}
+
+fn closed(alloc: Global, held: Held) -> Result<Option<Reader>, Memory>
+    ensures { IfOk result (λ next. next ≡ option_map (Reader.Holds Operator.Nothing) (reading.leave held)) }
+{
+    match leave(alloc, held)? {
+        Some(held) => Ok(Some(Reader::Holds(Operator::Nothing, held))),
+        None => Ok(None),
+    }
+}
+
+/// A byte behind an operator.
+fn sign_ends(
+    alloc: Global,
+    kind: ByteKind,
+    byte: u8,
+    wanted: Wanted,
+) -> Result<Option<Reader>, Memory>
+    ensures { IfOk result (λ next. next ≡ reading.sign_ends kind byte wanted) }
+{
+    match kind {
+        ByteKind::Word | ByteKind::Star => Ok(None),
+        _ => operand_begins(alloc, kind, byte, wanted),
+    }
+}
+
+/// Behind a leaf.
+fn received(alloc: Global, query: Query<Name>, wanted: Wanted) -> Result<Option<Reader>, Memory>
+    ensures { IfOk result (λ next. next ≡ Some (Reader.Holds Operator.Nothing (reading.receive (record { query = query; nesting = 0 }) wanted))) }
+{
+    let held = receive(alloc, leaf_part(query), wanted)?;
+    Ok(Some(Reader::Holds(Operator::Nothing, held)))
+}
+
+fn leaf_part(query: Query<Name>) -> Part
+    ensures { result ≡ record { query = query; nesting = 0 } }
+{
+    Part { query, nesting: 0 }
+}
+
+fn first_byte(alloc: Global, byte: u8) -> Result<Text, Memory>
+    ensures { IfOk result (λ text. text ≡ byte ∷ []) }
+{
+    Ok(Text::new(vec![in alloc; byte]?))
+}
+
+fn with_byte(text: Text, byte: u8) -> Result<Text, Memory>
+    ensures { IfOk result (λ more. more ≡ text ++ byte ∷ []) }
+{
+    let mut bytes = text.into_vec();
+    bytes.push(byte)?;
+    Ok(Text::new(bytes))
+}
+
+fn lower_case(alloc: Global, run: &[u8]) -> Result<Name, Memory>
+    ensures { IfOk result (λ letters. letters ≡ words.lower_case run.now) }
+{
+    let letters = run.iter().map(|b| b.to_ascii_lowercase()).collect(alloc)?;
+    Ok(Name::new(letters))
+}
