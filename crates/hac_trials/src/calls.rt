@@ -1,0 +1,53 @@
+//! Calls that the program doesn't make yet, or not in each way, once each with ample memory.
+use hac_model::{Name, Term};
+use hac_words::{has_term, words_of};
+use std::test::Fail;
+
+#[test]
+fn lists_words(rt: HostRuntime) -> Result<(), Fail> {
+    for (text, want) in [
+        (b"".as_slice(), b"".as_slice()),
+        (b" .,-\t\n", b""),
+        (b"one", b"one "),
+        (b"Zebra, ant; the ANT-zoo", b"ant the zebra zoo "),
+        (b"(ants) an 9 10 4x4 Ant", b"10 4x4 9 an ant ants "),
+        (b"a@b[c`d{e/f:g\x7fh\x80i", b"a b c d e f g h\x80i "),
+        (
+            b"\xc3\x89t\xc3\xa9 \xc3\xa9T\xc3\xa9",
+            b"\xc3\x89t\xc3\xa9 \xc3\xa9t\xc3\xa9 ",
+        ),
+        (b"\xff~\x00\xff", b"\xff "),
+    ] {
+        let mut told = Vec::new(rt.alloc());
+        for word in words_of(rt.alloc(), text)?.as_slice() {
+            told.extend_from_slice(word.as_bytes())?;
+            told.push(b' ')?;
+        }
+        assert_eq!(rt; told.as_slice(), want, "in {text:?}");
+    }
+    Ok(())
+}
+
+#[test]
+fn finds_words_and_prefixes(rt: HostRuntime) -> Result<(), Fail> {
+    let text = b"The Anthill, 4x4 caf\xc3\xa9";
+    for (letters, is_word, is_prefix) in [
+        (b"the".as_slice(), true, true),
+        (b"anthill", true, true),
+        (b"ant", false, true),
+        (b"hill", false, false),
+        (b"Ant", false, false),
+        (b"anthills", false, false),
+        (b"the anthill", false, false),
+        (b"4", false, true),
+        (b"caf\xc3\xa9", true, true),
+        (b"", false, true),
+    ] {
+        let word = Term::Word(Name::new(Vec::from_slice(rt.alloc(), letters)?));
+        let prefix = Term::Prefix(Name::new(Vec::from_slice(rt.alloc(), letters)?));
+        assert_eq!(rt; has_term(text, &word), is_word, "{letters:?}");
+        assert_eq!(rt; has_term(text, &prefix), is_prefix, "{letters:?}*");
+        assert_eq!(rt; has_term(b", ;", &prefix), false, "{letters:?}*");
+    }
+    Ok(())
+}

@@ -1,0 +1,240 @@
+//! Runs over devices in memory that give their bytes in pieces, fail at chosen calls, or hold more than a file can say.
+use hac_model::{SCRIPT_LIMIT, TEXT_LIMIT};
+use hac_outside::{Failed, MemorySink, MemorySource, Sink, Source};
+use hac_top::{Status, run};
+use std::alloc::{AllocError, Global};
+use std::test::Fail;
+
+const ROOM: u64 = 1 << 20;
+
+/// A script from a source in pieces, to a sink of some room, each with the calls of it that fail.
+#[derive(Clone, Copy)]
+struct Trial<'a> {
+    script: &'a [u8],
+    pieces: &'a [u64],
+    failing_reads: &'a [u64],
+    room: u64,
+    failing_writes: &'a [u64],
+}
+
+/// A script from a source in one piece, to a sink that takes all.
+fn trial_of(script: &[u8]) -> Trial<'_> {
+    Trial {
+        script,
+        pieces: &[],
+        failing_reads: &[],
+        room: ROOM,
+        failing_writes: &[],
+    }
+}
+
+impl<'a> Trial<'a> {
+    fn pieces(self, pieces: &'a [u64]) -> Trial<'a> {
+        Trial { pieces, ..self }
+    }
+
+    fn failing_reads(self, failing_reads: &'a [u64]) -> Trial<'a> {
+        Trial {
+            failing_reads,
+            ..self
+        }
+    }
+
+    fn room(self, room: u64) -> Trial<'a> {
+        Trial { room, ..self }
+    }
+
+    fn failing_writes(self, failing_writes: &'a [u64]) -> Trial<'a> {
+        Trial {
+            failing_writes,
+            ..self
+        }
+    }
+}
+
+/// How the run ends, and what was written.
+fn play(alloc: Global, trial: &Trial<'_>) -> Result<(Status, Vec<u8>), AllocError> {
+    let mut input = MemorySource::new(alloc, trial.script, trial.pieces, trial.failing_reads)?;
+    let mut output = MemorySink::new(alloc, trial.room, ROOM, trial.failing_writes)?;
+    let status = run(alloc, &[], &mut input, &mut output);
+    let written = Vec::from_slice(alloc, output.written())?;
+    Ok((status, written))
+}
+
+#[test]
+fn pieces_and_faults_leave_a_prefix(rt: HostRuntime) -> Result<(), Fail> {
+    let alloc = rt.alloc();
+    let script = trial_of(b"write /a x\nfly\nwrite /b");
+    let bytes = script.pieces(&[1; 32]);
+    let all: &[u8] = b"ok\nno bad-line\nok\n";
+    let rows: [(Trial<'_>, Status, &[u8]); 11] = [
+        (bytes, Status::SomeRefused, all),
+        // A fault of reading: the text over the lines that came whole.
+        (script.failing_reads(&[1]), Status::ReadFault, b""),
+        (
+            script.failing_reads(&[2]),
+            Status::ReadFault,
+            b"ok\nno bad-line\n",
+        ),
+        (script.failing_reads(&[3]), Status::SomeRefused, all),
+        (bytes.failing_reads(&[11]), Status::ReadFault, b""),
+        (bytes.failing_reads(&[12]), Status::ReadFault, b"ok\n"),
+        (
+            bytes.failing_reads(&[16]),
+            Status::ReadFault,
+            b"ok\nno bad-line\n",
+        ),
+        // A fault of writing or of a flush: the replies up to it.
+        (script.failing_writes(&[1]), Status::WriteFault, b""),
+        (script.failing_writes(&[2]), Status::WriteFault, b"ok\n"),
+        (script.failing_writes(&[3]), Status::WriteFault, b"ok\n"),
+        (script.room(5), Status::WriteFault, b"ok\nno"),
+    ];
+    for (row, (trial, status, text)) in rows.into_iter().enumerate() {
+        let (ended, written) = play(alloc, &trial)?;
+        assert_eq!(rt; ended, status, "in row {row}");
+        assert_eq!(rt; written.as_slice(), text, "in row {row}");
+    }
+    Ok(())
+}
+
+#[test]
+fn words_are_refused(rt: HostRuntime) -> Result<(), Fail> {
+    let alloc = rt.alloc();
+    let rows: [(u64, &[u64], Status, &[u8]); 4] = [
+        (ROOM, &[], Status::Usage, b"usage: hac\n"),
+        (4, &[], Status::WriteFault, b"usag"),
+        (0, &[], Status::WriteFault, b""),
+        // The line is flushed.
+        (ROOM, &[2], Status::WriteFault, b"usage: hac\n"),
+    ];
+    for (room, failing, status, text) in rows {
+        let words = [String::from_str(alloc, "--help")?];
+        let mut input = MemorySource::new(alloc, b"fly\n", &[], &[])?;
+        let mut output = MemorySink::new(alloc, room, ROOM, failing)?;
+        assert_eq!(rt; run(alloc, &words, &mut input, &mut output), status);
+        assert_eq!(rt; output.written(), text);
+    }
+    Ok(())
+}
+
+/// A source that makes the bytes of a script of so many: each read gives a comment, and one read near the
+/// limit begins with a command.
+#[derive(Drop)]
+struct LongScript<'a> {
+    command: &'a [u8],
+    at: u64,
+    end: u64,
+    commands: u64,
+    ended: bool,
+}
+
+impl<'a> Source for LongScript<'a> {
+    ghost use Rattle.std.specs.Prelude.{None};
+
+    ghost seen = { λ source. record { left = None; faults = 0; ended = source.ended } };
+
+    fn read(&mut self, into: &mut [u8]) -> Result<usize, Failed> {
+        let left = self.end.saturating_sub(self.at);
+        let count = left.min(into.len() as u64) as usize;
+        into[..count].fill(b'#');
+        if count > 0 {
+            into[count - 1] = b'\n';
+        }
+        if self.commands == 0 && left <= 8192 && count > self.command.len() {
+            into[..self.command.len()].copy_from_slice(self.command);
+            self.commands = 1;
+        }
+        self.at = self.at.saturating_add(count as u64);
+        self.ended = count == 0 && !into.is_empty();
+        Ok(count)
+    }
+}
+
+#[test]
+fn longest_script_is_played(rt: HostRuntime) -> Result<(), Fail> {
+    let alloc = rt.alloc();
+    let write = b"write /a x\n".as_slice();
+    // A line that asks for more bytes than a script may have.
+    let put = b"put /a 9999999999\n".as_slice();
+    let rows: [(u64, &[u8], Status, &[u8]); 4] = [
+        (SCRIPT_LIMIT, write, Status::Done, b"ok\n"),
+        (SCRIPT_LIMIT + 1, write, Status::TooLong, b"ok\n"),
+        (SCRIPT_LIMIT, put, Status::SomeRefused, b"no short-put\n"),
+        (SCRIPT_LIMIT + 1, put, Status::TooLong, b""),
+    ];
+    for (end, command, status, text) in rows {
+        let mut input = LongScript {
+            command,
+            at: 0,
+            end,
+            commands: 0,
+            ended: false,
+        };
+        let mut output = MemorySink::new(alloc, ROOM, ROOM, &[])?;
+        assert_eq!(rt;
+            run(alloc, &[], &mut input, &mut output),
+            status,
+            "of {end} bytes"
+        );
+        assert_eq!(rt; output.written(), text, "of {end} bytes");
+    }
+    Ok(())
+}
+
+/// A `put` of so many bytes, of which the last are a word, and two lines behind them.
+fn long_put(alloc: Global, line: &[u8], count: u64) -> Result<Vec<u8>, AllocError> {
+    let mut script = Vec::from_slice(alloc, b"smkdir /s end\n")?;
+    script.extend_from_slice(line)?;
+    for _ in 4..count {
+        script.push(b'\n')?;
+    }
+    script.extend_from_slice(b" endindex\nsls /s")?;
+    Ok(script)
+}
+
+#[test]
+fn longest_text_is_put(rt: HostRuntime) -> Result<(), Fail> {
+    let alloc = rt.alloc();
+    let longest = long_put(alloc, b"put /a 1048576\n", TEXT_LIMIT)?;
+    let bytes = vec![in alloc; 1u64; longest.len() + 1]?;
+    let (status, written) = play(alloc, &trial_of(&longest).pieces(&bytes))?;
+    assert_eq!(rt; status, Status::Done);
+    assert_eq!(rt; written.as_slice(), b"ok\nok\nok\nt /a\nok\n".as_slice());
+    let rows: [(&[u8], &[u8]); 2] = [
+        (b"put /a 1048577\n", b"ok\nno limit text\nok\nok\n"),
+        (b"put \"\" 1048577\n", b"ok\nno bad-name\nok\nok\n"),
+    ];
+    for (line, text) in rows {
+        let script = long_put(alloc, line, TEXT_LIMIT + 1)?;
+        let (_, written) = play(alloc, &trial_of(&script))?;
+        assert_eq!(rt; written.as_slice(), text, "at {line:?}");
+    }
+    Ok(())
+}
+
+#[test]
+fn faults_inside_a_put_leave_it_unanswered(rt: HostRuntime) -> Result<(), Fail> {
+    let alloc = rt.alloc();
+    let script = trial_of(b"fly\nput /a 4\nabcdfly");
+    let rows: [(Trial<'_>, &[u8]); 4] = [
+        // Within the bytes, and directly behind the line.
+        (script.pieces(&[15]).failing_reads(&[2]), b"no bad-line\n"),
+        (script.pieces(&[13]).failing_reads(&[2]), b"no bad-line\n"),
+        // All bytes came.
+        (
+            script.pieces(&[17]).failing_reads(&[2]),
+            b"no bad-line\nok\n",
+        ),
+        (
+            script.pieces(&[1; 32]).failing_reads(&[18]),
+            b"no bad-line\nok\n",
+        ),
+    ];
+    for (row, (trial, text)) in rows.into_iter().enumerate() {
+        let (status, written) = play(alloc, &trial)?;
+        assert_eq!(rt; status, Status::ReadFault, "in row {row}");
+        assert_eq!(rt; written.as_slice(), text, "in row {row}");
+    }
+    Ok(())
+}

@@ -1,0 +1,8 @@
+//! Trials of what no session can say: devices that fail, scripts that come in pieces, and calls that the program
+//! doesn't make yet, once each with ample memory. There is nothing here for other crates.
+#![tactic(auto)]
+
+#[cfg(test)]
+mod calls;
+#[cfg(test)]
+mod devices;
