@@ -4,10 +4,13 @@ use Rattle.std.specs.Prelude.{◌==◌, not, filter, map, Option, Some, None}
 use Rattle.std.specs.Option.{option_map_or}
 use Rattle.std.proofs.lemmas.List.{map-append}
 use Rattle.hac_model.specs.Bare.{bare, bare_body}
-use Rattle.hac_model.specs.Events.{added, apply, changed, changed_at, edited, indexed, next_dirty, removed, reseated, rewritten}
+use Rattle.hac_model.specs.Events.{added, apply, asking, changed, changed_at, edited, forgetting, forgotten, indexed, marked, next_dirty, plain_body, removed, reseated, rewritten}
+use Rattle.hac_model.specs.Formula.{Formula}
 use Rattle.hac_model.specs.Tree.{is_dirty}
 use Rattle.hac_model.specs.declared.events.Event.{Event}
-use Rattle.hac_model.specs.declared.events.Event.TheVariants.{Mkdir, NewFile, Rewrite, Mv, Rm, Rmdir, Smkdir, Step}
+use Rattle.hac_model.specs.declared.events.Event.TheVariants.{Mkdir, NewFile, Rewrite, Mark, Mv, Rm, Rmdir, Setq, Smkdir, Step, Unq}
+use Rattle.hac_model.specs.declared.marks.Kind.{Kind}
+use Rattle.hac_model.specs.declared.marks.Kind.TheVariants.{Transient, Permanent, Prohibited, Unlinked}
 use Rattle.hac_model.specs.declared.states.Body.{Body}
 use Rattle.hac_model.specs.declared.states.Body.TheVariants.{File, Dir, Symlink, Semantic, Mount}
 use Rattle.hac_model.specs.declared.states.Entry.{Entry}
@@ -49,7 +52,7 @@ dirty-bare : (body : Body) → is_dirty (bare_body body) ≡ is_dirty body
 dirty-bare (File text dirty shown) = refl
 dirty-bare other = refl
 
-next_dirty-bare : (es : List Entry) → next_dirty (map (edited bare_body) es) ≡ next_dirty es
+pub next_dirty-bare : (es : List Entry) → next_dirty (map (edited bare_body) es) ≡ next_dirty es
 next_dirty-bare [] = refl
 next_dirty-bare (e ∷ es) = λ i. cond (dirty-bare e.body i) (Some e.number) (next_dirty-bare es i)
 
@@ -73,6 +76,49 @@ indexed-passes e = ap (λ (body : Body). record e { body = body }) (same e.body)
     same (Semantic query permanent prohibited) = refl
     same (Mount space documents answers) = refl
 
+asking-passes : (query : Formula ℕ) → Passes (edited (asking query))
+asking-passes query e = ap (λ (body : Body). record e { body = body }) (same e.body)
+  where
+    same : (body : Body) → bare_body (asking query body) ≡ bare_body (asking query (bare_body body))
+    same (File old dirty shown) = refl
+    same Dir = refl
+    same (Symlink target) = refl
+    same (Semantic old permanent prohibited) = refl
+    same (Mount space documents answers) = refl
+
+plain-passes : Passes (edited plain_body)
+plain-passes e = ap (λ (body : Body). record e { body = body }) (same e.body)
+  where
+    same : (body : Body) → bare_body (plain_body body) ≡ bare_body (plain_body (bare_body body))
+    same (File old dirty shown) = refl
+    same Dir = refl
+    same (Symlink target) = refl
+    same (Semantic query permanent prohibited) = refl
+    same (Mount space documents answers) = refl
+
+-- marks are taken away with what is bare
+forgetting-bare : (n : ℕ) (body : Body) → bare_body (forgetting n body) ≡ bare_body body
+forgetting-bare n (Semantic query permanent prohibited) = refl
+forgetting-bare n other = refl
+
+marked-bare : (n : ℕ) (kind : Kind) (body : Body) → bare_body (marked n kind body) ≡ bare_body body
+marked-bare n Permanent (Semantic query permanent prohibited) = refl
+marked-bare n Prohibited (Semantic query permanent prohibited) = refl
+marked-bare n Transient (Semantic query permanent prohibited) = refl
+marked-bare n Unlinked (Semantic query permanent prohibited) = refl
+marked-bare n Permanent other = refl
+marked-bare n Prohibited other = refl
+marked-bare n Transient other = refl
+marked-bare n Unlinked other = refl
+
+marked-passes : (n : ℕ) (kind : Kind) → Passes (edited (marked n kind))
+marked-passes n kind e = ap (λ (body : Body). record e { body = body }) (marked-bare n kind e.body ∙ sym (bare-again e.body) ∙ sym (marked-bare n kind (bare_body e.body)))
+
+-- the bodies of a state without an item's marks are bare as they were
+forgotten-entries : (n : ℕ) (es : List Entry) → map (edited bare_body) (map (edited (forgetting n)) es) ≡ map (edited bare_body) es
+forgotten-entries n [] = refl
+forgotten-entries n (e ∷ es) = λ i. record e { body = forgetting-bare n e.body i } ∷ forgotten-entries n es i
+
 reseated-passes : (dir : ℕ) (name : List ℕ) → Passes (reseated dir name)
 reseated-passes dir name e = ap (λ (body : Body). record (reseated dir name e) { body = body }) (sym (bare-again e.body))
 
@@ -95,6 +141,10 @@ changed_at-bare s n change passes = alike s.next (changed n change s.entries) (c
 removed-bare : (s : State) (n : ℕ) → bare (removed s n) ≡ bare (removed (bare s) n)
 removed-bare s n = alike s.next (filter (is_kept n) s.entries) (filter (is_kept n) (map (edited bare_body) s.entries)) s (bare s) (kept-bare n s.entries)
 
+forgotten-bare : (s : State) (n : ℕ) → bare (forgotten (removed s n) n) ≡ bare (forgotten (removed (bare s) n) n)
+forgotten-bare s n = alike s.next (map (edited (forgetting n)) (filter (is_kept n) s.entries)) (map (edited (forgetting n)) (filter (is_kept n) (map (edited bare_body) s.entries))) s (bare s)
+    (forgotten-entries n (filter (is_kept n) s.entries) ∙ kept-bare n s.entries ∙ sym (forgotten-entries n (filter (is_kept n) (map (edited bare_body) s.entries))))
+
 step-bare : (s : State) (o : Option ℕ) → bare (option_map_or (λ file. changed_at s file (edited indexed)) o s) ≡ bare (option_map_or (λ file. changed_at (bare s) file (edited indexed)) o (bare s))
 step-bare s None = alike s.next s.entries (map (edited bare_body) s.entries) s (bare s) (sym (entries-again s.entries))
 step-bare s (Some file) = changed_at-bare s file (edited indexed) indexed-passes
@@ -105,7 +155,10 @@ bare-commutes s (NewFile dir name text) = added-bare s dir name (File text true 
 bare-commutes s (Rewrite file text) = changed_at-bare s file (edited (rewritten text)) (rewritten-passes text)
 bare-commutes s (Smkdir dir name query told) = added-bare s dir name (Semantic query [] [])
 bare-commutes s (Mv entry dir name) = changed_at-bare s entry (reseated dir name) (reseated-passes dir name)
-bare-commutes s (Rm entry) = removed-bare s entry
+bare-commutes s (Setq dir query told) = changed_at-bare s dir (edited (asking query)) (asking-passes query)
+bare-commutes s (Unq dir) = changed_at-bare s dir (edited plain_body) plain-passes
+bare-commutes s (Mark mark) = changed_at-bare s mark.dir (edited (marked mark.item mark.kind)) (marked-passes mark.item mark.kind)
+bare-commutes s (Rm entry) = forgotten-bare s entry
 bare-commutes s (Rmdir dir) = removed-bare s dir
 bare-commutes s Step = step-bare s (next_dirty s.entries) ∙ ap (λ (o : Option ℕ). bare (option_map_or (λ file. changed_at (bare s) file (edited indexed)) o (bare s))) (sym (next_dirty-bare s.entries))
 bare-commutes s other = alike s.next s.entries (map (edited bare_body) s.entries) s (bare s) (sym (entries-again s.entries))

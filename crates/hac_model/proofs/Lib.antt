@@ -14,6 +14,7 @@ pub mod ValidLemmas
 pub mod DepthLemmas
 pub mod MoveLemmas
 pub mod PassedLemmas
+pub mod QueryLemmas
 pub mod SpellingLemmas
 pub mod FrontLemmas
 pub mod ScriptLemmas
@@ -24,3 +25,10 @@ pub mod PlainLemmas
 pub mod ListedLemmas
 pub mod WholeLemmas
 pub mod BareLemmas
+pub mod GraphLemmas
+pub mod CycleLemmas
+pub mod MapLemmas
+pub mod MarkLemmas
+pub mod AskLemmas
+pub mod AcyclicLemmas
+pub mod AlikeLemmas

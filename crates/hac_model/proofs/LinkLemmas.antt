@@ -1,7 +1,7 @@
 -- The links are the one fixed point of a round, where no directory depends on itself.
-use Rattle.std.proofs.Common.{◌≡◌, ℕ, zero, suc, ◌+◌, ◌≤◌, Bool, true, false, cond, List, [], ◌∷◌, length, subst, refl, ap, sym, ◌∙◌, arith, eq-eqb, inl, inr}
+use Rattle.std.proofs.Common.{◌≡◌, ℕ, zero, suc, ◌+◌, ◌≤◌, Bool, true, false, cond, List, [], ◌∷◌, length, refl, ap, sym, ◌∙◌, arith, eq-eqb, inl, inr}
 use Rattle.std.specs.Prelude.{◌&&◌, ◌||◌, ◌==◌, ◌⊎◌, ◌++◌, not, Option, Some, None, is_some, map, filter, option_and_then}
-use Rattle.std.specs.List.{AllByRecursion, list_any}
+use Rattle.std.specs.List.{list_any}
 use Rattle.std.specs.Option.{option_map_or, option_map}
 use Rattle.std.proofs.Math.Dec.{eqb}
 use Rattle.std.proofs.lemmas.Bool.{eqb-true}
@@ -10,16 +10,11 @@ use Rattle.hac_model.specs.Depends.{depends, named_in, Among, Leads, IsAcyclic}
 use Rattle.hac_model.specs.Formula.{Formula}
 use Rattle.hac_model.specs.Formula as query
 use Rattle.hac_model.specs.Limits.{semantic_count}
-use Rattle.hac_model.specs.Links.{parent_of, is_semantic, is_below, provide, holds, satisfies, passes, column, round, rounds, links, items, shown_of, query_at}
-use Rattle.hac_model.specs.Tree.{entry_at, body_at, path_of, query_in}
-use Rattle.hac_model.specs.Queries.{is_query}
-use Rattle.hac_model.specs.Valid.{AsksWell, IsLayout}
-use Rattle.hac_model.specs.declared.states.Body.{Body}
-use Rattle.hac_model.specs.declared.states.Body.TheVariants.{File, Dir, Symlink, Semantic, Mount}
+use Rattle.hac_model.specs.Links.{parent_of, is_permanent, is_semantic, is_unmarked, is_below, provide, holds, satisfies, passes, column, round, rounds, links, items, shown_of, query_at}
+use Rattle.hac_model.specs.Tree.{entry_at, body_at, query_in}
 use Rattle.hac_model.specs.declared.states.Entry.{Entry}
 use Rattle.hac_model.specs.declared.states.State.{State}
-use Rattle.hac_model.proofs.PathLemmas.{path_of-deeper}
-use Rattle.hac_model.proofs.TreeLemmas.{entry_at-all, entry_at-cases}
+use Rattle.hac_model.proofs.GraphLemmas.{leads_more}
 
 -- the number is taken out, wherever it is
 abbrev without : ℕ → List ℕ → List ℕ
@@ -60,11 +55,6 @@ Among-without n m (x ∷ xs) h other =
       ])
     ] refl
 
--- a step more at the end
-leads_more : (s : State) (k : ℕ) (d e m : ℕ) → Leads s k d e → Among (depends s e) m → Leads s (suc k) d m
-leads_more s zero d e m h edge = (m, subst (λ (x : ℕ). Among (depends s x) m) (sym h) edge, refl)
-leads_more s (suc k) d e m h edge = (h.0, h.1, leads_more s k h.0 e m h.2 edge)
-
 abbrev iterate : {A : Type 0} → ℕ → (A → A) → A → A
 iterate zero f a = a
 iterate (suc k) f a = f (iterate k f a)
@@ -79,7 +69,7 @@ iterate_fixed (suc k) f a h = ap f (iterate_fixed k f a h) ∙ h
 
 -- each directory is still free, or leads to this one
 abbrev Trail : State → List ℕ → List ℕ → ℕ → Type 0
-Trail s dirs free d = (v : ℕ) → Among dirs v → Among free v ⊎ ((k : ℕ) × Leads s (suc k) v d)
+Trail s dirs free d = (v : ℕ) → Among dirs v → Among free v ⊎ ((k : ℕ) × Leads (depends s) (suc k) v d)
 
 -- the semantic directories
 abbrev semantic_numbers : List Entry → List ℕ
@@ -119,7 +109,7 @@ among-right [] ys n h = h
 among-right (x ∷ xs) ys n h = inr (among-right xs ys n h)
 
 provide-same : (s : State) (a b : ℕ → Bool) (dir item : ℕ) → a dir ≡ b dir → provide s a dir item ≡ provide s b dir item
-provide-same s a b dir item same = ap (λ (t : Bool). is_below s dir item || (is_semantic s dir && t)) same
+provide-same s a b dir item same = ap (λ (t : Bool). is_below s dir item || (is_semantic s dir && (t || is_permanent s dir item))) same
 
 -- a query looks at the links of the directories that it names
 holds-same : (s : State) (a b : ℕ → Bool) (q : Formula ℕ) (item : ℕ) → ((e : ℕ) → Among (named_in q) e → a e ≡ b e) → holds s a q item ≡ holds s b q item
@@ -138,8 +128,8 @@ satisfied s a dir item q at = ap (λ (o : Option (Formula ℕ)). option_map_or (
 
 passes-same : (s : State) (a b : ℕ → Bool) (dir item : ℕ) (q : Formula ℕ) → query_at s dir ≡ Some q → ((e : ℕ) → Among (parent_of s dir ∷ named_in q) e → a e ≡ b e) → passes s a dir item ≡ passes s b dir item
 passes-same s a b dir item q at same =
-    ap (λ (t : Bool). t && is_some (shown_of s item) && satisfies s a dir item) (provide-same s a b (parent_of s dir) item (same (parent_of s dir) (inl refl)))
-    ∙ ap (λ (t : Bool). provide s b (parent_of s dir) item && is_some (shown_of s item) && t) (satisfied s a dir item q at ∙ holds-same s a b q item (λ e edge. same e (inr edge)) ∙ sym (satisfied s b dir item q at))
+    ap (λ (t : Bool). t && is_some (shown_of s item) && satisfies s a dir item && is_unmarked s dir item) (provide-same s a b (parent_of s dir) item (same (parent_of s dir) (inl refl)))
+    ∙ ap (λ (t : Bool). provide s b (parent_of s dir) item && is_some (shown_of s item) && t && is_unmarked s dir item) (satisfied s a dir item q at ∙ holds-same s a b q item (λ e edge. same e (inr edge)) ∙ sym (satisfied s b dir item q at))
 
 -- a round finds the links of a directory from those on which it depends
 round-local : (s : State) (b c : ℕ → List ℕ) (d : ℕ) → ((e : ℕ) → Among (depends s d) e → b e ≡ c e) → round s b d ≡ round s c d
@@ -157,6 +147,17 @@ round-outside s b d outside =
       | false ↦ (λ other. refl)
     ] refl
 
+-- a step on, the directory is no longer free
+trail-next : (s : State) (free : List ℕ) (d e : ℕ) → Trail s (semantic_numbers s.entries) free d → Among (depends s d) e → Trail s (semantic_numbers s.entries) (without d free) e
+trail-next s free d e trail edge v inside =
+    elim (eqb d v) as (λ t. eqb d v ≡ t → Among (without d free) v ⊎ ((k : ℕ) × Leads (depends s) (suc k) v e)) [
+      | true ↦ (λ same. inr (zero, leads_more (depends s) zero v d e (sym (eqb-true d v same)) edge))
+      | false ↦ (λ other. elim (trail v inside) as (λ _. Among (without d free) v ⊎ ((k : ℕ) × Leads (depends s) (suc k) v e)) [
+        | inl free_v ↦ inl (Among-without d v free free_v (λ same. let even : eqb d v ≡ true = eq-eqb d v same in absurd cc))
+        | inr back ↦ inr (suc back.0, leads_more (depends s) (suc back.0) v d e back.1 edge)
+      ])
+    ] refl
+
 -- after as many rounds as directories are free, the links of a directory no longer tell where the rounds began
 settled : (s : State) → IsAcyclic s → (k : ℕ) (free : List ℕ) (d : ℕ) (b c : ℕ → List ℕ) → length free ≤ k → Trail s (semantic_numbers s.entries) free d →
     ((v : ℕ) → (Among (semantic_numbers s.entries) v → ⊥) → b v ≡ c v) → iterate k (round s) b d ≡ iterate k (round s) c d
@@ -170,17 +171,7 @@ settled s acyclic (suc k) free d b c few trail outside =
     round-local s (iterate k (round s) b) (iterate k (round s) c) d (λ e edge.
     let inside = edge-among s d e edge in
     let here : Among free d = elim (trail d inside) as (λ _. Among free d) [ inl here ↦ here | inr back ↦ absurd (acyclic back.0 d back.1) ] in
-    settled s acyclic k (without d free) e b c (omega (arith, length-without d free here)) (trail_next s free d e trail edge) outside)
-  where
-    trail_next : (s : State) (free : List ℕ) (d e : ℕ) → Trail s (semantic_numbers s.entries) free d → Among (depends s d) e → Trail s (semantic_numbers s.entries) (without d free) e
-    trail_next s free d e trail edge v inside =
-        elim (eqb d v) as (λ t. eqb d v ≡ t → Among (without d free) v ⊎ ((k : ℕ) × Leads s (suc k) v e)) [
-          | true ↦ (λ same. inr (zero, leads_more s zero v d e (sym (eqb-true d v same)) edge))
-          | false ↦ (λ other. elim (trail v inside) as (λ _. Among (without d free) v ⊎ ((k : ℕ) × Leads s (suc k) v e)) [
-            | inl free_v ↦ inl (Among-without d v free free_v (λ same. let even : eqb d v ≡ true = eq-eqb d v same in absurd cc))
-            | inr back ↦ inr (suc back.0, leads_more s (suc back.0) v d e back.1 edge)
-          ])
-        ] refl
+    settled s acyclic k (without d free) e b c (omega (arith, length-without d free here)) (trail-next s free d e trail edge) outside)
 
 rounds-iterate : (s : State) (k : ℕ) → rounds k s ≡ iterate k (round s) (λ d. [])
 rounds-iterate s zero = refl
@@ -210,46 +201,15 @@ links-only s acyclic known fixed =
     λ i d. settled_all s acyclic known start (λ v outside. (λ j. sym fixed j v) ∙ round-outside s known v outside) d i in
     sym (iterate_fixed n (round s) known fixed) ∙ same ∙ sym (rounds-iterate s n)
 
--- a query that a directory may have names no directory yet
-asked-names : (q : Formula ℕ) → is_query q ≡ true → named_in q ≡ []
-asked-names (query.Term term) h = refl
-asked-names other h = absurd cc
+-- where no directory depends on itself, a walk has no more steps than there are directories that it may begin at
+walk-free : (s : State) → IsAcyclic s → (k : ℕ) (free : List ℕ) (d e : ℕ) → Trail s (semantic_numbers s.entries) free d → Leads (depends s) k d e → k ≤ length free
+walk-free s acyclic zero free d e trail h = omega arith
+walk-free s acyclic (suc k) free d e trail (next, edge, more) =
+    let inside = edge-among s d next edge in
+    let here : Among free d = elim (trail d inside) as (λ _. Among free d) [ inl here ↦ here | inr back ↦ absurd (acyclic back.0 d back.1) ] in
+    omega (arith, length-without d free here, walk-free s acyclic k (without d free) next e (trail-next s free d next trail edge) more)
 
-asked-in : (body : Body) (q : Formula ℕ) → AsksWell body → query_in body ≡ Some q → is_query q ≡ true
-asked-in (Semantic query permanent prohibited) q sound h = let same : query ≡ q = cc in subst (λ (q : Formula ℕ). is_query q ≡ true) same sound.fits
-asked-in other q sound h = absurd cc
-
--- so a directory depends on the one in which it stands alone
-edge-parent : (s : State) (d e : ℕ) → AllByRecursion (λ e. AsksWell e.body) s.entries → Among (depends s d) e → (entry : Entry) × (entry_at s.entries d ≡ Some entry) × (entry.parent ≡ e)
-edge-parent s d e sound edge = parent (entry_at-cases s.entries d) (edge-semantic s d e edge)
-  where
-    parent : (entry_at s.entries d ≡ None) ⊎ ((entry : Entry) × (entry_at s.entries d ≡ Some entry)) → is_semantic s d ≡ true → (entry : Entry) × (entry_at s.entries d ≡ Some entry) × (entry.parent ≡ e)
-    parent (inl nothing) semantic = let never : false ≡ true = ap (λ (o : Option Entry). is_some (option_and_then query_in (option_map (λ (e : Entry). e.body) o))) (sym nothing) ∙ semantic in absurd cc
-    parent (inr found) semantic =
-        let at : query_at s d ≡ query_in found.0.body = ap (λ (o : Option Entry). option_and_then query_in (option_map (λ (e : Entry). e.body) o)) found.1 in
-        let here : parent_of s d ≡ found.0.parent = ap (λ (o : Option Entry). option_map_or (λ (e : Entry). e.parent) o 0) found.1 in
-        (found.0, found.1, sym here ∙ named (query_at s d) refl edge)
-      where
-        only : Among (parent_of s d ∷ []) e → parent_of s d ≡ e
-        only (inl same) = same
-        only (inr never) = absurd never
-
-        named : (o : Option (Formula ℕ)) → query_at s d ≡ o → Among (option_map_or (λ q. parent_of s d ∷ named_in q) o []) e → parent_of s d ≡ e
-        named None at h = absurd h
-        named (Some q) at h =
-            let body : query_in found.0.body ≡ Some q = sym (ap (λ (o : Option Entry). option_and_then query_in (option_map (λ (e : Entry). e.body) o)) found.1) ∙ at in
-            let fits = asked-in found.0.body q (entry_at-all (λ e. AsksWell e.body) s.entries d found.0 sound found.1) body in
-            only (subst (λ (names : List ℕ). Among (parent_of s d ∷ names) e) (asked-names q fits) h)
-
--- each step over dependencies leads to a path with a name less
-leads-shorter : (s : State) (steps d e : ℕ) → IsLayout s → AllByRecursion (λ e. AsksWell e.body) s.entries → Leads s steps d e → length (path_of s d) ≡ length (path_of s e) + steps
-leads-shorter s zero d e h sound leads = ap (λ (k : ℕ). length (path_of s k)) leads ∙ omega arith
-leads-shorter s (suc steps) d e h sound (next, edge, more) =
-    let parent = edge-parent s d next sound edge in
-    let rest = leads-shorter s steps next e h sound more in
-    let here : length (path_of s parent.0.parent) ≡ length (path_of s next) = ap (λ (k : ℕ). length (path_of s k)) parent.2 in
-    omega (arith, path_of-deeper s d parent.0 h parent.1, here, rest)
-
--- so none leads back
-pub layout-acyclic : (s : State) → IsLayout s → AllByRecursion (λ e. AsksWell e.body) s.entries → IsAcyclic s
-layout-acyclic s h sound steps dir back = omega (arith, leads-shorter s (suc steps) dir dir h sound back)
+-- so none has more than there are semantic directories
+pub walk-short : (s : State) (k d e : ℕ) → IsAcyclic s → Leads (depends s) k d e → k ≤ semantic_count s.entries
+walk-short s k d e acyclic h =
+    omega (arith, walk-free s acyclic k (semantic_numbers s.entries) d e (λ v inside. inl inside) h, semantic-length s.entries)

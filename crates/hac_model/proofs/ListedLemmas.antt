@@ -1,37 +1,18 @@
 -- What a listing needs of the links: which items they are, and by what each is linked.
 use Rattle.std.proofs.Common.{◌≡◌, ℕ, zero, suc, ◌+◌, ◌<◌, ◌≤◌, Bool, true, false, cond, List, [], ◌∷◌, refl, ap, sym, ◌∙◌, arith, eq-eqb, inl, inr}
 use Rattle.std.specs.Prelude.{◌&&◌, ◌||◌, ◌==◌, Option, filter}
-use Rattle.std.specs.List.{list_any, range_with_len}
+use Rattle.std.specs.List.{range_with_len}
 use Rattle.std.specs.Option.{option_map, option_map_or}
-use Rattle.std.proofs.lemmas.Bool.{cases_eq, cases_lt, eqb-true}
+use Rattle.std.proofs.lemmas.Bool.{cases_eq, cases_lt}
 use Rattle.hac_model.specs.Depends.{IsAcyclic}
-use Rattle.hac_model.specs.Links.{is_item, is_semantic, passes, column, links, items, round}
+use Rattle.hac_model.specs.Links.{has, is_item, is_semantic, passes, column, links, items, round}
 use Rattle.hac_model.specs.Tree.{is_file, is_file_at}
 use Rattle.hac_model.specs.Valid.{IsLayout}
 use Rattle.hac_model.specs.declared.states.Entry.{Entry}
 use Rattle.hac_model.specs.declared.states.State.{State}
 use Rattle.hac_model.proofs.LinkLemmas.{links-fixed}
+use Rattle.hac_model.proofs.MarkLemmas.{has-filter}
 use Rattle.hac_model.proofs.TreeLemmas.{entry_at-next}
-
-abbrev pub has : List ℕ → ℕ → Bool
-has xs x = list_any (λ number. number == x) xs
-
--- what is kept was there and passes
-has-filter : (p : ℕ → Bool) (xs : List ℕ) (x : ℕ) → has (filter p xs) x ≡ (p x && has xs x)
-has-filter p [] x = elim (p x) as (λ b. false ≡ (b && false)) [ true ↦ refl | false ↦ refl ]
-has-filter p (y ∷ xs) x =
-    elim (p y) as (λ b. p y ≡ b → has (cond b (y ∷ filter p xs) (filter p xs)) x ≡ (p x && (y == x || has xs x))) [
-      | true ↦ (λ passes.
-          elim (y == x) as (λ t. (y == x) ≡ t → (t || has (filter p xs) x) ≡ (p x && (t || has xs x))) [
-            | true ↦ (λ same. let is : p x ≡ true = ap p (sym (eqb-true y x same)) ∙ passes in ap (λ (b : Bool). b && true) (sym is))
-            | false ↦ (λ other. has-filter p xs x)
-          ] refl)
-      | false ↦ (λ fails.
-          elim (y == x) as (λ t. (y == x) ≡ t → has (filter p xs) x ≡ (p x && (t || has xs x))) [
-            | true ↦ (λ same. let not_it : p x ≡ false = ap p (sym (eqb-true y x same)) ∙ fails in has-filter p xs x ∙ ap (λ (b : Bool). b && has xs x) not_it ∙ ap (λ (b : Bool). b && true) (sym not_it))
-            | false ↦ (λ other. has-filter p xs x)
-          ] refl)
-    ] refl
 
 -- conditions that agree on the members keep the same
 filter-agree : (p q : ℕ → Bool) (xs : List ℕ) → ((x : ℕ) → has xs x ≡ true → p x ≡ q x) → filter p xs ≡ filter q xs

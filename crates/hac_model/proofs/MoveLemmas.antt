@@ -4,12 +4,12 @@ use Rattle.std.specs.Prelude.{◌==◌, ◌&&◌, ◌||◌, not, nat_le, nat_lt,
 use Rattle.std.specs.Option.{option_map}
 use Rattle.std.specs.List.{AllByRecursion, list_all}
 use Rattle.std.specs.Str.{bytes_eq}
-use Rattle.std.proofs.lemmas.Bool.{and_parts, cond-true, cond-false, eqb-true, le-leb, ne_eqb, not-true, or_parts}
+use Rattle.std.proofs.lemmas.Bool.{and_parts, cond-true, cond-false, eqb-true, le-leb, ne_eqb, or_parts}
 use Rattle.std.proofs.lemmas.Bool.Decides.{nat_tests}
 use Rattle.std.proofs.lemmas.List.{drop-append-le, length-map, length-reverse, length-take, reverse-append, reverse-reverse, take_all}
 use Rattle.std.proofs.lemmas.List.Folds.{list_all-append}
 use Rattle.std.proofs.Math.Seq.{drop-length}
-use Rattle.hac_model.specs.Events.{accepted, added, apply, changed, changed_at, is_free, is_inside, renamed, reseated}
+use Rattle.hac_model.specs.Events.{accepted, added, apply, changed, changed_at, is_inside, is_possible, renamed, reseated}
 use Rattle.hac_model.specs.Limits.{are_paths_short, passed}
 use Rattle.hac_model.specs.Tree.{ancestors, entry_at, extends, is_path_short, lineage, path_of}
 use Rattle.hac_model.specs.Valid.{IsLayout}
@@ -22,7 +22,7 @@ use Rattle.hac_model.proofs.ChangeLemmas.{entry_at-changed, entry_at-new, entry_
 use Rattle.hac_model.proofs.DepthLemmas.{entry-no_root, names_of, short-names}
 use Rattle.hac_model.proofs.PathLemmas.{ancestors-none, ancestors-step, ancestors_by, few-ancestors, length-path, limit, lineage-is, lineage-take, path-names, root-none, short-is, extends-parent, extends-root, from_root, parent-lives, path_of-few, path-short, path_of-parent, path_of-root}
 use Rattle.hac_model.proofs.TreeLemmas.{Lives, all-entries, directory-lives, entry_at-below, entry_at-cases, entry_at-next, entry_at-number, rise-below}
-use Rattle.hac_model.proofs.ValidLemmas.{accepted-parts, apply-layout, free-parts}
+use Rattle.hac_model.proofs.ValidLemmas.{accepted-parts, apply-layout, free-parts, move-parts}
 
 -- An entry is added.
 
@@ -286,11 +286,10 @@ some-found es n h = elim (entry_at-cases es n) [
 -- an accepted move is one of an entry to a directory outside of it
 pub accepted-move : (s : State) (n dir : ℕ) (name : List ℕ) → IsTrue (accepted s (Mv n dir name)) → (e : Entry) × IsMove s n dir e
 accepted-move s n dir name ok =
-    let parts = accepted-parts (is_some (entry_at s.entries n) && is_free s dir name && not (is_inside s dir n)) (passed (changed_at s n (reseated dir name))) ok in
-    let there = and_parts (is_some (entry_at s.entries n) && is_free s dir name) (not (is_inside s dir n)) parts.0 in
-    let free = and_parts (is_some (entry_at s.entries n)) (is_free s dir name) there.0 in
-    let found = some-found s.entries n free.0 in
-    (found.0, record { there = found.1; lives = directory-lives s.entries dir (free-parts s dir name free.1).0; outside = not-true (is_inside s dir n) there.1 })
+    let parts = accepted-parts (is_possible s (Mv n dir name)) (passed (changed_at s n (reseated dir name))) ok in
+    let move = move-parts s n dir name parts.0 in
+    let found = some-found s.entries n move.0 in
+    (found.0, record { there = found.1; lives = directory-lives s.entries dir (free-parts s dir name move.1).0; outside = move.2 })
 
 -- what lives before a move lives after it
 still-lives : (s : State) (n dir : ℕ) (name : List ℕ) (e : Entry) (m : ℕ) → entry_at s.entries n ≡ Some e → Lives s.entries m → Lives (changed n (reseated dir name) s.entries) m

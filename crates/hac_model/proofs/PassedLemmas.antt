@@ -4,7 +4,7 @@ use Rattle.std.specs.Prelude.{nat_lt, filter, Some, None}
 use Rattle.std.specs.Option.{option_map_or}
 use Rattle.std.specs.List.{AllByRecursion}
 use Rattle.std.proofs.lemmas.Bool.{ltb-false, le-ltb}
-use Rattle.hac_model.specs.Events.{apply, changed_at, edited, indexed, is_bare, next_dirty, removed}
+use Rattle.hac_model.specs.Events.{apply, changed_at, edited, forgetting, indexed, is_bare, next_dirty, removed}
 use Rattle.hac_model.specs.Limits.{directory_count, passed, text_size, weight}
 use Rattle.hac_model.specs.Tree.{is_directory, is_file, is_file_at}
 use Rattle.hac_model.specs.Valid.{IsLayout}
@@ -16,7 +16,8 @@ use Rattle.hac_model.proofs.ChangeLemmas.{is_kept}
 use Rattle.hac_model.proofs.CountLemmas.{directory_count-edited, directory_count-is, file_count-edited, indexed-keeps, KeepsKind, measured-fewer, one_if, is_queried, semantic_count-edited, text_size-indexed}
 use Rattle.hac_model.proofs.DepthLemmas.{paths-edited, paths-removed}
 use Rattle.hac_model.proofs.LimitLemmas.{IsWithinLimits, limits-none, limits-within}
-use Rattle.hac_model.proofs.ValidLemmas.{bare-all, file-bare}
+use Rattle.hac_model.proofs.MapLemmas.{mapped-passes}
+use Rattle.hac_model.proofs.ValidLemmas.{bare-all, file-bare, forgetting-measures}
 
 -- a smaller count is within the limit too
 smaller : (limit m n : ℕ) → m ≤ n → nat_lt limit n ≡ false → nat_lt limit m ≡ false
@@ -56,7 +57,7 @@ removed-passes s n h bare =
     })
 
 pub file-passes : (s : State) (file : ℕ) → IsLayout s → is_file_at s.entries file ≡ true → passed (apply s (Rm file)) ≡ None
-file-passes s file h there = removed-passes s file h (file-bare s file h there)
+file-passes s file h there = mapped-passes (forgetting file) (removed s file) (forgetting-measures file) (removed-passes s file h (file-bare s file h there))
 
 pub bare-passes : (s : State) (dir : ℕ) → IsLayout s → is_bare s.entries dir ≡ true → passed (apply s (Rmdir dir)) ≡ None
 bare-passes s dir h bare = removed-passes s dir h (bare-all s.entries dir bare)

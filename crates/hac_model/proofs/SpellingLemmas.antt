@@ -1,77 +1,32 @@
 -- Lines spell commands with words that the commands may have.
-use Rattle.std.proofs.Common.{◌≡◌, ℕ, ◌≤◌, Bool, true, false, List, [], ◌∷◌, length, refl, ap, sym, ◌∙◌, arith}
-use Rattle.std.specs.Prelude.{◌&&◌, ◌||◌, not, if◌then◌else◌, nat_le, nat_lt, map, take, codes, Some, None, Result, Ok, Err, IsTrue, ⊤}
-use Rattle.std.specs.Char.{to_ascii_lowercase}
+use Rattle.std.proofs.Common.{◌≡◌, ℕ, ◌≤◌, Bool, true, false, List, length, refl, ap, sym, ◌∙◌, arith}
+use Rattle.std.specs.Prelude.{◌&&◌, ◌||◌, if◌then◌else◌, nat_le, nat_lt, take, codes, Some, None, Result, Ok, Err, IsTrue, ⊤}
 use Rattle.std.specs.List.{list_all}
 use Rattle.std.specs.Option.{ok_or}
 use Rattle.std.specs.Str.Parse.{digits_value}
 use Rattle.std.specs.Str.{bytes_eq}
-use Rattle.std.proofs.lemmas.Bool.{and_parts, and_from, cond_both, le-leb, leb-true}
+use Rattle.std.proofs.lemmas.Bool.{and_from, cond_both, le-leb, leb-true}
 use Rattle.std.proofs.lemmas.List.{length-take}
-use Rattle.std.proofs.lemmas.Bool.Decides.{nat_tests}
 use Rattle.hac_model.specs.Answers.{◌>>=◌}
 use Rattle.hac_model.specs.Bytes.{is_space}
 use Rattle.hac_model.specs.Limits.{is_text}
-use Rattle.hac_model.specs.LineWords.{first_word, after_space, first_run, after_run}
-use Rattle.hac_model.specs.Lines.{Item, called_with, command_with, each_path, in_main, index_of, is_one_word, is_spelled, item_of, limited_put, limited_text, ls_of, mv_of, named_command, one_path, only_path, only_word, put_at, put_of, put_words, query_of, is_put, smkdir_of, two_paths, write_of}
+use Rattle.hac_model.specs.LineWords.{first_word, after_space}
+use Rattle.hac_model.specs.Lines.{Item, alone, called_with, command_with, each_path, find_of, in_main, is_put, is_spelled, item_of, limited_put, limited_text, ls_of, named_command, of_two_paths, one_path, only_path, only_word, path_and_query, put_at, put_of, put_words, two_paths, write_of}
 use Rattle.hac_model.specs.PathWords.{is_bad, word_of}
 use Rattle.hac_model.specs.Paths.{are_names}
 use Rattle.hac_model.specs.Formula.{Formula}
-use Rattle.hac_model.specs.Formula as query
-use Rattle.hac_model.specs.Queries.{is_operator, is_query, is_query_word}
+use Rattle.hac_model.specs.QueryReading.{is_spelled_query, read_query}
 use Rattle.hac_model.specs.Texts.{text_of}
-use Rattle.hac_model.specs.Words.{has_bytes, is_lower_word_byte, is_word, is_word_byte, lower_case}
 use Rattle.hac_model.specs.declared.commands.Command.{Command}
-use Rattle.hac_model.specs.declared.commands.Command.TheVariants.{Mkdir, Rmdir, Write, Cat, Ls, Mv, Rm, Smkdir, Sls, Index}
+use Rattle.hac_model.specs.declared.commands.Command.TheVariants.{Mkdir, Rmdir, Write, Cat, Ls, Mv, Rm, Smkdir, Setq, Unq, Query, Sls, Sln, Srm, Sforget, Find, Index, Counts}
 use Rattle.hac_model.specs.declared.commands.Line.{Line}
 use Rattle.hac_model.specs.declared.limits.LimitWord.TheVariants as limit
 use Rattle.hac_model.specs.declared.limits.TheConstants.{LINE_LIMIT, TEXT_LIMIT}
 use Rattle.hac_model.specs.declared.paths.PathWord.{PathWord}
 use Rattle.hac_model.specs.declared.replies.Refusal.{Refusal}
-use Rattle.hac_model.specs.declared.replies.Refusal.TheVariants.{BadLine, BadName, BadQuery, Limit}
-use Rattle.hac_model.specs.declared.terms.Term.TheVariants.{Word}
+use Rattle.hac_model.specs.declared.replies.Refusal.TheVariants.{BadLine, BadName, Limit}
+use Rattle.hac_model.proofs.QueryLemmas.{read_spelled}
 use Rattle.hac_model.proofs.WordLemmas.{word_of-names}
-
-lower_byte : (b : ℕ) → is_word_byte b ≡ true → is_lower_word_byte (to_ascii_lowercase b) ≡ true
-unfolding is_word_byte is_lower_word_byte
-lower_byte b h = grind (arith, nat_tests, h)
-
-lower_bytes : (bytes : List ℕ) → list_all is_word_byte bytes ≡ true → list_all is_lower_word_byte (map to_ascii_lowercase bytes) ≡ true
-lower_bytes [] h = refl
-lower_bytes (b ∷ bytes) h =
-    let parts = and_parts (is_word_byte b) (list_all is_word_byte bytes) h in
-    and_from (is_lower_word_byte (to_ascii_lowercase b)) (list_all is_lower_word_byte (map to_ascii_lowercase bytes)) (lower_byte b parts.0) (lower_bytes bytes parts.1)
-
-has_bytes-lower : (bytes : List ℕ) → has_bytes bytes ≡ true → has_bytes (lower_case bytes) ≡ true
-has_bytes-lower [] h = h
-has_bytes-lower (b ∷ bytes) h = grind (arith, nat_tests)
-
--- a word in letters of either case is a word in lower case
-word-lower : (bytes : List ℕ) → has_bytes bytes ≡ true → list_all is_word_byte bytes ≡ true → is_word (lower_case bytes) ≡ true
-unfolding is_word
-word-lower bytes h k = and_from (has_bytes (lower_case bytes)) (list_all is_lower_word_byte (lower_case bytes)) (has_bytes-lower bytes h) (lower_bytes bytes k)
-
--- what is spelled is a query that a directory may have, or a refusal
-SpellsQuery : Result (Formula PathWord) Refusal → Type 0
-SpellsQuery (Ok query) = IsTrue (is_query query)
-SpellsQuery (Err refusal) = ⊤
-
-query-sound : (spelled : Result (Formula PathWord) Refusal) (wanted : Formula PathWord) → SpellsQuery spelled → spelled ≡ Ok wanted → is_query wanted ≡ true
-unfolding SpellsQuery
-query-sound (Ok given) wanted sound same = let even : given ≡ wanted = cc in ap is_query (sym even) ∙ sound
-query-sound (Err refusal) wanted sound same = absurd cc
-
-spells_query : (bytes : List ℕ) → SpellsQuery (query_of bytes)
-unfolding SpellsQuery
-spells_query bytes =
-    elim (is_one_word bytes) as (λ b. is_one_word bytes ≡ b → SpellsQuery (if b then Ok (query.Term (Word (lower_case (first_run bytes)))) else Err (BadQuery 1))) [
-      | true ↦ (λ one.
-          let parts = and_parts (is_query_word (first_run bytes)) (list_all is_space (after_run bytes)) one in
-          let word = and_parts (has_bytes (first_run bytes) && list_all is_word_byte (first_run bytes)) (not (is_operator (first_run bytes))) parts.0 in
-          let run = and_parts (has_bytes (first_run bytes)) (list_all is_word_byte (first_run bytes)) word.0 in
-          word-lower (first_run bytes) run.0 run.1)
-      | false ↦ (λ other. tt)
-    ] refl
 
 -- what is spelled is a command with words that it may have, or a refusal
 Spells : Result Command Refusal → Type 0
@@ -138,14 +93,16 @@ spells_ls arguments =
     spells-if (list_all is_space arguments) (Ok (Ls None)) (one_path (λ path. Ls (Some path)) arguments)
     (λ _. refl) (λ _. spells_one (λ path. Ls (Some path)) arguments (λ path names. names))
 
-spells_mv : (arguments : List ℕ) → Spells (mv_of arguments)
-unfolding mv_of
-spells_mv arguments =
+spells_two : (command : PathWord → PathWord → Command) (arguments : List ℕ)
+    → ((first second : PathWord) → are_names first.names ≡ true → are_names second.names ≡ true → is_spelled (command first second) ≡ true)
+    → Spells (of_two_paths command arguments)
+unfolding of_two_paths
+spells_two command arguments spelled =
     spells-then (first_word arguments) _ (λ first _.
     spells-then (only_word first.1) _ (λ second _.
     spells-then (two_paths first.0 second) _ (λ paths given.
     let both = two_paths-spelled first.0 second paths given in
-    command-spelled (Mv paths.0 paths.1) (and_from (are_names paths.0.names) (are_names paths.1.names) both.0 both.1))))
+    command-spelled (command paths.0 paths.1) (spelled paths.0 paths.1 both.0 both.1))))
 
 limited_text-is : (bytes text : List ℕ) → limited_text bytes ≡ Ok text → is_text text ≡ true
 limited_text-is bytes text given =
@@ -163,35 +120,52 @@ spells_write arguments =
     spells-then (limited_text spelled) _ (λ text fits.
     command-spelled (Write path text) (and_from (are_names path.names) (is_text text) (path-spelled word.0 path named) (limited_text-is spelled text fits))))))
 
-query-spelled : (bytes : List ℕ) (wanted : Formula PathWord) → query_of bytes ≡ Ok wanted → is_query wanted ≡ true
-query-spelled bytes wanted given = query-sound (query_of bytes) wanted (spells_query bytes) given
-
-spells_smkdir : (arguments : List ℕ) → Spells (smkdir_of arguments)
-unfolding smkdir_of
-spells_smkdir arguments =
+spells_queried : (command : PathWord → Formula PathWord → Command) (arguments : List ℕ)
+    → ((path : PathWord) (query : Formula PathWord) → are_names path.names ≡ true → is_spelled_query query ≡ true → is_spelled (command path query) ≡ true)
+    → Spells (path_and_query command arguments)
+unfolding path_and_query
+spells_queried command arguments spelled =
     spells-then (first_word arguments) _ (λ word _.
     spells-then (word_of word.0) _ (λ path named.
-    spells-then (query_of (after_space word.1)) _ (λ wanted given.
-    command-spelled (Smkdir path wanted) (and_from (are_names path.names) (is_query wanted) (path-spelled word.0 path named) (query-spelled (after_space word.1) wanted given)))))
+    spells-then (read_query (after_space word.1)) _ (λ query read.
+    command-spelled (command path query) (spelled path query (path-spelled word.0 path named) (read_spelled (after_space word.1) query read)))))
 
-spells_index : (arguments : List ℕ) → Spells (index_of arguments)
-unfolding Spells index_of
-spells_index arguments = spells-if (list_all is_space arguments) (Ok Index) (Err BadLine) (λ good. refl) (λ bad. tt)
+spells_find : (arguments : List ℕ) → Spells (find_of arguments)
+unfolding find_of
+spells_find arguments =
+    spells-then (read_query (after_space arguments)) _ (λ query read.
+    command-spelled (Find query) (read_spelled (after_space arguments) query read))
+
+spells_alone : (command : Command) (arguments : List ℕ) → is_spelled command ≡ true → Spells (alone command arguments)
+unfolding Spells alone
+spells_alone command arguments spelled = spells-if (list_all is_space arguments) (Ok command) (Err BadLine) (λ good. spelled) (λ bad. tt)
 
 spells_named : (name arguments : List ℕ) → Spells (named_command name arguments)
 spells_named name arguments =
     let P = Spells in
+    let both : (first second : PathWord) → are_names first.names ≡ true → are_names second.names ≡ true → (are_names first.names && are_names second.names) ≡ true =
+    λ first second one other. and_from (are_names first.names) (are_names second.names) one other in
+    let asks : (path : PathWord) (query : Formula PathWord) → are_names path.names ≡ true → is_spelled_query query ≡ true → (are_names path.names && is_spelled_query query) ≡ true =
+    λ path query one other. and_from (are_names path.names) (is_spelled_query query) one other in
     cond_both (bytes_eq name (codes "mkdir")) _ _ P (λ _. spells_one Mkdir arguments (λ path names. names))
     (λ _. cond_both (bytes_eq name (codes "rmdir")) _ _ P (λ _. spells_one Rmdir arguments (λ path names. names))
     (λ _. cond_both (bytes_eq name (codes "write")) _ _ P (λ _. spells_write arguments)
     (λ _. cond_both (bytes_eq name (codes "cat")) _ _ P (λ _. spells_one Cat arguments (λ path names. names))
     (λ _. cond_both (bytes_eq name (codes "ls")) _ _ P (λ _. spells_ls arguments)
-    (λ _. cond_both (bytes_eq name (codes "mv")) _ _ P (λ _. spells_mv arguments)
+    (λ _. cond_both (bytes_eq name (codes "mv")) _ _ P (λ _. spells_two Mv arguments both)
     (λ _. cond_both (bytes_eq name (codes "rm")) _ _ P (λ _. spells_one Rm arguments (λ path names. names))
-    (λ _. cond_both (bytes_eq name (codes "smkdir")) _ _ P (λ _. spells_smkdir arguments)
+    (λ _. cond_both (bytes_eq name (codes "smkdir")) _ _ P (λ _. spells_queried Smkdir arguments asks)
+    (λ _. cond_both (bytes_eq name (codes "setq")) _ _ P (λ _. spells_queried Setq arguments asks)
+    (λ _. cond_both (bytes_eq name (codes "unq")) _ _ P (λ _. spells_one Unq arguments (λ path names. names))
+    (λ _. cond_both (bytes_eq name (codes "query")) _ _ P (λ _. spells_one Query arguments (λ path names. names))
     (λ _. cond_both (bytes_eq name (codes "sls")) _ _ P (λ _. spells_one (λ path. Sls (Some path)) arguments (λ path names. names))
-    (λ _. cond_both (bytes_eq name (codes "index")) _ _ P (λ _. spells_index arguments)
-    (λ _. spells_bad_line))))))))))
+    (λ _. cond_both (bytes_eq name (codes "sln")) _ _ P (λ _. spells_two Sln arguments both)
+    (λ _. cond_both (bytes_eq name (codes "srm")) _ _ P (λ _. spells_two Srm arguments both)
+    (λ _. cond_both (bytes_eq name (codes "sforget")) _ _ P (λ _. spells_two Sforget arguments both)
+    (λ _. cond_both (bytes_eq name (codes "find")) _ _ P (λ _. spells_find arguments)
+    (λ _. cond_both (bytes_eq name (codes "index")) _ _ P (λ _. spells_alone Index arguments refl)
+    (λ _. cond_both (bytes_eq name (codes "counts")) _ _ P (λ _. spells_alone Counts arguments refl)
+    (λ _. spells_bad_line))))))))))))))))))
 
 limited_put-is : (count : ℕ) (behind text : List ℕ) → limited_put count behind ≡ Ok text → is_text text ≡ true
 limited_put-is count behind text given =

@@ -1,33 +1,34 @@
--- Events keep a state valid.
+-- Events keep a tree one.
 use Rattle.std.proofs.Common.{◌≡◌, ℕ, Bool, true, false, List, [], ◌∷◌, length, refl, ap, sym, ◌∙◌, arith}
 use Rattle.std.specs.Prelude.{◌&&◌, ◌==◌, not, Option, Some, None, IsTrue, is_none, is_some}
 use Rattle.std.specs.Option.{option_map_or}
 use Rattle.std.specs.List.{AllByRecursion}
 use Rattle.std.proofs.lemmas.Bool.{and_parts, eqb-false, not-true}
-use Rattle.hac_model.specs.Events.{accepted, added, apply, changed, changed_at, edited, indexed, is_bare, is_free, is_inside, next_dirty, removed, reseated, rewritten}
-use Rattle.hac_model.specs.Limits.{first_passed, is_text, passed}
+use Rattle.hac_model.specs.Events.{accepted, added, apply, asking, changed, changed_at, edited, forgetting, forgotten, indexed, is_bare, is_free, is_inside, is_possible, is_unreferenced, marked, may_ask, may_mark, next_dirty, plain_body, removed, reseated, rewritten}
+use Rattle.hac_model.specs.Depends.{cycle_of_move, cycle_over}
+use Rattle.hac_model.specs.Formula.{Formula}
+use Rattle.hac_model.specs.Limits.{first_passed, is_text, passed, weight}
+use Rattle.hac_model.specs.Links.{is_item, is_semantic, parent_of}
 use Rattle.hac_model.specs.Names.{is_name}
-use Rattle.hac_model.specs.Queries.{is_query}
-use Rattle.hac_model.specs.Tree.{child, empty, entry_at, is_directory, is_directory_at, is_file_at, is_made_directory}
-use Rattle.hac_model.specs.Valid.{AsksWell, IsLayout, IsSound, IsSoundFile, IsSoundQuery, IsValid}
+use Rattle.hac_model.specs.Tree.{child, empty, entry_at, is_directory, is_directory_at, is_file, is_file_at, is_made_directory, query_in}
+use Rattle.hac_model.specs.Valid.{IsLayout, IsSound, IsSoundFile}
 use Rattle.hac_model.specs.declared.events.Event.{Event}
-use Rattle.hac_model.specs.declared.events.Event.TheVariants.{Mkdir, NewFile, Rewrite, Mv, Rm, Rmdir, Smkdir, Step}
+use Rattle.hac_model.specs.declared.events.Event.TheVariants.{Mkdir, NewFile, Rewrite, Mark, Mv, Rm, Rmdir, Setq, Smkdir, Step, Unq}
 use Rattle.hac_model.specs.declared.limits.LimitWord.{LimitWord}
+use Rattle.hac_model.specs.declared.marks.Kind.{Kind}
+use Rattle.hac_model.specs.declared.marks.Kind.TheVariants.{Transient, Permanent, Prohibited, Unlinked}
 use Rattle.hac_model.specs.declared.states.Body.{Body}
-use Rattle.hac_model.specs.declared.states.Body.TheVariants.{File, Dir, Symlink, Semantic, Mount}
+use Rattle.hac_model.specs.declared.states.Body.TheVariants.{File, Dir, Semantic}
 use Rattle.hac_model.specs.declared.states.Entry.{Entry}
 use Rattle.hac_model.specs.declared.states.State.{State}
 use Rattle.hac_model.proofs.ChangeLemmas.{all-append, all-changed, all-filter, all-weaker, differ-append, differ-edited, differ-kept, differ-reseated, directory-append, directory-changed, directory-kept, is_kept, numbers-append, numbers-changed, numbers-kept}
-use Rattle.hac_model.proofs.LinkLemmas.{layout-acyclic}
+use Rattle.hac_model.proofs.MapLemmas.{KeepsMeasures, mapped-layout, measures-passed}
 use Rattle.hac_model.proofs.PathLemmas.{root-none}
 use Rattle.hac_model.proofs.TreeLemmas.{directory-no_file}
 
 pub empty-layout : IsLayout empty
 unfolding passed first_passed
 empty-layout = record { numbers = omega arith; names = tt; parents = tt; differ = tt; bodies = tt; limits = refl }
-
-pub empty-valid : IsValid empty
-empty-valid = record { layout = empty-layout; queries = tt; acyclic = layout-acyclic empty empty-layout tt; sessions = refl }
 
 pub none_from : {X : Type 0} (o : Option X) → is_none o ≡ true → o ≡ None
 none_from None h = refl
@@ -131,14 +132,104 @@ pub indexed-kind : (body : Body) → is_directory (indexed body) ≡ is_director
 indexed-kind (File text dirty shown) = refl
 indexed-kind other = refl
 
--- and its query stays
-pub rewritten-asks : (text : List ℕ) (body : Body) → AsksWell body → AsksWell (rewritten text body)
-rewritten-asks text (Semantic query permanent prohibited) h = h
-rewritten-asks text other h = h
+-- Edits of queries and marks.
 
-pub indexed-asks : (body : Body) → AsksWell body → AsksWell (indexed body)
-indexed-asks (Semantic query permanent prohibited) h = h
-indexed-asks other h = h
+pub asking-kind : (query : Formula ℕ) (body : Body) → is_directory (asking query body) ≡ is_directory body
+asking-kind query Dir = refl
+asking-kind query (Semantic old permanent prohibited) = refl
+asking-kind query other = refl
+
+asking-sound : (query : Formula ℕ) (body : Body) → IsSound body → IsSound (asking query body)
+asking-sound query Dir h = tt
+asking-sound query (Semantic old permanent prohibited) h = tt
+asking-sound query other h = h
+
+pub plain-kind : (body : Body) → is_directory (plain_body body) ≡ is_directory body
+plain-kind (Semantic query permanent prohibited) = refl
+plain-kind other = refl
+
+plain-sound : (body : Body) → IsSound body → IsSound (plain_body body)
+plain-sound (Semantic query permanent prohibited) h = tt
+plain-sound other h = h
+
+pub forgetting-measures : (n : ℕ) → KeepsMeasures (forgetting n)
+forgetting-measures n = record { kind = kind; file = file; queried = queried; texts = texts }
+  where
+    kind : (body : Body) → is_directory (forgetting n body) ≡ is_directory body
+    kind (Semantic query permanent prohibited) = refl
+    kind other = refl
+
+    file : (body : Body) → is_file (forgetting n body) ≡ is_file body
+    file (Semantic query permanent prohibited) = refl
+    file other = refl
+
+    queried : (body : Body) → is_some (query_in (forgetting n body)) ≡ is_some (query_in body)
+    queried (Semantic query permanent prohibited) = refl
+    queried other = refl
+
+    texts : (body : Body) → weight (forgetting n body) ≡ weight body
+    texts (Semantic query permanent prohibited) = refl
+    texts other = refl
+
+pub forgetting-sound : (n : ℕ) (body : Body) → IsSound body → IsSound (forgetting n body)
+forgetting-sound n (Semantic query permanent prohibited) h = tt
+forgetting-sound n other h = h
+
+pub marked-kind : (n : ℕ) (kind : Kind) (body : Body) → is_directory (marked n kind body) ≡ is_directory body
+marked-kind n Permanent (Semantic query permanent prohibited) = refl
+marked-kind n Prohibited (Semantic query permanent prohibited) = refl
+marked-kind n Transient (Semantic query permanent prohibited) = refl
+marked-kind n Unlinked (Semantic query permanent prohibited) = refl
+marked-kind n Permanent other = refl
+marked-kind n Prohibited other = refl
+marked-kind n Transient other = refl
+marked-kind n Unlinked other = refl
+
+marked-sound : (n : ℕ) (kind : Kind) (body : Body) → IsSound body → IsSound (marked n kind body)
+marked-sound n Permanent (Semantic query permanent prohibited) h = tt
+marked-sound n Prohibited (Semantic query permanent prohibited) h = tt
+marked-sound n Transient (Semantic query permanent prohibited) h = tt
+marked-sound n Unlinked (Semantic query permanent prohibited) h = tt
+marked-sound n Permanent other h = h
+marked-sound n Prohibited other h = h
+marked-sound n Transient other h = h
+marked-sound n Unlinked other h = h
+
+-- limits are passed with marks as without
+pub passed-forgotten : (s : State) (n : ℕ) → passed (forgotten s n) ≡ None → passed s ≡ None
+passed-forgotten s n h = measures-passed (forgetting n) s (forgetting-measures n) h
+
+-- What an event that is possible speaks of.
+
+pub smkdir-parts : (s : State) (dir : ℕ) (name : List ℕ) (query : Formula ℕ) (told : List (List ℕ)) → is_possible s (Smkdir dir name query told) ≡ true → (is_free s dir name ≡ true) × (may_ask s query ≡ true)
+smkdir-parts s dir name query told h =
+    let fits = and_parts (is_free s dir name && may_ask s query) (length told == 0) h in
+    and_parts (is_free s dir name) (may_ask s query) fits.0
+
+pub setq-parts : (s : State) (dir : ℕ) (query : Formula ℕ) (told : List (List ℕ)) → is_possible s (Setq dir query told) ≡ true → (is_made_directory s.entries dir ≡ true) × (may_ask s query ≡ true) × (cycle_over s dir (parent_of s dir) query ≡ None)
+setq-parts s dir query told h =
+    let told_none = and_parts (is_made_directory s.entries dir && may_ask s query && is_none (cycle_over s dir (parent_of s dir) query)) (length told == 0) h in
+    let way = and_parts (is_made_directory s.entries dir && may_ask s query) (is_none (cycle_over s dir (parent_of s dir) query)) told_none.0 in
+    let asks = and_parts (is_made_directory s.entries dir) (may_ask s query) way.0 in
+    (asks.0, asks.1, none_from (cycle_over s dir (parent_of s dir) query) way.1)
+
+pub mark-parts : (s : State) (dir item : ℕ) (kind : Kind) → is_possible s (Mark (record { dir = dir; item = item; kind = kind })) ≡ true → (is_item s item ≡ true) × (is_semantic s dir ≡ true)
+mark-parts s dir item kind h =
+    let may = and_parts (is_item s item && is_semantic s dir) (may_mark s dir item kind) h in
+    and_parts (is_item s item) (is_semantic s dir) may.0
+
+pub move-parts : (s : State) (entry dir : ℕ) (name : List ℕ) → is_possible s (Mv entry dir name) ≡ true → (is_some (entry_at s.entries entry) ≡ true) × (is_free s dir name ≡ true) × (is_inside s dir entry ≡ false) × (cycle_of_move s entry dir ≡ None)
+move-parts s entry dir name h =
+    let way = and_parts (is_some (entry_at s.entries entry) && is_free s dir name && not (is_inside s dir entry)) (is_none (cycle_of_move s entry dir)) h in
+    let there = and_parts (is_some (entry_at s.entries entry) && is_free s dir name) (not (is_inside s dir entry)) way.0 in
+    let free = and_parts (is_some (entry_at s.entries entry)) (is_free s dir name) there.0 in
+    (free.0, free.1, not-true (is_inside s dir entry) there.1, none_from (cycle_of_move s entry dir) way.1)
+
+pub rmdir-parts : (s : State) (dir : ℕ) → is_possible s (Rmdir dir) ≡ true → (is_made_directory s.entries dir ≡ true) × (is_bare s.entries dir ≡ true) × (is_unreferenced s dir ≡ true)
+rmdir-parts s dir h =
+    let named = and_parts (is_made_directory s.entries dir && is_bare s.entries dir) (is_unreferenced s dir) h in
+    let bare = and_parts (is_made_directory s.entries dir) (is_bare s.entries dir) named.0 in
+    (bare.0, bare.1, named.1)
 
 -- an event that is accepted fits, and leads to a state that passes no limit
 pub accepted-parts : (possible : Bool) (passes : Option LimitWord) → (possible && is_none passes) ≡ true → (possible ≡ true) × (passes ≡ None)
@@ -159,56 +250,29 @@ apply-layout s (Rewrite file text) h ok =
     let fits = and_parts (is_file_at s.entries file) (is_text text) parts.0 in
     edited-layout s file (rewritten text) (rewritten-kind text) (rewritten-sound text fits.1) h parts.1
 apply-layout s (Smkdir dir name query told) h ok =
-    let parts = accepted-parts (is_free s dir name && is_query query && length told == 0) (passed (added s dir name (Semantic query [] []))) ok in
-    let fits = and_parts (is_free s dir name && is_query query) (length told == 0) parts.0 in
-    let free = and_parts (is_free s dir name) (is_query query) fits.0 in
-    added-layout s dir name (Semantic query [] []) h free.0 tt parts.1
+    let parts = accepted-parts (is_possible s (Smkdir dir name query told)) (passed (added s dir name (Semantic query [] []))) ok in
+    added-layout s dir name (Semantic query [] []) h (smkdir-parts s dir name query told parts.0).0 tt parts.1
+apply-layout s (Setq dir query told) h ok =
+    let parts = accepted-parts (is_possible s (Setq dir query told)) (passed (changed_at s dir (edited (asking query)))) ok in
+    edited-layout s dir (asking query) (asking-kind query) (asking-sound query) h parts.1
+apply-layout s (Unq dir) h ok =
+    let parts = accepted-parts (is_semantic s dir) (passed (changed_at s dir (edited plain_body))) ok in
+    edited-layout s dir plain_body plain-kind plain-sound h parts.1
+apply-layout s (Mark mark) h ok =
+    let parts = accepted-parts (is_possible s (Mark mark)) (passed (changed_at s mark.dir (edited (marked mark.item mark.kind)))) ok in
+    edited-layout s mark.dir (marked mark.item mark.kind) (marked-kind mark.item mark.kind) (marked-sound mark.item mark.kind) h parts.1
 apply-layout s (Mv entry dir name) h ok =
-    let parts = accepted-parts (is_some (entry_at s.entries entry) && is_free s dir name && not (is_inside s dir entry)) (passed (changed_at s entry (reseated dir name))) ok in
-    let there = and_parts (is_some (entry_at s.entries entry) && is_free s dir name) (not (is_inside s dir entry)) parts.0 in
-    let free = and_parts (is_some (entry_at s.entries entry)) (is_free s dir name) there.0 in
-    reseated-layout s entry dir name h free.1 parts.1
+    let parts = accepted-parts (is_possible s (Mv entry dir name)) (passed (changed_at s entry (reseated dir name))) ok in
+    reseated-layout s entry dir name h (move-parts s entry dir name parts.0).1 parts.1
 apply-layout s (Rm file) h ok =
-    let parts = accepted-parts (is_file_at s.entries file) (passed (removed s file)) ok in
-    removed-layout s file h (file-bare s file h parts.0) parts.1
+    let parts = accepted-parts (is_file_at s.entries file) (passed (forgotten (removed s file) file)) ok in
+    mapped-layout (forgetting file) (removed s file) (forgetting-measures file) (forgetting-sound file) (removed-layout s file h (file-bare s file h parts.0) (passed-forgotten (removed s file) file parts.1))
 apply-layout s (Rmdir dir) h ok =
-    let parts = accepted-parts (is_made_directory s.entries dir && is_bare s.entries dir) (passed (removed s dir)) ok in
-    let bare = and_parts (is_made_directory s.entries dir) (is_bare s.entries dir) parts.0 in
-    removed-layout s dir h (bare-all s.entries dir bare.1) parts.1
+    let parts = accepted-parts (is_possible s (Rmdir dir)) (passed (removed s dir)) ok in
+    removed-layout s dir h (bare-all s.entries dir (rmdir-parts s dir parts.0).1) parts.1
 apply-layout s Step h ok =
     elim (next_dirty s.entries) as (λ o. (is_some o && is_none (passed (option_map_or (λ file. changed_at s file (edited indexed)) o s))) ≡ true → IsLayout (option_map_or (λ file. changed_at s file (edited indexed)) o s)) [
       | None ↦ (λ ok. h)
       | Some file ↦ (λ ok. edited-layout s file indexed indexed-kind indexed-sound h (none_from (passed (changed_at s file (edited indexed))) ok))
     ] ok
 apply-layout s other h ok = absurd cc
-
--- and its queries stay ones that a directory may have
-pub apply-queries : (s : State) (event : Event) → IsValid s → IsTrue (accepted s event) → AllByRecursion (λ e. AsksWell e.body) (apply s event).entries
-apply-queries s (Mkdir dir name) h ok = all-append (λ e. AsksWell e.body) s.entries (record { number = s.next; parent = dir; name = name; body = Dir }) h.queries tt
-apply-queries s (NewFile dir name text) h ok = all-append (λ e. AsksWell e.body) s.entries (record { number = s.next; parent = dir; name = name; body = File text true None }) h.queries tt
-apply-queries s (Rewrite file text) h ok = all-changed (λ e. AsksWell e.body) file (edited (rewritten text)) s.entries (λ e there. rewritten-asks text e.body there) h.queries
-apply-queries s (Smkdir dir name query told) h ok =
-    let parts = accepted-parts (is_free s dir name && is_query query && length told == 0) (passed (added s dir name (Semantic query [] []))) ok in
-    let fits = and_parts (is_free s dir name && is_query query) (length told == 0) parts.0 in
-    let free = and_parts (is_free s dir name) (is_query query) fits.0 in
-    let sound : IsSoundQuery query [] [] = record { fits = free.1; added = refl; removed = refl } in
-    all-append (λ e. AsksWell e.body) s.entries (record { number = s.next; parent = dir; name = name; body = Semantic query [] [] }) h.queries sound
-apply-queries s (Mv entry dir name) h ok = all-changed (λ e. AsksWell e.body) entry (reseated dir name) s.entries (λ e there. there) h.queries
-apply-queries s (Rm entry) h ok = all-filter (λ e. AsksWell e.body) (is_kept entry) s.entries h.queries
-apply-queries s (Rmdir dir) h ok = all-filter (λ e. AsksWell e.body) (is_kept dir) s.entries h.queries
-apply-queries s Step h ok = elim (next_dirty s.entries) as (λ o. AllByRecursion (λ e. AsksWell e.body) (option_map_or (λ file. changed_at s file (edited indexed)) o s).entries) [
-  | None ↦ h.queries
-  | Some file ↦ all-changed (λ e. AsksWell e.body) file (edited indexed) s.entries (λ e there. indexed-asks e.body there) h.queries
-]
-apply-queries s other h ok = absurd cc
-
--- no event lets a session stand elsewhere yet
-pub apply-sessions : (s : State) (event : Event) → (apply s event).sessions ≡ s.sessions
-apply-sessions s Step = elim (next_dirty s.entries) as (λ o. (option_map_or (λ file. changed_at s file (edited indexed)) o s).sessions ≡ s.sessions) [ None ↦ refl | Some file ↦ refl ]
-apply-sessions s other = refl
-
-pub apply-valid : (s : State) (event : Event) → IsValid s → IsTrue (accepted s event) → IsValid (apply s event)
-apply-valid s event h ok =
-    let layout = apply-layout s event h.layout ok in
-    let queries = apply-queries s event h ok in
-    record { layout = layout; queries = queries; acyclic = layout-acyclic (apply s event) layout queries; sessions = apply-sessions s event ∙ h.sessions }

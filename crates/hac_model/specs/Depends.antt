@@ -1,8 +1,12 @@
 -- Which directories depend on which.
-use Rattle.std.specs.Prelude.{◌≡◌, ◌⊎◌, ℕ, zero, suc, List, [], ◌∷◌, ◌++◌}
+use Rattle.std.specs.Prelude.{◌≡◌, ◌⊎◌, ℕ, zero, suc, ◌==◌, ◌||◌, Bool, if◌then◌else◌, List, [], ◌∷◌, ◌++◌, false, filter, Option, None, Some, option_and_then}
+use Rattle.std.specs.List.{list_any}
 use Rattle.std.specs.Option.{option_map_or}
 use Rattle.hac_model.specs.Formula.{Formula, Term, Dir, Not, And, Or}
-use Rattle.hac_model.specs.Links.{parent_of, query_at}
+use Rattle.hac_model.specs.Limits.{semantic_count}
+use Rattle.hac_model.specs.Links.{has, parent_of, query_at}
+use Rattle.hac_model.specs.Tree.{query_in}
+use Rattle.hac_model.specs.declared.states.Entry.{Entry}
 use Rattle.hac_model.specs.declared.states.State.{State}
 
 -- the directories that a query names, in its order
@@ -22,11 +26,50 @@ abbrev pub Among : List ℕ → ℕ → Type 0
 Among [] number = ⊥
 Among (first ∷ numbers) number = (first ≡ number) ⊎ Among numbers number
 
--- so many steps over dependencies lead from one directory to another
-abbrev pub Leads : State → ℕ → ℕ → ℕ → Type 0
-Leads s zero dir other = dir ≡ other
-Leads s (suc steps) dir other = (next : ℕ) × (Among (depends s dir) next) × (Leads s steps next other)
+-- so many steps lead from one number to another, told where each leads
+abbrev pub Leads : (ℕ → List ℕ) → ℕ → ℕ → ℕ → Type 0
+Leads edges zero from to = from ≡ to
+Leads edges (suc steps) from to = (next : ℕ) × (Among (edges from) next) × (Leads edges steps next to)
 
--- no directory depends on itself, over one step or more
+-- some number of steps does, none among them
+abbrev pub Reaches : (ℕ → List ℕ) → ℕ → ℕ → Type 0
+Reaches edges from to = (steps : ℕ) × Leads edges steps from to
+
+-- no number is reached from itself, over one step or more
+abbrev pub NeverReturns : (ℕ → List ℕ) → Type 0
+NeverReturns edges = (steps number : ℕ) → ¬ Leads edges (suc steps) number number
+
+-- no directory depends on itself
 abbrev pub IsAcyclic : State → Type 0
-IsAcyclic s = (steps dir : ℕ) → ¬ Leads s (suc steps) dir dir
+IsAcyclic s = NeverReturns (depends s)
+
+-- at most so many steps lead from one number to another
+abbrev pub leads_within : (ℕ → List ℕ) → ℕ → ℕ → ℕ → Bool
+leads_within edges zero from to = from == to
+leads_within edges (suc steps) from to = from == to || list_any (λ next. leads_within edges steps next to) (edges from)
+
+-- the one directory is the other, or depends on it over any number of steps: as many as there are semantic directories
+-- are enough, where none depends on itself
+unfoldable pub reaches : State → ℕ → ℕ → Bool
+reaches s from to = leads_within (depends s) (semantic_count s.entries) from to
+
+-- the first of the directories that is the given one or depends on it
+unfoldable pub first_reaching : State → ℕ → List ℕ → Option ℕ
+first_reaching s dir [] = None
+first_reaching s dir (other ∷ others) = if reaches s other dir then Some other else first_reaching s dir others
+
+-- the directory by way of which one would depend on itself that stands in a directory and has a query
+abbrev pub cycle_over : State → ℕ → ℕ → Formula ℕ → Option ℕ
+cycle_over s dir parent query = first_reaching s dir (parent ∷ named_in query)
+
+-- the same of an entry that goes to a directory: what isn't semantic depends on nothing
+abbrev pub cycle_of_move : State → ℕ → ℕ → Option ℕ
+cycle_of_move s entry dir = option_and_then (cycle_over s entry dir) (query_at s entry)
+
+-- the query of an entry names the directory
+abbrev pub names_directory : ℕ → Entry → Bool
+names_directory dir entry = option_map_or (λ query. has (named_in query) dir) (query_in entry.body) false
+
+-- the entries whose queries name the directory
+abbrev pub referrers : State → ℕ → List Entry
+referrers s dir = filter (names_directory dir) s.entries

@@ -1,13 +1,18 @@
 -- Which events happen, and what they do.
-use Rattle.std.specs.Prelude.{ℕ, Bool, true, false, ◌+◌, ◌==◌, ◌&&◌, ◌||◌, not, if◌then◌else◌, List, [], ◌∷◌, ◌++◌, length, drop, filter, Option, Some, None, is_some, is_none}
+use Rattle.std.specs.Prelude.{ℕ, Bool, true, false, ◌+◌, ◌==◌, ◌&&◌, ◌||◌, not, if◌then◌else◌, List, [], ◌∷◌, ◌++◌, length, drop, filter, map, nat_lt, Option, Some, None, is_some, is_none}
 use Rattle.std.specs.List.{list_all}
 use Rattle.std.specs.Option.{option_map_or}
+use Rattle.hac_model.specs.Depends.{cycle_of_move, cycle_over, named_in, names_directory}
+use Rattle.hac_model.specs.Formula.{Formula}
 use Rattle.hac_model.specs.Limits.{dirty_count, is_text, passed}
+use Rattle.hac_model.specs.Links.{has, is_item, is_permanent, is_prohibited, is_semantic, links, parent_of}
 use Rattle.hac_model.specs.Names.{is_name}
 use Rattle.hac_model.specs.Queries.{is_query}
 use Rattle.hac_model.specs.Tree.{child, entry_at, extends, is_directory_at, is_dirty, is_file_at, is_made_directory, path_of}
 use Rattle.hac_model.specs.declared.events.Event.{Event}
-use Rattle.hac_model.specs.declared.events.Event.TheVariants.{Mkdir, NewFile, Rewrite, Smkdir, Mv, Rm, Rmdir, Step}
+use Rattle.hac_model.specs.declared.events.Event.TheVariants.{Mkdir, NewFile, Rewrite, Smkdir, Setq, Unq, Mark, Mv, Rm, Rmdir, Step}
+use Rattle.hac_model.specs.declared.marks.Kind.{Kind}
+use Rattle.hac_model.specs.declared.marks.Kind.TheVariants.{Transient, Permanent, Prohibited, Unlinked}
 use Rattle.hac_model.specs.declared.states.Body.{Body}
 use Rattle.hac_model.specs.declared.states.Body.TheVariants.{File, Dir, Semantic}
 use Rattle.hac_model.specs.declared.states.Entry.{Entry}
@@ -34,15 +39,39 @@ is_bare entries dir = list_all (λ entry. not (entry.parent == dir)) entries
 abbrev pub is_inside : State → ℕ → ℕ → Bool
 is_inside s dir entry = dir == entry || extends (path_of s dir) (path_of s entry)
 
+-- all of them are directories
+abbrev pub are_directories : State → List ℕ → Bool
+are_directories s dirs = list_all (λ dir. is_directory_at s.entries dir) dirs
+
+-- the query may be asked: it holds no more than it may, and names directories
+abbrev pub may_ask : State → Formula ℕ → Bool
+may_ask s query = is_query query && are_directories s (named_in query)
+
+-- no query names the directory
+abbrev pub is_unreferenced : State → ℕ → Bool
+is_unreferenced s dir = list_all (λ entry. not (names_directory dir entry)) s.entries
+
+-- the item may get the mark: it is added where it isn't yet, kept out where it is a link, and its mark goes where it has one
+abbrev pub may_mark : State → ℕ → ℕ → Kind → Bool
+may_mark s dir item Permanent = not (is_permanent s dir item)
+may_mark s dir item Prohibited = is_permanent s dir item || has (links s dir) item
+may_mark s dir item Unlinked = is_permanent s dir item || is_prohibited s dir item
+may_mark s dir item Transient = false
+
 -- what the event speaks of stands there, limits left aside. An event that no command makes yet never happens.
 abbrev pub is_possible : State → Event → Bool
 is_possible s (Mkdir dir name) = is_free s dir name
 is_possible s (NewFile dir name text) = is_free s dir name && is_text text
 is_possible s (Rewrite file text) = is_file_at s.entries file && is_text text
-is_possible s (Smkdir dir name query told) = is_free s dir name && is_query query && length told == 0
-is_possible s (Mv entry dir name) = is_some (entry_at s.entries entry) && is_free s dir name && not (is_inside s dir entry)
+is_possible s (Smkdir dir name query told) = is_free s dir name && may_ask s query && length told == 0
+is_possible s (Setq dir query told) =
+    is_made_directory s.entries dir && may_ask s query && is_none (cycle_over s dir (parent_of s dir) query) && length told == 0
+is_possible s (Unq dir) = is_semantic s dir
+is_possible s (Mark mark) = is_item s mark.item && is_semantic s mark.dir && may_mark s mark.dir mark.item mark.kind
+is_possible s (Mv entry dir name) =
+    is_some (entry_at s.entries entry) && is_free s dir name && not (is_inside s dir entry) && is_none (cycle_of_move s entry dir)
 is_possible s (Rm entry) = is_file_at s.entries entry
-is_possible s (Rmdir dir) = is_made_directory s.entries dir && is_bare s.entries dir
+is_possible s (Rmdir dir) = is_made_directory s.entries dir && is_bare s.entries dir && is_unreferenced s dir
 is_possible s Step = is_some (next_dirty s.entries)
 is_possible s other = false
 
@@ -73,6 +102,41 @@ abbrev pub indexed : Body → Body
 indexed (File text dirty shown) = File text false (Some text)
 indexed other = other
 
+-- the directory asks for this from now on. Its marks stay.
+abbrev pub asking : Formula ℕ → Body → Body
+asking new Dir = Semantic new [] []
+asking new (Semantic query permanent prohibited) = Semantic new permanent prohibited
+asking new other = other
+
+-- the directory is a plain one
+abbrev pub plain_body : Body → Body
+plain_body (Semantic query permanent prohibited) = Dir
+plain_body other = other
+
+-- the numbers without one of them
+abbrev pub without : ℕ → List ℕ → List ℕ
+without number numbers = filter (λ other. not (other == number)) numbers
+
+-- numbers that rise, with another one in its place
+abbrev pub put_in : ℕ → List ℕ → List ℕ
+put_in number [] = number ∷ []
+put_in number (first ∷ numbers) = if nat_lt number first then number ∷ first ∷ numbers else first ∷ put_in number numbers
+
+-- the item has no mark
+abbrev pub forgetting : ℕ → Body → Body
+forgetting item (Semantic query permanent prohibited) = Semantic query (without item permanent) (without item prohibited)
+forgetting item other = other
+
+-- an item without a mark gets one
+abbrev pub marking : ℕ → Kind → Body → Body
+marking item Permanent (Semantic query permanent prohibited) = Semantic query (put_in item permanent) prohibited
+marking item Prohibited (Semantic query permanent prohibited) = Semantic query permanent (put_in item prohibited)
+marking item other body = body
+
+-- the item leaves both lists, and then stands in the one of its mark, if any
+abbrev pub marked : ℕ → Kind → Body → Body
+marked item kind body = marking item kind (forgetting item body)
+
 -- the entry with its body edited
 abbrev pub edited : (Body → Body) → Entry → Entry
 edited edit entry = record entry { body = edit entry.body }
@@ -92,14 +156,21 @@ renamed s entry dir name number =
 abbrev pub removed : State → ℕ → State
 removed s number = record s { entries = filter (λ entry. not (entry.number == number)) s.entries }
 
+-- the state in which an item has no mark anywhere
+abbrev pub forgotten : State → ℕ → State
+forgotten s item = record s { entries = map (edited (forgetting item)) s.entries }
+
 -- the state after an event
 abbrev pub apply : State → Event → State
 apply s (Mkdir dir name) = added s dir name Dir
 apply s (NewFile dir name text) = added s dir name (File text true None)
 apply s (Rewrite file text) = changed_at s file (edited (rewritten text))
 apply s (Smkdir dir name query told) = added s dir name (Semantic query [] [])
+apply s (Setq dir query told) = changed_at s dir (edited (asking query))
+apply s (Unq dir) = changed_at s dir (edited plain_body)
+apply s (Mark mark) = changed_at s mark.dir (edited (marked mark.item mark.kind))
 apply s (Mv entry dir name) = changed_at s entry (reseated dir name)
-apply s (Rm entry) = removed s entry
+apply s (Rm entry) = forgotten (removed s entry) entry
 apply s (Rmdir dir) = removed s dir
 apply s Step = option_map_or (λ file. changed_at s file (edited indexed)) (next_dirty s.entries) s
 apply s other = s

@@ -2,7 +2,7 @@
 use Rattle.std.specs.Prelude.{ℕ, Bool, ◌+◌, if◌then◌else◌, nat_lt, nat_le, max, List, [], ◌∷◌, ◌++◌, length, sum_by, count_by, Option, Some, None, is_some}
 use Rattle.std.specs.List.{list_all}
 use Rattle.std.specs.Option.{option_map_or}
-use Rattle.hac_model.specs.Tree.{is_directory, is_dirty, is_file, is_path_short, query_in}
+use Rattle.hac_model.specs.Tree.{is_directory, is_dirty, is_file, is_path_short, is_plain, query_in}
 use Rattle.hac_model.specs.declared.counts.Counts.{Counts}
 use Rattle.hac_model.specs.declared.limits.Limit.{Limit}
 use Rattle.hac_model.specs.declared.limits.LimitWord.{LimitWord}
@@ -39,6 +39,10 @@ file_count entries = count_by (λ entry. is_file entry.body) entries
 -- how many files are dirty
 abbrev pub dirty_count : List Entry → ℕ
 dirty_count entries = count_by (λ entry. is_dirty entry.body) entries
+
+-- how many plain directories there are, the root left aside
+abbrev pub plain_count : List Entry → ℕ
+plain_count entries = count_by (λ entry. is_plain entry.body) entries
 
 -- no path has more names than a path may have
 abbrev pub are_paths_short : List Entry → Bool

@@ -7,24 +7,21 @@ use Rattle.std.specs.Str.Parse.{digits_value}
 use Rattle.hac_model.specs.Answers.{◌>>=◌}
 use Rattle.hac_model.specs.Bytes.{is_space}
 use Rattle.hac_model.specs.Formula.{Formula}
-use Rattle.hac_model.specs.Formula as query
 use Rattle.hac_model.specs.Limits.{is_text}
-use Rattle.hac_model.specs.LineWords.{first_word, after_space, first_run, after_run}
+use Rattle.hac_model.specs.LineWords.{first_word, after_space}
 use Rattle.hac_model.specs.PathWords.{is_bad, word_of}
 use Rattle.hac_model.specs.Paths.{are_names}
 use Rattle.hac_model.specs.Puts.{is_length}
-use Rattle.hac_model.specs.Queries.{is_query, is_query_word}
+use Rattle.hac_model.specs.QueryReading.{is_spelled_query, read_query}
 use Rattle.hac_model.specs.Texts.{text_of}
-use Rattle.hac_model.specs.Words.{lower_case}
 use Rattle.hac_model.specs.declared.commands.Command.{Command}
-use Rattle.hac_model.specs.declared.commands.Command.TheVariants.{Mkdir, Rmdir, Write, Cat, Ls, Mv, Rm, Smkdir, Sls, Index}
+use Rattle.hac_model.specs.declared.commands.Command.TheVariants.{Mkdir, Rmdir, Write, Cat, Ls, Mv, Rm, Smkdir, Setq, Unq, Query, Sls, Sln, Srm, Sforget, Find, Index, Counts}
 use Rattle.hac_model.specs.declared.commands.Line.{Line}
 use Rattle.hac_model.specs.declared.limits.LimitWord.TheVariants as limit
 use Rattle.hac_model.specs.declared.limits.TheConstants.{LINE_LIMIT, TEXT_LIMIT}
 use Rattle.hac_model.specs.declared.paths.PathWord.{PathWord}
 use Rattle.hac_model.specs.declared.replies.Refusal.{Refusal}
-use Rattle.hac_model.specs.declared.replies.Refusal.TheVariants.{BadLine, BadName, BadQuery, Limit, ShortPut}
-use Rattle.hac_model.specs.declared.terms.Term.TheVariants.{Word}
+use Rattle.hac_model.specs.declared.replies.Refusal.TheVariants.{BadLine, BadName, Limit, ShortPut}
 
 -- the one word of the bytes, behind which only spaces stand
 abbrev pub only_word : List ℕ → Result (List ℕ) Refusal
@@ -59,13 +56,13 @@ each_path first second = do
 abbrev pub two_paths : List ℕ → List ℕ → Result (PathWord × PathWord) Refusal
 two_paths first second = if is_bad first || is_bad second then Err BadName else each_path first second
 
--- `mv PATH PATH`, from what stands behind `mv`
-unfoldable pub mv_of : List ℕ → Result Command Refusal
-mv_of arguments = do
+-- the command of two path words, from what stands behind its name
+unfoldable pub of_two_paths : (PathWord → PathWord → Command) → List ℕ → Result Command Refusal
+of_two_paths command arguments = do
   first ← first_word arguments
   second ← only_word first.1
   paths ← two_paths first.0 second
-  Ok (Mv paths.0 paths.1)
+  Ok (command paths.0 paths.1)
 
 -- the bytes, where a file may have as many
 abbrev pub limited_text : List ℕ → Result (List ℕ) Refusal
@@ -80,26 +77,23 @@ write_of arguments = do
   text ← limited_text spelled
   Ok (Write path text)
 
--- the bytes are one word of a query, round which spaces may stand
-abbrev pub is_one_word : List ℕ → Bool
-is_one_word bytes = is_query_word (first_run bytes) && list_all is_space (after_run bytes)
-
--- the query that the bytes spell: so far one word. What isn't one is bad from its first byte on.
-abbrev pub query_of : List ℕ → Result (Formula PathWord) Refusal
-query_of bytes =
-    if is_one_word bytes then Ok (query.Term (Word (lower_case (first_run bytes)))) else Err (BadQuery 1)
-
--- `smkdir PATH QUERY`, from what stands behind `smkdir`
-unfoldable pub smkdir_of : List ℕ → Result Command Refusal
-smkdir_of arguments = do
+-- the command of a path word and a query, from what stands behind its name. The query is all that stands behind one space.
+unfoldable pub path_and_query : (PathWord → Formula PathWord → Command) → List ℕ → Result Command Refusal
+path_and_query command arguments = do
   word ← first_word arguments
   path ← word_of word.0
-  query ← query_of (after_space word.1)
-  Ok (Smkdir path query)
+  query ← read_query (after_space word.1)
+  Ok (command path query)
 
--- `index`, from what stands behind it
-unfoldable pub index_of : List ℕ → Result Command Refusal
-index_of arguments = if list_all is_space arguments then Ok Index else Err BadLine
+-- `find QUERY`, from what stands behind `find`
+unfoldable pub find_of : List ℕ → Result Command Refusal
+find_of arguments = do
+  query ← read_query (after_space arguments)
+  Ok (Find query)
+
+-- the command that is its name alone, from what stands behind it
+unfoldable pub alone : Command → List ℕ → Result Command Refusal
+alone command arguments = if list_all is_space arguments then Ok command else Err BadLine
 
 -- the command of a name, from what stands behind it
 abbrev pub named_command : List ℕ → List ℕ → Result Command Refusal
@@ -109,12 +103,20 @@ named_command name arguments =
     else (if bytes_eq name (codes "write") then write_of arguments
     else (if bytes_eq name (codes "cat") then one_path Cat arguments
     else (if bytes_eq name (codes "ls") then ls_of arguments
-    else (if bytes_eq name (codes "mv") then mv_of arguments
+    else (if bytes_eq name (codes "mv") then of_two_paths Mv arguments
     else (if bytes_eq name (codes "rm") then one_path Rm arguments
-    else (if bytes_eq name (codes "smkdir") then smkdir_of arguments
+    else (if bytes_eq name (codes "smkdir") then path_and_query Smkdir arguments
+    else (if bytes_eq name (codes "setq") then path_and_query Setq arguments
+    else (if bytes_eq name (codes "unq") then one_path Unq arguments
+    else (if bytes_eq name (codes "query") then one_path Query arguments
     else (if bytes_eq name (codes "sls") then one_path (λ path. Sls (Some path)) arguments
-    else (if bytes_eq name (codes "index") then index_of arguments
-    else Err BadLine)))))))))
+    else (if bytes_eq name (codes "sln") then of_two_paths Sln arguments
+    else (if bytes_eq name (codes "srm") then of_two_paths Srm arguments
+    else (if bytes_eq name (codes "sforget") then of_two_paths Sforget arguments
+    else (if bytes_eq name (codes "find") then find_of arguments
+    else (if bytes_eq name (codes "index") then alone Index arguments
+    else (if bytes_eq name (codes "counts") then alone Counts arguments
+    else Err BadLine)))))))))))))))))
 
 -- the path and the length of a `put`, from what stands behind `put`: two words and no more
 unfoldable pub put_words : List ℕ → Result (List ℕ × List ℕ) Refusal
@@ -185,9 +187,17 @@ is_spelled (Cat path) = is_word path
 is_spelled (Ls path) = option_map_or is_word path true
 is_spelled (Mv from to) = is_word from && is_word to
 is_spelled (Rm path) = is_word path
-is_spelled (Smkdir path query) = is_word path && is_query query
+is_spelled (Smkdir path query) = is_word path && is_spelled_query query
+is_spelled (Setq path query) = is_word path && is_spelled_query query
+is_spelled (Unq path) = is_word path
+is_spelled (Query path) = is_word path
 is_spelled (Sls path) = option_map_or is_word path true
+is_spelled (Sln item dir) = is_word item && is_word dir
+is_spelled (Srm item dir) = is_word item && is_word dir
+is_spelled (Sforget item dir) = is_word item && is_word dir
+is_spelled (Find query) = is_spelled_query query
 is_spelled Index = true
+is_spelled Counts = true
 is_spelled other = false
 
 -- so far every line is of the session `main`

@@ -1,12 +1,14 @@
 -- What directories provide, and the links that their queries give them.
-use Rattle.std.specs.Prelude.{ℕ, zero, suc, Bool, false, ◌==◌, ◌&&◌, ◌||◌, not, if◌then◌else◌, List, [], filter, Option, is_some, option_and_then}
+use Rattle.std.specs.Prelude.{ℕ, zero, suc, Bool, false, ◌==◌, ◌&&◌, ◌||◌, not, if◌then◌else◌, List, [], filter, length, sum_by, Option, is_some, option_and_then}
 use Rattle.std.specs.List.{list_any, range_with_len}
 use Rattle.std.specs.Option.{option_map_or}
 use Rattle.hac_model.specs.Limits.{semantic_count}
 use Rattle.hac_model.specs.Formula.{Formula}
 use Rattle.hac_model.specs.Formula as query
-use Rattle.hac_model.specs.Tree.{body_at, entry_at, extends, is_directory_at, is_file_at, path_of, query_in, shown_text}
+use Rattle.hac_model.specs.Tree.{body_at, entry_at, extends, is_directory_at, is_file_at, path_of, permanent_in, prohibited_in, query_in, shown_text}
 use Rattle.hac_model.specs.Words.{has_term}
+use Rattle.hac_model.specs.declared.marks.Kind.{Kind}
+use Rattle.hac_model.specs.declared.marks.Kind.TheVariants.{Transient, Permanent, Prohibited, Unlinked}
 use Rattle.hac_model.specs.declared.states.State.{State}
 use Rattle.hac_model.specs.declared.terms.Term.{Term}
 
@@ -37,15 +39,35 @@ is_semantic s dir = is_some (query_at s dir)
 abbrev pub is_below : State → ℕ → ℕ → Bool
 is_below s dir item = is_item s item && is_directory_at s.entries dir && extends (path_of s item) (path_of s dir)
 
+-- the items that the user added to a directory
+abbrev pub permanent_at : State → ℕ → List ℕ
+permanent_at s dir = option_map_or permanent_in (body_at s.entries dir) []
+
+-- the items that the user removed from it
+abbrev pub prohibited_at : State → ℕ → List ℕ
+prohibited_at s dir = option_map_or prohibited_in (body_at s.entries dir) []
+
+-- the number stands in the list
+abbrev pub has : List ℕ → ℕ → Bool
+has numbers number = list_any (λ other. other == number) numbers
+
+-- the item is a permanent link of the directory
+abbrev pub is_permanent : State → ℕ → ℕ → Bool
+is_permanent s dir item = has (permanent_at s dir) item
+
+-- the item is kept out of the directory
+abbrev pub is_prohibited : State → ℕ → ℕ → Bool
+is_prohibited s dir item = has (prohibited_at s dir) item
+
 -- the item has the term, by its text as last indexed. One that was never indexed has none.
 abbrev pub atom : State → Term → ℕ → Bool
 atom s term item = option_map_or (λ text. has_term text term) (shown_of s item) false
 
 -- Below, `linked` says of each directory whether the item is linked in it.
 
--- the directory provides the item: it is stored below it, or linked in it
+-- the directory provides the item: it is stored below it, or is a link of it, found or added
 abbrev pub provide : State → (ℕ → Bool) → ℕ → ℕ → Bool
-provide s linked dir item = is_below s dir item || (is_semantic s dir && linked dir)
+provide s linked dir item = is_below s dir item || (is_semantic s dir && (linked dir || is_permanent s dir item))
 
 -- the item satisfies the query
 abbrev pub holds : State → (ℕ → Bool) → Formula ℕ → ℕ → Bool
@@ -59,14 +81,19 @@ holds s linked (query.Or left right) item = holds s linked left item || holds s 
 abbrev pub satisfies : State → (ℕ → Bool) → ℕ → ℕ → Bool
 satisfies s linked dir item = option_map_or (λ query. holds s linked query item) (query_at s dir) false
 
--- the directory is to have a link to the item: its parent provides it, it was indexed, and it satisfies the query
+-- the user neither added the item to the directory nor removed it there
+abbrev pub is_unmarked : State → ℕ → ℕ → Bool
+is_unmarked s dir item = not (is_permanent s dir item || is_prohibited s dir item)
+
+-- the directory is to have a found link to the item: its parent provides it, it was indexed, it satisfies the query, and the
+-- user says nothing else
 abbrev pub passes : State → (ℕ → Bool) → ℕ → ℕ → Bool
 passes s linked dir item =
-    provide s linked (parent_of s dir) item && is_some (shown_of s item) && satisfies s linked dir item
+    provide s linked (parent_of s dir) item && is_some (shown_of s item) && satisfies s linked dir item && is_unmarked s dir item
 
 -- the directories in which an item is linked, told the links of each
 abbrev pub column : (ℕ → List ℕ) → ℕ → ℕ → Bool
-column known item dir = list_any (λ number. number == item) (known dir)
+column known item dir = has (known dir) item
 
 -- the links of each directory, found anew from known ones
 abbrev pub round : State → (ℕ → List ℕ) → ℕ → List ℕ
@@ -80,3 +107,31 @@ rounds (suc n) s = round s (rounds n s)
 -- the links of each directory, the items in order of number: as many rounds as there are semantic directories
 unfoldable pub links : State → ℕ → List ℕ
 links s = rounds (semantic_count s.entries) s
+
+-- the items that a query finds anywhere: those that were indexed and satisfy it, told the links
+unfoldable pub found_by : State → Formula ℕ → List ℕ
+found_by s query = filter (λ item. is_some (shown_of s item) && holds s (column (links s) item) query item) (items s)
+
+-- how an item is linked in a directory
+unfoldable pub kind : State → ℕ → ℕ → Kind
+kind s dir item =
+    if is_permanent s dir item then Permanent
+    else (if is_prohibited s dir item then Prohibited
+    else (if has (links s dir) item then Transient
+    else Unlinked))
+
+-- how many links of a kind there are, over all directories, told those of each
+abbrev pub over_directories : State → (ℕ → List ℕ) → ℕ
+over_directories s numbers = sum_by (λ dir. length (numbers dir)) (range_with_len 0 s.next)
+
+-- how many found links there are
+unfoldable pub transient_count : State → ℕ
+transient_count s = over_directories s (links s)
+
+-- how many items users added to directories
+unfoldable pub permanent_count : State → ℕ
+permanent_count s = over_directories s (permanent_at s)
+
+-- how many they removed from directories
+unfoldable pub prohibited_count : State → ℕ
+prohibited_count s = over_directories s (prohibited_at s)

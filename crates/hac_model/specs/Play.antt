@@ -1,28 +1,72 @@
 -- A whole run: each command is answered, and changes the state for those behind it.
-use Rattle.std.specs.Prelude.{ℕ, zero, suc, ◌+◌, Bool, true, false, List, [], ◌∷◌, ◌++◌, length, map, take, codes, Result, Ok, Err, option_and_then}
+use Rattle.std.specs.Prelude.{ℕ, zero, suc, ◌+◌, Bool, true, false, List, [], ◌∷◌, ◌++◌, length, map, take, codes, decimal, Result, Ok, Err, option_and_then}
 use Rattle.std.specs.List.{flat_map, list_any}
 use Rattle.std.specs.Option.{option_map_or}
 use Rattle.hac_model.specs.Events.{apply_all}
 use Rattle.hac_model.specs.Lines.{Item}
-use Rattle.hac_model.specs.Links.{links}
+use Rattle.hac_model.specs.Formula.{Formula}
+use Rattle.hac_model.specs.Limits.{dirty_count, file_count, plain_count, semantic_count}
+use Rattle.hac_model.specs.Links.{found_by, items, kind, permanent_count, prohibited_count, query_at, transient_count}
 use Rattle.hac_model.specs.Listing.{children, entry_line}
 use Rattle.hac_model.specs.Paths.{path_text}
+use Rattle.hac_model.specs.QueryText.{query_text, renamed}
 use Rattle.hac_model.specs.Refusals.{cause, events_of, led_to}
 use Rattle.hac_model.specs.Resolving.{resolve}
 use Rattle.hac_model.specs.Script.{script}
 use Rattle.hac_model.specs.Texts.{escaped_text}
 use Rattle.hac_model.specs.Tree.{body_at, empty, path_of, text_in}
 use Rattle.hac_model.specs.declared.events.Event.{Event}
+use Rattle.hac_model.specs.declared.marks.Kind.{Kind}
+use Rattle.hac_model.specs.declared.marks.Kind.TheVariants.{Transient, Permanent, Prohibited, Unlinked}
 use Rattle.hac_model.specs.declared.replies.Refusal.{Refusal}
 use Rattle.hac_model.specs.declared.replies.Reply.{Reply}
 use Rattle.hac_model.specs.declared.replies.Reply.TheVariants.{Lines, Refused}
 use Rattle.hac_model.specs.declared.resolved.Resolved.{Resolved}
-use Rattle.hac_model.specs.declared.resolved.Resolved.TheVariants.{Cat, Ls, Sls}
+use Rattle.hac_model.specs.declared.resolved.Resolved.TheVariants.{Cat, Ls, Query, Sls, Find, Counts}
 use Rattle.hac_model.specs.declared.states.State.{State}
 
--- a transient link, as `sls` lists it
-abbrev pub link_line : State → ℕ → List ℕ
-link_line s item = codes "t " ++ path_text (path_of s item)
+-- an item of a kind, as `sls` lists it
+abbrev pub kind_lines : List (List ℕ) → Kind → List (List ℕ)
+kind_lines path Transient = (codes "t " ++ path_text path) ∷ []
+kind_lines path Permanent = (codes "p " ++ path_text path) ∷ []
+kind_lines path Prohibited = (codes "x " ++ path_text path) ∷ []
+kind_lines path Unlinked = []
+
+-- the items of a semantic directory, in order of number
+abbrev pub link_lines : State → ℕ → List (List ℕ)
+link_lines s dir = flat_map (λ item. kind_lines (path_of s item) (kind s dir item)) (items s)
+
+-- a query with the present paths of its directories
+abbrev pub query_line : State → Formula ℕ → List ℕ
+query_line s query = codes "= " ++ query_text (renamed (λ dir. path_text (path_of s dir)) query)
+
+-- the query of a directory
+abbrev pub query_lines : State → ℕ → List (List ℕ)
+query_lines s dir = option_map_or (λ query. query_line s query ∷ []) (query_at s dir) []
+
+-- a file that a query finds
+abbrev pub found_line : State → ℕ → List ℕ
+found_line s item = codes "f " ++ path_text (path_of s item)
+
+-- how much there is of one thing
+abbrev pub counted : List ℕ → ℕ → List ℕ
+counted word count = codes " " ++ word ++ codes " " ++ decimal count
+
+-- how much there is of everything
+abbrev pub counts_line : State → List ℕ
+counts_line s =
+    codes "="
+    ++ counted (codes "files") (file_count s.entries)
+    ++ counted (codes "documents") 0
+    ++ counted (codes "directories") (plain_count s.entries)
+    ++ counted (codes "semantic") (semantic_count s.entries)
+    ++ counted (codes "mounts") 0
+    ++ counted (codes "symbolic") 0
+    ++ counted (codes "transient") (transient_count s)
+    ++ counted (codes "permanent") (permanent_count s)
+    ++ counted (codes "prohibited") (prohibited_count s)
+    ++ counted (codes "dirty") (dirty_count s.entries)
+    ++ counted (codes "next") s.next
 
 -- a text, as `cat` tells it
 abbrev pub text_line : List ℕ → List ℕ
@@ -36,7 +80,10 @@ text_lines s number = option_map_or (λ text. text_line text ∷ []) (option_and
 abbrev pub data_lines : State → Resolved → List (List ℕ)
 data_lines s (Cat entry) = text_lines s entry
 data_lines s (Ls dir) = map entry_line (children s dir)
-data_lines s (Sls dir) = map (link_line s) (links s dir)
+data_lines s (Query dir) = query_lines s dir
+data_lines s (Sls dir) = link_lines s dir
+data_lines s (Find query) = map (found_line s) (found_by s query)
+data_lines s Counts = counts_line s ∷ []
 data_lines s other = []
 
 -- what a run goes on from: so far the state alone

@@ -1,10 +1,11 @@
 -- How queries are spelled: each `AND`, `OR` and `NOT` in front of what it joins.
-use Rattle.std.specs.Prelude.{ℕ, zero, suc, Bool, false, ◌+◌, ◌-◌, ◌==◌, ◌&&◌, if◌then◌else◌, nat_le, max, List, [], ◌∷◌, ◌++◌, length, Option, Some, None, Result, Ok, Err}
+use Rattle.std.specs.Prelude.{ℕ, zero, suc, Bool, false, ◌-◌, ◌==◌, ◌&&◌, if◌then◌else◌, nat_le, List, [], ◌∷◌, ◌++◌, length, Option, Some, None, Result, Ok, Err}
 use Rattle.std.specs.Int.{w16}
 use Rattle.std.specs.Option.{ok_or}
 use Rattle.hac_model.specs.Fields.{Field, Part, Way, ◌>>=◌, num, run, nothing, part, way, whole_way, choice}
 use Rattle.hac_model.specs.Formula.{Formula}
 use Rattle.hac_model.specs.Formula as query
+use Rattle.hac_model.specs.Queries.{term_size, term_count, letter_count, not_count}
 use Rattle.hac_model.specs.Words.{is_word}
 use Rattle.hac_model.specs.declared.terms.Term as asked
 use Rattle.hac_model.specs.declared.terms.Term.TheVariants.{Word, Prefix}
@@ -44,35 +45,6 @@ abbrev pub token_field : Field Token
 token_field = choice token_part token_ways
 
 -- ---- what a query may hold
-
--- how many bytes the letters of a term are
-abbrev pub term_size : asked.Term → ℕ
-term_size (Word letters) = length letters
-term_size (Prefix letters) = length letters
-
--- how many terms a query has: words, prefixes and directories
-abbrev pub term_count : Formula ℕ → ℕ
-term_count (query.Term term) = 1
-term_count (query.Dir dir) = 1
-term_count (query.Not q) = term_count q
-term_count (query.And left right) = term_count left + term_count right
-term_count (query.Or left right) = term_count left + term_count right
-
--- how many bytes the letters of its terms are, all together
-abbrev pub letter_count : Formula ℕ → ℕ
-letter_count (query.Term term) = term_size term
-letter_count (query.Dir dir) = 0
-letter_count (query.Not q) = letter_count q
-letter_count (query.And left right) = letter_count left + letter_count right
-letter_count (query.Or left right) = letter_count left + letter_count right
-
--- the most `NOT`s on any way down to a term
-abbrev pub not_count : Formula ℕ → ℕ
-not_count (query.Term term) = 0
-not_count (query.Dir dir) = 0
-not_count (query.Not q) = not_count q + 1
-not_count (query.And left right) = max (not_count left) (not_count right)
-not_count (query.Or left right) = max (not_count left) (not_count right)
 
 -- each of its terms has bytes
 abbrev pub terms_fit : Formula ℕ → Bool

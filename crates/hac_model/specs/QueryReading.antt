@@ -1,5 +1,5 @@
 -- How a query is read from its bytes, one after the other.
-use Rattle.std.specs.Prelude.{ℕ, zero, suc, ◌+◌, ◌==◌, ◌&&◌, Bool, true, nat_le, nat_lt, if◌then◌else◌, List, [], ◌∷◌, ◌++◌, length, map, codes, Option, None, Some, Result, Ok, Err, option_and_then}
+use Rattle.std.specs.Prelude.{ℕ, zero, suc, ◌+◌, ◌==◌, ◌&&◌, Bool, true, nat_lt, if◌then◌else◌, List, [], ◌∷◌, ◌++◌, length, codes, Option, None, Some, Result, Ok, Err, option_and_then}
 use Rattle.std.specs.Option.{option_map, ok_or}
 use Rattle.std.specs.Str.{bytes_eq}
 use Rattle.hac_model.specs.Answers.{◌>>=◌}
@@ -10,8 +10,7 @@ use Rattle.hac_model.specs.Grammar.{Leaf, leaf_part, not_part, and_part, or_part
 use Rattle.hac_model.specs.Grammar as leaf
 use Rattle.hac_model.specs.PathWords.{word_of}
 use Rattle.hac_model.specs.Paths.{are_names}
-use Rattle.hac_model.specs.Queries.{is_operator}
-use Rattle.hac_model.specs.QueryText.{are_terms}
+use Rattle.hac_model.specs.Queries.{is_operator, is_query, term_count}
 use Rattle.hac_model.specs.Words.{is_word_byte, lower_case}
 use Rattle.hac_model.specs.declared.limits.LimitWord.TheVariants as limit
 use Rattle.hac_model.specs.declared.limits.TheConstants.{QUERY_LIMIT, TERMS_LIMIT, NESTING_LIMIT}
@@ -269,14 +268,6 @@ worded (formula.Or left right) = do
   second ← worded right
   Ok (formula.Or first second)
 
--- how many terms a query has
-abbrev pub term_count : {D : Type 0} → Formula D → ℕ
-term_count (formula.Term asked) = 1
-term_count (formula.Dir dir) = 1
-term_count (formula.Not query) = term_count query
-term_count (formula.And left right) = term_count left + term_count right
-term_count (formula.Or left right) = term_count left + term_count right
-
 -- the query, where it has no more terms than a query may have, and they stand no deeper than they may
 abbrev pub limited_query : ℕ → Formula PathWord → Result (Formula PathWord) Refusal
 limited_query nesting query =
@@ -295,10 +286,6 @@ spelled_query bytes = do
 unfoldable pub read_query : List ℕ → Result (Formula PathWord) Refusal
 read_query bytes = if nat_lt QUERY_LIMIT (length bytes) then Err (Limit limit.Query) else spelled_query bytes
 
--- so far no query names a directory: a `{` is read as a byte that no query holds
-abbrev pub without_directories : List ℕ → List ℕ
-without_directories bytes = map (λ b. if b == 123 then 0 else b) bytes
-
 -- the directories of a query are words that begin at the root, and their names are names
 abbrev pub are_rooted : Formula PathWord → Bool
 are_rooted (formula.Term asked) = true
@@ -307,7 +294,6 @@ are_rooted (formula.Not query) = are_rooted query
 are_rooted (formula.And left right) = are_rooted left && are_rooted right
 are_rooted (formula.Or left right) = are_rooted left && are_rooted right
 
--- the query is as a line spells it: its words are in lower case, its directories begin at the root, and it has no more
--- terms than it may
+-- the query is as a line spells it: it holds no more than a query may, and its directories begin at the root
 abbrev pub is_spelled_query : Formula PathWord → Bool
-is_spelled_query query = are_terms query && are_rooted query && nat_le (term_count query) TERMS_LIMIT
+is_spelled_query query = is_query query && are_rooted query

@@ -1,9 +1,8 @@
 -- Queries as they are printed.
-use Rattle.std.specs.Prelude.{ℕ, Bool, true, false, ◌&&◌, List, ◌++◌, codes}
+use Rattle.std.specs.Prelude.{ℕ, Bool, true, false, List, ◌++◌, codes}
 use Rattle.hac_model.specs.Formula.{Formula}
 use Rattle.hac_model.specs.Formula as formula
 use Rattle.hac_model.specs.Grammar.{escaped}
-use Rattle.hac_model.specs.Queries.{is_term}
 use Rattle.hac_model.specs.declared.terms.Term.{Term}
 use Rattle.hac_model.specs.declared.terms.Term.TheVariants as term
 
@@ -35,14 +34,6 @@ query_text (formula.Not query) = codes "NOT " ++ around (is_joined query) (query
 query_text (formula.And left right) =
     around (is_or left) (query_text left) ++ (codes " AND " ++ around (is_joined right) (query_text right))
 query_text (formula.Or left right) = query_text left ++ (codes " OR " ++ around (is_or right) (query_text right))
-
--- the words and beginnings of words of a query are in lower case
-abbrev pub are_terms : {D : Type 0} → Formula D → Bool
-are_terms (formula.Term asked) = is_term asked
-are_terms (formula.Dir dir) = true
-are_terms (formula.Not query) = are_terms query
-are_terms (formula.And left right) = are_terms left && are_terms right
-are_terms (formula.Or left right) = are_terms left && are_terms right
 
 -- a query whose directories are named by others
 abbrev pub renamed : {D E : Type 0} → (D → E) → Formula D → Formula E

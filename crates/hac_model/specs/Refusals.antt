@@ -1,21 +1,26 @@
 -- Why a state refuses a command: the first cause of the one order.
-use Rattle.std.specs.Prelude.{ℕ, ◌==◌, if◌then◌else◌, List, [], ◌∷◌, replicate, Option, None, Some, Result, Ok, Err}
-use Rattle.std.specs.Option.{option_map}
+use Rattle.std.specs.Prelude.{ℕ, ◌==◌, ◌||◌, if◌then◌else◌, List, [], ◌∷◌, map, replicate, Option, None, Some, Result, Ok, Err}
+use Rattle.std.specs.Option.{option_map, option_map_or}
 use Rattle.hac_model.specs.Answers.{first_cause}
+use Rattle.hac_model.specs.Depends.{cycle_of_move, cycle_over, referrers}
 use Rattle.hac_model.specs.Events.{apply_all, dirty, is_bare, is_inside}
 use Rattle.hac_model.specs.Limits.{answer_limits, counts, first_passed, layout_limits}
-use Rattle.hac_model.specs.Links.{is_semantic}
+use Rattle.hac_model.specs.Links.{has, is_permanent, is_prohibited, is_semantic, links, parent_of}
+use Rattle.hac_model.specs.Listing.{is_before}
+use Rattle.hac_model.specs.Paths.{path_text}
 use Rattle.hac_model.specs.Resolving.{resolve}
 use Rattle.hac_model.specs.Tree.{is_directory_at, path_of}
 use Rattle.hac_model.specs.declared.commands.Line.{Line}
 use Rattle.hac_model.specs.declared.events.Event.{Event}
 use Rattle.hac_model.specs.declared.events.Event.TheVariants as event
+use Rattle.hac_model.specs.declared.marks.Kind.{Kind}
+use Rattle.hac_model.specs.declared.marks.Kind.TheVariants.{Permanent, Prohibited, Unlinked}
 use Rattle.hac_model.specs.declared.places.Place.{Place}
 use Rattle.hac_model.specs.declared.places.Place.TheVariants.{There, Free}
 use Rattle.hac_model.specs.declared.replies.Refusal.{Refusal}
-use Rattle.hac_model.specs.declared.replies.Refusal.TheVariants.{NotFile, Exists, NotEmpty, Under, Root, NotSemantic, Limit}
+use Rattle.hac_model.specs.declared.replies.Refusal.TheVariants.{NotFile, Exists, NotEmpty, Under, Root, Cycle, Referenced, NotSemantic, NotLinked, Already, NoMark, Limit}
 use Rattle.hac_model.specs.declared.resolved.Resolved.{Resolved}
-use Rattle.hac_model.specs.declared.resolved.Resolved.TheVariants.{Mkdir, Rmdir, Write, Cat, Ls, Mv, Rm, Smkdir, Sls, Index}
+use Rattle.hac_model.specs.declared.resolved.Resolved.TheVariants.{Mkdir, Rmdir, Write, Cat, Ls, Mv, Rm, Smkdir, Setq, Unq, Query, Sls, Sln, Srm, Sforget, Find, Index, Counts}
 use Rattle.hac_model.specs.declared.states.State.{State}
 
 -- the root neither goes nor moves
@@ -49,18 +54,48 @@ full_cause s dir = if is_bare s.entries dir then None else Some (NotEmpty (path_
 abbrev pub plain_cause : State → ℕ → Option Refusal
 plain_cause s dir = if is_semantic s dir then None else Some (NotSemantic (path_of s dir))
 
+-- the least of paths, compared as they are printed
+abbrev pub least_path : List (List (List ℕ)) → Option (List (List ℕ))
+least_path [] = None
+least_path (path ∷ paths) =
+    Some (option_map_or (λ other. if is_before (path_text other) (path_text path) then other else path) (least_path paths) path)
+
+-- a query names a directory that is to go: the least path of one with such a query
+abbrev pub referenced_cause : State → ℕ → Option Refusal
+referenced_cause s dir = option_map Referenced (least_path (map (λ entry. path_of s entry.number) (referrers s dir)))
+
+-- an item would be added that is a permanent link already
+abbrev pub already_cause : State → ℕ → ℕ → Option Refusal
+already_cause s item dir = if is_permanent s dir item then Some (Already (path_of s item)) else None
+
+-- an item would be removed that is no link
+abbrev pub unlinked_cause : State → ℕ → ℕ → Option Refusal
+unlinked_cause s item dir = if is_permanent s dir item || has (links s dir) item then None else Some (NotLinked (path_of s item))
+
+-- a mark would go that isn't there
+abbrev pub unmarked_cause : State → ℕ → ℕ → Option Refusal
+unmarked_cause s item dir = if is_permanent s dir item || is_prohibited s dir item then None else Some (NoMark (path_of s item))
+
 -- what stands in the way of a command whose paths were followed
 abbrev pub blocked : State → Resolved → Option Refusal
 blocked s (Mkdir place) = taken_cause s place
-blocked s (Rmdir dir) = first_cause (root_cause dir ∷ full_cause s dir ∷ [])
+blocked s (Rmdir dir) = first_cause (root_cause dir ∷ full_cause s dir ∷ referenced_cause s dir ∷ [])
 blocked s (Write place text) = written_cause s place
 blocked s (Cat entry) = directory_cause s entry
 blocked s (Ls dir) = None
 blocked s (Mv entry place) = first_cause (root_cause entry ∷ taken_cause s place ∷ under_cause s entry place ∷ [])
 blocked s (Rm entry) = first_cause (root_cause entry ∷ directory_cause s entry ∷ [])
 blocked s (Smkdir place query) = taken_cause s place
+blocked s (Setq dir query) = root_cause dir
+blocked s (Unq dir) = plain_cause s dir
+blocked s (Query dir) = plain_cause s dir
 blocked s (Sls dir) = plain_cause s dir
+blocked s (Sln item dir) = first_cause (directory_cause s item ∷ plain_cause s dir ∷ already_cause s item dir ∷ [])
+blocked s (Srm item dir) = first_cause (directory_cause s item ∷ plain_cause s dir ∷ unlinked_cause s item dir ∷ [])
+blocked s (Sforget item dir) = first_cause (directory_cause s item ∷ plain_cause s dir ∷ unmarked_cause s item dir ∷ [])
+blocked s (Find query) = None
 blocked s Index = None
+blocked s Counts = None
 
 -- something comes into being where nothing stands
 abbrev pub makes : Place → (ℕ → List ℕ → Event) → List Event
@@ -72,6 +107,10 @@ abbrev pub writes : Place → List ℕ → List Event
 writes (There number) text = event.Rewrite number text ∷ []
 writes (Free dir name) text = event.NewFile dir name text ∷ []
 
+-- an item gets a mark in a directory
+abbrev pub marks : ℕ → ℕ → Kind → List Event
+marks item dir kind = event.Mark (record { dir = dir; item = item; kind = kind }) ∷ []
+
 -- the events of a command in whose way nothing stands. `index` is as many steps as there are dirty files.
 abbrev pub events_of : State → Resolved → List Event
 events_of s (Mkdir place) = makes place event.Mkdir
@@ -82,8 +121,16 @@ events_of s (Ls dir) = []
 events_of s (Mv entry place) = makes place (event.Mv entry)
 events_of s (Rm entry) = event.Rm entry ∷ []
 events_of s (Smkdir place query) = makes place (λ dir name. event.Smkdir dir name query [])
+events_of s (Setq dir query) = event.Setq dir query [] ∷ []
+events_of s (Unq dir) = event.Unq dir ∷ []
+events_of s (Query dir) = []
 events_of s (Sls dir) = []
+events_of s (Sln item dir) = marks item dir Permanent
+events_of s (Srm item dir) = marks item dir Prohibited
+events_of s (Sforget item dir) = marks item dir Unlinked
+events_of s (Find query) = []
 events_of s Index = replicate (dirty s) event.Step
+events_of s Counts = []
 
 -- the state that a command would lead to
 abbrev pub led_to : State → Resolved → State
@@ -96,9 +143,19 @@ layout_cause s command = option_map Limit (first_passed (layout_limits (counts (
 abbrev pub answer_cause : State → Resolved → Option Refusal
 answer_cause s command = option_map Limit (first_passed (answer_limits (counts (led_to s command))))
 
--- the first cause that doesn't hang on spaces: what stands in the way, then the limits on the tree itself
+-- a directory would depend on itself by way of this one
+abbrev pub cycle_by : State → Option ℕ → Option Refusal
+cycle_by s way = option_map (λ dir. Cycle (path_of s dir)) way
+
+-- a directory would depend on itself once it has a query, or another place. A new one can't, as nothing depends on it yet.
+abbrev pub cycle_cause : State → Resolved → Option Refusal
+cycle_cause s (Setq dir query) = cycle_by s (cycle_over s dir (parent_of s dir) query)
+cycle_cause s (Mv entry (Free dir name)) = cycle_by s (cycle_of_move s entry dir)
+cycle_cause s other = None
+
+-- the first cause that doesn't hang on spaces: what stands in the way, then the limits on the tree itself, then a cycle
 abbrev pub early_cause : State → Resolved → Option Refusal
-early_cause s command = first_cause (blocked s command ∷ layout_cause s command ∷ [])
+early_cause s command = first_cause (blocked s command ∷ layout_cause s command ∷ cycle_cause s command ∷ [])
 
 -- the first cause of all, behind which come the limits that hang on what spaces answer
 abbrev pub cause : State → Resolved → Option Refusal

@@ -17,7 +17,7 @@ use Rattle.hac_model.specs.declared.places.Place.TheVariants.{There, Free}
 use Rattle.hac_model.specs.declared.replies.Refusal.{Refusal}
 use Rattle.hac_model.specs.declared.replies.Refusal.TheVariants.{BadLine, NoPath, NotDir}
 use Rattle.hac_model.specs.declared.resolved.Resolved.{Resolved}
-use Rattle.hac_model.specs.declared.resolved.Resolved.TheVariants.{Mkdir, Rmdir, Write, Cat, Ls, Mv, Rm, Smkdir, Sls, Index}
+use Rattle.hac_model.specs.declared.resolved.Resolved.TheVariants.{Mkdir, Rmdir, Write, Cat, Ls, Mv, Rm, Smkdir, Setq, Unq, Query, Sls, Sln, Srm, Sforget, Find, Index, Counts}
 use Rattle.hac_model.specs.declared.states.State.{State}
 
 -- where a path word of a session leads: something may stand there or not
@@ -49,10 +49,30 @@ directory s session word = do
 abbrev pub listed : State → List ℕ → Option PathWord → Result ℕ Refusal
 listed s session word = option_map_or (directory s session) word (Ok (stands_in s.sessions session))
 
--- the query with each directory by its number. No query names one yet.
+-- the query with each directory by its number
 abbrev pub numbered : State → List ℕ → Formula PathWord → Result (Formula ℕ) Refusal
 numbered s session (query.Term term) = Ok (query.Term term)
-numbered s session other = Err BadLine
+numbered s session (query.Dir word) = do
+  dir ← directory s session word
+  Ok (query.Dir dir)
+numbered s session (query.Not asked) = do
+  inner ← numbered s session asked
+  Ok (query.Not inner)
+numbered s session (query.And left right) = do
+  first ← numbered s session left
+  second ← numbered s session right
+  Ok (query.And first second)
+numbered s session (query.Or left right) = do
+  first ← numbered s session left
+  second ← numbered s session right
+  Ok (query.Or first second)
+
+-- what is made of an item and a directory, to which two path words lead
+abbrev pub item_and_dir : (ℕ → ℕ → Resolved) → State → List ℕ → PathWord → PathWord → Result Resolved Refusal
+item_and_dir make s session item dir = do
+  first ← entry s session item
+  second ← directory s session dir
+  Ok (make first second)
 
 -- the command of a session with what its paths lead to, or the first cause against it that lies in them
 abbrev pub resolved : State → List ℕ → Command → Result Resolved Refusal
@@ -82,10 +102,27 @@ resolved s session (command.Smkdir path raw) = do
   found ← place s session path
   asked ← numbered s session raw
   Ok (Smkdir found asked)
+resolved s session (command.Setq path raw) = do
+  dir ← directory s session path
+  asked ← numbered s session raw
+  Ok (Setq dir asked)
+resolved s session (command.Unq path) = do
+  dir ← directory s session path
+  Ok (Unq dir)
+resolved s session (command.Query path) = do
+  dir ← directory s session path
+  Ok (Query dir)
 resolved s session (command.Sls path) = do
   dir ← listed s session path
   Ok (Sls dir)
+resolved s session (command.Sln item dir) = item_and_dir Sln s session item dir
+resolved s session (command.Srm item dir) = item_and_dir Srm s session item dir
+resolved s session (command.Sforget item dir) = item_and_dir Sforget s session item dir
+resolved s session (command.Find raw) = do
+  asked ← numbered s session raw
+  Ok (Find asked)
 resolved s session command.Index = Ok Index
+resolved s session command.Counts = Ok Counts
 resolved s session other = Err BadLine
 
 -- what a line comes to

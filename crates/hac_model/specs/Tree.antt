@@ -55,6 +55,11 @@ is_directory Dir = true
 is_directory (Semantic query permanent prohibited) = true
 is_directory other = false
 
+-- a directory without a query
+abbrev pub is_plain : Body → Bool
+is_plain Dir = true
+is_plain other = false
+
 -- was made or written since it was last indexed
 abbrev pub is_dirty : Body → Bool
 is_dirty (File text dirty shown) = dirty
@@ -74,6 +79,16 @@ shown_text other = None
 abbrev pub query_in : Body → Option (Formula ℕ)
 query_in (Semantic query permanent prohibited) = Some query
 query_in other = None
+
+-- the items that the user added to a semantic directory
+abbrev pub permanent_in : Body → List ℕ
+permanent_in (Semantic query permanent prohibited) = permanent
+permanent_in other = []
+
+-- those that the user removed from it
+abbrev pub prohibited_in : Body → List ℕ
+prohibited_in (Semantic query permanent prohibited) = prohibited
+prohibited_in other = []
 
 -- a file has the number
 abbrev pub is_file_at : List Entry → ℕ → Bool

@@ -1,12 +1,13 @@
 -- Which states there can be.
-use Rattle.std.specs.Prelude.{◌≡◌, ℕ, ◌<◌, Bool, true, false, List, [], ◌∷◌, Option, Some, None, IsTrue}
+use Rattle.std.specs.Prelude.{◌≡◌, ℕ, ◌<◌, ◌≤◌, ◌+◌, Bool, true, false, List, [], ◌∷◌, Option, Some, None, IsTrue}
 use Rattle.std.specs.List.{AllByRecursion}
 use Rattle.std.specs.Option.{option_map_or}
 use Rattle.hac_model.specs.Depends.{IsAcyclic}
 use Rattle.hac_model.specs.Formula.{Formula}
 use Rattle.hac_model.specs.Limits.{is_text, passed}
 use Rattle.hac_model.specs.Names.{is_name}
-use Rattle.hac_model.specs.Queries.{is_query}
+use Rattle.hac_model.specs.Events.{may_ask}
+use Rattle.hac_model.specs.Links.{has, is_item}
 use Rattle.hac_model.specs.Tree.{child, is_directory_at}
 use Rattle.hac_model.specs.declared.states.Body.{Body}
 use Rattle.hac_model.specs.declared.states.Body.TheVariants.{File, Dir, Semantic}
@@ -47,20 +48,31 @@ pub record IsLayout (s : State) : Type 0 where
   -- so each path is short, which is to say that steps over parents end at the root
   pub limits : passed s ≡ None
 
--- a query is one that a directory may have, and no item has a mark yet
-pub record IsSoundQuery (query : Formula ℕ) (permanent prohibited : List ℕ) : Type 0 where
-  pub fits : IsTrue (is_query query)
-  pub added : permanent ≡ []
-  pub removed : prohibited ≡ []
+-- numbers that rise, from a bound on
+abbrev pub RiseFrom : ℕ → List ℕ → Type 0
+RiseFrom bound [] = Unit {0}
+RiseFrom bound (number ∷ numbers) = (bound ≤ number) × RiseFrom (number + 1) numbers
 
-abbrev pub AsksWell : Body → Type 0
-AsksWell (Semantic query permanent prohibited) = IsSoundQuery query permanent prohibited
-AsksWell other = Unit {0}
+-- marks are on items, each once
+pub record AreMarks (s : State) (numbers : List ℕ) : Type 0 where
+  pub rise : RiseFrom 0 numbers
+  pub items : AllByRecursion (λ number. IsTrue (is_item s number)) numbers
 
--- a tree whose queries and sessions are sound too
+-- a directory may ask its query, and no item is both added and removed
+pub record IsSoundQuery (s : State) (query : Formula ℕ) (permanent prohibited : List ℕ) : Type 0 where
+  pub fits : IsTrue (may_ask s query)
+  pub added : AreMarks s permanent
+  pub removed : AreMarks s prohibited
+  pub apart : AllByRecursion (λ number. has prohibited number ≡ false) permanent
+
+abbrev pub AsksWell : State → Body → Type 0
+AsksWell s (Semantic query permanent prohibited) = IsSoundQuery s query permanent prohibited
+AsksWell s other = Unit {0}
+
+-- a tree whose queries, marks and sessions are sound too
 pub record IsValid (s : State) : Type 0 where
   pub layout : IsLayout s
-  pub queries : AllByRecursion (λ entry. AsksWell entry.body) s.entries
+  pub queries : AllByRecursion (λ entry. AsksWell s entry.body) s.entries
   pub acyclic : IsAcyclic s
   -- all sessions stand in the root so far
   pub sessions : s.sessions ≡ []

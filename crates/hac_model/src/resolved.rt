@@ -54,11 +54,56 @@ pub enum Resolved {
         /// What it is to ask for.
         query: Query<Number>,
     },
+    /// Gives a directory a query.
+    Setq {
+        /// The directory.
+        dir: Number,
+        /// What it is to ask for.
+        query: Query<Number>,
+    },
+    /// Takes a directory's query away.
+    Unq {
+        /// The directory.
+        dir: Number,
+    },
+    /// Tells a directory's query.
+    Query {
+        /// The directory.
+        dir: Number,
+    },
     /// Lists the links of a semantic directory.
     Sls {
         /// The directory.
         dir: Number,
     },
+    /// Makes an item a permanent link of a directory.
+    Sln {
+        /// The item.
+        item: Number,
+        /// The directory.
+        dir: Number,
+    },
+    /// Keeps an item out of a directory.
+    Srm {
+        /// The item.
+        item: Number,
+        /// The directory.
+        dir: Number,
+    },
+    /// Takes an item's mark in a directory away.
+    Sforget {
+        /// The item.
+        item: Number,
+        /// The directory.
+        dir: Number,
+    },
+    /// Lists what satisfies a query.
+    Find {
+        /// The query.
+        query: Query<Number>,
+    },
     /// Indexes the dirty files.
     Index,
+    /// Tells how much there is of everything.
+    Counts,
 }

@@ -1,4 +1,4 @@
-use Rattle.hac_model.proofs.ValidLemmas.{apply-valid}
+use Rattle.hac_model.proofs.AcyclicLemmas.{apply-valid}
 use Rattle.hac_model.proofs.laws.events_keep_valid.Goals as goal
 
 pub returns : goal.returns

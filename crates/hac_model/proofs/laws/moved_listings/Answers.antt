@@ -2,9 +2,10 @@ use Rattle.std.proofs.Common.{refl}
 use Rattle.std.specs.Fmt.{digits}
 use Rattle.hac_model.specs.Limits.{first_passed, passed}
 use Rattle.hac_model.specs.LineWords.{quoted}
-use Rattle.hac_model.specs.Lines.{index_of, ls_of, mv_of, one_path, smkdir_of, write_of}
-use Rattle.hac_model.specs.Links.{links}
+use Rattle.hac_model.specs.Lines.{alone, ls_of, of_two_paths, one_path, path_and_query, write_of}
+use Rattle.hac_model.specs.Links.{kind, links}
 use Rattle.hac_model.specs.PathWords.{word_of}
+use Rattle.hac_model.specs.QueryReading.{after_run, kind_of, read_on, read_query}
 use Rattle.hac_model.specs.Script.{script}
 use Rattle.hac_model.specs.Texts.{escaped_byte, text_of}
 use Rattle.hac_model.specs.Looks.{look}
@@ -13,5 +14,5 @@ use Rattle.hac_model.specs.Words.{has_term, is_word_byte, words}
 use Rattle.hac_model.proofs.laws.moved_listings.Goals as goal
 
 pub returns : goal.returns
-unfolding digits escaped_byte first_passed has_term index_of is_path_short is_word_byte lineage links look ls_of mv_of one_path passed path_of quoted script smkdir_of text_of word_of words write_of
+unfolding after_run alone digits escaped_byte first_passed has_term is_path_short is_word_byte kind_of lineage links look ls_of of_two_paths one_path passed path_and_query path_of quoted read_on read_query script text_of word_of words write_of kind
 returns c = refl

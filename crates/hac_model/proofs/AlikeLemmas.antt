@@ -1,0 +1,351 @@
+-- What a state tells without its marks is what it tells with them.
+use Rattle.std.proofs.Common.{◌≡◌, ℕ, Bool, true, false, cond, List, [], ◌∷◌, length, map, reverse, refl, ap, sym, ◌∙◌, arith}
+use Rattle.std.specs.Prelude.{◌+◌, ◌==◌, codes, ◌&&◌, ◌||◌, ◌++◌, ◌-◌, filter, not, Option, Some, None, Ok, Err, IsTrue, is_some, is_none, option_and_then}
+use Rattle.std.specs.List.{AllByRecursion, range_with_len, slice_index_or}
+use Rattle.std.specs.Option.{option_map, option_map_or, unwrap_or}
+use Rattle.hac_model.specs.Answers.{and_then, first_cause}
+use Rattle.hac_model.specs.Bare.{bare, bare_body}
+use Rattle.hac_model.specs.Depends.{depends, named_in, names_directory, referrers}
+use Rattle.hac_model.specs.Events.{are_directories, dirty, edited, is_bare, is_free, is_inside, may_ask}
+use Rattle.hac_model.specs.Formula.{Formula}
+use Rattle.hac_model.specs.Formula as query
+use Rattle.hac_model.specs.Limits.{answer_limits, layout_limits, counts, first_passed, passed, weight}
+use Rattle.hac_model.specs.Links.{has, is_below, is_semantic, items, parent_of, query_at, shown_of}
+use Rattle.hac_model.specs.Listing.{children, entry_line, in_order, is_before, letter, put_in_order}
+use Rattle.hac_model.specs.Looks.{look, stands_at, stop_at, ways}
+use Rattle.hac_model.specs.Names.{is_name}
+use Rattle.hac_model.specs.Paths.{join, without_last}
+use Rattle.hac_model.specs.Queries.{is_query}
+use Rattle.hac_model.specs.Resolving.{directory, entry, item_and_dir, listed, numbered, place, resolved, standing}
+use Rattle.hac_model.specs.Sessions.{base_of, stands_in}
+use Rattle.hac_model.specs.Tree.{body_at, child, entry_at, extends, is_directory, is_directory_at, is_dirty, is_file, is_file_at, path_of, query_in, shown_text, text_in}
+use Rattle.hac_model.specs.Valid.{IsLayout, IsSound, NamesDiffer, NumbersRise}
+use Rattle.hac_model.specs.declared.commands.Command.{Command}
+use Rattle.hac_model.specs.declared.commands.Command.TheVariants as command
+use Rattle.hac_model.specs.declared.paths.PathWord.{PathWord}
+use Rattle.hac_model.specs.declared.places.Place.{Place}
+use Rattle.hac_model.specs.declared.places.Place.TheVariants.{There, Free}
+use Rattle.hac_model.specs.declared.replies.Refusal.TheVariants.{NoPath, NotDir}
+use Rattle.hac_model.specs.declared.resolved.Resolved.{Resolved}
+use Rattle.hac_model.specs.declared.resolved.Resolved.TheVariants as done
+use Rattle.hac_model.specs.declared.states.Body.{Body}
+use Rattle.hac_model.specs.declared.states.Body.TheVariants.{Semantic, Mount}
+use Rattle.hac_model.specs.declared.states.Entry.{Entry}
+use Rattle.hac_model.specs.declared.states.Session.{Session}
+use Rattle.hac_model.specs.declared.states.State.{State}
+use Rattle.hac_model.proofs.CountLemmas.{is_queried, measured, measured-cons, one_if}
+use Rattle.hac_model.proofs.MapLemmas.{KeepsMeasures, mapped, mapped-layout, child-mapped, directory-mapped, entry_at-mapped, lineage-mapped, paths-mapped, test-mapped}
+use Rattle.hac_model.proofs.PathLemmas.{path-names}
+
+-- Bodies without marks.
+
+pub bare-kind : (body : Body) → is_directory (bare_body body) ≡ is_directory body
+bare-kind (Semantic query permanent prohibited) = refl
+bare-kind (Mount space documents answers) = refl
+bare-kind other = refl
+
+pub bare-file : (body : Body) → is_file (bare_body body) ≡ is_file body
+bare-file (Semantic query permanent prohibited) = refl
+bare-file (Mount space documents answers) = refl
+bare-file other = refl
+
+pub bare-query : (body : Body) → query_in (bare_body body) ≡ query_in body
+bare-query (Semantic query permanent prohibited) = refl
+bare-query (Mount space documents answers) = refl
+bare-query other = refl
+
+bare-shown : (body : Body) → shown_text (bare_body body) ≡ shown_text body
+bare-shown (Semantic query permanent prohibited) = refl
+bare-shown (Mount space documents answers) = refl
+bare-shown other = refl
+
+bare-text : (body : Body) → text_in (bare_body body) ≡ text_in body
+bare-text (Semantic query permanent prohibited) = refl
+bare-text (Mount space documents answers) = refl
+bare-text other = refl
+
+bare-dirty : (body : Body) → is_dirty (bare_body body) ≡ is_dirty body
+bare-dirty (Semantic query permanent prohibited) = refl
+bare-dirty (Mount space documents answers) = refl
+bare-dirty other = refl
+
+bare-weight : (body : Body) → weight (bare_body body) ≡ weight body
+bare-weight (Semantic query permanent prohibited) = refl
+bare-weight (Mount space documents answers) = refl
+bare-weight other = refl
+
+bare-letter : (body : Body) → letter (bare_body body) ≡ letter body
+bare-letter (Semantic query permanent prohibited) = refl
+bare-letter (Mount space documents answers) = refl
+bare-letter other = refl
+
+bare-sound : (body : Body) → IsSound (bare_body body) → IsSound body
+bare-sound (Semantic query permanent prohibited) h = tt
+bare-sound (Mount space documents answers) h = h
+bare-sound other h = h
+
+sound-bare : (body : Body) → IsSound body → IsSound (bare_body body)
+sound-bare (Semantic query permanent prohibited) h = tt
+sound-bare (Mount space documents answers) h = h
+sound-bare other h = h
+
+pub bare-measures : KeepsMeasures bare_body
+bare-measures = record { kind = bare-kind; file = bare-file; queried = (λ body. ap (λ (o : Option (Formula ℕ)). is_some o) (bare-query body)); texts = bare-weight }
+
+-- What is looked up.
+
+pub entry_at-bare : (s : State) (n : ℕ) → entry_at (bare s).entries n ≡ option_map (edited bare_body) (entry_at s.entries n)
+entry_at-bare s n = entry_at-mapped bare_body s.entries n
+
+-- a part of bodies that is told alike
+part-bare : {X : Type 0} (part : Body → Option X) (s : State) (n : ℕ) → ((body : Body) → part (bare_body body) ≡ part body) → option_and_then part (body_at (bare s).entries n) ≡ option_and_then part (body_at s.entries n)
+part-bare part s n same =
+    ap (λ (o : Option Entry). option_and_then part (option_map (λ (e : Entry). e.body) o)) (entry_at-bare s n)
+    ∙ (elim (entry_at s.entries n) as (λ o. option_and_then part (option_map (λ (e : Entry). e.body) (option_map (edited bare_body) o)) ≡ option_and_then part (option_map (λ (e : Entry). e.body) o)) [ None ↦ refl | Some e ↦ same e.body ])
+
+pub query_at-bare : (s : State) (n : ℕ) → query_at (bare s) n ≡ query_at s n
+query_at-bare s n = part-bare query_in s n bare-query
+
+pub is_semantic-bare : (s : State) (n : ℕ) → is_semantic (bare s) n ≡ is_semantic s n
+is_semantic-bare s n = ap (λ (o : Option (Formula ℕ)). is_some o) (query_at-bare s n)
+
+pub shown_of-bare : (s : State) (n : ℕ) → shown_of (bare s) n ≡ shown_of s n
+shown_of-bare s n = part-bare shown_text s n bare-shown
+
+pub text_at-bare : (s : State) (n : ℕ) → option_and_then text_in (body_at (bare s).entries n) ≡ option_and_then text_in (body_at s.entries n)
+text_at-bare s n = part-bare text_in s n bare-text
+
+pub parent_of-bare : (s : State) (n : ℕ) → parent_of (bare s) n ≡ parent_of s n
+parent_of-bare s n =
+    ap (λ (o : Option Entry). option_map_or (λ (e : Entry). e.parent) o 0) (entry_at-bare s n)
+    ∙ (elim (entry_at s.entries n) as (λ o. option_map_or (λ (e : Entry). e.parent) (option_map (edited bare_body) o) 0 ≡ option_map_or (λ (e : Entry). e.parent) o 0) [ None ↦ refl | Some e ↦ refl ])
+
+pub depends-bare : (s : State) (n : ℕ) → depends (bare s) n ≡ depends s n
+depends-bare s n = λ i. option_map_or (λ query. parent_of-bare s n i ∷ named_in query) (query_at-bare s n i) []
+
+pub directory-bare : (s : State) (n : ℕ) → is_directory_at (bare s).entries n ≡ is_directory_at s.entries n
+directory-bare s n = directory-mapped bare_body s.entries n bare-kind
+
+pub file-bare : (s : State) (n : ℕ) → is_file_at (bare s).entries n ≡ is_file_at s.entries n
+file-bare s n = test-mapped is_file bare_body s.entries n bare-file
+
+pub some-bare : (s : State) (n : ℕ) → is_some (entry_at (bare s).entries n) ≡ is_some (entry_at s.entries n)
+some-bare s n =
+    ap (λ (o : Option Entry). is_some o) (entry_at-bare s n)
+    ∙ (elim (entry_at s.entries n) as (λ o. is_some (option_map (edited bare_body) o) ≡ is_some o) [ None ↦ refl | Some e ↦ refl ])
+
+pub path_of-bare : (s : State) (n : ℕ) → path_of (bare s) n ≡ path_of s n
+path_of-bare s n = path-names (bare s) n ∙ ap reverse (lineage-mapped bare_body s.entries n) ∙ sym (path-names s n)
+
+pub items-bare : (s : State) → items (bare s) ≡ items s
+items-bare s = λ i. filter (λ n. file-bare s n i) (range_with_len 0 s.next)
+
+pub is_below-bare : (s : State) (dir item : ℕ) → is_below (bare s) dir item ≡ is_below s dir item
+is_below-bare s dir item = λ i. file-bare s item i && directory-bare s dir i && extends (path_of-bare s item i) (path_of-bare s dir i)
+
+pub is_inside-bare : (s : State) (dir e : ℕ) → is_inside (bare s) dir e ≡ is_inside s dir e
+is_inside-bare s dir e = λ i. dir == e || extends (path_of-bare s dir i) (path_of-bare s e i)
+
+pub is_free-bare : (s : State) (dir : ℕ) (name : List ℕ) → is_free (bare s) dir name ≡ is_free s dir name
+is_free-bare s dir name = λ i. directory-bare s dir i && is_name name && is_none (child-mapped bare_body s.entries dir name i)
+
+pub is_bare-bare : (s : State) (dir : ℕ) → is_bare (bare s).entries dir ≡ is_bare s.entries dir
+is_bare-bare s dir = each s.entries
+  where
+    each : (es : List Entry) → is_bare (map (edited bare_body) es) dir ≡ is_bare es dir
+    each [] = refl
+    each (e ∷ es) = ap (λ (b : Bool). not (e.parent == dir) && b) (each es)
+
+pub may_ask-bare : (s : State) (asked : Formula ℕ) → may_ask (bare s) asked ≡ may_ask s asked
+may_ask-bare s asked = ap (λ (b : Bool). is_query asked && b) (each (named_in asked))
+  where
+    each : (ds : List ℕ) → are_directories (bare s) ds ≡ are_directories s ds
+    each [] = refl
+    each (d ∷ ds) = λ i. directory-bare s d i && each ds i
+
+-- the paths of those whose queries name a directory
+pub referrers-bare : (s : State) (dir : ℕ) → map (λ (e : Entry). path_of (bare s) e.number) (referrers (bare s) dir) ≡ map (λ (e : Entry). path_of s e.number) (referrers s dir)
+referrers-bare s dir = each s.entries
+  where
+    paths : List Entry → List (List (List ℕ))
+    paths es = map (λ (e : Entry). path_of s e.number) es
+
+    each : (es : List Entry) → map (λ (e : Entry). path_of (bare s) e.number) (filter (names_directory dir) (map (edited bare_body) es)) ≡ paths (filter (names_directory dir) es)
+    each [] = refl
+    each (e ∷ es) =
+        ap (λ (b : Bool). map (λ (e : Entry). path_of (bare s) e.number) (cond b (edited bare_body e ∷ filter (names_directory dir) (map (edited bare_body) es)) (filter (names_directory dir) (map (edited bare_body) es)))) named
+        ∙ (elim (names_directory dir e) as (λ b. map (λ (e : Entry). path_of (bare s) e.number) (cond b (edited bare_body e ∷ filter (names_directory dir) (map (edited bare_body) es)) (filter (names_directory dir) (map (edited bare_body) es))) ≡ paths (cond b (e ∷ filter (names_directory dir) es) (filter (names_directory dir) es))) [
+          | true ↦ (λ i. path_of-bare s e.number i ∷ each es i)
+          | false ↦ each es
+        ])
+      where
+        named : names_directory dir (edited bare_body e) ≡ names_directory dir e
+        named = ap (λ (o : Option (Formula ℕ)). option_map_or (λ asked. has (named_in asked) dir) o false) (bare-query e.body)
+
+-- Where paths lead.
+
+stands_at-bare : (s : State) (dir : ℕ) (path : List (List ℕ)) → stands_at (bare s).entries dir path ≡ stands_at s.entries dir path
+stands_at-bare s dir [] = refl
+stands_at-bare s dir (name ∷ names) =
+    ap (λ (o : Option ℕ). option_and_then (λ number. stands_at (bare s).entries number names) o) (child-mapped bare_body s.entries dir name)
+    ∙ (λ i. option_and_then (λ number. stands_at-bare s number names i) (child s.entries dir name))
+
+pub look-bare : (s : State) (path : List (List ℕ)) → look (bare s) path ≡ look s path
+unfolding look
+look-bare s path = λ i.
+    option_map_or Err (first_cause (map (stop i) (ways path)))
+    (Ok (option_map_or There (stands_at-bare s 0 path i) (Free (unwrap_or (stands_at-bare s 0 (without_last 1 path) i) 0) (slice_index_or path (length path - 1) []))))
+  where
+    stop : stop_at (bare s) ≡ stop_at s
+    stop = λ i way. option_map_or (λ number. cond (file-bare s number i) (Some (NotDir way)) None) (stands_at-bare s 0 way i) (Some (NoPath way))
+
+module _ (s : State) (h : s.sessions ≡ []) (session : List ℕ) where
+  place-bare : (word : PathWord) → place (bare s) session word ≡ place s session word
+  place-bare word = ap (λ (n : List (List ℕ)). look (bare s) (join n word)) base ∙ look-bare s (join (base_of s session) word)
+    where
+      base : base_of (bare s) session ≡ base_of s session
+      base = path_of-bare s 0 ∙ ap (λ (sessions : List Session). path_of s (stands_in sessions session)) (sym h)
+
+  standing-bare : (found : Place) → standing (bare s) found ≡ standing s found
+  standing-bare (There number) = refl
+  standing-bare (Free dir name) = ap (λ (path : List (List ℕ)). Err (NoPath (path ++ name ∷ []))) (path_of-bare s dir)
+
+  entry-bare : (word : PathWord) → entry (bare s) session word ≡ entry s session word
+  entry-bare word = λ i. and_then (λ found. standing-bare found i) (place-bare word i)
+
+  directory-leads : (word : PathWord) → directory (bare s) session word ≡ directory s session word
+  directory-leads word = λ i. and_then (λ number. cond (directory-bare s number i) (Ok number) (Err (NotDir (path_of-bare s number i)))) (entry-bare word i)
+
+  listed-bare : (word : Option PathWord) → listed (bare s) session word ≡ listed s session word
+  listed-bare None = ap (λ (sessions : List Session). Ok (stands_in sessions session)) (sym h)
+  listed-bare (Some word) = directory-leads word
+
+  numbered-bare : (raw : Formula PathWord) → numbered (bare s) session raw ≡ numbered s session raw
+  numbered-bare (query.Term term) = refl
+  numbered-bare (query.Dir word) = ap (and_then (λ dir. Ok (query.Dir dir))) (directory-leads word)
+  numbered-bare (query.Not raw) = ap (and_then (λ inner. Ok (query.Not inner))) (numbered-bare raw)
+  numbered-bare (query.And left right) = λ i. and_then (λ first. and_then (λ second. Ok (query.And first second)) (numbered-bare right i)) (numbered-bare left i)
+  numbered-bare (query.Or left right) = λ i. and_then (λ first. and_then (λ second. Ok (query.Or first second)) (numbered-bare right i)) (numbered-bare left i)
+
+  item_and_dir-bare : (make : ℕ → ℕ → Resolved) (item dir : PathWord) → item_and_dir make (bare s) session item dir ≡ item_and_dir make s session item dir
+  item_and_dir-bare make item dir = λ i. and_then (λ first. and_then (λ second. Ok (make first second)) (directory-leads dir i)) (entry-bare item i)
+
+  -- what a command comes to
+  pub resolved-bare : (c : Command) → resolved (bare s) session c ≡ resolved s session c
+  resolved-bare (command.Mkdir path) = ap (and_then (λ found. Ok (done.Mkdir found))) (place-bare path)
+  resolved-bare (command.Rmdir path) = ap (and_then (λ dir. Ok (done.Rmdir dir))) (directory-leads path)
+  resolved-bare (command.Write path text) = ap (and_then (λ found. Ok (done.Write found text))) (place-bare path)
+  resolved-bare (command.Cat path) = ap (and_then (λ number. Ok (done.Cat number))) (entry-bare path)
+  resolved-bare (command.Ls path) = ap (and_then (λ dir. Ok (done.Ls dir))) (listed-bare path)
+  resolved-bare (command.Mv from to) = λ i. and_then (λ number. and_then (λ found. Ok (done.Mv number found)) (place-bare to i)) (entry-bare from i)
+  resolved-bare (command.Rm path) = ap (and_then (λ number. Ok (done.Rm number))) (entry-bare path)
+  resolved-bare (command.Smkdir path raw) = λ i. and_then (λ found. and_then (λ asked. Ok (done.Smkdir found asked)) (numbered-bare raw i)) (place-bare path i)
+  resolved-bare (command.Setq path raw) = λ i. and_then (λ dir. and_then (λ asked. Ok (done.Setq dir asked)) (numbered-bare raw i)) (directory-leads path i)
+  resolved-bare (command.Unq path) = ap (and_then (λ dir. Ok (done.Unq dir))) (directory-leads path)
+  resolved-bare (command.Query path) = ap (and_then (λ dir. Ok (done.Query dir))) (directory-leads path)
+  resolved-bare (command.Sls path) = ap (and_then (λ dir. Ok (done.Sls dir))) (listed-bare path)
+  resolved-bare (command.Sln item dir) = item_and_dir-bare done.Sln item dir
+  resolved-bare (command.Srm item dir) = item_and_dir-bare done.Srm item dir
+  resolved-bare (command.Sforget item dir) = item_and_dir-bare done.Sforget item dir
+  resolved-bare (command.Find raw) = ap (and_then (λ asked. Ok (done.Find asked))) (numbered-bare raw)
+  resolved-bare other = refl
+
+-- How much there is.
+
+measured-bare : (f : Body → ℕ) (es : List Entry) → ((body : Body) → f (bare_body body) ≡ f body) → measured f (map (edited bare_body) es) ≡ measured f es
+measured-bare f [] same = refl
+measured-bare f (e ∷ es) same =
+    let here : f (bare_body e.body) ≡ f e.body = same e.body in
+    omega (arith, measured-cons f (edited bare_body e) (map (edited bare_body) es), measured-cons f e es, here, measured-bare f es same)
+
+pub dirty-same : (s : State) → dirty (bare s) ≡ dirty s
+dirty-same s = measured-bare (one_if is_dirty) s.entries (λ body. ap (λ (b : Bool). cond {A = ℕ} b 1 0) (bare-dirty body))
+
+pub counts-bare : (s : State) → counts (bare s) ≡ counts s
+counts-bare s = λ i. record {
+  bytes = measured-bare weight s.entries bare-weight i;
+  directories = ones is_directory bare-kind i + 1;
+  semantics = ones is_queried (λ body. ap (λ (o : Option (Formula ℕ)). is_some o) (bare-query body)) i;
+  files = ones is_file bare-file i;
+  dirty = dirty-same s i;
+  long_paths = cond {A = ℕ} (paths-mapped bare_body s.entries i) 0 1;
+  next = s.next;
+}
+  where
+    ones : (test : Body → Bool) → ((body : Body) → test (bare_body body) ≡ test body) → measured (one_if test) (map (edited bare_body) s.entries) ≡ measured (one_if test) s.entries
+    ones test same = measured-bare (one_if test) s.entries (λ body. ap (λ (b : Bool). cond {A = ℕ} b 1 0) (same body))
+
+pub passed-bare : (s : State) → passed (bare s) ≡ passed s
+unfolding passed
+passed-bare s = ap (λ c. first_passed (layout_limits c ++ answer_limits c)) (counts-bare s)
+
+-- What stands in a directory.
+
+order-bare : (es : List Entry) → map entry_line (in_order (map (edited bare_body) es)) ≡ map entry_line (in_order es)
+order-bare es = ap (map entry_line) (ordered es) ∙ lines (in_order es)
+  where
+    put : (e : Entry) (es : List Entry) → put_in_order (edited bare_body e) (map (edited bare_body) es) ≡ map (edited bare_body) (put_in_order e es)
+    put e [] = refl
+    put e (x ∷ es) = elim (is_before e.name x.name) as (λ b. cond b (edited bare_body e ∷ edited bare_body x ∷ map (edited bare_body) es) (edited bare_body x ∷ put_in_order (edited bare_body e) (map (edited bare_body) es)) ≡ map (edited bare_body) (cond b (e ∷ x ∷ es) (x ∷ put_in_order e es))) [
+      | true ↦ refl
+      | false ↦ ap (λ (rest : List Entry). edited bare_body x ∷ rest) (put e es)
+    ]
+
+    ordered : (es : List Entry) → in_order (map (edited bare_body) es) ≡ map (edited bare_body) (in_order es)
+    ordered [] = refl
+    ordered (e ∷ es) = ap (put_in_order (edited bare_body e)) (ordered es) ∙ put e (in_order es)
+
+    lines : (es : List Entry) → map entry_line (map (edited bare_body) es) ≡ map entry_line es
+    lines [] = refl
+    lines (e ∷ es) = λ i. (bare-letter e.body i ++ codes " " ++ e.name) ∷ lines es i
+
+pub children-bare : (s : State) (dir : ℕ) → map entry_line (children (bare s) dir) ≡ map entry_line (children s dir)
+children-bare s dir = ap (λ (es : List Entry). map entry_line (in_order es)) (kept s.entries) ∙ order-bare (filter (λ (e : Entry). e.parent == dir) s.entries)
+  where
+    kept : (es : List Entry) → filter (λ (e : Entry). e.parent == dir) (map (edited bare_body) es) ≡ map (edited bare_body) (filter (λ (e : Entry). e.parent == dir) es)
+    kept [] = refl
+    kept (e ∷ es) = elim (e.parent == dir) as (λ b. cond b (edited bare_body e ∷ filter (λ (e : Entry). e.parent == dir) (map (edited bare_body) es)) (filter (λ (e : Entry). e.parent == dir) (map (edited bare_body) es)) ≡ map (edited bare_body) (cond b (e ∷ filter (λ (e : Entry). e.parent == dir) es) (filter (λ (e : Entry). e.parent == dir) es))) [
+      | true ↦ ap (λ (rest : List Entry). edited bare_body e ∷ rest) (kept es)
+      | false ↦ kept es
+    ]
+
+-- A tree is one where it is one without its marks.
+
+all-unmap : {X Y : Type 0} (P : Y → Type 0) (f : X → Y) (xs : List X) → AllByRecursion P (map f xs) → AllByRecursion (λ x. P (f x)) xs
+all-unmap P f [] h = tt
+all-unmap P f (x ∷ xs) h = (h.0, all-unmap P f xs h.1)
+
+numbers-unmap : (above : ℕ) (es : List Entry) (next : ℕ) → NumbersRise above (map (edited bare_body) es) next → NumbersRise above es next
+numbers-unmap above [] next h = h
+numbers-unmap above (e ∷ es) next h = (h.0, numbers-unmap e.number es next h.1)
+
+differ-unmap : (es : List Entry) → NamesDiffer (map (edited bare_body) es) → NamesDiffer es
+differ-unmap [] h = tt
+differ-unmap (e ∷ es) h = (sym (child-mapped bare_body es e.parent e.name) ∙ h.0, differ-unmap es h.1)
+
+all-weaker : {X : Type 0} (P Q : X → Type 0) (xs : List X) → ((x : X) → P x → Q x) → AllByRecursion P xs → AllByRecursion Q xs
+all-weaker P Q [] f h = tt
+all-weaker P Q (x ∷ xs) f h = (f x h.0, all-weaker P Q xs f h.1)
+
+pub layout-unbare : (s : State) → IsLayout (bare s) → IsLayout s
+layout-unbare s h = record {
+  numbers = numbers-unmap 0 s.entries s.next h.numbers;
+  names = all-unmap (λ (e : Entry). IsTrue (is_name e.name)) (edited bare_body) s.entries h.names;
+  parents = all-weaker (λ (e : Entry). IsTrue (is_directory_at (bare s).entries e.parent)) (λ (e : Entry). IsTrue (is_directory_at s.entries e.parent)) s.entries (λ e there. sym (directory-bare s e.parent) ∙ there) (all-unmap (λ (e : Entry). IsTrue (is_directory_at (bare s).entries e.parent)) (edited bare_body) s.entries h.parents);
+  differ = differ-unmap s.entries h.differ;
+  bodies = all-weaker (λ (e : Entry). IsSound (bare_body e.body)) (λ (e : Entry). IsSound e.body) s.entries (λ e sound. bare-sound e.body sound) (all-unmap (λ (e : Entry). IsSound e.body) (edited bare_body) s.entries h.bodies);
+  limits = sym (passed-bare s) ∙ h.limits;
+}
+
+pub layout-bare : (s : State) → IsLayout s → IsLayout (bare s)
+layout-bare s h = record {
+  numbers = layout.numbers;
+  names = layout.names;
+  parents = layout.parents;
+  differ = layout.differ;
+  bodies = layout.bodies;
+  limits = passed-bare s ∙ h.limits;
+}
+  where
+    layout : IsLayout (mapped bare_body s)
+    layout = mapped-layout bare_body s bare-measures sound-bare h

@@ -1,0 +1,237 @@
+-- Events keep what directories ask and how items are marked sound.
+use Rattle.std.proofs.Common.{◌≡◌, ℕ, Bool, true, false, List, [], ◌∷◌, ◌++◌, refl, ap, sym, ◌∙◌, eq-eqb}
+use Rattle.std.specs.Prelude.{◌==◌, ◌||◌, not, filter, Option, Some, None, IsTrue}
+use Rattle.std.specs.Option.{option_map, option_map_or}
+use Rattle.std.specs.List.{AllByRecursion, list_all}
+use Rattle.std.proofs.lemmas.Bool.{and_from, and_parts, eqb-false, not-true}
+use Rattle.hac_model.specs.Depends.{named_in, names_directory}
+use Rattle.hac_model.specs.Events.{accepted, added, apply, are_directories, asking, changed_at, edited, forgetting, forgotten, indexed, is_possible, marked, may_ask, next_dirty, plain_body, removed, reseated, rewritten, without}
+use Rattle.hac_model.specs.Formula.{Formula}
+use Rattle.hac_model.specs.Limits.{passed}
+use Rattle.hac_model.specs.Links.{has, is_item}
+use Rattle.hac_model.specs.Queries.{is_query}
+use Rattle.hac_model.specs.Tree.{entry_at, is_directory, is_directory_at, is_file, is_file_at, is_made_directory, query_in}
+use Rattle.hac_model.specs.Valid.{AreMarks, AsksWell, IsLayout, IsValid}
+use Rattle.hac_model.specs.declared.events.Event.{Event}
+use Rattle.hac_model.specs.declared.events.Event.TheVariants.{Mkdir, NewFile, Rewrite, Mark, Mv, Rm, Rmdir, Setq, Smkdir, Step, Unq}
+use Rattle.hac_model.specs.declared.marks.Kind.{Kind}
+use Rattle.hac_model.specs.declared.marks.Kind.TheVariants.{Transient, Permanent, Prohibited, Unlinked}
+use Rattle.hac_model.specs.declared.states.Body.{Body}
+use Rattle.hac_model.specs.declared.states.Body.TheVariants.{File, Dir, Semantic}
+use Rattle.hac_model.specs.declared.states.Entry.{Entry}
+use Rattle.hac_model.specs.declared.states.State.{State}
+use Rattle.hac_model.proofs.ChangeLemmas.{all-append, all-changed, all-filter, all-weaker, directory-append, directory-changed, directory-kept, entry_at-append, entry_at-kept, is_kept, test-changed}
+use Rattle.hac_model.proofs.CountLemmas.{indexed-keeps, rewritten-keeps}
+use Rattle.hac_model.proofs.MapLemmas.{all-map, directory-mapped, test-mapped}
+use Rattle.hac_model.proofs.MarkLemmas.{all-both, all-passes, forgetting-asks, marked-asks}
+use Rattle.hac_model.proofs.PathLemmas.{root-none}
+use Rattle.hac_model.proofs.TreeLemmas.{directory-no_file}
+use Rattle.hac_model.proofs.ValidLemmas.{accepted-parts, asking-kind, forgetting-measures, mark-parts, marked-kind, plain-kind, rmdir-parts, setq-parts, smkdir-parts}
+
+-- the directories of one state are directories of another
+abbrev pub DirectoriesStay : State → State → Type 0
+DirectoriesStay s t = (d : ℕ) → is_directory_at s.entries d ≡ true → is_directory_at t.entries d ≡ true
+
+abbrev pub ItemsStay : State → State → Type 0
+ItemsStay s t = (n : ℕ) → is_item s n ≡ true → is_item t n ≡ true
+
+directories-stay : (s t : State) (ds : List ℕ) → ((d : ℕ) → has ds d ≡ true → is_directory_at s.entries d ≡ true → is_directory_at t.entries d ≡ true) → are_directories s ds ≡ true → are_directories t ds ≡ true
+directories-stay s t [] stay h = refl
+directories-stay s t (d ∷ ds) stay h =
+    let parts = and_parts (is_directory_at s.entries d) (are_directories s ds) h in
+    and_from (is_directory_at t.entries d) (are_directories t ds)
+    (stay d (ap (λ (b : Bool). b || has ds d) (eq-eqb d d refl)) parts.0)
+    (directories-stay s t ds (λ e inside. stay e (or-right (d == e) (has ds e) inside)) parts.1)
+  where
+    or-right : (a b : Bool) → b ≡ true → (a || b) ≡ true
+    or-right true b h = refl
+    or-right false b h = h
+
+ask-stays : (s t : State) (query : Formula ℕ) → ((d : ℕ) → has (named_in query) d ≡ true → is_directory_at s.entries d ≡ true → is_directory_at t.entries d ≡ true) → may_ask s query ≡ true → may_ask t query ≡ true
+ask-stays s t query stay h =
+    let parts = and_parts (is_query query) (are_directories s (named_in query)) h in
+    and_from (is_query query) (are_directories t (named_in query)) parts.0 (directories-stay s t (named_in query) stay parts.1)
+
+marks-stay : (s t : State) (xs : List ℕ) → ItemsStay s t → AreMarks s xs → AreMarks t xs
+marks-stay s t xs items h = record { rise = h.rise; items = all-weaker (λ n. is_item s n ≡ true) (λ n. is_item t n ≡ true) xs items h.items }
+
+-- what a directory asks stays sound where directories and items stay
+pub asks-stays : (s t : State) (body : Body) → DirectoriesStay s t → ItemsStay s t → AsksWell s body → AsksWell t body
+asks-stays s t (Semantic query permanent prohibited) dirs items h = record {
+  fits = ask-stays s t query (λ d inside there. dirs d there) h.fits;
+  added = marks-stay s t permanent items h.added;
+  removed = marks-stay s t prohibited items h.removed;
+  apart = h.apart;
+}
+asks-stays s t other dirs items h = tt
+
+all-stay : (s t : State) → DirectoriesStay s t → ItemsStay s t → AllByRecursion (λ e. AsksWell s e.body) s.entries → AllByRecursion (λ e. AsksWell t e.body) s.entries
+all-stay s t dirs items h = all-weaker (λ e. AsksWell s e.body) (λ e. AsksWell t e.body) s.entries (λ e asks. asks-stays s t e.body dirs items asks) h
+
+-- An entry is added.
+
+file-append : (es : List Entry) (e : Entry) (n : ℕ) → is_file_at es n ≡ true → is_file_at (es ++ e ∷ []) n ≡ true
+file-append es e n h = elim (entry_at es n) as (λ o. entry_at es n ≡ o → option_map_or is_file (option_map (λ (e : Entry). e.body) o) false ≡ true → is_file_at (es ++ e ∷ []) n ≡ true) [
+  | None ↦ (λ found h. absurd cc)
+  | Some there ↦ (λ found h. ap (λ (o : Option Entry). option_map_or is_file (option_map (λ (e : Entry). e.body) o) false) (entry_at-append es e n there found) ∙ h)
+] refl h
+
+pub added-directories : (s : State) (dir : ℕ) (name : List ℕ) (body : Body) → DirectoriesStay s (added s dir name body)
+added-directories s dir name body d there = directory-append s.entries (record { number = s.next; parent = dir; name = name; body = body }) d there
+
+added-asks : (s : State) (dir : ℕ) (name : List ℕ) (body : Body) → IsValid s → AsksWell (added s dir name body) body → AllByRecursion (λ e. AsksWell (added s dir name body) e.body) (added s dir name body).entries
+added-asks s dir name body h asks =
+    let new : Entry = record { number = s.next; parent = dir; name = name; body = body } in
+    all-append (λ e. AsksWell (added s dir name body) e.body) s.entries new (all-stay s (added s dir name body) (added-directories s dir name body) (λ n there. file-append s.entries new n there) h.queries) asks
+
+-- A body is edited, or an entry goes elsewhere.
+
+changed-asks : (s : State) (n : ℕ) (change : Entry → Entry) → ((e : Entry) → (change e).number ≡ e.number) → ((e : Entry) → is_directory (change e).body ≡ is_directory e.body) → ((e : Entry) → is_file (change e).body ≡ is_file e.body) →
+    ((e : Entry) → AsksWell (changed_at s n change) e.body → AsksWell (changed_at s n change) (change e).body) → IsValid s → AllByRecursion (λ e. AsksWell (changed_at s n change) e.body) (changed_at s n change).entries
+changed-asks s n change numbers dirs files keeps h =
+    all-changed (λ e. AsksWell (changed_at s n change) e.body) n change s.entries keeps
+    (all-stay s (changed_at s n change) (λ d there. directory-changed n change s.entries d numbers dirs ∙ there) (λ m there. test-changed is_file n change s.entries m numbers files ∙ there) h.queries)
+
+rewritten-asks : (s : State) (text : List ℕ) (body : Body) → AsksWell s body → AsksWell s (rewritten text body)
+rewritten-asks s text (Semantic query permanent prohibited) h = h
+rewritten-asks s text other h = tt
+
+indexed-asks : (s : State) (body : Body) → AsksWell s body → AsksWell s (indexed body)
+indexed-asks s (Semantic query permanent prohibited) h = h
+indexed-asks s other h = tt
+
+asking-asks : (s : State) (query : Formula ℕ) (body : Body) → may_ask s query ≡ true → AsksWell s body → AsksWell s (asking query body)
+asking-asks s query Dir fits h = record { fits = fits; added = record { rise = tt; items = tt }; removed = record { rise = tt; items = tt }; apart = tt }
+asking-asks s query (Semantic old permanent prohibited) fits h = record { fits = fits; added = h.added; removed = h.removed; apart = h.apart }
+asking-asks s query other fits h = tt
+
+plain-asks : (s : State) (body : Body) → AsksWell s body → AsksWell s (plain_body body)
+plain-asks s (Semantic query permanent prohibited) h = tt
+plain-asks s other h = tt
+
+asking-file : (query : Formula ℕ) (body : Body) → is_file (asking query body) ≡ is_file body
+asking-file query Dir = refl
+asking-file query (Semantic old permanent prohibited) = refl
+asking-file query other = refl
+
+plain-file : (body : Body) → is_file (plain_body body) ≡ is_file body
+plain-file (Semantic query permanent prohibited) = refl
+plain-file other = refl
+
+marked-file : (n : ℕ) (kind : Kind) (body : Body) → is_file (marked n kind body) ≡ is_file body
+marked-file n Permanent (Semantic query permanent prohibited) = refl
+marked-file n Prohibited (Semantic query permanent prohibited) = refl
+marked-file n Transient (Semantic query permanent prohibited) = refl
+marked-file n Unlinked (Semantic query permanent prohibited) = refl
+marked-file n Permanent other = refl
+marked-file n Prohibited other = refl
+marked-file n Transient other = refl
+marked-file n Unlinked other = refl
+
+-- directories and items of a state in which a body was edited
+pub edited-directories : (s : State) (n : ℕ) (edit : Body → Body) → ((body : Body) → is_directory (edit body) ≡ is_directory body) → DirectoriesStay s (changed_at s n (edited edit))
+edited-directories s n edit kind d there = directory-changed n (edited edit) s.entries d (λ e. refl) (λ e. kind e.body) ∙ there
+
+edited-items : (s : State) (n : ℕ) (edit : Body → Body) → ((body : Body) → is_file (edit body) ≡ is_file body) → ItemsStay s (changed_at s n (edited edit))
+edited-items s n edit file m there = test-changed is_file n (edited edit) s.entries m (λ e. refl) (λ e. file e.body) ∙ there
+
+-- An entry goes.
+
+file-no_directory : (s : State) (file d : ℕ) → IsLayout s → is_file_at s.entries file ≡ true → is_directory_at s.entries d ≡ true → file ≡ d → ⊥
+file-no_directory s file d h there dir same =
+    let other : is_file_at s.entries d ≡ false = directory-no_file s.entries d (root-none s h) dir in
+    let never : true ≡ false = sym there ∙ ap (is_file_at s.entries) same ∙ other in cc
+
+-- without a file, of which no mark speaks any more
+forgotten-asks : (s : State) (file : ℕ) (body : Body) → IsLayout s → is_file_at s.entries file ≡ true → AsksWell s body → AsksWell (forgotten (removed s file) file) (forgetting file body)
+forgotten-asks s file (Semantic query permanent prohibited) h there asks =
+    let rest = forgetting-asks s file (Semantic query permanent prohibited) asks in
+    record {
+      fits = ask-stays s (forgotten (removed s file) file) query (λ d inside dir. directory-mapped (forgetting file) (filter (is_kept file) s.entries) d (forgetting-measures file).kind ∙ directory-kept file s.entries d (file-no_directory s file d h there dir) ∙ dir) asks.fits;
+      added = marks permanent rest.added;
+      removed = marks prohibited rest.removed;
+      apart = rest.apart;
+    }
+  where
+    t : State
+    t = forgotten (removed s file) file
+
+    item : (n : ℕ) → is_item s n ≡ true → not (n == file) ≡ true → is_item t n ≡ true
+    item n there other =
+        test-mapped is_file (forgetting file) (filter (is_kept file) s.entries) n (forgetting-measures file).file
+        ∙ ap (λ (o : Option Entry). option_map_or is_file (option_map (λ (e : Entry). e.body) o) false) (entry_at-kept file s.entries n (λ same. eqb-false n file (not-true (n == file) other) (sym same)))
+        ∙ there
+
+    marks : (xs : List ℕ) → AreMarks s (without file xs) → AreMarks t (without file xs)
+    marks xs m = record {
+      rise = m.rise;
+      items = all-both (λ n. is_item s n ≡ true) (λ n. not (n == file) ≡ true) (λ n. is_item t n ≡ true) (without file xs) item m.items (all-passes (λ other. not (other == file)) xs);
+    }
+forgotten-asks s file other h there asks = tt
+
+-- without a directory that no query names
+unreferenced-asks : (s : State) (dir : ℕ) (e : Entry) → IsLayout s → is_made_directory s.entries dir ≡ true → not (names_directory dir e) ≡ true → AsksWell s e.body → AsksWell (removed s dir) e.body
+unreferenced-asks s dir e h made apart asks = body e.body (not-true (names_directory dir e) apart) asks
+  where
+    there : is_directory_at s.entries dir ≡ true
+    there = or-right (dir == 0) (is_made_directory s.entries dir) made
+      where
+        or-right : (a b : Bool) → b ≡ true → (a || b) ≡ true
+        or-right true b h = refl
+        or-right false b h = h
+
+    item : ItemsStay s (removed s dir)
+    item n file = ap (λ (o : Option Entry). option_map_or is_file (option_map (λ (e : Entry). e.body) o) false) (entry_at-kept dir s.entries n (λ same. file-no_directory s n dir h file there (sym same))) ∙ file
+
+    body : (b : Body) → option_map_or (λ query. has (named_in query) dir) (query_in b) false ≡ false → AsksWell s b → AsksWell (removed s dir) b
+    body (Semantic query permanent prohibited) apart asks = record {
+      fits = ask-stays s (removed s dir) query (λ d inside stands. directory-kept dir s.entries d (λ same. let never : true ≡ false = sym inside ∙ ap (has (named_in query)) (sym same) ∙ apart in cc) ∙ stands) asks.fits;
+      added = marks-stay s (removed s dir) permanent item asks.added;
+      removed = marks-stay s (removed s dir) prohibited item asks.removed;
+      apart = asks.apart;
+    }
+    body other apart asks = tt
+
+all-unreferenced : (s : State) (dir : ℕ) (es : List Entry) → IsLayout s → is_made_directory s.entries dir ≡ true → list_all (λ e. not (names_directory dir e)) es ≡ true → AllByRecursion (λ e. AsksWell s e.body) es → AllByRecursion (λ e. AsksWell (removed s dir) e.body) es
+all-unreferenced s dir [] h made apart asks = tt
+all-unreferenced s dir (e ∷ es) h made apart asks =
+    let parts = and_parts (not (names_directory dir e)) (list_all (λ e. not (names_directory dir e)) es) apart in
+    (unreferenced-asks s dir e h made parts.0 asks.0, all-unreferenced s dir es h made parts.1 asks.1)
+
+-- the queries and marks stay sound
+pub apply-queries : (s : State) (event : Event) → IsValid s → IsTrue (accepted s event) → AllByRecursion (λ e. AsksWell (apply s event) e.body) (apply s event).entries
+apply-queries s (Mkdir dir name) h ok = added-asks s dir name Dir h tt
+apply-queries s (NewFile dir name text) h ok = added-asks s dir name (File text true None) h tt
+apply-queries s (Rewrite file text) h ok = changed-asks s file (edited (rewritten text)) (λ e. refl) (λ e. (rewritten-keeps text).directories e.body) (λ e. (rewritten-keeps text).files e.body) (λ e there. rewritten-asks (apply s (Rewrite file text)) text e.body there) h
+apply-queries s (Smkdir dir name query told) h ok =
+    let parts = accepted-parts (is_possible s (Smkdir dir name query told)) (passed (added s dir name (Semantic query [] []))) ok in
+    let fits = (smkdir-parts s dir name query told parts.0).1 in
+    let t : State = added s dir name (Semantic query [] []) in
+    added-asks s dir name (Semantic query [] []) h (record { fits = ask-stays s t query (λ d inside there. added-directories s dir name (Semantic query [] []) d there) fits; added = record { rise = tt; items = tt }; removed = record { rise = tt; items = tt }; apart = tt })
+apply-queries s (Setq dir query told) h ok =
+    let parts = accepted-parts (is_possible s (Setq dir query told)) (passed (changed_at s dir (edited (asking query)))) ok in
+    let t : State = changed_at s dir (edited (asking query)) in
+    let fits = ask-stays s t query (λ d inside there. edited-directories s dir (asking query) (asking-kind query) d there) (setq-parts s dir query told parts.0).1 in
+    changed-asks s dir (edited (asking query)) (λ e. refl) (λ e. asking-kind query e.body) (λ e. asking-file query e.body) (λ e there. asking-asks t query e.body fits there) h
+apply-queries s (Unq dir) h ok = changed-asks s dir (edited plain_body) (λ e. refl) (λ e. plain-kind e.body) (λ e. plain-file e.body) (λ e there. plain-asks (apply s (Unq dir)) e.body there) h
+apply-queries s (Mark mark) h ok =
+    let edit : Body → Body = marked mark.item mark.kind in
+    let parts = accepted-parts (is_possible s (Mark mark)) (passed (changed_at s mark.dir (edited edit))) ok in
+    let item = edited-items s mark.dir edit (marked-file mark.item mark.kind) mark.item (mark-parts s mark.dir mark.item mark.kind parts.0).0 in
+    changed-asks s mark.dir (edited edit) (λ e. refl) (λ e. marked-kind mark.item mark.kind e.body) (λ e. marked-file mark.item mark.kind e.body) (λ e there. marked-asks (apply s (Mark mark)) mark.item mark.kind e.body item there) h
+apply-queries s (Mv entry dir name) h ok = changed-asks s entry (reseated dir name) (λ e. refl) (λ e. refl) (λ e. refl) (λ e there. there) h
+apply-queries s (Rm file) h ok =
+    let parts = accepted-parts (is_file_at s.entries file) (passed (forgotten (removed s file) file)) ok in
+    let t : State = forgotten (removed s file) file in
+    all-map (λ e. AsksWell t e.body) (edited (forgetting file)) (filter (is_kept file) s.entries)
+    (all-filter (λ e. AsksWell t (forgetting file e.body)) (is_kept file) s.entries
+    (all-weaker (λ e. AsksWell s e.body) (λ e. AsksWell t (forgetting file e.body)) s.entries (λ e asks. forgotten-asks s file e.body h.layout parts.0 asks) h.queries))
+apply-queries s (Rmdir dir) h ok =
+    let parts = accepted-parts (is_possible s (Rmdir dir)) (passed (removed s dir)) ok in
+    let fits = rmdir-parts s dir parts.0 in
+    all-filter (λ e. AsksWell (removed s dir) e.body) (is_kept dir) s.entries (all-unreferenced s dir s.entries h.layout fits.0 fits.2 h.queries)
+apply-queries s Step h ok = elim (next_dirty s.entries) as (λ o. AllByRecursion (λ e. AsksWell (option_map_or (λ file. changed_at s file (edited indexed)) o s) e.body) (option_map_or (λ file. changed_at s file (edited indexed)) o s).entries) [
+  | None ↦ h.queries
+  | Some file ↦ changed-asks s file (edited indexed) (λ e. refl) (λ e. indexed-keeps.directories e.body) (λ e. indexed-keeps.files e.body) (λ e there. indexed-asks (changed_at s file (edited indexed)) e.body there) h
+]
+apply-queries s other h ok = absurd cc

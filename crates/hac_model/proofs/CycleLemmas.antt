@@ -1,0 +1,90 @@
+-- Which directories reach which, and how a state stays without one that depends on itself.
+use Rattle.std.proofs.Common.{◌≡◌, ℕ, zero, suc, ◌≤◌, Bool, true, false, cond, List, [], ◌∷◌, refl, ap, sym, ◌∙◌, arith, eq-eqb, inl, inr}
+use Rattle.std.specs.Prelude.{◌⊎◌, ◌==◌, ◌||◌, Option, Some, None, option_and_then}
+use Rattle.std.specs.List.{list_any}
+use Rattle.std.specs.Option.{option_map, option_map_or}
+use Rattle.std.proofs.lemmas.Bool.{eqb-true}
+use Rattle.hac_model.specs.Depends.{Among, IsAcyclic, Leads, Reaches, depends, first_reaching, leads_within, named_in, reaches}
+use Rattle.hac_model.specs.Limits.{semantic_count}
+use Rattle.hac_model.specs.Tree.{entry_at, query_in}
+use Rattle.hac_model.specs.declared.states.Entry.{Entry}
+use Rattle.hac_model.specs.declared.states.State.{State}
+use Rattle.hac_model.proofs.LinkLemmas.{walk-short}
+
+or-left : (a b : Bool) → a ≡ true → (a || b) ≡ true
+or-left true b h = refl
+or-left false b h = absurd cc
+
+or-right : (a b : Bool) → b ≡ true → (a || b) ≡ true
+or-right true b h = refl
+or-right false b h = h
+
+or-cases : (a b : Bool) → (a || b) ≡ true → (a ≡ true) ⊎ (b ≡ true)
+or-cases true b h = inl refl
+or-cases false b h = inr h
+
+-- a test that a member passes is passed by some member
+any-among : (test : ℕ → Bool) (xs : List ℕ) (n : ℕ) → Among xs n → test n ≡ true → list_any test xs ≡ true
+any-among test [] n inside passes = absurd inside
+any-among test (x ∷ xs) n (inl same) passes = or-left (test x) (list_any test xs) (ap test same ∙ passes)
+any-among test (x ∷ xs) n (inr more) passes = or-right (test x) (list_any test xs) (any-among test xs n more passes)
+
+among-any : (test : ℕ → Bool) (xs : List ℕ) → list_any test xs ≡ true → (n : ℕ) × Among xs n × (test n ≡ true)
+among-any test [] h = absurd cc
+among-any test (x ∷ xs) h = elim (or-cases (test x) (list_any test xs) h) [
+  | inl here ↦ (x, inl refl, here)
+  | inr later ↦ (let more = among-any test xs later in (more.0, inr more.1, more.2))
+]
+
+-- a walk within the bound is seen
+pub walk-within : (edges : ℕ → List ℕ) (most k from to : ℕ) → k ≤ most → Leads edges k from to → leads_within edges most from to ≡ true
+walk-within edges zero zero from to few h = eq-eqb from to h
+walk-within edges zero (suc k) from to few h = absurd (omega arith)
+walk-within edges (suc most) zero from to few h = or-left (from == to) (list_any (λ next. leads_within edges most next to) (edges from)) (eq-eqb from to h)
+walk-within edges (suc most) (suc k) from to few (next, edge, more) =
+    or-right (from == to) (list_any (λ next. leads_within edges most next to) (edges from))
+    (any-among (λ next. leads_within edges most next to) (edges from) next edge (walk-within edges most k next to (omega arith) more))
+
+-- and what is seen is a walk
+pub within-walk : (edges : ℕ → List ℕ) (most from to : ℕ) → leads_within edges most from to ≡ true → Reaches edges from to
+within-walk edges zero from to h = (zero, eqb-true from to h)
+within-walk edges (suc most) from to h = elim (or-cases (from == to) (list_any (λ next. leads_within edges most next to) (edges from)) h) [
+  | inl same ↦ (zero, eqb-true from to same)
+  | inr on ↦ (
+      let next = among-any (λ next. leads_within edges most next to) (edges from) on in
+      let rest = within-walk edges most next.0 to next.2 in
+      (suc rest.0, (next.0, next.1, rest.1)))
+]
+
+-- what is reached is told so, and what isn't isn't
+pub reaches-told : (s : State) (from to : ℕ) → IsAcyclic s → Reaches (depends s) from to → reaches s from to ≡ true
+unfolding reaches
+reaches-told s from to acyclic walk = walk-within (depends s) (semantic_count s.entries) walk.0 from to (walk-short s walk.0 from to acyclic walk.1) walk.1
+
+pub reaches-walk : (s : State) (from to : ℕ) → reaches s from to ≡ true → Reaches (depends s) from to
+unfolding reaches
+reaches-walk s from to h = within-walk (depends s) (semantic_count s.entries) from to h
+
+-- where none of the directories is told to reach, none does
+pub none-reaching : (s : State) (dir : ℕ) (others : List ℕ) → IsAcyclic s → first_reaching s dir others ≡ None → (e : ℕ) → Among others e → Reaches (depends s) e dir → ⊥
+unfolding first_reaching
+none-reaching s dir [] acyclic none e inside walk = absurd inside
+none-reaching s dir (other ∷ others) acyclic none e inside walk =
+    elim (reaches s other dir) as (λ b. reaches s other dir ≡ b → cond b (Some other) (first_reaching s dir others) ≡ None → ⊥) [
+      | true ↦ (λ there none. absurd cc)
+      | false ↦ (λ apart none. first inside apart none (λ more. none-reaching s dir others acyclic none e more walk))
+    ] refl none
+  where
+    first : (other ≡ e) ⊎ Among others e → reaches s other dir ≡ false → first_reaching s dir others ≡ None → (Among others e → ⊥) → ⊥
+    first (inl same) apart none rest =
+        let never : true ≡ false = sym (reaches-told s e dir acyclic walk) ∙ ap (λ (n : ℕ). reaches s n dir) (sym same) ∙ apart in
+        absurd cc
+    first (inr more) apart none rest = rest more
+
+-- what an entry depends on
+abbrev pub edges_in : Option Entry → List ℕ
+edges_in None = []
+edges_in (Some e) = option_map_or (λ q. e.parent ∷ named_in q) (query_in e.body) []
+
+pub depends-is : (s : State) (d : ℕ) → depends s d ≡ edges_in (entry_at s.entries d)
+depends-is s d = elim (entry_at s.entries d) as (λ o. option_map_or (λ q. option_map_or (λ e. e.parent) o 0 ∷ named_in q) (option_and_then query_in (option_map (λ (e : Entry). e.body) o)) [] ≡ edges_in o) [ None ↦ refl | Some e ↦ refl ]

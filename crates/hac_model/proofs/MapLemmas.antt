@@ -1,0 +1,145 @@
+-- What is looked up after the bodies of all entries were edited.
+use Rattle.std.proofs.Common.{◌≡◌, ℕ, zero, suc, Bool, true, false, cond, List, [], ◌∷◌, length, map, reverse, refl, ap, sym, ◌∙◌, arith}
+use Rattle.std.specs.Prelude.{◌==◌, ◌&&◌, ◌||◌, ◌++◌, Option, Some, None, IsTrue, is_some}
+use Rattle.std.specs.Option.{option_map, option_map_or}
+use Rattle.std.specs.List.{AllByRecursion, list_all}
+use Rattle.std.specs.Str.{bytes_eq}
+use Rattle.hac_model.specs.Events.{edited}
+use Rattle.hac_model.specs.Limits.{answer_limits, are_paths_short, counts, directory_count, file_count, first_passed, layout_limits, long_paths, passed, semantic_count, text_size, weight}
+use Rattle.hac_model.specs.Limits as limits_of
+use Rattle.hac_model.specs.Names.{is_name}
+use Rattle.hac_model.specs.Tree.{ancestors, body_at, child, entry_at, is_directory, is_directory_at, is_file, is_path_short, lineage, path_of, query_in}
+use Rattle.hac_model.specs.Valid.{IsLayout, IsSound, NamesDiffer, NumbersRise}
+use Rattle.hac_model.specs.declared.limits.LimitWord.TheVariants.{Texts, Dirs, Semantics, Path, Items, Numbers}
+use Rattle.hac_model.specs.declared.limits.TheConstants.{DIRS_LIMIT, ITEMS_LIMIT, NUMBERS_LIMIT, SEMANTICS_LIMIT, TEXTS_LIMIT}
+use Rattle.hac_model.specs.declared.states.Body.{Body}
+use Rattle.hac_model.specs.declared.states.Entry.{Entry}
+use Rattle.hac_model.specs.declared.states.State.{State}
+use Rattle.hac_model.proofs.ChangeLemmas.{all-weaker}
+use Rattle.hac_model.proofs.CountLemmas.{directory_count-is, is_queried, measured, measured-cons, one_if}
+use Rattle.hac_model.proofs.DepthLemmas.{names_of, short-names}
+use Rattle.hac_model.proofs.PathLemmas.{ancestors_by, limit, lineage-is, path-names}
+
+pub all-map : {X Y : Type 0} (P : Y → Type 0) (f : X → Y) (xs : List X) → AllByRecursion (λ x. P (f x)) xs → AllByRecursion P (map f xs)
+all-map P f [] h = tt
+all-map P f (x ∷ xs) h = (h.0, all-map P f xs h.1)
+
+pub entry_at-mapped : (edit : Body → Body) (es : List Entry) (n : ℕ) → entry_at (map (edited edit) es) n ≡ option_map (edited edit) (entry_at es n)
+entry_at-mapped edit [] n = refl
+entry_at-mapped edit (e ∷ es) n =
+    ap (λ (o : Option Entry). cond (e.number == n) (Some (edited edit e)) o) (entry_at-mapped edit es n)
+    ∙ (elim (e.number == n) as (λ b. cond b (Some (edited edit e)) (option_map (edited edit) (entry_at es n)) ≡ option_map (edited edit) (cond b (Some e) (entry_at es n))) [ true ↦ refl | false ↦ refl ])
+
+-- a test of bodies that the edit leaves as it is
+pub test-mapped : (test : Body → Bool) (edit : Body → Body) (es : List Entry) (n : ℕ) → ((body : Body) → test (edit body) ≡ test body) → option_map_or test (body_at (map (edited edit) es) n) false ≡ option_map_or test (body_at es n) false
+test-mapped test edit es n same =
+    ap (λ (o : Option Entry). option_map_or test (option_map (λ (e : Entry). e.body) o) false) (entry_at-mapped edit es n)
+    ∙ (elim (entry_at es n) as (λ o. option_map_or test (option_map (λ (e : Entry). e.body) (option_map (edited edit) o)) false ≡ option_map_or test (option_map (λ (e : Entry). e.body) o) false) [
+      | None ↦ refl
+      | Some e ↦ same e.body
+    ])
+
+pub directory-mapped : (edit : Body → Body) (es : List Entry) (d : ℕ) → ((body : Body) → is_directory (edit body) ≡ is_directory body) → is_directory_at (map (edited edit) es) d ≡ is_directory_at es d
+directory-mapped edit es d same = ap (λ (b : Bool). d == 0 || b) (test-mapped is_directory edit es d same)
+
+pub child-mapped : (edit : Body → Body) (es : List Entry) (dir : ℕ) (name : List ℕ) → child (map (edited edit) es) dir name ≡ child es dir name
+child-mapped edit [] dir name = refl
+child-mapped edit (e ∷ es) dir name = ap (λ (rest : Option ℕ). cond (e.parent == dir && bytes_eq e.name name) (Some e.number) rest) (child-mapped edit es dir name)
+
+pub differ-mapped : (edit : Body → Body) (es : List Entry) → NamesDiffer es → NamesDiffer (map (edited edit) es)
+differ-mapped edit [] h = tt
+differ-mapped edit (e ∷ es) h = (child-mapped edit es e.parent e.name ∙ h.0, differ-mapped edit es h.1)
+
+pub numbers-mapped : (edit : Body → Body) (above : ℕ) (es : List Entry) (next : ℕ) → NumbersRise above es next → NumbersRise above (map (edited edit) es) next
+numbers-mapped edit above [] next h = h
+numbers-mapped edit above (e ∷ es) next h = (h.0, numbers-mapped edit e.number es next h.1)
+
+ancestors-mapped : (edit : Body → Body) (k : ℕ) (es : List Entry) (n : ℕ) → names_of (ancestors k (map (edited edit) es) n) ≡ names_of (ancestors k es n)
+ancestors-mapped edit zero es n = refl
+ancestors-mapped edit (suc k) es n =
+    ap (λ (o : Option Entry). names_of (ancestors_by k (map (edited edit) es) o)) (entry_at-mapped edit es n)
+    ∙ (elim (entry_at es n) as (λ o. names_of (ancestors_by k (map (edited edit) es) (option_map (edited edit) o)) ≡ names_of (ancestors_by k es o)) [
+      | None ↦ refl
+      | Some e ↦ ap (λ (names : List (List ℕ)). e.name ∷ names) (ancestors-mapped edit k es e.parent)
+    ])
+
+pub lineage-mapped : (edit : Body → Body) (es : List Entry) (n : ℕ) → names_of (lineage (map (edited edit) es) n) ≡ names_of (lineage es n)
+lineage-mapped edit es n = ap names_of (lineage-is (map (edited edit) es) n) ∙ ancestors-mapped edit (suc limit) es n ∙ ap names_of (sym (lineage-is es n))
+
+short-mapped : (edit : Body → Body) (es : List Entry) (n : ℕ) → is_path_short (map (edited edit) es) n ≡ is_path_short es n
+short-mapped edit es n = short-names (map (edited edit) es) es n n (ap length (lineage-mapped edit es n))
+
+pub paths-mapped : (edit : Body → Body) (es : List Entry) → are_paths_short (map (edited edit) es) ≡ are_paths_short es
+paths-mapped edit es = each es
+  where
+    each : (fs : List Entry) → list_all (λ (e : Entry). is_path_short (map (edited edit) es) e.number) (map (edited edit) fs) ≡ list_all (λ (e : Entry). is_path_short es e.number) fs
+    each [] = refl
+    each (f ∷ fs) = λ i. short-mapped edit es f.number i && each fs i
+
+-- the state in which the bodies were edited
+abbrev pub mapped : (Body → Body) → State → State
+mapped edit s = record s { entries = map (edited edit) s.entries }
+
+pub path_of-mapped : (edit : Body → Body) (s : State) (n : ℕ) → path_of (mapped edit s) n ≡ path_of s n
+path_of-mapped edit s n = path-names (mapped edit s) n ∙ ap reverse (lineage-mapped edit s.entries n) ∙ sym (path-names s n)
+
+-- An edit that keeps kinds and queries, and makes no text longer.
+pub record KeepsMeasures (edit : Body → Body) : Type 0 where
+  pub kind : (body : Body) → is_directory (edit body) ≡ is_directory body
+  pub file : (body : Body) → is_file (edit body) ≡ is_file body
+  pub queried : (body : Body) → is_some (query_in (edit body)) ≡ is_some (query_in body)
+  pub texts : (body : Body) → weight (edit body) ≡ weight body
+
+measured-mapped : (f : Body → ℕ) (edit : Body → Body) (es : List Entry) → ((body : Body) → f (edit body) ≡ f body) → measured f (map (edited edit) es) ≡ measured f es
+measured-mapped f edit [] same = refl
+measured-mapped f edit (e ∷ es) same =
+    let here : f (edit e.body) ≡ f e.body = same e.body in
+    omega (arith, measured-cons f (edited edit e) (map (edited edit) es), measured-cons f e es, here, measured-mapped f edit es same)
+
+-- the limits are told as before
+counts-mapped : (edit : Body → Body) (s : State) → KeepsMeasures edit → first_passed (layout_limits (counts (mapped edit s)) ++ answer_limits (counts (mapped edit s))) ≡ first_passed (layout_limits (counts s) ++ answer_limits (counts s))
+counts-mapped edit s keeps = λ i. first_passed (
+    limits_of.limit (texts i) TEXTS_LIMIT Texts ∷ limits_of.limit (dirs i) DIRS_LIMIT Dirs ∷ limits_of.limit (semantics i) SEMANTICS_LIMIT Semantics
+    ∷ limits_of.limit (paths i) 0 Path ∷ limits_of.limit (items i) ITEMS_LIMIT Items ∷ limits_of.limit s.next NUMBERS_LIMIT Numbers ∷ [])
+  where
+    es : List Entry
+    es = s.entries
+
+    ones : (test : Body → Bool) → ((body : Body) → test (edit body) ≡ test body) → measured (one_if test) (map (edited edit) es) ≡ measured (one_if test) es
+    ones test same = measured-mapped (one_if test) edit es (λ body. ap (λ (b : Bool). cond {A = ℕ} b 1 0) (same body))
+
+    texts : text_size (map (edited edit) es) ≡ text_size es
+    texts = measured-mapped weight edit es keeps.texts
+
+    dirs : directory_count (map (edited edit) es) ≡ directory_count es
+    dirs = omega (arith, ones is_directory keeps.kind, directory_count-is es, directory_count-is (map (edited edit) es))
+
+    semantics : semantic_count (map (edited edit) es) ≡ semantic_count es
+    semantics = ones is_queried keeps.queried
+
+    items : file_count (map (edited edit) es) ≡ file_count es
+    items = ones is_file keeps.file
+
+    paths : long_paths (map (edited edit) es) ≡ long_paths es
+    paths = ap (λ (b : Bool). cond {A = ℕ} b 0 1) (paths-mapped edit es)
+
+pub passed-mapped : (edit : Body → Body) (s : State) → KeepsMeasures edit → passed (mapped edit s) ≡ passed s
+unfolding passed
+passed-mapped edit s keeps = counts-mapped edit s keeps
+
+pub mapped-passes : (edit : Body → Body) (s : State) → KeepsMeasures edit → passed s ≡ None → passed (mapped edit s) ≡ None
+mapped-passes edit s keeps limits = passed-mapped edit s keeps ∙ limits
+
+pub measures-passed : (edit : Body → Body) (s : State) → KeepsMeasures edit → passed (mapped edit s) ≡ None → passed s ≡ None
+measures-passed edit s keeps limits = sym (passed-mapped edit s keeps) ∙ limits
+
+-- and a tree stays one
+pub mapped-layout : (edit : Body → Body) (s : State) → KeepsMeasures edit → ((body : Body) → IsSound body → IsSound (edit body)) → IsLayout s → IsLayout (mapped edit s)
+mapped-layout edit s keeps sound h = record {
+  numbers = numbers-mapped edit 0 s.entries s.next h.numbers;
+  names = all-map (λ e. IsTrue (is_name e.name)) (edited edit) s.entries h.names;
+  parents = all-map (λ e. IsTrue (is_directory_at (map (edited edit) s.entries) e.parent)) (edited edit) s.entries (all-weaker (λ e. IsTrue (is_directory_at s.entries e.parent)) (λ e. IsTrue (is_directory_at (map (edited edit) s.entries) e.parent)) s.entries (λ e there. directory-mapped edit s.entries e.parent keeps.kind ∙ there) h.parents);
+  differ = differ-mapped edit s.entries h.differ;
+  bodies = all-map (λ e. IsSound e.body) (edited edit) s.entries (all-weaker (λ e. IsSound e.body) (λ e. IsSound (edit e.body)) s.entries (λ e there. sound e.body there) h.bodies);
+  limits = mapped-passes edit s keeps h.limits;
+}
