@@ -7,7 +7,8 @@ use Rattle.std.proofs.lemmas.List.{append-nil, length-append}
 use Rattle.hac_model.specs.Fields.{◌>>=◌, num, nothing, way_at, choice_at}
 use Rattle.hac_model.specs.Formula.{Formula}
 use Rattle.hac_model.specs.Formula as query
-use Rattle.hac_model.specs.QueryFields.{Token, word_field, token_part, token_ways, token_field, term_size, term_count, letter_count, not_count, terms_fit, query_text, Room, room_after, is_barred, token_at, tokens_at, joined, put, built, first_built, query_at, query_fits, query_field}
+use Rattle.hac_model.specs.Queries.{term_size, term_count, letter_count, not_count}
+use Rattle.hac_model.specs.QueryFields.{Token, word_field, token_part, token_ways, token_field, terms_fit, query_text, Room, room_after, is_barred, token_at, tokens_at, joined, put, built, first_built, query_at, query_fits, query_field}
 use Rattle.hac_model.specs.QueryFields as token
 use Rattle.hac_model.specs.Words.{is_word}
 use Rattle.hac_model.specs.declared.terms.Term as asked

@@ -1,7 +1,8 @@
 //! Queries. Their parts are read one by one, and then joined, so that no bytes make this go deep.
 ghost use Rattle.std.specs.Prelude.{◌≡◌, ◌∷◌, [], IfOk, OnOk, length, reverse};
 ghost use Rattle.hac_model.specs.Fields.{failing_at};
-ghost use Rattle.hac_model.specs.QueryFields.{built, put, query_field, term_size, token_at, tokens_at, word_field};
+ghost use Rattle.hac_model.specs.Queries.{term_size};
+ghost use Rattle.hac_model.specs.QueryFields.{built, put, query_field, token_at, tokens_at, word_field};
 ghost use Rattle.event_codec.specs.Reading.{Gives, GivesSeen};
 ghost use Rattle.event_codec.specs.Tokens.{TakesTwo, token_of, tokens_of};
 

@@ -1,6 +1,6 @@
 //! What may still come of a query.
 ghost use Rattle.std.specs.Prelude.{◌≡◌, ◌∷◌, [], ◌&&◌, ◌-◌, nat_le, if◌then◌else◌, IfOk, length};
-ghost use Rattle.hac_model.specs.QueryFields.{term_size};
+ghost use Rattle.hac_model.specs.Queries.{term_size};
 ghost use Rattle.event_codec.specs.Tokens.{Takes, room_of, token_of};
 
 use crate::queries::Token;

@@ -12,8 +12,9 @@ use Rattle.hac_model.specs.Grammar.{IsPath, AllPathBytes, is_control}
 use Rattle.hac_model.specs.Names.{is_name, is_name_byte}
 use Rattle.hac_model.specs.PathWords.{word_of}
 use Rattle.hac_model.specs.Paths.{are_names, path_text, slashed}
-use Rattle.hac_model.specs.QueryReading.{read_on, start, placed, named, worded, term_count, limited_query, spelled_query, read_query}
-use Rattle.hac_model.specs.QueryText.{are_terms, renamed}
+use Rattle.hac_model.specs.QueryReading.{read_on, start, placed, named, worded, limited_query, spelled_query, read_query}
+use Rattle.hac_model.specs.Queries.{are_terms, term_count}
+use Rattle.hac_model.specs.QueryText.{renamed}
 use Rattle.hac_model.specs.declared.limits.LimitWord.{LimitWord}
 use Rattle.hac_model.specs.declared.limits.TheConstants.{QUERY_LIMIT, TERMS_LIMIT, NESTING_LIMIT}
 use Rattle.hac_model.specs.declared.paths.PathWord.{PathWord}

@@ -10,8 +10,8 @@ use Rattle.std.proofs.lemmas.Slice.Eq.{bytes_eq-Decides}
 use Rattle.hac_model.specs.Formula.{Formula}
 use Rattle.hac_model.specs.Formula as formula
 use Rattle.hac_model.specs.Grammar.{query, and_rule, not_rule, Tree, of_and, or, of_not, and, of_prim, negation, group, leaf, Token, Open, Close, And, Or, Not, Of, Leaf, Word, Prefix, Dir, tokens, meaning, Spells, SpellAll, EndsRun, Ends, IsRun, AllWordBytes, escaped, Reads}
-use Rattle.hac_model.specs.Queries.{is_operator}
-use Rattle.hac_model.specs.QueryText.{is_or, is_joined, around, query_text, are_terms}
+use Rattle.hac_model.specs.Queries.{are_terms, is_operator}
+use Rattle.hac_model.specs.QueryText.{is_or, is_joined, around, query_text}
 use Rattle.hac_model.specs.Words.{has_bytes, is_word, is_word_byte, is_lower_word_byte, lower_case}
 use Rattle.hac_model.specs.declared.reading.Part.{Part}
 use Rattle.hac_model.specs.declared.terms.Term.TheVariants as term

@@ -6,8 +6,9 @@ use Rattle.hac_model.specs.Formula.{Formula}
 use Rattle.hac_model.specs.Formula as formula
 use Rattle.hac_model.specs.Grammar.{Token, Open, Tree, query, tokens, meaning, SpellAll, IsFault, IsPath, Reads}
 use Rattle.hac_model.specs.Paths.{are_names}
+use Rattle.hac_model.specs.Queries.{are_terms}
 use Rattle.hac_model.specs.QueryReading.{read_on, start, read_query, is_spelled_query}
-use Rattle.hac_model.specs.QueryText.{are_terms, query_text, renamed}
+use Rattle.hac_model.specs.QueryText.{query_text, renamed}
 use Rattle.hac_model.specs.declared.paths.PathWord.{PathWord}
 use Rattle.hac_model.specs.declared.replies.Refusal.{Refusal}
 use Rattle.hac_model.specs.declared.replies.Refusal.TheVariants.{Limit}
@@ -57,7 +58,8 @@ ParenthesesAreNeeded =
     (asked : Formula (List ℕ)) → are_terms asked ≡ true → ArePaths asked → (t : Tree query) × SpellAll (tokens t) (query_text asked) × ((meaning t).query ≡ asked)
     × ((other : Tree query) → (meaning other).query ≡ asked → opened (tokens t) ≤ opened (tokens other))
 
--- a query that is read has words in lower case, directories that begin at the root, and no more terms than it may
+-- a query that is read holds no more than a query may: its words are in lower case, its terms, letters and `NOT`s are few
+-- enough, and its directories begin at the root
 abbrev pub ReadQueriesAreSpelled : Type 0
 ReadQueriesAreSpelled = (bytes : List ℕ) (asked : Formula PathWord) → read_query bytes ≡ Ok asked → is_spelled_query asked ≡ true
 

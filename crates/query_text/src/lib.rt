@@ -2,7 +2,6 @@
 //! is for others to say.
 #![tactic(auto)]
 
-mod barring;
 mod faults;
 mod joining;
 mod kinds;
@@ -12,7 +11,6 @@ mod printing;
 mod reading;
 mod stepping;
 
-pub use barring::without_directories;
 pub use faults::QueryFault;
 pub use paths::{Paths, Told};
 pub use printing::print;

@@ -1,5 +1,6 @@
 //! Queries as they are read.
 ghost use Rattle.std.specs.Prelude.{◌≡◌, ◌-◌, if◌then◌else◌, nat_lt, IfOk, IsTrue};
+ghost use Rattle.hac_model.specs.Queries as queries;
 ghost use Rattle.hac_model.specs.QueryReading as reading;
 ghost use Rattle.query_text.specs.Reading.{IsPart, Reads};
 
@@ -103,14 +104,14 @@ fn limited(query: RawQuery, nesting: u64) -> Result<RawQuery, QueryFault>
 
 /// Whether the query has more terms than so many.
 fn is_above(most: u64, query: &RawQuery) -> bool
-    ensures { result ≡ nat_lt most (reading.term_count query.now) }
+    ensures { result ≡ nat_lt most (queries.term_count query.now) }
 {
     terms_left(most, query).is_none()
 }
 
 /// How many terms may follow those of the query, where so many may stand in all; None where it has more.
 fn terms_left(most: u64, query: &RawQuery) -> Option<u64>
-    ensures { result ≡ (if nat_lt most (reading.term_count query.now) then None else Some (most - reading.term_count query.now)) }
+    ensures { result ≡ (if nat_lt most (queries.term_count query.now) then None else Some (most - queries.term_count query.now)) }
 {
     match &query.node {
         Node::Term(_) | Node::Dir(_) => most.checked_sub(1),
