@@ -3,3 +3,4 @@ pub mod RowLemmas
 pub mod BlockLemmas
 pub mod SlotLemmas
 pub mod PoolLemmas
+pub mod ThinLemmas

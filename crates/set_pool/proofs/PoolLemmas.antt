@@ -1,11 +1,11 @@
 -- Facts on who is in which set after a change, and on what stands behind the spare.
-use Rattle.std.proofs.Common.{◌≡◌, ℕ, ◌+◌, ◌-◌, ◌<◌, ◌≤◌, Bool, true, false, cond, not, ◌&&◌, ◌||◌, eqb, ltb, List, [], ◌∷◌, length, length-append, refl, sym, ap, ◌∙◌, arith, inl, inr, ◌⊎◌, Option, Some}
+use Rattle.std.proofs.Common.{◌≡◌, ℕ, ◌+◌, ◌-◌, ◌<◌, ◌≤◌, Bool, true, false, cond, not, ◌&&◌, ◌||◌, eqb, ltb, List, [], ◌∷◌, length, length-append, refl, sym, ap, ◌∙◌, arith, inl, inr, ◌⊎◌, Option, Some, None}
 use Rattle.std.specs.List.{filter}
-use Rattle.std.specs.Option.{unwrap_or}
+use Rattle.std.specs.Option.{option_map, unwrap_or}
 use Rattle.std.proofs.lemmas.Bool.{cases_eq, cases_order, eq-eqb, eqb-true, le-ltb, lt-ltb, ne_eqb, or_right}
 use Rattle.std.proofs.lemmas.List.Folds.{list_any-append}
 use Rattle.std.proofs.lemmas.List.Sums.{count_by-le-length, length-filter}
-use Rattle.set_pool.specs.Lists.{ChangesAt, Names, list_at, members_at}
+use Rattle.set_pool.specs.Lists.{ChangesAt, DropsAt, Names, list_at, members_at}
 use Rattle.set_pool.specs.Pool.{IsBacked}
 use Rattle.set_pool.specs.Rising.{inserted, is_among, removed}
 
@@ -32,7 +32,7 @@ among-filter : (test : ℕ → Bool) (q : ℕ) (xs : List ℕ) → is_among q (f
 among-filter test q [] = and-comm false (test q)
 among-filter test q (y ∷ t) = among-step q y t (filter test t) (eqb q y) refl (test y) (test q) (λ e. ap test (sym (eqb-true q y e))) (among-filter test q t)
 
-among-inserted : (x q : ℕ) (xs : List ℕ) → is_among q (inserted x xs) ≡ (is_among q xs || eqb q x)
+pub among-inserted : (x q : ℕ) (xs : List ℕ) → is_among q (inserted x xs) ≡ (is_among q xs || eqb q x)
 among-inserted x q xs =
     list_any-append (λ y. eqb q y) (filter (λ y. ltb y x) xs) (x ∷ filter (λ y. ltb x y) xs)
     ∙ rw (among-filter (λ y. ltb y x) q xs, among-filter (λ y. ltb x y) q xs) (cases (is_among q xs))
@@ -45,7 +45,7 @@ among-inserted x q xs =
           | inr (inr more) ↦ let e = ne_eqb q x (omega arith) in let no = le-ltb q x (omega arith) in let yes = lt-ltb x q more in rw (e, no, yes) (sym (or-false a))
         ]
 
-among-removed : (x q : ℕ) (xs : List ℕ) → is_among q (removed x xs) ≡ (is_among q xs && not (eqb q x))
+pub among-removed : (x q : ℕ) (xs : List ℕ) → is_among q (removed x xs) ≡ (is_among q xs && not (eqb q x))
 among-removed x q xs = among-filter (λ y. not (eqb x y)) q xs ∙ and-comm (not (eqb x q)) (is_among q xs) ∙ ap (λ b. is_among q xs && not b) (turned (cases_eq q x))
   where
     turned : (q ≡ x) ⊎ (q ≡ x → ⊥) → eqb x q ≡ eqb q x
@@ -114,5 +114,19 @@ backed-remove old new set x blocks spare granted change names b =
       enough_blocks = b.enough_blocks;
       given = b.given;
       few = λ q. let g = b.given in let h = b.few q in let l = changed-length set old.lists new.lists (Some (removed x (members_at old.lists set))) bound change (omega arith) q (omega arith) in omega arith;
+      small = b.small;
+    }
+
+thin-length : (x : ℕ) (list : Option (List ℕ)) → length (unwrap_or (option_map (removed x) list) []) ≤ length (unwrap_or list [])
+thin-length x None = omega arith
+thin-length x (Some list) = length-removed x list
+
+pub backed-thin : (old new : Names) (x blocks spare granted : ℕ) → DropsAt old.lists new.lists x → new.free ≡ old.free → IsBacked old blocks spare granted → IsBacked new blocks spare granted
+backed-thin old new x blocks spare granted change names b =
+    record {
+      enough_names = let n = b.enough_names in omega arith;
+      enough_blocks = b.enough_blocks;
+      given = b.given;
+      few = λ q. let h = b.few q in let l = thin-length x (list_at old.lists q) in let e = ap (λ o. length (unwrap_or o [])) (change q) in omega arith;
       small = b.small;
     }

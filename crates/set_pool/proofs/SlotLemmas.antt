@@ -19,7 +19,7 @@ use Rattle.set_pool.specs.declared.slots.Slot.{Slot}
 use Rattle.set_pool.specs.declared.slots.Slot.TheVariants.{Free, Live}
 
 -- a list after a write at n, and after one more element
-get_or-set : {X : Type 0} (xs : List X) (n q : ℕ) (v d : X) → n < length xs → get_or (set xs n v) q d ≡ cond (eqb q n) v (get_or xs q d)
+pub get_or-set : {X : Type 0} (xs : List X) (n q : ℕ) (v d : X) → n < length xs → get_or (set xs n v) q d ≡ cond (eqb q n) v (get_or xs q d)
 get_or-set xs n q v d within =
     elim (cases_eq q n) [
       | inl same ↦ let e = eq-eqb q n same in rw e (ap (λ k. get_or (set xs n v) k d) same ∙ get_or-set_same xs n v d within)

@@ -1,6 +1,6 @@
 -- What callers see of a pool, and how its calls change it.
 use Rattle.std.specs.Prelude.{◌≡◌, ℕ, Bool, ◌&&◌, ◌||◌, not, ◌==◌, List, Option}
-use Rattle.set_pool.specs.Lists.{AllRise, ChangesAt, SameLists, is_live_at, list_at, members_at}
+use Rattle.set_pool.specs.Lists.{AllRise, ChangesAt, DropsAt, SameLists, is_live_at, list_at, members_at}
 use Rattle.set_pool.specs.Rising.{is_among}
 
 -- the list of each live set at its name, and how many calls may still make or grow a set without memory
@@ -47,6 +47,10 @@ Leaves old new set number = (s n : ℕ) → is_in new s n ≡ (is_in old s n && 
 -- whatever is in a set stays there, and nothing joins one
 abbrev pub SameMembers : Sets → Sets → Type 0
 SameMembers old new = (s n : ℕ) → is_in new s n ≡ is_in old s n
+
+-- that number is in no set any more, and each set is else as before
+abbrev pub Drops : Sets → Sets → ℕ → Type 0
+Drops old new number = DropsAt old.lists new.lists number
 
 -- the same sets are live
 abbrev pub SameLive : Sets → Sets → Type 0

@@ -1,7 +1,7 @@
 -- What the slots of a pool hold, and how the free ones are stacked.
-use Rattle.std.specs.Prelude.{◌≡◌, ℕ, suc, ◌<◌, Bool, true, false, List, [], Option, Some, None, map, slice_index_or, count_by}
+use Rattle.std.specs.Prelude.{◌≡◌, ℕ, suc, ◌<◌, Bool, true, false, List, [], Option, Some, None, map, slice_index_or, unwrap_or, count_by}
 use Rattle.set_pool.specs.Lists.{members_at}
-use Rattle.set_pool.specs.Rising.{Rises}
+use Rattle.set_pool.specs.Rising.{Rises, removed}
 use Rattle.set_pool.specs.declared.slots.Slot.{Slot}
 use Rattle.set_pool.specs.declared.slots.Slot.TheVariants.{Free, Live}
 
@@ -9,6 +9,15 @@ use Rattle.set_pool.specs.declared.slots.Slot.TheVariants.{Free, Live}
 abbrev pub list_of_slot : Slot → Option (List ℕ)
 list_of_slot (Free below count) = None
 list_of_slot (Live tree) = Some tree
+
+-- the numbers of a slot; a free one has none
+abbrev pub members_in : Slot → List ℕ
+members_in slot = unwrap_or (list_of_slot slot) []
+
+-- the slot without a number in its tree
+abbrev pub without : ℕ → Slot → Slot
+without value (Free below count) = Free below count
+without value (Live tree) = Live (removed value tree)
 
 -- the list of each slot
 abbrev pub lists_of : List Slot → List (Option (List ℕ))

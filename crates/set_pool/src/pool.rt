@@ -1,7 +1,7 @@
 //! The pool: sets by name, and what was set aside for those to come. It knows nothing of how a set is kept.
 ghost use Rattle.std.specs.Prelude.{◌≡◌, ◌+◌, ◌<◌, ◌≤◌, [], length, not, IfOk, IsTrue, None, OnErr, OnOk, Some, false, vec_len, ℕ};
 ghost use Rattle.set_pool.specs.Rising.{first_from, inserted, is_among, removed};
-ghost use Rattle.set_pool.specs.Sets.{AllListsRise, Begins, Changes, Clears, Ends, Joins, Leaves, SameLive, SameMembers, SameSets, is_in, is_live, list_of, members_of};
+ghost use Rattle.set_pool.specs.Sets.{AllListsRise, Begins, Changes, Clears, Drops, Ends, Joins, Leaves, SameLive, SameMembers, SameSets, is_in, is_live, list_of, members_of};
 
 use crate::rows::Row;
 use crate::slots::Slots;
@@ -65,6 +65,21 @@ impl SetPool {
         })
     }
 
+    /// The same sets under the same names, with nothing spare.
+    pub fn copy(&self) -> Result<SetPool, AllocError>
+        ensures same { IfOk result (λ pool. SameSets self.now pool) }
+        ensures spare { IfOk result (λ pool. pool.spare ≡ 0) }
+    {
+        let slots = self.slots.copy(self.alloc)?;
+        Ok(SetPool {
+            alloc: self.alloc,
+            slots,
+            blocks: Vec::new(self.alloc),
+            spare: 0,
+            granted: self.granted,
+        })
+    }
+
     /// Sets aside what `count` calls of `make` and `insert` may need. What is left of earlier calls counts.
     pub fn reserve(&mut self, count: u64) -> Result<(), AllocError>
         ensures room { OnOk result (count ≤ self.new.spare) }
@@ -85,6 +100,13 @@ impl SetPool {
             self.granted += more;
         }
         Ok(())
+    }
+
+    /// How many calls of `make` and `insert` may still be made without taking memory.
+    pub fn spare(&self) -> u64
+        ensures { result ≡ self.now.spare }
+    {
+        self.spare
     }
 
     /// A new set, which is empty.
@@ -127,6 +149,16 @@ impl SetPool {
         ensures rise { AllListsRise self.new }
     {
         self.slots.remove(set.0 as usize, value)
+    }
+
+    /// Takes `value` out of every set.
+    pub fn remove_everywhere(&mut self, value: u64)
+        ensures lists { Drops self.old self.new value }
+        ensures live { SameLive self.old self.new }
+        ensures spare { self.old.spare ≤ self.new.spare }
+        ensures rise { AllListsRise self.new }
+    {
+        self.slots.remove_everywhere(value);
     }
 
     /// Whether `value` is in the set.

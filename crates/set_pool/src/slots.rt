@@ -1,9 +1,9 @@
 //! The names of sets, and the tree of each that is live. A name is the place of its slot; those that are free stand
 //! on a stack within the slots, so that a name that was freed is used again. It knows nothing of what is reserved.
-ghost use Rattle.std.specs.Prelude.{◌≡◌, ◌+◌, ◌<◌, ◌≤◌, [], not, false, IsTrue, OnErr, OnOk, vec_len};
+ghost use Rattle.std.specs.Prelude.{◌≡◌, ◌+◌, ◌<◌, ◌≤◌, [], not, false, IfOk, IsTrue, OnErr, OnOk, vec_len};
 ghost use Rattle.set_pool.specs.Rising.{Rises, inserted, is_among, removed};
-ghost use Rattle.set_pool.specs.Lists.{AllRise, ChangesAt, SameLists, is_live_at, members_at};
-ghost use Rattle.set_pool.specs.Slots.{link_of};
+ghost use Rattle.set_pool.specs.Lists.{AllRise, ChangesAt, DropsAt, SameLists, is_live_at, members_at};
+ghost use Rattle.set_pool.specs.Slots.{link_of, members_in, without};
 
 use crate::trees::{Block, Tree};
 use std::alloc::{AllocError, Global};
@@ -71,6 +71,21 @@ impl Slots {
         self.top = name;
         self.free += 1;
         Ok(())
+    }
+
+    /// The same trees under the same names.
+    pub fn copy(&self, alloc: Global) -> Result<Slots, AllocError>
+        ensures { IfOk result (λ copy. copy ≡ self.now) }
+    {
+        let mut slots = Vec::new(alloc);
+        for slot in &self.slots {
+            slots.push(slot.copy(alloc)?)?;
+        }
+        Ok(Slots {
+            slots,
+            top: self.top,
+            free: self.free,
+        })
     }
 
     pub fn make(&mut self) -> usize
@@ -142,7 +157,38 @@ impl Slots {
     }
 }
 
+impl Slots {
+    /// Takes `value` out of every tree.
+    pub fn remove_everywhere(&mut self, value: u64)
+        ensures lists { DropsAt self.old.lists self.new.lists value }
+        ensures free { self.new.free ≡ self.old.free }
+        ensures rise { AllRise self.new.lists }
+    {
+        for slot in self.slots.iter_mut() {
+            slot.remove(value);
+        }
+    }
+}
+
 impl Slot {
+    fn copy(&self, alloc: Global) -> Result<Slot, AllocError>
+        ensures { IfOk result (λ slot. slot ≡ self.now) }
+    {
+        match self {
+            Slot::Free(below, count) => Ok(Slot::Free(*below, *count)),
+            Slot::Live(tree) => Ok(Slot::Live(tree.copy(alloc)?)),
+        }
+    }
+
+    fn remove(&mut self, value: u64)
+        requires { Rises (members_in self.old) }
+        ensures { self.new ≡ without value self.old }
+    {
+        if let Slot::Live(tree) = self {
+            tree.remove(value);
+        }
+    }
+
     fn link(&self) -> (usize, usize)
         ensures { result ≡ link_of self.now }
     {

@@ -26,6 +26,21 @@ fn each_set_has_its_own_numbers(rt: HostRuntime) -> Result<(), Fail> {
 }
 
 #[test]
+fn a_copy_has_the_same_sets(rt: HostRuntime) -> Result<(), Fail> {
+    let mut pool = SetPool::new(rt.alloc())?;
+    pool.reserve(3)?;
+    let set = pool.make();
+    pool.insert(set, 5);
+    pool.insert(set, 7);
+    let copy = pool.copy()?;
+    pool.remove_everywhere(5);
+    assert_eq!(rt; copy.spare(), 0);
+    assert_eq!(rt; copy.len(set), 2);
+    assert_eq!(rt; pool.len(set), 1);
+    Ok(())
+}
+
+#[test]
 fn a_freed_name_comes_again(rt: HostRuntime) -> Result<(), Fail> {
     let mut pool = SetPool::new(rt.alloc())?;
     pool.reserve(3)?;
