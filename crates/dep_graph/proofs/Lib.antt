@@ -1,0 +1,6 @@
+pub mod NodeLemmas
+pub mod LawLemmas
+pub mod OwedLemmas
+pub mod ReachLemmas
+pub mod StepLemmas
+pub mod ReferLemmas

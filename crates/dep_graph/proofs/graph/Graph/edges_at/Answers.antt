@@ -1,0 +1,7 @@
+use Rattle.std.proofs.Common.{◌≡◌, ℕ, List, [], ap, sym, ◌∙◌}
+use Rattle.std.specs.Prelude.{if◌then◌else◌, nat_eq}
+use Rattle.dep_graph.proofs.NodeLemmas.{kept-at, kept-seen}
+use Rattle.dep_graph.proofs.graph.Graph.edges_at.Goals as goal
+
+pub returns : goal.returns
+returns c = c.edges_at.ensures ∙ kept-seen c.self.inside c.args.self.now c.self.view_is c.args.dir

@@ -1,0 +1,12 @@
+use Rattle.std.proofs.Common.{◌+◌, nat_eq, vec_len}
+use Rattle.indexmap.specs.IndexSet.{contains}
+use Rattle.dep_graph.specs.Graphs.{edges_of}
+use Rattle.dep_graph.proofs.OwedLemmas.{owed}
+use Rattle.dep_graph.proofs.ReachLemmas.{Searching}
+use Rattle.dep_graph.proofs.graph.Graph.reaches.Given as goal
+
+abbrev pub invariant-stack : goal.invariant-stack
+invariant-stack l = Searching (edges_of l.self) l.fn.from l.fn.dir (contains nat_eq l.seen) l.stack.items
+
+abbrev pub decreases-stack : goal.decreases-stack
+decreases-stack l = owed l.self.nodes (contains nat_eq l.seen) + vec_len l.stack

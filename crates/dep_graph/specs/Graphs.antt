@@ -1,0 +1,33 @@
+-- What callers see of a graph.
+use Rattle.std.specs.Prelude.{◌≡◌, ℕ, ◌==◌, if◌then◌else◌, List, [], ◌∷◌, Option, Some, None, drop, refl}
+use Rattle.std.specs.Coded.{Coded, code_by, coded×, coded_list, coded_option, coded_ℕ}
+
+-- the directories with the edges of each, and which of them is ready for new ones
+pub record Seen : Type 0 where
+  pub nodes : List (ℕ × List ℕ)
+  pub ready : Option ℕ
+
+abbrev pub seen_code : Coded Seen
+seen_code = code_by (List (ℕ × List ℕ) × Option ℕ) (coded× (coded_list (coded× coded_ℕ (coded_list coded_ℕ))) (coded_option coded_ℕ)) (λ seen. (seen.nodes, seen.ready)) (λ parts. record { nodes = parts.0; ready = parts.1 }) (λ _. refl)
+
+-- the edges of a number among such directories
+abbrev pub edges_at : List (ℕ × List ℕ) → ℕ → List ℕ
+edges_at [] number = []
+edges_at (node ∷ nodes) number = if number == node.0 then node.1 else edges_at nodes number
+
+-- the edges of a directory; one that isn't there has none
+abbrev pub edges_of : Seen → ℕ → List ℕ
+edges_of graph dir = edges_at graph.nodes dir
+
+-- the directories that a directory's query names: all edges but the first
+abbrev pub named_by : Seen → ℕ → List ℕ
+named_by graph dir = drop 1 (edges_of graph dir)
+
+-- the numbers, where there are any
+abbrev pub if_any : List ℕ → Option (List ℕ)
+if_any [] = None
+if_any (first ∷ numbers) = Some (first ∷ numbers)
+
+-- the edges, but for those of one directory
+abbrev pub replaced : (ℕ → List ℕ) → ℕ → List ℕ → ℕ → List ℕ
+replaced edges dir new from = if from == dir then new else edges from

@@ -1,0 +1,115 @@
+//! The graph itself, what it tells of a directory, and its changes. Those that may want memory are prepared.
+ghost use Rattle.std.specs.Prelude.{◌≡◌, ℕ, [], Some, None, IfOk, OnOk, OnErr};
+ghost use Rattle.std.specs.Option.{option_copied};
+ghost use Rattle.dep_graph.specs.Graphs.{edges_of, if_any, replaced};
+
+use crate::nodes::{self, Nodes};
+use hac_model::{Memory, Number};
+use indexmap::IndexMap;
+use std::alloc::Global;
+use std::marker::Model;
+
+/// The semantic directories with the edges of each, seen as their list and as which of them is ready for new edges.
+/// The first edge of a directory leads to the one in which it stands, the others to those that its query names, in
+/// the query's order. A directory with no edges isn't there.
+#[derive(Drop)]
+pub struct Graph {
+    pub(crate) alloc: Global,
+    // The directory that was prepared has a node, which may have no edges yet.
+    pub(crate) nodes: Nodes,
+    pub(crate) ready: Option<Number>,
+}
+
+impl Model for Graph {
+    ghost use Rattle.dep_graph.specs.Graphs.{Seen, seen_code};
+
+    ghost Value = { Seen };
+
+    ghost coded = { seen_code };
+
+    ghost use Rattle.dep_graph.specs.Inner.{seen_of, HasPlace};
+
+    ghost view = { seen_of };
+
+    ghost invariant = { HasPlace };
+}
+
+/// The edges that a directory is to have, while the graph is ready for them.
+#[derive(Debug, Drop)]
+pub struct NewEdges {
+    /// The directory.
+    pub dir: Number,
+    /// Its edges, that to the directory in which it stands first.
+    pub edges: Vec<Number>,
+}
+
+impl Graph {
+    /// No directory.
+    pub fn new(alloc: Global) -> Graph
+        ensures { result ≡ record { nodes = []; ready = None } }
+    {
+        Graph {
+            alloc,
+            nodes: IndexMap::new(alloc),
+            ready: None,
+        }
+    }
+
+    /// The edges of a directory, where it is there.
+    pub fn edges(&self, dir: Number) -> Option<&[Number]>
+        ensures { option_copied result ≡ if_any (edges_of self.now dir) }
+    {
+        let edges = self.edges_at(dir);
+        if edges.is_empty() { None } else { Some(edges) }
+    }
+
+    /// The edges of a directory, none where it isn't there.
+    pub(crate) fn edges_at(&self, dir: Number) -> &[Number]
+        ensures { result.now ≡ edges_of self.now dir }
+    {
+        nodes::edges_at(&self.nodes, dir)
+    }
+
+    /// Makes ready for new edges of a directory. All edges stay as they are, whatever the answer.
+    pub fn prepare_edges(&mut self, dir: Number, edges: Vec<Number>) -> Result<NewEdges, Memory>
+        ensures prepared { IfOk result (λ new. new ≡ record { dir = dir; edges = edges }) }
+        ensures ok { OnOk result (self.new.ready ≡ Some dir) }
+        ensures err { OnErr result (self.new.ready ≡ None) }
+        ensures edges { (q : ℕ) → edges_of self.new q ≡ edges_of self.old q }
+    {
+        self.forget();
+        nodes::make_place(self.alloc, &mut self.nodes, dir)?;
+        self.ready = Some(dir);
+        Ok(NewEdges { dir, edges })
+    }
+
+    /// Gives a directory the edges that were prepared in place of those that it had.
+    pub fn set_edges(&mut self, edges: NewEdges)
+        requires { self.old.ready ≡ Some edges.dir }
+        ensures ready { self.new.ready ≡ None }
+        ensures edges { (q : ℕ) → edges_of self.new q ≡ replaced (edges_of self.old) edges.dir edges.edges.items q }
+    {
+        self.ready = None;
+        nodes::put(&mut self.nodes, edges.dir, edges.edges);
+    }
+
+    /// Takes a directory out, with its edges. Those that lead to it stay.
+    pub fn drop_node(&mut self, dir: Number)
+        ensures ready { self.new.ready ≡ None }
+        ensures edges { (q : ℕ) → edges_of self.new q ≡ replaced (edges_of self.old) dir [] q }
+    {
+        self.forget();
+        nodes::take_out(&mut self.nodes, dir);
+    }
+
+    /// Forgets what was prepared.
+    fn forget(&mut self)
+        ensures ready { self.new.ready ≡ None }
+        ensures edges { (q : ℕ) → edges_of self.new q ≡ edges_of self.old q }
+    {
+        if let Some(dir) = self.ready {
+            nodes::take_out_bare(&mut self.nodes, dir);
+        }
+        self.ready = None;
+    }
+}

@@ -1,0 +1,32 @@
+//! Which directories name a directory in their queries.
+ghost use Rattle.std.specs.Prelude.{◌≡◌, ◌↔◌, ℕ, nat_eq, drop, IfOk};
+ghost use Rattle.std.specs.List.{list_any};
+ghost use Rattle.hac_model.specs.Depends.{Among};
+ghost use Rattle.dep_graph.specs.Graphs.{named_by};
+ghost use Rattle.dep_graph.specs.Searches.{EachOnce};
+
+use crate::graph::Graph;
+use hac_model::{Memory, Number};
+
+impl Graph {
+    /// The directories whose queries name a directory.
+    pub fn referrers(&self, dir: Number) -> Result<Vec<Number>, Memory>
+        ensures all { IfOk result (λ numbers. (q : ℕ) → Among numbers.items q ↔ Among (named_by self.now q) dir) }
+        ensures once { IfOk result (λ numbers. EachOnce numbers.items) }
+    {
+        let mut numbers = Vec::new(self.alloc);
+        for (number, edges) in self.nodes.iter() {
+            if names(edges.as_slice(), dir) {
+                numbers.push(Number::new(*number))?;
+            }
+        }
+        Ok(numbers)
+    }
+}
+
+/// Whether a query with these edges names a directory. The first edge is none of the query's.
+fn names(edges: &[Number], dir: Number) -> bool
+    ensures { result ≡ list_any (λ edge. nat_eq edge dir) (drop 1 edges.now) }
+{
+    edges.iter().skip(1).any(|edge| *edge == dir)
+}

@@ -1,0 +1,69 @@
+//! What directories depend on, in an order in which each can be looked at once.
+ghost use Rattle.std.specs.Prelude.{◌≡◌, nat_eq, reverse, IfOk, OnOk};
+ghost use Rattle.hac_model.specs.Depends.{NeverReturns};
+ghost use Rattle.indexmap.specs.IndexSet.{contains};
+ghost use Rattle.dep_graph.specs.Graphs.{edges_of};
+ghost use Rattle.dep_graph.specs.Searches.{AreSources};
+ghost use Rattle.dep_graph.specs.Steps.{Visits, entering};
+
+use crate::graph::Graph;
+use hac_model::{Memory, Number};
+use indexmap::IndexSet;
+use std::alloc::Global;
+
+/// What is still to be done for a number.
+#[derive(Clone, Copy, Debug)]
+enum Step {
+    // Go where its edges lead.
+    Enter(Number),
+    // Put it behind all to which they lead.
+    Leave(Number),
+}
+
+impl Graph {
+    /// The directories that some of these reaches, those among them that are there. Each comes behind all on which it
+    /// depends.
+    pub fn sources(&self, dirs: &[Number]) -> Result<Vec<Number>, Memory>
+        requires { NeverReturns (edges_of self.now) }
+        ensures { IfOk result (λ numbers. AreSources (edges_of self.now) dirs.now numbers.items) }
+    {
+        let mut done = Vec::new(self.alloc);
+        let mut seen = IndexSet::new(self.alloc);
+        let mut stack = Vec::new(self.alloc);
+        enter(&mut stack, dirs)?;
+        'stack: while let Some(step) = stack.pop() {
+            match step {
+                Step::Enter(number) => self.visit(&mut seen, &mut stack, number)?,
+                Step::Leave(number) => done.push(number)?,
+            }
+        }
+        Ok(done)
+    }
+
+    /// Enters all to which a number leads, and leaves it behind them, if it wasn't seen before.
+    fn visit(
+        &self,
+        seen: &mut IndexSet<u64>,
+        stack: &mut Vec<Step>,
+        number: Number,
+    ) -> Result<(), Memory>
+        ensures { OnOk result (Visits (edges_of self.now) number (contains nat_eq seen.old) (contains nat_eq seen.new) (reverse stack.old.items) (reverse stack.new.items)) }
+    {
+        let edges = self.edges_at(number);
+        if !edges.is_empty() && seen.insert(number.get())? {
+            stack.push(Step::Leave(number))?;
+            enter(stack, edges)?;
+        }
+        Ok(())
+    }
+}
+
+/// Puts numbers onto a stack that are to be entered.
+fn enter(stack: &mut Vec<Step>, numbers: &[Number]) -> Result<(), Memory>
+    ensures { OnOk result (reverse stack.new.items ≡ entering numbers.now (reverse stack.old.items)) }
+{
+    for number in numbers {
+        stack.push(Step::Enter(*number))?;
+    }
+    Ok(())
+}
