@@ -1,7 +1,9 @@
 -- What a tree is ready for, read part by part.
 use Rattle.std.specs.Prelude.{ℕ, List, [], Option, Some, None}
-use Rattle.std.specs.Option.{option_map_or}
-use Rattle.hac_model.specs.Tree.{text_in}
+use Rattle.std.specs.Option.{option_map_or, unwrap_or}
+use Rattle.hac_model.specs.Formula.{Formula}
+use Rattle.hac_model.specs.Formula as query
+use Rattle.hac_model.specs.Tree.{query_in, text_in}
 use Rattle.hac_model.specs.declared.states.Body.{Body}
 use Rattle.hac_model.specs.declared.states.Body.TheVariants as body
 use Rattle.file_tree.specs.declared.ready.Ready.{Ready}
@@ -33,3 +35,7 @@ name_in (Edit entry body) = []
 -- the text that is to replace that of a file
 abbrev pub new_text : Ready → List ℕ
 new_text ready = option_map_or (λ text. text) (text_in (body_in ready)) []
+
+-- the query that a directory is to have. A body that asks nothing is never asked for one.
+abbrev pub new_query : Ready → Formula ℕ
+new_query ready = unwrap_or (query_in (body_in ready)) (query.Dir 0)

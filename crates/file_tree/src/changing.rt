@@ -1,10 +1,10 @@
 //! Changes of the tree. Those that may want memory are prepared, and no change itself takes any.
 ghost use Rattle.std.specs.Prelude.{◌≡◌, ◌<◌, ◌-◌, ◌++◌, ◌∷◌, [], true, ℕ, List, length, remove, if◌then◌else◌, Some, None, IfOk, OnOk, OnErr, IsSome, IsTrue};
-ghost use Rattle.hac_model.specs.Events.{added, changed_at, edited, indexed, removed, reseated, rewritten};
+ghost use Rattle.hac_model.specs.Events.{added, asking, changed_at, edited, indexed, plain_body, removed, reseated, rewritten};
 ghost use Rattle.hac_model.specs.Tree.{entry_at, is_directory_at, is_file};
 ghost use Rattle.hac_model.specs.Valid.{IsLayout};
 ghost use Rattle.file_tree.specs.Nodes.{entry_of, kids_of, name_of};
-ghost use Rattle.file_tree.specs.Ready.{body_in, name_in, new_text, room_in};
+ghost use Rattle.file_tree.specs.Ready.{body_in, name_in, new_query, new_text, room_in};
 ghost use Rattle.file_tree.specs.Search.{rank_in};
 ghost use Rattle.file_tree.specs.Shape.{Rises, parent_in};
 
@@ -122,6 +122,37 @@ impl Tree {
             unreachable!()
         };
         nodes::set_text(&mut self.nodes, file, text);
+    }
+
+    /// Gives a directory the query that was prepared. Its marks stay; one that had no query gets none.
+    pub fn set_query(&mut self, dir: Number, room: Room)
+        requires room { room_in self.old.ready ≡ Some room }
+        requires place { room ≡ Room.Edit dir }
+        requires asks { body_in self.old.ready ≡ Body.Semantic (new_query self.old.ready) [] [] }
+        requires layout { IsLayout (changed_at self.old.state dir (edited (asking (new_query self.old.ready)))) }
+        ensures { self.new ≡ record { state = changed_at self.old.state dir (edited (asking (new_query self.old.ready))); ready = Ready.Nothing } }
+    {
+        let Ready::Edit {
+            body: Body::Semantic {
+                query,
+                permanent,
+                prohibited,
+            },
+            ..
+        } = mem::replace(&mut self.ready, Ready::Nothing)
+        else {
+            unreachable!()
+        };
+        nodes::set_query(&mut self.nodes, dir, query, permanent, prohibited);
+    }
+
+    /// Makes a semantic directory a plain one.
+    pub fn clear_query(&mut self, dir: Number)
+        requires { IsLayout (changed_at self.old.state dir (edited plain_body)) }
+        ensures { self.new ≡ record { state = changed_at self.old.state dir (edited plain_body); ready = Ready.Nothing } }
+    {
+        self.ready = Ready::Nothing;
+        nodes::clear_query(&mut self.nodes, dir);
     }
 
     /// Shows the text of a file.

@@ -3,7 +3,7 @@ ghost use Rattle.std.specs.Prelude.{◌≡◌, ℕ, ◌<◌, [], Some, None, nat
 ghost use Rattle.std.specs.Option.{option_copied, option_map};
 ghost use Rattle.indexmap.specs.IndexMap.{get};
 ghost use Rattle.file_tree.specs.Nodes.{body_of, entry_of, has_node, kids_of, name_of, placed_at};
-ghost use Rattle.hac_model.specs.Events.{edited, indexed, reseated, rewritten};
+ghost use Rattle.hac_model.specs.Events.{asking, edited, indexed, plain_body, reseated, rewritten};
 ghost use Rattle.hac_model.specs.Tree.{is_dirty, query_in, shown_text};
 
 use hac_model::{Answer, Body, Document, Memory, Name, Number, Query, Seq, Text};
@@ -143,6 +143,39 @@ impl Content {
             if matches!(shown, Shown::AsItIs) {
                 *shown = Shown::Older(old);
             }
+        }
+    }
+
+    /// Gives a directory a query. Where it had none, it gets no marks.
+    pub(crate) fn set_query(
+        &mut self,
+        new: Query<Number>,
+        permanent: Seq<Number>,
+        prohibited: Seq<Number>,
+    )
+        requires permanent { permanent ≡ [] }
+        requires prohibited { prohibited ≡ [] }
+        ensures { body_of self.new ≡ asking new (body_of self.old) }
+    {
+        match self {
+            Content::Semantic { query, .. } => *query = new,
+            Content::Dir => {
+                *self = Content::Semantic {
+                    query: new,
+                    permanent,
+                    prohibited,
+                };
+            }
+            _ => {}
+        }
+    }
+
+    /// Makes a semantic directory a plain one.
+    pub(crate) fn clear_query(&mut self)
+        ensures { body_of self.new ≡ plain_body (body_of self.old) }
+    {
+        if matches!(self, Content::Semantic { .. }) {
+            *self = Content::Dir;
         }
     }
 
@@ -300,5 +333,37 @@ pub(crate) fn show_text(nodes: &mut Nodes, file: Number)
 {
     if let Some(node) = nodes.get_mut(&file.get()) {
         node.content.show_text();
+    }
+}
+
+/// Gives a directory a query.
+pub(crate) fn set_query(
+    nodes: &mut Nodes,
+    dir: Number,
+    query: Query<Number>,
+    permanent: Seq<Number>,
+    prohibited: Seq<Number>,
+)
+    requires permanent { permanent ≡ [] }
+    requires prohibited { prohibited ≡ [] }
+    ensures numbers { (q : ℕ) → has_node nodes.new q ≡ has_node nodes.old q }
+    ensures entries { (q : ℕ) → entry_of nodes.new q ≡ if nat_eq dir q then option_map (edited (asking query)) (entry_of nodes.old q) else entry_of nodes.old q }
+    ensures names { (q : ℕ) → name_of nodes.new q ≡ name_of nodes.old q }
+    ensures kids { (q : ℕ) → kids_of nodes.new q ≡ kids_of nodes.old q }
+{
+    if let Some(node) = nodes.get_mut(&dir.get()) {
+        node.content.set_query(query, permanent, prohibited);
+    }
+}
+
+/// Makes a semantic directory a plain one.
+pub(crate) fn clear_query(nodes: &mut Nodes, dir: Number)
+    ensures numbers { (q : ℕ) → has_node nodes.new q ≡ has_node nodes.old q }
+    ensures entries { (q : ℕ) → entry_of nodes.new q ≡ if nat_eq dir q then option_map (edited plain_body) (entry_of nodes.old q) else entry_of nodes.old q }
+    ensures names { (q : ℕ) → name_of nodes.new q ≡ name_of nodes.old q }
+    ensures kids { (q : ℕ) → kids_of nodes.new q ≡ kids_of nodes.old q }
+{
+    if let Some(node) = nodes.get_mut(&dir.get()) {
+        node.content.clear_query();
     }
 }

@@ -4,7 +4,7 @@ ghost use Rattle.std.specs.Option.{option_copied, option_map, option_map_or, opt
 ghost use Rattle.hac_model.specs.Events.{is_bare};
 ghost use Rattle.hac_model.specs.Links.{parent_of, query_at, shown_of};
 ghost use Rattle.hac_model.specs.Listing.{children};
-ghost use Rattle.hac_model.specs.Tree.{body_at, child, empty, entry_at, is_dirty, is_file_at, text_in};
+ghost use Rattle.hac_model.specs.Tree.{body_at, child, empty, entry_at, is_directory_at, is_dirty, is_file_at, is_made_directory, text_in};
 ghost use Rattle.hac_model.specs.Valid.{IsLayout};
 ghost use Rattle.file_tree.specs.Answers.{kind_at, kind_in, next_from};
 ghost use Rattle.file_tree.specs.Nodes.{body_of};
@@ -155,8 +155,24 @@ impl Tree {
         self.content(dir)?.query()
     }
 
+    /// Whether a directory has the number.
+    pub fn is_directory(&self, number: Number) -> bool
+        ensures { result ≡ is_directory_at self.now.state.entries number }
+    {
+        number == Number::ROOT || self.is_made_directory(number)
+    }
+
+    fn is_made_directory(&self, number: Number) -> bool
+        ensures { result ≡ is_made_directory self.now.state.entries number }
+    {
+        match self.content(number) {
+            Some(content) => matches!(content, Content::Dir | Content::Semantic { .. }),
+            None => false,
+        }
+    }
+
     /// Whether a file has the number.
-    pub(crate) fn is_file(&self, number: Number) -> bool
+    pub fn is_file(&self, number: Number) -> bool
         ensures { result ≡ is_file_at self.now.state.entries number }
     {
         match self.content(number) {
