@@ -1,0 +1,66 @@
+-- The items of one directory, by the kind of their links.
+use Rattle.std.specs.Prelude.{◌≡◌, ℕ, Bool, true, false, if◌then◌else◌, List, []}
+use Rattle.std.specs.List.Sorted.{IsStrictlyIncreasing}
+use Rattle.hac_model.specs.declared.marks.Kind.{Kind}
+use Rattle.hac_model.specs.declared.marks.Kind.TheVariants.{Transient, Permanent, Prohibited, Unlinked}
+use Rattle.set_pool.specs.Rising.{inserted, is_among, removed}
+
+-- the items of each kind, in order of number
+pub record Lists : Type 0 where
+  pub transient : List ℕ
+  pub permanent : List ℕ
+  pub prohibited : List ℕ
+
+-- no item is linked
+abbrev pub nothing : Lists
+nothing = record { transient = []; permanent = []; prohibited = [] }
+
+-- the kind of an item's link
+abbrev pub kind_in : Lists → ℕ → Kind
+kind_in lists item =
+    if is_among item lists.transient then Transient
+    else (if is_among item lists.permanent then Permanent else (if is_among item lists.prohibited then Prohibited else Unlinked))
+
+-- the items of a kind. Those that aren't linked are never told.
+abbrev pub items_of : Kind → Lists → List ℕ
+items_of Transient lists = lists.transient
+items_of Permanent lists = lists.permanent
+items_of Prohibited lists = lists.prohibited
+items_of Unlinked lists = []
+
+-- the item gets the kind, in place of any that it had
+abbrev pub with_kind : Kind → ℕ → Lists → Lists
+with_kind Transient item lists = record { transient = inserted item lists.transient; permanent = removed item lists.permanent; prohibited = removed item lists.prohibited }
+with_kind Permanent item lists = record { transient = removed item lists.transient; permanent = inserted item lists.permanent; prohibited = removed item lists.prohibited }
+with_kind Prohibited item lists = record { transient = removed item lists.transient; permanent = removed item lists.permanent; prohibited = inserted item lists.prohibited }
+with_kind Unlinked item lists = record { transient = removed item lists.transient; permanent = removed item lists.permanent; prohibited = removed item lists.prohibited }
+
+abbrev pub is_transient : Kind → Bool
+is_transient Transient = true
+is_transient other = false
+
+abbrev pub is_permanent : Kind → Bool
+is_permanent Permanent = true
+is_permanent other = false
+
+abbrev pub is_prohibited : Kind → Bool
+is_prohibited Prohibited = true
+is_prohibited other = false
+
+-- an item of the kind is a link, found or added
+abbrev pub is_linked : Kind → Bool
+is_linked Transient = true
+is_linked Permanent = true
+is_linked other = false
+
+-- an item is in the list of its kind, and in no other
+pub record AreApart (lists : Lists) : Type 0 where
+  pub transient : (item : ℕ) → is_among item lists.transient ≡ is_transient (kind_in lists item)
+  pub permanent : (item : ℕ) → is_among item lists.permanent ≡ is_permanent (kind_in lists item)
+  pub prohibited : (item : ℕ) → is_among item lists.prohibited ≡ is_prohibited (kind_in lists item)
+
+-- each list rises
+pub record AreRising (lists : Lists) : Type 0 where
+  pub transient : IsStrictlyIncreasing lists.transient
+  pub permanent : IsStrictlyIncreasing lists.permanent
+  pub prohibited : IsStrictlyIncreasing lists.prohibited

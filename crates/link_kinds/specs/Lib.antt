@@ -1,0 +1,4 @@
+pub mod Kinds
+pub mod Seen
+pub mod Kept
+pub mod Marked

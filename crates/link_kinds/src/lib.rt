@@ -1,0 +1,11 @@
+//! Which items are linked in which semantic directories, and how. It knows no tree and no query: a directory and an
+//! item are numbers.
+#![tactic(auto)]
+
+mod links;
+mod sets;
+
+pub use links::Links;
+
+#[cfg(test)]
+mod tests;

@@ -1,0 +1,117 @@
+//! The three sets of one directory, within the pool that all directories share.
+ghost use Rattle.std.specs.Prelude.{◌≡◌, ◌+◌, ◌<◌, ◌≤◌, length, IsTrue, ℕ};
+ghost use Rattle.set_pool.specs.Sets.{AllListsRise, SameLive, is_live};
+ghost use Rattle.link_kinds.specs.Kept.{AreDistinct, AreFresh, AreLive, OthersStay, lists_of};
+ghost use Rattle.link_kinds.specs.Kinds.{items_of, kind_in, nothing, with_kind};
+
+use hac_model::Kind;
+use set_pool::{SetId, SetPool};
+
+/// The sets of a directory's items, one for each kind of link.
+#[derive(Clone, Copy)]
+pub(crate) struct DirSets {
+    pub(crate) transient: SetId,
+    pub(crate) permanent: SetId,
+    pub(crate) prohibited: SetId,
+}
+
+impl DirSets {
+    /// How an item is linked in the directory.
+    pub(crate) fn kind(&self, pool: &SetPool, item: u64) -> Kind
+        requires { AreLive pool.now self.now }
+        ensures { result ≡ kind_in (lists_of pool.now self.now) item }
+    {
+        if pool.contains(self.transient, item) {
+            Kind::Transient
+        } else if pool.contains(self.permanent, item) {
+            Kind::Permanent
+        } else if pool.contains(self.prohibited, item) {
+            Kind::Prohibited
+        } else {
+            Kind::Unlinked
+        }
+    }
+
+    /// How many items have a kind.
+    pub(crate) fn count(&self, pool: &SetPool, kind: Kind) -> u64
+        requires { AreLive pool.now self.now }
+        ensures { result ≡ length (items_of kind (lists_of pool.now self.now)) }
+    {
+        match kind {
+            Kind::Transient => pool.len(self.transient),
+            Kind::Permanent => pool.len(self.permanent),
+            Kind::Prohibited => pool.len(self.prohibited),
+            Kind::Unlinked => 0,
+        }
+    }
+
+    /// Gives an item a kind, in place of the one that it has.
+    pub(crate) fn set_kind(&self, pool: &mut SetPool, item: u64, kind: Kind)
+        requires live { AreLive pool.old self.now }
+        requires differ { AreDistinct self.now }
+        requires room { 0 < pool.old.spare }
+        ensures lists { lists_of pool.new self.now ≡ with_kind kind item (lists_of pool.old self.now) }
+        ensures others { OthersStay pool.old pool.new self.now }
+        ensures live { SameLive pool.old pool.new }
+        ensures spare { pool.old.spare ≤ pool.new.spare + 1 }
+        ensures rise { AllListsRise pool.new }
+    {
+        match kind {
+            Kind::Transient => {
+                pool.insert(self.transient, item);
+                pool.remove(self.permanent, item);
+                pool.remove(self.prohibited, item);
+            }
+            Kind::Permanent => {
+                pool.remove(self.transient, item);
+                pool.insert(self.permanent, item);
+                pool.remove(self.prohibited, item);
+            }
+            Kind::Prohibited => {
+                pool.remove(self.transient, item);
+                pool.remove(self.permanent, item);
+                pool.insert(self.prohibited, item);
+            }
+            Kind::Unlinked => {
+                pool.remove(self.transient, item);
+                pool.remove(self.permanent, item);
+                pool.remove(self.prohibited, item);
+            }
+        }
+    }
+
+    /// Three new sets, which are empty.
+    pub(crate) fn make(pool: &mut SetPool) -> DirSets
+        requires { 3 ≤ pool.old.spare }
+        ensures live { AreLive pool.new result }
+        ensures empty { lists_of pool.new result ≡ nothing }
+        ensures fresh { AreFresh pool.old result }
+        ensures differ { AreDistinct result }
+        ensures others { OthersStay pool.old pool.new result }
+        ensures still { (set : ℕ) → IsTrue (is_live pool.old set) → IsTrue (is_live pool.new set) }
+        ensures spare { pool.old.spare ≤ pool.new.spare + 3 }
+        ensures rise { AllListsRise pool.new }
+    {
+        let transient = pool.make();
+        let permanent = pool.make();
+        let prohibited = pool.make();
+        DirSets {
+            transient,
+            permanent,
+            prohibited,
+        }
+    }
+
+    /// Ends the three sets.
+    pub(crate) fn free(&self, pool: &mut SetPool)
+        requires live { AreLive pool.old self.now }
+        requires differ { AreDistinct self.now }
+        ensures others { OthersStay pool.old pool.new self.now }
+        ensures spare { pool.old.spare ≤ pool.new.spare }
+        ensures rise { AllListsRise pool.new }
+    {
+        pool.free(self.transient);
+        pool.free(self.permanent);
+        pool.free(self.prohibited);
+    }
+}
