@@ -2,13 +2,14 @@
 //! It knows nothing of what a command does.
 #![tactic(auto)]
 
+mod link_lines;
 mod parsing;
 mod paths;
 mod printing;
 mod putting;
-mod queries;
 mod reading;
 mod taken;
+mod tree_lines;
 mod words;
 
 pub use parsing::parse_line;

@@ -1,20 +1,21 @@
 //! A line's command. What a command does is not known here.
-ghost use Rattle.std.specs.Prelude.{◌≡◌, ℕ, List, Some, None, IfOk, IsTrue};
-ghost use Rattle.std.specs.Option.{ok_or};
-ghost use Rattle.hac_model.specs.Answers.{Answers, AnswersSeen};
-ghost use Rattle.hac_model.specs.Lines.{item_of, named_command, one_path, write_of, ls_of, mv_of, smkdir_of, index_of, limited_text, is_spelled};
-ghost use Rattle.hac_model.specs.Texts.{text_of};
+ghost use Rattle.std.specs.Prelude.{◌≡◌, ℕ, List, IfOk, IsTrue};
+ghost use Rattle.hac_model.specs.Answers.{Answers};
+ghost use Rattle.hac_model.specs.Lines.{item_of, alone, named_command, is_spelled};
 ghost use Rattle.shell_lang.specs.Told.{called_taken, command_taken, item_taken, taken_of};
-ghost use Rattle.hac_model.specs.declared.commands.Command.TheVariants.{Mkdir, Rmdir, Cat, Rm, Sls};
-ghost use Rattle.hac_model.specs.declared.replies.Refusal.TheVariants.{BadLine};
+ghost use Rattle.hac_model.specs.declared.commands.Command.TheVariants.{Index, Counts};
 
-use crate::paths::{only_path, parse_path, two_paths};
+use crate::link_lines::{
+    parse_find, parse_query, parse_setq, parse_sforget, parse_sln, parse_sls, parse_smkdir,
+    parse_srm, parse_unq,
+};
 use crate::putting::{is_put, parse_put};
-use crate::queries::parse_query;
 use crate::taken::Taken;
-use crate::words::{is_blank, only_word, skip_one, split_word};
-use hac_model::{Command, Deny, LINE_LIMIT, LimitWord, Line, Name, Refusal, TEXT_LIMIT, Text};
-use hac_names::parse_text;
+use crate::tree_lines::{
+    parse_cat, parse_ls, parse_mkdir, parse_mv, parse_rm, parse_rmdir, parse_write,
+};
+use crate::words::{is_blank, split_word};
+use hac_model::{Command, Deny, LINE_LIMIT, LimitWord, Line, Name, Refusal};
 use std::alloc::Global;
 
 /// The command that a line spells, or the first refusal of its spelling. `taken` is what the reader took
@@ -78,133 +79,50 @@ fn parse_named(alloc: Global, name: &[u8], arguments: &[u8]) -> Result<Command, 
         parse_rm(alloc, arguments)
     } else if name == b"smkdir".as_slice() {
         parse_smkdir(alloc, arguments)
+    } else if name == b"setq".as_slice() {
+        parse_setq(alloc, arguments)
+    } else if name == b"unq".as_slice() {
+        parse_unq(alloc, arguments)
+    } else if name == b"query".as_slice() {
+        parse_query(alloc, arguments)
     } else if name == b"sls".as_slice() {
         parse_sls(alloc, arguments)
+    } else if name == b"sln".as_slice() {
+        parse_sln(alloc, arguments)
+    } else if name == b"srm".as_slice() {
+        parse_srm(alloc, arguments)
+    } else if name == b"sforget".as_slice() {
+        parse_sforget(alloc, arguments)
+    } else if name == b"find".as_slice() {
+        parse_find(alloc, arguments)
     } else if name == b"index".as_slice() {
         parse_index(arguments)
+    } else if name == b"counts".as_slice() {
+        parse_counts(arguments)
     } else {
         Err(Deny::Refused(Refusal::BadLine))
     }
 }
 
-/// `mkdir PATH`, from what follows `mkdir`.
-#[tactic(auto, unfolding(hac_model::specs::Lines::one_path))]
-fn parse_mkdir(alloc: Global, arguments: &[u8]) -> Result<Command, Deny>
-    ensures { Answers result (one_path Mkdir arguments.now) }
-{
-    let path = only_path(alloc, arguments)?;
-    Ok(Command::Mkdir { path })
-}
-
-/// `rmdir PATH`, from what follows `rmdir`.
-#[tactic(auto, unfolding(hac_model::specs::Lines::one_path))]
-fn parse_rmdir(alloc: Global, arguments: &[u8]) -> Result<Command, Deny>
-    ensures { Answers result (one_path Rmdir arguments.now) }
-{
-    let path = only_path(alloc, arguments)?;
-    Ok(Command::Rmdir { path })
-}
-
-/// `write PATH TEXT`, from what follows `write`.
-#[tactic(auto, unfolding(hac_model::specs::Lines::write_of))]
-fn parse_write(alloc: Global, arguments: &[u8]) -> Result<Command, Deny>
-    ensures { Answers result (write_of arguments.now) }
-{
-    let (word, rest) = split_word(alloc, arguments)?;
-    let text = spelled_text(alloc, skip_one(rest))?;
-    let path = parse_path(alloc, &word)?;
-    let text = limited_text(Text::new(text))?;
-    Ok(Command::Write { path, text })
-}
-
-/// The text that bytes spell. The line is bad where an escape in them is.
-fn spelled_text(alloc: Global, bytes: &[u8]) -> Result<Vec<u8>, Deny>
-    ensures { AnswersSeen (λ text. text.items) result (ok_or (text_of bytes.now) BadLine) }
-{
-    match parse_text(alloc, bytes)? {
-        Some(text) => Ok(text),
-        None => Err(Deny::Refused(Refusal::BadLine)),
-    }
-}
-
-/// The text, where a file may have as many bytes.
-pub fn limited_text(bytes: Text) -> Result<Text, Deny>
-    ensures { Answers result (limited_text bytes) }
-{
-    if bytes.as_slice().len() as u64 > TEXT_LIMIT {
-        return Err(Deny::Refused(Refusal::Limit(LimitWord::Text)));
-    }
-    Ok(bytes)
-}
-
-/// `cat PATH`, from what follows `cat`.
-#[tactic(auto, unfolding(hac_model::specs::Lines::one_path))]
-fn parse_cat(alloc: Global, arguments: &[u8]) -> Result<Command, Deny>
-    ensures { Answers result (one_path Cat arguments.now) }
-{
-    let path = only_path(alloc, arguments)?;
-    Ok(Command::Cat { path })
-}
-
-/// `ls` with a path or without, from what follows `ls`.
-#[tactic(auto, unfolding(hac_model::specs::Lines::ls_of, hac_model::specs::Lines::one_path))]
-fn parse_ls(alloc: Global, arguments: &[u8]) -> Result<Command, Deny>
-    ensures { Answers result (ls_of arguments.now) }
-{
-    if is_blank(arguments) {
-        return Ok(Command::Ls { path: None });
-    }
-    let path = only_path(alloc, arguments)?;
-    Ok(Command::Ls { path: Some(path) })
-}
-
-/// `mv PATH PATH`, from what follows `mv`.
-#[tactic(auto, unfolding(hac_model::specs::Lines::mv_of))]
-fn parse_mv(alloc: Global, arguments: &[u8]) -> Result<Command, Deny>
-    ensures { Answers result (mv_of arguments.now) }
-{
-    let (first, rest) = split_word(alloc, arguments)?;
-    let second = only_word(alloc, rest)?;
-    let (from, to) = two_paths(alloc, &first, &second)?;
-    Ok(Command::Mv { from, to })
-}
-
-/// `rm PATH`, from what follows `rm`.
-#[tactic(auto, unfolding(hac_model::specs::Lines::one_path))]
-fn parse_rm(alloc: Global, arguments: &[u8]) -> Result<Command, Deny>
-    ensures { Answers result (one_path Rm arguments.now) }
-{
-    let path = only_path(alloc, arguments)?;
-    Ok(Command::Rm { path })
-}
-
-/// `smkdir PATH QUERY`, from what follows `smkdir`.
-#[tactic(auto, unfolding(hac_model::specs::Lines::smkdir_of))]
-fn parse_smkdir(alloc: Global, arguments: &[u8]) -> Result<Command, Deny>
-    ensures { Answers result (smkdir_of arguments.now) }
-{
-    let (word, rest) = split_word(alloc, arguments)?;
-    let path = parse_path(alloc, &word)?;
-    let query = parse_query(alloc, skip_one(rest))?;
-    Ok(Command::Smkdir { path, query })
-}
-
-/// `sls PATH`, from what follows `sls`.
-#[tactic(auto, unfolding(hac_model::specs::Lines::one_path))]
-fn parse_sls(alloc: Global, arguments: &[u8]) -> Result<Command, Deny>
-    ensures { Answers result (one_path (λ path. Sls (Some path)) arguments.now) }
-{
-    let path = only_path(alloc, arguments)?;
-    Ok(Command::Sls { path: Some(path) })
-}
-
 /// `index`, from what follows it.
-#[tactic(auto, unfolding(hac_model::specs::Lines::index_of))]
+#[tactic(auto, unfolding(hac_model::specs::Lines::alone))]
 fn parse_index(arguments: &[u8]) -> Result<Command, Deny>
-    ensures { Answers result (index_of arguments.now) }
+    ensures { Answers result (alone Index arguments.now) }
 {
     if is_blank(arguments) {
         Ok(Command::Index)
+    } else {
+        Err(Deny::Refused(Refusal::BadLine))
+    }
+}
+
+/// `counts`, from what follows it.
+#[tactic(auto, unfolding(hac_model::specs::Lines::alone))]
+fn parse_counts(arguments: &[u8]) -> Result<Command, Deny>
+    ensures { Answers result (alone Counts arguments.now) }
+{
+    if is_blank(arguments) {
+        Ok(Command::Counts)
     } else {
         Err(Deny::Refused(Refusal::BadLine))
     }

@@ -9,9 +9,9 @@ ghost use Rattle.hac_model.specs.Lines.{asked, is_put, put_length, put_words};
 ghost use Rattle.hac_model.specs.Puts.{is_length};
 ghost use Rattle.shell_lang.specs.Told.{put_at_taken, put_taken};
 
-use crate::parsing::limited_text;
 use crate::paths::parse_path;
 use crate::taken::Taken;
+use crate::tree_lines::limited_text;
 use crate::words::{is_blank, only_word, raw_word, split_word};
 use hac_model::{Command, Deny, LimitWord, Refusal};
 use std::alloc::Global;
