@@ -12,7 +12,7 @@ use Rattle.std.proofs.lemmas.Bool.Decides.{nat_tests}
 use Rattle.hac_model.specs.Events.{added, changed_at, dirty, edited, next_dirty}
 use Rattle.hac_model.specs.Limits.{counts}
 use Rattle.hac_model.specs.Tree.{entry_at}
-use Rattle.hac_model.specs.Valid.{IsLayout, IsValid}
+use Rattle.hac_model.specs.Valid.{IsLayout, IsLayout}
 use Rattle.hac_model.specs.declared.counts.Counts.{Counts}
 use Rattle.hac_model.specs.declared.states.Body.{Body}
 use Rattle.hac_model.specs.declared.states.Entry.{Entry}
@@ -26,11 +26,11 @@ use Rattle.hac_core.proofs.DirtyLemmas.{added-entry, edited-entry}
 use Rattle.hac_core.proofs.CountingLemmas.{new_entry}
 
 -- a tree that was changed is ready for nothing, so no number is awaited
-pub made-counted : (new : Seen) (s : State) (told : Counts) (numbers : BTreeSet ℕ) → new ≡ record { state = s; ready = Nothing } → IsValid s → told ≡ counts s →
+pub made-counted : (new : Seen) (s : State) (told : Counts) (numbers : BTreeSet ℕ) → new ≡ record { state = s; ready = Nothing } → IsLayout s → told ≡ counts s →
     Covers (contains nat_cmp numbers) (is_dirty_at s.entries) → IsCounted (record { tree = new; counts = told; dirty = numbers })
-made-counted new s told numbers same valid all covers =
+made-counted new s told numbers same layout all covers =
     subst (λ (t : Seen). IsCounted (record { tree = t; counts = told; dirty = numbers })) (sym same)
-    (record { valid = valid; counts_are = all; covers = covers; awaits = λ n never. absurd cc })
+    (record { layout = layout; counts_are = all; covers = covers; awaits = λ n never. absurd cc })
 
 -- what a new entry counts for, as the tree tells it
 pub added-share : (s : State) (dir : ℕ) (name : List ℕ) (b : Body) (t : Seen) (n : ℕ) (share : Counts) → IsLayout s → t ≡ record { state = added s dir name b; ready = Nothing } → n ≡ s.next →

@@ -7,9 +7,10 @@ use Rattle.std.specs.Ordering.{nat_cmp}
 use Rattle.std.proofs.lemmas.Bool.{eqb-true, ne_eqb}
 use Rattle.std.proofs.lemmas.Bool.Decides.{nat_tests}
 use Rattle.std.specs.Cmp.{unsigned_ties}
-use Rattle.hac_model.specs.Events.{added, apply, changed_at, edited, indexed, next_dirty, removed, reseated}
+use Rattle.hac_model.specs.Events.{added, apply, asking, changed_at, edited, indexed, next_dirty, plain_body, removed, reseated}
+use Rattle.hac_model.specs.Formula.{Formula}
 use Rattle.hac_model.specs.Tree.{entry_at, is_dirty}
-use Rattle.hac_model.specs.Valid.{IsLayout, IsValid, NumbersRise}
+use Rattle.hac_model.specs.Valid.{IsLayout, NumbersRise}
 use Rattle.hac_model.specs.declared.events.Event.TheVariants.{Step}
 use Rattle.hac_model.specs.declared.states.Body.{Body}
 use Rattle.hac_model.specs.declared.states.Body.TheVariants as body
@@ -17,7 +18,7 @@ use Rattle.hac_model.specs.declared.states.Entry.{Entry}
 use Rattle.hac_model.specs.declared.states.State.{State}
 use Rattle.hac_model.proofs.ChangeLemmas.{entry_at-changed, entry_at-gone, entry_at-kept, entry_at-new, entry_at-other, is_kept, touched}
 use Rattle.hac_model.proofs.TreeLemmas.{entry_at-behind, entry_at-first, entry_at-low, entry_at-next, entry_at-number}
-use Rattle.hac_model.proofs.ValidLemmas.{apply-valid}
+use Rattle.hac_model.proofs.ValidLemmas.{apply-layout}
 use Rattle.hac_model.proofs.EventLemmas.{due, steps-due}
 use Rattle.hac_core.specs.Counted.{Covers, CoversOthers, is_dirty_at}
 
@@ -134,6 +135,16 @@ module _ (s : State) (h : IsLayout s) (has : ℕ → Bool) (covers : Covers has 
         | false ↦ (λ other dirty. covers n dirty)
       ] refl (sym (dirty-edited s k edit e n found) ∙ is)
 
+  -- an edit that leaves what is dirty as it is
+  pub covers-kept : (k : ℕ) (edit : Body → Body) (e : Entry) → entry_at s.entries k ≡ Some e → ((b : Body) → is_dirty (edit b) ≡ is_dirty b) → Covers has (is_dirty_at (changed_at s k (edited edit)).entries)
+  covers-kept k edit e found keeps n is =
+      elim (k == n) as (λ b. (k == n) ≡ b → cond b (is_dirty (edit e.body)) (is_dirty_at s.entries n) ≡ true → has n ≡ true) [
+        | true ↦ (λ same dirty.
+            let there : entry_at s.entries n ≡ Some e = ap (λ (m : ℕ). entry_at s.entries m) (sym (eqb-true k n same)) ∙ found in
+            covers n (ap dirty_in there ∙ sym (keeps e.body) ∙ dirty))
+        | false ↦ (λ other dirty. covers n dirty)
+      ] refl (sym (dirty-edited s k edit e n found) ∙ is)
+
   pub covers-moved : (k dir : ℕ) (name : List ℕ) → Covers has (is_dirty_at (changed_at s k (reseated dir name)).entries)
   covers-moved k dir name n is = covers n (sym (dirty-reseated s k dir name n) ∙ is)
 
@@ -159,14 +170,29 @@ covers-indexed s has k e found covers n is =
     clean (body.Semantic query permanent prohibited) = refl
     clean (body.Mount space documents answers) = refl
 
--- a state stays valid when its next dirty file is indexed
-pub step-valid : (s : State) → IsValid s → IsValid (apply s Step)
-step-valid s h = elim (next_dirty s.entries) as (λ o. next_dirty s.entries ≡ o → IsValid (option_map_or (λ file. changed_at s file (edited indexed)) o s)) [
-  | None ↦ (λ none. h)
+-- a tree stays one when its next dirty file is indexed
+pub step-layout : (s : State) → IsLayout s → IsLayout (apply s Step)
+step-layout s h = elim (next_dirty s.entries) as (λ o. next_dirty s.entries ≡ o → IsLayout (option_map_or (λ file. changed_at s file (edited indexed)) o s)) [
+  | None ↦ (λ next. h)
   | Some file ↦ (λ next.
-      subst (λ (o : Option ℕ). IsValid (option_map_or (λ file. changed_at s file (edited indexed)) o s)) next
-      (apply-valid s Step h (steps-due s h.layout ∙ sym (due s.entries) ∙ ap (λ (o : Option ℕ). is_some o) next)))
+      subst (λ (o : Option ℕ). IsLayout (option_map_or (λ file. changed_at s file (edited indexed)) o s)) next
+      (apply-layout s Step h (steps-due s h ∙ sym (due s.entries) ∙ ap (λ (o : Option ℕ). is_some o) next)))
 ] refl
 
-pub indexed-valid : (s : State) (n : ℕ) → IsValid s → next_dirty s.entries ≡ Some n → IsValid (changed_at s n (edited indexed))
-indexed-valid s n h next = subst (λ (o : Option ℕ). IsValid (option_map_or (λ file. changed_at s file (edited indexed)) o s)) next (step-valid s h)
+pub indexed-layout : (s : State) (n : ℕ) → IsLayout s → next_dirty s.entries ≡ Some n → IsLayout (changed_at s n (edited indexed))
+indexed-layout s n h next = subst (λ (o : Option ℕ). IsLayout (option_map_or (λ file. changed_at s file (edited indexed)) o s)) next (step-layout s h)
+
+-- a query has nothing to do with what is dirty
+pub asking-dirty : (query : Formula ℕ) (b : Body) → is_dirty (asking query b) ≡ is_dirty b
+asking-dirty query (body.File text dirty shown) = refl
+asking-dirty query body.Dir = refl
+asking-dirty query (body.Symlink target) = refl
+asking-dirty query (body.Semantic old permanent prohibited) = refl
+asking-dirty query (body.Mount space documents answers) = refl
+
+pub plain-dirty : (b : Body) → is_dirty (plain_body b) ≡ is_dirty b
+plain-dirty (body.File text dirty shown) = refl
+plain-dirty body.Dir = refl
+plain-dirty (body.Symlink target) = refl
+plain-dirty (body.Semantic query permanent prohibited) = refl
+plain-dirty (body.Mount space documents answers) = refl

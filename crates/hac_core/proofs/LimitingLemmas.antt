@@ -1,39 +1,48 @@
 -- Which limits a command would pass.
-use Rattle.std.proofs.Common.{◌≡◌, ℕ, zero, suc, ◌+◌, ◌<◌, ◌^◌, Bool, true, false, cond, List, [], ◌∷◌, length, subst, refl, ap, sym, ◌∙◌, arith}
-use Rattle.std.specs.Prelude.{not, nat_le, nat_lt, max, Some, None, IsTrue}
+use Rattle.std.proofs.Common.{◌≡◌, ℕ, zero, suc, ◌+◌, ◌<◌, ◌≤◌, ◌^◌, Bool, true, false, cond, List, [], ◌∷◌, length, subst, refl, ap, sym, ◌∙◌, arith}
+use Rattle.std.specs.Prelude.{not, nat_le, nat_lt, max, replicate, Option, Some, None, IsTrue, is_some}
 use Rattle.std.specs.Option.{option_map_or}
+use Rattle.std.proofs.lemmas.Bool.{ltb-false, le-ltb}
 use Rattle.std.proofs.lemmas.Bool.Decides.{nat_tests}
-use Rattle.hac_model.specs.Events.{added, changed_at, dirty, is_bare, removed, reseated, rewritten}
-use Rattle.hac_model.specs.Limits.{answer_limits, are_paths_short, counts, first_passed, layout_limits, passed, weight}
+use Rattle.hac_model.specs.Events.{added, apply, apply_all, asking, changed, changed_at, dirty, edited, forgotten, is_bare, marked, plain_body, removed, reseated, rewritten}
+use Rattle.hac_model.specs.Limits.{answer_limits, are_paths_short, counts, directory_count, first_passed, layout_limits, passed, text_size, weight}
 use Rattle.hac_model.specs.Links.{parent_of}
-use Rattle.hac_model.specs.Refusals.{blocked, directory_cause, full_cause, led_to}
-use Rattle.hac_model.specs.Tree.{ancestors, entry_at, is_directory_at, is_dirty, is_file, is_file_at, lineage, path_of}
-use Rattle.hac_model.specs.Valid.{IsLayout, IsValid}
+use Rattle.hac_model.specs.Refusals.{blocked, directory_cause, full_cause, led_to, referenced_cause}
+use Rattle.hac_model.specs.Tree.{ancestors, entry_at, is_directory, is_directory_at, is_dirty, is_file, is_file_at, lineage, path_of, query_in}
+use Rattle.hac_model.specs.Valid.{IsLayout}
 use Rattle.hac_model.specs.declared.counts.Counts.{Counts}
-use Rattle.hac_model.specs.declared.limits.TheConstants.{PATH_LIMIT}
+use Rattle.hac_model.specs.declared.limits.TheConstants.{DIRS_LIMIT, ITEMS_LIMIT, PATH_LIMIT, TEXTS_LIMIT}
+use Rattle.hac_model.specs.declared.events.Event.TheVariants.{Step}
+use Rattle.hac_model.specs.declared.marks.Kind.{Kind}
+use Rattle.hac_model.specs.declared.marks.Kind.TheVariants.{Transient, Permanent, Prohibited, Unlinked}
 use Rattle.hac_model.specs.declared.places.Place.{Place}
 use Rattle.hac_model.specs.declared.places.Place.TheVariants.{There, Free}
 use Rattle.hac_model.specs.declared.replies.Refusal.{Refusal}
 use Rattle.hac_model.specs.declared.replies.Refusal.TheVariants as refusal
 use Rattle.hac_model.specs.declared.resolved.Resolved.{Resolved}
-use Rattle.hac_model.specs.declared.resolved.Resolved.TheVariants.{Mkdir, Rmdir, Write, Cat, Ls, Mv, Rm, Smkdir, Sls, Index}
+use Rattle.hac_model.specs.declared.resolved.Resolved.TheVariants.{Mkdir, Rmdir, Write, Mv, Rm, Smkdir, Setq, Unq, Sln, Srm, Sforget, Index}
 use Rattle.hac_model.specs.Formula.{Formula}
 use Rattle.hac_model.specs.declared.states.Body.{Body}
 use Rattle.hac_model.specs.declared.states.Body.TheVariants as body
 use Rattle.hac_model.specs.declared.states.Entry.{Entry}
 use Rattle.hac_model.specs.declared.states.State.{State}
-use Rattle.hac_model.proofs.EventLemmas.{all-valid, no_cause, steps-happen}
-use Rattle.hac_model.proofs.LimitLemmas.{IsWithinLimits, first-before, limits-within, none-passed, paths-short}
+use Rattle.hac_model.proofs.CountLemmas.{directory_count-is, is_queried, measured-less, measured-same, one_if}
+use Rattle.hac_model.proofs.DepthLemmas.{paths-edited}
+use Rattle.hac_model.proofs.EventLemmas.{no_cause}
+use Rattle.hac_model.proofs.LimitLemmas.{IsWithinLimits, first-before, limits-none, limits-within, none-passed, paths-short}
 use Rattle.hac_model.proofs.LookLemmas.{file-or_directory}
 use Rattle.hac_model.proofs.MoveLemmas.{paths-added}
-use Rattle.hac_model.proofs.PassedLemmas.{bare-passes, file-passes}
+use Rattle.hac_model.proofs.PassedLemmas.{bare-passes, edited-passes, file-passes}
 use Rattle.hac_model.proofs.PathLemmas.{ancestors-none, length-path, parent-lives, root-none}
 use Rattle.hac_model.proofs.TreeLemmas.{directory-lives}
+use Rattle.hac_model.proofs.ValidLemmas.{marked-kind, plain-kind}
+use Rattle.hac_core.specs.Blocking.{is_linking}
 use Rattle.hac_core.specs.Counting as counting
 use Rattle.hac_core.specs.Counting.{AreSmall, plus, share_of}
 use Rattle.hac_core.specs.Limiting.{PassAs, with_new}
 use Rattle.hac_core.specs.Standing.{Stands}
 use Rattle.hac_core.proofs.CountingLemmas.{body-small, counts-reseated, rewritten-small, told-added}
+use Rattle.hac_core.proofs.DirtyLemmas.{step-layout}
 use Rattle.hac_core.proofs.StandingLemmas.{is-live, live-is}
 use Rattle.file_tree.specs.Answers.{is_live}
 
@@ -119,7 +128,7 @@ moved-told s n dir name told sum short all same is =
     turned true = refl
     turned false = refl
 
-no_refusal : (b : Bool) (e : Refusal) → cond b (Some e) None ≡ None → b ≡ false
+pub no_refusal : (b : Bool) (e : Refusal) → cond b (Some e) None ≡ None → b ≡ false
 no_refusal true e h = absurd cc
 no_refusal false e h = refl
 
@@ -148,24 +157,107 @@ module _ (s : State) (r : Resolved) (told : Counts) where
       at (There n) same = same-pass s told same
       at (Free dir name) same = same-pass (added s dir name (body.Semantic q [] [])) told same
 
--- what neither makes nor writes nor moves passes none
-pub others-pass : (s : State) (r : Resolved) (told : Counts) → IsValid s → Stands s r → blocked s r ≡ None → told ≡ counts s →
-    ((p : Place) → r ≡ Mkdir p → ⊥) → ((p : Place) (q : Formula ℕ) → r ≡ Smkdir p q → ⊥) → ((p : Place) (text : List ℕ) → r ≡ Write p text → ⊥) → ((n : ℕ) (p : Place) → r ≡ Mv n p → ⊥) → PassAs (led_to s r) told
-others-pass s (Mkdir p) told h stands free same a b c d = absurd (a p refl)
-others-pass s (Smkdir p q) told h stands free same a b c d = absurd (b p q refl)
-others-pass s (Write p text) told h stands free same a b c d = absurd (c p text refl)
-others-pass s (Mv n p) told h stands free same a b c d = absurd (d n p refl)
-others-pass s (Rmdir dir) told h stands free same a b c d =
-    let root = no_cause _ (full_cause s dir ∷ []) free in
-    let full = no_cause (full_cause s dir) [] root.1 in
-    none-pass s (removed s dir) told h.layout.limits (bare-passes s dir h.layout (no_other (is_bare s.entries dir) (refusal.NotEmpty (path_of s dir)) full.0)) same
-others-pass s (Rm n) told h stands free same a b c d =
-    let root = no_cause _ (directory_cause s n ∷ []) free in
+  pub setq-pass : (dir : ℕ) (q : Formula ℕ) → r ≡ Setq dir q → told ≡ counts (changed_at s dir (edited (asking q))) → PassAs (led_to s r) told
+  setq-pass dir q is same = subst (λ (r : Resolved). PassAs (led_to s r) told) (sym is) (same-pass (changed_at s dir (edited (asking q))) told same)
+
+-- a directory that asks something counts as a semantic one
+pub asking-share : (q : Formula ℕ) (b : Body) → is_directory b ≡ true → (share : Counts) → ((asked : Formula ℕ) (permanent prohibited : List ℕ) → share ≡ share_of (body.Semantic asked permanent prohibited)) → share ≡ share_of (asking q b)
+asking-share q body.Dir is share all = all q [] []
+asking-share q (body.Semantic old permanent prohibited) is share all = all q permanent prohibited
+asking-share q other is share all = absurd cc
+
+-- a mark makes no count greater
+mark-passes : (s : State) (dir item : ℕ) (kind : Kind) → IsLayout s → passed (changed_at s dir (edited (marked item kind))) ≡ None
+mark-passes s dir item kind h =
+    edited-passes s dir (marked item kind) h (record { directories = marked-kind item kind; queries = (λ b. ap (λ (o : Option (Formula ℕ)). is_some o) (marked-query kind b)); files = marked-file kind })
+    (let same : text_size (changed dir (edited (marked item kind)) s.entries) ≡ text_size s.entries = measured-same weight dir (edited (marked item kind)) s.entries (λ e. marked-weight kind e.body) in omega (arith, same))
+  where
+    marked-query : (kind : Kind) (b : Body) → query_in (marked item kind b) ≡ query_in b
+    marked-query Permanent (body.Semantic asked permanent prohibited) = refl
+    marked-query Prohibited (body.Semantic asked permanent prohibited) = refl
+    marked-query Transient (body.Semantic asked permanent prohibited) = refl
+    marked-query Unlinked (body.Semantic asked permanent prohibited) = refl
+    marked-query Permanent other = refl
+    marked-query Prohibited other = refl
+    marked-query Transient other = refl
+    marked-query Unlinked other = refl
+
+    marked-file : (kind : Kind) (b : Body) → is_file (marked item kind b) ≡ is_file b
+    marked-file Permanent (body.Semantic asked permanent prohibited) = refl
+    marked-file Prohibited (body.Semantic asked permanent prohibited) = refl
+    marked-file Transient (body.Semantic asked permanent prohibited) = refl
+    marked-file Unlinked (body.Semantic asked permanent prohibited) = refl
+    marked-file Permanent other = refl
+    marked-file Prohibited other = refl
+    marked-file Transient other = refl
+    marked-file Unlinked other = refl
+
+    marked-weight : (kind : Kind) (b : Body) → weight (marked item kind b) ≡ weight b
+    marked-weight Permanent (body.Semantic asked permanent prohibited) = refl
+    marked-weight Prohibited (body.Semantic asked permanent prohibited) = refl
+    marked-weight Transient (body.Semantic asked permanent prohibited) = refl
+    marked-weight Unlinked (body.Semantic asked permanent prohibited) = refl
+    marked-weight Permanent other = refl
+    marked-weight Prohibited other = refl
+    marked-weight Transient other = refl
+    marked-weight Unlinked other = refl
+
+-- steps leave a tree one
+steps-layout : (n : ℕ) (s : State) → IsLayout s → IsLayout (apply_all s (replicate n Step))
+steps-layout zero s h = h
+steps-layout (suc n) s h = steps-layout n (apply s Step) (step-layout s h)
+
+-- a query that goes makes no count greater
+unq-passes : (s : State) (dir : ℕ) → IsLayout s → passed (changed_at s dir (edited plain_body)) ≡ None
+unq-passes s dir h =
+    let old : IsWithinLimits s = limits-within s h.limits in
+    let es = s.entries in
+    let keeps = λ (test : Body → Bool) (same : (b : Body) → test (plain_body b) ≡ test b). measured-same (one_if test) dir (edited plain_body) es (λ e. ap (λ (b : Bool). cond {A = ℕ} b 1 0) (same e.body)) in
+    let dirs : directory_count (changed dir (edited plain_body) es) ≡ directory_count es = omega (arith, keeps is_directory plain-kind, directory_count-is es, directory_count-is (changed dir (edited plain_body) es)) in
+    limits-none (changed_at s dir (edited plain_body)) (record {
+      texts = ap (λ (k : ℕ). nat_lt TEXTS_LIMIT k) (measured-same weight dir (edited plain_body) es (λ e. plain-weight e.body)) ∙ old.texts;
+      dirs = ap (λ (k : ℕ). nat_lt DIRS_LIMIT k) dirs ∙ old.dirs;
+      semantics = less-within _ _ _ (measured-less (one_if is_queried) dir (edited plain_body) es (λ e. plain-fewer e.body)) old.semantics;
+      paths = paths-edited es dir plain_body ∙ old.paths;
+      items = ap (λ (k : ℕ). nat_lt ITEMS_LIMIT k) (keeps is_file plain-file) ∙ old.items;
+      numbers = old.numbers;
+    })
+  where
+    plain-file : (b : Body) → is_file (plain_body b) ≡ is_file b
+    plain-file (body.Semantic asked permanent prohibited) = refl
+    plain-file other = refl
+
+    plain-weight : (b : Body) → weight (plain_body b) ≡ weight b
+    plain-weight (body.Semantic asked permanent prohibited) = refl
+    plain-weight other = refl
+
+    plain-fewer : (b : Body) → one_if is_queried (plain_body b) ≤ one_if is_queried b
+    plain-fewer (body.Semantic asked permanent prohibited) = omega arith
+    plain-fewer other = omega arith
+
+    less-within : (k m n : ℕ) → m ≤ n → nat_lt k n ≡ false → nat_lt k m ≡ false
+    less-within k m n less within = let high : n ≤ k = ltb-false k n within in le-ltb k m (omega arith)
+
+-- what neither makes nor writes nor moves nor asks passes none
+pub others-pass : (s : State) (r : Resolved) (told : Counts) → IsLayout s → Stands s r → (is_linking r ≡ false → blocked s r ≡ None) → told ≡ counts s →
+    ((p : Place) → r ≡ Mkdir p → ⊥) → ((p : Place) (q : Formula ℕ) → r ≡ Smkdir p q → ⊥) → ((p : Place) (text : List ℕ) → r ≡ Write p text → ⊥) → ((n : ℕ) (q : Formula ℕ) → r ≡ Setq n q → ⊥) → ((n : ℕ) (p : Place) → r ≡ Mv n p → ⊥) → PassAs (led_to s r) told
+others-pass s (Mkdir p) told h stands free same a b c q d = absurd (a p refl)
+others-pass s (Smkdir p asked) told h stands free same a b c q d = absurd (b p asked refl)
+others-pass s (Write p text) told h stands free same a b c q d = absurd (c p text refl)
+others-pass s (Setq n asked) told h stands free same a b c q d = absurd (q n asked refl)
+others-pass s (Mv n p) told h stands free same a b c q d = absurd (d n p refl)
+others-pass s (Rmdir dir) told h stands free same a b c q d =
+    let root = no_cause _ (full_cause s dir ∷ referenced_cause s dir ∷ []) (free refl) in
+    let full = no_cause (full_cause s dir) (referenced_cause s dir ∷ []) root.1 in
+    none-pass s (removed s dir) told h.limits (bare-passes s dir h (no_other (is_bare s.entries dir) (refusal.NotEmpty (path_of s dir)) full.0)) same
+others-pass s (Rm n) told h stands free same a b c q d =
+    let root = no_cause _ (directory_cause s n ∷ []) (free refl) in
     let file = no_cause (directory_cause s n) [] root.1 in
-    none-pass s (removed s n) told h.layout.limits (file-passes s n h.layout (written-file s n h.layout stands file.0)) same
-others-pass s (Cat n) told h stands free same a b c d = same-pass s told same
-others-pass s (Ls dir) told h stands free same a b c d = same-pass s told same
-others-pass s (Sls dir) told h stands free same a b c d = same-pass s told same
-others-pass s Index told h stands free same a b c d =
-    let after : IsValid (led_to s Index) = all-valid _ s h (steps-happen (dirty s) s h refl) in
-    none-pass s (led_to s Index) told h.layout.limits after.layout.limits same
+    none-pass s (forgotten (removed s n) n) told h.limits (file-passes s n h (written-file s n h stands file.0)) same
+others-pass s (Unq dir) told h stands free same a b c q d = none-pass s (changed_at s dir (edited plain_body)) told h.limits (unq-passes s dir h) same
+others-pass s (Sln n dir) told h stands free same a b c q d = none-pass s (changed_at s dir (edited (marked n Permanent))) told h.limits (mark-passes s dir n Permanent h) same
+others-pass s (Srm n dir) told h stands free same a b c q d = none-pass s (changed_at s dir (edited (marked n Prohibited))) told h.limits (mark-passes s dir n Prohibited h) same
+others-pass s (Sforget n dir) told h stands free same a b c q d = none-pass s (changed_at s dir (edited (marked n Unlinked))) told h.limits (mark-passes s dir n Unlinked h) same
+others-pass s Index told h stands free same a b c q d =
+    none-pass s (led_to s Index) told h.limits (steps-layout (dirty s) s h).limits same
+others-pass s other told h stands free same a b c q d = same-pass s told same

@@ -1,17 +1,14 @@
 -- What is listed, one line after the other.
-use Rattle.std.proofs.Common.{◌≡◌, ℕ, zero, suc, ◌+◌, ◌<◌, ◌≤◌, Bool, true, false, cond, List, [], ◌∷◌, ◌++◌, length, get_or, map, take, refl, ap, sym, ◌∙◌, arith}
-use Rattle.std.specs.Prelude.{◌==◌, ◌&&◌, Option, Some, is_some, filter}
+use Rattle.std.proofs.Common.{◌≡◌, ℕ, zero, suc, ◌<◌, ◌≤◌, true, false, cond, List, [], ◌∷◌, length, get_or, map, take, refl, ap, ◌∙◌, arith}
+use Rattle.std.specs.Prelude.{◌==◌, Option, Some, is_some, filter}
 use Rattle.std.specs.Option.{option_map_or}
-use Rattle.std.specs.List.{AllByRecursion, range_with_len}
-use Rattle.hac_model.specs.Links.{column, is_item, links}
+use Rattle.std.specs.List.{AllByRecursion}
 use Rattle.hac_model.specs.Listing.{children, entry_line, in_order, is_before, put_in_order}
-use Rattle.hac_model.specs.Play.{link_line}
-use Rattle.hac_model.specs.Tree.{entry_at, is_file_at}
-use Rattle.hac_model.specs.Valid.{IsLayout, IsValid}
+use Rattle.hac_model.specs.Tree.{entry_at}
+use Rattle.hac_model.specs.Valid.{IsLayout}
 use Rattle.hac_model.specs.declared.states.Entry.{Entry}
 use Rattle.hac_model.specs.declared.states.State.{State}
 use Rattle.hac_model.proofs.ChangeLemmas.{all-filter}
-use Rattle.hac_model.proofs.ListedLemmas.{links-listed}
 use Rattle.hac_model.proofs.TreeLemmas.{all-entries}
 
 -- What stands in a directory.
@@ -60,55 +57,3 @@ take-whole (x ∷ xs) (suc n) less = ap (λ ys. x ∷ ys) (take-whole xs n (omeg
 -- after the last child there is a line for each
 pub children-end : (s : State) (dir i : ℕ) (numbers : List ℕ) (lines : List (List ℕ)) → IsLayout s → numbers ≡ map (λ (e : Entry). e.number) (children s dir) → length numbers ≤ i → lines ≡ map (line_at s) (take i numbers) → lines ≡ map entry_line (children s dir)
 children-end s dir i numbers lines h same all so_far = so_far ∙ ap (map (line_at s)) (take-whole numbers i all ∙ same) ∙ child-lines s dir h
-
--- The links of a directory.
-
--- the number is that of a linked file
-abbrev pub is_listed : State → ℕ → ℕ → Bool
-is_listed s dir n = is_file_at s.entries n && column (links s) n dir
-
-both : (p q : ℕ → Bool) (ns : List ℕ) → filter p (filter q ns) ≡ filter (λ n. q n && p n) ns
-both p q [] = refl
-both p q (n ∷ ns) = elim (q n) as (λ b. filter p (cond b (n ∷ filter q ns) (filter q ns)) ≡ cond (b && p n) (n ∷ filter (λ n. q n && p n) ns) (filter (λ n. q n && p n) ns)) [
-  | true ↦ (elim (p n) as (λ t. cond t (n ∷ filter p (filter q ns)) (filter p (filter q ns)) ≡ cond t (n ∷ filter (λ n. q n && p n) ns) (filter (λ n. q n && p n) ns)) [
-    | true ↦ ap (λ (rest : List ℕ). n ∷ rest) (both p q ns)
-    | false ↦ both p q ns
-  ])
-  | false ↦ both p q ns
-]
-
-pub links-all : (s : State) (dir : ℕ) → IsValid s → map (link_line s) (filter (is_listed s dir) (range_with_len 0 s.next)) ≡ map (link_line s) (links s dir)
-links-all s dir h = ap (map (link_line s)) (sym (both (λ item. column (links s) item dir) (is_item s) (range_with_len 0 s.next)) ∙ sym (links-listed s dir h.acyclic))
-
-filter-more : (p : ℕ → Bool) (ns : List ℕ) (n : ℕ) → filter p (ns ++ n ∷ []) ≡ filter p ns ++ cond (p n) (n ∷ []) []
-filter-more p [] n = elim (p n) as (λ b. cond b (n ∷ []) [] ≡ cond b (n ∷ []) []) [ true ↦ refl | false ↦ refl ]
-filter-more p (m ∷ ns) n = elim (p m) as (λ b. cond b (m ∷ filter p (ns ++ n ∷ [])) (filter p (ns ++ n ∷ [])) ≡ cond b (m ∷ filter p ns) (filter p ns) ++ cond (p n) (n ∷ []) []) [
-  | true ↦ ap (λ (rest : List ℕ). m ∷ rest) (filter-more p ns n)
-  | false ↦ filter-more p ns n
-]
-
-range-more : (a n : ℕ) → range_with_len a (suc n) ≡ range_with_len a n ++ (a + n) ∷ []
-range-more a zero = let same : a ≡ a + zero = omega arith in ap (λ (k : ℕ). k ∷ []) same
-range-more a (suc n) = let same : a + 1 + n ≡ a + suc n = omega arith in ap (λ (rest : List ℕ). a ∷ rest) (range-more (a + 1) n ∙ ap (λ (k : ℕ). range_with_len (a + 1) n ++ k ∷ []) same)
-
-map-two : {A B : Type 0} (f : A → B) (xs ys : List A) → map f (xs ++ ys) ≡ map f xs ++ map f ys
-map-two f [] ys = refl
-map-two f (x ∷ xs) ys = ap (λ zs. f x ∷ zs) (map-two f xs ys)
-
--- one number more
-pub links-on : (s : State) (dir n : ℕ) (listed : Bool) (lines more : List (List ℕ)) → listed ≡ is_listed s dir n → lines ≡ map (link_line s) (filter (is_listed s dir) (range_with_len 0 n)) →
-    more ≡ lines ++ cond listed (link_line s n ∷ []) [] → more ≡ map (link_line s) (filter (is_listed s dir) (range_with_len 0 (n + 1)))
-links-on s dir n listed lines more told so_far grows =
-    let next : n + 1 ≡ suc n = omega arith in
-    let here : 0 + n ≡ n = omega arith in
-    grows
-    ∙ ap (λ (ls : List (List ℕ)). ls ++ cond listed (link_line s n ∷ []) []) so_far
-    ∙ ap (λ (b : Bool). map (link_line s) (filter (is_listed s dir) (range_with_len 0 n)) ++ cond b (link_line s n ∷ []) []) told
-    ∙ one (is_listed s dir n)
-    ∙ sym (map-two (link_line s) (filter (is_listed s dir) (range_with_len 0 n)) (cond (is_listed s dir n) (n ∷ []) []))
-    ∙ ap (map (link_line s)) (sym (filter-more (is_listed s dir) (range_with_len 0 n) n))
-    ∙ ap (λ (ns : List ℕ). map (link_line s) (filter (is_listed s dir) ns)) (ap (λ (k : ℕ). range_with_len 0 n ++ k ∷ []) (sym here) ∙ sym (range-more 0 n) ∙ ap (range_with_len 0) (sym next))
-  where
-    one : (b : Bool) → map (link_line s) (filter (is_listed s dir) (range_with_len 0 n)) ++ cond b (link_line s n ∷ []) [] ≡ map (link_line s) (filter (is_listed s dir) (range_with_len 0 n)) ++ map (link_line s) (cond b (n ∷ []) [])
-    one true = refl
-    one false = refl

@@ -5,11 +5,10 @@ use Rattle.std.specs.Option.{option_map}
 use Rattle.hac_model.specs.Answers.{first_cause}
 use Rattle.hac_model.specs.Laws.{AllHappen}
 use Rattle.hac_model.specs.Limits.{answer_limits, counts, first_passed}
-use Rattle.hac_model.specs.Refusals.{answer_cause, cause, cause_against, early_cause, events_of, led_to, refusal}
+use Rattle.hac_model.specs.Refusals.{answer_cause, cause, cause_against, early_cause, events_of, refusal}
 use Rattle.hac_model.specs.Resolving.{resolve}
 use Rattle.hac_model.specs.Valid.{IsValid}
 use Rattle.hac_model.specs.declared.commands.Line.{Line}
-use Rattle.hac_model.specs.declared.counts.Counts.{Counts}
 use Rattle.hac_model.specs.declared.events.Event.{Event}
 use Rattle.hac_model.specs.declared.limits.LimitWord.{LimitWord}
 use Rattle.hac_model.specs.declared.replies.Deny.{Deny}
@@ -17,11 +16,11 @@ use Rattle.hac_model.specs.declared.replies.Deny.TheVariants.{Refused, Memory}
 use Rattle.hac_model.specs.declared.replies.Refusal.{Refusal}
 use Rattle.hac_model.specs.declared.replies.Refusal.TheVariants.{Limit}
 use Rattle.hac_model.specs.declared.resolved.Resolved.{Resolved}
-use Rattle.hac_model.specs.declared.resolved.Resolved.TheVariants.{Cat, Ls, Sls}
+use Rattle.hac_model.specs.declared.resolved.Resolved.TheVariants as resolved
+use Rattle.hac_model.specs.declared.resolved.Resolved.TheVariants.{Cat, Ls, Query, Sls, Find}
 use Rattle.hac_model.specs.declared.states.State.{State}
 use Rattle.hac_model.proofs.EventLemmas.{commands-happen}
 use Rattle.hac_core.specs.Drafts.{IsDraft, Refuses, reads}
-use Rattle.hac_core.specs.Limiting.{PassAs}
 use Rattle.hac_core.specs.Settling.{Settles, events_in}
 use Rattle.hac_core.specs.declared.drafts.Settled.{Settled}
 use Rattle.std.specs.Prelude.{true}
@@ -41,9 +40,9 @@ module _ (s : State) (r : Resolved) where
   none-cause early answers = ap (λ (o : Option Refusal). first_cause (o ∷ answer_cause s r ∷ [])) early ∙ ap (λ (o : Option Refusal). first_cause (o ∷ [])) answers
 
   -- nothing speaks against a draft that passes no other limit, and its events can happen
-  pub draft-settles : (settled : Settled) (told : Counts) → IsValid s → IsDraft s r → PassAs (led_to s r) told → option_map Limit (first_passed (answer_limits told)) ≡ None → events_in settled ≡ events_of s r → Settles s r settled
-  draft-settles settled told h made passes within events =
-      let free : cause s r ≡ None = none-cause made.1.cause (ap (λ (o : Option LimitWord). option_map Limit o) (sym passes.answers) ∙ within) in
+  pub draft-settles : (settled : Settled) → IsValid s → IsDraft s r → answer_cause s r ≡ None → events_in settled ≡ events_of s r → Settles s r settled
+  draft-settles settled h made within events =
+      let free : cause s r ≡ None = none-cause made.1.cause within in
       record {
         cause = free;
         events = events;
@@ -60,5 +59,12 @@ module _ (s : State) (r : Resolved) where
       by : (r : Resolved) → reads r ≡ true → answer_cause s r ≡ None
       by (Cat entry) reading = none
       by (Ls dir) reading = none
+      by (Query dir) reading = none
       by (Sls dir) reading = none
+      by (Find query) reading = none
+      by resolved.Counts reading = none
       by other reading = absurd cc
+
+-- a draft made in a state is one of the same state, seen otherwise
+pub kept-draft : (s t : State) (r made : Resolved) → s ≡ t → r ≡ made → IsDraft t made → IsDraft s r
+kept-draft s t r made same is h = subst (λ (x : State). IsDraft x r) (sym same) (subst (λ (x : Resolved). IsDraft t x) (sym is) h)

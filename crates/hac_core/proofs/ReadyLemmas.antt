@@ -1,52 +1,36 @@
 -- What is ready, and what comes of it.
-use Rattle.std.proofs.Common.{◌≡◌, ℕ, suc, ◌+◌, ◌-◌, ◌<◌, Bool, true, cond, List, inl, inr, arith, subst, refl, ap, sym, ◌∙◌}
-use Rattle.std.specs.Prelude.{◌⊎◌, replicate, Some, None}
-use Rattle.hac_model.specs.Events.{added, apply, apply_all, changed_at, edited, removed, reseated, rewritten}
-use Rattle.hac_model.specs.Laws.{AllHappen}
-use Rattle.hac_model.specs.Tree.{is_dirty}
-use Rattle.hac_model.specs.Valid.{IsValid}
+use Rattle.std.proofs.Common.{◌≡◌, ℕ, suc, ◌+◌, ◌-◌, ◌<◌, Bool, true, cond, List, [], ◌∷◌, length, arith, subst, ap, sym, ◌∙◌, refl}
+use Rattle.std.specs.Prelude.{◌==◌, ◌&&◌, replicate, Some, None, is_none, IsTrue}
+use Rattle.std.proofs.lemmas.Bool.{and_parts, eqb-true}
+use Rattle.hac_model.specs.Depends.{cycle_over}
+use Rattle.hac_model.specs.Events.{accepted, added, apply, apply_all, is_free, is_possible, may_ask}
+use Rattle.hac_model.specs.Formula.{Formula}
+use Rattle.hac_model.specs.Limits.{is_text, passed}
+use Rattle.hac_model.specs.Links.{parent_of}
+use Rattle.hac_model.specs.Tree.{is_directory_at, is_dirty, is_made_directory}
+use Rattle.hac_model.specs.declared.events.Event.{Event}
 use Rattle.hac_model.specs.declared.events.Event.TheVariants as event
 use Rattle.hac_model.specs.declared.states.Body.{Body}
 use Rattle.hac_model.specs.declared.states.Body.TheVariants as body
 use Rattle.hac_model.specs.declared.states.State.{State}
-use Rattle.hac_model.proofs.EventLemmas.{all-valid}
-use Rattle.file_tree.specs.Ready.{body_in, name_in, new_text, room_in}
+use Rattle.hac_model.proofs.ValidLemmas.{accepted-parts, free-parts, move-parts, smkdir-parts}
+use Rattle.file_tree.specs.Ready.{body_in, room_in}
 use Rattle.file_tree.specs.declared.ready.Ready as tree
 use Rattle.file_tree.specs.declared.ready.Ready.TheVariants as tree_ready
 use Rattle.file_tree.specs.declared.ready.Room.TheVariants as room
+use Rattle.link_kinds.specs.Marked.{marked}
+use Rattle.link_kinds.specs.Seen.{Known}
+use Rattle.link_kinds.proofs.MarkedLemmas.{directory-marked}
 use Rattle.hac_core.specs.Counted.{awaited}
-use Rattle.hac_core.specs.Ready.{Suits, as_new, made, ready_events}
-use Rattle.hac_core.specs.declared.ready.Ready.{Ready}
-use Rattle.hac_core.specs.declared.ready.Ready.TheVariants.{Add, Rewrite, Move, Rm, Rmdir}
+use Rattle.hac_core.specs.Ready.{as_new, made}
 
 -- the event of a new body adds it
-made-apply : (s : State) (dir : ℕ) (name : List ℕ) (b : Body) → b ≡ as_new b → apply s (made dir name b) ≡ added s dir name b
+pub made-apply : (s : State) (dir : ℕ) (name : List ℕ) (b : Body) → b ≡ as_new b → apply s (made dir name b) ≡ added s dir name b
 made-apply s dir name (body.File text dirty shown) new = ap (added s dir name) (sym new)
 made-apply s dir name body.Dir new = refl
 made-apply s dir name (body.Semantic query permanent prohibited) new = ap (added s dir name) (sym new)
 made-apply s dir name (body.Symlink target) new = absurd cc
 made-apply s dir name (body.Mount space documents answers) new = absurd cc
-
--- The states to which what is ready leads are valid.
-
-module _ (s : State) (h : IsValid s) (ready : Ready) (kept : tree.Ready) (suits : Suits ready kept) (happen : AllHappen s (ready_events ready kept)) where
-  leads-valid : (t : State) → apply_all s (ready_events ready kept) ≡ t → IsValid t
-  leads-valid t same = subst (λ (x : State). IsValid x) same (all-valid (ready_events ready kept) s h happen)
-
-  pub added-valid : (dir : ℕ) (name : List ℕ) → ready ≡ Add dir name → IsValid (added s dir name (body_in kept))
-  added-valid dir name is =
-      let fits : Suits (Add dir name) kept = subst (λ (r : Ready). Suits r kept) is suits in
-      leads-valid (added s dir name (body_in kept)) (ap (λ (r : Ready). apply_all s (ready_events r kept)) is ∙ made-apply s dir name (body_in kept) fits.1)
-
-  pub text-valid : (file : ℕ) → ready ≡ Rewrite file → IsValid (changed_at s file (edited (rewritten (new_text kept))))
-  text-valid file is = leads-valid (changed_at s file (edited (rewritten (new_text kept)))) (ap (λ (r : Ready). apply_all s (ready_events r kept)) is)
-
-  pub moved-valid : (entry dir : ℕ) → ready ≡ Move entry dir → IsValid (changed_at s entry (reseated dir (name_in kept)))
-  moved-valid entry dir is = leads-valid (changed_at s entry (reseated dir (name_in kept))) (ap (λ (r : Ready). apply_all s (ready_events r kept)) is)
-
-  pub removed-valid : (entry : ℕ) → (ready ≡ Rm entry) ⊎ (ready ≡ Rmdir entry) → IsValid (removed s entry)
-  removed-valid entry (inl file) = leads-valid (removed s entry) (ap (λ (r : Ready). apply_all s (ready_events r kept)) file)
-  removed-valid entry (inr dir) = leads-valid (removed s entry) (ap (λ (r : Ready). apply_all s (ready_events r kept)) dir)
 
 -- one step more, and one fewer to come
 pub steps-on : (s after leads : State) (count counter : ℕ) → counter < count → after ≡ apply s event.Step → apply_all s (replicate (count - counter) event.Step) ≡ leads → apply_all after (replicate (count - (counter + 1)) event.Step) ≡ leads
@@ -64,8 +48,56 @@ awaited-add next dir (tree_ready.Move d name) is dirty = absurd cc
 awaited-add next dir (tree_ready.Edit e b) is dirty = absurd cc
 
 -- so is that of a file whose text is to be replaced
-pub awaited-text : (next file : ℕ) (kept : tree.Ready) → room_in kept ≡ Some (room.Edit file) → awaited next kept ≡ Some file
-awaited-text next file tree_ready.Nothing is = absurd cc
-awaited-text next file (tree_ready.Add d b) is = absurd cc
-awaited-text next file (tree_ready.Move d name) is = absurd cc
-awaited-text next file (tree_ready.Edit e b) is = let same : e ≡ file = cc in ap (λ (k : ℕ). Some k) same
+pub awaited-text : (next file : ℕ) (kept : tree.Ready) → room_in kept ≡ Some (room.Edit file) → is_dirty (body_in kept) ≡ true → awaited next kept ≡ Some file
+awaited-text next file tree_ready.Nothing is dirty = absurd cc
+awaited-text next file (tree_ready.Add d b) is dirty = absurd cc
+awaited-text next file (tree_ready.Move d name) is dirty = absurd cc
+awaited-text next file (tree_ready.Edit e b) is dirty =
+    let same : e ≡ file = cc in
+    ap (λ (t : Bool). cond t (Some e) None) dirty ∙ ap (λ (k : ℕ). Some k) same
+
+-- What an event needs so that it can be prepared.
+
+free-directory : (links : Known) (t : State) (dir : ℕ) (name : List ℕ) → is_free (marked links t) dir name ≡ true → is_directory_at t.entries dir ≡ true
+free-directory links t dir name free = sym (directory-marked links t dir) ∙ (free-parts (marked links t) dir name free).0
+
+pub possible-of : (s : State) (e : Event) → IsTrue (accepted s e) → is_possible s e ≡ true
+possible-of s e ok = (accepted-parts (is_possible s e) (passed (apply s e)) ok).0
+
+no-told : (told : List (List ℕ)) → (length told == 0) ≡ true → told ≡ []
+no-told [] none = refl
+no-told (first ∷ told) none = absurd (omega (arith, eqb-true (length (first ∷ told)) 0 none))
+
+module _ (links : Known) (t : State) (e : Event) (ok : IsTrue (accepted (marked links t) e)) where
+  pub mkdir-directory : (dir : ℕ) (name : List ℕ) → e ≡ event.Mkdir dir name → is_directory_at t.entries dir ≡ true
+  mkdir-directory dir name is = free-directory links t dir name (possible-of (marked links t) (event.Mkdir dir name) (subst (λ (e : Event). IsTrue (accepted (marked links t) e)) is ok))
+
+  pub file-directory : (dir : ℕ) (name text : List ℕ) → e ≡ event.NewFile dir name text → is_directory_at t.entries dir ≡ true
+  file-directory dir name text is =
+      let possible = possible-of (marked links t) (event.NewFile dir name text) (subst (λ (e : Event). IsTrue (accepted (marked links t) e)) is ok) in
+      free-directory links t dir name (and_parts (is_free (marked links t) dir name) (is_text text) possible).0
+
+  pub smkdir-directory : (dir : ℕ) (name : List ℕ) (query : Formula ℕ) (told : List (List ℕ)) → e ≡ event.Smkdir dir name query told → is_directory_at t.entries dir ≡ true
+  smkdir-directory dir name query told is =
+      let possible = possible-of (marked links t) (event.Smkdir dir name query told) (subst (λ (e : Event). IsTrue (accepted (marked links t) e)) is ok) in
+      free-directory links t dir name (smkdir-parts (marked links t) dir name query told possible).0
+
+  pub move-directory : (entry dir : ℕ) (name : List ℕ) → e ≡ event.Mv entry dir name → is_directory_at t.entries dir ≡ true
+  move-directory entry dir name is =
+      let possible = possible-of (marked links t) (event.Mv entry dir name) (subst (λ (e : Event). IsTrue (accepted (marked links t) e)) is ok) in
+      free-directory links t dir name (move-parts (marked links t) entry dir name possible).1
+
+  -- no space tells anything yet
+  pub smkdir-event : (dir : ℕ) (name : List ℕ) (query : Formula ℕ) (told : List (List ℕ)) → e ≡ event.Smkdir dir name query told → event.Smkdir dir name query [] ≡ e
+  smkdir-event dir name query told is =
+      let s = marked links t in
+      let possible = possible-of s (event.Smkdir dir name query told) (subst (λ (e : Event). IsTrue (accepted s e)) is ok) in
+      let none = (and_parts (is_free s dir name && may_ask s query) (length told == 0) possible).1 in
+      sym (is ∙ ap (event.Smkdir dir name query) (no-told told none))
+
+  pub setq-event : (dir : ℕ) (query : Formula ℕ) (told : List (List ℕ)) → e ≡ event.Setq dir query told → event.Setq dir query [] ≡ e
+  setq-event dir query told is =
+      let s = marked links t in
+      let possible = possible-of s (event.Setq dir query told) (subst (λ (e : Event). IsTrue (accepted s e)) is ok) in
+      let none = (and_parts (is_made_directory s.entries dir && may_ask s query && is_none (cycle_over s dir (parent_of s dir) query)) (length told == 0) possible).1 in
+      sym (is ∙ ap (event.Setq dir query) (no-told told none))

@@ -15,7 +15,7 @@ use Rattle.hac_model.specs.declared.replies.Deny.{Deny}
 use Rattle.hac_model.specs.declared.replies.Deny.TheVariants.{Refused, Memory}
 use Rattle.hac_model.specs.declared.replies.Refusal.{Refusal}
 use Rattle.hac_model.specs.declared.resolved.Resolved.{Resolved}
-use Rattle.hac_model.specs.declared.resolved.Resolved.TheVariants.{Mkdir, Rmdir, Write, Cat, Ls, Mv, Rm, Smkdir, Sls, Index}
+use Rattle.hac_model.specs.declared.resolved.Resolved.TheVariants.{Mkdir, Rmdir, Write, Cat, Ls, Mv, Rm, Smkdir, Setq, Unq, Query, Sls, Sln, Srm, Sforget, Find, Index, Counts}
 use Rattle.hac_model.specs.declared.states.Body.{Body}
 use Rattle.hac_model.specs.declared.states.Body.TheVariants as body
 use Rattle.hac_model.specs.declared.states.Entry.{Entry}
@@ -84,9 +84,17 @@ command-stands s (Cat entry) h = (live-is s.entries entry h, refl)
 command-stands s (Ls dir) h = (h, refl)
 command-stands s (Mv entry place) h = ((live-is s.entries entry h.0, place-stands s place h.1), refl)
 command-stands s (Rm entry) h = (live-is s.entries entry h, refl)
-command-stands s (Smkdir place query) h = (place-stands s place h.0, refl)
+command-stands s (Smkdir place query) h = ((place-stands s place h.0, h.1), refl)
+command-stands s (Setq dir query) h = (h, refl)
+command-stands s (Unq dir) h = (h, refl)
+command-stands s (Query dir) h = (h, refl)
 command-stands s (Sls dir) h = (h, refl)
+command-stands s (Sln item dir) h = ((live-is s.entries item h.0, h.1), refl)
+command-stands s (Srm item dir) h = ((live-is s.entries item h.0, h.1), refl)
+command-stands s (Sforget item dir) h = ((live-is s.entries item h.0, h.1), refl)
+command-stands s (Find query) h = (h, refl)
 command-stands s Index h = (tt, refl)
+command-stands s Counts h = (tt, refl)
 
 -- all that a line speaks of stands in the state, and its text is one
 pub line-stands : (s : State) (line : Line) (r : Resolved) → IsValid s → IsTrue (is_spelled line.command) → resolve s line ≡ Ok r → Stands s r × (are_texts r ≡ true)

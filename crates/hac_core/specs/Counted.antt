@@ -5,7 +5,7 @@ use Rattle.std.specs.Ordering.{nat_cmp}
 use Rattle.std.specs.BTreeSet.{contains}
 use Rattle.hac_model.specs.Limits.{counts}
 use Rattle.hac_model.specs.Tree.{body_at, is_dirty}
-use Rattle.hac_model.specs.Valid.{IsValid}
+use Rattle.hac_model.specs.Valid.{IsLayout}
 use Rattle.hac_model.specs.declared.states.Entry.{Entry}
 use Rattle.file_tree.specs.Seen.{Seen}
 use Rattle.file_tree.specs.declared.ready.Ready.{Ready}
@@ -19,7 +19,7 @@ is_dirty_at entries number = option_map_or is_dirty (body_at entries number) fal
 -- the number of the file that will be dirty once the tree has made the change for which it is ready, told the next number
 abbrev pub awaited : ℕ → Ready → Option ℕ
 awaited next (Add dir body) = if is_dirty body then Some next else None
-awaited next (Edit entry body) = Some entry
+awaited next (Edit entry body) = if is_dirty body then Some entry else None
 awaited next other = None
 
 -- the set has each number that passes
@@ -33,10 +33,10 @@ CoversOthers has passes taken = (number : ℕ) → passes number ≡ true → (t
 abbrev pub seen_of : Inside → Seen
 seen_of kept = kept.tree
 
--- the tree is valid and counted, and the set has its dirty files. It may have other numbers, of files that went, or that
+-- the tree is counted, and the set has its dirty files. It may have other numbers, of files that went, or that
 -- were to come and didn't.
 pub record IsCounted (kept : Inside) : Type 0 where
-  pub valid : IsValid kept.tree.state
+  pub layout : IsLayout kept.tree.state
   pub counts_are : kept.counts ≡ counts kept.tree.state
   pub covers : Covers (contains nat_cmp kept.dirty) (is_dirty_at kept.tree.state.entries)
   pub awaits : (number : ℕ) → awaited kept.tree.state.next kept.tree.ready ≡ Some number → contains nat_cmp kept.dirty number ≡ true

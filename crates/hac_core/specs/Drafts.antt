@@ -8,14 +8,17 @@ use Rattle.hac_model.specs.declared.replies.Deny.{Deny}
 use Rattle.hac_model.specs.declared.replies.Deny.TheVariants.{Refused, Memory}
 use Rattle.hac_model.specs.declared.replies.Refusal.{Refusal}
 use Rattle.hac_model.specs.declared.resolved.Resolved.{Resolved}
-use Rattle.hac_model.specs.declared.resolved.Resolved.TheVariants.{Cat, Ls, Sls}
+use Rattle.hac_model.specs.declared.resolved.Resolved.TheVariants.{Cat, Ls, Query, Sls, Find, Counts}
 use Rattle.hac_model.specs.declared.states.State.{State}
 
 -- the command only reads
 abbrev pub reads : Resolved → Bool
 reads (Cat entry) = true
 reads (Ls dir) = true
+reads (Query dir) = true
 reads (Sls dir) = true
+reads (Find query) = true
+reads Counts = true
 reads other = false
 
 -- a line comes to the command, and nothing speaks against it so far: the limits that hang on what spaces answer are left

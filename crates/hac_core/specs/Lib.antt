@@ -1,7 +1,6 @@
 pub mod Standing
 pub mod Counting
 pub mod Limiting
-pub mod Listing
 pub mod Drafts
 pub mod Blocking
 pub mod Settling
@@ -9,3 +8,7 @@ pub mod Ready
 pub mod Seen
 pub mod Counted
 pub mod Shape
+pub mod Linked
+pub mod Finding
+pub mod Paths
+pub mod Telling

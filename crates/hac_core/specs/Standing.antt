@@ -1,10 +1,11 @@
 -- What a command whose paths were followed speaks of.
 use Rattle.std.specs.Prelude.{⊤, IsTrue}
+use Rattle.hac_model.specs.Events.{may_ask}
 use Rattle.hac_model.specs.Tree.{is_directory_at}
 use Rattle.hac_model.specs.declared.places.Place.{Place}
 use Rattle.hac_model.specs.declared.places.Place.TheVariants.{There, Free}
 use Rattle.hac_model.specs.declared.resolved.Resolved.{Resolved}
-use Rattle.hac_model.specs.declared.resolved.Resolved.TheVariants.{Mkdir, Rmdir, Write, Cat, Ls, Mv, Rm, Smkdir, Sls, Index}
+use Rattle.hac_model.specs.declared.resolved.Resolved.TheVariants.{Mkdir, Rmdir, Write, Cat, Ls, Mv, Rm, Smkdir, Setq, Unq, Query, Sls, Sln, Srm, Sforget, Find, Index, Counts}
 use Rattle.hac_model.specs.declared.states.State.{State}
 use Rattle.file_tree.specs.Answers.{is_live}
 
@@ -27,6 +28,14 @@ Stands s (Cat entry) = IsTrue (is_live s.entries entry)
 Stands s (Ls dir) = IsTrue (is_directory_at s.entries dir)
 Stands s (Mv entry place) = IsTrue (is_live s.entries entry) × StandsAt s place
 Stands s (Rm entry) = IsTrue (is_live s.entries entry)
-Stands s (Smkdir place query) = StandsAt s place
+Stands s (Smkdir place query) = StandsAt s place × IsTrue (may_ask s query)
+Stands s (Setq dir query) = IsTrue (is_directory_at s.entries dir) × IsTrue (may_ask s query)
+Stands s (Unq dir) = IsTrue (is_directory_at s.entries dir)
+Stands s (Query dir) = IsTrue (is_directory_at s.entries dir)
 Stands s (Sls dir) = IsTrue (is_directory_at s.entries dir)
+Stands s (Sln item dir) = IsTrue (is_live s.entries item) × IsTrue (is_directory_at s.entries dir)
+Stands s (Srm item dir) = IsTrue (is_live s.entries item) × IsTrue (is_directory_at s.entries dir)
+Stands s (Sforget item dir) = IsTrue (is_live s.entries item) × IsTrue (is_directory_at s.entries dir)
+Stands s (Find query) = IsTrue (may_ask s query)
 Stands s Index = ⊤
+Stands s Counts = ⊤

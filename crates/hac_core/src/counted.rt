@@ -1,12 +1,12 @@
 //! A tree whose contents are counted, and whose dirty files are known. Each change keeps both.
-ghost use Rattle.std.specs.Prelude.{◌≡◌, true, None, Some, IfOk, IfSome, IsSome, IsTrue, OnOk};
+ghost use Rattle.std.specs.Prelude.{◌≡◌, is_some, true, [], None, Some, IfOk, IfSome, IsSome, IsTrue, OnOk};
 ghost use Rattle.std.specs.BTreeSet.{contains};
 ghost use Rattle.std.specs.Ordering.{nat_cmp};
-ghost use Rattle.hac_model.specs.Events.{added, apply, changed_at, edited, next_dirty, removed, reseated, rewritten};
+ghost use Rattle.hac_model.specs.Events.{added, apply, asking, changed_at, edited, plain_body, next_dirty, removed, reseated, rewritten};
 ghost use Rattle.hac_model.specs.Limits.{counts};
-ghost use Rattle.hac_model.specs.Tree.{empty, entry_at, is_directory_at, is_dirty, is_file, is_file_at};
-ghost use Rattle.hac_model.specs.Valid.{IsValid};
-ghost use Rattle.file_tree.specs.Ready.{body_in, name_in, new_text, room_in};
+ghost use Rattle.hac_model.specs.Tree.{empty, entry_at, is_directory_at, is_dirty, is_file, is_file_at, query_in};
+ghost use Rattle.hac_model.specs.Valid.{IsLayout};
+ghost use Rattle.file_tree.specs.Ready.{body_in, name_in, new_query, new_text, room_in};
 ghost use Rattle.file_tree.specs.declared.ready.Ready.TheVariants as ready;
 ghost use Rattle.hac_core.specs.Counted.{Covers, CoversOthers, is_dirty_at};
 
@@ -57,7 +57,7 @@ impl CountedTree {
     /// The tree itself.
     pub fn tree(&self) -> &Tree
         ensures same { result.now ≡ self.now }
-        ensures valid { IsValid result.now.state }
+        ensures layout { IsLayout result.now.state }
     {
         &self.tree
     }
@@ -65,7 +65,7 @@ impl CountedTree {
     /// How much the state holds.
     pub fn counts(&self) -> Counts
         ensures counts { result ≡ counts self.now.state }
-        ensures valid { IsValid self.now.state }
+        ensures layout { IsLayout self.now.state }
     {
         self.counts
     }
@@ -103,10 +103,46 @@ impl CountedTree {
         Ok(())
     }
 
+    /// Makes ready for a new query of a directory, which the body has. The state stays as it is, whatever the answer.
+    pub fn prepare_query(&mut self, dir: Number, body: Body) -> Result<(), Memory>
+        requires { IsTrue (is_some (query_in body)) }
+        ensures ok { OnOk result (self.new ≡ record { state = self.old.state; ready = ready.Edit dir body }) }
+        ensures state { self.new.state ≡ self.old.state }
+    {
+        self.tree.prepare_body(dir, body)?;
+        Ok(())
+    }
+
+    /// Gives a directory the query that was prepared.
+    pub fn set_query(&mut self, dir: Number)
+        requires room { room_in self.old.ready ≡ Some (Room.Edit dir) }
+        requires there { IsSome (entry_at self.old.state.entries dir) }
+        requires asks { body_in self.old.ready ≡ Body.Semantic (new_query self.old.ready) [] [] }
+        requires layout { IsLayout (changed_at self.old.state dir (edited (asking (new_query self.old.ready)))) }
+        ensures { self.new.state ≡ changed_at self.old.state dir (edited (asking (new_query self.old.ready))) }
+    {
+        let old = share_at(&self.tree, dir);
+        self.tree.set_query(dir, Room::Edit { entry: dir });
+        let new = share_at(&self.tree, dir);
+        self.counts = replaced(self.counts, old, new);
+    }
+
+    /// Takes a directory's query away.
+    pub fn clear_query(&mut self, dir: Number)
+        requires there { IsSome (entry_at self.old.state.entries dir) }
+        requires layout { IsLayout (changed_at self.old.state dir (edited plain_body)) }
+        ensures { self.new.state ≡ changed_at self.old.state dir (edited plain_body) }
+    {
+        let old = share_at(&self.tree, dir);
+        self.tree.clear_query(dir);
+        let new = share_at(&self.tree, dir);
+        self.counts = replaced(self.counts, old, new);
+    }
+
     /// Adds the entry that was prepared to its directory, under a name.
     pub fn add(&mut self, dir: Number, name: Name)
         requires room { room_in self.old.ready ≡ Some (Room.Add dir) }
-        requires valid { IsValid (added self.old.state dir name (body_in self.old.ready)) }
+        requires layout { IsLayout (added self.old.state dir name (body_in self.old.ready)) }
         ensures { self.new.state ≡ added self.old.state dir name (body_in self.old.ready) }
     {
         let number = self.tree.add(dir, name, Room::Add { dir });
@@ -118,8 +154,9 @@ impl CountedTree {
     pub fn set_text(&mut self, file: Number)
         requires room { room_in self.old.ready ≡ Some (Room.Edit file) }
         requires text { IsTrue (is_file (body_in self.old.ready)) }
+        requires dirty { IsTrue (is_dirty (body_in self.old.ready)) }
         requires file { IsTrue (is_file_at self.old.state.entries file) }
-        requires valid { IsValid (changed_at self.old.state file (edited (rewritten (new_text self.old.ready)))) }
+        requires layout { IsLayout (changed_at self.old.state file (edited (rewritten (new_text self.old.ready)))) }
         ensures { self.new.state ≡ changed_at self.old.state file (edited (rewritten (new_text self.old.ready))) }
     {
         let old = share_at(&self.tree, file);
@@ -132,7 +169,7 @@ impl CountedTree {
     pub fn move_to(&mut self, entry: Number, dir: Number)
         requires room { room_in self.old.ready ≡ Some (Room.Move dir) }
         requires there { IsSome (entry_at self.old.state.entries entry) }
-        requires valid { IsValid (changed_at self.old.state entry (reseated dir (name_in self.old.ready))) }
+        requires layout { IsLayout (changed_at self.old.state entry (reseated dir (name_in self.old.ready))) }
         ensures { self.new.state ≡ changed_at self.old.state entry (reseated dir (name_in self.old.ready)) }
     {
         self.tree.move_to(entry, dir, Room::Move { dir });
@@ -141,7 +178,7 @@ impl CountedTree {
     /// Takes an entry out.
     pub fn remove(&mut self, entry: Number)
         requires there { IsSome (entry_at self.old.state.entries entry) }
-        requires valid { IsValid (removed self.old.state entry) }
+        requires layout { IsLayout (removed self.old.state entry) }
         ensures { self.new.state ≡ removed self.old.state entry }
     {
         let share = share_at(&self.tree, entry);

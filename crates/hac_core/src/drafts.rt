@@ -35,7 +35,12 @@ impl Draft {
     {
         matches!(
             self.command,
-            Resolved::Cat { .. } | Resolved::Ls { .. } | Resolved::Sls { .. }
+            Resolved::Cat { .. }
+                | Resolved::Ls { .. }
+                | Resolved::Query { .. }
+                | Resolved::Sls { .. }
+                | Resolved::Find { .. }
+                | Resolved::Counts
         )
     }
 

@@ -1,20 +1,22 @@
 //! What a command that changes the state comes to.
 ghost use Rattle.std.specs.Prelude.{◌≡◌, ◌∷◌, [], None, false};
-ghost use Rattle.hac_model.specs.Refusals.{blocked, events_of, writes};
+ghost use Rattle.hac_model.specs.Events.{dirty};
+ghost use Rattle.hac_model.specs.Refusals.{blocked, events_of, marks, writes};
 ghost use Rattle.hac_core.specs.Drafts.{reads};
+ghost use Rattle.hac_core.specs.Linked.{state_of};
 ghost use Rattle.hac_core.specs.Settling.{events_in};
 ghost use Rattle.hac_core.specs.Standing.{IsFree};
 
-use crate::counted::CountedTree;
 use crate::drafts::Settled;
-use hac_model::{Event, Name, Number, Place, Resolved, Seq, Text};
+use crate::linked::LinkedTree;
+use hac_model::{Event, Kind, Mark, Name, Number, Place, Resolved, Seq, Text};
 use std::alloc::Global;
 
 /// What comes of a command in whose way nothing stands.
-pub fn events_of(alloc: Global, tree: &CountedTree, command: Resolved) -> Settled
-    requires free { blocked tree.now.state command ≡ None }
+pub fn events_of(alloc: Global, kept: &LinkedTree, command: Resolved) -> Settled
+    requires free { blocked (state_of kept.now) command ≡ None }
     requires changes { reads command ≡ false }
-    ensures { events_in result ≡ events_of tree.now.state command }
+    ensures { events_in result ≡ events_of (state_of kept.now) command }
 {
     match command {
         Resolved::Mkdir { place } => {
@@ -38,9 +40,31 @@ pub fn events_of(alloc: Global, tree: &CountedTree, command: Resolved) -> Settle
                 told,
             })
         }
-        Resolved::Index => Settled::Steps(tree.counts().dirty),
+        Resolved::Setq { dir, query } => {
+            let told = Seq::new(Vec::new(alloc));
+            Settled::Change(Event::Setq { dir, query, told })
+        }
+        Resolved::Unq { dir } => Settled::Change(Event::Unq { dir }),
+        Resolved::Sln { item, dir } => marking(item, dir, Kind::Permanent),
+        Resolved::Srm { item, dir } => marking(item, dir, Kind::Prohibited),
+        Resolved::Sforget { item, dir } => marking(item, dir, Kind::Unlinked),
+        Resolved::Index => Settled::Steps(dirty(kept)),
         _ => unreachable!(),
     }
+}
+
+/// How many files are to be indexed.
+fn dirty(kept: &LinkedTree) -> u64
+    ensures { result ≡ dirty (state_of kept.now) }
+{
+    kept.tree.counts().dirty
+}
+
+/// An item gets a mark in a directory, or loses it.
+fn marking(item: Number, dir: Number, kind: Kind) -> Settled
+    ensures { events_in result ≡ marks item dir kind }
+{
+    Settled::Change(Event::Mark(Mark { dir, item, kind }))
 }
 
 /// The directory and the name of a place where nothing stands.

@@ -5,12 +5,20 @@
 mod blocking;
 mod counted;
 mod counting;
+mod counting_lines;
 mod drafts;
+mod edges;
 mod events;
+mod finding;
 mod limiting;
+mod link_lines;
+mod linked;
 mod listing;
 mod machine;
+mod marking;
+mod query_lines;
 mod ready;
+mod referring;
 mod resolving;
 
 pub use drafts::{Draft, Settled};

@@ -1,11 +1,13 @@
 //! How much there would be after a command, told before anything changes.
-ghost use Rattle.std.specs.Prelude.{◌≡◌, ◌<◌, ◌≤◌, ◌^◌, ℕ, List, length, IsTrue, None};
-ghost use Rattle.hac_model.specs.Events.{apply_all, changed_at, edited, reseated, rewritten};
+ghost use Rattle.std.specs.Prelude.{◌≡◌, ◌<◌, ◌≤◌, ◌^◌, false, ℕ, List, length, IsTrue, None};
+ghost use Rattle.hac_model.specs.Events.{apply_all, asking, changed_at, edited, reseated, rewritten};
 ghost use Rattle.hac_model.specs.Limits.{are_paths_short, counts};
 ghost use Rattle.hac_model.specs.Refusals.{blocked, led_to, writes, written_cause};
-ghost use Rattle.hac_model.specs.Tree.{ancestors, is_file_at, path_of};
+ghost use Rattle.hac_model.specs.Formula.{Formula};
+ghost use Rattle.hac_model.specs.Tree.{ancestors, is_file_at, is_made_directory, path_of};
 ghost use Rattle.hac_model.specs.declared.states.Body.{Body};
 ghost use Rattle.file_tree.specs.Answers.{is_live};
+ghost use Rattle.hac_core.specs.Blocking.{is_linking};
 ghost use Rattle.hac_core.specs.Counting.{AreSmall, share_of};
 ghost use Rattle.hac_core.specs.Limiting.{GoesTo, PassAs, are_texts, is_shallow, with_moved, with_new};
 ghost use Rattle.hac_core.specs.Standing.{Stands, StandsAt};
@@ -23,7 +25,7 @@ use hac_model::{Counts, Number, PATH_LIMIT, Place, Resolved};
 pub fn counts_after(tree: &CountedTree, command: &Resolved) -> Counts
     requires stands { Stands tree.now.state command.now }
     requires texts { IsTrue (are_texts command.now) }
-    requires free { blocked tree.now.state command.now ≡ None }
+    requires free { is_linking command.now ≡ false → blocked tree.now.state command.now ≡ None }
     ensures { PassAs (led_to tree.now.state command.now) result }
 {
     let _valid = tree.counts();
@@ -31,6 +33,7 @@ pub fn counts_after(tree: &CountedTree, command: &Resolved) -> Counts
         Resolved::Mkdir { place } => with_new(tree, place, of_directory()),
         Resolved::Smkdir { place, .. } => with_new(tree, place, of_semantic()),
         Resolved::Write { place, text } => with_text(tree, place, text.as_slice().len() as u64),
+        Resolved::Setq { dir, .. } => with_query(tree, *dir),
         Resolved::Mv { entry, place } => with_moved(tree, *entry, place),
         _ => tree.counts(),
     }
@@ -74,6 +77,15 @@ fn with_rewritten(tree: &CountedTree, file: Number, bytes: u64) -> Counts
     let old = share_at(tree.tree(), file);
     let new = written_share(tree.tree(), file, bytes);
     replaced(tree.counts(), old, new)
+}
+
+/// How much there would be with a query in a directory that isn't the root.
+fn with_query(tree: &CountedTree, dir: Number) -> Counts
+    requires { IsTrue (is_made_directory tree.now.state.entries dir) }
+    ensures { (query : Formula ℕ) → result ≡ counts (changed_at tree.now.state dir (edited (asking query))) }
+{
+    let old = share_at(tree.tree(), dir);
+    replaced(tree.counts(), old, of_semantic())
 }
 
 /// How much there would be with an entry at a place where nothing stands.

@@ -1,35 +1,40 @@
-//! What the commands that read tell: the text of a file, what stands in a directory, and the links of one.
+//! What the commands that read tell of the tree: the text of a file, and what stands in a directory.
 ghost use Rattle.std.specs.Prelude.{◌≡◌, ◌&&◌, ◌∷◌, [], None, IfOk, IsSome, IsTrue, Some, map};
 ghost use Rattle.std.specs.Option.{option_map};
-ghost use Rattle.hac_model.specs.Links.{column, links};
 ghost use Rattle.hac_model.specs.Listing.{children, entry_line, letter};
-ghost use Rattle.hac_model.specs.Play.{data_lines, link_line, text_lines};
+ghost use Rattle.hac_model.specs.Play.{data_lines, text_lines};
 ghost use Rattle.hac_model.specs.Refusals.{blocked};
 ghost use Rattle.hac_model.specs.Tree.{entry_at, is_file_at};
-ghost use Rattle.hac_model.specs.Valid.{IsValid};
 ghost use Rattle.hac_model.specs.declared.states.Body.{Body};
 ghost use Rattle.file_tree.specs.Answers.{kind_in};
-ghost use Rattle.hac_core.specs.Listing.{is_met};
+ghost use Rattle.hac_core.specs.Linked.{IsLinked, state_of};
 ghost use Rattle.hac_core.specs.Standing.{Stands};
 
+use crate::counting_lines::counts_lines;
+use crate::link_lines::{found_lines, link_lines};
+use crate::linked::LinkedTree;
+use crate::query_lines::query_lines;
 use crate::resolving::know_layout;
 use file_tree::{EntryKind, Tree};
-use hac_model::{Memory, Name, Node, Number, Query, Resolved};
-use hac_names::{print_path, print_text};
-use hac_words::has_term;
+use hac_model::{Memory, Name, Number, Resolved};
+use hac_names::print_text;
 use std::alloc::Global;
 
 /// The data lines of a command in whose way nothing stands. One that changes the state has none.
-pub fn data_lines(alloc: Global, tree: &Tree, command: &Resolved) -> Result<Vec<Name>, Memory>
-    requires valid { IsValid tree.now.state }
-    requires stands { Stands tree.now.state command.now }
-    requires free { blocked tree.now.state command.now ≡ None }
-    ensures { IfOk result (λ lines. lines.items ≡ data_lines tree.now.state command.now) }
+pub fn data_lines(alloc: Global, kept: &LinkedTree, command: &Resolved) -> Result<Vec<Name>, Memory>
+    requires linked { IsLinked kept.now }
+    requires stands { Stands kept.now.tree.state command.now }
+    requires free { blocked (state_of kept.now) command.now ≡ None }
+    ensures { IfOk result (λ lines. lines.items ≡ data_lines (state_of kept.now) command.now) }
 {
+    let tree = kept.tree.tree();
     match command {
         Resolved::Cat { entry } => text_lines(alloc, tree, *entry),
         Resolved::Ls { dir } => child_lines(alloc, tree, *dir),
-        Resolved::Sls { dir } => link_lines(alloc, tree, *dir),
+        Resolved::Query { dir } => query_lines(alloc, tree, *dir),
+        Resolved::Sls { dir } => link_lines(alloc, kept, *dir),
+        Resolved::Find { query } => found_lines(alloc, kept, query),
+        Resolved::Counts => counts_lines(alloc, kept),
         _ => Ok(Vec::new(alloc)),
     }
 }
@@ -80,71 +85,5 @@ fn letter(kind: EntryKind) -> u8
         EntryKind::Semantic => b's',
         EntryKind::Mount => b'm',
         EntryKind::File | EntryKind::Document => b'f',
-    }
-}
-
-/// The links of a directory, in order of the files' numbers.
-fn link_lines(alloc: Global, tree: &Tree, dir: Number) -> Result<Vec<Name>, Memory>
-    requires { IsValid tree.now.state }
-    ensures { IfOk result (λ lines. lines.items ≡ map (link_line tree.now.state) (links tree.now.state dir)) }
-{
-    let mut lines = Vec::new(alloc);
-    for number in 0..tree.next_number().get() {
-        let item = Number::new(number);
-        if is_listed(tree, dir, item) {
-            lines.push(link_line(alloc, tree, item)?)?;
-        }
-    }
-    Ok(lines)
-}
-
-/// A link as it is listed, by the path of its file.
-fn link_line(alloc: Global, tree: &Tree, item: Number) -> Result<Name, Memory>
-    ensures { IfOk result (λ line. line ≡ link_line tree.now.state item) }
-{
-    let mut line = Vec::from_slice(alloc, b"t ")?;
-    line.extend_from_slice(print_path(alloc, &tree.path_of(item)?)?.as_bytes())?;
-    Ok(Name::new(line))
-}
-
-/// Whether a number is that of a file that is linked in a directory.
-fn is_listed(tree: &Tree, dir: Number, number: Number) -> bool
-    requires { IsValid tree.now.state }
-    ensures { result ≡ (is_file_at tree.now.state.entries number && column (links tree.now.state) number dir) }
-{
-    is_file(tree, number) && is_linked(tree, dir, number)
-}
-
-/// Whether a number is that of a file.
-fn is_file(tree: &Tree, number: Number) -> bool
-    ensures { result ≡ is_file_at tree.now.state.entries number }
-{
-    matches!(tree.kind(number), EntryKind::File)
-}
-
-/// Whether a file is linked in a directory: the one above provides it, and its text as last indexed satisfies the
-/// query. Texts are read last, since a step over directories costs less.
-fn is_linked(tree: &Tree, dir: Number, item: Number) -> bool
-    requires valid { IsValid tree.now.state }
-    requires file { IsTrue (is_file_at tree.now.state.entries item) }
-    ensures { result ≡ column (links tree.now.state) item dir }
-{
-    let Some(query) = tree.query(dir) else {
-        return false;
-    };
-    let Some(text) = tree.shown(item) else {
-        return false;
-    };
-    let parent = tree.parent(dir);
-    (tree.is_below(item, parent) || is_linked(tree, parent, item)) && is_met(query, text)
-}
-
-/// Whether a text satisfies a query. Each is one term so far.
-fn is_met(query: &Query<Number>, text: &[u8]) -> bool
-    ensures { result ≡ is_met query.now text.now }
-{
-    match &query.node {
-        Node::Term(term) => has_term(text, term),
-        _ => false,
     }
 }

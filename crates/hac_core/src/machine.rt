@@ -1,25 +1,29 @@
 //! The machine itself.
 ghost use Rattle.std.specs.Prelude.{◌≡◌, [], IfOk, IfErr, IsTrue, None, OnOk, OnErr, true, false};
 ghost use Rattle.std.specs.Option.{option_map};
+ghost use Rattle.hac_model.specs.Answers.{Answers};
 ghost use Rattle.hac_model.specs.Events.{apply_all, dirty};
 ghost use Rattle.hac_model.specs.Laws.{AllHappen};
 ghost use Rattle.hac_model.specs.Limits.{first_passed};
 ghost use Rattle.hac_model.specs.Lines.{is_spelled};
 ghost use Rattle.hac_model.specs.Play.{data_lines};
-ghost use Rattle.hac_model.specs.Refusals.{cause, early_cause, refusal};
+ghost use Rattle.hac_model.specs.Refusals.{answer_cause, blocked, cause, early_cause, layout_cause, refusal};
+ghost use Rattle.hac_model.specs.Resolving.{resolve};
 ghost use Rattle.hac_model.specs.Tree.{empty};
 ghost use Rattle.hac_model.specs.Valid.{IsValid};
 ghost use Rattle.hac_core.specs.Blocking.{Passes};
 ghost use Rattle.hac_core.specs.Drafts.{IsDraft, IsDraftOf, Refuses, reads};
 ghost use Rattle.hac_core.specs.Limiting.{are_texts};
+ghost use Rattle.hac_core.specs.Linked.{IsLinked, state_of};
 ghost use Rattle.hac_core.specs.Settling.{Settles, events_in};
 ghost use Rattle.hac_core.specs.Standing.{Stands};
 
 use crate::blocking::unblocked;
-use crate::counted::CountedTree;
 use crate::drafts::{Draft, Settled};
+use crate::edges::acyclic;
 use crate::events::events_of;
 use crate::limiting::counts_after;
+use crate::linked::LinkedTree;
 use crate::listing::data_lines;
 use crate::ready::{self, Ready};
 use crate::resolving::resolve;
@@ -32,7 +36,7 @@ use std::mem;
 #[derive(Drop)]
 pub struct Machine {
     alloc: Global,
-    tree: CountedTree,
+    kept: LinkedTree,
     ready: Ready,
 }
 
@@ -57,7 +61,7 @@ impl Machine {
     {
         Ok(Machine {
             alloc,
-            tree: CountedTree::new(alloc)?,
+            kept: LinkedTree::new(alloc)?,
             ready: Ready::Nothing,
         })
     }
@@ -67,18 +71,19 @@ impl Machine {
         ensures dirty { result ≡ dirty self.now.state }
         ensures valid { IsValid self.now.state }
     {
-        self.tree.counts().dirty
+        self.kept.tree.counts().dirty
     }
 
     /// Follows the paths of a line that spells a command, and tells whether the state refuses it: for what the paths
-    /// lead to, for what stands in the way, or for a limit on the tree itself, in this order.
+    /// lead to, for what stands in the way, for a limit on the tree itself, or because a directory would depend on
+    /// itself, in this order.
     pub fn check(&self, line: Line) -> Result<Draft, Deny>
         requires { IsTrue (is_spelled line.command) }
         ensures draft { IfOk result (IsDraftOf self.now.state line) }
         ensures refused { IfErr result (λ deny. Refuses deny (refusal self.now.state line)) }
     {
-        let command = resolve(self.tree.tree(), line)?;
-        match allowed(&self.tree, &command) {
+        let command = followed(self.alloc, &self.kept, line)?;
+        match allowed(self.alloc, &self.kept, &command) {
             Ok(()) => Ok(Draft::new(command)),
             Err(deny) => Err(deny),
         }
@@ -91,7 +96,7 @@ impl Machine {
         ensures reply { IfOk result (λ reply. reply ≡ Reply.Lines (data_lines self.now.state draft)) }
         ensures cause { cause self.now.state draft ≡ None }
     {
-        let lines = data_lines(self.alloc, self.tree.tree(), draft.command())?;
+        let lines = data_lines(self.alloc, &self.kept, draft.command())?;
         Ok(Reply::Lines(Seq::new(lines)))
     }
 
@@ -103,9 +108,8 @@ impl Machine {
         ensures refused { IfErr result (λ deny. Refuses deny (cause self.now.state draft)) }
     {
         let command = draft.into_command();
-        let _valid = self.tree.counts();
-        within(&counts_after(&self.tree, &command).answer_limits())?;
-        Ok(events_of(self.alloc, &self.tree, command))
+        answerable(&self.kept, &command)?;
+        Ok(events_of(self.alloc, &self.kept, command))
     }
 
     /// Takes the memory that events want, so that `commit` lets them happen. The state stays as it is, whatever the
@@ -117,7 +121,7 @@ impl Machine {
     {
         self.ready = Ready::Nothing;
         self.ready = match settled {
-            Settled::Change(event) => ready::prepare(self.alloc, &mut self.tree, event)?,
+            Settled::Change(event) => ready::prepare(self.alloc, &mut self.kept, event)?,
             Settled::Steps(count) => Ready::Steps(count),
         };
         Ok(())
@@ -128,18 +132,51 @@ impl Machine {
         ensures { self.new ≡ record { state = apply_all self.old.state self.old.ready; ready = [] } }
     {
         let ready = mem::replace(&mut self.ready, Ready::Nothing);
-        ready::put(&mut self.tree, ready);
+        ready::put(&mut self.kept, ready);
     }
 }
 
-/// Denies a command for what stands in its way, or for the first limit on the tree itself that it would pass.
-fn allowed(tree: &CountedTree, command: &Resolved) -> Result<(), Deny>
-    requires stands { Stands tree.now.state command.now }
-    requires texts { IsTrue (are_texts command.now) }
-    ensures { Passes result (early_cause tree.now.state command.now) }
+/// The command of a line with what its paths lead to, or the first cause against it that lies in them.
+fn followed(alloc: Global, kept: &LinkedTree, line: Line) -> Result<Resolved, Deny>
+    requires { IsLinked kept.now }
+    ensures { Answers result (resolve (state_of kept.now) line) }
 {
-    unblocked(tree.tree(), command)?;
-    within(&counts_after(tree, command).layout_limits())
+    resolve(alloc, kept.tree.tree(), line)
+}
+
+/// Denies a command that nothing blocks, if it would exceed a limit on what spaces answer: for the first such limit.
+fn answerable(kept: &LinkedTree, command: &Resolved) -> Result<(), Deny>
+    requires linked { IsLinked kept.now }
+    requires stands { Stands kept.now.tree.state command.now }
+    requires texts { IsTrue (are_texts command.now) }
+    requires free { blocked (state_of kept.now) command.now ≡ None }
+    ensures { Passes result (answer_cause (state_of kept.now) command.now) }
+{
+    within(&counts_after(&kept.tree, command).answer_limits())
+}
+
+/// Denies a command for what stands in its way, for the first limit on the tree itself that it would exceed, or because
+/// a directory would depend on itself.
+fn allowed(alloc: Global, kept: &LinkedTree, command: &Resolved) -> Result<(), Deny>
+    requires linked { IsLinked kept.now }
+    requires stands { Stands kept.now.tree.state command.now }
+    requires texts { IsTrue (are_texts command.now) }
+    ensures { Passes result (early_cause (state_of kept.now) command.now) }
+{
+    unblocked(alloc, kept, command)?;
+    limited(kept, command)?;
+    acyclic(alloc, kept, command)
+}
+
+/// Denies a command that nothing blocks, if it would exceed a limit on the tree itself: for the first such limit.
+fn limited(kept: &LinkedTree, command: &Resolved) -> Result<(), Deny>
+    requires linked { IsLinked kept.now }
+    requires stands { Stands kept.now.tree.state command.now }
+    requires texts { IsTrue (are_texts command.now) }
+    requires free { blocked (state_of kept.now) command.now ≡ None }
+    ensures { Passes result (layout_cause (state_of kept.now) command.now) }
+{
+    within(&counts_after(&kept.tree, command).layout_limits())
 }
 
 /// Denies a command for the first limit that is passed.

@@ -11,9 +11,10 @@ use hac_model::{
     Command, Deny, Line, Memory, Name, Node, Number, Path, PathWord, Place, Query, RawQuery,
     Refusal, Resolved,
 };
+use std::alloc::Global;
 
 /// The command of a line with what its paths lead to, or the first cause against it that lies in them.
-pub fn resolve(tree: &Tree, line: Line) -> Result<Resolved, Deny>
+pub fn resolve(alloc: Global, tree: &Tree, line: Line) -> Result<Resolved, Deny>
     ensures { Answers result (resolve tree.now.state line) }
 {
     let Line { command, .. } = line;
@@ -41,11 +42,34 @@ pub fn resolve(tree: &Tree, line: Line) -> Result<Resolved, Deny>
         Command::Rm { path } => Ok(Resolved::Rm {
             entry: entry(tree, &path)?,
         }),
-        Command::Smkdir { path, query } => semantic(tree, &path, query),
+        Command::Smkdir { path, query } => semantic(alloc, tree, &path, query),
+        Command::Setq { path, query } => asking(alloc, tree, &path, query),
+        Command::Unq { path } => Ok(Resolved::Unq {
+            dir: directory(tree, &path)?,
+        }),
+        Command::Query { path } => Ok(Resolved::Query {
+            dir: directory(tree, &path)?,
+        }),
         Command::Sls { path } => Ok(Resolved::Sls {
             dir: listed(tree, &path)?,
         }),
+        Command::Sln { item, dir } => Ok(Resolved::Sln {
+            item: entry(tree, &item)?,
+            dir: directory(tree, &dir)?,
+        }),
+        Command::Srm { item, dir } => Ok(Resolved::Srm {
+            item: entry(tree, &item)?,
+            dir: directory(tree, &dir)?,
+        }),
+        Command::Sforget { item, dir } => Ok(Resolved::Sforget {
+            item: entry(tree, &item)?,
+            dir: directory(tree, &dir)?,
+        }),
+        Command::Find { query } => Ok(Resolved::Find {
+            query: numbered(alloc, tree, query)?,
+        }),
         Command::Index => Ok(Resolved::Index),
+        Command::Counts => Ok(Resolved::Counts),
         _ => Err(Deny::Refused(Refusal::BadLine)),
     }
 }
@@ -128,22 +152,47 @@ fn listed(tree: &Tree, word: &Option<PathWord>) -> Result<Number, Deny>
 }
 
 /// A semantic directory where a path word leads, with its query.
-fn semantic(tree: &Tree, word: &PathWord, query: RawQuery) -> Result<Resolved, Deny>
+fn semantic(alloc: Global, tree: &Tree, word: &PathWord, query: RawQuery) -> Result<Resolved, Deny>
     ensures { (session : List ℕ) → Answers result (resolved tree.now.state session (Command.Smkdir word.now query)) }
 {
     let place = place(tree, word)?;
-    match numbered(tree, query) {
+    match numbered(alloc, tree, query) {
         Ok(query) => Ok(Resolved::Smkdir { place, query }),
         Err(deny) => Err(deny),
     }
 }
 
-/// The query with each directory by its number. No query names one yet.
-fn numbered(_tree: &Tree, query: RawQuery) -> Result<Query<Number>, Deny>
-    ensures { (session : List ℕ) → Answers result (numbered _tree.now.state session query) }
+/// A directory to which a path word leads, with the query that it is to have.
+fn asking(alloc: Global, tree: &Tree, word: &PathWord, query: RawQuery) -> Result<Resolved, Deny>
+    ensures { (session : List ℕ) → Answers result (resolved tree.now.state session (Command.Setq word.now query)) }
+{
+    let dir = directory(tree, word)?;
+    match numbered(alloc, tree, query) {
+        Ok(query) => Ok(Resolved::Setq { dir, query }),
+        Err(deny) => Err(deny),
+    }
+}
+
+/// The query with each directory by its number. It goes down as deep as the query does.
+fn numbered(alloc: Global, tree: &Tree, query: RawQuery) -> Result<Query<Number>, Deny>
+    ensures { (session : List ℕ) → Answers result (numbered tree.now.state session query) }
 {
     match query.node {
         Node::Term(term) => Ok(Query::term(term)),
-        _ => Err(Deny::Refused(Refusal::BadLine)),
+        Node::Dir(word) => Ok(Query::dir(directory(tree, &word)?)),
+        Node::Not(query) => {
+            let inner = numbered(alloc, tree, Box::into_inner(query))?;
+            Ok(Query::negation(alloc, inner)?)
+        }
+        Node::And(left, right) => {
+            let first = numbered(alloc, tree, Box::into_inner(left))?;
+            let second = numbered(alloc, tree, Box::into_inner(right))?;
+            Ok(Query::both(alloc, first, second)?)
+        }
+        Node::Or(left, right) => {
+            let first = numbered(alloc, tree, Box::into_inner(left))?;
+            let second = numbered(alloc, tree, Box::into_inner(right))?;
+            Ok(Query::either(alloc, first, second)?)
+        }
     }
 }

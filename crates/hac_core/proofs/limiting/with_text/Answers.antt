@@ -16,7 +16,7 @@ with_new-requires-clause-small c = file-small c.args.bytes c.of_file.result c.re
 pub with_rewritten-requires-clause-file : goal.with_rewritten-requires-clause-file
 with_rewritten-requires-clause-file c =
     let s = c.args.tree.now.state in
-    written-file s c.in-There.file c.counts-valid.ensures.valid.layout (subst (λ (p : Place). StandsAt s p) c.in-There.is c.requires.place) (subst (λ (p : Place). written_cause s p ≡ None) c.in-There.is c.requires.free)
+    written-file s c.in-There.file c.counts-valid.ensures.layout (subst (λ (p : Place). StandsAt s p) c.in-There.is c.requires.place) (subst (λ (p : Place). written_cause s p ≡ None) c.in-There.is c.requires.free)
 
 pub returns-in-Free : goal.returns-in-Free
 returns-in-Free c = λ text long.

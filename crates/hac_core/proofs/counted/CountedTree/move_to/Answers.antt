@@ -1,6 +1,6 @@
 use Rattle.std.proofs.Common.{subst, sym}
 use Rattle.hac_model.specs.Events.{changed_at, reseated}
-use Rattle.hac_model.specs.Valid.{IsValid}
+use Rattle.hac_model.specs.Valid.{IsLayout}
 use Rattle.file_tree.specs.Ready.{name_in}
 use Rattle.file_tree.specs.Seen.{Seen}
 use Rattle.std.specs.BTreeSet.{contains}
@@ -14,9 +14,9 @@ pub invariant_of-self : goal.invariant_of-self
 invariant_of-self c =
     let t = c.self.inside.tree in
     let s = t.state in
-    let h = c.self.invariant.valid in
+    let h = c.self.invariant.layout in
     let name = name_in t.ready in
-    let valid = subst (λ (x : Seen). IsValid (changed_at x.state c.args.entry (reseated c.args.dir (name_in x.ready)))) (sym c.self.view_is) c.requires.valid in
-    made-counted c.move_to.new.self (changed_at s c.args.entry (reseated c.args.dir name)) c.self.inside.counts c.self.inside.dirty c.move_to.ensures valid
-    (told-moved s c.args.entry c.args.dir name c.self.inside.counts h.layout valid.layout c.self.invariant.counts_are)
-    (covers-moved s h.layout (contains nat_cmp c.self.inside.dirty) c.self.invariant.covers c.args.entry c.args.dir name)
+    let layout = subst (λ (x : Seen). IsLayout (changed_at x.state c.args.entry (reseated c.args.dir (name_in x.ready)))) (sym c.self.view_is) c.requires.layout in
+    made-counted c.move_to.new.self (changed_at s c.args.entry (reseated c.args.dir name)) c.self.inside.counts c.self.inside.dirty c.move_to.ensures layout
+    (told-moved s c.args.entry c.args.dir name c.self.inside.counts h layout c.self.invariant.counts_are)
+    (covers-moved s h (contains nat_cmp c.self.inside.dirty) c.self.invariant.covers c.args.entry c.args.dir name)

@@ -1,0 +1,87 @@
+//! What a semantic directory depends on, and whether one would come to depend on itself.
+ghost use Rattle.std.specs.Prelude.{◌≡◌, ◌++◌, ◌∷◌, IfOk, OnOk};
+ghost use Rattle.hac_model.specs.Depends.{cycle_over, named_in};
+ghost use Rattle.hac_model.specs.Refusals.{cycle_by, cycle_cause};
+ghost use Rattle.hac_core.specs.Blocking.{Passes};
+ghost use Rattle.hac_core.specs.Linked.{IsLinked, state_of};
+
+use crate::linked::LinkedTree;
+use hac_model::{Deny, Memory, Node, Number, Place, Query, Refusal, Resolved};
+use std::alloc::Global;
+
+/// The edges of a directory that stands in another and has a query: to that one, then to those that the query names.
+pub fn edges_of(alloc: Global, parent: Number, query: &Query<Number>) -> Result<Vec<Number>, Memory>
+    ensures { IfOk result (λ edges. edges.items ≡ parent ∷ named_in query.now) }
+{
+    let mut edges = Vec::new(alloc);
+    edges.push(parent)?;
+    push_named(&mut edges, query)?;
+    Ok(edges)
+}
+
+/// Adds the directories that a query names, in its order. It goes down as deep as the query does.
+pub fn push_named(dirs: &mut Vec<Number>, query: &Query<Number>) -> Result<(), Memory>
+    ensures { OnOk result (dirs.new.items ≡ dirs.old.items ++ named_in query.now) }
+{
+    match &query.node {
+        Node::Term(_) => {}
+        Node::Dir(dir) => dirs.push(*dir)?,
+        Node::Not(query) => push_named(dirs, query)?,
+        Node::And(left, right) | Node::Or(left, right) => {
+            push_named(dirs, left)?;
+            push_named(dirs, right)?;
+        }
+    }
+    Ok(())
+}
+
+/// Denies a command after which a directory would depend on itself.
+pub fn acyclic(alloc: Global, kept: &LinkedTree, command: &Resolved) -> Result<(), Deny>
+    requires linked { IsLinked kept.now }
+    ensures { Passes result (cycle_cause (state_of kept.now) command.now) }
+{
+    match command {
+        Resolved::Setq { dir, query } => {
+            unreached(alloc, kept, *dir, kept.tree.tree().parent(*dir), query)
+        }
+        Resolved::Mv { entry, place } => unreached_there(alloc, kept, *entry, place),
+        _ => Ok(()),
+    }
+}
+
+/// The same of an entry that goes to a place.
+fn unreached_there(
+    alloc: Global,
+    kept: &LinkedTree,
+    entry: Number,
+    place: &Place,
+) -> Result<(), Deny>
+    requires { IsLinked kept.now }
+    ensures { Passes result (cycle_cause (state_of kept.now) (Resolved.Mv entry place.now)) }
+{
+    let Place::Free { dir, .. } = place else {
+        return Ok(());
+    };
+    let Some(query) = kept.tree.tree().query(entry) else {
+        return Ok(());
+    };
+    unreached(alloc, kept, entry, *dir, query)
+}
+
+/// None of those on which a directory would depend depends on it.
+fn unreached(
+    alloc: Global,
+    kept: &LinkedTree,
+    dir: Number,
+    parent: Number,
+    query: &Query<Number>,
+) -> Result<(), Deny>
+    requires linked { IsLinked kept.now }
+    ensures { Passes result (cycle_by (state_of kept.now) (cycle_over (state_of kept.now) dir parent query.now)) }
+{
+    let edges = edges_of(alloc, parent, query)?;
+    match kept.graph.would_cycle(dir, edges.as_slice())? {
+        Some(on) => Err(Deny::Refused(Refusal::Cycle(kept.tree.tree().path_of(on)?))),
+        None => Ok(()),
+    }
+}

@@ -1,0 +1,83 @@
+//! What stands in the way of a mark.
+ghost use Rattle.std.specs.Prelude.{◌≡◌, IsTrue};
+ghost use Rattle.hac_model.specs.Links.{is_permanent, is_prohibited};
+ghost use Rattle.hac_model.specs.Refusals.{already_cause, unlinked_cause, unmarked_cause};
+ghost use Rattle.hac_model.specs.Tree.{is_file_at};
+ghost use Rattle.link_kinds.specs.Kinds as kinds;
+ghost use Rattle.hac_core.specs.Blocking.{Passes};
+ghost use Rattle.hac_core.specs.Linked.{IsLinked, state_of};
+
+use crate::finding::is_found;
+use crate::linked::LinkedTree;
+use hac_model::{Deny, Kind, Number, Refusal};
+use std::alloc::Global;
+
+/// No item is added twice.
+pub fn not_permanent(kept: &LinkedTree, item: Number, dir: Number) -> Result<(), Deny>
+    requires { IsLinked kept.now }
+    ensures { Passes result (already_cause (state_of kept.now) item dir) }
+{
+    if is_permanent(kept, dir, item) {
+        return Err(Deny::Refused(Refusal::Already(kept.tree.tree().path_of(item)?)));
+    }
+    Ok(())
+}
+
+/// What goes is a link, added or found.
+pub fn linked(alloc: Global, kept: &LinkedTree, item: Number, dir: Number) -> Result<(), Deny>
+    requires linked { IsLinked kept.now }
+    requires file { IsTrue (is_file_at kept.now.tree.state.entries item) }
+    ensures { Passes result (unlinked_cause (state_of kept.now) item dir) }
+{
+    if is_permanent(kept, dir, item) || is_found(alloc, kept, dir, item)? {
+        return Ok(());
+    }
+    Err(Deny::Refused(Refusal::NotLinked(kept.tree.tree().path_of(item)?)))
+}
+
+/// What is forgotten is there.
+pub fn marked(kept: &LinkedTree, item: Number, dir: Number) -> Result<(), Deny>
+    requires { IsLinked kept.now }
+    ensures { Passes result (unmarked_cause (state_of kept.now) item dir) }
+{
+    if is_permanent(kept, dir, item) || is_prohibited(kept, dir, item) {
+        return Ok(());
+    }
+    Err(Deny::Refused(Refusal::NoMark(kept.tree.tree().path_of(item)?)))
+}
+
+/// Whether an item is a permanent link of a directory.
+fn is_permanent(kept: &LinkedTree, dir: Number, item: Number) -> bool
+    requires { IsLinked kept.now }
+    ensures { result ≡ is_permanent (state_of kept.now) dir item }
+{
+    is_added(kept.marks.kind(dir, item))
+}
+
+/// Whether an item is kept out of a directory.
+fn is_prohibited(kept: &LinkedTree, dir: Number, item: Number) -> bool
+    requires { IsLinked kept.now }
+    ensures { result ≡ is_prohibited (state_of kept.now) dir item }
+{
+    is_removed(kept.marks.kind(dir, item))
+}
+
+/// Whether a user added an item of the kind.
+fn is_added(kind: Kind) -> bool
+    ensures { result ≡ kinds.is_permanent kind }
+{
+    match kind {
+        Kind::Permanent => true,
+        Kind::Transient | Kind::Prohibited | Kind::Unlinked => false,
+    }
+}
+
+/// Whether a user removed an item of the kind.
+fn is_removed(kind: Kind) -> bool
+    ensures { result ≡ kinds.is_prohibited kind }
+{
+    match kind {
+        Kind::Prohibited => true,
+        Kind::Transient | Kind::Permanent | Kind::Unlinked => false,
+    }
+}
