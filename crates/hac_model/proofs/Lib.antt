@@ -20,6 +20,7 @@ pub mod FrontLemmas
 pub mod ScriptLemmas
 pub mod JoinLemmas
 pub mod EventLemmas
+pub mod SpelledLemmas
 pub mod PlayLemmas
 pub mod PlainLemmas
 pub mod ListedLemmas

@@ -1,12 +1,14 @@
 -- Scripts lead from valid states to valid states, by events one after the other.
-use Rattle.std.proofs.Common.{◌≡◌, ℕ, zero, suc, true, false, List, [], ◌∷◌, ◌++◌, length, refl, ap, sym, ◌∙◌}
+use Rattle.std.proofs.Common.{◌≡◌, ℕ, zero, suc, ◌+◌, true, false, List, [], ◌∷◌, ◌++◌, length, Option, refl, ap, sym, ◌∙◌}
 use Rattle.std.specs.Prelude.{if◌then◌else◌, Some, None, Result, Ok, Err, IsTrue}
 use Rattle.std.specs.List.{AllByRecursion}
 use Rattle.std.specs.Option.{option_map_or}
 use Rattle.std.proofs.lemmas.List.{append-nil}
+use Rattle.hac_model.specs.Answers.{first_cause}
 use Rattle.hac_model.specs.Events.{apply, apply_all, dirty}
 use Rattle.hac_model.specs.Lines.{Item, is_quiet, is_spelled, item_of, items_of}
-use Rattle.hac_model.specs.Play.{Setting, accepted, all_events, events_in, left_by, play, refused, turn, turn_of, turns}
+use Rattle.hac_model.specs.Payloads.{event_text}
+use Rattle.hac_model.specs.Play.{Setting, accepted, all_events, end_after, events_in, full_cause, left_by, play, refused, turn, turn_of, turns}
 use Rattle.hac_model.specs.Refusals.{cause, events_of, led_to}
 use Rattle.hac_model.specs.Resolving.{resolve}
 use Rattle.hac_model.specs.Script.{after_item, after_line, first_items, first_line, items_of_lines, script}
@@ -17,15 +19,19 @@ use Rattle.hac_model.specs.declared.replies.Refusal.{Refusal}
 use Rattle.hac_model.specs.declared.resolved.Resolved.{Resolved}
 use Rattle.hac_model.specs.declared.resolved.Resolved.TheVariants.{Index}
 use Rattle.hac_model.specs.declared.states.State.{State}
-use Rattle.hac_model.proofs.EventLemmas.{all-valid, commands-happen, steps-clean-all}
+use Rattle.hac_model.proofs.EventLemmas.{all-valid, commands-happen, no_cause, steps-clean-all}
 use Rattle.hac_model.proofs.SpellingLemmas.{IsItem, item_of-item}
+
+-- the first cause against a command, the store's among them
+abbrev against : Setting → Resolved → Option Refusal
+against setting command = first_cause (cause setting.state command ∷ full_cause setting command ∷ [])
 
 -- what a command leads to is valid
 command-valid : (setting : Setting) (line : Line) (r : Result Resolved Refusal) → IsValid setting.state → IsTrue (is_spelled line.command) → resolve setting.state line ≡ r → IsValid (turn_of setting r).after.state
 command-valid setting line (Err refusal) h spelled leads = h
 command-valid setting line (Ok command) h spelled leads =
-    elim (cause setting.state command) as (λ o. cause setting.state command ≡ o → IsValid (option_map_or (refused setting) o (accepted setting command)).after.state) [
-      | None ↦ (λ free. all-valid (events_of setting.state command) setting.state h (commands-happen setting.state line command h spelled leads free))
+    elim (against setting command) as (λ o. against setting command ≡ o → IsValid (option_map_or (refused setting) o (accepted setting command)).after.state) [
+      | None ↦ (λ free. all-valid (events_of setting.state command) setting.state h (commands-happen setting.state line command h spelled leads (no_cause (cause setting.state command) (full_cause setting command ∷ []) free).0))
       | Some refusal ↦ (λ _. h)
     ] refl
 
@@ -66,7 +72,7 @@ apply_all-append (x ∷ xs) ys s = apply_all-append xs ys (apply s x)
 command-leads : (setting : Setting) (r : Result Resolved Refusal) → (turn_of setting r).after.state ≡ apply_all setting.state (events_in (turn_of setting r))
 command-leads setting (Err refusal) = refl
 command-leads setting (Ok command) =
-    elim (cause setting.state command) as (λ o. (option_map_or (refused setting) o (accepted setting command)).after.state ≡ apply_all setting.state (events_in (option_map_or (refused setting) o (accepted setting command)))) [
+    elim (against setting command) as (λ o. (option_map_or (refused setting) o (accepted setting command)).after.state ≡ apply_all setting.state (events_in (option_map_or (refused setting) o (accepted setting command)))) [
       | None ↦ ap (apply_all setting.state) (sym (append-nil (events_of setting.state command)))
       | Some refusal ↦ refl
     ]
@@ -81,6 +87,31 @@ events-lead setting (item ∷ items) =
     events-lead (turn setting item).after items
     ∙ ap (λ (s : State). apply_all s (all_events (turns (turn setting item).after items))) (turn-leads setting item)
     ∙ sym (apply_all-append (events_in (turn setting item)) (all_events (turns (turn setting item).after items)) setting.state)
+
+-- and its store ends behind their records
+
+pub end_after-append : (xs ys : List Event) (end : ℕ) → end_after end (xs ++ ys) ≡ end_after (end_after end xs) ys
+end_after-append [] ys end = refl
+end_after-append (x ∷ xs) ys end = end_after-append xs ys (end + 5 + length (event_text x))
+
+command-ends : (setting : Setting) (r : Result Resolved Refusal) → (turn_of setting r).after.end ≡ end_after setting.end (events_in (turn_of setting r))
+command-ends setting (Err refusal) = refl
+command-ends setting (Ok command) =
+    elim (against setting command) as (λ o. (option_map_or (refused setting) o (accepted setting command)).after.end ≡ end_after setting.end (events_in (option_map_or (refused setting) o (accepted setting command)))) [
+      | None ↦ ap (end_after setting.end) (sym (append-nil (events_of setting.state command)))
+      | Some refusal ↦ refl
+    ]
+
+turn-ends : (setting : Setting) (item : Item) → (turn setting item).after.end ≡ end_after setting.end (events_in (turn setting item))
+turn-ends setting (Ok line) = command-ends setting (resolve setting.state line)
+turn-ends setting (Err refusal) = refl
+
+pub events-end : (setting : Setting) (items : List Item) → (left_by setting (turns setting items)).end ≡ end_after setting.end (all_events (turns setting items))
+events-end setting [] = refl
+events-end setting (item ∷ items) =
+    events-end (turn setting item).after items
+    ∙ ap (λ (end : ℕ). end_after end (all_events (turns (turn setting item).after items))) (turn-ends setting item)
+    ∙ sym (end_after-append (events_in (turn setting item)) (all_events (turns (turn setting item).after items)) setting.end)
 
 pub index-cleans : (s : State) → IsValid s → dirty (led_to s Index) ≡ 0
 index-cleans s h = steps-clean-all (dirty s) s h refl

@@ -1,8 +1,9 @@
 -- Theorems over the definitions, each proved as the contract of a function of the module `laws`.
-use Rattle.std.specs.Prelude.{◌≡◌, ⊤, ℕ, zero, suc, ◌≤◌, ◌+◌, length, if◌then◌else◌, ◌||◌, nat_lt, List, [], ◌∷◌, ◌++◌, None, Some, Ok, IsTrue, is_some, codes}
+use Rattle.std.specs.Prelude.{true, false, ◌≡◌, ⊤, ℕ, zero, suc, ◌≤◌, ◌+◌, length, if◌then◌else◌, ◌||◌, nat_lt, List, [], ◌∷◌, ◌++◌, None, Some, Ok, IsTrue, is_some, codes}
 use Rattle.std.specs.List.{flat_map, position_or_len}
 use Rattle.hac_model.specs.Bare.{bare}
 use Rattle.hac_model.specs.Bytes.{is_backslash, is_line_end, is_quote}
+use Rattle.hac_model.specs.CommandLine.{options}
 use Rattle.hac_model.specs.Depends.{IsAcyclic}
 use Rattle.hac_model.specs.Events.{accepted, apply, apply_all, dirty, renamed}
 use Rattle.hac_model.specs.LineWords.{first_word, is_word_end, quoted_word}
@@ -13,7 +14,9 @@ use Rattle.hac_model.specs.Printed.{ended, text}
 use Rattle.hac_model.specs.Refusals.{cause, events_of, led_to}
 use Rattle.hac_model.specs.Resolving.{resolve}
 use Rattle.hac_model.specs.Script.{due, whole}
-use Rattle.hac_model.specs.Play.{Setting, all_events, left_by, opening, play, replies, turns}
+use Rattle.hac_model.specs.Sessions.{stored}
+use Rattle.hac_model.specs.Payloads.{is_spellable}
+use Rattle.hac_model.specs.Play.{Setting, all_events, end_after, left_by, opening, play, replies, turns}
 use Rattle.hac_model.specs.Texts.{escaped_text, text_of}
 use Rattle.hac_model.specs.Tree.{empty, entry_at, path_of}
 use Rattle.hac_model.specs.Valid.{IsValid}
@@ -96,6 +99,19 @@ ScriptsKeepValid = (setting : Setting) (bytes : List ℕ) → IsValid setting.st
 -- what lines leave is what their events make of the state, one after the other
 abbrev pub EventsLead : Type 0
 EventsLead = (setting : Setting) (items : List Item) → (left_by setting (turns setting items)).state ≡ apply_all setting.state (all_events (turns setting items))
+
+-- and the store then ends behind the records of these events
+abbrev pub EventsEnd : Type 0
+EventsEnd = (setting : Setting) (items : List Item) → (left_by setting (turns setting items)).end ≡ end_after setting.end (all_events (turns setting items))
+
+-- each event that can happen to a valid state has a spelling
+abbrev pub AcceptedAreSpelled : Type 0
+AcceptedAreSpelled = (s : State) (event : Event) → IsValid s → IsTrue (accepted s event) → IsTrue (is_spellable event)
+
+-- where sessions stand is never stored: what can happen to a state can happen to what is stored of it, and leads to what is
+-- stored of the outcome
+abbrev pub SessionsAreNotStored : Type 0
+SessionsAreNotStored = (s : State) (event : Event) → IsValid s → IsTrue (accepted s event) → IsTrue (accepted (stored s) event) × (stored (apply s event) ≡ apply (stored s) event)
 
 -- where no directory depends on itself, the links don't change when they are found anew
 abbrev pub LinksStay : Type 0
@@ -182,3 +198,28 @@ MovedListings =
     ∷ codes "ok" ∷ codes "ok" ∷ codes "t /d/e" ∷ codes "ok" ∷ codes "ok" ∷ codes "ok"
     ∷ codes "t /d/s/g" ∷ codes "ok" ∷ codes "= red apple" ∷ codes "ok" ∷ codes "d d" ∷ codes "d h" ∷ codes "ok"
     ∷ codes "f e" ∷ codes "s s" ∷ codes "ok" ∷ codes "f g" ∷ codes "s t" ∷ codes "ok" ∷ [])
+
+-- a store without room for one more record refuses what would change it, and still answers
+abbrev pub FullStore : Type 0
+FullStore =
+    text (replies (play (record opening { start = 4294967290; end = 4294967290 }) (lines_text (codes "mkdir /a" ∷ codes "mkdir /a" ∷ codes "ls" ∷ []))))
+    ≡ lines_text (codes "no limit store" ∷ codes "no limit store" ∷ codes "ok" ∷ [])
+
+-- a directory's record is 13 bytes longer than its name is
+abbrev pub FirstEnd : Type 0
+FirstEnd = (left_by opening (play opening (lines_text (codes "mkdir /a" ∷ [])))).end ≡ 64 + 13
+
+-- a new store, one that is there, and one whose name begins as an option does
+abbrev pub FirstCommandLines : Type 0
+FirstCommandLines =
+    (options (codes "--new" ∷ codes "notes" ∷ []) ≡ Some (record { fresh = true; store = codes "notes" }))
+    × (options (codes "notes" ∷ codes "--new" ∷ []) ≡ Some (record { fresh = true; store = codes "notes" }))
+    × (options (codes "-" ∷ []) ≡ Some (record { fresh = false; store = codes "-" }))
+    × (options (codes "--" ∷ codes "--new" ∷ []) ≡ Some (record { fresh = false; store = codes "--new" }))
+
+-- words that are no line: none, an empty name, two names, `--new` twice, and an option that isn't known
+abbrev pub NoCommandLines : Type 0
+NoCommandLines =
+    (options [] ≡ None) × (options ([] ∷ []) ≡ None) × (options (codes "a" ∷ codes "b" ∷ []) ≡ None)
+    × (options (codes "--new" ∷ codes "--new" ∷ codes "a" ∷ []) ≡ None) × (options (codes "--tick=1" ∷ codes "a" ∷ []) ≡ None)
+    × (options (codes "--new=" ∷ codes "a" ∷ []) ≡ None)

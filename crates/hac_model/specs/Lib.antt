@@ -33,4 +33,5 @@ pub mod SpaceNames
 pub mod Fields
 pub mod QueryFields
 pub mod Payloads
+pub mod CommandLine
 pub mod Laws

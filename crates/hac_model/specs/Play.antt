@@ -1,7 +1,8 @@
 -- A whole run: each command is answered, and changes the state for those behind it.
-use Rattle.std.specs.Prelude.{ℕ, zero, suc, ◌+◌, Bool, true, false, List, [], ◌∷◌, ◌++◌, length, map, take, codes, decimal, Result, Ok, Err, option_and_then}
+use Rattle.std.specs.Prelude.{ℕ, zero, suc, ◌+◌, nat_lt, if◌then◌else◌, Bool, true, false, List, [], ◌∷◌, ◌++◌, length, map, take, codes, decimal, Option, None, Some, Result, Ok, Err, option_and_then}
 use Rattle.std.specs.List.{flat_map, list_any}
 use Rattle.std.specs.Option.{option_map_or}
+use Rattle.hac_model.specs.Answers.{first_cause}
 use Rattle.hac_model.specs.Events.{apply_all}
 use Rattle.hac_model.specs.Lines.{Item}
 use Rattle.hac_model.specs.Formula.{Formula}
@@ -9,16 +10,20 @@ use Rattle.hac_model.specs.Limits.{dirty_count, file_count, plain_count, semanti
 use Rattle.hac_model.specs.Links.{found_by, items, kind, permanent_count, prohibited_count, query_at, transient_count}
 use Rattle.hac_model.specs.Listing.{children, entry_line}
 use Rattle.hac_model.specs.Paths.{path_text}
+use Rattle.hac_model.specs.Payloads.{event_text}
 use Rattle.hac_model.specs.QueryText.{query_text, renamed}
-use Rattle.hac_model.specs.Refusals.{cause, events_of, led_to}
+use Rattle.hac_model.specs.Refusals.{cause, events_of}
 use Rattle.hac_model.specs.Resolving.{resolve}
 use Rattle.hac_model.specs.Script.{script}
 use Rattle.hac_model.specs.Texts.{escaped_text}
 use Rattle.hac_model.specs.Tree.{body_at, empty, path_of, text_in}
 use Rattle.hac_model.specs.declared.events.Event.{Event}
+use Rattle.hac_model.specs.declared.limits.LimitWord.TheVariants.{Store}
+use Rattle.hac_model.specs.declared.limits.TheConstants.{STORE_LIMIT}
 use Rattle.hac_model.specs.declared.marks.Kind.{Kind}
 use Rattle.hac_model.specs.declared.marks.Kind.TheVariants.{Transient, Permanent, Prohibited, Unlinked}
 use Rattle.hac_model.specs.declared.replies.Refusal.{Refusal}
+use Rattle.hac_model.specs.declared.replies.Refusal.TheVariants.{Limit}
 use Rattle.hac_model.specs.declared.replies.Reply.{Reply}
 use Rattle.hac_model.specs.declared.replies.Reply.TheVariants.{Lines, Refused}
 use Rattle.hac_model.specs.declared.resolved.Resolved.{Resolved}
@@ -86,13 +91,31 @@ data_lines s (Find query) = map (found_line s) (found_by s query)
 data_lines s Counts = counts_line s ∷ []
 data_lines s other = []
 
--- what a run goes on from: so far the state alone
+-- what a run goes on from: a state, and its store: where the live area begins, where its log ends, and how often a root
+-- was written
 pub record Setting : Type 0 where
   pub state : State
+  pub start : ℕ
+  pub end : ℕ
+  pub generation : ℕ
 
--- a run begins with the root alone
+-- a new store holds the root alone
 abbrev pub opening : Setting
-opening = record { state = empty }
+opening = record { state = empty; start = 64; end = 64; generation = 1 }
+
+-- where a log ends once it holds the records of events too: of each a gate, the payload's length in four bytes, the payload
+abbrev pub end_after : ℕ → List Event → ℕ
+end_after end [] = end
+end_after end (event ∷ events) = end_after (end + 5 + length (event_text event)) events
+
+-- what is gone on from once events have happened, and are stored
+abbrev pub after_events : Setting → List Event → Setting
+after_events setting events = record setting { state = apply_all setting.state events; end = end_after setting.end events }
+
+-- the records of events, and the closed gate behind them, lie within the limit of a store
+abbrev pub have_room : ℕ → List Event → Bool
+have_room end [] = true
+have_room end events = nat_lt (end_after end events) STORE_LIMIT
 
 -- what comes of one command: its reply, the events that it makes, the index steps behind it, and what the next command meets
 pub record Turn : Type 0 where
@@ -105,19 +128,24 @@ pub record Turn : Type 0 where
 abbrev pub refused : Setting → Refusal → Turn
 refused setting refusal = record { reply = Refused refusal; events = []; steps = []; after = setting }
 
--- one that nothing speaks against tells its lines, and its events happen
+-- one that nothing speaks against tells its lines, and its events happen and are stored
 abbrev pub accepted : Setting → Resolved → Turn
 accepted setting command = record {
   reply = Lines (data_lines setting.state command);
   events = events_of setting.state command;
   steps = [];
-  after = record setting { state = led_to setting.state command };
+  after = after_events setting (events_of setting.state command);
 }
 
--- the turn of a command whose paths were followed
+-- the store has no room for the records of the command's events
+abbrev pub full_cause : Setting → Resolved → Option Refusal
+full_cause setting command = if have_room setting.end (events_of setting.state command) then None else Some (Limit Store)
+
+-- the turn of a command whose paths were followed. That the store is full comes last of all causes.
 abbrev pub turn_of : Setting → Result Resolved Refusal → Turn
 turn_of setting (Err refusal) = refused setting refusal
-turn_of setting (Ok command) = option_map_or (refused setting) (cause setting.state command) (accepted setting command)
+turn_of setting (Ok command) =
+    option_map_or (refused setting) (first_cause (cause setting.state command ∷ full_cause setting command ∷ [])) (accepted setting command)
 
 -- the turn of a line, which is a command or refused by its form
 abbrev pub turn : Setting → Item → Turn

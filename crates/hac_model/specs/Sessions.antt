@@ -13,3 +13,7 @@ stands_in (session ∷ sessions) name = if bytes_eq session.name name then sessi
 -- the path of that directory, from which a relative path word goes on
 abbrev pub base_of : State → List ℕ → List (List ℕ)
 base_of s session = path_of s (stands_in s.sessions session)
+
+-- what is stored of a state: each run begins with its sessions anew
+abbrev pub stored : State → State
+stored s = record s { sessions = [] }

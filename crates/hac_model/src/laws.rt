@@ -1,5 +1,5 @@
 //! Theorems over the definitions alone. Each is the contract of a function that does nothing.
-ghost use Rattle.hac_model.specs.Laws.{ScriptsJoin, WholeIsLines, WholeIsFront, WholeIsLongest, EmptyIsValid, EventsKeepValid, BareCommutes, LinesSpell, CommandsHappen, StepsAreDue, StepsClean, IndexCleans, ScriptsKeepValid, EventsLead, LinksStay, LinksAreOnly, ValidIsAcyclic, PlainTellsState, LooksFind, LooksTell, MovesRename, PrintedTextIsRead, PrintedTextIsOneLine, QuotedWordIsRead, QuotesAreOneSpelling, FirstListings, MovedListings};
+ghost use Rattle.hac_model.specs.Laws.{ScriptsJoin, WholeIsLines, WholeIsFront, WholeIsLongest, EmptyIsValid, EventsKeepValid, BareCommutes, LinesSpell, CommandsHappen, StepsAreDue, StepsClean, IndexCleans, ScriptsKeepValid, EventsLead, EventsEnd, AcceptedAreSpelled, SessionsAreNotStored, FullStore, FirstEnd, FirstCommandLines, NoCommandLines, LinksStay, LinksAreOnly, ValidIsAcyclic, PlainTellsState, LooksFind, LooksTell, MovesRename, PrintedTextIsRead, PrintedTextIsOneLine, QuotedWordIsRead, QuotesAreOneSpelling, FirstListings, MovedListings};
 
 /// Two scripts that are joined are played one after the other, where the first is made of whole lines, each
 /// with its end and the bytes that belong to it: no line looks further ahead, and none looks back but to
@@ -55,7 +55,18 @@ pub fn scripts_keep_valid()
 /// The state after a run is what its events make of the first one, so each tree that a run goes through is
 /// told by how many events happened.
 pub fn events_lead()
-    ensures { EventsLead }
+    ensures state { EventsLead }
+    ensures end { EventsEnd }
+{}
+
+/// An event that can happen can be stored.
+pub fn accepted_events_are_spelled()
+    ensures { AcceptedAreSpelled }
+{}
+
+/// Where sessions stand is never stored.
+pub fn sessions_are_not_stored()
+    ensures { SessionsAreNotStored }
 {}
 
 /// Where no directory depends on itself, the links are those, and those alone, that one more round leaves
@@ -103,4 +114,16 @@ pub fn first_listings()
 /// A run with directories in one another, in which files are moved into links and out of them.
 pub fn moved_listings()
     ensures { MovedListings }
+{}
+
+/// A run over a store that is full, and where the store of a small run ends.
+pub fn stores_end()
+    ensures full { FullStore }
+    ensures first { FirstEnd }
+{}
+
+/// What some words of the program ask for, and some that ask for nothing.
+pub fn first_command_lines()
+    ensures some { FirstCommandLines }
+    ensures none { NoCommandLines }
 {}

@@ -43,6 +43,9 @@ pub const ITEMS_LIMIT: u64 = 65_536;
 /// The greatest number that the next entry may take.
 pub const NUMBERS_LIMIT: u64 = 4_294_967_295;
 
+/// The most bytes of a store, up to the closed gate behind its log.
+pub const STORE_LIMIT: u64 = 4_294_967_296;
+
 /// What a limit counts. A command that would pass a limit is refused with its word. Those that no
 /// command of today can pass are met once the commands that count them are there.
 #[derive(Clone, Copy, Debug, PartialEq, Eq)]

@@ -5,6 +5,7 @@ use Rattle.hac_model.specs.LineWords.{quoted}
 use Rattle.hac_model.specs.Lines.{alone, ls_of, of_two_paths, one_path, path_and_query, write_of}
 use Rattle.hac_model.specs.Links.{kind, links}
 use Rattle.hac_model.specs.PathWords.{word_of}
+use Rattle.hac_model.specs.Payloads.{event_text}
 use Rattle.hac_model.specs.QueryReading.{after_run, kind_of, read_on, read_query}
 use Rattle.hac_model.specs.Script.{script}
 use Rattle.hac_model.specs.Texts.{escaped_byte, text_of}
@@ -14,5 +15,5 @@ use Rattle.hac_model.specs.Words.{has_term, is_word_byte, words}
 use Rattle.hac_model.proofs.laws.moved_listings.Goals as goal
 
 pub returns : goal.returns
-unfolding after_run alone digits escaped_byte first_passed has_term is_path_short is_word_byte kind_of lineage links look ls_of of_two_paths one_path passed path_and_query path_of quoted read_on read_query script text_of word_of words write_of kind
+unfolding after_run alone digits escaped_byte event_text first_passed has_term is_path_short is_word_byte kind_of lineage links look ls_of of_two_paths one_path passed path_and_query path_of quoted read_on read_query script text_of word_of words write_of kind
 returns c = refl

@@ -1,0 +1,179 @@
+-- Each event that can happen to a valid state has a spelling: its numbers have four bytes, and its names, texts and queries
+-- are no longer than such may be.
+use Rattle.std.proofs.Common.{inl, inr, ◌≡◌, ℕ, ◌<◌, ◌≤◌, Bool, true, false, List, [], ◌∷◌, length, refl, ap, sym, ◌∙◌, arith}
+use Rattle.std.specs.Prelude.{codes, not, option_and_then, ◌&&◌, ◌==◌, nat_le, Option, Some, None, IsTrue, is_none, is_some}
+use Rattle.std.proofs.lemmas.Bool.{and_from, and_parts, eqb-true}
+use Rattle.std.proofs.lemmas.Bool.Decides.{nat_tests}
+use Rattle.std.proofs.lemmas.List.Folds.{list_all-append}
+use Rattle.std.specs.List.{list_all}
+use Rattle.std.specs.Option.{option_map, option_map_or}
+use Rattle.std.specs.Str.{bytes_eq}
+use Rattle.hac_model.specs.Depends.{cycle_over, named_in}
+use Rattle.hac_model.specs.Events.{accepted, apply, are_directories, is_free, is_possible, may_ask, may_mark}
+use Rattle.hac_model.specs.Fields.{num}
+use Rattle.hac_model.specs.Formula.{Formula}
+use Rattle.hac_model.specs.Formula as formula
+use Rattle.hac_model.specs.Limits.{is_text, passed}
+use Rattle.hac_model.specs.Links.{is_item, is_semantic, parent_of}
+use Rattle.hac_model.specs.Names.{is_name, is_name_byte}
+use Rattle.hac_model.specs.Payloads.{is_spellable, mark_field, name_field, text_field, told_field}
+use Rattle.hac_model.specs.Queries.{are_terms, is_query, letter_count, not_count, term_count}
+use Rattle.hac_model.specs.QueryFields.{query_field, terms_fit, word_field}
+use Rattle.hac_model.specs.Sessions.{stored}
+use Rattle.hac_model.specs.Tree.{body_at, entry_at, is_directory, is_directory_at, is_file, is_file_at, is_made_directory, query_in}
+use Rattle.hac_model.specs.Valid.{IsValid}
+use Rattle.hac_model.specs.Words.{is_word}
+use Rattle.hac_model.specs.declared.events.Event.{Event}
+use Rattle.hac_model.specs.declared.events.Event.TheVariants.{Mkdir, NewFile, Rewrite, Ln, Mv, Rm, Rmdir, Smkdir, Setq, Unq, Mark, Smount, Ssync, Sumount, Step, Cd}
+use Rattle.hac_model.specs.declared.limits.TheConstants.{NAME_LIMIT, NESTING_LIMIT, NUMBERS_LIMIT, QUERY_LIMIT, TERMS_LIMIT, TEXT_LIMIT}
+use Rattle.hac_model.specs.declared.marks.Kind.{Kind}
+use Rattle.hac_model.specs.declared.marks.Kind.TheVariants.{Transient, Permanent, Prohibited, Unlinked}
+use Rattle.hac_model.specs.declared.states.Body.{Body}
+use Rattle.hac_model.specs.declared.states.Entry.{Entry}
+use Rattle.hac_model.specs.declared.states.Session.{Session}
+use Rattle.hac_model.specs.declared.states.State.{State}
+use Rattle.hac_model.specs.declared.terms.Term.TheVariants.{Word, Prefix}
+use Rattle.hac_model.proofs.AcyclicLemmas.{apply-valid}
+use Rattle.hac_model.proofs.LimitLemmas.{IsWithinLimits, limits-within}
+use Rattle.hac_model.proofs.TreeLemmas.{Lives, directory-lives, entry_at-below}
+use Rattle.hac_model.proofs.ValidLemmas.{accepted-parts, free-parts, mark-parts, move-parts, rmdir-parts, setq-parts}
+
+module _ (s : State) (h : IsValid s) where
+  -- the numbers of a valid state have four bytes
+  number-fits : (n : ℕ) → Lives s.entries n → num.fits n ≡ true
+  number-fits n (inl root) = ap (λ (m : ℕ). num.fits m) root
+  number-fits n (inr found) =
+      let within : IsWithinLimits s = limits-within s h.layout.limits in
+      let below : n < s.next = entry_at-below 0 s.entries s.next n found.0 h.layout.numbers found.1 in
+      let few : s.next ≤ NUMBERS_LIMIT = grind (arith, nat_tests, within.numbers) in
+      let small : n < 4294967296 = omega (arith, below, few) in
+      grind (arith, nat_tests, small)
+
+  directory-fits : (d : ℕ) → is_directory_at s.entries d ≡ true → num.fits d ≡ true
+  directory-fits d is = number-fits d (directory-lives s.entries d is)
+
+  -- a number at which a test of its entry passes
+  tested-fits : (n : ℕ) (p : Body → Bool) → option_map_or p (body_at s.entries n) false ≡ true → num.fits n ≡ true
+  tested-fits n p passes =
+      elim (entry_at s.entries n) as (λ o. entry_at s.entries n ≡ o → option_map_or p (option_map (λ (e : Entry). e.body) o) false ≡ true → num.fits n ≡ true) [
+        | None ↦ (λ found passes. absurd cc)
+        | Some e ↦ (λ found passes. number-fits n (inr (e, found)))
+      ] refl passes
+
+  -- a query that may be asked
+  query-fits : (q : Formula ℕ) → may_ask s q ≡ true → query_field.fits q ≡ true
+  query-fits q may =
+      let asks = and_parts (is_query q) (are_directories s (named_in q)) may in
+      let nots = and_parts (are_terms q && nat_le (term_count q) TERMS_LIMIT && nat_le (letter_count q) QUERY_LIMIT) (nat_le (not_count q) NESTING_LIMIT) asks.0 in
+      let letters = and_parts (are_terms q && nat_le (term_count q) TERMS_LIMIT) (nat_le (letter_count q) QUERY_LIMIT) nots.0 in
+      let terms = and_parts (are_terms q) (nat_le (term_count q) TERMS_LIMIT) letters.0 in
+      let few : letter_count q ≤ 1024 = grind (arith, nat_tests, letters.1) in
+      and_from _ (terms_fit q) (and_from _ (nat_le (not_count q) 32) (and_from (nat_le (term_count q) 64) (nat_le (letter_count q) 1024) terms.1 letters.1) nots.1)
+      (terms-fit q terms.0 few asks.1)
+    where
+      word-fits : (letters : List ℕ) → is_word letters ≡ true → length letters ≤ 1024 → word_field.fits letters ≡ true
+      word-fits letters word few = and_from (nat_le (length letters) 1024) (is_word letters) (grind (arith, nat_tests, few)) word
+
+      terms-fit : (q : Formula ℕ) → are_terms q ≡ true → letter_count q ≤ 1024 → are_directories s (named_in q) ≡ true → terms_fit q ≡ true
+      terms-fit (formula.Term (Word letters)) terms few named = word-fits letters terms few
+      terms-fit (formula.Term (Prefix letters)) terms few named = word-fits letters terms few
+      terms-fit (formula.Dir dir) terms few named = directory-fits dir (and_parts (is_directory_at s.entries dir) true named).0
+      terms-fit (formula.Not q) terms few named = terms-fit q terms few named
+      terms-fit (formula.And left right) terms few named =
+          let words = and_parts (are_terms left) (are_terms right) terms in
+          let dirs = and_parts (are_directories s (named_in left)) (are_directories s (named_in right)) (sym (list_all-append (λ d. is_directory_at s.entries d) (named_in left) (named_in right)) ∙ named) in
+          and_from (terms_fit left) (terms_fit right) (terms-fit left words.0 (omega (arith, few)) dirs.0) (terms-fit right words.1 (omega (arith, few)) dirs.1)
+      terms-fit (formula.Or left right) terms few named =
+          let words = and_parts (are_terms left) (are_terms right) terms in
+          let dirs = and_parts (are_directories s (named_in left)) (are_directories s (named_in right)) (sym (list_all-append (λ d. is_directory_at s.entries d) (named_in left) (named_in right)) ∙ named) in
+          and_from (terms_fit left) (terms_fit right) (terms-fit left words.0 (omega (arith, few)) dirs.0) (terms-fit right words.1 (omega (arith, few)) dirs.1)
+
+  name-fits : (name : List ℕ) → is_name name ≡ true → name_field.fits name ≡ true
+  name-fits name is =
+      let one = and_parts (nat_le 1 (length name) && nat_le (length name) NAME_LIMIT && list_all is_name_byte name && not (bytes_eq name (codes "."))) (not (bytes_eq name (codes ".."))) is in
+      let two = and_parts (nat_le 1 (length name) && nat_le (length name) NAME_LIMIT && list_all is_name_byte name) (not (bytes_eq name (codes "."))) one.0 in
+      let three = and_parts (nat_le 1 (length name) && nat_le (length name) NAME_LIMIT) (list_all is_name_byte name) two.0 in
+      let four = and_parts (nat_le 1 (length name)) (nat_le (length name) NAME_LIMIT) three.0 in
+      and_from (nat_le (length name) NAME_LIMIT) (is_name name) four.1 is
+
+  text-fits : (text : List ℕ) → is_text text ≡ true → text_field.fits text ≡ true
+  text-fits text is = and_from (nat_le (length text) TEXT_LIMIT) true is refl
+
+  told-fits : (told : List (List ℕ)) → (length told == 0) ≡ true → told_field.fits told ≡ true
+  told-fits [] none = refl
+  told-fits (one ∷ more) none = let never : length (one ∷ more) ≡ 0 = eqb-true (length (one ∷ more)) 0 none in absurd (omega (arith, never))
+
+  -- a place that is free
+  place-fits : (dir : ℕ) (name : List ℕ) → is_free s dir name ≡ true → (num.fits dir ≡ true) × (name_field.fits name ≡ true)
+  place-fits dir name free = let parts = free-parts s dir name free in (directory-fits dir parts.0, name-fits name parts.1)
+
+  mark-fits : (dir item : ℕ) (kind : Kind) → may_mark s dir item kind ≡ true → mark_field.fits kind ≡ true
+  mark-fits dir item Transient may = absurd cc
+  mark-fits dir item Permanent may = refl
+  mark-fits dir item Prohibited may = refl
+  mark-fits dir item Unlinked may = refl
+
+  there-fits : (n : ℕ) → is_some (entry_at s.entries n) ≡ true → num.fits n ≡ true
+  there-fits n there =
+      elim (entry_at s.entries n) as (λ o. entry_at s.entries n ≡ o → is_some o ≡ true → num.fits n ≡ true) [
+        | None ↦ (λ found there. absurd cc)
+        | Some e ↦ (λ found there. number-fits n (inr (e, found)))
+      ] refl there
+
+  semantic-fits : (n : ℕ) → is_semantic s n ≡ true → num.fits n ≡ true
+  semantic-fits n is =
+      elim (entry_at s.entries n) as (λ o. entry_at s.entries n ≡ o → is_some (query_of o) ≡ true → num.fits n ≡ true) [
+        | None ↦ (λ found is. absurd cc)
+        | Some e ↦ (λ found is. number-fits n (inr (e, found)))
+      ] refl is
+    where
+      query_of : Option Entry → Option (Formula ℕ)
+      query_of o = option_and_then query_in (option_map (λ (e : Entry). e.body) o)
+
+  possible-spelled : (e : Event) → is_possible s e ≡ true → is_spellable e ≡ true
+  unfolding is_spellable
+  possible-spelled (Mkdir dir name) is = let place = place-fits dir name is in and_from (num.fits dir) (name_field.fits name) place.0 place.1
+  possible-spelled (NewFile dir name text) is =
+      let parts = and_parts (is_free s dir name) (is_text text) is in
+      let place = place-fits dir name parts.0 in
+      and_from (num.fits dir) _ place.0 (and_from (name_field.fits name) (text_field.fits text) place.1 (text-fits text parts.1))
+  possible-spelled (Rewrite file text) is =
+      let parts = and_parts (is_file_at s.entries file) (is_text text) is in
+      and_from (num.fits file) (text_field.fits text) (tested-fits file is_file parts.0) (text-fits text parts.1)
+  possible-spelled (Smkdir dir name query told) is =
+      let parts = and_parts (is_free s dir name && may_ask s query) (length told == 0) is in
+      let asks = and_parts (is_free s dir name) (may_ask s query) parts.0 in
+      let place = place-fits dir name asks.0 in
+      and_from (num.fits dir) _ place.0 (and_from (name_field.fits name) _ place.1 (and_from (query_field.fits query) (told_field.fits told) (query-fits query asks.1) (told-fits told parts.1)))
+  possible-spelled (Setq dir query told) is =
+      let parts = setq-parts s dir query told is in
+      let none = and_parts (is_made_directory s.entries dir && may_ask s query && is_none (cycle_over s dir (parent_of s dir) query)) (length told == 0) is in
+      and_from (num.fits dir) _ (tested-fits dir is_directory parts.0) (and_from (query_field.fits query) (told_field.fits told) (query-fits query parts.1) (told-fits told none.1))
+  possible-spelled (Unq dir) is = semantic-fits dir is
+  possible-spelled (Mark set) is =
+      let parts = mark-parts s set.dir set.item set.kind is in
+      let may = and_parts (is_item s set.item && is_semantic s set.dir) (may_mark s set.dir set.item set.kind) is in
+      and_from (num.fits set.dir) _ (semantic-fits set.dir parts.1) (and_from (num.fits set.item) (mark_field.fits set.kind) (tested-fits set.item is_file parts.0) (mark-fits set.dir set.item set.kind may.1))
+  possible-spelled (Mv entry dir name) is =
+      let parts = move-parts s entry dir name is in
+      let place = place-fits dir name parts.1 in
+      and_from (num.fits entry) _ (there-fits entry parts.0) (and_from (num.fits dir) (name_field.fits name) place.0 place.1)
+  possible-spelled (Rm entry) is = tested-fits entry is_file is
+  possible-spelled (Rmdir dir) is = tested-fits dir is_directory (rmdir-parts s dir is).0
+  possible-spelled Step is = refl
+  possible-spelled (Ln dir name target) is = absurd cc
+  possible-spelled (Smount dir name space docs told) is = absurd cc
+  possible-spelled (Ssync mount docs told) is = absurd cc
+  possible-spelled (Sumount mount) is = absurd cc
+  possible-spelled (Cd session dir) is = absurd cc
+
+pub accepted-spelled : (s : State) (e : Event) → IsValid s → IsTrue (accepted s e) → IsTrue (is_spellable e)
+accepted-spelled s e h is = possible-spelled s h e (accepted-parts (is_possible s e) (passed (apply s e)) is).0
+
+-- no session stands elsewhere than in the root, so all of a valid state is stored
+pub all-stored : (s : State) → IsValid s → stored s ≡ s
+all-stored s h = ap (λ (sessions : List Session). record s { sessions = sessions }) (sym h.sessions)
+
+pub not-stored : (s : State) (e : Event) → IsValid s → IsTrue (accepted s e) → IsTrue (accepted (stored s) e) × (stored (apply s e) ≡ apply (stored s) e)
+not-stored s e h is =
+    (ap (λ (t : State). accepted t e) (all-stored s h) ∙ is, all-stored (apply s e) (apply-valid s e h is) ∙ ap (λ (t : State). apply t e) (sym (all-stored s h)))
