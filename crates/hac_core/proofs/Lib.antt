@@ -25,3 +25,4 @@ pub mod BlockingLemmas
 pub mod LedLemmas
 pub mod ReferringLemmas
 pub mod StandsLemmas
+pub mod FittingLemmas

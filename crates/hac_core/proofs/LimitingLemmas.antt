@@ -167,7 +167,7 @@ asking-share q (body.Semantic old permanent prohibited) is share all = all q per
 asking-share q other is share all = absurd cc
 
 -- a mark makes no count greater
-mark-passes : (s : State) (dir item : ℕ) (kind : Kind) → IsLayout s → passed (changed_at s dir (edited (marked item kind))) ≡ None
+pub mark-passes : (s : State) (dir item : ℕ) (kind : Kind) → IsLayout s → passed (changed_at s dir (edited (marked item kind))) ≡ None
 mark-passes s dir item kind h =
     edited-passes s dir (marked item kind) h (record { directories = marked-kind item kind; queries = (λ b. ap (λ (o : Option (Formula ℕ)). is_some o) (marked-query kind b)); files = marked-file kind })
     (let same : text_size (changed dir (edited (marked item kind)) s.entries) ≡ text_size s.entries = measured-same weight dir (edited (marked item kind)) s.entries (λ e. marked-weight kind e.body) in omega (arith, same))
@@ -208,7 +208,7 @@ steps-layout zero s h = h
 steps-layout (suc n) s h = steps-layout n (apply s Step) (step-layout s h)
 
 -- a query that goes makes no count greater
-unq-passes : (s : State) (dir : ℕ) → IsLayout s → passed (changed_at s dir (edited plain_body)) ≡ None
+pub unq-passes : (s : State) (dir : ℕ) → IsLayout s → passed (changed_at s dir (edited plain_body)) ≡ None
 unq-passes s dir h =
     let old : IsWithinLimits s = limits-within s h.limits in
     let es = s.entries in

@@ -1,8 +1,9 @@
 -- What the search over a graph tells of the state.
 use Rattle.std.proofs.Common.{◌≡◌, ℕ, true, false, cond, List, [], ◌∷◌, subst, refl, ap, sym, ◌∙◌, inl, inr}
-use Rattle.std.specs.Prelude.{Bool, Option, Some}
+use Rattle.std.specs.Prelude.{Bool, Option, Some, Result, Ok, Err, IfOk}
 use Rattle.hac_model.specs.Depends.{IsAcyclic, cycle_over, depends, first_reaching, named_in, reaches}
 use Rattle.hac_model.specs.Formula.{Formula}
+use Rattle.hac_model.specs.declared.memory.Memory.{Memory}
 use Rattle.hac_model.specs.declared.states.State.{State}
 use Rattle.hac_model.proofs.CycleLemmas.{reaches-told, reaches-walk}
 use Rattle.dep_graph.specs.Graphs.{edges_of}
@@ -33,3 +34,7 @@ pub cycle-told : (kept : LinkedTree) (dir parent : ℕ) (q : Formula ℕ) (edges
 cycle-told kept dir parent q edges found h is reached =
     ap (first_reaching (state_of kept) dir) (sym is)
     ∙ first-by (state_of kept) (edges_of kept.graph) dir edges found (λ d. h.edges d ∙ sym (same-depends kept d)) h.valid.acyclic reached
+
+pub way-told : (kept : LinkedTree) (dir parent : ℕ) (q : Formula ℕ) (edges : List ℕ) (result : Result (Option ℕ) Memory) → IsLinked kept → edges ≡ parent ∷ named_in q → IfOk result (λ found. IsFirstToReach (edges_of kept.graph) dir edges found) → IfOk result (λ way. way ≡ cycle_over (state_of kept) dir parent q)
+way-told kept dir parent q edges (Ok found) h is first = sym (cycle-told kept dir parent q edges found h is first)
+way-told kept dir parent q edges (Err memory) h is first = tt

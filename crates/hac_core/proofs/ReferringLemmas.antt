@@ -1,13 +1,14 @@
 -- Which directories name another in their queries, told by a graph and by the entries.
-use Rattle.std.proofs.Common.{◌≡◌, ℕ, zero, suc, ◌+◌, ◌<◌, ◌≤◌, Bool, true, false, cond, List, [], ◌∷◌, map, filter, eqb, subst, refl, ap, sym, ◌∙◌, arith, inl, inr, eq-eqb, ne_eqb, eqb-true}
-use Rattle.std.specs.Prelude.{◌==◌, slice_index, ◌||◌, ◌↔◌, drop, Contains, Option, Some, None, IsPermutation, IsSorted, option_and_then}
-use Rattle.std.specs.List.{AllByRecursion, IsDistinct}
+use Rattle.std.proofs.Common.{◌≡◌, ℕ, zero, suc, ◌+◌, ◌<◌, ◌≤◌, Bool, true, false, cond, List, [], ◌∷◌, length, map, filter, eqb, subst, refl, ap, sym, ◌∙◌, arith, inl, inr, eq-eqb, ne_eqb, eqb-true}
+use Rattle.std.specs.Prelude.{◌==◌, slice_index, ◌&&◌, ◌||◌, ◌↔◌, not, drop, Contains, Option, Some, None, IsPermutation, IsSorted, option_and_then}
+use Rattle.std.specs.List.{AllByRecursion, IsDistinct, list_all}
 use Rattle.std.specs.List.Sorted.{IsStrictlyIncreasing}
 use Rattle.std.specs.Option.{option_map, option_map_or}
 use Rattle.std.specs.Ordering.{nat_cmp}
 use Rattle.std.proofs.lemmas.List.Sorted.{Contains-permutation, IsNonDecreasingBy-from_sort, IsPermutation-sym}
 use Rattle.std.proofs.lemmas.Map.Keys.{IsDistinct-IsPermutation, IsStrictlyIncreasing-from_distinct}
 use Rattle.hac_model.specs.Depends.{Among, depends, named_in, names_directory, referrers}
+use Rattle.hac_model.specs.Events.{is_unreferenced}
 use Rattle.hac_model.specs.Formula.{Formula}
 use Rattle.hac_model.specs.Links.{has, parent_of, query_at}
 use Rattle.hac_model.specs.Refusals.{least_path, referenced_cause}
@@ -220,18 +221,19 @@ paths-numbers : (path : ℕ → List (List ℕ)) (es : List Entry) → map (λ (
 paths-numbers path [] = refl
 paths-numbers path (e ∷ es) = ap (λ (paths : List (List (List ℕ))). path e.number ∷ paths) (paths-numbers path es)
 
-module _ (kept : LinkedTree) (h : IsLinked kept) (dir : ℕ) (found sorted : List ℕ) (named : (q : ℕ) → Among found q ↔ Among (named_by kept.graph q) dir) (once : EachOnce found) (same : IsPermutation found sorted) (order : IsSorted nat_cmp sorted) where
-  edges-same : (q : ℕ) → named_by kept.graph q ≡ drop 1 (depends (state_of kept) q)
-  edges-same q = ap (λ (ns : List ℕ). drop 1 ns) (h.edges q ∙ sym (same-depends kept q))
+-- a graph tells whom a query names
+edges-same : (kept : LinkedTree) → IsLinked kept → (q : ℕ) → named_by kept.graph q ≡ drop 1 (depends (state_of kept) q)
+edges-same kept h q = ap (λ (ns : List ℕ). drop 1 ns) (h.edges q ∙ sym (same-depends kept q))
 
+module _ (kept : LinkedTree) (h : IsLinked kept) (dir : ℕ) (found sorted : List ℕ) (named : (q : ℕ) → Among found q ↔ Among (named_by kept.graph q) dir) (once : EachOnce found) (same : IsPermutation found sorted) (order : IsSorted nat_cmp sorted) where
   -- the numbers that the graph gave are those of the entries, once they are sorted
   referrers-sorted : numbers_of (referrers (state_of kept) dir) ≡ sorted
   referrers-sorted =
       rising-one 0 0 (numbers_of (referrers (state_of kept) dir)) sorted
       (some-rise (names_directory dir) 0 0 (state_of kept).entries (state_of kept).next h.valid.layout.numbers (omega arith))
       (sorted-rise found sorted same once order)
-      (λ q among. sorted-among found sorted same q ((named q).1 (subst (λ (ns : List ℕ). Among ns dir) (sym (edges-same q)) (referrer-names (state_of kept) dir q h.valid.layout.numbers among))))
-      (λ q among. names-referrer (state_of kept) dir q (subst (λ (ns : List ℕ). Among ns dir) (edges-same q) ((named q).0 (among-sorted found sorted same q among))))
+      (λ q among. sorted-among found sorted same q ((named q).1 (subst (λ (ns : List ℕ). Among ns dir) (sym (edges-same kept h q)) (referrer-names (state_of kept) dir q h.valid.layout.numbers among))))
+      (λ q among. names-referrer (state_of kept) dir q (subst (λ (ns : List ℕ). Among ns dir) (edges-same kept h q) ((named q).0 (among-sorted found sorted same q among))))
 
   -- so the least of their paths is what stands in the way
   pub referenced-told : (seen : Seen) (entries : List ℕ) (least : Option (List (List ℕ))) → seen ≡ kept.tree → entries ≡ sorted → least ≡ least_path (map (path_of seen.state) entries) → referenced_cause (state_of kept) dir ≡ option_map Referenced least
@@ -242,3 +244,27 @@ module _ (kept : LinkedTree) (h : IsLinked kept) (dir : ℕ) (found sorted : Lis
       ∙ (λ i. map (λ (n : ℕ). same-path kept n i) entries)
       ∙ ap (λ (t : Seen). map (path_of t.state) entries) (sym tree))
       ∙ ap (λ (o : Option (List (List ℕ))). option_map Referenced o) (sym told)
+
+-- Whether any names it.
+
+longer : (n : ℕ) → (suc n == 0) ≡ false
+longer n = ne_eqb (suc n) 0 (λ same. omega (arith, same))
+
+-- none passes where none is left
+none-left : (test : Entry → Bool) (es : List Entry) → list_all (λ e. not (test e)) es ≡ (length (numbers_of (filter test es)) == 0)
+none-left test [] = refl
+none-left test (e ∷ es) = elim (test e) as (λ b. (not b && list_all (λ e. not (test e)) es) ≡ (length (numbers_of (cond b (e ∷ filter test es) (filter test es))) == 0)) [ true ↦ sym (longer (length (numbers_of (filter test es)))) | false ↦ none-left test es ]
+
+-- two lists with the same numbers have none, or both some
+both-empty : (ms ns : List ℕ) → ((n : ℕ) → Among ms n → Among ns n) → ((n : ℕ) → Among ns n → Among ms n) → (length ms == 0) ≡ (length ns == 0)
+both-empty [] [] there back = refl
+both-empty (m ∷ ms) [] there back = absurd (there m (inl refl))
+both-empty [] (n ∷ ns) there back = absurd (back n (inl refl))
+both-empty (m ∷ ms) (n ∷ ns) there back = longer (length ms) ∙ sym (longer (length ns))
+
+pub unreferenced-told : (kept : LinkedTree) (h : IsLinked kept) (dir : ℕ) (found : List ℕ) → ((q : ℕ) → Among found q ↔ Among (named_by kept.graph q) dir) → is_unreferenced (state_of kept) dir ≡ (length found == 0)
+unreferenced-told kept h dir found named =
+    none-left (names_directory dir) (state_of kept).entries
+    ∙ both-empty (numbers_of (referrers (state_of kept) dir)) found
+    (λ q among. (named q).1 (subst (λ (ns : List ℕ). Among ns dir) (sym (edges-same kept h q)) (referrer-names (state_of kept) dir q h.valid.layout.numbers among)))
+    (λ q among. names-referrer (state_of kept) dir q (subst (λ (ns : List ℕ). Among ns dir) (edges-same kept h q) ((named q).0 among)))

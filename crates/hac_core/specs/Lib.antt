@@ -12,3 +12,4 @@ pub mod Linked
 pub mod Finding
 pub mod Paths
 pub mod Telling
+pub mod Fitting

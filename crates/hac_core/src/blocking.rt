@@ -200,7 +200,7 @@ fn outside(tree: &Tree, entry: Number, place: &Place) -> Result<(), Deny>
 }
 
 /// Whether a directory is an entry, or stands below it.
-fn is_inside(tree: &Tree, dir: Number, entry: Number) -> bool
+pub fn is_inside(tree: &Tree, dir: Number, entry: Number) -> bool
     requires dir { IsTrue (is_live tree.now.state.entries dir) }
     requires entry { IsTrue (is_live tree.now.state.entries entry) }
     ensures { result ≡ is_inside tree.now.state dir entry }

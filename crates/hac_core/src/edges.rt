@@ -1,6 +1,7 @@
 //! What a semantic directory depends on, and whether one would come to depend on itself.
 ghost use Rattle.std.specs.Prelude.{◌≡◌, ◌++◌, ◌∷◌, IfOk, OnOk};
-ghost use Rattle.hac_model.specs.Depends.{cycle_over, named_in};
+ghost use Rattle.hac_model.specs.Depends.{cycle_of_move, cycle_over, named_in};
+ghost use Rattle.hac_model.specs.Links.{parent_of};
 ghost use Rattle.hac_model.specs.Refusals.{cycle_by, cycle_cause};
 ghost use Rattle.hac_core.specs.Blocking.{Passes};
 ghost use Rattle.hac_core.specs.Linked.{IsLinked, state_of};
@@ -41,12 +42,24 @@ pub fn acyclic(alloc: Global, kept: &LinkedTree, command: &Resolved) -> Result<(
     ensures { Passes result (cycle_cause (state_of kept.now) command.now) }
 {
     match command {
-        Resolved::Setq { dir, query } => {
-            unreached(alloc, kept, *dir, kept.tree.tree().parent(*dir), query)
-        }
+        Resolved::Setq { dir, query } => unreached(alloc, kept, *dir, query),
         Resolved::Mv { entry, place } => unreached_there(alloc, kept, *entry, place),
         _ => Ok(()),
     }
+}
+
+/// The same of a directory that gets a query.
+fn unreached(
+    alloc: Global,
+    kept: &LinkedTree,
+    dir: Number,
+    query: &Query<Number>,
+) -> Result<(), Deny>
+    requires { IsLinked kept.now }
+    ensures { Passes result (cycle_cause (state_of kept.now) (Resolved.Setq dir query.now)) }
+{
+    let way = cycle_of_query(alloc, kept, dir, query)?;
+    no_way(kept, way)
 }
 
 /// The same of an entry that goes to a place.
@@ -62,26 +75,60 @@ fn unreached_there(
     let Place::Free { dir, .. } = place else {
         return Ok(());
     };
-    let Some(query) = kept.tree.tree().query(entry) else {
-        return Ok(());
-    };
-    unreached(alloc, kept, entry, *dir, query)
+    let way = cycle_of_move(alloc, kept, entry, *dir)?;
+    no_way(kept, way)
 }
 
-/// None of those on which a directory would depend depends on it.
-fn unreached(
+/// There is no directory by way of which one would depend on itself.
+fn no_way(kept: &LinkedTree, way: Option<Number>) -> Result<(), Deny>
+    ensures { Passes result (cycle_by (state_of kept.now) way) }
+{
+    match way {
+        Some(on) => Err(Deny::Refused(Refusal::Cycle(kept.tree.tree().path_of(on)?))),
+        None => Ok(()),
+    }
+}
+
+/// The directory by way of which one would depend on itself that gets a query, if there is any.
+pub fn cycle_of_query(
+    alloc: Global,
+    kept: &LinkedTree,
+    dir: Number,
+    query: &Query<Number>,
+) -> Result<Option<Number>, Memory>
+    requires { IsLinked kept.now }
+    ensures { IfOk result (λ way. way ≡ cycle_over (state_of kept.now) dir (parent_of (state_of kept.now) dir) query.now) }
+{
+    cycle_over(alloc, kept, dir, kept.tree.tree().parent(dir), query)
+}
+
+/// The same of an entry that goes to a directory.
+pub fn cycle_of_move(
+    alloc: Global,
+    kept: &LinkedTree,
+    entry: Number,
+    dir: Number,
+) -> Result<Option<Number>, Memory>
+    requires { IsLinked kept.now }
+    ensures { IfOk result (λ way. way ≡ cycle_of_move (state_of kept.now) entry dir) }
+{
+    match kept.tree.tree().query(entry) {
+        Some(query) => cycle_over(alloc, kept, entry, dir, query),
+        None => Ok(None),
+    }
+}
+
+/// The first of those on which a directory would depend that depends on it, if there is any.
+fn cycle_over(
     alloc: Global,
     kept: &LinkedTree,
     dir: Number,
     parent: Number,
     query: &Query<Number>,
-) -> Result<(), Deny>
+) -> Result<Option<Number>, Memory>
     requires linked { IsLinked kept.now }
-    ensures { Passes result (cycle_by (state_of kept.now) (cycle_over (state_of kept.now) dir parent query.now)) }
+    ensures { IfOk result (λ way. way ≡ cycle_over (state_of kept.now) dir parent query.now) }
 {
     let edges = edges_of(alloc, parent, query)?;
-    match kept.graph.would_cycle(dir, edges.as_slice())? {
-        Some(on) => Err(Deny::Refused(Refusal::Cycle(kept.tree.tree().path_of(on)?))),
-        None => Ok(()),
-    }
+    kept.graph.would_cycle(dir, edges.as_slice())
 }

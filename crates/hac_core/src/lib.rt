@@ -2,6 +2,7 @@
 //! memory was taken. It knows no line's bytes and no outside, and of the text of replies only their data lines.
 #![tactic(auto)]
 
+mod asking;
 mod blocking;
 mod counted;
 mod counting;
@@ -10,6 +11,7 @@ mod drafts;
 mod edges;
 mod events;
 mod finding;
+mod fitting;
 mod limiting;
 mod link_lines;
 mod linked;

@@ -1,10 +1,10 @@
 //! How much there would be after a command, told before anything changes.
 ghost use Rattle.std.specs.Prelude.{◌≡◌, ◌<◌, ◌≤◌, ◌^◌, false, ℕ, List, length, IsTrue, None};
-ghost use Rattle.hac_model.specs.Events.{apply_all, asking, changed_at, edited, reseated, rewritten};
+ghost use Rattle.hac_model.specs.Events.{added, apply_all, asking, changed_at, edited, reseated, rewritten};
 ghost use Rattle.hac_model.specs.Limits.{are_paths_short, counts};
 ghost use Rattle.hac_model.specs.Refusals.{blocked, led_to, writes, written_cause};
 ghost use Rattle.hac_model.specs.Formula.{Formula};
-ghost use Rattle.hac_model.specs.Tree.{ancestors, is_file_at, is_made_directory, path_of};
+ghost use Rattle.hac_model.specs.Tree.{ancestors, is_directory_at, is_file_at, is_made_directory, path_of};
 ghost use Rattle.hac_model.specs.declared.states.Body.{Body};
 ghost use Rattle.file_tree.specs.Answers.{is_live};
 ghost use Rattle.hac_core.specs.Blocking.{is_linking};
@@ -46,12 +46,19 @@ fn with_new(tree: &CountedTree, place: &Place, share: Counts) -> Counts
     ensures { (body : Body) → share ≡ share_of body → result ≡ counts (with_new tree.now.state place.now body) }
 {
     match place {
-        Place::Free { dir, .. } => {
-            let is_long = depth(tree.tree(), *dir) >= PATH_LIMIT;
-            plus(tree.counts(), as_new(share, is_long))
-        }
+        Place::Free { dir, .. } => with_entry(tree, *dir, share),
         Place::There(_) => tree.counts(),
     }
+}
+
+/// How much there would be with a new entry in a directory, which counts for so much.
+pub fn with_entry(tree: &CountedTree, dir: Number, share: Counts) -> Counts
+    requires dir { IsTrue (is_directory_at tree.now.state.entries dir) }
+    requires small { AreSmall share }
+    ensures { (name : List ℕ) (body : Body) → share ≡ share_of body → result ≡ counts (added tree.now.state dir name body) }
+{
+    let is_long = depth(tree.tree(), dir) >= PATH_LIMIT;
+    plus(tree.counts(), as_new(share, is_long))
 }
 
 /// How much there would be with a text of so many bytes, in a new file or in place of another text.
@@ -69,7 +76,7 @@ fn with_text(tree: &CountedTree, place: &Place, bytes: u64) -> Counts
 }
 
 /// How much there would be with a text of so many bytes in a file.
-fn with_rewritten(tree: &CountedTree, file: Number, bytes: u64) -> Counts
+pub fn with_rewritten(tree: &CountedTree, file: Number, bytes: u64) -> Counts
     requires file { IsTrue (is_file_at tree.now.state.entries file) }
     requires small { bytes < 2 ^ 62 }
     ensures { (text : List ℕ) → length text ≡ bytes → result ≡ counts (changed_at tree.now.state file (edited (rewritten text))) }
@@ -80,7 +87,7 @@ fn with_rewritten(tree: &CountedTree, file: Number, bytes: u64) -> Counts
 }
 
 /// How much there would be with a query in a directory that isn't the root.
-fn with_query(tree: &CountedTree, dir: Number) -> Counts
+pub fn with_query(tree: &CountedTree, dir: Number) -> Counts
     requires { IsTrue (is_made_directory tree.now.state.entries dir) }
     ensures { (query : Formula ℕ) → result ≡ counts (changed_at tree.now.state dir (edited (asking query))) }
 {
@@ -95,12 +102,18 @@ fn with_moved(tree: &CountedTree, entry: Number, place: &Place) -> Counts
     ensures { result ≡ counts (with_moved tree.now.state entry place.now) }
 {
     match place {
-        Place::Free { dir, .. } => {
-            let is_long = !stays_short(tree.tree(), entry, *dir);
-            with_long_paths(tree.counts(), is_long)
-        }
+        Place::Free { dir, .. } => with_reseated(tree, entry, *dir),
         Place::There(_) => tree.counts(),
     }
+}
+
+/// How much there would be with an entry in a directory to which it may go.
+pub fn with_reseated(tree: &CountedTree, entry: Number, dir: Number) -> Counts
+    requires { GoesTo tree.now.state entry dir }
+    ensures { (name : List ℕ) → result ≡ counts (changed_at tree.now.state entry (reseated dir name)) }
+{
+    let is_long = !stays_short(tree.tree(), entry, dir);
+    with_long_paths(tree.counts(), is_long)
 }
 
 /// Whether all paths are still short once an entry stands in a directory. What stands below it is looked at only where it

@@ -2,7 +2,7 @@
 ghost use Rattle.std.specs.Prelude.{◌≡◌, [], IfOk, IfErr, IsTrue, None, OnOk, OnErr, true, false};
 ghost use Rattle.std.specs.Option.{option_map};
 ghost use Rattle.hac_model.specs.Answers.{Answers};
-ghost use Rattle.hac_model.specs.Events.{apply_all, dirty};
+ghost use Rattle.hac_model.specs.Events.{accepted, apply_all, dirty};
 ghost use Rattle.hac_model.specs.Laws.{AllHappen};
 ghost use Rattle.hac_model.specs.Limits.{first_passed};
 ghost use Rattle.hac_model.specs.Lines.{is_spelled};
@@ -22,12 +22,13 @@ use crate::blocking::unblocked;
 use crate::drafts::{Draft, Settled};
 use crate::edges::acyclic;
 use crate::events::events_of;
+use crate::fitting::fits;
 use crate::limiting::counts_after;
 use crate::linked::LinkedTree;
 use crate::listing::data_lines;
 use crate::ready::{self, Ready};
 use crate::resolving::resolve;
-use hac_model::{Deny, Limit, Line, Memory, Refusal, Reply, Resolved, Seq, first_passed};
+use hac_model::{Deny, Event, Limit, Line, Memory, Refusal, Reply, Resolved, Seq, first_passed};
 use std::alloc::Global;
 use std::marker::Model;
 use std::mem;
@@ -110,6 +111,13 @@ impl Machine {
         let command = draft.into_command();
         answerable(&self.kept, &command)?;
         Ok(events_of(self.alloc, &self.kept, command))
+    }
+
+    /// Whether an event can happen to the state. It may be any event, as one that stands in a log.
+    pub fn fits(&self, event: &Event) -> Result<bool, Memory>
+        ensures { IfOk result (λ fits. fits ≡ accepted self.now.state event.now) }
+    {
+        fits(self.alloc, &self.kept, event)
     }
 
     /// Takes the memory that events want, so that `commit` lets them happen. The state stays as it is, whatever the

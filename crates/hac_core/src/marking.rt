@@ -1,6 +1,7 @@
 //! What stands in the way of a mark.
-ghost use Rattle.std.specs.Prelude.{◌≡◌, IsTrue};
-ghost use Rattle.hac_model.specs.Links.{is_permanent, is_prohibited};
+ghost use Rattle.std.specs.Prelude.{◌≡◌, ◌||◌, IfOk, IsTrue};
+ghost use Rattle.hac_model.specs.Events.{may_mark};
+ghost use Rattle.hac_model.specs.Links.{has, is_permanent, is_prohibited, links};
 ghost use Rattle.hac_model.specs.Refusals.{already_cause, unlinked_cause, unmarked_cause};
 ghost use Rattle.hac_model.specs.Tree.{is_file_at};
 ghost use Rattle.link_kinds.specs.Kinds as kinds;
@@ -9,7 +10,7 @@ ghost use Rattle.hac_core.specs.Linked.{IsLinked, state_of};
 
 use crate::finding::is_found;
 use crate::linked::LinkedTree;
-use hac_model::{Deny, Kind, Number, Refusal};
+use hac_model::{Deny, Kind, Mark, Memory, Number, Refusal};
 use std::alloc::Global;
 
 /// No item is added twice.
@@ -29,7 +30,7 @@ pub fn linked(alloc: Global, kept: &LinkedTree, item: Number, dir: Number) -> Re
     requires file { IsTrue (is_file_at kept.now.tree.state.entries item) }
     ensures { Passes result (unlinked_cause (state_of kept.now) item dir) }
 {
-    if is_permanent(kept, dir, item) || is_found(alloc, kept, dir, item)? {
+    if is_linked(alloc, kept, dir, item)? {
         return Ok(());
     }
     Err(Deny::Refused(Refusal::NotLinked(kept.tree.tree().path_of(item)?)))
@@ -40,10 +41,42 @@ pub fn marked(kept: &LinkedTree, item: Number, dir: Number) -> Result<(), Deny>
     requires { IsLinked kept.now }
     ensures { Passes result (unmarked_cause (state_of kept.now) item dir) }
 {
-    if is_permanent(kept, dir, item) || is_prohibited(kept, dir, item) {
+    if is_marked(kept, dir, item) {
         return Ok(());
     }
     Err(Deny::Refused(Refusal::NoMark(kept.tree.tree().path_of(item)?)))
+}
+
+/// Whether a mark changes something: an item is added where it isn't yet, kept out where it is a link, and its mark goes
+/// where it has one.
+pub fn may_mark(alloc: Global, kept: &LinkedTree, mark: Mark) -> Result<bool, Memory>
+    requires linked { IsLinked kept.now }
+    requires file { IsTrue (is_file_at kept.now.tree.state.entries mark.item) }
+    ensures { IfOk result (λ may. may ≡ may_mark (state_of kept.now) mark.dir mark.item mark.kind) }
+{
+    match mark.kind {
+        Kind::Permanent => Ok(!is_permanent(kept, mark.dir, mark.item)),
+        Kind::Prohibited => is_linked(alloc, kept, mark.dir, mark.item),
+        Kind::Unlinked => Ok(is_marked(kept, mark.dir, mark.item)),
+        Kind::Transient => Ok(false),
+    }
+}
+
+/// Whether an item is a link of a directory, added or found.
+fn is_linked(alloc: Global, kept: &LinkedTree, dir: Number, item: Number) -> Result<bool, Memory>
+    requires linked { IsLinked kept.now }
+    requires file { IsTrue (is_file_at kept.now.tree.state.entries item) }
+    ensures { IfOk result (λ is_linked. is_linked ≡ (is_permanent (state_of kept.now) dir item || has (links (state_of kept.now) dir) item)) }
+{
+    Ok(is_permanent(kept, dir, item) || is_found(alloc, kept, dir, item)?)
+}
+
+/// Whether an item has a mark in a directory.
+fn is_marked(kept: &LinkedTree, dir: Number, item: Number) -> bool
+    requires { IsLinked kept.now }
+    ensures { result ≡ is_permanent (state_of kept.now) dir item || is_prohibited (state_of kept.now) dir item }
+{
+    is_permanent(kept, dir, item) || is_prohibited(kept, dir, item)
 }
 
 /// Whether an item is a permanent link of a directory.

@@ -1,5 +1,6 @@
 //! Which directories have queries that name another.
 ghost use Rattle.std.specs.Prelude.{◌≡◌, if◌then◌else◌, map, IfOk};
+ghost use Rattle.hac_model.specs.Events.{is_unreferenced};
 ghost use Rattle.hac_model.specs.Listing.{is_before};
 ghost use Rattle.hac_model.specs.Paths.{path_text};
 ghost use Rattle.hac_model.specs.Refusals.{least_path, referenced_cause};
@@ -25,6 +26,15 @@ pub fn unreferenced(alloc: Global, kept: &LinkedTree, dir: Number) -> Result<(),
         Some(path) => Err(Deny::Refused(Refusal::Referenced(path))),
         None => Ok(()),
     }
+}
+
+/// Whether no query names a directory.
+pub fn is_unreferenced(kept: &LinkedTree, dir: Number) -> Result<bool, Memory>
+    requires { IsLinked kept.now }
+    ensures { IfOk result (λ is. is ≡ is_unreferenced (state_of kept.now) dir) }
+{
+    let referrers = kept.graph.referrers(dir)?;
+    Ok(referrers.is_empty())
 }
 
 /// The least of the paths of entries, compared as they are printed.

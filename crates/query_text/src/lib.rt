@@ -14,7 +14,7 @@ mod stepping;
 pub use faults::QueryFault;
 pub use paths::{Paths, Told};
 pub use printing::print;
-pub use reading::parse;
+pub use reading::{parse, terms_left};
 
 #[cfg(test)]
 mod tests;

@@ -109,8 +109,8 @@ fn is_above(most: u64, query: &RawQuery) -> bool
     terms_left(most, query).is_none()
 }
 
-/// How many terms may follow those of the query, where so many may stand in all; None where it has more.
-fn terms_left(most: u64, query: &RawQuery) -> Option<u64>
+/// How many terms may follow those of a query, where so many may stand in all; None where it has more.
+pub fn terms_left<D>(most: u64, query: &Query<D>) -> Option<u64>
     ensures { result ≡ (if nat_lt most (queries.term_count query.now) then None else Some (most - queries.term_count query.now)) }
 {
     match &query.node {

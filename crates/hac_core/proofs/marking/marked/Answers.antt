@@ -12,7 +12,6 @@ pub returns : goal.returns
 returns c =
     let kept = c.args.kept.now in
     let s = state_of kept in
-    let added : is_permanent s c.args.dir c.args.item ≡ false = sym c.is_permanent.ensures ∙ c.if-is_permanent.false in
-    let removed : is_prohibited s c.args.dir c.args.item ≡ false = sym c.is_prohibited.ensures ∙ c.if-is_prohibited.false in
+    let none : (is_permanent s c.args.dir c.args.item || is_prohibited s c.args.dir c.args.item) ≡ false = sym c.is_marked.ensures ∙ c.if-is_marked.false in
     let path : path_of s c.args.item ≡ c.in_ok-path_of.field-0 = same-path kept c.args.item ∙ ap (λ (seen : Seen). path_of seen.state c.args.item) (sym c.tree.ensures.same) ∙ sym c.in_ok-path_of.ensures in
-    λ i. cond (added i || removed i) None (Some (NoMark (path i)))
+    λ i. cond (none i) None (Some (NoMark (path i)))
