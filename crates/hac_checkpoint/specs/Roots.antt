@@ -66,9 +66,9 @@ named image =
 unfoldable pub root_of : List ℕ → Result Root Stop
 root_of image = needs 1 image (if slice_index image 0 == 1 then named image else Err (BadAt 0))
 
--- the place of what stands against it: where the image is too short, its end
-abbrev pub placed : List ℕ → Result Root Stop → Result Root ℕ
-placed image (Ok root) = Ok root
+-- the place of what stands against an answer: where the image is too short, its end
+abbrev pub placed : {A : Type 0} → List ℕ → Result A Stop → Result A ℕ
+placed image (Ok value) = Ok value
 placed image (Err Short) = Err (length image)
 placed image (Err (BadAt at)) = Err at
 

@@ -65,12 +65,12 @@ impl From<Failed> for RootFault {
     }
 }
 
-// What stands against a root.
+/// What speaks against a root, or against a log behind it.
 #[derive(Clone, Copy)]
-pub(crate) enum Stop {
-    // The bytes end before all is there that is needed.
+pub enum Stop {
+    /// The bytes end before all is there that is needed.
     Short,
-    // The byte at that place is wrong.
+    /// The byte at that place is wrong.
     BadAt(u64),
 }
 

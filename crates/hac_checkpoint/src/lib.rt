@@ -4,7 +4,7 @@
 mod heads;
 mod laws;
 
-pub use heads::{Root, RootFault, Slot, roots};
+pub use heads::{Root, RootFault, Slot, Stop, roots};
 pub use laws::roots_agree;
 
 #[cfg(test)]
