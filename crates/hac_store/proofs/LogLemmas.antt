@@ -1,0 +1,135 @@
+-- Logs, as they are read from a gate on.
+use Rattle.std.proofs.Common.{◌≡◌, ⊎_elim, ℕ, zero, suc, ◌+◌, ◌<◌, ◌≤◌, ◌^◌, Bool, true, false, if◌then◌else◌, List, [], ◌∷◌, length, take, drop, map, Result, Ok, Err, IsTrue, refl, sym, ◌∙◌, ap, subst, arith}
+use Rattle.std.specs.Prelude.{⊤}
+use Rattle.std.proofs.lemmas.List.{drop_all}
+use Rattle.hac_checkpoint.specs.declared.heads.Stop.{Stop}
+use Rattle.hac_checkpoint.specs.declared.heads.Stop.TheVariants as stop
+use Rattle.hac_journal.specs.Appending.{ClosedAt, HoldsAt}
+use Rattle.hac_journal.specs.Finding.{Found, Whole, Closed, Short, found_at, found_in}
+use Rattle.hac_journal.specs.Records.{log_of}
+use Rattle.hac_journal.proofs.CrashLemmas.{front-less}
+use Rattle.hac_journal.proofs.LawLemmas.{closed-is-found, found-is-closed, found-is-whole, found-along, records-are-found, none-is-closed}
+use Rattle.hac_model.specs.Events.{accepted, apply, apply_all}
+use Rattle.hac_model.specs.Payloads.{event_text, is_spellable, spelled}
+use Rattle.hac_model.specs.Play.{end_after}
+use Rattle.hac_model.specs.declared.events.Event.{Event}
+use Rattle.hac_model.specs.declared.states.State.{State}
+use Rattle.event_codec.proofs.PayloadLemmas.{written_is_read}
+use Rattle.hac_store.specs.Held.{Log, after_found, go_on, judged, log, read_on}
+
+-- one step of a log that is read
+read-step : (n : ℕ) (s : State) (at : ℕ) (file : List ℕ) → read_on (suc n) s at file ≡ after_found s at (found_at at file) (λ new behind. read_on n new behind file)
+unfolding read_on
+read-step n s at file = refl
+
+read-none : (s : State) (at : ℕ) (file : List ℕ) → read_on zero s at file ≡ Err stop.Short
+unfolding read_on
+read-none s at file = refl
+
+-- past the end of a file there is too little
+read-past : (n : ℕ) (s : State) (at : ℕ) (file : List ℕ) → length file ≤ at → read_on n s at file ≡ Err stop.Short
+read-past zero s at file past = read-none s at file
+read-past (suc n) s at file past =
+    let short : found_at at file ≡ Short = ap (found_in at) (drop_all at file past) in
+    read-step n s at file ∙ ap (λ (f : Found). after_found s at f (λ new behind. read_on n new behind file)) short
+
+-- what follows what was found, where it is the same behind each record that may be there
+go-same : (r : Result State Stop) (next other : State → Result Log Stop) → ((new : State) → next new ≡ other new) → go_on r next ≡ go_on r other
+go-same (Ok new) next other same = same new
+go-same (Err stop) next other same = refl
+
+found-same : (s : State) (at : ℕ) (found : Found) (next other : State → ℕ → Result Log Stop)
+    → ((payload : List ℕ) (behind : ℕ) (new : State) → found ≡ Whole payload behind → next new behind ≡ other new behind)
+    → after_found s at found next ≡ after_found s at found other
+found-same s at Short next other same = refl
+found-same s at Closed next other same = refl
+found-same s at (Whole payload behind) next other same = go-same (judged s at (spelled payload)) (λ new. next new behind) (λ new. other new behind) (λ new. same payload behind new refl)
+
+-- as many steps as there are bytes are enough
+read-enough : (m n : ℕ) (s : State) (at : ℕ) (file : List ℕ) → length file ≤ at + m → length file ≤ at + n → read_on m s at file ≡ read_on n s at file
+read-enough zero n s at file short enough = read-past zero s at file (omega arith) ∙ sym (read-past n s at file (omega arith))
+read-enough (suc m) zero s at file short enough = read-past (suc m) s at file (omega arith) ∙ sym (read-past zero s at file (omega arith))
+read-enough (suc m) (suc n) s at file short enough =
+    read-step m s at file
+    ∙ found-same s at (found_at at file) (λ new behind. read_on m new behind file) (λ new behind. read_on n new behind file)
+    (λ payload behind new found. let whole = found-is-whole at behind payload file found in read-enough m n new behind file (omega (arith, whole.0)) (omega (arith, whole.0)))
+    ∙ sym (read-step n s at file)
+
+pub log-step : (s : State) (at : ℕ) (file : List ℕ) → log s at file ≡ after_found s at (found_at at file) (λ new behind. log new behind file)
+log-step s at file =
+    read-enough (length file) (suc (length file)) s at file (omega arith) (omega arith) ∙ read-step (length file) s at file
+
+pub log-closed : (s : State) (at : ℕ) (file : List ℕ) → found_at at file ≡ Closed → log s at file ≡ Ok (record { state = s; end = at })
+log-closed s at file found = log-step s at file ∙ ap (λ (f : Found). after_found s at f (λ new behind. log new behind file)) found
+
+pub log-short : (s : State) (at : ℕ) (file : List ℕ) → found_at at file ≡ Short → log s at file ≡ Err stop.Short
+log-short s at file found = log-step s at file ∙ ap (λ (f : Found). after_found s at f (λ new behind. log new behind file)) found
+
+pub log-whole : (s : State) (at : ℕ) (file payload : List ℕ) (behind : ℕ) → found_at at file ≡ Whole payload behind
+    → log s at file ≡ go_on (judged s at (spelled payload)) (λ new. log new behind file)
+log-whole s at file payload behind found = log-step s at file ∙ ap (λ (f : Found). after_found s at f (λ new behind. log new behind file)) found
+
+-- a log that was read ends at a closed gate, and goes on in a file that agrees up to there
+pub record Ends (s : State) (at : ℕ) (d : List ℕ) (l : Log) : Type 0 where
+  pub closed : ClosedAt l.end d
+  pub behind : at ≤ l.end
+  pub along : (c : List ℕ) → take l.end c ≡ take l.end d → l.end < length c → log s at c ≡ log l.state l.end c
+
+-- what a record was, that a log goes on behind
+go-parts : (r : Result State Stop) (next : State → Result Log Stop) (l : Log) → go_on r next ≡ Ok l → (new : State) × (r ≡ Ok new) × (next new ≡ Ok l)
+go-parts (Ok new) next l is = (new, refl, is)
+go-parts (Err stop) next l is = absurd (cc)
+
+found-ends : (n : ℕ) (s : State) (at : ℕ) (d : List ℕ) (l : Log) (found : Found) → found_at at d ≡ found
+    → ((new : State) (behind : ℕ) → read_on n new behind d ≡ Ok l → Ends new behind d l)
+    → after_found s at found (λ new behind. read_on n new behind d) ≡ Ok l → Ends s at d l
+found-ends n s at d l Short found rest is = absurd (cc)
+found-ends n s at d l Closed found rest is =
+    let same : record { state = s; end = at } ≡ l = cc in
+    subst (Ends s at d) same (record { closed = found-is-closed at d found; behind = omega arith; along = λ c front long. refl })
+found-ends n s at d l (Whole payload behind) found rest is =
+    let parts = go-parts (judged s at (spelled payload)) (λ new. read_on n new behind d) l is in
+    let new = parts.0 in
+    let ends = rest new behind parts.2 in
+    let whole = found-is-whole at behind payload d found in
+    record {
+      closed = ends.closed;
+      behind = omega (arith, whole.0, ends.behind);
+      along = λ c front long.
+          let again = found-along at behind payload c d found (front-less c d behind l.end ends.behind front) (omega (arith, ends.behind, long)) in
+          log-whole s at c payload behind again ∙ ap (λ (r : Result State Stop). go_on r (λ next. log next behind c)) parts.1 ∙ ends.along c front long;
+    }
+
+read-ends : (n : ℕ) (s : State) (at : ℕ) (d : List ℕ) (l : Log) → read_on n s at d ≡ Ok l → Ends s at d l
+read-ends zero s at d l is = let none = sym (read-none s at d) ∙ is in absurd (cc)
+read-ends (suc n) s at d l is =
+    found-ends n s at d l (found_at at d) refl (λ new behind. read-ends n new behind d l) (sym (read-step n s at d) ∙ is)
+
+pub log-ends : (s : State) (at : ℕ) (d : List ℕ) (l : Log) → log s at d ≡ Ok l → Ends s at d l
+log-ends s at d l is = read-ends (length d) s at d l is
+
+-- each event can happen to what those before it lead to, and has a spelling
+abbrev pub AreStored : State → List Event → Type 0
+AreStored s [] = ⊤
+AreStored s (event ∷ events) = IsTrue (accepted s event) × IsTrue (is_spellable event) × AreStored (apply s event) events
+
+-- the end of a log doesn't fall
+pub end-grows : (events : List Event) (end : ℕ) → end ≤ end_after end events
+end-grows [] end = omega arith
+end-grows (event ∷ events) end = omega (arith, end-grows events (end + 5 + length (event_text event)))
+
+judged-event : (s : State) (at : ℕ) (event : Event) → IsTrue (accepted s event) → IsTrue (is_spellable event) → judged s at (spelled (event_text event)) ≡ Ok (apply s event)
+judged-event s at event accepted spellable =
+    ap (judged s at) (written_is_read event spellable) ∙ ap (λ (b : Bool). if b then Ok (apply s event) else Err (stop.BadAt (at + 5))) accepted
+
+-- records of events are read as what these lead to
+pub log-records : (events : List Event) (s : State) (at : ℕ) (file : List ℕ) → AreStored s events → end_after at events < 2 ^ 32
+    → HoldsAt at (log_of (map event_text events)) file → log s at file ≡ Ok (record { state = apply_all s events; end = end_after at events })
+log-records [] s at file stored fits holds = log-closed s at file (closed-is-found at file (none-is-closed at file holds))
+log-records (event ∷ events) s at file (accepted, spellable, stored) fits holds =
+    let payload = event_text event in
+    let behind = at + 5 + length payload in
+    let found = records-are-found at payload (map event_text events) file (omega (arith, fits, end-grows events behind)) holds in
+    log-whole s at file payload behind found.0
+    ∙ ap (λ (r : Result State Stop). go_on r (λ new. log new behind file)) (judged-event s at event accepted spellable)
+    ∙ log-records events (apply s event) behind file stored fits found.1

@@ -1,0 +1,97 @@
+-- What is left of a store whose log gets the records of events.
+use Rattle.std.proofs.Common.{◌≡◌, inl, ⊎_elim, Bool, false, ℕ, ◌+◌, ◌<◌, ◌^◌, List, [], ◌∷◌, length, map, None, Some, IfSome, Ok, refl, sym, ◌∙◌, ap, subst, arith, Vec}
+use Rattle.std.specs.declared.alloc.Global.{Global}
+use Rattle.std.specs.declared.option.Option.{Option}
+use Rattle.std.proofs.lemmas.Bool.{cases_lt}
+use Rattle.hac_disk.specs.Images.{LeavesOnly, overlaid}
+use Rattle.hac_disk.specs.Told.{IsSettled, Written}
+use Rattle.hac_disk.proofs.Moments.{started, weaken}
+use Rattle.hac_disk.proofs.ToldLemmas.{told-settled}
+use Rattle.hac_journal.specs.Appending.{Appending, ClosedAt}
+use Rattle.hac_journal.specs.Records.{contents_of, log_of}
+use Rattle.hac_model.specs.Events.{accepted, apply, apply_all}
+use Rattle.hac_model.specs.Laws.{AllHappen}
+use Rattle.hac_model.specs.Payloads.{event_text}
+use Rattle.hac_model.specs.Play.{Setting, after_events, end_after}
+use Rattle.hac_model.specs.Valid.{IsValid}
+use Rattle.hac_model.specs.declared.events.Event.{Event}
+use Rattle.hac_model.specs.declared.limits.TheConstants.{STORE_LIMIT}
+use Rattle.hac_model.specs.declared.states.State.{State}
+use Rattle.hac_model.proofs.AcyclicLemmas.{apply-valid}
+use Rattle.hac_model.proofs.SpelledLemmas.{accepted-spelled}
+use Rattle.hac_core.specs.Seen.{Seen as Kept}
+use Rattle.hac_store.specs.Held.{held}
+use Rattle.hac_store.specs.Stores.{HeldBetween, Seen, Stands, whole}
+use Rattle.hac_store.proofs.HeldLemmas.{held-appending, held-gate, held-overlaid}
+use Rattle.hac_store.proofs.LogLemmas.{AreStored}
+use Rattle.hac_store.proofs.RoomLemmas.{within-limit}
+
+-- events that can happen one after the other have spellings
+pub all-stored : (events : List Event) (s : State) → IsValid s → AllHappen s events → AreStored s events
+all-stored [] s valid happen = tt
+all-stored (event ∷ events) s valid (happens, rest) =
+    (happens, accepted-spelled s event valid happens, all-stored events (apply s event) (apply-valid s event valid happens) rest)
+
+-- what is seen of a store whose machine and whose end have gone on
+pub put-seen : (seen : Seen) (s new : State) (start end generation to : ℕ) (broken : Bool) (events : List Event)
+    → record { setting = record { state = s; start = start; end = end; generation = generation }; broken = broken } ≡ seen
+    → seen.broken ≡ false → new ≡ apply_all s events → to ≡ end_after end events
+    → record { setting = record { state = new; start = start; end = to; generation = generation }; broken = broken } ≡ whole (after_events seen.setting events)
+put-seen seen s new start end generation to broken events is unbroken state ends =
+    let kept : broken ≡ false = ap (λ (x : Seen). x.broken) is ∙ unbroken in
+    let of : ℕ → State → Bool → Seen = λ to state broken. record { setting = record { state = state; start = start; end = to; generation = generation }; broken = broken } in
+    ap (of to new) kept ∙ ap (λ (t : State). of to t false) state ∙ ap (λ (n : ℕ). of n (apply_all s events) false) ends
+    ∙ ap (λ (x : Seen). whole (after_events x.setting events)) is
+
+-- the machine after what it was ready for
+pub put-state : (old ready new : Kept) (events : List Event) → ready ≡ record { state = old.state; ready = events }
+    → new ≡ record { state = apply_all ready.state ready.ready; ready = [] } → new.state ≡ apply_all old.state events
+put-state old ready new events made gone = ap (λ (m : Kept). m.state) gone ∙ ap (λ (m : Kept). apply_all m.state m.ready) made
+
+-- what a store stands on
+stands-each : (seen : Option (List ℕ)) (image : List ℕ → Type 0) (z : Setting) → Stands seen image z → (c : List ℕ) → image c → held c ≡ Ok z
+stands-each None image z stands = absurd stands
+stands-each (Some file) image z stands = stands
+
+stands-told : (seen : Option (List ℕ)) (image : List ℕ → Type 0) (z : Setting) (P : Type 0) → Stands seen image z → IfSome seen (λ _. P) → P
+stands-told None image z P stands p = absurd stands
+stands-told (Some file) image z P stands p = p
+
+-- the records were written, and last
+pub put-stands : (seen new : Option (List ℕ)) (image now : List ℕ → Type 0) (z : Setting) (events : List Event) (vs : List (Vec ℕ Global))
+    → ((file : List ℕ) → seen ≡ Some file → image file) → contents_of vs ≡ map event_text events → AreStored z.state events
+    → (STORE_LIMIT < z.end + length (log_of (contents_of vs)) → ⊥) → Written seen z.end (log_of (contents_of vs)) new → IsSettled new now
+    → Stands seen image z → Stands new now (after_events z events)
+put-stands None new image now z events vs read texts stored fits written settled stands = absurd stands
+put-stands (Some file) new image now z events vs read texts stored fits written settled stands =
+    let bytes = overlaid z.end (log_of (contents_of vs)) file in
+    let only = told-settled new bytes now written settled in
+    let same : held bytes ≡ Ok (after_events z events) =
+    ap (λ (l : List (List ℕ)). held (overlaid z.end (log_of l) file)) texts
+    ∙ held-overlaid file z events (stands file (read file refl)) stored (within-limit vs events z.end texts fits) in
+    let all : Stands (Some bytes) now (after_events z events) = λ c left. ap held (only c left) ∙ same in
+    subst (λ s. Stands s now (after_events z events)) (sym written) all
+
+module _ {D : Type 0} (seen : D → Option (List ℕ)) (image : D → List ℕ → Type 0) (moment : D → ℕ) (image_since : D → ℕ → List ℕ → Type 0)
+    (only_now : (disk : D) (c : List ℕ) → image_since disk (moment disk) c → image disk c) where
+  -- nothing was written
+  pub none-put : (old : D) (z : Setting) (events : List Event) → Stands (seen old) (image old) z → LeavesOnly moment image_since old old (HeldBetween z events)
+  none-put old z events stands =
+      started moment image_since old (HeldBetween z events) (λ c since. inl (stands-each (seen old) (image old) z stands c (only_now old c since)))
+
+  -- at each moment of an append
+  pub put-moments : (old new : D) (z : Setting) (events : List Event) (vs : List (Vec ℕ Global)) → contents_of vs ≡ map event_text events → AreStored z.state events
+      → (STORE_LIMIT < z.end + length (log_of (contents_of vs)) → new ≡ old)
+      → IfSome (seen old) (λ _. ((c : List ℕ) → image old c → ClosedAt z.end c) → LeavesOnly moment image_since old new (Appending z.end (log_of (contents_of vs)) (image old)))
+      → Stands (seen old) (image old) z → LeavesOnly moment image_since old new (HeldBetween z events)
+  put-moments old new z events vs texts stored none appending stands =
+      let each = stands-each (seen old) (image old) z stands in
+      ⊎_elim
+      (λ past. subst (λ d. LeavesOnly moment image_since old d (HeldBetween z events)) (sym (none past)) (none-put old z events stands))
+      (λ low.
+      let fits : STORE_LIMIT < z.end + length (log_of (contents_of vs)) → ⊥ = λ past. omega (arith, low, past) in
+      let run = stands-told (seen old) (image old) z (((c : List ℕ) → image old c → ClosedAt z.end c) → LeavesOnly moment image_since old new (Appending z.end (log_of (contents_of vs)) (image old))) stands appending
+      (λ c left. held-gate c z (each c left)) in
+      weaken moment image_since old new (Appending z.end (log_of (contents_of vs)) (image old)) (HeldBetween z events)
+      (λ c left. held-appending (image old) z events each stored (within-limit vs events z.end texts fits) c (subst (λ l. Appending z.end (log_of l) (image old) c) texts left)) run)
+      (cases_lt STORE_LIMIT (z.end + length (log_of (contents_of vs))))

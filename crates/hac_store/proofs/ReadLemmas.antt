@@ -1,0 +1,133 @@
+-- A log that is read record by record, where its file is told.
+use Rattle.std.proofs.Common.{◌≡◌, ℕ, ◌+◌, ◌-◌, ◌≤◌, List, length, None, Some, IfOk, IfSome, Result, Ok, Err, refl, sym, ◌∙◌, ap, subst, arith, Vec}
+use Rattle.std.specs.declared.alloc.Global.{Global}
+use Rattle.std.specs.declared.option.Option.{Option}
+use Rattle.hac_disk.specs.Images.{IsQuiet, Only}
+use Rattle.hac_disk.specs.Told.{HasByteAt, IsSettled}
+use Rattle.hac_disk.proofs.ToldLemmas.{if_told, told-settled}
+use Rattle.hac_checkpoint.specs.Roots.{placed, root_of, IsRootSeen}
+use Rattle.hac_checkpoint.specs.declared.heads.Root.{Root}
+use Rattle.hac_checkpoint.specs.declared.heads.RootFault.{RootFault}
+use Rattle.hac_checkpoint.specs.declared.heads.RootFault.TheVariants as root
+use Rattle.hac_checkpoint.specs.declared.heads.Stop.{Stop}
+use Rattle.hac_checkpoint.specs.declared.heads.Stop.TheVariants as stop
+use Rattle.hac_journal.specs.Finding.{TellsAt}
+use Rattle.hac_journal.specs.declared.finding.Next.TheVariants.{Entry, End, Bad}
+use Rattle.hac_journal.proofs.LawLemmas.{found-is-closed}
+use Rattle.hac_model.specs.Fields.{◌>>=◌}
+use Rattle.hac_model.specs.Payloads.{all_of, payload_field, spelled}
+use Rattle.hac_model.specs.Payloads.{placed as within_payload}
+use Rattle.hac_model.specs.Play.{Setting}
+use Rattle.hac_model.specs.Tree.{empty}
+use Rattle.hac_model.specs.declared.events.Event.{Event}
+use Rattle.hac_model.specs.declared.states.State.{State}
+use Rattle.hac_store.specs.Faults.{of_root}
+use Rattle.hac_store.specs.Held.{Log, from_root, go_on, held, judged, log, with_root}
+use Rattle.hac_store.specs.Reading.{Judges, ReadsLog}
+use Rattle.hac_store.specs.Stores.{Opens, Seen, Stands}
+use Rattle.hac_store.specs.declared.fault.StoreFault.{StoreFault}
+use Rattle.hac_store.specs.declared.fault.StoreFault.TheVariants as fault
+use Rattle.hac_store.proofs.HeldLemmas.{held-log, held-root, setting_of}
+use Rattle.hac_store.proofs.LogLemmas.{log-closed, log-short, log-whole}
+
+-- so far the log of a file was read as what it is from here on
+abbrev pub IsRead : Option (List ℕ) → State → ℕ → State → ℕ → Type 0
+IsRead seen old start new at = IfSome seen (λ file. log old start file ≡ log new at file)
+
+abbrev pub Reads : Result ℕ StoreFault → Option (List ℕ) → State → ℕ → State → Type 0
+Reads result seen old start new = IfSome seen (λ file. ReadsLog result new file (log old start file))
+
+-- the closed gate behind it
+pub read-end : (seen : Option (List ℕ)) (old : State) (start : ℕ) (s : State) (at : ℕ) → IsRead seen old start s at → TellsAt End at seen → Reads (Ok at) seen old start s
+read-end None old start s at so_far tells = tt
+read-end (Some file) old start s at so_far tells = so_far ∙ log-closed s at file tells
+
+pub end-place : (seen : Option (List ℕ)) (at : ℕ) → TellsAt End at seen → HasByteAt seen at
+end-place None at tells = tt
+end-place (Some file) at tells = (found-is-closed at file tells).there
+
+-- the file ends too early
+pub read-short : (seen : Option (List ℕ)) (old : State) (start : ℕ) (s new : State) (at len : ℕ) → IsRead seen old start s at → TellsAt (Bad len) at seen → Reads (Err (fault.NotStore len)) seen old start new
+read-short None old start s new at len so_far tells = tt
+read-short (Some file) old start s new at len so_far tells =
+    ap (placed file) (so_far ∙ log-short s at file tells.0) ∙ ap (λ (n : ℕ). Err n) (sym tells.1)
+
+-- one record more
+pub read-more : (seen : Option (List ℕ)) (old : State) (start : ℕ) (s new : State) (at next : ℕ) (payload : Vec ℕ Global) → IsRead seen old start s at
+    → TellsAt (Entry payload next) at seen → judged s at (spelled payload.items) ≡ Ok new → IsRead seen old start new next
+read-more None old start s new at next payload so_far tells is = tt
+read-more (Some file) old start s new at next payload so_far tells is =
+    so_far ∙ log-whole s at file payload.items next tells ∙ ap (λ (r : Result State Stop). go_on r (λ after. log after next file)) is
+
+-- a record that isn't sound
+pub read-wrong : (seen : Option (List ℕ)) (old : State) (start : ℕ) (s new : State) (at next place : ℕ) (payload : Vec ℕ Global) → IsRead seen old start s at
+    → TellsAt (Entry payload next) at seen → judged s at (spelled payload.items) ≡ Err (stop.BadAt place) → Reads (Err (fault.NotStore place)) seen old start new
+read-wrong None old start s new at next place payload so_far tells is = tt
+read-wrong (Some file) old start s new at next place payload so_far tells is =
+    ap (placed file) (so_far ∙ log-whole s at file payload.items next tells ∙ ap (λ (r : Result State Stop). go_on r (λ after. log after next file)) is)
+
+-- a fault of a record is a fault of the log
+pub read-stop : (seen : Option (List ℕ)) (old : State) (start : ℕ) (s new : State) (at next : ℕ) (payload : Vec ℕ Global) (why : StoreFault) → IsRead seen old start s at
+    → TellsAt (Entry payload next) at seen → Judges (Err why) new (judged s at (spelled payload.items)) → Reads (Err why) seen old start new
+read-stop seen old start s new at next payload fault.Disk so_far tells judges = absurd judges
+read-stop seen old start s new at next payload (fault.NotStore place) so_far tells judges = read-wrong seen old start s new at next place payload so_far tells judges
+read-stop seen old start s new at next payload fault.AlreadyStore so_far tells judges = absurd judges
+read-stop seen old start s new at next payload fault.Full so_far tells judges = absurd judges
+read-stop None old start s new at next payload fault.Memory so_far tells judges = tt
+read-stop (Some file) old start s new at next payload fault.Memory so_far tells judges = tt
+
+-- what a payload can't be read for lies within it
+placed-within : (size : ℕ) (r : Result Event ℕ) (at : ℕ) → within_payload size r ≡ Err at → at ≤ size
+placed-within size (Ok event) at is = absurd (cc)
+placed-within size (Err left) at is = let place : size - left ≡ at = cc in omega (arith, place)
+
+pub spelled-within : (bytes : List ℕ) (at : ℕ) → spelled bytes ≡ Err at → at ≤ length bytes
+unfolding spelled
+spelled-within bytes at is = placed-within (length bytes) (payload_field.read bytes >>= all_of) at is
+
+-- a root and its log are a store
+pub opens-ok : (seen : Option (List ℕ)) (here : Root) (s : State) (end : ℕ) → IsRootSeen (Ok here) seen → Reads (Ok end) seen empty here.start s
+    → IfSome seen (λ file. held file ≡ Ok (setting_of here (record { state = s; end = end })))
+opens-ok None here s end root_is reads = tt
+opens-ok (Some file) here s end root_is reads = held-log file here (record { state = s; end = end }) root_is reads
+
+with-fault : (file : List ℕ) (here : Root) (r : Result Log Stop) (at : ℕ) → placed file r ≡ Err at → placed file (with_root here r) ≡ Err at
+with-fault file here (Ok l) at is = absurd (cc)
+with-fault file here (Err stop.Short) at is = let same : length file ≡ at = cc in ap (λ (n : ℕ). Err n) same
+with-fault file here (Err (stop.BadAt place)) at is = let same : place ≡ at = cc in ap (λ (n : ℕ). Err n) same
+
+pub opens-stop : (seen : Option (List ℕ)) (here : Root) (s : State) (why : StoreFault) → IsRootSeen (Ok here) seen → Reads (Err why) seen empty here.start s
+    → IfSome seen (λ file. Opens (Err why) (held file))
+opens-stop None here s why root_is reads = tt
+opens-stop (Some file) here s fault.Disk root_is reads = tt
+opens-stop (Some file) here s (fault.NotStore at) root_is reads = held-root file here root_is ∙ with-fault file here (log empty here.start file) at reads
+opens-stop (Some file) here s fault.AlreadyStore root_is reads = tt
+opens-stop (Some file) here s fault.Full root_is reads = tt
+opens-stop (Some file) here s fault.Memory root_is reads = tt
+
+-- without a root there is no store
+from-fault : (file : List ℕ) (r : Result Root Stop) (at : ℕ) → placed file r ≡ Err at → placed file (from_root file r) ≡ Err at
+from-fault file (Ok here) at is = absurd (cc)
+from-fault file (Err stop.Short) at is = let same : length file ≡ at = cc in ap (λ (n : ℕ). Err n) same
+from-fault file (Err (stop.BadAt place)) at is = let same : place ≡ at = cc in ap (λ (n : ℕ). Err n) same
+
+root-fault : (file : List ℕ) (at : ℕ) → placed file (root_of file) ≡ Err at → held file ≡ Err at
+unfolding held
+root-fault file at is = from-fault file (root_of file) at is
+
+pub opens-rootless : (seen : Option (List ℕ)) (why : RootFault) → IsRootSeen (Err why) seen → IfSome seen (λ file. Opens (Err (of_root why)) (held file))
+opens-rootless None why is = tt
+opens-rootless (Some file) root.Disk is = tt
+opens-rootless (Some file) (root.Bad at) is = root-fault file at is
+
+-- what a call opened that was settled before it stands
+pub opened-stands : (result : Result Seen StoreFault) (seen mid new : Option (List ℕ)) (image now : List ℕ → Type 0) → mid ≡ seen → IsSettled mid image → new ≡ mid
+    → ((c : List ℕ) → now c → image c) → IfSome mid (λ file. Opens result (held file)) → IfSome seen (λ _. IfOk result (λ store. Stands new now store.setting))
+opened-stands result None mid new image now same settled quiet images opens = tt
+opened-stands (Err why) (Some file) mid new image now same settled quiet images opens = tt
+opened-stands (Ok store) (Some file) mid new image now same settled quiet images opens =
+    let told : new ≡ Some file = quiet ∙ same in
+    let only = told-settled mid file image same settled in
+    let is = subst (λ s. IfSome s (λ f. held f ≡ Ok store.setting)) same opens in
+    let stands : Stands (Some file) now store.setting = λ c left. ap held (only c (images c left)) ∙ is in
+    subst (λ s. Stands s now store.setting) (sym told) stands

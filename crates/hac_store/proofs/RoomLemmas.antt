@@ -1,0 +1,91 @@
+-- Whether records fit behind the end of a log.
+use Rattle.std.proofs.Common.{◌≡◌, ℕ, zero, suc, ◌+◌, ◌*◌, ◌<◌, ◌≤◌, ◌^◌, List, [], ◌∷◌, ◌++◌, length, map, nat_lt, ◌==◌, ◌||◌, Bool, replicate, IsTrue, true, false, refl, sym, ◌∙◌, ap, arith, length-append, ⊎_elim, Vec}
+use Rattle.std.specs.declared.alloc.Global.{Global}
+use Rattle.std.proofs.lemmas.Bool.{cases_lt}
+use Rattle.std.proofs.lemmas.List.{map-append, replicate_more}
+use Rattle.std.proofs.lemmas.Bool.Decides.{nat_tests}
+use Rattle.hac_journal.specs.Records.{contents_of, log_of, record_of, records_of}
+use Rattle.hac_journal.proofs.RecordLemmas.{length-contents, length-log, length-record}
+use Rattle.hac_model.specs.Payloads.{event_text, is_spellable}
+use Rattle.hac_model.specs.Play.{end_after, have_room}
+use Rattle.hac_model.specs.declared.events.Event.{Event}
+use Rattle.hac_model.specs.declared.events.Event.TheVariants.{Step}
+use Rattle.hac_model.specs.declared.limits.TheConstants.{STORE_LIMIT}
+use Rattle.hac_store.specs.Stores.{fit_behind}
+
+-- an index step is spelled by two bytes
+step-text : event_text Step ≡ 1 ∷ 15 ∷ []
+unfolding event_text
+step-text = refl
+
+pub step-spellable : IsTrue (is_spellable Step)
+unfolding is_spellable
+step-spellable = refl
+
+-- one payload of a step more
+pub steps-more : (vs : List (Vec ℕ Global)) (v : Vec ℕ Global) (count : ℕ) → contents_of vs ≡ map event_text (replicate count Step) → v.items ≡ event_text Step
+    → contents_of (vs ++ v ∷ []) ≡ map event_text (replicate (count + 1) Step)
+steps-more vs v count so_far is =
+    map-append (λ (payload : Vec ℕ Global). payload.items) vs (v ∷ [])
+    ∙ ap (λ (l : List (List ℕ)). l ++ v.items ∷ []) so_far
+    ∙ ap (λ (l : List ℕ). map event_text (replicate count Step) ++ l ∷ []) is
+    ∙ sym (map-append event_text (replicate count Step) (Step ∷ []))
+    ∙ ap (map event_text) (replicate_more count Step)
+
+end-steps : (count end : ℕ) → end_after end (replicate count Step) ≡ end + count * 7
+end-steps zero end = omega arith
+end-steps (suc count) end =
+    end-steps count (end + 5 + length (event_text Step)) ∙ omega (arith, ap length step-text)
+
+pub steps-have-room : (end count : ℕ) → have_room end (replicate count Step) ≡ fit_behind end count 2
+steps-have-room end zero = refl
+steps-have-room end (suc count) =
+    let some : (suc count == 0) ≡ false = grind (arith, nat_tests) in
+    ap (λ (n : ℕ). nat_lt n STORE_LIMIT) (end-steps (suc count) end) ∙ ap (λ (b : Bool). b || nat_lt (end + suc count * 7) STORE_LIMIT) (sym some)
+
+-- records of events are as long as they count
+pub end-length : (events : List Event) (end : ℕ) → end_after end events ≡ end + length (records_of (map event_text events))
+end-length [] end = omega arith
+end-length (event ∷ events) end =
+    end-length events (end + 5 + length (event_text event))
+    ∙ omega (arith, length-append (record_of (event_text event)) (records_of (map event_text events)), length-record (event_text event))
+
+pub room-below : (end : ℕ) (event : Event) (events : List Event) → IsTrue (have_room end (event ∷ events)) → end_after end (event ∷ events) < 2 ^ 32
+room-below end event events room = grind (arith, nat_tests)
+
+-- so many bytes are the records of these events and the closed gate
+log-size : (vs : List (Vec ℕ Global)) (events : List Event) (end : ℕ) → contents_of vs ≡ map event_text events
+    → end + length (log_of (contents_of vs)) ≡ end_after end events + 1
+log-size vs events end texts =
+    omega (arith, length-log (contents_of vs), ap (λ (l : List (List ℕ)). length (records_of l)) texts, end-length events end)
+
+room-of : (event : Event) (events : List Event) (end : ℕ) → STORE_LIMIT ≤ end_after end (event ∷ events) → have_room end (event ∷ events) ≡ false
+room-of event events end high = grind (arith, nat_tests)
+
+room-within : (event : Event) (events : List Event) (end : ℕ) → end_after end (event ∷ events) < STORE_LIMIT → have_room end (event ∷ events) ≡ true
+room-within event events end low = grind (arith, nat_tests)
+
+-- there is no room where they pass the limit
+pub no-room : (vs : List (Vec ℕ Global)) (events : List Event) (end : ℕ) → 0 < length vs → contents_of vs ≡ map event_text events
+    → STORE_LIMIT < end + length (log_of (contents_of vs)) → have_room end events ≡ false
+no-room vs [] end some texts past = absurd (omega (arith, some, length-contents vs, ap length texts))
+no-room vs (event ∷ events) end some texts past = room-of event events end (omega (arith, log-size vs (event ∷ events) end texts, past))
+
+-- and else there is
+pub within-limit : (vs : List (Vec ℕ Global)) (events : List Event) (end : ℕ) → contents_of vs ≡ map event_text events
+    → (STORE_LIMIT < end + length (log_of (contents_of vs)) → ⊥) → end_after end events < 2 ^ 32
+within-limit vs events end texts fits =
+    ⊎_elim
+    (λ past. absurd (fits past))
+    (λ low. omega (arith, log-size vs events end texts, low))
+    (cases_lt STORE_LIMIT (end + length (log_of (contents_of vs))))
+
+pub has-room : (vs : List (Vec ℕ Global)) (events : List Event) (end : ℕ) → contents_of vs ≡ map event_text events
+    → (STORE_LIMIT < end + length (log_of (contents_of vs)) → ⊥) → have_room end events ≡ true
+has-room vs [] end texts fits = refl
+has-room vs (event ∷ events) end texts fits = room-within event events end (within-limit vs (event ∷ events) end texts fits)
+
+-- where the log ends then
+pub end-is : (vs : List (Vec ℕ Global)) (events : List Event) (end : ℕ) → contents_of vs ≡ map event_text events
+    → end + length (records_of (contents_of vs)) ≡ end_after end events
+end-is vs events end texts = ap (λ (l : List (List ℕ)). end + length (records_of l)) texts ∙ sym (end-length events end)

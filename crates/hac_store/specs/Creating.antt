@@ -1,0 +1,28 @@
+-- What stands where a new store is being made. Of a disk that tells nothing, nothing is said.
+use Rattle.std.specs.Prelude.{◌≡◌, ℕ, List, drop, take, None, Some, ⊤, Result, Ok, Err, IsErr}
+use Rattle.std.specs.declared.option.Option.{Option}
+use Rattle.hac_store.specs.Held.{held}
+use Rattle.hac_store.specs.declared.fault.StoreFault.{StoreFault}
+use Rattle.hac_store.specs.declared.fault.StoreFault.TheVariants.{NotStore, AlreadyStore}
+use Rattle.hac_store.specs.declared.creating.TheConstants.{NEW}
+
+-- what speaks against making a store, told why none was read
+abbrev pub none_in : Option StoreFault → Result Unit StoreFault
+none_in None = Err AlreadyStore
+none_in (Some (NotStore at)) = Ok tt
+none_in (Some other) = Err other
+
+-- the file holds no store
+abbrev pub IsUnheld : Option (List ℕ) → Type 0
+IsUnheld None = ⊤
+IsUnheld (Some file) = IsErr (held file)
+
+-- a file that was told still is, and has this
+abbrev pub Becomes : Option (List ℕ) → (List ℕ → Type 0) → Option (List ℕ) → Type 0
+Becomes None P new = new ≡ None
+Becomes (Some old) P None = ⊥
+Becomes (Some old) P (Some new) = P new
+
+-- behind its first byte it goes on as a new store
+abbrev pub IsReady : List ℕ → Type 0
+IsReady file = take 64 (drop 1 file) ≡ drop 1 NEW

@@ -1,0 +1,16 @@
+-- The faults of the crates below, as those of a store.
+use Rattle.hac_checkpoint.specs.declared.heads.RootFault.{RootFault}
+use Rattle.hac_checkpoint.specs.declared.heads.RootFault.TheVariants as root
+use Rattle.hac_journal.specs.declared.fault.JournalFault.{JournalFault}
+use Rattle.hac_journal.specs.declared.fault.JournalFault.TheVariants as journal
+use Rattle.hac_store.specs.declared.fault.StoreFault.{StoreFault}
+use Rattle.hac_store.specs.declared.fault.StoreFault.TheVariants.{Disk, NotStore, Full, Memory}
+
+abbrev pub of_root : RootFault → StoreFault
+of_root root.Disk = Disk
+of_root (root.Bad at) = NotStore at
+
+abbrev pub of_journal : JournalFault → StoreFault
+of_journal journal.Disk = Disk
+of_journal journal.Full = Full
+of_journal journal.Memory = Memory

@@ -1,0 +1,6 @@
+pub mod Creating
+pub mod Faults
+pub mod Held
+pub mod Laws
+pub mod Reading
+pub mod Stores

@@ -1,0 +1,57 @@
+-- A store as it is seen, and what a crash may leave of it.
+use Rattle.std.specs.Prelude.{◌≡◌, ◌⊎◌, ◌||◌, ◌==◌, ◌+◌, ◌*◌, nat_lt, ⊤, ℕ, Bool, true, false, List, Option, None, Some, Result, Ok, Err, refl}
+use Rattle.std.specs.Coded.{Coded, code_by, coded×, coded_bool, coded_ℕ}
+use Rattle.hac_model.specs.Play.{Setting, after_events}
+use Rattle.hac_model.specs.Tree.{empty}
+use Rattle.hac_model.specs.declared.events.Event.{Event}
+use Rattle.hac_model.specs.contracts.states.State as state
+use Rattle.hac_model.specs.declared.limits.TheConstants.{STORE_LIMIT}
+use Rattle.hac_model.specs.declared.states.State.{State}
+use Rattle.hac_store.specs.Held.{held}
+use Rattle.hac_store.specs.declared.fault.StoreFault.{StoreFault}
+use Rattle.hac_store.specs.declared.fault.StoreFault.TheVariants.{Disk, NotStore, AlreadyStore, Full, Memory}
+
+-- a store: what a run goes on from, and whether a write of it failed
+pub record Seen : Type 0 where
+  pub setting : Setting
+  pub broken : Bool
+
+abbrev pub seen_code : Coded Seen
+seen_code =
+    code_by (State × (ℕ × (ℕ × (ℕ × Bool)))) (coded× state.the_row.coded (coded× coded_ℕ (coded× coded_ℕ (coded× coded_ℕ coded_bool))))
+    (λ seen. (seen.setting.state, (seen.setting.start, (seen.setting.end, (seen.setting.generation, seen.broken)))))
+    (λ parts. record { setting = record { state = parts.0; start = parts.1.0; end = parts.1.1.0; generation = parts.1.1.1.0 }; broken = parts.1.1.1.1 })
+    (λ _. refl)
+
+-- so many records with payloads of so many bytes, and the closed gate behind them, lie within the limit of a store
+abbrev pub fit_behind : ℕ → ℕ → ℕ → Bool
+fit_behind end records payload = records == 0 || nat_lt (end + records * (5 + payload)) STORE_LIMIT
+
+-- a store that no write of failed
+abbrev pub whole : Setting → Seen
+whole setting = record { setting = setting; broken = false }
+
+-- the disk tells its bytes, and whatever a crash leaves of them holds this
+abbrev pub Stands : Option (List ℕ) → (List ℕ → Type 0) → Setting → Type 0
+Stands None image setting = ⊥
+Stands (Some file) image setting = (c : List ℕ) → image c → held c ≡ Ok setting
+
+-- it holds what stood before events, or what they lead to: all of them happened, or none
+abbrev pub HeldBetween : Setting → List Event → List ℕ → Type 0
+HeldBetween setting events c = (held c ≡ Ok setting) ⊎ (held c ≡ Ok (after_events setting events))
+
+-- if it holds anything, that is the root alone
+abbrev pub IsNewOrNone : List ℕ → Type 0
+IsNewOrNone c = (setting : Setting) → held c ≡ Ok setting → setting.state ≡ empty
+
+-- what a call that opens a store answers, told what the file holds
+abbrev pub Opens : Result Seen StoreFault → Result Setting ℕ → Type 0
+Opens (Ok store) kept = kept ≡ Ok store.setting
+Opens (Err (NotStore at)) kept = kept ≡ Err at
+Opens (Err other) kept = ⊤
+
+-- the call failed, and before any write
+abbrev pub is_unwritten : StoreFault → Bool
+is_unwritten Full = true
+is_unwritten Memory = true
+is_unwritten other = false

@@ -1,0 +1,137 @@
+//! Events that are stored before they happen.
+ghost use Rattle.std.specs.Prelude.{◌≡◌, ◌⊎◌, ◌∷◌, ◌<◌, ◌≤◌, [], ℕ, false, true, length, map, replicate, Err, IfOk, IsErrOf, IsTrue, OnOk};
+ghost use Rattle.hac_outside.specs.Causes.{Rose};
+ghost use Rattle.hac_disk.specs.Images.{LeavesOnly};
+ghost use Rattle.hac_disk.specs.Told.{HasByteAt, IsSettled, Written};
+ghost use Rattle.hac_journal.specs.Records.{contents_of, log_of};
+ghost use Rattle.hac_model.specs.Events.{accepted};
+ghost use Rattle.hac_model.specs.Laws.{AllHappen};
+ghost use Rattle.hac_model.specs.Payloads.{event_text};
+ghost use Rattle.hac_model.specs.Play.{after_events, have_room};
+ghost use Rattle.hac_model.specs.declared.events.Event.TheVariants as event;
+ghost use Rattle.hac_core.specs.Settling.{events_in};
+ghost use Rattle.hac_store.specs.Stores.{HeldBetween, Stands, whole};
+
+use crate::fault::StoreFault;
+use crate::store::Store;
+use event_codec::write_event;
+use hac_core::Settled;
+use hac_disk::Disk;
+use hac_journal::{JournalFault, append};
+use hac_model::{Event, Memory};
+use std::alloc::Global;
+
+impl Store {
+    /// Stores an event, and then lets it happen. After `Full` and `Memory` nothing was written and all is as before;
+    /// after `Disk` the store is broken.
+    pub fn command<D: Disk>(&mut self, disk: &mut D, event: Event) -> Result<(), StoreFault>
+        requires whole { self.old.broken ≡ false }
+        requires accepted { IsTrue (accepted self.old.setting.state event) }
+        requires place { HasByteAt (D.seen disk.old) self.old.setting.end }
+        ensures ok { OnOk result (self.new ≡ whole (after_events self.old.setting (event ∷ []))) }
+        ensures err { (IsErrOf result StoreFault.Full ⊎ IsErrOf result StoreFault.Memory) → self.new ≡ self.old }
+        ensures broken { IsErrOf result StoreFault.Disk → self.new ≡ record self.old { broken = true } }
+        ensures full { IsErrOf result StoreFault.Full → have_room self.old.setting.end (event ∷ []) ≡ false }
+        ensures room { have_room self.old.setting.end (event ∷ []) ≡ false → IsErrOf result StoreFault.Full ⊎ IsErrOf result StoreFault.Memory }
+        ensures kind { ((at : ℕ) → result ≡ Err (StoreFault.NotStore at) → ⊥) × (result ≡ Err StoreFault.AlreadyStore → ⊥) }
+        ensures unwritten { (IsErrOf result StoreFault.Full ⊎ IsErrOf result StoreFault.Memory) → disk.new ≡ disk.old }
+        ensures written { OnOk result (Written (D.seen disk.old) self.old.setting.end (log_of (event_text event ∷ [])) (D.seen disk.new)) }
+        ensures settled { OnOk result (IsSettled (D.seen disk.new) (D.image disk.new)) }
+        ensures place { OnOk result (HasByteAt (D.seen disk.new) self.new.setting.end) }
+        ensures stands { Stands (D.seen disk.old) (D.image disk.old) self.old.setting → OnOk result (Stands (D.seen disk.new) (D.image disk.new) self.new.setting) }
+        ensures any_moment { Stands (D.seen disk.old) (D.image disk.old) self.old.setting →
+            LeavesOnly D.moment D.image_since disk.old disk.new (HeldBetween self.old.setting (event ∷ [])) }
+        ensures attached { D.attached disk.new ≡ D.attached disk.old }
+        ensures later { D.faults disk.old ≤ D.faults disk.new }
+        ensures cause { IsErrOf result StoreFault.Disk → Rose (D.faults disk.old) (D.faults disk.new) }
+    {
+        let payload = write_event(self.alloc, &event)?;
+        self.put(disk, Settled::Change(event), &[payload])
+    }
+
+    /// Stores so many index steps by one append, and then lets them happen: after a crash all of them are there, or
+    /// none. It answers as `command` does.
+    pub fn steps<D: Disk>(&mut self, disk: &mut D, count: u64) -> Result<(), StoreFault>
+        requires whole { self.old.broken ≡ false }
+        requires some { 0 < count }
+        requires happen { AllHappen self.old.setting.state (replicate count event.Step) }
+        requires place { HasByteAt (D.seen disk.old) self.old.setting.end }
+        ensures ok { OnOk result (self.new ≡ whole (after_events self.old.setting (replicate count event.Step))) }
+        ensures err { (IsErrOf result StoreFault.Full ⊎ IsErrOf result StoreFault.Memory) → self.new ≡ self.old }
+        ensures broken { IsErrOf result StoreFault.Disk → self.new ≡ record self.old { broken = true } }
+        ensures full { IsErrOf result StoreFault.Full → have_room self.old.setting.end (replicate count event.Step) ≡ false }
+        ensures room { have_room self.old.setting.end (replicate count event.Step) ≡ false → IsErrOf result StoreFault.Full ⊎ IsErrOf result StoreFault.Memory }
+        ensures kind { ((at : ℕ) → result ≡ Err (StoreFault.NotStore at) → ⊥) × (result ≡ Err StoreFault.AlreadyStore → ⊥) }
+        ensures unwritten { (IsErrOf result StoreFault.Full ⊎ IsErrOf result StoreFault.Memory) → disk.new ≡ disk.old }
+        ensures settled { OnOk result (IsSettled (D.seen disk.new) (D.image disk.new)) }
+        ensures place { OnOk result (HasByteAt (D.seen disk.new) self.new.setting.end) }
+        ensures stands { Stands (D.seen disk.old) (D.image disk.old) self.old.setting → OnOk result (Stands (D.seen disk.new) (D.image disk.new) self.new.setting) }
+        ensures any_moment { Stands (D.seen disk.old) (D.image disk.old) self.old.setting →
+            LeavesOnly D.moment D.image_since disk.old disk.new (HeldBetween self.old.setting (replicate count event.Step)) }
+        ensures attached { D.attached disk.new ≡ D.attached disk.old }
+        ensures later { D.faults disk.old ≤ D.faults disk.new }
+        ensures cause { IsErrOf result StoreFault.Disk → Rose (D.faults disk.old) (D.faults disk.new) }
+    {
+        if !self.room_for(count, 2) {
+            return Err(StoreFault::Full);
+        }
+        let payloads = step_payloads(self.alloc, count)?;
+        self.put(disk, Settled::Steps(count), &payloads)
+    }
+
+    // Puts the records of what is to happen behind the log, and then lets it happen.
+    fn put<D: Disk>(
+        &mut self,
+        disk: &mut D,
+        settled: Settled,
+        payloads: &[Vec<u8>],
+    ) -> Result<(), StoreFault>
+        requires whole { self.old.broken ≡ false }
+        requires some { 0 < length payloads.now }
+        requires happen { AllHappen self.old.setting.state (events_in settled) }
+        requires texts { contents_of payloads.now ≡ map event_text (events_in settled) }
+        requires place { HasByteAt (D.seen disk.old) self.old.setting.end }
+        ensures ok { OnOk result (self.new ≡ whole (after_events self.old.setting (events_in settled))) }
+        ensures err { (IsErrOf result StoreFault.Full ⊎ IsErrOf result StoreFault.Memory) → self.new ≡ self.old }
+        ensures broken { IsErrOf result StoreFault.Disk → self.new ≡ record self.old { broken = true } }
+        ensures full { IsErrOf result StoreFault.Full → have_room self.old.setting.end (events_in settled) ≡ false }
+        ensures room { have_room self.old.setting.end (events_in settled) ≡ false → IsErrOf result StoreFault.Full ⊎ IsErrOf result StoreFault.Memory }
+        ensures kind { ((at : ℕ) → result ≡ Err (StoreFault.NotStore at) → ⊥) × (result ≡ Err StoreFault.AlreadyStore → ⊥) }
+        ensures unwritten { (IsErrOf result StoreFault.Full ⊎ IsErrOf result StoreFault.Memory) → disk.new ≡ disk.old }
+        ensures written { OnOk result (Written (D.seen disk.old) self.old.setting.end (log_of (contents_of payloads.now)) (D.seen disk.new)) }
+        ensures settled { OnOk result (IsSettled (D.seen disk.new) (D.image disk.new)) }
+        ensures place { OnOk result (HasByteAt (D.seen disk.new) self.new.setting.end) }
+        ensures stands { Stands (D.seen disk.old) (D.image disk.old) self.old.setting → OnOk result (Stands (D.seen disk.new) (D.image disk.new) self.new.setting) }
+        ensures any_moment { Stands (D.seen disk.old) (D.image disk.old) self.old.setting →
+            LeavesOnly D.moment D.image_since disk.old disk.new (HeldBetween self.old.setting (events_in settled)) }
+        ensures attached { D.attached disk.new ≡ D.attached disk.old }
+        ensures later { D.faults disk.old ≤ D.faults disk.new }
+        ensures cause { IsErrOf result StoreFault.Disk → Rose (D.faults disk.old) (D.faults disk.new) }
+    {
+        self.machine.prepare(settled)?;
+        match append(self.alloc, disk, self.end, payloads) {
+            Ok(end) => {
+                self.machine.commit();
+                self.end = end;
+                Ok(())
+            }
+            Err(JournalFault::Disk) => {
+                self.broken = true;
+                Err(StoreFault::Disk)
+            }
+            Err(JournalFault::Full) => Err(StoreFault::Full),
+            Err(JournalFault::Memory) => Err(StoreFault::Memory),
+        }
+    }
+}
+
+// The payloads of so many index steps.
+fn step_payloads(alloc: Global, count: u64) -> Result<Vec<Vec<u8>>, Memory>
+    ensures { IfOk result (λ payloads. contents_of payloads.items ≡ map event_text (replicate count event.Step)) }
+{
+    let mut payloads = Vec::new(alloc);
+    for _ in 0..count {
+        payloads.push(write_event(alloc, &Event::Step)?)?;
+    }
+    Ok(payloads)
+}

@@ -1,0 +1,133 @@
+//! Making a new store: all of it is written behind a closed gate, which is then opened.
+ghost use Rattle.std.specs.Prelude.{◌≡◌, ◌⊎◌, ◌≤◌, Err, IfOk, IfSome, IsErr, IsErrOf, IsOk, OnOk, ℕ};
+ghost use Rattle.hac_outside.specs.Causes.{HasCause, Rose};
+ghost use Rattle.hac_disk.specs.Images.{IsQuiet, LeavesOnly};
+ghost use Rattle.hac_disk.specs.Told.{HasByteAt, IsSettled};
+ghost use Rattle.hac_journal.specs.Appending.{ClosedAt};
+ghost use Rattle.hac_model.specs.Play.{opening};
+ghost use Rattle.hac_store.specs.Creating.{Becomes, IsReady, IsUnheld, none_in};
+ghost use Rattle.hac_store.specs.Held.{held};
+ghost use Rattle.hac_store.specs.Stores.{IsNewOrNone, Stands, whole};
+
+use crate::fault::StoreFault;
+use crate::opening::read_store;
+use crate::store::Store;
+use hac_core::Machine;
+use hac_disk::{Disk, write_stable};
+use hac_journal::{CLOSED, OPEN};
+use hac_outside::Failed;
+use std::alloc::Global;
+
+// A closed gate, the format's name, slot A with the first generation and the place 64, slot B with nothing, 21 bytes
+// that tell nothing, and an empty log.
+const NEW: [u8; 65] =
+    *b"\0HACSTOR1\x01\x01\0\0\0\0\0\0\0\x40\0\0\0\0\0\0\0\0\0\0\0\0\0\0\0\0\0\0\0\0\0\0\0\0\0\0\0\0\0\0\0\0\0\0\0\0\0\0\0\0\0\0\0\0\0\0";
+
+impl Store {
+    /// Makes a new store on a disk that holds none.
+    pub fn create<D: Disk>(alloc: Global, disk: &mut D) -> Result<Store, StoreFault>
+        ensures made { IfOk result (λ store. store ≡ whole opening) }
+        ensures new { IfSome (D.seen disk.old) (λ file. OnOk result (IsErr (held file))) }
+        ensures already { IfSome (D.seen disk.old) (λ file. result ≡ Err StoreFault.AlreadyStore → IsOk (held file)) }
+        ensures stands { IfSome (D.seen disk.old) (λ _. OnOk result (Stands (D.seen disk.new) (D.image disk.new) opening)) }
+        ensures place { OnOk result (HasByteAt (D.seen disk.new) opening.end) }
+        ensures quiet { IfSome (D.seen disk.old) (λ file. IsOk (held file) → IsQuiet D.seen D.image D.moment D.image_since disk.old disk.new) }
+        // At each moment a crash leaves what it might have left before, or the root alone, or no store.
+        ensures any_moment { IfSome (D.seen disk.old) (λ file. IsErr (held file) →
+            LeavesOnly D.moment D.image_since disk.old disk.new (λ c. D.image disk.old c ⊎ IsNewOrNone c)) }
+        ensures kind { ((at : ℕ) → result ≡ Err (StoreFault.NotStore at) → ⊥) × (result ≡ Err StoreFault.Full → ⊥) }
+        ensures attached { D.attached disk.new ≡ D.attached disk.old }
+        ensures later { D.faults disk.old ≤ D.faults disk.new }
+        ensures cause { IsErrOf result StoreFault.Disk → Rose (D.faults disk.old) (D.faults disk.new) }
+    {
+        disk.sync()?;
+        none(read_store(alloc, disk).err())?;
+        new_store(alloc, disk)
+    }
+}
+
+// What speaks against making a store, told why none was read.
+fn none(found: Option<StoreFault>) -> Result<(), StoreFault>
+    ensures { result ≡ none_in found }
+{
+    match found {
+        None => Err(StoreFault::AlreadyStore),
+        Some(StoreFault::NotStore { .. }) => Ok(()),
+        Some(fault) => Err(fault),
+    }
+}
+
+// Makes a new store over a file that holds none.
+fn new_store<D: Disk>(alloc: Global, disk: &mut D) -> Result<Store, StoreFault>
+    requires settled { IsSettled (D.seen disk.old) (D.image disk.old) }
+    requires unheld { IsUnheld (D.seen disk.old) }
+    ensures made { IfOk result (λ store. store ≡ whole opening) }
+    ensures stands { IfSome (D.seen disk.old) (λ _. OnOk result (Stands (D.seen disk.new) (D.image disk.new) opening)) }
+    ensures place { OnOk result (HasByteAt (D.seen disk.new) opening.end) }
+    ensures any_moment { IfSome (D.seen disk.old) (λ _. LeavesOnly D.moment D.image_since disk.old disk.new IsNewOrNone) }
+    ensures kind { ((at : ℕ) → result ≡ Err (StoreFault.NotStore at) → ⊥) × (result ≡ Err StoreFault.AlreadyStore → ⊥) × (result ≡ Err StoreFault.Full → ⊥) }
+    ensures attached { D.attached disk.new ≡ D.attached disk.old }
+    ensures later { D.faults disk.old ≤ D.faults disk.new }
+    ensures cause { IsErrOf result StoreFault.Disk → Rose (D.faults disk.old) (D.faults disk.new) }
+{
+    let machine = Machine::new(alloc)?;
+    write_new(disk)?;
+    Ok(Store {
+        alloc,
+        machine,
+        start: 64,
+        end: 64,
+        generation: 1,
+        broken: false,
+    })
+}
+
+// Writes the bytes of a new store over a file that holds none.
+fn write_new<D: Disk>(disk: &mut D) -> Result<(), Failed>
+    requires settled { IsSettled (D.seen disk.old) (D.image disk.old) }
+    requires unheld { IsUnheld (D.seen disk.old) }
+    ensures stands { IfSome (D.seen disk.old) (λ _. OnOk result (Stands (D.seen disk.new) (D.image disk.new) opening)) }
+    ensures place { OnOk result (HasByteAt (D.seen disk.new) opening.end) }
+    ensures any_moment { IfSome (D.seen disk.old) (λ _. LeavesOnly D.moment D.image_since disk.old disk.new IsNewOrNone) }
+    ensures attached { D.attached disk.new ≡ D.attached disk.old }
+    ensures cause { HasCause (D.faults disk.old) (D.faults disk.new) result }
+{
+    write_head(disk)?;
+    write_stable(disk, 0, &[OPEN])
+}
+
+// Writes all of a new store but its open gate.
+fn write_head<D: Disk>(disk: &mut D) -> Result<(), Failed>
+    requires settled { IsSettled (D.seen disk.old) (D.image disk.old) }
+    requires unheld { IsUnheld (D.seen disk.old) }
+    ensures ready { OnOk result (Becomes (D.seen disk.old) IsReady (D.seen disk.new)) }
+    ensures settled { OnOk result (IsSettled (D.seen disk.new) (D.image disk.new)) }
+    ensures any_moment { IfSome (D.seen disk.old) (λ _. LeavesOnly D.moment D.image_since disk.old disk.new IsNewOrNone) }
+    ensures attached { D.attached disk.new ≡ D.attached disk.old }
+    ensures cause { HasCause (D.faults disk.old) (D.faults disk.new) result }
+{
+    if disk.len()? == 0 {
+        return write_stable(disk, 0, &NEW);
+    }
+    close(disk)?;
+    write_stable(disk, 1, &NEW[1..])
+}
+
+// Closes the gate of the store, where it is open.
+fn close<D: Disk>(disk: &mut D) -> Result<(), Failed>
+    requires some { HasByteAt (D.seen disk.old) 0 }
+    requires settled { IsSettled (D.seen disk.old) (D.image disk.old) }
+    requires unheld { IsUnheld (D.seen disk.old) }
+    ensures shut { OnOk result (Becomes (D.seen disk.old) (ClosedAt 0) (D.seen disk.new)) }
+    ensures settled { OnOk result (IsSettled (D.seen disk.new) (D.image disk.new)) }
+    ensures any_moment { IfSome (D.seen disk.old) (λ _. LeavesOnly D.moment D.image_since disk.old disk.new IsNewOrNone) }
+    ensures attached { D.attached disk.new ≡ D.attached disk.old }
+    ensures cause { HasCause (D.faults disk.old) (D.faults disk.new) result }
+{
+    let mut gate = [OPEN];
+    disk.read_at(0, &mut gate)?;
+    if gate[0] != OPEN {
+        return Ok(());
+    }
+    write_stable(disk, 0, &[CLOSED])
+}

@@ -1,0 +1,12 @@
+//! Theorems over the definitions alone. Each is the contract of a function that does nothing.
+ghost use Rattle.hac_store.specs.Laws.{AppendsExtend, StepsHaveRoom};
+
+/// A store that an event's record is put behind holds what the event leads to.
+pub fn appends_extend()
+    ensures { AppendsExtend }
+{}
+
+/// There is room for index steps just where so many records of two bytes fit.
+pub fn steps_have_room()
+    ensures { StepsHaveRoom }
+{}

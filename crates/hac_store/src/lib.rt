@@ -1,0 +1,17 @@
+//! A tree that lives in a store: each event is a record of a log before it happens, and a crash loses none that was
+//! answered. This crate joins the machine to the disk, and knows nothing of lines and replies.
+#![tactic(auto)]
+
+mod appending;
+mod creating;
+mod fault;
+mod laws;
+mod opening;
+mod store;
+
+pub use fault::StoreFault;
+pub use laws::{appends_extend, steps_have_room};
+pub use store::Store;
+
+#[cfg(test)]
+mod tests;

@@ -1,0 +1,131 @@
+//! Opening a store: its log is read, and its events happen one by one.
+ghost use Rattle.std.specs.Prelude.{◌≡◌, ◌+◌, ◌<◌, ◌≤◌, ◌^◌, false, length, Ok, Err, IfOk, IfSome, IsErrOf, OnOk};
+ghost use Rattle.hac_outside.specs.Causes.{Rose};
+ghost use Rattle.hac_disk.specs.Images.{IsQuiet};
+ghost use Rattle.hac_disk.specs.Told.{HasByteAt, IsSettled};
+ghost use Rattle.hac_model.specs.Payloads.{spelled};
+ghost use Rattle.hac_model.specs.Valid.{IsValid};
+ghost use Rattle.hac_store.specs.Held.{held, judged, log};
+ghost use Rattle.hac_store.specs.Reading.{Judges, ReadsLog};
+ghost use Rattle.hac_store.specs.Stores.{Opens, Stands};
+
+use crate::fault::StoreFault;
+use crate::store::Store;
+use event_codec::{CodecFault, Payload, read_payload};
+use hac_checkpoint::roots;
+use hac_core::{Machine, Settled};
+use hac_disk::Disk;
+use hac_journal::{LogReader, Next};
+use hac_model::Event;
+use std::alloc::Global;
+
+impl Store {
+    /// Opens the store that stands on a disk: syncs, reads it and lets its events happen. It writes nothing.
+    pub fn load<D: Disk>(alloc: Global, disk: &mut D) -> Result<Store, StoreFault>
+        ensures held { IfSome (D.seen disk.old) (λ file. Opens result (held file)) }
+        ensures sound { IfOk result (λ store. (store.broken ≡ false) × IsValid store.setting.state) }
+        ensures stands { IfSome (D.seen disk.old) (λ _. IfOk result (λ store. Stands (D.seen disk.new) (D.image disk.new) store.setting)) }
+        ensures place { IfOk result (λ store. HasByteAt (D.seen disk.new) store.setting.end) }
+        ensures settled { OnOk result (IsSettled (D.seen disk.new) (D.image disk.new)) }
+        ensures quiet { IsQuiet D.seen D.image D.moment D.image_since disk.old disk.new }
+        ensures kind { (result ≡ Err StoreFault.AlreadyStore → ⊥) × (result ≡ Err StoreFault.Full → ⊥) }
+        ensures attached { D.attached disk.new ≡ D.attached disk.old }
+        ensures later { D.faults disk.old ≤ D.faults disk.new }
+        ensures cause { IsErrOf result StoreFault.Disk → Rose (D.faults disk.old) (D.faults disk.new) }
+    {
+        disk.sync()?;
+        read_store(alloc, disk)
+    }
+}
+
+/// Reads the store that stands on a disk. It writes nothing.
+pub(crate) fn read_store<D: Disk>(alloc: Global, disk: &mut D) -> Result<Store, StoreFault>
+    ensures held { IfSome (D.seen disk.old) (λ file. Opens result (held file)) }
+    ensures sound { IfOk result (λ store. (store.broken ≡ false) × IsValid store.setting.state) }
+    ensures place { IfOk result (λ store. HasByteAt (D.seen disk.new) store.setting.end) }
+    ensures quiet { IsQuiet D.seen D.image D.moment D.image_since disk.old disk.new }
+    ensures kind { (result ≡ Err StoreFault.AlreadyStore → ⊥) × (result ≡ Err StoreFault.Full → ⊥) }
+    ensures attached { D.attached disk.new ≡ D.attached disk.old }
+    ensures later { D.faults disk.old ≤ D.faults disk.new }
+    ensures cause { IsErrOf result StoreFault.Disk → Rose (D.faults disk.old) (D.faults disk.new) }
+{
+    let root = roots(disk)?;
+    let mut machine = Machine::new(alloc)?;
+    let end = read_log(alloc, disk, &mut machine, root.start)?;
+    Ok(Store {
+        alloc,
+        machine,
+        start: root.start,
+        end,
+        generation: root.generation,
+        broken: false,
+    })
+}
+
+// Lets the events of a log happen, and gives the place of the closed gate behind it.
+fn read_log<D: Disk>(
+    alloc: Global,
+    disk: &mut D,
+    machine: &mut Machine,
+    start: u64,
+) -> Result<u64, StoreFault>
+    requires valid { IsValid machine.old.state }
+    ensures log { IfSome (D.seen disk.old) (λ file. ReadsLog result machine.new.state file (log machine.old.state start file)) }
+    ensures valid { OnOk result (IsValid machine.new.state) }
+    ensures place { IfOk result (λ end. HasByteAt (D.seen disk.new) end) }
+    ensures quiet { IsQuiet D.seen D.image D.moment D.image_since disk.old disk.new }
+    ensures kind { (result ≡ Err StoreFault.AlreadyStore → ⊥) × (result ≡ Err StoreFault.Full → ⊥) }
+    ensures attached { D.attached disk.new ≡ D.attached disk.old }
+    ensures later { D.faults disk.old ≤ D.faults disk.new }
+    ensures cause { IsErrOf result StoreFault.Disk → Rose (D.faults disk.old) (D.faults disk.new) }
+{
+    let mut reader = LogReader::new(alloc);
+    let mut at = start;
+    loop {
+        match reader.next(disk, at)? {
+            Next::Entry { payload, next } => {
+                replay(alloc, machine, at, &payload, at == start)?;
+                at = next;
+            }
+            Next::End => return Ok(at),
+            Next::Bad { at } => return Err(StoreFault::NotStore { at }),
+        }
+    }
+}
+
+// Lets happen what the payload of a record says, told the place of its gate, and whether it is the log's first.
+fn replay(
+    alloc: Global,
+    machine: &mut Machine,
+    at: u64,
+    payload: &[u8],
+    first: bool,
+) -> Result<(), StoreFault>
+    requires valid { IsValid machine.old.state }
+    requires place { at + 5 + length payload.now < 2 ^ 64 }
+    ensures judged { Judges result machine.new.state (judged machine.old.state at (spelled payload.now)) }
+    ensures valid { OnOk result (IsValid machine.new.state) }
+{
+    match read_payload(alloc, payload, first) {
+        Ok(Payload::Event(event)) => happen(machine, at, event),
+        Err(CodecFault::Bad { at: offset }) => Err(StoreFault::NotStore {
+            at: at + 5 + offset,
+        }),
+        Err(CodecFault::Memory) => Err(StoreFault::Memory),
+    }
+}
+
+// Lets an event of a record happen, if it can.
+fn happen(machine: &mut Machine, at: u64, event: Event) -> Result<(), StoreFault>
+    requires valid { IsValid machine.old.state }
+    requires place { at + 5 < 2 ^ 64 }
+    ensures judged { Judges result machine.new.state (judged machine.old.state at (Ok event)) }
+    ensures valid { OnOk result (IsValid machine.new.state) }
+{
+    if !machine.fits(&event)? {
+        return Err(StoreFault::NotStore { at: at + 5 });
+    }
+    machine.prepare(Settled::Change(event))?;
+    machine.commit();
+    Ok(())
+}

@@ -1,0 +1,59 @@
+//! The store itself: what it is made of, and what it tells.
+ghost use Rattle.std.specs.Prelude.{◌≡◌};
+ghost use Rattle.hac_store.specs.Stores.{fit_behind};
+
+use hac_core::Machine;
+use hac_journal::STORE_LIMIT;
+use std::alloc::Global;
+use std::marker::Model;
+
+/// A tree in a store: the machine, and where its log ends on the disk.
+#[derive(Drop)]
+pub struct Store {
+    pub(crate) alloc: Global,
+    pub(crate) machine: Machine,
+    pub(crate) start: u64,
+    pub(crate) end: u64,
+    pub(crate) generation: u64,
+    pub(crate) broken: bool,
+}
+
+impl Model for Store {
+    ghost use Rattle.hac_model.specs.Valid.{IsValid};
+    ghost use Rattle.hac_store.specs.Stores.{Seen, seen_code};
+
+    ghost Value = { Seen };
+
+    ghost coded = { seen_code };
+
+    ghost view = { λ store. record {
+      setting = record { state = store.machine.state; start = store.start; end = store.end; generation = store.generation };
+      broken = store.broken;
+    } };
+
+    ghost invariant = { λ store. IsValid store.machine.state };
+}
+
+impl Store {
+    /// The tree, for commands to be tested against it and answered from it.
+    pub fn machine(&self) -> &Machine
+        ensures { result.now.state ≡ self.now.setting.state }
+    {
+        &self.machine
+    }
+
+    /// A write of this store failed, so that what stands on the disk isn't known: it is to be loaded again.
+    pub fn broken(&self) -> bool
+        ensures { result ≡ self.now.broken }
+    {
+        self.broken
+    }
+
+    /// So many records with payloads of so many bytes fit in the store.
+    pub fn room_for(&self, records: u64, payload: u64) -> bool
+        ensures { result ≡ fit_behind self.now.setting.end records payload }
+    {
+        let size = records.saturating_mul(payload.saturating_add(5));
+        records == 0 || self.end.saturating_add(size) < STORE_LIMIT
+    }
+}
