@@ -3,16 +3,19 @@ use Rattle.std.proofs.Common.{◌≡◌, ℕ, true, false, Bool, List, [], ◌++
 use Rattle.std.specs.Prelude.{⊤}
 use Rattle.std.specs.Io.KnownBytes.{Appends}
 use Rattle.hac_outside.specs.Seen.{SinkSeen}
-use Rattle.hac_model.specs.Play.{Setting, Turn, has_refusal, opening, play}
+use Rattle.hac_model.specs.Events.{apply_all}
+use Rattle.hac_model.specs.Play.{Setting, Turn, all_events, has_refusal, left_by, play}
 use Rattle.hac_model.specs.Script.{after_item, whole}
 use Rattle.hac_top.specs.Told.{told_text}
 
 -- Some turns of the script were told, and those of what is pending are to come. The script is whole lines that were played,
 -- a last line where the source has ended with one, and what is pending. While it goes on, whatever were to follow the whole
 -- lines would be played on.
-pub record Goes (script pending : List ℕ) (ended : Bool) (setting : Setting) (refused : Bool) (before now : SinkSeen) : Type 0 where
+pub record Goes (first : Setting) (script pending : List ℕ) (ended : Bool) (setting : Setting) (refused : Bool) (before now : SinkSeen) : Type 0 where
   pub done : List Turn
-  pub turns_are : play opening script ≡ done ++ play setting pending
+  pub turns_are : play first script ≡ done ++ play setting pending
+  pub left_is : setting ≡ left_by first done
+  pub state_is : setting.state ≡ apply_all first.state (all_events done)
   pub written : Appends before.written now.written (told_text done)
   pub refused_is : refused ≡ has_refusal done
   pub played : List ℕ
@@ -20,13 +23,13 @@ pub record Goes (script pending : List ℕ) (ended : Bool) (setting : Setting) (
   pub script_is : script ≡ played ++ (last ++ pending)
   pub whole_is : (more : List ℕ) → whole (played ++ more) ≡ played ++ whole more
   pub one : after_item last ≡ []
-  pub front : (more : List Turn) × (done ≡ play opening played ++ more)
+  pub front : (more : List Turn) × (done ≡ play first played ++ more)
   pub none : ended ≡ false → last ≡ []
-  pub on : ended ≡ false → (more : List ℕ) → play opening (played ++ more) ≡ done ++ play setting more
+  pub on : ended ≡ false → (more : List ℕ) → play first (played ++ more) ≡ done ++ play setting more
   pub closed : ended ≡ true → pending ≡ []
 
 -- the same, where the source tells the script
-abbrev pub GoesOn : Option (List ℕ) → Option (List ℕ) → Bool → Setting → Bool → SinkSeen → SinkSeen → Type 0
-GoesOn None pending ended setting refused before now = ⊤
-GoesOn (Some script) None ended setting refused before now = ⊥
-GoesOn (Some script) (Some pending) ended setting refused before now = Goes script pending ended setting refused before now
+abbrev pub GoesOn : Setting → Option (List ℕ) → Option (List ℕ) → Bool → Setting → Bool → SinkSeen → SinkSeen → Type 0
+GoesOn first None pending ended setting refused before now = ⊤
+GoesOn first (Some script) None ended setting refused before now = ⊥
+GoesOn first (Some script) (Some pending) ended setting refused before now = Goes first script pending ended setting refused before now

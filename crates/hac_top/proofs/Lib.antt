@@ -1,4 +1,14 @@
 pub mod WrittenLemmas
+pub mod CrashLemmas
+pub mod StoringLemmas
+pub mod StepLemmas
+pub mod ObeyLemmas
 pub mod TakenLemmas
 pub mod GoesOn
+pub mod TellingLemmas
+pub mod EndLemmas
 pub mod RunLemmas
+pub mod MomentLemmas
+pub mod OpenLemmas
+pub mod OpenedLemmas
+pub mod WordLemmas

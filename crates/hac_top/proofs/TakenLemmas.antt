@@ -32,8 +32,8 @@ use Rattle.shell_lang.specs.declared.reading.Piece.{Piece}
 use Rattle.shell_lang.specs.declared.reading.Piece.TheVariants.{Blank, Bytes, LongLine, End, PastLimit}
 use Rattle.hac_top.specs.Stops.{stop_of, is_read_stop}
 use Rattle.hac_top.specs.TakenLines.{items_of_piece, due_of_piece, GivesTaken, Gives, Advances, TakesDue, TakesBehind, LacksDue, Lacks, CutsLine, Cuts, StopsIn, StopsAt}
-use Rattle.hac_top.specs.declared.answering.Stop.{Stop}
-use Rattle.hac_top.specs.declared.answering.Stop.TheVariants.{ReadFault}
+use Rattle.hac_top.specs.declared.stops.Stop.{Stop}
+use Rattle.hac_top.specs.declared.stops.Stop.TheVariants.{ReadFault}
 use Rattle.hac_top.specs.declared.taking.TakenLine.{TakenLine}
 
 -- the items of the piece that a line is given as, told what is taken of the bytes behind it, are the line's

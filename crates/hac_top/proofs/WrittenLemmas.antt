@@ -6,8 +6,8 @@ use Rattle.std.proofs.Math.Seq.{take-length}
 use Rattle.hac_outside.specs.Seen.{SinkSeen, Writes, WritesSome}
 use Rattle.hac_top.specs.Run.{AppendsSome}
 use Rattle.hac_top.specs.Stops.{CutsAnswer}
-use Rattle.hac_top.specs.declared.answering.Stop.{Stop}
-use Rattle.hac_top.specs.declared.answering.Stop.TheVariants.{WriteFault}
+use Rattle.hac_top.specs.declared.stops.Stop.{Stop}
+use Rattle.hac_top.specs.declared.stops.Stop.TheVariants.{WriteFault}
 
 -- bytes and then more bytes are all of them
 pub appends-then : (a b c : Option (List ℕ)) (xs ys : List ℕ) → Appends a b xs → Appends b c ys → Appends a c (xs ++ ys)

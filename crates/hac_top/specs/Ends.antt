@@ -1,9 +1,9 @@
 -- The statuses of a run.
 use Rattle.std.specs.Prelude.{◌≡◌, ◌⊎◌, ℕ, Bool, true, false, if◌then◌else◌, Result, Ok, Err}
-use Rattle.hac_top.specs.declared.answering.Stop.{Stop}
-use Rattle.hac_top.specs.declared.answering.Stop.TheVariants as stop
+use Rattle.hac_top.specs.declared.stops.Stop.{Stop}
+use Rattle.hac_top.specs.declared.stops.Stop.TheVariants as stop
 use Rattle.hac_top.specs.declared.status.Status.{Status}
-use Rattle.hac_top.specs.declared.status.Status.TheVariants.{Done, SomeRefused, Usage, ReadFault, WriteFault, Memory, TooLong}
+use Rattle.hac_top.specs.declared.status.Status.TheVariants.{Done, SomeRefused, Usage, ReadFault, WriteFault, DiskFault, NotStore, Memory, TooLong, AlreadyStore}
 
 abbrev pub status_number : Status → ℕ
 status_number Done = 0
@@ -11,8 +11,11 @@ status_number SomeRefused = 1
 status_number Usage = 2
 status_number ReadFault = 3
 status_number WriteFault = 4
+status_number DiskFault = 5
+status_number (NotStore at) = 6
 status_number Memory = 7
 status_number TooLong = 9
+status_number AlreadyStore = 10
 
 -- the status of a script that was read to its end, told whether some command was refused
 abbrev pub finished_status : Bool → Status
@@ -22,6 +25,7 @@ finished_status refused = if refused then SomeRefused else Done
 abbrev pub stopped_status : Stop → Status
 stopped_status stop.ReadFault = ReadFault
 stopped_status stop.WriteFault = WriteFault
+stopped_status stop.DiskFault = DiskFault
 stopped_status stop.Memory = Memory
 stopped_status stop.TooLong = TooLong
 

@@ -1,6 +1,9 @@
+pub mod Attaching
+pub mod Crashes
 pub mod Ends
-pub mod Settings
+pub mod Obeying
 pub mod Stops
 pub mod TakenLines
 pub mod Told
 pub mod Run
+pub mod Words

@@ -1,16 +1,20 @@
 -- What a run promises. Most of it hangs on the script, which its source may tell.
-use Rattle.std.specs.Prelude.{◌≡◌, ◌⊎◌, ℕ, ◌+◌, ◌<◌, ◌≤◌, ⊤, List, [], ◌++◌, length, take, drop, codes, Option, None, Some}
+use Rattle.std.specs.Prelude.{◌≡◌, ◌⊎◌, ℕ, ◌+◌, ◌<◌, ◌≤◌, ⊤, Bool, List, [], ◌++◌, length, take, drop, codes, Option, None, Some, Ok, IfOk}
+use Rattle.std.specs.Option.{IfSome}
 use Rattle.std.specs.Io.KnownBytes.{Appends}
 use Rattle.hac_outside.specs.Causes.{TellsFault}
 use Rattle.hac_outside.specs.Seen.{SourceSeen, SinkSeen}
-use Rattle.hac_model.specs.Play.{Turn, opening, play, has_refusal}
+use Rattle.hac_model.specs.CommandLine.{Options}
+use Rattle.hac_model.specs.Play.{Setting, Turn, has_refusal, left_by, play}
 use Rattle.hac_model.specs.Printed.{ended}
 use Rattle.hac_model.specs.Script.{after_item, whole}
 use Rattle.hac_model.specs.declared.limits.TheConstants.{SCRIPT_LIMIT}
+use Rattle.hac_store.specs.Held.{held}
+use Rattle.hac_top.specs.Crashes.{IsTreeOfAnswered, Reopens, opened}
 use Rattle.hac_top.specs.Ends.{IsFinished, finished_status, is_read_fault, is_write_fault}
 use Rattle.hac_top.specs.Told.{Told}
 use Rattle.hac_top.specs.declared.status.Status.{Status}
-use Rattle.hac_top.specs.declared.status.Status.TheVariants.{Usage, ReadFault, WriteFault, Memory, TooLong}
+use Rattle.hac_top.specs.declared.status.Status.TheVariants.{Usage, ReadFault, WriteFault, DiskFault, Memory, TooLong}
 use Rattle.shell_lang.specs.declared.reading.TheConstants.{PIECE}
 
 -- what a run works on, as it is seen
@@ -23,7 +27,7 @@ outside source sink = record { source = source; sink = sink }
 
 -- what is written where the words of the program are none that it takes
 abbrev pub usage_line : List ℕ
-usage_line = ended (codes "usage: hac")
+usage_line = ended (codes "usage: hac [--new] STORE")
 
 -- known bytes grow by some beginning of these bytes
 abbrev pub AppendsSome : Option (List ℕ) → Option (List ℕ) → List ℕ → Type 0
@@ -51,30 +55,30 @@ pub record Ends (status : Status) (before after : Outside) : Type 0 where
   pub passed : (status ≡ WriteFault → ⊥) → before.sink.held_back ≡ 0 → after.sink.held_back ≡ 0
 
 -- the script was read to its end, and each reply was written: no more and no less
-pub record AnswersAll (status : Status) (script : List ℕ) (done : ℕ) (left : Option (List ℕ)) : Type 0 where
+pub record AnswersAll (status : Status) (setting : Setting) (script : List ℕ) (done : ℕ) (left : Option (List ℕ)) : Type 0 where
   pub read : left ≡ Some []
   pub within : length script ≤ SCRIPT_LIMIT
-  pub status_is : status ≡ finished_status (has_refusal (play opening script))
-  pub all : done ≡ length (play opening script)
+  pub status_is : status ≡ finished_status (has_refusal (play setting script))
+  pub all : done ≡ length (play setting script)
 
 -- a part of the script was taken, and each whole line of it was answered
-pub record AnswersTaken (script : List ℕ) (done : ℕ) (left : Option (List ℕ)) : Type 0 where
+pub record AnswersTaken (setting : Setting) (script : List ℕ) (done : ℕ) (left : Option (List ℕ)) : Type 0 where
   pub taken : List ℕ
   pub rest : List ℕ
   pub script_is : script ≡ taken ++ rest
   pub left_is : left ≡ Some rest
-  pub all : take done (play opening script) ≡ play opening (whole taken)
+  pub all : take done (play setting script) ≡ play setting (whole taken)
 
 -- the script is longer than a script may be, so much of it and one byte were taken, and each line within the limit was
 -- answered
-pub record AnswersWithin (script : List ℕ) (done : ℕ) (left : Option (List ℕ)) : Type 0 where
+pub record AnswersWithin (setting : Setting) (script : List ℕ) (done : ℕ) (left : Option (List ℕ)) : Type 0 where
   pub longer : SCRIPT_LIMIT < length script
   pub left_is : left ≡ Some (drop (SCRIPT_LIMIT + 1) script)
-  pub all : take done (play opening script) ≡ play opening (whole (take SCRIPT_LIMIT script))
+  pub all : take done (play setting script) ≡ play setting (whole (take SCRIPT_LIMIT script))
 
 -- Of what was taken, all was answered but one line with the bytes that belong to it, and less than one piece behind them.
 -- So no read goes beyond the piece in which an unanswered line ends, with its bytes.
-pub record AnswersPromptly (script : List ℕ) (done : ℕ) (left : Option (List ℕ)) : Type 0 where
+pub record AnswersPromptly (setting : Setting) (script : List ℕ) (done : ℕ) (left : Option (List ℕ)) : Type 0 where
   pub answered : List ℕ
   pub line : List ℕ
   pub behind : List ℕ
@@ -84,17 +88,38 @@ pub record AnswersPromptly (script : List ℕ) (done : ℕ) (left : Option (List
   pub whole_is : whole answered ≡ answered
   pub one : after_item line ≡ []
   pub near : length behind < PIECE
-  pub all : (more : List Turn) × (take done (play opening script) ≡ play opening answered ++ more)
+  pub all : (more : List Turn) × (take done (play setting script) ≡ play setting answered ++ more)
 
 -- However the run ends, the replies are those of the plain tree, none ahead of time and none late. A reply is cut off only
 -- where the sink failed.
-pub record Plays (status : Status) (script : List ℕ) (before after : Outside) : Type 0 where
-  pub told : Told (play opening script) before.sink after.sink
+pub record Plays (status : Status) (setting : Setting) (script : List ℕ) (before after : Outside) : Type 0 where
+  pub told : Told (play setting script) before.sink after.sink
   pub whole : (status ≡ WriteFault → ⊥) → told.cut ≡ []
-  pub prompt : AnswersPromptly script told.done after.source.left
-  pub finished : IsFinished status → AnswersAll status script told.done after.source.left
-  pub read_fault : status ≡ ReadFault → AnswersTaken script told.done after.source.left
-  pub too_long : status ≡ TooLong → AnswersWithin script told.done after.source.left
+  pub prompt : AnswersPromptly setting script told.done after.source.left
+  pub finished : IsFinished status → AnswersAll status setting script told.done after.source.left
+  pub read_fault : status ≡ ReadFault → AnswersTaken setting script told.done after.source.left
+  pub too_long : status ≡ TooLong → AnswersWithin setting script told.done after.source.left
+
+-- What a run comes to that goes on from a store. Its replies are those of the plain tree. Where nothing was pending on the
+-- disk as it began, a crash leaves the tree with the events of each answered command, and at most those of the command in
+-- hand besides; and where the script has ended, it leaves what the last command left.
+pub record Ran (fresh : Bool) (status : Status) (setting : Setting) (script : List ℕ) (before after : Outside) (stood : Type 0) (image : List ℕ → Type 0) : Type 0 where
+  pub plays : Plays status setting script before after
+  pub reopens : stood → (c : List ℕ) → image c → Reopens fresh (IsTreeOfAnswered setting.state (play setting script) plays.told.done) c
+  pub kept : stood → IsFinished status → (c : List ℕ) → image c → held c ≡ Ok (left_by setting (play setting script))
+
+-- the words, the file and the script, where they are told, and what the run then goes on from
+abbrev pub IfOpens : Option Options → Option (List ℕ) → Option (List ℕ) → (Bool → Setting → List ℕ → Type 0) → Type 0
+IfOpens words seen left P = IfSome words (λ options. IfSome seen (λ file. IfSome left (λ script. IfOk (opened options.fresh (held file)) (λ setting. P options.fresh setting script))))
+
+-- the run has begun: a byte of the script was taken, or one of a reply was written, or the script has ended
+abbrev pub HasBegun : Status → Outside → Outside → Type 0
+HasBegun status before after =
+    (after.source.left ≡ before.source.left → ⊥) ⊎ ((after.sink.written ≡ before.sink.written → ⊥) ⊎ IsFinished status)
+
+-- a run that no store is open for ends so, unless a call of the disk fails or memory runs out before
+abbrev pub EndsSo : Status → Status → Type 0
+EndsSo wanted status = (status ≡ wanted) ⊎ ((status ≡ DiskFault) ⊎ (status ≡ Memory))
 
 -- without a fault a script within the limit is read to its end, and a longer one is told as such, unless memory runs out
 pub record Completes (status : Status) (script : List ℕ) : Type 0 where

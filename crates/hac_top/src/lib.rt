@@ -1,12 +1,15 @@
-//! The whole of the program but its last edge: words and a script come in, replies and a status go out.
-//! It knows its source and its sink by their contracts alone.
+//! The whole of the program but its last edge: words, a script and a store come in, replies and a status go out.
+//! It knows its source, its sink and its disk by their contracts alone.
 #![tactic(auto)]
 
 mod answering;
 mod obeying;
+mod opening;
 mod running;
 mod status;
+mod stops;
 mod taking;
+mod words;
 
 pub use running::run;
 pub use status::Status;

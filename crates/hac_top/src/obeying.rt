@@ -1,45 +1,73 @@
-//! Obeying: what a line spells is tested against the tree, and then read from it or done to it.
-ghost use Rattle.std.specs.Prelude.{◌≡◌, [], IfOk, OnOk, IsTrue, true, false};
+//! Obeying: what a line spells is tested against the tree, and then read from it, or stored and done to it.
+ghost use Rattle.std.specs.Prelude.{◌≡◌, ◌⊎◌, ◌≤◌, ◌<◌, ◌∷◌, [], length, replicate, if◌then◌else◌, IfOk, IfErr, IsErrOf, OnOk, IsTrue, Ok, true, false};
 ghost use Rattle.hac_core.specs.Drafts.{IsDraft, reads};
 ghost use Rattle.hac_core.specs.Settling.{events_in};
-ghost use Rattle.hac_model.specs.Events.{apply_all};
+ghost use Rattle.hac_disk.specs.Told.{HasByteAt};
 ghost use Rattle.hac_model.specs.Laws.{AllHappen};
 ghost use Rattle.hac_model.specs.Lines.{is_spelled};
-ghost use Rattle.hac_model.specs.Play.{turn, turn_of};
-ghost use Rattle.hac_top.specs.Settings.{setting_of};
-ghost use Rattle.hac_top.specs.Stops.{IsDenial};
+ghost use Rattle.hac_model.specs.Play.{after_events, have_room, turn, turn_of};
+ghost use Rattle.hac_model.specs.declared.events.Event.TheVariants as event;
+ghost use Rattle.hac_store.specs.Stores.{Stands, whole};
+ghost use Rattle.hac_top.specs.Crashes.{Stores};
+ghost use Rattle.hac_top.specs.Obeying.{is_disk_fault, kept_events, kept_reply};
+ghost use Rattle.hac_top.specs.Stops.{IsDenial, StopsCommand, is_disk_stop};
 ghost use Rattle.shell_lang.specs.Told.{item_taken};
 
-use hac_core::{Draft, Machine, Settled};
-use hac_model::{Deny, Line, Memory, Reply, Seq, Text};
+use crate::stops::Stop;
+use hac_core::{Draft, Settled};
+use hac_disk::Disk;
+use hac_model::{Deny, Limit, LimitWord, Line, Memory, Refusal, Reply, Seq, Text};
+use hac_store::{Store, StoreFault};
 use shell_lang::{Taken, parse_line};
 use std::alloc::Global;
 
-/// Carries out the command that a line spells, told what was taken of the bytes behind it, or refuses it.
-pub fn carry_out(
+// The most index steps that one append takes.
+const BATCH: u64 = 4_096;
+
+// How many bytes the payload of an index step has.
+const STEP_BYTES: u64 = 2;
+
+/// Carries out the command that a line spells, told what was taken of the bytes behind it, or refuses it. What a
+/// command changes is in the store before this returns.
+pub fn carry_out<D: Disk>(
     alloc: Global,
-    tree: &mut Machine,
+    store: &mut Store,
+    disk: &mut D,
     line: Text,
     taken: Option<Taken>,
-) -> Result<Reply, Memory>
-    ensures reply { IfOk result (λ reply. reply ≡ (turn (setting_of tree.old) (item_taken line taken)).reply) }
-    ensures tree { OnOk result (setting_of tree.new ≡ (turn (setting_of tree.old) (item_taken line taken)).after) }
+) -> Result<Reply, Stop>
+    requires whole { store.old.broken ≡ false }
+    requires place { HasByteAt (D.seen disk.old) store.old.setting.end }
+    ensures reply { IfOk result (λ reply. reply ≡ (turn store.old.setting (item_taken line taken)).reply) }
+    ensures store { OnOk result (store.new ≡ whole (turn store.old.setting (item_taken line taken)).after) }
+    ensures place { OnOk result (HasByteAt (D.seen disk.new) store.new.setting.end) }
+    ensures stands { Stands (D.seen disk.old) (D.image disk.old) store.old.setting → OnOk result (Stands (D.seen disk.new) (D.image disk.new) store.new.setting) }
+    ensures stores { Stores D.seen D.image D.moment D.image_since D.attached D.faults disk.old disk.new store.old.setting
+        (turn store.old.setting (item_taken line taken)).events (is_disk_stop result) }
+    ensures stops { IfErr result StopsCommand }
 {
     match parse_line(alloc, line.as_slice(), taken) {
-        Ok(line) => obey(alloc, tree, line),
-        Err(deny) => refused(deny),
+        Ok(line) => obey(alloc, store, disk, line),
+        Err(deny) => Ok(refused(deny)?),
     }
 }
 
 /// Carries out a command, or refuses it for what the tree is.
-fn obey(alloc: Global, tree: &mut Machine, line: Line) -> Result<Reply, Memory>
+fn obey<D: Disk>(alloc: Global, store: &mut Store, disk: &mut D, line: Line) -> Result<Reply, Stop>
+    requires whole { store.old.broken ≡ false }
+    requires place { HasByteAt (D.seen disk.old) store.old.setting.end }
     requires spelled { IsTrue (is_spelled line.command) }
-    ensures reply { IfOk result (λ reply. reply ≡ (turn (setting_of tree.old) (Ok line)).reply) }
-    ensures tree { OnOk result (setting_of tree.new ≡ (turn (setting_of tree.old) (Ok line)).after) }
+    ensures reply { IfOk result (λ reply. reply ≡ (turn store.old.setting (Ok line)).reply) }
+    ensures store { OnOk result (store.new ≡ whole (turn store.old.setting (Ok line)).after) }
+    ensures place { OnOk result (HasByteAt (D.seen disk.new) store.new.setting.end) }
+    ensures stands { Stands (D.seen disk.old) (D.image disk.old) store.old.setting → OnOk result (Stands (D.seen disk.new) (D.image disk.new) store.new.setting) }
+    ensures stores { Stores D.seen D.image D.moment D.image_since D.attached D.faults disk.old disk.new store.old.setting
+        (turn store.old.setting (Ok line)).events (is_disk_stop result) }
+    ensures stops { IfErr result StopsCommand }
 {
-    match tree.check(line) {
-        Ok(draft) => follow(alloc, tree, draft),
-        Err(deny) => refused(deny),
+    match store.machine().check(line) {
+        Ok(draft) => follow(alloc, store, disk, draft),
+        Err(deny) => Ok(refused(deny)?),
     }
 }
 
@@ -54,37 +82,126 @@ fn refused(deny: Deny) -> Result<Reply, Memory>
 }
 
 /// Answers a command that reads, and carries out one that changes the tree.
-fn follow(alloc: Global, tree: &mut Machine, draft: Draft) -> Result<Reply, Memory>
-    requires made { IsDraft tree.old.state draft }
-    ensures reply { IfOk result (λ reply. reply ≡ (turn_of (setting_of tree.old) (Ok draft)).reply) }
-    ensures tree { OnOk result (setting_of tree.new ≡ (turn_of (setting_of tree.old) (Ok draft)).after) }
+fn follow<D: Disk>(
+    alloc: Global,
+    store: &mut Store,
+    disk: &mut D,
+    draft: Draft,
+) -> Result<Reply, Stop>
+    requires whole { store.old.broken ≡ false }
+    requires place { HasByteAt (D.seen disk.old) store.old.setting.end }
+    requires made { IsDraft store.old.setting.state draft }
+    ensures reply { IfOk result (λ reply. reply ≡ (turn_of store.old.setting (Ok draft)).reply) }
+    ensures store { OnOk result (store.new ≡ whole (turn_of store.old.setting (Ok draft)).after) }
+    ensures place { OnOk result (HasByteAt (D.seen disk.new) store.new.setting.end) }
+    ensures stands { Stands (D.seen disk.old) (D.image disk.old) store.old.setting → OnOk result (Stands (D.seen disk.new) (D.image disk.new) store.new.setting) }
+    ensures stores { Stores D.seen D.image D.moment D.image_since D.attached D.faults disk.old disk.new store.old.setting
+        (turn_of store.old.setting (Ok draft)).events (is_disk_stop result) }
+    ensures stops { IfErr result StopsCommand }
 {
     if draft.reads() {
-        return tree.ask(draft);
+        return Ok(store.machine().ask(draft)?);
     }
-    change(alloc, tree, draft)
+    change(alloc, store, disk, draft)
 }
 
 /// Lets a command change the tree, unless it would pass a limit.
-fn change(alloc: Global, tree: &mut Machine, draft: Draft) -> Result<Reply, Memory>
-    requires made { IsDraft tree.old.state draft }
+fn change<D: Disk>(
+    alloc: Global,
+    store: &mut Store,
+    disk: &mut D,
+    draft: Draft,
+) -> Result<Reply, Stop>
+    requires whole { store.old.broken ≡ false }
+    requires place { HasByteAt (D.seen disk.old) store.old.setting.end }
+    requires made { IsDraft store.old.setting.state draft }
     requires changes { reads draft ≡ false }
-    ensures reply { IfOk result (λ reply. reply ≡ (turn_of (setting_of tree.old) (Ok draft)).reply) }
-    ensures tree { OnOk result (setting_of tree.new ≡ (turn_of (setting_of tree.old) (Ok draft)).after) }
+    ensures reply { IfOk result (λ reply. reply ≡ (turn_of store.old.setting (Ok draft)).reply) }
+    ensures store { OnOk result (store.new ≡ whole (turn_of store.old.setting (Ok draft)).after) }
+    ensures place { OnOk result (HasByteAt (D.seen disk.new) store.new.setting.end) }
+    ensures stands { Stands (D.seen disk.old) (D.image disk.old) store.old.setting → OnOk result (Stands (D.seen disk.new) (D.image disk.new) store.new.setting) }
+    ensures stores { Stores D.seen D.image D.moment D.image_since D.attached D.faults disk.old disk.new store.old.setting
+        (turn_of store.old.setting (Ok draft)).events (is_disk_stop result) }
+    ensures stops { IfErr result StopsCommand }
 {
-    match tree.settle(draft) {
-        Ok(settled) => happen(alloc, tree, settled),
-        Err(deny) => refused(deny),
+    match store.machine().settle(draft) {
+        Ok(settled) => happen(alloc, store, disk, settled),
+        Err(deny) => Ok(refused(deny)?),
     }
 }
 
-/// Lets events happen. The reply has no lines.
-fn happen(alloc: Global, tree: &mut Machine, settled: Settled) -> Result<Reply, Memory>
-    requires { AllHappen tree.old.state (events_in settled) }
-    ensures reply { IfOk result (λ reply. reply ≡ Reply.Lines []) }
-    ensures tree { OnOk result (tree.new.state ≡ apply_all tree.old.state (events_in settled)) }
+/// Stores events and lets them happen, unless the store is full. The reply has no lines.
+fn happen<D: Disk>(
+    alloc: Global,
+    store: &mut Store,
+    disk: &mut D,
+    settled: Settled,
+) -> Result<Reply, Stop>
+    requires whole { store.old.broken ≡ false }
+    requires place { HasByteAt (D.seen disk.old) store.old.setting.end }
+    requires happen { AllHappen store.old.setting.state (events_in settled) }
+    ensures reply { IfOk result (λ reply. reply ≡ kept_reply store.old.setting (events_in settled)) }
+    ensures store { OnOk result (store.new ≡ whole (after_events store.old.setting (kept_events store.old.setting (events_in settled)))) }
+    ensures place { OnOk result (HasByteAt (D.seen disk.new) store.new.setting.end) }
+    ensures stands { Stands (D.seen disk.old) (D.image disk.old) store.old.setting → OnOk result (Stands (D.seen disk.new) (D.image disk.new) store.new.setting) }
+    ensures stores { Stores D.seen D.image D.moment D.image_since D.attached D.faults disk.old disk.new store.old.setting
+        (kept_events store.old.setting (events_in settled)) (is_disk_stop result) }
+    ensures stops { IfErr result StopsCommand }
 {
-    tree.prepare(settled)?;
-    tree.commit();
-    Ok(Reply::Lines(Seq::new(Vec::new(alloc))))
+    match store_events(store, disk, settled) {
+        Ok(()) => Ok(Reply::Lines(Seq::new(Vec::new(alloc)))),
+        Err(StoreFault::Full) => Ok(Reply::Refused(Refusal::Limit(LimitWord::Store))),
+        Err(StoreFault::Memory) => Err(Stop::Memory),
+        Err(StoreFault::Disk | StoreFault::NotStore { .. } | StoreFault::AlreadyStore) => {
+            Err(Stop::DiskFault)
+        }
+    }
+}
+
+/// Stores the events that a command comes to, and lets them happen. `Full` comes before any write.
+fn store_events<D: Disk>(
+    store: &mut Store,
+    disk: &mut D,
+    settled: Settled,
+) -> Result<(), StoreFault>
+    requires whole { store.old.broken ≡ false }
+    requires place { HasByteAt (D.seen disk.old) store.old.setting.end }
+    requires happen { AllHappen store.old.setting.state (events_in settled) }
+    ensures ok { OnOk result (store.new ≡ whole (after_events store.old.setting (events_in settled))) }
+    ensures full { IsErrOf result StoreFault.Full → (have_room store.old.setting.end (events_in settled) ≡ false) × (store.new ≡ store.old) }
+    ensures room { have_room store.old.setting.end (events_in settled) ≡ false → (IsErrOf result StoreFault.Full ⊎ IsErrOf result StoreFault.Memory) × (disk.new ≡ disk.old) }
+    ensures place { OnOk result (HasByteAt (D.seen disk.new) store.new.setting.end) }
+    ensures stands { Stands (D.seen disk.old) (D.image disk.old) store.old.setting → OnOk result (Stands (D.seen disk.new) (D.image disk.new) store.new.setting) }
+    ensures stores { Stores D.seen D.image D.moment D.image_since D.attached D.faults disk.old disk.new store.old.setting
+        (events_in settled) (is_disk_fault result) }
+{
+    match settled {
+        Settled::Change(event) => store.command(disk, event),
+        Settled::Steps(count) => take_steps(store, disk, count),
+    }
+}
+
+/// Stores index steps and lets them happen, some thousands by one append. `Full` comes before any write.
+fn take_steps<D: Disk>(store: &mut Store, disk: &mut D, count: u64) -> Result<(), StoreFault>
+    requires whole { store.old.broken ≡ false }
+    requires place { HasByteAt (D.seen disk.old) store.old.setting.end }
+    requires happen { AllHappen store.old.setting.state (replicate count event.Step) }
+    ensures ok { OnOk result (store.new ≡ whole (after_events store.old.setting (replicate count event.Step))) }
+    ensures full { IsErrOf result StoreFault.Full → (have_room store.old.setting.end (replicate count event.Step) ≡ false) × (store.new ≡ store.old) }
+    ensures room { have_room store.old.setting.end (replicate count event.Step) ≡ false → (IsErrOf result StoreFault.Full ⊎ IsErrOf result StoreFault.Memory) × (disk.new ≡ disk.old) }
+    ensures place { OnOk result (HasByteAt (D.seen disk.new) store.new.setting.end) }
+    ensures stands { Stands (D.seen disk.old) (D.image disk.old) store.old.setting → OnOk result (Stands (D.seen disk.new) (D.image disk.new) store.new.setting) }
+    ensures stores { Stores D.seen D.image D.moment D.image_since D.attached D.faults disk.old disk.new store.old.setting
+        (replicate count event.Step) (is_disk_fault result) }
+{
+    if !store.room_for(count, STEP_BYTES) {
+        return Err(StoreFault::Full);
+    }
+    let mut left = count;
+    while left > 0 {
+        let batch = left.min(BATCH);
+        store.steps(disk, batch)?;
+        left -= batch;
+    }
+    Ok(())
 }

@@ -1,59 +1,96 @@
-//! The run: the script is taken line by line, and each line is answered before the next is taken up.
-ghost use Rattle.std.specs.Prelude.{◌≡◌, ◌⊎◌, ◌<◌, false, length, IfSome};
+//! The run: the store is opened, the script is taken line by line, and each line is answered before the next is taken up.
+ghost use Rattle.std.specs.Prelude.{◌≡◌, ◌⊎◌, ℕ, ◌≤◌, ◌<◌, false, IfErr, IfSome, List, None, Ok, map, string_bytes};
 ghost use Rattle.std.specs.Io.KnownBytes.{Appends};
+ghost use Rattle.hac_disk.specs.Images.{IsQuiet, LeavesOnly};
+ghost use Rattle.hac_disk.specs.Told.{HasByteAt, IsSettled};
+ghost use Rattle.hac_model.specs.CommandLine.{options};
+ghost use Rattle.hac_model.specs.Play.{all_events, play};
 ghost use Rattle.hac_outside.specs.Causes.{Rose, TellsFault};
+ghost use Rattle.hac_store.specs.Held.{held};
+ghost use Rattle.hac_store.specs.Stores.{Stands};
+ghost use Rattle.hac_top.specs.Attaching.{AttachesStore, MayAttach};
+ghost use Rattle.hac_top.specs.Crashes.{Holds, IsTree, Reopens, TellsFile, opened};
 ghost use Rattle.hac_top.specs.Ends.{end_status, is_write_fault};
-ghost use Rattle.hac_top.specs.Run.{usage_line, outside, AppendsSome, RefusesWords, Ends, Plays, Completes};
+ghost use Rattle.hac_top.specs.Run.{usage_line, outside, AppendsSome, RefusesWords, Ends, EndsSo, HasBegun, IfOpens, Plays, Ran, Completes};
 
-use crate::answering::{Player, Stop, tell_bytes};
+use crate::answering::{Player, tell_bytes};
+use crate::opening::open_store;
 use crate::status::Status;
+use crate::stops::Stop;
 use crate::taking::take_line;
+use crate::words::read_words;
+use hac_disk::Disk;
 use hac_outside::{Sink, Source};
+use hac_store::Store;
 use shell_lang::Reader;
 use std::alloc::Global;
 
-/// Plays the script that the source gives, and writes the reply to each command to the sink.
+/// Opens the store that the words name, plays the script that the source gives, and writes the reply to each command to
+/// the sink.
 ///
-/// `words` are those of the program behind its own name; it takes none. The source is read in pieces, and
-/// no line is carried out before the reply to the line before it was written and flushed. A `put` is carried
-/// out with the bytes that follow its line.
-pub fn run<S: Source, K: Sink>(
+/// `words` are those of the program behind its own name: `[--new] STORE`. The disk is bound to the file STORE, which is
+/// made where it is missing and `--new` is given. The source is read in pieces, and no line is carried out before the
+/// reply to the line before it was written and flushed; what a line changes is stored before its reply is written. A
+/// `put` is carried out with the bytes that follow its line.
+pub fn run<S: Source, K: Sink, D: Disk>(
     alloc: Global,
     words: &[String],
     input: &mut S,
     output: &mut K,
+    disk: &mut D,
 ) -> Status
     requires { (S.seen input.old).ended ≡ false }
 
-    // Words are refused.
-    ensures usage { result ≡ Status.Usage → 0 < length words.now }
-    ensures words { 0 < length words.now → RefusesWords result (outside (S.seen input.old) (K.seen output.old)) (outside (S.seen input.new) (K.seen output.new)) }
+    // Words that are no line of the program are refused.
+    ensures usage { result ≡ Status.Usage → options (map string_bytes words.now) ≡ None }
+    ensures words { options (map string_bytes words.now) ≡ None →
+        RefusesWords result (outside (S.seen input.old) (K.seen output.old)) (outside (S.seen input.new) (K.seen output.new)) × (disk.new ≡ disk.old) }
 
-    // Else the script is played, where the source tells it.
-    ensures plays { length words.now ≡ 0 → IfSome (S.seen input.old).left (λ script.
-        Plays result script (outside (S.seen input.old) (K.seen output.old)) (outside (S.seen input.new) (K.seen output.new))) }
+    // The replies are those of the tree that the store held, and a crash leaves that tree after the events of what was
+    // answered.
+    ensures ran { IfOpens (options (map string_bytes words.now)) (D.seen disk.old) (S.seen input.old).left (λ fresh setting script.
+        Ran fresh result setting script (outside (S.seen input.old) (K.seen output.old)) (outside (S.seen input.new) (K.seen output.new))
+        (IsSettled (D.seen disk.old) (D.image disk.old)) (D.image disk.new)) }
 
-    // Whatever the source tells, a fault is told, and nothing is left behind in the sink.
+    // At each moment a crash leaves that tree after some of the events, the first ones in order.
+    ensures any_moment { IfOpens (options (map string_bytes words.now)) (D.seen disk.old) (S.seen input.old).left (λ fresh setting script.
+        IsSettled (D.seen disk.old) (D.image disk.old) →
+        LeavesOnly D.moment D.image_since disk.old disk.new (Reopens fresh (IsTree setting.state (all_events (play setting script))))) }
+
+    // Once it has begun to take the script, a crash leaves a store.
+    ensures begun { IfOpens (options (map string_bytes words.now)) (D.seen disk.old) (S.seen input.old).left (λ fresh setting script.
+        IsSettled (D.seen disk.old) (D.image disk.old) → HasBegun result (outside (S.seen input.old) (K.seen output.old)) (outside (S.seen input.new) (K.seen output.new)) →
+        (c : List ℕ) → D.image disk.new c → Holds (IsTree setting.state (all_events (play setting script))) c) }
+
+    // Where the file holds no store, or one though a new one was asked for, that is told, and nothing else is done.
+    ensures unopened { IfSome (options (map string_bytes words.now)) (λ asked. IfSome (D.seen disk.old) (λ file. IfErr (opened asked.fresh (held file)) (λ wanted.
+        EndsSo wanted result × IsQuiet D.seen D.image D.moment D.image_since disk.old disk.new × (input.new ≡ input.old) × (output.new ≡ output.old)))) }
+    ensures file { IfSome (options (map string_bytes words.now)) (λ asked. IfSome (D.seen disk.old) (λ file. TellsFile result → opened asked.fresh (held file) ≡ Err result)) }
+
+    // The disk is attached once, by the name that the words give.
+    ensures attached { IfSome (options (map string_bytes words.now)) (λ asked. MayAttach (D.attached disk.old) asked (D.attached disk.new)
+        × ((result ≡ Status.DiskFault → ⊥) → AttachesStore (D.attached disk.old) asked (D.attached disk.new))) }
+
+    // Whatever the source and the disk tell, a fault is told, and nothing is left behind in the sink.
     ensures ends { Ends result (outside (S.seen input.old) (K.seen output.old)) (outside (S.seen input.new) (K.seen output.new)) }
     ensures read_told { (S.seen input.old).faults < (S.seen input.new).faults → result ≡ Status.ReadFault }
     ensures write_told { (K.seen output.old).faults < (K.seen output.new).faults → result ≡ Status.WriteFault }
     ensures read_cause { result ≡ Status.ReadFault → Rose (S.seen input.old).faults (S.seen input.new).faults }
     ensures write_cause { result ≡ Status.WriteFault → Rose (K.seen output.old).faults (K.seen output.new).faults }
+    ensures disk_later { D.faults disk.old ≤ D.faults disk.new }
+    ensures disk_cause { result ≡ Status.DiskFault → Rose (D.faults disk.old) (D.faults disk.new) }
 
     // Without a fault the script is played, unless memory runs out.
-    ensures complete { length words.now ≡ 0 → ¬ Rose (S.seen input.old).faults (S.seen input.new).faults → ¬ Rose (K.seen output.old).faults (K.seen output.new).faults →
-        IfSome (S.seen input.old).left (Completes result) }
+    ensures complete { ¬ Rose (S.seen input.old).faults (S.seen input.new).faults → ¬ Rose (K.seen output.old).faults (K.seen output.new).faults →
+        ¬ Rose (D.faults disk.old) (D.faults disk.new) →
+        IfOpens (options (map string_bytes words.now)) (D.seen disk.old) (S.seen input.old).left (λ fresh setting script. Completes result script) }
 {
-    if !words.is_empty() {
+    let Some(options) = read_words(words) else {
         return tell_usage(output);
-    }
-    match play_script(alloc, input, output) {
-        Ok(false) => Status::Done,
-        Ok(true) => Status::SomeRefused,
-        Err(Stop::ReadFault) => Status::ReadFault,
-        Err(Stop::WriteFault) => Status::WriteFault,
-        Err(Stop::Memory) => Status::Memory,
-        Err(Stop::TooLong) => Status::TooLong,
+    };
+    match open_store(alloc, options, disk) {
+        Ok(store) => status_of(play_store(alloc, store, input, output, disk)),
+        Err(status) => status,
     }
 }
 
@@ -64,29 +101,83 @@ fn tell_usage<K: Sink>(output: &mut K) -> Status
     ensures some { AppendsSome (K.seen output.old).written (K.seen output.new).written usage_line }
     ensures faults { TellsFault (is_write_fault result) (K.seen output.old).faults (K.seen output.new).faults }
 {
-    match tell_bytes(output, b"usage: hac\n") {
+    match tell_bytes(output, b"usage: hac [--new] STORE\n") {
         Ok(()) => Status::Usage,
         Err(_) => Status::WriteFault,
     }
 }
 
-/// Plays the script to its end, and says whether some command was refused.
-fn play_script<S: Source, K: Sink>(
+/// Plays the script on a store that was opened, and says whether some command was refused.
+fn play_store<S: Source, K: Sink, D: Disk>(
     alloc: Global,
+    store: Store,
     input: &mut S,
     output: &mut K,
+    disk: &mut D,
 ) -> Result<bool, Stop>
-    requires { (S.seen input.old).ended ≡ false }
-    ensures plays { IfSome (S.seen input.old).left (λ script.
-        Plays (end_status result) script (outside (S.seen input.old) (K.seen output.old)) (outside (S.seen input.new) (K.seen output.new))) }
+    requires source { (S.seen input.old).ended ≡ false }
+    requires whole { store.broken ≡ false }
+    requires place { HasByteAt (D.seen disk.old) store.setting.end }
+    ensures ran { IfSome (S.seen input.old).left (λ script.
+        Ran false (end_status result) store.setting script (outside (S.seen input.old) (K.seen output.old)) (outside (S.seen input.new) (K.seen output.new))
+        (Stands (D.seen disk.old) (D.image disk.old) store.setting) (D.image disk.new)) }
+    ensures any_moment { IfSome (S.seen input.old).left (λ script. Stands (D.seen disk.old) (D.image disk.old) store.setting →
+        LeavesOnly D.moment D.image_since disk.old disk.new (Holds (IsTree store.setting.state (all_events (play store.setting script))))) }
     ensures ends { Ends (end_status result) (outside (S.seen input.old) (K.seen output.old)) (outside (S.seen input.new) (K.seen output.new)) }
+    ensures attached { D.attached disk.new ≡ D.attached disk.old }
+    ensures later { D.faults disk.old ≤ D.faults disk.new }
+    ensures cause { end_status result ≡ Status.DiskFault → Rose (D.faults disk.old) (D.faults disk.new) }
+{
+    let mut player = Player {
+        alloc,
+        store,
+        refused: false,
+    };
+    play_script(alloc, &mut player, input, output, disk)
+}
+
+/// Plays the script to its end, and says whether some command was refused.
+fn play_script<S: Source, K: Sink, D: Disk>(
+    alloc: Global,
+    player: &mut Player,
+    input: &mut S,
+    output: &mut K,
+    disk: &mut D,
+) -> Result<bool, Stop>
+    requires source { (S.seen input.old).ended ≡ false }
+    requires begun { player.old.refused ≡ false }
+    requires whole { player.old.store.broken ≡ false }
+    requires place { HasByteAt (D.seen disk.old) player.old.store.setting.end }
+    ensures ran { IfSome (S.seen input.old).left (λ script.
+        Ran false (end_status result) player.old.store.setting script (outside (S.seen input.old) (K.seen output.old)) (outside (S.seen input.new) (K.seen output.new))
+        (Stands (D.seen disk.old) (D.image disk.old) player.old.store.setting) (D.image disk.new)) }
+    ensures any_moment { IfSome (S.seen input.old).left (λ script. Stands (D.seen disk.old) (D.image disk.old) player.old.store.setting →
+        LeavesOnly D.moment D.image_since disk.old disk.new (Holds (IsTree player.old.store.setting.state (all_events (play player.old.store.setting script))))) }
+    ensures ends { Ends (end_status result) (outside (S.seen input.old) (K.seen output.old)) (outside (S.seen input.new) (K.seen output.new)) }
+    ensures attached { D.attached disk.new ≡ D.attached disk.old }
+    ensures later { D.faults disk.old ≤ D.faults disk.new }
+    ensures cause { end_status result ≡ Status.DiskFault → Rose (D.faults disk.old) (D.faults disk.new) }
 {
     let mut reader = Reader::new(alloc)?;
-    let mut player = Player::new(alloc)?;
     'lines: loop {
         match take_line(&mut reader, input)? {
-            Some(line) => player.answer(output, line)?,
+            Some(line) => player.answer(output, disk, line)?,
             None => return Ok(player.refused),
         }
+    }
+}
+
+// The status of a script that was played.
+fn status_of(played: Result<bool, Stop>) -> Status
+    ensures { result ≡ end_status played }
+{
+    match played {
+        Ok(false) => Status::Done,
+        Ok(true) => Status::SomeRefused,
+        Err(Stop::ReadFault) => Status::ReadFault,
+        Err(Stop::WriteFault) => Status::WriteFault,
+        Err(Stop::DiskFault) => Status::DiskFault,
+        Err(Stop::Memory) => Status::Memory,
+        Err(Stop::TooLong) => Status::TooLong,
     }
 }

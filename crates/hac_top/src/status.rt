@@ -15,10 +15,19 @@ pub enum Status {
     ReadFault,
     /// The replies can't be written further.
     WriteFault,
+    /// The store can't be read or written further.
+    DiskFault,
+    /// The file holds no store.
+    NotStore {
+        /// The place of the first byte that speaks against it.
+        at: u64,
+    },
     /// Memory ran out.
     Memory,
     /// The script is longer than a script may be.
     TooLong,
+    /// A new store was asked for, and the file holds one already.
+    AlreadyStore,
 }
 
 impl Status {
@@ -32,8 +41,11 @@ impl Status {
             Status::Usage => 2,
             Status::ReadFault => 3,
             Status::WriteFault => 4,
+            Status::DiskFault => 5,
+            Status::NotStore { .. } => 6,
             Status::Memory => 7,
             Status::TooLong => 9,
+            Status::AlreadyStore => 10,
         }
     }
 }

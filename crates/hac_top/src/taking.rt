@@ -7,7 +7,7 @@ ghost use Rattle.shell_lang.specs.Takes.{TakesOn, FallsShort};
 ghost use Rattle.hac_top.specs.Stops.{is_read_stop};
 ghost use Rattle.hac_top.specs.TakenLines.{Gives, Advances, Cuts, StopsAt, TakesBehind, Lacks, due_of_piece};
 
-use crate::answering::Stop;
+use crate::stops::Stop;
 use hac_model::SCRIPT_LIMIT;
 use hac_outside::Source;
 use shell_lang::{PIECE, Piece, Reader, Taken, put_length};
@@ -32,6 +32,7 @@ pub fn take_line<S: Source>(reader: &mut Reader, input: &mut S) -> Result<Option
     ensures too_long { result ≡ Err Stop.TooLong → (reader.new.ended ≡ false) × (reader.new.taken ≡ SCRIPT_LIMIT + 1)
         × Cuts 1 (pending reader.old (S.seen input.old).left) (S.seen input.new).left }
     ensures answers { result ≡ Err Stop.WriteFault → ⊥ }
+    ensures disk { result ≡ Err Stop.DiskFault → ⊥ }
     ensures faults { TellsFault (is_read_stop result) (S.seen input.old).faults (S.seen input.new).faults }
 
     ensures source { IsReaderOf reader.new (S.seen input.new) }
@@ -68,6 +69,7 @@ fn take_behind<S: Source>(
     ensures too_long { result ≡ Err Stop.TooLong → (reader.new.ended ≡ false) × (reader.new.taken ≡ SCRIPT_LIMIT + 1)
         × Lacks due 1 (pending reader.old (S.seen input.old).left) (S.seen input.new).left }
     ensures answers { result ≡ Err Stop.WriteFault → ⊥ }
+    ensures disk { result ≡ Err Stop.DiskFault → ⊥ }
     ensures faults { TellsFault (is_read_stop result) (S.seen input.old).faults (S.seen input.new).faults }
 
     ensures source { IsReaderOf reader.new (S.seen input.new) }

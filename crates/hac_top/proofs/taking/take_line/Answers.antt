@@ -6,7 +6,7 @@ use Rattle.shell_lang.specs.Reading.{pending}
 use Rattle.shell_lang.proofs.TakeLemmas.{on-err}
 use Rattle.hac_top.specs.TakenLines.{StopsAt}
 use Rattle.shell_lang.specs.declared.reading.LineFault.TheVariants as line
-use Rattle.hac_top.specs.declared.answering.Stop.TheVariants.{ReadFault, TooLong}
+use Rattle.hac_top.specs.declared.stops.Stop.TheVariants.{ReadFault, TooLong}
 use Rattle.hac_top.proofs.TakenLemmas.{taken-gives, taken-advances, taken-cut, stop-told, held-cut, past-cut, read_stop, still_open, held-stop, cuts-stop, stop-on, stop-given, read-on}
 use Rattle.hac_top.proofs.taking.take_line.Goals as goal
 

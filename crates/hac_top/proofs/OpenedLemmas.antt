@@ -1,0 +1,175 @@
+-- How a run ends, told how its store was opened.
+use Rattle.std.proofs.Common.{◌≡◌, ℕ, ◌≤◌, true, false, Bool, List, [], refl, sym, subst, arith, rules, inl, inr}
+use Rattle.std.specs.Prelude.{Option, None, Some, Result, Ok, Err, IfOk}
+use Rattle.std.specs.Option.{IfSome}
+use Rattle.hac_disk.specs.Images.{LeavesOnly}
+use Rattle.hac_disk.proofs.Moments.{then_run, weaken}
+use Rattle.hac_model.specs.CommandLine.{Options}
+use Rattle.hac_model.specs.Play.{Setting, Turn, all_events, play}
+use Rattle.hac_model.specs.declared.events.Event.{Event}
+use Rattle.hac_model.specs.declared.states.State.{State}
+use Rattle.hac_store.specs.Held.{held}
+use Rattle.hac_store.specs.Stores.{Seen}
+use Rattle.hac_top.specs.Crashes.{Holds, IsOpened, IsTree, IsTreeOfAnswered, Reopens, StopsOpening, TellsFile, opened}
+use Rattle.hac_outside.specs.Causes.{Rose}
+use Rattle.hac_top.specs.Ends.{IsFinished, end_status, finished_status, stopped_status}
+use Rattle.hac_top.specs.Run.{Completes, Ends, IfOpens, Outside, Plays, Ran}
+use Rattle.hac_top.specs.Stops.{StopsCommand}
+use Rattle.hac_top.specs.declared.status.Status.{Status}
+use Rattle.hac_top.specs.declared.status.Status.TheVariants as status
+use Rattle.hac_top.specs.declared.stops.Stop.{Stop}
+use Rattle.hac_top.specs.declared.stops.Stop.TheVariants.{ReadFault, WriteFault, DiskFault, Memory, TooLong}
+use Rattle.hac_top.proofs.CrashLemmas.{all-answered, holds-weaker, reopens}
+use Rattle.hac_top.proofs.MomentLemmas.{both, each}
+use Rattle.hac_top.proofs.RunLemmas.{plays-nothing}
+
+-- what has this, the other has
+reopens-weaker : (fresh : Bool) (P Q : State → Type 0) (image : List ℕ) → ((s : State) → P s → Q s) → Reopens fresh P image → Reopens fresh Q image
+reopens-weaker false P Q image then_q holds = holds-weaker P Q image then_q holds
+reopens-weaker true P Q image then_q holds = λ kept is. then_q kept.state (holds kept is)
+
+no-event : (s now : State) (events : List Event) → now ≡ s → IsTree s events now
+no-event s now events same = record { count = 0; within = omega arith; is = same }
+
+answered-tree : (s now : State) (turns : List Turn) (done : ℕ) → IsTreeOfAnswered s turns done now → IsTree s (all_events turns) now
+answered-tree s now turns done tree = record { count = tree.count; within = tree.within; is = tree.is }
+
+-- a fact on what a run goes on from, where that is known
+pub opens-as : (asked : Options) (seen left : Option (List ℕ)) (setting : Setting) (P : Bool → Setting → List ℕ → Type 0) → IfSome seen (λ file. opened asked.fresh (held file) ≡ Ok setting) →
+    IfSome seen (λ file. IfSome left (λ script. P asked.fresh setting script)) → IfOpens (Some asked) seen left P
+opens-as asked None left setting P is fact = search rules
+opens-as asked (Some file) None setting P is fact = search rules
+opens-as asked (Some file) (Some script) setting P is fact = subst (λ (r : Result Setting Status). IfOk r (λ z. P asked.fresh z script)) (sym is) fact
+
+-- ---- a store was opened
+
+module _ (asked : Options) (seen left : Option (List ℕ)) (store : Seen) (is : IfSome seen (λ file. IsOpened (Ok store) (opened asked.fresh (held file)))) where
+  -- the replies, and what a crash leaves at the end
+  pub ran-opened : (ends : Status) (before after : Outside) (settled stood : Type 0) (image : List ℕ → Type 0) → IfSome seen (λ _. stood) →
+      IfSome left (λ script. Ran false ends store.setting script before after stood image) →
+      IfOpens (Some asked) seen left (λ fresh setting script. Ran fresh ends setting script before after settled image)
+  ran-opened ends before after settled stood image stands ran =
+      opens-as asked seen left store.setting (λ fresh setting script. Ran fresh ends setting script before after settled image) is
+      (each seen (λ _. stood) (λ _. IfSome left (λ script. Ran asked.fresh ends store.setting script before after settled image)) (λ file stands_now.
+      each left (λ script. Ran false ends store.setting script before after stood image) (λ script. Ran asked.fresh ends store.setting script before after settled image)
+      (λ script ran. record {
+        plays = ran.plays;
+        reopens = λ _ c now. reopens asked.fresh (IsTreeOfAnswered store.setting.state (play store.setting script) ran.plays.told.done) c (ran.reopens stands_now c now);
+        kept = λ _. ran.kept stands_now;
+      }) ran) stands)
+
+  -- what a crash leaves at each moment
+  pub moments-opened : {D : Type 0} (moment : D → ℕ) (image_since : D → ℕ → List ℕ → Type 0) (old mid new : D) (settled stood : Type 0) → IfSome seen (λ _. stood) →
+      IfSome seen (λ file. IfOk (opened asked.fresh (held file)) (λ setting. settled → LeavesOnly moment image_since old mid (Reopens asked.fresh (λ s. s ≡ setting.state)))) →
+      IfSome left (λ script. stood → LeavesOnly moment image_since mid new (Holds (IsTree store.setting.state (all_events (play store.setting script))))) →
+      IfOpens (Some asked) seen left (λ fresh setting script. settled → LeavesOnly moment image_since old new (Reopens fresh (IsTree setting.state (all_events (play setting script)))))
+  moments-opened moment image_since old mid new settled stood stands opening playing =
+      opens-as asked seen left store.setting (λ fresh setting script. settled → LeavesOnly moment image_since old new (Reopens fresh (IsTree setting.state (all_events (play setting script))))) is
+      (both seen (λ file. (opened asked.fresh (held file) ≡ Ok store.setting) × stood) (λ file. IfOk (opened asked.fresh (held file)) (λ setting. settled → LeavesOnly moment image_since old mid (Reopens asked.fresh (λ s. s ≡ setting.state))))
+      (λ file. IfSome left (λ script. settled → LeavesOnly moment image_since old new (Reopens asked.fresh (IsTree store.setting.state (all_events (play store.setting script))))))
+      (λ file known opening_of. each left (λ script. stood → LeavesOnly moment image_since mid new (Holds (IsTree store.setting.state (all_events (play store.setting script)))))
+      (λ script. settled → LeavesOnly moment image_since old new (Reopens asked.fresh (IsTree store.setting.state (all_events (play store.setting script)))))
+      (λ script playing settles. one script (λ z. settled → LeavesOnly moment image_since old mid (Reopens asked.fresh (λ s. s ≡ z.state))) (opened asked.fresh (held file)) known.0 opening_of settles (playing known.1)) playing)
+      (both seen (λ file. opened asked.fresh (held file) ≡ Ok store.setting) (λ _. stood) (λ file. (opened asked.fresh (held file) ≡ Ok store.setting) × stood) (λ file goes stands_now. (goes, stands_now)) is stands) opening)
+    where
+      one : (script : List ℕ) (P : Setting → Type 0) (r : Result Setting Status) → r ≡ Ok store.setting → IfOk r (λ z. settled → LeavesOnly moment image_since old mid (Reopens asked.fresh (λ s. s ≡ z.state))) → settled →
+          LeavesOnly moment image_since mid new (Holds (IsTree store.setting.state (all_events (play store.setting script)))) →
+          LeavesOnly moment image_since old new (Reopens asked.fresh (IsTree store.setting.state (all_events (play store.setting script))))
+      one script P r goes opening_of settles playing =
+          let events = all_events (play store.setting script) in
+          let first = store.setting.state in
+          let opening_now : settled → LeavesOnly moment image_since old mid (Reopens asked.fresh (λ s. s ≡ store.setting.state)) =
+          subst (λ (r : Result Setting Status). IfOk r (λ z. settled → LeavesOnly moment image_since old mid (Reopens asked.fresh (λ s. s ≡ z.state)))) goes opening_of in
+          then_run moment image_since old mid new (Reopens asked.fresh (IsTree first events))
+          (weaken moment image_since old mid (Reopens asked.fresh (λ s. s ≡ store.setting.state)) (Reopens asked.fresh (IsTree first events))
+          (λ c holds. reopens-weaker asked.fresh (λ s. s ≡ store.setting.state) (IsTree store.setting.state (all_events (play store.setting script))) c (λ s same. no-event first s events same) holds) (opening_now settles))
+          (weaken moment image_since mid new (Holds (IsTree first events)) (Reopens asked.fresh (IsTree first events)) (λ c holds. reopens asked.fresh (IsTree first events) c holds) playing)
+
+-- ---- no store was opened
+
+-- the run does nothing, and a crash leaves what it might have left before
+pub ran-unopened : (asked : Options) (seen left : Option (List ℕ)) (ends : Status) (before : Outside) (settled : Type 0) (image : List ℕ → Type 0) → left ≡ before.source.left → StopsOpening ends →
+    IfSome seen (λ file. IsOpened (Err ends) (opened asked.fresh (held file))) →
+    IfSome seen (λ file. IfOk (opened asked.fresh (held file)) (λ setting. settled → (c : List ℕ) → image c → Reopens asked.fresh (λ s. s ≡ setting.state) c)) →
+    IfOpens (Some asked) seen left (λ fresh setting script. Ran fresh ends setting script before before settled image)
+ran-unopened asked None left ends before settled image left_is why told holds = search rules
+ran-unopened asked (Some file) None ends before settled image left_is why told holds = search rules
+ran-unopened asked (Some file) (Some script) ends before settled image left_is why told holds = of (opened asked.fresh (held file)) told holds
+  where
+    stop-of : (ends : Status) → StopsOpening ends → (TellsFile ends → ⊥) → (stop : Stop) × StopsCommand stop × (stopped_status stop ≡ ends)
+    stop-of ends (inl disk) other = (DiskFault, inl refl, sym disk)
+    stop-of ends (inr (inl memory)) other = (Memory, inr refl, sym memory)
+    stop-of ends (inr (inr tells)) other = absurd (other tells)
+
+    unfinished : (stop : Stop) → StopsCommand stop → IsFinished (stopped_status stop) → ⊥
+    unfinished stop (inl disk) finished = not-disk (subst (λ (s : Stop). IsFinished (stopped_status s)) disk finished)
+      where
+        not-disk : IsFinished status.DiskFault → ⊥
+        not-disk (inl e) = cc
+        not-disk (inr e) = cc
+    unfinished stop (inr memory) finished = not-memory (subst (λ (s : Stop). IsFinished (stopped_status s)) memory finished)
+      where
+        not-memory : IsFinished status.Memory → ⊥
+        not-memory (inl e) = cc
+        not-memory (inr e) = cc
+
+    ran : (setting : Setting) (stop : Stop) → StopsCommand stop → (settled → (c : List ℕ) → image c → Reopens asked.fresh (λ s. s ≡ setting.state) c) → (plays : Plays (stopped_status stop) setting script before before) × (plays.told.done ≡ 0) →
+        Ran asked.fresh (stopped_status stop) setting script before before settled image
+    ran setting stop command holds plays =
+        let turns = play setting script in
+        let done = plays.0.told.done in
+        record {
+          plays = plays.0;
+          reopens = λ settles c now.
+              reopens-weaker asked.fresh (λ s. s ≡ setting.state) (IsTreeOfAnswered setting.state (play setting script) plays.0.told.done) c
+              (λ s same. subst (λ (n : ℕ). IsTreeOfAnswered setting.state (play setting script) n s) (sym plays.1) (all-answered setting.state s turns [] turns refl same)) (holds settles c now);
+          kept = λ settles finished. absurd (unfinished stop command finished);
+        }
+
+    of : (r : Result Setting Status) → IsOpened (Err ends) r → IfOk r (λ setting. settled → (c : List ℕ) → image c → Reopens asked.fresh (λ s. s ≡ setting.state) c) → IfOk r (λ setting. Ran asked.fresh ends setting script before before settled image)
+    of (Err other) told holds = search rules
+    of (Ok setting) told holds =
+        let stop = stop-of ends why (λ tells. let never : Ok setting ≡ Err ends = told tells in cc) in
+        subst (λ (s : Status). Ran asked.fresh s setting script before before settled image) stop.2
+        (ran setting stop.0 stop.1 holds (subst (λ (o : Option (List ℕ)). IfSome o (λ s. (plays : Plays (stopped_status stop.0) setting s before before) × (plays.told.done ≡ 0))) (sym left_is) (plays-nothing setting stop.0 before stop.1)))
+
+-- ---- without a fault
+
+pub completes : (r : Result Bool Stop) (setting : Setting) (script : List ℕ) (before after : Outside) → Plays (end_status r) setting script before after → Ends (end_status r) before after →
+    ¬ Rose before.source.faults after.source.faults → ¬ Rose before.sink.faults after.sink.faults → (end_status r ≡ status.DiskFault → ⊥) → Completes (end_status r) script
+completes (Ok refused) setting script before after plays ends read wrote disk =
+    let done : IsFinished (finished_status refused) = finishes refused in
+    record { within = λ _. inl done; past = λ long. absurd (omega (arith, long, (plays.finished done).within)) }
+  where
+    finishes : (refused : Bool) → IsFinished (finished_status refused)
+    finishes true = inr refl
+    finishes false = inl refl
+completes (Err ReadFault) setting script before after plays ends read wrote disk = absurd (read ends.reads.1)
+completes (Err WriteFault) setting script before after plays ends read wrote disk = absurd (wrote ends.writes.1)
+completes (Err DiskFault) setting script before after plays ends read wrote disk = absurd (disk refl)
+completes (Err Memory) setting script before after plays ends read wrote disk = record { within = λ _. inr refl; past = λ _. inr refl }
+completes (Err TooLong) setting script before after plays ends read wrote disk = record { within = λ few. absurd (omega (arith, few, (plays.too_long refl).longer)); past = λ _. inl refl }
+
+-- where the run was begun
+pub completes-opened : (asked : Options) (seen left : Option (List ℕ)) (store : Seen) → IfSome seen (λ file. IsOpened (Ok store) (opened asked.fresh (held file))) → (r : Result Bool Stop) (before after : Outside) (stood : Type 0) (image : List ℕ → Type 0) →
+    IfSome left (λ script. Ran false (end_status r) store.setting script before after stood image) → Ends (end_status r) before after → ¬ Rose before.source.faults after.source.faults → ¬ Rose before.sink.faults after.sink.faults →
+    (end_status r ≡ status.DiskFault → ⊥) → IfOpens (Some asked) seen left (λ fresh setting script. Completes (end_status r) script)
+completes-opened asked seen left store is r before after stood image ran ends read wrote disk =
+    opens-as asked seen left store.setting (λ fresh setting script. Completes (end_status r) script) is
+    (each seen (λ file. IsOpened (Ok store) (opened asked.fresh (held file))) (λ _. IfSome left (λ script. Completes (end_status r) script))
+    (λ file goes. each left (λ script. Ran false (end_status r) store.setting script before after stood image) (λ script. Completes (end_status r) script)
+    (λ script ran. completes r store.setting script before after ran.plays ends read wrote disk) ran) is)
+
+-- what a crash may leave now is what it might have left at one of the moments so far
+pub images-now : {D : Type 0} (image : D → List ℕ → Type 0) (moment : D → ℕ) (image_since : D → ℕ → List ℕ → Type 0) → ((disk : D) (t : ℕ) (c : List ℕ) → t ≤ moment disk → image disk c → image_since disk t c) →
+    (fresh : Bool) (seen : Option (List ℕ)) (old new : D) (settled : Type 0) →
+    IfSome seen (λ file. IfOk (opened fresh (held file)) (λ setting. settled → LeavesOnly moment image_since old new (Reopens fresh (λ s. s ≡ setting.state)))) →
+    IfSome seen (λ file. IfOk (opened fresh (held file)) (λ setting. settled → (c : List ℕ) → image new c → Reopens fresh (λ s. s ≡ setting.state) c))
+images-now image moment image_since counts_now fresh seen old new settled moments =
+    each seen (λ file. IfOk (opened fresh (held file)) (λ setting. settled → LeavesOnly moment image_since old new (Reopens fresh (λ s. s ≡ setting.state))))
+    (λ file. IfOk (opened fresh (held file)) (λ setting. settled → (c : List ℕ) → image new c → Reopens fresh (λ s. s ≡ setting.state) c))
+    (λ file now. of (opened fresh (held file)) now) moments
+  where
+    of : (r : Result Setting Status) → IfOk r (λ setting. settled → LeavesOnly moment image_since old new (Reopens fresh (λ s. s ≡ setting.state))) → IfOk r (λ setting. settled → (c : List ℕ) → image new c → Reopens fresh (λ s. s ≡ setting.state) c)
+    of (Ok setting) run = λ settles c now. (run settles).each c (counts_now new (moment old) c (run settles).later now)
+    of (Err status) run = search rules
