@@ -1,7 +1,8 @@
-//! The program: it hands its words, its standard input and its standard output to the run, and ends with
-//! the number of the run's status.
+//! The program: it hands its words, its standard input and output, and a disk over a real file to the run, and
+//! ends with the number of the run's status.
 #![tactic(auto)]
 
+use hac_disk::FileDisk;
 use hac_outside::{StdSink, StdSource};
 use hac_top::{Status, run};
 use std::process::ExitCode;
@@ -11,16 +12,17 @@ use std::{env, io};
 fn main(rt: HostRuntime) -> ExitCode {
     let mut input = StdSource::new(rt.stdin());
     let mut output = StdSink::new(rt.stdout());
+    let mut disk = FileDisk::new(&rt);
     let status = match program_words(&rt) {
-        Ok(words) => run(rt.alloc(), words.as_slice(), &mut input, &mut output),
-        // Words that are no text, or for which memory ran out, are none that the program takes: the run is
-        // told of one such.
-        Err(_) => run(
+        Ok(words) => run(
             rt.alloc(),
-            &[String::new(rt.alloc())],
+            words.as_slice(),
             &mut input,
             &mut output,
+            &mut disk,
         ),
+        // Words that are no text, or for which memory ran out, are answered as no words are: by the usage.
+        Err(_) => run(rt.alloc(), &[], &mut input, &mut output, &mut disk),
     };
     tell_fault(&rt, status);
     ExitCode::from(status.number())
@@ -41,7 +43,10 @@ fn tell_fault(rt: &impl Eprint, status: Status) {
         Status::Done | Status::SomeRefused | Status::Usage => Ok(()),
         Status::ReadFault => eprintln!(rt; "hac: read fault"),
         Status::WriteFault => eprintln!(rt; "hac: write fault"),
+        Status::DiskFault => eprintln!(rt; "hac: disk fault"),
+        Status::NotStore { at } => eprintln!(rt; "hac: not a store at byte {at}"),
         Status::Memory => eprintln!(rt; "hac: out of memory"),
         Status::TooLong => eprintln!(rt; "hac: script too long"),
+        Status::AlreadyStore => eprintln!(rt; "hac: already a store"),
     };
 }

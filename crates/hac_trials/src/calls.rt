@@ -1,6 +1,8 @@
 //! Calls that the program doesn't make yet, or not in each way, once each with ample memory.
-use hac_model::{Name, Term};
+use hac_core::{Machine, Settled};
+use hac_model::{Event, Memory, Name, Number, Query, Seq, Term};
 use hac_words::{has_term, words_of};
+use std::alloc::{AllocError, Global};
 use std::test::Fail;
 
 #[test]
@@ -50,4 +52,54 @@ fn finds_words_and_prefixes(rt: HostRuntime) -> Result<(), Fail> {
         assert_eq!(rt; has_term(b", ;", &prefix), false, "{letters:?}*");
     }
     Ok(())
+}
+
+#[test]
+fn tells_which_events_fit(rt: HostRuntime) -> Result<(), Fail> {
+    let alloc = rt.alloc();
+    let mut machine = Machine::new(alloc)?;
+    for (event, want) in [
+        (mkdir(alloc, b"a")?, true),
+        (setq(alloc, 1), false),
+        (setq(alloc, 0), true),
+        (Event::Step, false),
+        (rmdir(1), true),
+        (rmdir(1), false),
+    ] {
+        assert_eq!(rt; happens(&mut machine, event)?, want);
+    }
+    Ok(())
+}
+
+/// Whether an event fits. If so, it happens.
+fn happens(machine: &mut Machine, event: Event) -> Result<bool, Memory> {
+    if !machine.fits(&event)? {
+        return Ok(false);
+    }
+    machine.prepare(Settled::Change(event))?;
+    machine.commit();
+    Ok(true)
+}
+
+/// A directory comes into being in the root.
+fn mkdir(alloc: Global, name: &[u8]) -> Result<Event, AllocError> {
+    Ok(Event::Mkdir {
+        dir: Number::ROOT,
+        name: Name::new(Vec::from_slice(alloc, name)?),
+    })
+}
+
+/// The first entry gets a query, which asks for what a directory provides.
+fn setq(alloc: Global, on: u64) -> Event {
+    Event::Setq {
+        dir: Number::new(1),
+        query: Query::dir(Number::new(on)),
+        told: Seq::new(Vec::new(alloc)),
+    }
+}
+
+fn rmdir(dir: u64) -> Event {
+    Event::Rmdir {
+        dir: Number::new(dir),
+    }
 }

@@ -1,65 +1,11 @@
-//! Runs over devices in memory that give their bytes in pieces, fail at chosen calls, or hold more than a file can say.
+//! Runs over sources and sinks in memory that give their bytes in pieces, fail at chosen calls, or hold more than a file
+//! can say.
+use crate::runs::{NEW, ROOM, Trial, failing_disk, play, run_with, trial_of};
 use hac_model::{SCRIPT_LIMIT, TEXT_LIMIT};
-use hac_outside::{Failed, MemorySink, MemorySource, Sink, Source};
-use hac_top::{Status, run};
+use hac_outside::{Failed, MemorySink, MemorySource, Source};
+use hac_top::Status;
 use std::alloc::{AllocError, Global};
 use std::test::Fail;
-
-const ROOM: u64 = 1 << 20;
-
-/// A script from a source in pieces, to a sink of some room, each with the calls of it that fail.
-#[derive(Clone, Copy)]
-struct Trial<'a> {
-    script: &'a [u8],
-    pieces: &'a [u64],
-    failing_reads: &'a [u64],
-    room: u64,
-    failing_writes: &'a [u64],
-}
-
-/// A script from a source in one piece, to a sink that takes all.
-fn trial_of(script: &[u8]) -> Trial<'_> {
-    Trial {
-        script,
-        pieces: &[],
-        failing_reads: &[],
-        room: ROOM,
-        failing_writes: &[],
-    }
-}
-
-impl<'a> Trial<'a> {
-    fn pieces(self, pieces: &'a [u64]) -> Trial<'a> {
-        Trial { pieces, ..self }
-    }
-
-    fn failing_reads(self, failing_reads: &'a [u64]) -> Trial<'a> {
-        Trial {
-            failing_reads,
-            ..self
-        }
-    }
-
-    fn room(self, room: u64) -> Trial<'a> {
-        Trial { room, ..self }
-    }
-
-    fn failing_writes(self, failing_writes: &'a [u64]) -> Trial<'a> {
-        Trial {
-            failing_writes,
-            ..self
-        }
-    }
-}
-
-/// How the run ends, and what was written.
-fn play(alloc: Global, trial: &Trial<'_>) -> Result<(Status, Vec<u8>), AllocError> {
-    let mut input = MemorySource::new(alloc, trial.script, trial.pieces, trial.failing_reads)?;
-    let mut output = MemorySink::new(alloc, trial.room, ROOM, trial.failing_writes)?;
-    let status = run(alloc, &[], &mut input, &mut output);
-    let written = Vec::from_slice(alloc, output.written())?;
-    Ok((status, written))
-}
 
 #[test]
 fn pieces_and_faults_leave_a_prefix(rt: HostRuntime) -> Result<(), Fail> {
@@ -101,18 +47,23 @@ fn pieces_and_faults_leave_a_prefix(rt: HostRuntime) -> Result<(), Fail> {
 #[test]
 fn words_are_refused(rt: HostRuntime) -> Result<(), Fail> {
     let alloc = rt.alloc();
+    let usage: &[u8] = b"usage: hac [--new] STORE\n";
     let rows: [(u64, &[u64], Status, &[u8]); 4] = [
-        (ROOM, &[], Status::Usage, b"usage: hac\n"),
+        (ROOM, &[], Status::Usage, usage),
         (4, &[], Status::WriteFault, b"usag"),
         (0, &[], Status::WriteFault, b""),
         // The line is flushed.
-        (ROOM, &[2], Status::WriteFault, b"usage: hac\n"),
+        (ROOM, &[2], Status::WriteFault, usage),
     ];
     for (room, failing, status, text) in rows {
-        let words = [String::from_str(alloc, "--help")?];
         let mut input = MemorySource::new(alloc, b"fly\n", &[], &[])?;
         let mut output = MemorySink::new(alloc, room, ROOM, failing)?;
-        assert_eq!(rt; run(alloc, &words, &mut input, &mut output), status);
+        let mut disk = failing_disk(alloc, &[])?;
+        let words = ["--new", "S", "T"];
+        assert_eq!(rt;
+            run_with(alloc, &words, &mut input, &mut output, &mut disk)?,
+            status
+        );
         assert_eq!(rt; output.written(), text);
     }
     Ok(())
@@ -172,8 +123,9 @@ fn longest_script_is_played(rt: HostRuntime) -> Result<(), Fail> {
             ended: false,
         };
         let mut output = MemorySink::new(alloc, ROOM, ROOM, &[])?;
+        let mut disk = failing_disk(alloc, &[])?;
         assert_eq!(rt;
-            run(alloc, &[], &mut input, &mut output),
+            run_with(alloc, &NEW, &mut input, &mut output, &mut disk)?,
             status,
             "of {end} bytes"
         );

@@ -6,3 +6,7 @@
 mod calls;
 #[cfg(test)]
 mod devices;
+#[cfg(test)]
+mod runs;
+#[cfg(test)]
+mod stores;
