@@ -3,7 +3,7 @@
 # the one before. Then come so many times (none, unless a word says otherwise) the listing of the last
 # one, and so many times a move of the first under the last, which is refused.
 #
-#   demo/chain.sh 1 0 | ./hac > replies
+#   demo/chain.sh 1 0 | ./hac --new "$(mktemp -d)/chain.hac" > replies
 set -e
 awk -v listings="${1:-0}" -v moves="${2:-0}" 'BEGIN {
     print "mkdir /notes"

@@ -2,7 +2,7 @@
 # Prints a script that makes a collection: so many files of 100 words each (2,000, unless a word says
 # otherwise), 20 semantic directories, one index, and each of the directories listed twice.
 #
-#   demo/collection.sh 2000 | ./hac > replies
+#   demo/collection.sh 2000 | ./hac --new "$(mktemp -d)/collection.hac" > replies
 set -e
 awk -v files="${1:-2000}" '
 # The words are those of a vocabulary of 1,000, drawn by a linear congruence, so each call prints the same.

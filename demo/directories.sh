@@ -3,7 +3,7 @@
 # otherwise), the same share of them in each of 100 directories, 10 semantic directories, one index,
 # and each of the semantic directories listed 20 times.
 #
-#   demo/directories.sh 2000 | ./hac > replies
+#   demo/directories.sh 2000 | ./hac --new "$(mktemp -d)/directories.hac" > replies
 set -e
 awk -v files="${1:-2000}" '
 # The words are those of a vocabulary of 1,000. Each file has its own first word and its own step from

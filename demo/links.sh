@@ -4,7 +4,7 @@
 # which each names the one before, and 2,000 marks. Then come so many times (none, unless a word says
 # otherwise) the listing of the last of the chain, and so many times the counts.
 #
-#   demo/links.sh 20000 10 0 | ./hac > replies
+#   demo/links.sh 20000 10 0 | ./hac --new "$(mktemp -d)/links.hac" > replies
 set -e
 awk -v files="${1:-20000}" -v listings="${2:-0}" -v counts="${3:-0}" '
 # Every second file has the word "apple". The others are of a vocabulary of 1,000, as in directories.sh.
