@@ -1,8 +1,8 @@
 -- What a directory's new edges make of where numbers lead.
-use Rattle.std.proofs.Common.{◌≡◌, ℕ, zero, suc, ◌+◌, Bool, true, false, cond, List, subst, refl, ap, sym, ◌∙◌, arith, eq-eqb, inl, inr}
+use Rattle.std.proofs.Common.{◌≡◌, ℕ, zero, suc, ◌+◌, Bool, true, false, cond, List, subst, refl, sym, arith, eq-eqb, inl, inr}
 use Rattle.std.specs.Prelude.{◌⊎◌, ◌==◌}
 use Rattle.std.proofs.lemmas.Bool.{eqb-true}
-use Rattle.hac_model.specs.Depends.{Among, Leads, Reaches, NeverReturns}
+use Rattle.hac_model.specs.Depends.{Among, Leads, Reaches}
 use Rattle.dep_graph.specs.Graphs.{replaced}
 use Rattle.dep_graph.specs.Laws.{NewEdgesKeepOff, NewEdgesReturn}
 

@@ -1,25 +1,12 @@
 -- A search for a number that some number may reach.
-use Rattle.std.proofs.Common.{◌≡◌, ℕ, zero, suc, ◌+◌, Bool, true, false, cond, List, [], ◌∷◌, ◌++◌, subst, refl, ap, sym, ◌∙◌, arith, inl, inr}
+use Rattle.std.proofs.Common.{◌≡◌, ℕ, zero, suc, Bool, true, false, cond, List, [], ◌∷◌, ◌++◌, subst, refl, sym, ◌∙◌, inl, inr}
 use Rattle.std.specs.Prelude.{◌⊎◌, nat_eq, not}
 use Rattle.std.proofs.lemmas.Bool.{eqb-true}
 use Rattle.hac_model.specs.Depends.{Among, Leads, Reaches}
+use Rattle.hac_model.proofs.AmongLemmas.{among-append, among-left, among-right}
 use Rattle.dep_graph.specs.Passed.{KeepsAway}
 use Rattle.dep_graph.specs.Steps.{Marks}
 use Rattle.dep_graph.proofs.OwedLemmas.{marks-more, marks-same}
-
-pub among-left : (xs ys : List ℕ) (n : ℕ) → Among xs n → Among (xs ++ ys) n
-among-left [] ys n h = absurd h
-among-left (x ∷ xs) ys n (inl here) = inl here
-among-left (x ∷ xs) ys n (inr later) = inr (among-left xs ys n later)
-
-pub among-right : (xs ys : List ℕ) (n : ℕ) → Among ys n → Among (xs ++ ys) n
-among-right [] ys n h = h
-among-right (x ∷ xs) ys n h = inr (among-right xs ys n h)
-
-pub among-append : (xs ys : List ℕ) (n : ℕ) → Among (xs ++ ys) n → Among xs n ⊎ Among ys n
-among-append [] ys n h = inr h
-among-append (x ∷ xs) ys n (inl here) = inl (inl here)
-among-append (x ∷ xs) ys n (inr later) = elim (among-append xs ys n later) as (λ _. Among (x ∷ xs) n ⊎ Among ys n) [ inl left ↦ inl (inr left) | inr right ↦ inr right ]
 
 -- one step more at the end
 pub leads-more : (edges : ℕ → List ℕ) (k a b c : ℕ) → Leads edges k a b → Among (edges b) c → Leads edges (suc k) a c

@@ -1,15 +1,16 @@
 -- A search by steps, each number left behind all to which it leads.
-use Rattle.std.proofs.Common.{◌≡◌, ◌≢◌, ℕ, zero, suc, ◌+◌, ◌≤◌, Bool, true, false, cond, List, [], ◌∷◌, ◌++◌, length, subst, refl, ap, sym, ◌∙◌, arith, inl, inr}
-use Rattle.std.specs.Prelude.{◌⊎◌, nat_eq, reverse}
+use Rattle.std.proofs.Common.{◌≡◌, ◌≢◌, ℕ, zero, suc, ◌+◌, ◌≤◌, Bool, true, false, List, [], ◌∷◌, ◌++◌, length, subst, refl, ap, sym, ◌∙◌, arith, inl, inr}
+use Rattle.std.specs.Prelude.{◌⊎◌, reverse}
 use Rattle.std.proofs.lemmas.List.{reverse-append}
-use Rattle.hac_model.specs.Depends.{Among, Leads, Reaches, NeverReturns}
+use Rattle.hac_model.specs.Depends.{Among, Leads, NeverReturns}
+use Rattle.hac_model.proofs.AmongLemmas.{among-append, among-left, among-right}
 use Rattle.dep_graph.specs.Graphs.{edges_at}
 use Rattle.dep_graph.specs.Searches.{AnyReaches, AreSources, IsOrdered}
-use Rattle.dep_graph.specs.Steps.{Marks, Opens, PassesBy, Visits, entering}
+use Rattle.dep_graph.specs.Steps.{Marks, Visits, entering}
 use Rattle.dep_graph.specs.declared.sources.Step.{Step}
 use Rattle.dep_graph.specs.declared.sources.Step.TheVariants.{Enter, Leave}
 use Rattle.dep_graph.proofs.OwedLemmas.{marks-more, marks-same, owed, owed-less, owed-marked}
-use Rattle.dep_graph.proofs.ReachLemmas.{among-append, among-left, among-right, leads-more, marks-cases}
+use Rattle.dep_graph.proofs.ReachLemmas.{leads-more, marks-cases}
 
 -- the number has no edges, or is done
 abbrev pub Done : (ℕ → List ℕ) → List ℕ → ℕ → Type 0

@@ -1,5 +1,5 @@
 -- How a graph keeps its nodes.
-use Rattle.std.specs.Prelude.{ℕ, Bool, nat_eq, is_some, List, [], Option, Vec, map, IsTrue, IfSome}
+use Rattle.std.specs.Prelude.{ℕ, Bool, nat_eq, is_some, List, [], Vec, map, IsTrue, IfSome}
 use Rattle.std.specs.Option.{option_map_or}
 use Rattle.std.specs.declared.alloc.Global.{Global}
 use Rattle.indexmap.specs.IndexMap.{IndexMap, get}

@@ -1,4 +1,4 @@
--- What is looked for over edges, told where each number leads.
+-- What is looked for over edges, given where each number leads.
 use Rattle.std.specs.Prelude.{◌≡◌, ◌≢◌, ◌⊎◌, ℕ, List, [], ◌∷◌, Option, Some, None}
 use Rattle.hac_model.specs.Depends.{Among, Reaches}
 

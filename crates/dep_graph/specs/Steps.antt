@@ -17,9 +17,9 @@ abbrev pub PassesBy : (ℕ → List ℕ) → ℕ → (ℕ → Bool) → (ℕ →
 PassesBy edges number old new before after = ((edges number ≡ []) ⊎ (old number ≡ true)) × ((other : ℕ) → new other ≡ old other) × (after ≡ before)
 
 -- a number is to be left behind all to which it leads
-abbrev pub Opens : (ℕ → List ℕ) → ℕ → (ℕ → Bool) → (ℕ → Bool) → List Step → List Step → Type 0
-Opens edges number old new before after = (edges number ≢ []) × (old number ≡ false) × Marks number old new × (after ≡ entering (edges number) (Leave number ∷ before))
+abbrev pub Descends : (ℕ → List ℕ) → ℕ → (ℕ → Bool) → (ℕ → Bool) → List Step → List Step → Type 0
+Descends edges number old new before after = (edges number ≢ []) × (old number ≡ false) × Marks number old new × (after ≡ entering (edges number) (Leave number ∷ before))
 
 -- one of the two
 abbrev pub Visits : (ℕ → List ℕ) → ℕ → (ℕ → Bool) → (ℕ → Bool) → List Step → List Step → Type 0
-Visits edges number old new before after = PassesBy edges number old new before after ⊎ Opens edges number old new before after
+Visits edges number old new before after = PassesBy edges number old new before after ⊎ Descends edges number old new before after

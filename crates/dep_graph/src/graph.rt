@@ -10,7 +10,7 @@ use std::alloc::Global;
 use std::marker::Model;
 
 /// The semantic directories with the edges of each, seen as their list and as which of them is ready for new edges.
-/// The first edge of a directory leads to the one in which it stands, the others to those that its query names, in
+/// The first edge of a directory leads to its own directory, the others to those that its query names, in
 /// the query's order. A directory with no edges isn't there.
 #[derive(Drop)]
 pub struct Graph {
@@ -39,7 +39,7 @@ impl Model for Graph {
 pub struct NewEdges {
     /// The directory.
     pub dir: Number,
-    /// Its edges, that to the directory in which it stands first.
+    /// Its edges, that to its own directory first.
     pub edges: Vec<Number>,
 }
 
@@ -70,7 +70,7 @@ impl Graph {
         nodes::edges_at(&self.nodes, dir)
     }
 
-    /// Makes ready for new edges of a directory. All edges stay as they are, whatever the answer.
+    /// Prepares new edges of a directory. No edge changes, whatever the answer.
     pub fn prepare_edges(&mut self, dir: Number, edges: Vec<Number>) -> Result<NewEdges, Memory>
         ensures prepared { IfOk result (λ new. new ≡ record { dir = dir; edges = edges }) }
         ensures ok { OnOk result (self.new.ready ≡ Some dir) }
@@ -93,7 +93,7 @@ impl Graph {
         nodes::put(&mut self.nodes, edges.dir, edges.edges);
     }
 
-    /// Takes a directory out, with its edges. Those that lead to it stay.
+    /// Removes a directory, with its edges. Those that lead to it stay.
     pub fn drop_node(&mut self, dir: Number)
         ensures ready { self.new.ready ≡ None }
         ensures edges { (q : ℕ) → edges_of self.new q ≡ replaced (edges_of self.old) dir [] q }

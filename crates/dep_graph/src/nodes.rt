@@ -40,14 +40,14 @@ pub(crate) fn put(nodes: &mut Nodes, dir: Number, edges: Vec<Number>)
     }
 }
 
-/// Takes a node out.
+/// Removes a node.
 pub(crate) fn take_out(nodes: &mut Nodes, dir: Number)
     ensures { (q : ℕ) → kept_in nodes.new q ≡ if nat_eq q dir then [] else kept_in nodes.old q }
 {
     nodes.swap_remove(&dir.get());
 }
 
-/// Takes a node out that has no edges.
+/// Removes a node that has no edges.
 pub(crate) fn take_out_bare(nodes: &mut Nodes, dir: Number)
     ensures { (q : ℕ) → kept_in nodes.new q ≡ kept_in nodes.old q }
 {

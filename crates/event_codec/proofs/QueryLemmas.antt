@@ -8,7 +8,7 @@ use Rattle.hac_model.specs.Fields.{◌>>=◌, num, nothing, way_at, choice_at}
 use Rattle.hac_model.specs.Formula.{Formula}
 use Rattle.hac_model.specs.Formula as query
 use Rattle.hac_model.specs.Queries.{term_size, term_count, letter_count, not_count}
-use Rattle.hac_model.specs.QueryFields.{Token, word_field, token_part, token_ways, token_field, terms_fit, query_text, Room, room_after, is_barred, token_at, tokens_at, joined, put, built, first_built, query_at, query_fits, query_field}
+use Rattle.hac_model.specs.QueryFields.{Token, word_field, token_part, token_ways, token_field, terms_fit, query_bytes, Room, room_after, is_barred, token_at, tokens_at, joined, put, built, first_built, query_read, query_fits, query_field}
 use Rattle.hac_model.specs.QueryFields as token
 use Rattle.hac_model.specs.Words.{is_word}
 use Rattle.hac_model.specs.declared.terms.Term as asked
@@ -57,7 +57,7 @@ token_lawful = record { takes = token_takes; again = token_again }
 -- the bytes of queries, one behind the other
 abbrev texts : List (Formula ℕ) → List ℕ
 texts [] = []
-texts (q ∷ qs) = query_text q ++ texts qs
+texts (q ∷ qs) = query_bytes q ++ texts qs
 
 abbrev terms_of : List (Formula ℕ) → ℕ
 terms_of [] = 0
@@ -109,7 +109,7 @@ some_is x y e = cc
 
 -- the same, for a part that joins two
 two_take : (nots : ℕ) (wanted : List ℕ) (terms letters kind : ℕ) (join : Formula ℕ → Formula ℕ → Formula ℕ) (room : Room) (bytes after : List ℕ) (qs : List (Formula ℕ)) (behind : List ℕ)
-    → ((l r : Formula ℕ) → query_text (join l r) ≡ kind ∷ (query_text l ++ query_text r))
+    → ((l r : Formula ℕ) → query_bytes (join l r) ≡ kind ∷ (query_bytes l ++ query_bytes r))
     → ((l r : Formula ℕ) → not_count (join l r) ≡ max (not_count l) (not_count r))
     → ((l r : Formula ℕ) → term_count (join l r) ≡ term_count l + term_count r)
     → ((l r : Formula ℕ) → letter_count (join l r) ≡ letter_count l + letter_count r)
@@ -127,7 +127,7 @@ two_take nots wanted terms letters kind join room bytes after (l ∷ r ∷ qs) b
     let fit = and_parts (terms_fit l) (terms_fit r && all_fit qs) took.fits in
     let fit2 = and_parts (terms_fit r) (all_fit qs) fit.1 in
     record {
-      parts = text ∙ ap (λ (t : List ℕ). kind ∷ t) (took.parts ∙ ap (λ (t : List ℕ). t ++ behind) (sym (append_assoc (query_text l) (query_text r) (texts qs)))) ∙ ap (λ (t : List ℕ). (t ++ texts qs) ++ behind) (sym (t1 l r));
+      parts = text ∙ ap (λ (t : List ℕ). kind ∷ t) (took.parts ∙ ap (λ (t : List ℕ). t ++ behind) (sym (append_assoc (query_bytes l) (query_bytes r) (texts qs)))) ∙ ap (λ (t : List ℕ). (t ++ texts qs) ++ behind) (sym (t1 l r));
       rest = took.rest;
       wanted = (rw (t2 l r) (omega (arith, took.wanted.0, took.wanted.1.0)), took.wanted.1.1);
       terms = omega (arith, took.terms, t3 l r);
@@ -208,7 +208,7 @@ one_taken : (tokens : List Token) (qs : List (Formula ℕ)) (bytes behind : List
 one_taken tokens [] bytes behind x took e = absurd took.wanted
 one_taken tokens (q ∷ []) bytes behind x took e =
     subst (λ (y : Formula ℕ × List ℕ). Took query_field bytes y) (ok_is (q, behind) x e) (record {
-      parts = took.parts ∙ ap (λ (t : List ℕ). t ++ behind) (append-nil (query_text q));
+      parts = took.parts ∙ ap (λ (t : List ℕ). t ++ behind) (append-nil (query_bytes q));
       rest = took.rest;
       fits =
           let terms : leb (term_count q) 64 ≡ true = le-leb (term_count q) 64 (omega (arith, took.terms)) in
@@ -219,8 +219,8 @@ one_taken tokens (q ∷ []) bytes behind x took e =
     })
 one_taken tokens (q ∷ r ∷ qs) bytes behind x took e = absurd took.wanted.1
 
-query_takes : (bytes : List ℕ) (x : Formula ℕ × List ℕ) → AreBytes bytes → query_at bytes ≡ Ok x → Took query_field bytes x
-unfolding query_at
+query_takes : (bytes : List ℕ) (x : Formula ℕ × List ℕ) → AreBytes bytes → query_read bytes ≡ Ok x → Took query_field bytes x
+unfolding query_read
 query_takes bytes x fits e =
     let a = bind_ok (tokens_at (length bytes) (32 ∷ []) 64 1024 bytes) (λ tokens. first_built (built tokens.0 []) tokens.1) x e in
     one_taken a.0.0 (built a.0.0 []) bytes a.0.1 x (tokens_take (length bytes) (32 ∷ []) 64 1024 bytes a.0 fits a.1) a.2
@@ -244,13 +244,13 @@ built-flat (query.And left right) ts = rw (append_assoc (flat left) (flat right)
 built-flat (query.Or left right) ts = rw (append_assoc (flat left) (flat right) ts, built-flat left (flat right ++ ts), built-flat right ts) refl
 
 -- each part has a byte at least
-size_of-text : (q : Formula ℕ) → query.size_of q ≤ length (query_text q)
+size_of-text : (q : Formula ℕ) → query.size_of q ≤ length (query_bytes q)
 size_of-text (query.Term (Word letters)) = omega arith
 size_of-text (query.Term (Prefix letters)) = omega arith
 size_of-text (query.Dir dir) = omega arith
 size_of-text (query.Not q) = omega (arith, size_of-text q)
-size_of-text (query.And left right) = omega (arith, size_of-text left, size_of-text right, length-append (query_text left) (query_text right))
-size_of-text (query.Or left right) = omega (arith, size_of-text left, size_of-text right, length-append (query_text left) (query_text right))
+size_of-text (query.And left right) = omega (arith, size_of-text left, size_of-text right, length-append (query_bytes left) (query_bytes right))
+size_of-text (query.Or left right) = omega (arith, size_of-text left, size_of-text right, length-append (query_bytes left) (query_bytes right))
 
 -- parts in front of those that are read
 abbrev with_parts : List Token → Result (List Token × List ℕ) ℕ → Result (List Token × List ℕ) ℕ
@@ -288,19 +288,19 @@ dir_at-again terms dir rest fits =
 two_again : (left right : Formula ℕ) (t : Token) (kind k nots : ℕ) (wanted : List ℕ) (terms letters : ℕ) (rest : List ℕ)
     → ((some : ℕ) (more : List ℕ) → token_at some (kind ∷ more) ≡ Ok (t, more))
     → room_after nots wanted (term_count left + term_count right + terms) (letter_count left + letter_count right + letters) t ≡ Some (room_of (nots ∷ nots ∷ wanted) (term_count left + term_count right + terms) (letter_count left + letter_count right + letters))
-    → tokens_at (query.size_of left + (query.size_of right + k)) (nots ∷ nots ∷ wanted) (term_count left + (term_count right + terms)) (letter_count left + (letter_count right + letters)) (query_text left ++ (query_text right ++ rest)) ≡ with_parts (flat left) (tokens_at (query.size_of right + k) (nots ∷ wanted) (term_count right + terms) (letter_count right + letters) (query_text right ++ rest))
-    → tokens_at (query.size_of right + k) (nots ∷ wanted) (term_count right + terms) (letter_count right + letters) (query_text right ++ rest) ≡ with_parts (flat right) (tokens_at k wanted terms letters rest)
-    → tokens_at (suc (query.size_of left + query.size_of right) + k) (nots ∷ wanted) (term_count left + term_count right + terms) (letter_count left + letter_count right + letters) (kind ∷ ((query_text left ++ query_text right) ++ rest)) ≡ with_parts (t ∷ (flat left ++ flat right)) (tokens_at k wanted terms letters rest)
+    → tokens_at (query.size_of left + (query.size_of right + k)) (nots ∷ nots ∷ wanted) (term_count left + (term_count right + terms)) (letter_count left + (letter_count right + letters)) (query_bytes left ++ (query_bytes right ++ rest)) ≡ with_parts (flat left) (tokens_at (query.size_of right + k) (nots ∷ wanted) (term_count right + terms) (letter_count right + letters) (query_bytes right ++ rest))
+    → tokens_at (query.size_of right + k) (nots ∷ wanted) (term_count right + terms) (letter_count right + letters) (query_bytes right ++ rest) ≡ with_parts (flat right) (tokens_at k wanted terms letters rest)
+    → tokens_at (suc (query.size_of left + query.size_of right) + k) (nots ∷ wanted) (term_count left + term_count right + terms) (letter_count left + letter_count right + letters) (kind ∷ ((query_bytes left ++ query_bytes right) ++ rest)) ≡ with_parts (t ∷ (flat left ++ flat right)) (tokens_at k wanted terms letters rest)
 two_again left right t kind k nots wanted terms letters rest read room first second =
     let fuel : suc (query.size_of left + query.size_of right) + k ≡ suc (query.size_of left + (query.size_of right + k)) = omega arith in
     let some : term_count left + term_count right + terms ≡ term_count left + (term_count right + terms) = omega arith in
     let bytes : letter_count left + letter_count right + letters ≡ letter_count left + (letter_count right + letters) = omega arith in
     rw (
       fuel,
-      part_step (query.size_of left + (query.size_of right + k)) nots wanted (term_count left + term_count right + terms) (letter_count left + letter_count right + letters) (kind ∷ ((query_text left ++ query_text right) ++ rest)) ((query_text left ++ query_text right) ++ rest) t (room_of (nots ∷ nots ∷ wanted) (term_count left + term_count right + terms) (letter_count left + letter_count right + letters)) (read (term_count left + term_count right + terms) ((query_text left ++ query_text right) ++ rest)) room,
+      part_step (query.size_of left + (query.size_of right + k)) nots wanted (term_count left + term_count right + terms) (letter_count left + letter_count right + letters) (kind ∷ ((query_bytes left ++ query_bytes right) ++ rest)) ((query_bytes left ++ query_bytes right) ++ rest) t (room_of (nots ∷ nots ∷ wanted) (term_count left + term_count right + terms) (letter_count left + letter_count right + letters)) (read (term_count left + term_count right + terms) ((query_bytes left ++ query_bytes right) ++ rest)) room,
       some,
       bytes,
-      append_assoc (query_text left) (query_text right) rest,
+      append_assoc (query_bytes left) (query_bytes right) rest,
       first,
       second,
       with_both (flat left) (flat right) (tokens_at k wanted terms letters rest),
@@ -308,7 +308,7 @@ two_again left right t kind k nots wanted terms letters rest read room first sec
     (with_part t (flat left ++ flat right) (tokens_at k wanted terms letters rest))
 
 tokens_again : (q : Formula ℕ) (k nots : ℕ) (wanted : List ℕ) (terms letters : ℕ) (rest : List ℕ) → not_count q ≤ nots → terms_fit q ≡ true
-    → tokens_at (query.size_of q + k) (nots ∷ wanted) (term_count q + terms) (letter_count q + letters) (query_text q ++ rest) ≡ with_parts (flat q) (tokens_at k wanted terms letters rest)
+    → tokens_at (query.size_of q + k) (nots ∷ wanted) (term_count q + terms) (letter_count q + letters) (query_bytes q ++ rest) ≡ with_parts (flat q) (tokens_at k wanted terms letters rest)
 tokens_again (query.Term term) k nots wanted terms letters rest le fits =
     let fuel : 1 + k ≡ suc k = omega arith in
     let one : leb 1 (1 + terms) ≡ true = le-leb _ _ (omega arith) in
@@ -330,20 +330,20 @@ tokens_again (query.Not q) k nots wanted terms letters rest le fits =
     let fuel : suc (query.size_of q) + k ≡ suc (query.size_of q + k) = omega arith in
     let one : leb 1 nots ≡ true = le-leb _ _ (omega arith) in
     let room : room_after nots wanted (term_count q + terms) (letter_count q + letters) token.Not ≡ Some (room_of ((nots - 1) ∷ wanted) (term_count q + terms) (letter_count q + letters)) = rw one refl in
-    let read : token_at (term_count q + terms) (4 ∷ (query_text q ++ rest)) ≡ Ok (token.Not, query_text q ++ rest) = token_again token.Not (query_text q ++ rest) refl in
+    let read : token_at (term_count q + terms) (4 ∷ (query_bytes q ++ rest)) ≡ Ok (token.Not, query_bytes q ++ rest) = token_again token.Not (query_bytes q ++ rest) refl in
     rw (
       fuel,
-      part_step (query.size_of q + k) nots wanted (term_count q + terms) (letter_count q + letters) (4 ∷ (query_text q ++ rest)) (query_text q ++ rest) token.Not (room_of ((nots - 1) ∷ wanted) (term_count q + terms) (letter_count q + letters)) read room,
+      part_step (query.size_of q + k) nots wanted (term_count q + terms) (letter_count q + letters) (4 ∷ (query_bytes q ++ rest)) (query_bytes q ++ rest) token.Not (room_of ((nots - 1) ∷ wanted) (term_count q + terms) (letter_count q + letters)) read room,
       tokens_again q k (nots - 1) wanted terms letters rest (omega arith) fits,
     )
     (with_part token.Not (flat q) (tokens_at k wanted terms letters rest))
 tokens_again (query.And left right) k nots wanted terms letters rest le fits =
     two_again left right token.And 5 k nots wanted terms letters rest (λ t r. token_again token.And r refl) refl
-    (tokens_again left (query.size_of right + k) nots (nots ∷ wanted) (term_count right + terms) (letter_count right + letters) (query_text right ++ rest) (omega arith) (and_parts _ _ fits).0)
+    (tokens_again left (query.size_of right + k) nots (nots ∷ wanted) (term_count right + terms) (letter_count right + letters) (query_bytes right ++ rest) (omega arith) (and_parts _ _ fits).0)
     (tokens_again right k nots wanted terms letters rest (omega arith) (and_parts _ _ fits).1)
 tokens_again (query.Or left right) k nots wanted terms letters rest le fits =
     two_again left right token.Or 6 k nots wanted terms letters rest (λ t r. token_again token.Or r refl) refl
-    (tokens_again left (query.size_of right + k) nots (nots ∷ wanted) (term_count right + terms) (letter_count right + letters) (query_text right ++ rest) (omega arith) (and_parts _ _ fits).0)
+    (tokens_again left (query.size_of right + k) nots (nots ∷ wanted) (term_count right + terms) (letter_count right + letters) (query_bytes right ++ rest) (omega arith) (and_parts _ _ fits).0)
     (tokens_again right k nots wanted terms letters rest (omega arith) (and_parts _ _ fits).1)
 
 tokens_done : (k terms letters : ℕ) (bytes : List ℕ) → tokens_at k [] terms letters bytes ≡ Ok ([], bytes)
@@ -351,8 +351,8 @@ unfolding tokens_at
 tokens_done zero terms letters bytes = refl
 tokens_done (suc k) terms letters bytes = refl
 
-query_again : (q : Formula ℕ) (rest : List ℕ) → query_fits q ≡ true → query_at (query_text q ++ rest) ≡ Ok (q, rest)
-unfolding query_at built
+query_again : (q : Formula ℕ) (rest : List ℕ) → query_fits q ≡ true → query_read (query_bytes q ++ rest) ≡ Ok (q, rest)
+unfolding query_read built
 query_again q rest fits =
     let a = and_parts _ _ fits in
     let b = and_parts _ _ a.0 in
@@ -361,16 +361,16 @@ query_again q rest fits =
     let letters : letter_count q ≤ 1024 = leb-true _ _ d.1 in
     let nots : not_count q ≤ 32 = leb-true _ _ b.1 in
     let size = size_of-text q in
-    let n = length (query_text q ++ rest) - query.size_of q in
-    let fuel : length (query_text q ++ rest) ≡ query.size_of q + n = omega (arith, length-append (query_text q) rest) in
+    let n = length (query_bytes q ++ rest) - query.size_of q in
+    let fuel : length (query_bytes q ++ rest) ≡ query.size_of q + n = omega (arith, length-append (query_bytes q) rest) in
     let all : 64 ≡ term_count q + (64 - term_count q) = omega arith in
     let bytes : 1024 ≡ letter_count q + (1024 - letter_count q) = omega arith in
-    let read : tokens_at (query.size_of q + n) (32 ∷ []) (term_count q + (64 - term_count q)) (letter_count q + (1024 - letter_count q)) (query_text q ++ rest) ≡ Ok (flat q ++ [], rest) =
+    let read : tokens_at (query.size_of q + n) (32 ∷ []) (term_count q + (64 - term_count q)) (letter_count q + (1024 - letter_count q)) (query_bytes q ++ rest) ≡ Ok (flat q ++ [], rest) =
     tokens_again q n 32 [] (64 - term_count q) (1024 - letter_count q) rest nots a.1 ∙ ap (λ r. with_parts (flat q) r) (tokens_done n (64 - term_count q) (1024 - letter_count q) rest) in
-    let read2 : tokens_at (length (query_text q ++ rest)) (32 ∷ []) 64 1024 (query_text q ++ rest) ≡ Ok (flat q ++ [], rest) =
-    ap (λ (k : ℕ). tokens_at k (32 ∷ []) 64 1024 (query_text q ++ rest)) fuel
-    ∙ ap (λ (k : ℕ). tokens_at (query.size_of q + n) (32 ∷ []) k 1024 (query_text q ++ rest)) all
-    ∙ ap (λ (k : ℕ). tokens_at (query.size_of q + n) (32 ∷ []) (term_count q + (64 - term_count q)) k (query_text q ++ rest)) bytes
+    let read2 : tokens_at (length (query_bytes q ++ rest)) (32 ∷ []) 64 1024 (query_bytes q ++ rest) ≡ Ok (flat q ++ [], rest) =
+    ap (λ (k : ℕ). tokens_at k (32 ∷ []) 64 1024 (query_bytes q ++ rest)) fuel
+    ∙ ap (λ (k : ℕ). tokens_at (query.size_of q + n) (32 ∷ []) k 1024 (query_bytes q ++ rest)) all
+    ∙ ap (λ (k : ℕ). tokens_at (query.size_of q + n) (32 ∷ []) (term_count q + (64 - term_count q)) k (query_bytes q ++ rest)) bytes
     ∙ read in
     rw (read2, built-flat q []) refl
 

@@ -16,9 +16,9 @@ Fails fault.Memory read = ⊤
 Fails (fault.Bad left) read = read ≡ Err left
 
 -- the call gave what is read, a value and the bytes behind it, or the fault
-abbrev pub Gives : {A : Type 0} → Result A Fault → List ℕ → Result (A × List ℕ) ℕ → Type 0
-Gives (Ok value) rest read = read ≡ Ok (value, rest)
-Gives (Err fault) rest read = Fails fault read
+abbrev pub GivesField : {A : Type 0} → Result A Fault → List ℕ → Result (A × List ℕ) ℕ → Type 0
+GivesField (Ok value) rest read = read ≡ Ok (value, rest)
+GivesField (Err fault) rest read = Fails fault read
 
 -- the same, where a value of the call is seen by a view
 abbrev pub GivesSeen : {A B : Type 0} → (A → B) → Result A Fault → List ℕ → Result (B × List ℕ) ℕ → Type 0
@@ -26,14 +26,14 @@ GivesSeen view (Ok value) rest read = read ≡ Ok (view value, rest)
 GivesSeen view (Err fault) rest read = Fails fault read
 
 -- the fault is for what the payload says
-abbrev pub IsFor : CodecFault → Result Event ℕ → Type 0
-IsFor codec.Memory wanted = ⊤
-IsFor (codec.Bad at) wanted = wanted ≡ Err at
+abbrev pub IsPayloadFault : CodecFault → Result Event ℕ → Type 0
+IsPayloadFault codec.Memory wanted = ⊤
+IsPayloadFault (codec.Bad at) wanted = wanted ≡ Err at
 
 -- the call gave what the payload says, the event or the place of the fault
-abbrev pub Reads : Result Payload CodecFault → Result Event ℕ → Type 0
-Reads (Ok (payload.Event event)) wanted = wanted ≡ Ok event
-Reads (Err fault) wanted = IsFor fault wanted
+abbrev pub ReadsPayload : Result Payload CodecFault → Result Event ℕ → Type 0
+ReadsPayload (Ok (payload.Event event)) wanted = wanted ≡ Ok event
+ReadsPayload (Err fault) wanted = IsPayloadFault fault wanted
 
 -- what the payload holds has a spelling
 abbrev pub IsSpellable : Payload → Type 0

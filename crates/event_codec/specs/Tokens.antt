@@ -23,8 +23,8 @@ abbrev pub room_of : Room → query.Room
 room_of room = record { wanted = reverse room.wanted.items; terms = room.terms; letters = room.letters }
 
 -- a part was taken, and the room behind it is left; or there is no room for it
-abbrev pub Takes : ℕ → query.Token → Room → Room → Bool → Type 0
-Takes nots token old new taken =
+abbrev pub TakesPart : ℕ → query.Token → Room → Room → Bool → Type 0
+TakesPart nots token old new taken =
     room_after nots (reverse old.wanted.items) old.terms old.letters token ≡ if taken then Some (room_of new) else None
 
 -- the first two queries of a pile are taken, where it has two; else it is cleared

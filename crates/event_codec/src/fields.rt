@@ -7,7 +7,7 @@ ghost use Rattle.hac_model.specs.Fields.{num};
 ghost use Rattle.hac_model.specs.Payloads.{name_field, space_field, target_field, text_field, is_path_word};
 ghost use Rattle.hac_model.specs.QueryFields.{word_field};
 ghost use Rattle.hac_model.specs.SpaceNames.{is_space_byte, is_space_name};
-ghost use Rattle.event_codec.specs.Reading.{Gives, run_in};
+ghost use Rattle.event_codec.specs.Reading.{GivesField, run_in};
 
 use crate::bytes::Bytes;
 use crate::faults::Fault;
@@ -26,7 +26,7 @@ pub(crate) const WORD_LIMIT: usize = 1_024;
 /// The number at the front.
 #[tactic(auto, unfolding(hac_model::specs::Fields::number_at))]
 pub(crate) fn num(bytes: &mut Bytes) -> Result<Number, Fault>
-    ensures { Gives result bytes.new (num.read bytes.old) }
+    ensures { GivesField result bytes.new (num.read bytes.old) }
 {
     if bytes.left() < 4 {
         return Err(bytes.bad());
@@ -39,7 +39,7 @@ pub(crate) fn num(bytes: &mut Bytes) -> Result<Number, Fault>
 /// The name of an entry.
 #[tactic(auto, unfolding(hac_model::specs::Fields::run_at))]
 pub(crate) fn name(alloc: Global, bytes: &mut Bytes) -> Result<Name, Fault>
-    ensures { Gives result bytes.new (name_field.read bytes.old) }
+    ensures { GivesField result bytes.new (name_field.read bytes.old) }
 {
     match short_run(bytes.rest(), NAME_LIMIT) {
         Some(run) if is_name(run) => {
@@ -93,7 +93,7 @@ fn run(bytes: &[u8], count: usize, most: usize) -> Option<&[u8]>
 /// The name of a space.
 #[tactic(auto, unfolding(hac_model::specs::Fields::run_at))]
 pub(crate) fn space(alloc: Global, bytes: &mut Bytes) -> Result<Name, Fault>
-    ensures { Gives result bytes.new (space_field.read bytes.old) }
+    ensures { GivesField result bytes.new (space_field.read bytes.old) }
 {
     match short_run(bytes.rest(), SPACE_LIMIT) {
         Some(run) if is_space_name(run) => {
@@ -128,7 +128,7 @@ fn is_space_byte(b: u8) -> bool
 /// The bytes of a file.
 #[tactic(auto, unfolding(hac_model::specs::Fields::run_at))]
 pub(crate) fn text(alloc: Global, bytes: &mut Bytes) -> Result<Text, Fault>
-    ensures { Gives result bytes.new (text_field.read bytes.old) }
+    ensures { GivesField result bytes.new (text_field.read bytes.old) }
 {
     match long_run(bytes.rest(), TEXT_LIMIT as usize) {
         Some(run) => {
@@ -142,7 +142,7 @@ pub(crate) fn text(alloc: Global, bytes: &mut Bytes) -> Result<Text, Fault>
 /// Where a symbolic link leads.
 #[tactic(auto, unfolding(hac_model::specs::Fields::run_at))]
 pub(crate) fn target(alloc: Global, bytes: &mut Bytes) -> Result<Text, Fault>
-    ensures { Gives result bytes.new (target_field.read bytes.old) }
+    ensures { GivesField result bytes.new (target_field.read bytes.old) }
 {
     match middle_run(bytes.rest(), WORD_LIMIT) {
         Some(run) if is_path_word(run) => {
@@ -162,7 +162,7 @@ fn is_path_word(bytes: &[u8]) -> bool
 /// The letters of a term.
 #[tactic(auto, unfolding(hac_model::specs::Fields::run_at))]
 pub(crate) fn word(alloc: Global, bytes: &mut Bytes) -> Result<Name, Fault>
-    ensures { Gives result bytes.new (word_field.read bytes.old) }
+    ensures { GivesField result bytes.new (word_field.read bytes.old) }
 {
     match middle_run(bytes.rest(), WORD_LIMIT) {
         Some(run) if is_word(run) => {

@@ -16,6 +16,3 @@ mod writing;
 pub use faults::CodecFault;
 pub use reading::{Payload, read_payload};
 pub use writing::write_event;
-
-#[cfg(test)]
-mod tests;

@@ -2,8 +2,9 @@
 ghost use Rattle.std.specs.Prelude.{◌≡◌, ◌<◌, ◌^◌, ℕ, List, Option, None, nat_lt, ◌++◌, IsTrue, OnOk, length};
 ghost use Rattle.std.specs.Option.{option_copied};
 ghost use Rattle.hac_model.specs.Fields.{Field, checked, items_at, items_fit, items_text, num};
-ghost use Rattle.hac_model.specs.Payloads.{docs_field, is_before, name_field, nums, rises, told_field};
-ghost use Rattle.event_codec.specs.Reading.{Gives};
+ghost use Rattle.hac_model.specs.Listing.{is_before};
+ghost use Rattle.hac_model.specs.Payloads.{docs_field, name_field, nums, rises, told_field};
+ghost use Rattle.event_codec.specs.Reading.{GivesField};
 
 use crate::bytes::Bytes;
 use crate::faults::Fault;
@@ -21,7 +22,7 @@ pub(crate) trait Item: Sized + Drop {
 
     /// The item at the front, which stands behind another one.
     fn read(alloc: Global, bytes: &mut Bytes, last: Option<&Self>) -> Result<Self, Fault>
-        ensures { Gives result bytes.new ((item (option_copied last.entry)).read bytes.old) };
+        ensures { GivesField result bytes.new ((item (option_copied last.entry)).read bytes.old) };
 
     /// Adds the bytes of the item, wherever in a list it stands.
     fn put(&self, out: &mut Vec<u8>) -> Result<(), Memory>
@@ -54,7 +55,8 @@ impl Item for Number {
 /// So do the names of documents.
 impl Item for Name {
     ghost use Rattle.hac_model.specs.Fields.{checked};
-    ghost use Rattle.hac_model.specs.Payloads.{is_before, name_field, rises};
+    ghost use Rattle.hac_model.specs.Listing.{is_before};
+    ghost use Rattle.hac_model.specs.Payloads.{name_field, rises};
 
     ghost item = { λ last. checked name_field (rises is_before last) };
 
@@ -94,7 +96,7 @@ impl Item for Seq<Number> {
 
 /// The names of the documents of a space.
 pub(crate) fn docs(alloc: Global, bytes: &mut Bytes) -> Result<Seq<Name>, Fault>
-    ensures { Gives result bytes.new (docs_field.read bytes.old) }
+    ensures { GivesField result bytes.new (docs_field.read bytes.old) }
 {
     let bad = bytes.bad();
     let count = num(bytes)?;
@@ -106,7 +108,7 @@ pub(crate) fn docs(alloc: Global, bytes: &mut Bytes) -> Result<Seq<Name>, Fault>
 
 /// What spaces answered.
 pub(crate) fn told(alloc: Global, bytes: &mut Bytes) -> Result<Seq<Seq<Number>>, Fault>
-    ensures { Gives result bytes.new (told_field.read bytes.old) }
+    ensures { GivesField result bytes.new (told_field.read bytes.old) }
 {
     let count = num(bytes)?;
     items(alloc, bytes, count.get())
@@ -114,7 +116,7 @@ pub(crate) fn told(alloc: Global, bytes: &mut Bytes) -> Result<Seq<Seq<Number>>,
 
 /// So many items. Each takes a byte at least, so that no number makes this long where the bytes are few.
 fn items<T: Item>(alloc: Global, bytes: &mut Bytes, count: u64) -> Result<Seq<T>, Fault>
-    ensures { Gives result bytes.new (items_at T.item count None bytes.old) }
+    ensures { GivesField result bytes.new (items_at T.item count None bytes.old) }
 {
     let mut items = Vec::new(alloc);
     'items: for _ in 0..count {

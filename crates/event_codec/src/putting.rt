@@ -3,7 +3,7 @@ ghost use Rattle.std.specs.Prelude.{◌≡◌, ◌++◌, ◌∷◌, ◌<◌, ◌
 ghost use Rattle.std.specs.Int.{w8, w16, w32, to_le_bytes};
 ghost use Rattle.hac_model.specs.Fields.{num};
 ghost use Rattle.hac_model.specs.Payloads.{mark_field, name_field};
-ghost use Rattle.hac_model.specs.QueryFields.{query_text, terms_fit, token_field};
+ghost use Rattle.hac_model.specs.QueryFields.{query_bytes, terms_fit, token_field};
 ghost use Rattle.hac_model.specs.QueryFields as token;
 
 use byteorder::{ByteOrder, LittleEndian};
@@ -93,7 +93,7 @@ pub(crate) fn put_mark(out: &mut Vec<u8>, kind: Kind) -> Result<(), Memory>
 #[tactic(auto, using(crate::proofs::PutLemmas::puts))]
 pub(crate) fn put_query(out: &mut Vec<u8>, query: &Query<Number>) -> Result<(), Memory>
     requires { IsTrue (terms_fit query.now) }
-    ensures { OnOk result (out.new.items ≡ out.old.items ++ query_text query.now) }
+    ensures { OnOk result (out.new.items ≡ out.old.items ++ query_bytes query.now) }
 {
     match &query.node {
         Node::Term(term) => put_term(out, term),

@@ -3,7 +3,7 @@ ghost use Rattle.std.specs.Prelude.{◌≡◌, ◌∷◌, [], IfOk, OnOk, length
 ghost use Rattle.hac_model.specs.Fields.{failing_at};
 ghost use Rattle.hac_model.specs.Queries.{term_size};
 ghost use Rattle.hac_model.specs.QueryFields.{built, put, query_field, token_at, tokens_at, word_field};
-ghost use Rattle.event_codec.specs.Reading.{Gives, GivesSeen};
+ghost use Rattle.event_codec.specs.Reading.{GivesField, GivesSeen};
 ghost use Rattle.event_codec.specs.Tokens.{TakesTwo, token_of, tokens_of};
 
 use crate::bytes::Bytes;
@@ -29,9 +29,9 @@ pub(crate) enum Token {
 }
 
 /// A query.
-#[tactic(auto, unfolding(hac_model::specs::QueryFields::query_at))]
+#[tactic(auto, unfolding(hac_model::specs::QueryFields::query_read))]
 pub(crate) fn query(alloc: Global, bytes: &mut Bytes) -> Result<Query<Number>, Fault>
-    ensures { Gives result bytes.new (query_field.read bytes.old) }
+    ensures { GivesField result bytes.new (query_field.read bytes.old) }
 {
     let tokens = tokens(alloc, bytes)?;
     let mut pile = build(alloc, tokens)?;
@@ -87,7 +87,7 @@ fn next_token(alloc: Global, bytes: &mut Bytes, terms: u64) -> Result<Token, Fau
 
 /// The letters of a term, which fail where so many bytes are left.
 fn whole_word(alloc: Global, bytes: &mut Bytes, left: usize) -> Result<Name, Fault>
-    ensures { Gives result bytes.new (failing_at left (word_field.read bytes.old)) }
+    ensures { GivesField result bytes.new (failing_at left (word_field.read bytes.old)) }
 {
     match word(alloc, bytes) {
         Ok(letters) => Ok(letters),

@@ -2,7 +2,7 @@
 ghost use Rattle.std.specs.Prelude.{◌≡◌, ◌-◌, IfOk};
 ghost use Rattle.hac_model.specs.Fields.{way_at};
 ghost use Rattle.hac_model.specs.Payloads.{event_field, event_ways, mark_field, mount_ways, payload_field, query_ways, spelled};
-ghost use Rattle.event_codec.specs.Reading.{Gives, IsSpellable, Reads};
+ghost use Rattle.event_codec.specs.Reading.{GivesField, IsSpellable, ReadsPayload};
 ghost use Rattle.event_codec.specs.declared.faults.CodecFault.TheVariants as codec;
 
 use crate::bytes::Bytes;
@@ -24,7 +24,7 @@ pub enum Payload {
 /// once states are written, and nowhere else. So far none are, and a payload of that kind is bad at 0.
 #[tactic(auto, unfolding(hac_model::specs::Payloads::spelled))]
 pub fn read_payload(alloc: Global, bytes: &[u8], first: bool) -> Result<Payload, CodecFault>
-    ensures event { Reads result (spelled bytes.now) }
+    ensures event { ReadsPayload result (spelled bytes.now) }
     // What is read can be written.
     ensures fits { IfOk result IsSpellable }
 {
@@ -51,7 +51,7 @@ fn bad(size: usize, left: usize) -> CodecFault
 /// The event of a payload, behind the byte that says so.
 #[tactic(auto, unfolding(hac_model::specs::Fields::choice_at, hac_model::specs::Fields::way_at))]
 fn payload_at(alloc: Global, bytes: &mut Bytes) -> Result<Event, Fault>
-    ensures { Gives result bytes.new (payload_field.read bytes.old) }
+    ensures { GivesField result bytes.new (payload_field.read bytes.old) }
 {
     let left = bytes.left();
     match bytes.byte() {
@@ -63,7 +63,7 @@ fn payload_at(alloc: Global, bytes: &mut Bytes) -> Result<Event, Fault>
 /// The event at the front.
 #[tactic(auto, unfolding(hac_model::specs::Fields::choice_at))]
 fn event_at(alloc: Global, bytes: &mut Bytes) -> Result<Event, Fault>
-    ensures { Gives result bytes.new (event_field.read bytes.old) }
+    ensures { GivesField result bytes.new (event_field.read bytes.old) }
 {
     match bytes.byte() {
         Some(kind) => event_of(alloc, kind, bytes),
@@ -74,7 +74,7 @@ fn event_at(alloc: Global, bytes: &mut Bytes) -> Result<Event, Fault>
 /// The event of a kind, behind its kind byte.
 #[tactic(auto, unfolding(hac_model::specs::Fields::way_at))]
 fn event_of(alloc: Global, kind: u8, bytes: &mut Bytes) -> Result<Event, Fault>
-    ensures { Gives result bytes.new (way_at event_ways kind bytes.old) }
+    ensures { GivesField result bytes.new (way_at event_ways kind bytes.old) }
 {
     match kind {
         1 => Ok(Event::Mkdir {
@@ -109,7 +109,7 @@ fn event_of(alloc: Global, kind: u8, bytes: &mut Bytes) -> Result<Event, Fault>
 /// The same, of what happens to semantic directories and behind those in order.
 #[tactic(auto, unfolding(hac_model::specs::Fields::way_at))]
 fn query_event(alloc: Global, kind: u8, bytes: &mut Bytes) -> Result<Event, Fault>
-    ensures { Gives result bytes.new (way_at query_ways kind bytes.old) }
+    ensures { GivesField result bytes.new (way_at query_ways kind bytes.old) }
 {
     match kind {
         8 => Ok(Event::Smkdir {
@@ -136,7 +136,7 @@ fn query_event(alloc: Global, kind: u8, bytes: &mut Bytes) -> Result<Event, Faul
 /// The same, of what happens to mounts, and an index step.
 #[tactic(auto, unfolding(hac_model::specs::Fields::way_at))]
 fn mount_event(alloc: Global, kind: u8, bytes: &mut Bytes) -> Result<Event, Fault>
-    ensures { Gives result bytes.new (way_at mount_ways kind bytes.old) }
+    ensures { GivesField result bytes.new (way_at mount_ways kind bytes.old) }
 {
     match kind {
         12 => Ok(Event::Smount {
@@ -162,7 +162,7 @@ fn mount_event(alloc: Global, kind: u8, bytes: &mut Bytes) -> Result<Event, Faul
 /// What an item is marked as.
 #[tactic(auto, unfolding(hac_model::specs::Fields::choice_at, hac_model::specs::Fields::way_at))]
 fn mark(bytes: &mut Bytes) -> Result<Kind, Fault>
-    ensures { Gives result bytes.new (mark_field.read bytes.old) }
+    ensures { GivesField result bytes.new (mark_field.read bytes.old) }
 {
     let left = bytes.left();
     match bytes.byte() {

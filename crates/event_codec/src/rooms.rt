@@ -1,7 +1,7 @@
 //! What may still come of a query.
 ghost use Rattle.std.specs.Prelude.{◌≡◌, ◌∷◌, [], ◌&&◌, ◌-◌, nat_le, if◌then◌else◌, IfOk, length};
 ghost use Rattle.hac_model.specs.Queries.{term_size};
-ghost use Rattle.event_codec.specs.Tokens.{Takes, room_of, token_of};
+ghost use Rattle.event_codec.specs.Tokens.{TakesPart, room_of, token_of};
 
 use crate::queries::Token;
 use hac_model::{Memory, TERMS_LIMIT, Term};
@@ -39,7 +39,7 @@ impl Room {
     /// Whether a part may come that may have so many `NOT`s. It makes room for what it joins.
     #[tactic(auto, using(crate::proofs::PileLemmas::piles))]
     pub(crate) fn take(&mut self, nots: u64, token: &Token) -> Result<bool, Memory>
-        ensures { IfOk result (λ taken. Takes nots (token_of token.now) self.old self.new taken) }
+        ensures { IfOk result (λ taken. TakesPart nots (token_of token.now) self.old self.new taken) }
     {
         match token {
             Token::Term(term) => Ok(self.take_term(letters_of(term))),

@@ -1,4 +1,4 @@
--- The entries of the numbers below a number, told the entry of each.
+-- The entries of the numbers below a number, given the entry of each.
 use Rattle.std.proofs.Common.{◌≡◌, ℕ, zero, suc, ◌+◌, ◌<◌, ◌≤◌, Bool, true, false, cond, List, [], ◌∷◌, ◌++◌, refl, ap, sym, ◌∙◌, arith, eq-eqb, inl, inr, add-one}
 use Rattle.std.specs.Prelude.{◌==◌, not, nat_eq, filter, Option, Some, None}
 use Rattle.std.specs.Option.{option_map, option_to_list}

@@ -6,10 +6,12 @@ use Rattle.std.specs.List.{AllByRecursion}
 use Rattle.std.specs.Str.{bytes_eq}
 use Rattle.std.proofs.lemmas.Bool.{eqb-true, ne_eqb}
 use Rattle.std.specs.Cmp.Lexicographic.{nat_list_eq_equiv}
+use Rattle.hac_model.specs.Depends.{Among}
 use Rattle.hac_model.specs.Listing.{is_before}
+use Rattle.hac_model.proofs.AmongLemmas.{among-append, among-left, among-right}
 use Rattle.hac_model.proofs.ChangeLemmas.{all-filter, all-weaker}
 use Rattle.file_tree.specs.Search.{rank_in}
-use Rattle.file_tree.specs.Shape.{Among, Rises}
+use Rattle.file_tree.specs.Shape.{NamesRise}
 use Rattle.file_tree.proofs.SearchLemmas.{before-differs, before-other, before-trans}
 
 -- what each of them keeps, all keep
@@ -28,7 +30,7 @@ none-among [] none = refl
 none-among (n ∷ ns) none = absurd (none n (inl refl))
 
 -- names that are told alike are in the same order
-pub rises-same : (names other : ℕ → List ℕ) (ns : List ℕ) → ((n : ℕ) → Among ns n → other n ≡ names n) → Rises names ns → Rises other ns
+pub rises-same : (names other : ℕ → List ℕ) (ns : List ℕ) → ((n : ℕ) → Among ns n → other n ≡ names n) → NamesRise names ns → NamesRise other ns
 rises-same names other [] same rises = tt
 rises-same names other (n ∷ ns) same rises = (
   all-among (λ m. IsTrue (is_before (other n) (other m))) ns (λ m among.
@@ -48,20 +50,6 @@ rank-same names other name (n ∷ ns) same =
 
 insert-more : (m : ℕ) (ns : List ℕ) (i n : ℕ) → insert (m ∷ ns) (1 + i) n ≡ m ∷ insert ns i n
 insert-more m ns i n = let more : 1 + i ≡ suc i = omega arith in rw more refl
-
-among-append : (xs ys : List ℕ) (n : ℕ) → Among (xs ++ ys) n → Among xs n ⊎ Among ys n
-among-append [] ys n among = inr among
-among-append (x ∷ xs) ys n (inl same) = inl (inl same)
-among-append (x ∷ xs) ys n (inr rest) = elim (among-append xs ys n rest) [ inl left ↦ inl (inr left) | inr right ↦ inr right ]
-
-among-left : (xs ys : List ℕ) (n : ℕ) → Among xs n → Among (xs ++ ys) n
-among-left [] ys n among = absurd among
-among-left (x ∷ xs) ys n (inl same) = inl same
-among-left (x ∷ xs) ys n (inr rest) = inr (among-left xs ys n rest)
-
-among-right : (xs ys : List ℕ) (n : ℕ) → Among ys n → Among (xs ++ ys) n
-among-right [] ys n among = among
-among-right (x ∷ xs) ys n among = inr (among-right xs ys n among)
 
 among-take : (i : ℕ) (ns : List ℕ) (n : ℕ) → Among (take i ns) n → Among ns n
 among-take zero ns n among = absurd among
@@ -100,11 +88,11 @@ module _ (names : ℕ → List ℕ) where
   all-insert P ns i n all p = all-among P (insert ns i n) (λ m among. elim (among-inserted ns i n m among) [ inl same ↦ subst P same p | inr rest ↦ among-all P ns m all rest ])
 
   -- a number whose name is new among them is put where the names before it end
-  pub rises-insert : (ns : List ℕ) (n : ℕ) → Rises names ns → ((m : ℕ) → Among ns m → bytes_eq (names m) (names n) ≡ false) → Rises names (insert ns (rank_in names (names n) ns) n)
+  pub rises-insert : (ns : List ℕ) (n : ℕ) → NamesRise names ns → ((m : ℕ) → Among ns m → bytes_eq (names m) (names n) ≡ false) → NamesRise names (insert ns (rank_in names (names n) ns) n)
   rises-insert [] n rises free = (tt, tt)
   rises-insert (m ∷ ns) n rises free =
-      elim (is_before (names m) (names n)) as (λ b. is_before (names m) (names n) ≡ b → Rises names (insert (m ∷ ns) (cond b (1 + rank_in names (names n) ns) 0) n)) [
-        | true ↦ (λ before. subst (λ (xs : List ℕ). Rises names xs) (sym (insert-more m ns (rank_in names (names n) ns) n)) (
+      elim (is_before (names m) (names n)) as (λ b. is_before (names m) (names n) ≡ b → NamesRise names (insert (m ∷ ns) (cond b (1 + rank_in names (names n) ns) 0) n)) [
+        | true ↦ (λ before. subst (λ (xs : List ℕ). NamesRise names xs) (sym (insert-more m ns (rank_in names (names n) ns) n)) (
           all-insert (λ k. IsTrue (is_before (names m) (names k))) ns (rank_in names (names n) ns) n rises.0 before,
           rises-insert ns n rises.1 (λ k among. free k (inr among)),
         ))
@@ -135,7 +123,7 @@ module _ (names : ℕ → List ℕ) where
       ap (λ (b : Bool). cond (not b) (m ∷ without n ns) (without n ns)) other ∙ ap (λ (xs : List ℕ). m ∷ xs) (without-none n ns all.1)
 
   -- what stands where the names before its own end
-  pub rank-inside : (ns : List ℕ) (n : ℕ) → Rises names ns → Among ns n → rank_in names (names n) ns < length ns
+  pub rank-inside : (ns : List ℕ) (n : ℕ) → NamesRise names ns → Among ns n → rank_in names (names n) ns < length ns
   rank-inside [] n rises among = absurd among
   rank-inside (m ∷ ns) n rises among =
       elim (is_before (names m) (names n)) as (λ b. is_before (names m) (names n) ≡ b → cond b (1 + rank_in names (names n) ns) 0 < length (m ∷ ns)) [
@@ -146,7 +134,7 @@ module _ (names : ℕ → List ℕ) where
         | false ↦ (λ behind. omega arith)
       ] refl
 
-  pub remove-rank : (ns : List ℕ) (n : ℕ) → Rises names ns → Among ns n → remove ns (rank_in names (names n) ns) ≡ without n ns
+  pub remove-rank : (ns : List ℕ) (n : ℕ) → NamesRise names ns → Among ns n → remove ns (rank_in names (names n) ns) ≡ without n ns
   remove-rank [] n rises among = refl
   remove-rank (m ∷ ns) n rises (inl same) =
       let none : is_before (names m) (names n) ≡ false = subst (λ (k : ℕ). is_before (names m) (names k) ≡ false) same (before-itself (names m)) in
@@ -188,10 +176,10 @@ module _ (names : ℕ → List ℕ) where
         ])
       ] refl
 
-  pub rises-without : (n : ℕ) (ns : List ℕ) → Rises names ns → Rises names (without n ns)
+  pub rises-without : (n : ℕ) (ns : List ℕ) → NamesRise names ns → NamesRise names (without n ns)
   rises-without n [] rises = tt
   rises-without n (m ∷ ns) rises =
-      elim (not (m == n)) as (λ b. Rises names (cond b (m ∷ without n ns) (without n ns))) [
+      elim (not (m == n)) as (λ b. NamesRise names (cond b (m ∷ without n ns) (without n ns))) [
         | true ↦ (all-filter (λ k. IsTrue (is_before (names m) (names k))) (λ (m : ℕ). not (m == n)) ns rises.0, rises-without n ns rises.1)
         | false ↦ rises-without n ns rises.1
       ]

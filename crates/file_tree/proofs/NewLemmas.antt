@@ -4,12 +4,13 @@ use Rattle.std.specs.Prelude.{nat_eq, Option, None, false, true, is_some, option
 use Rattle.std.specs.Option.{option_map, option_map_or, option_to_list}
 use Rattle.std.specs.Map.{lookup}
 use Rattle.indexmap.specs.IndexMap.{IndexMap}
+use Rattle.hac_model.specs.Depends.{Among}
 use Rattle.hac_model.specs.Tree.{empty}
 use Rattle.hac_model.specs.Valid.{IsLayout}
 use Rattle.hac_model.specs.declared.states.Entry.{Entry}
 use Rattle.hac_model.proofs.ValidLemmas.{empty-layout}
 use Rattle.file_tree.specs.Nodes.{entries_below, entry_from, entry_of, has_node, if_placed, kids_of, name_of}
-use Rattle.file_tree.specs.Shape.{Among, HasSpare, IsShaped, Rises, parent_in, state_of}
+use Rattle.file_tree.specs.Shape.{HasSpare, IsShaped, NamesRise, parent_in, state_of}
 use Rattle.file_tree.specs.declared.nodes.Node.{Node}
 use Rattle.file_tree.specs.declared.tree.Tree.TheInside.{Inside}
 
@@ -41,7 +42,7 @@ shaped-new u next entries kids root others spare = record {
     fresh = λ dir high. kids dir;
     listed = λ dir n among. absurd (nowhere (kids_of u.nodes dir) n (kids dir) among);
     lists = λ dir n stands. (let none : parent_in (entry_of u.nodes n) ≡ None = ap parent_in (entries n) in absurd cc);
-    rises = λ dir. subst (λ (ns : List ℕ). Rises (name_of u.nodes) ns) (sym (kids dir)) tt;
+    rises = λ dir. subst (λ (ns : List ℕ). NamesRise (name_of u.nodes) ns) (sym (kids dir)) tt;
   };
   layout = subst IsLayout (sym (state-new u next entries)) empty-layout;
   root = root;

@@ -5,6 +5,7 @@ use Rattle.std.specs.List.{AllByRecursion}
 use Rattle.std.specs.Str.{bytes_eq}
 use Rattle.std.specs.Cmp.Lexicographic.{nat_list_eq_equiv}
 use Rattle.std.proofs.lemmas.Bool.{eqb-true, ne_eqb}
+use Rattle.hac_model.specs.Depends.{Among}
 use Rattle.hac_model.specs.Events.{is_bare}
 use Rattle.hac_model.specs.Listing.{children, in_order, is_before, put_in_order}
 use Rattle.hac_model.specs.Tree.{child, entry_at}
@@ -15,7 +16,7 @@ use Rattle.hac_model.proofs.ChangeLemmas.{all-weaker}
 use Rattle.hac_model.proofs.TreeLemmas.{all-entries}
 use Rattle.file_tree.specs.Nodes.{entry_of, kids_of, name_of}
 use Rattle.file_tree.specs.Seen.{Seen}
-use Rattle.file_tree.specs.Shape.{Among, IsShaped, Rises, parent_in, seen_of, state_of}
+use Rattle.file_tree.specs.Shape.{IsShaped, NamesRise, parent_in, seen_of, state_of}
 use Rattle.file_tree.specs.declared.tree.Tree.TheInside.{Inside}
 use Rattle.file_tree.proofs.ChildLemmas.{name-told, parent-told}
 use Rattle.file_tree.proofs.ListLemmas.{among-all, before-itself}
@@ -111,10 +112,10 @@ module _ (names : ℕ → List ℕ) where
   numbers-all P (e ∷ es) h = (h.0, numbers-all P es h.1)
 
   -- an entry whose name is new is put into its place
-  put-rises : (new : Entry) (es : List Entry) → IsTold new → AllByRecursion (λ e. IsTold e × (bytes_eq e.name new.name ≡ false)) es → Rises names (numbers_of es) → Rises names (numbers_of (put_in_order new es))
+  put-rises : (new : Entry) (es : List Entry) → IsTold new → AllByRecursion (λ e. IsTold e × (bytes_eq e.name new.name ≡ false)) es → NamesRise names (numbers_of es) → NamesRise names (numbers_of (put_in_order new es))
   put-rises new [] told all rises = (tt, tt)
   put-rises new (e ∷ es) told all rises =
-      elim (is_before new.name e.name) as (λ b. is_before new.name e.name ≡ b → Rises names (numbers_of (cond b (new ∷ e ∷ es) (e ∷ put_in_order new es)))) [
+      elim (is_before new.name e.name) as (λ b. is_before new.name e.name ≡ b → NamesRise names (numbers_of (cond b (new ∷ e ∷ es) (e ∷ put_in_order new es)))) [
         | true ↦ (λ before.
             let first : is_before (names new.number) (names e.number) ≡ true = ap (λ (x : List ℕ). is_before x (names e.number)) told ∙ ap (λ (y : List ℕ). is_before new.name y) all.0.0 ∙ before in (
               (first, all-weaker (λ k. IsTrue (is_before (names e.number) (names k))) (λ k. IsTrue (is_before (names new.number) (names k))) (numbers_of es) (λ k h. before-trans (names new.number) (names e.number) (names k) first h) rises.0),
@@ -129,10 +130,10 @@ module _ (names : ℕ → List ℕ) where
       ] refl
 
   -- what stands in a directory is in order of names
-  order-rises : (dir : ℕ) (es : List Entry) → NamesDiffer es → AllByRecursion IsTold es → Rises names (numbers_of (in_order (standing dir es)))
+  order-rises : (dir : ℕ) (es : List Entry) → NamesDiffer es → AllByRecursion IsTold es → NamesRise names (numbers_of (in_order (standing dir es)))
   order-rises dir [] differ told = tt
   order-rises dir (e ∷ es) differ told =
-      elim (e.parent == dir) as (λ b. (e.parent == dir) ≡ b → Rises names (numbers_of (in_order (cond b (e ∷ standing dir es) (standing dir es))))) [
+      elim (e.parent == dir) as (λ b. (e.parent == dir) ≡ b → NamesRise names (numbers_of (in_order (cond b (e ∷ standing dir es) (standing dir es))))) [
         | true ↦ (λ here.
             let parent : e.parent ≡ dir = eqb-true e.parent dir here in
             let none : child es dir e.name ≡ None = subst (λ (d : ℕ). child es d e.name ≡ None) parent differ.0 in
@@ -151,7 +152,7 @@ module _ (names : ℕ → List ℕ) where
       cc
 
   -- two lists in order with the same numbers are one
-  rising-one : (ms ns : List ℕ) → Rises names ms → Rises names ns → ((k : ℕ) → Among ms k → Among ns k) → ((k : ℕ) → Among ns k → Among ms k) → ms ≡ ns
+  rising-one : (ms ns : List ℕ) → NamesRise names ms → NamesRise names ns → ((k : ℕ) → Among ms k → Among ns k) → ((k : ℕ) → Among ns k → Among ms k) → ms ≡ ns
   rising-one [] [] h k left right = refl
   rising-one [] (n ∷ ns) h k left right = absurd (right n (inl refl))
   rising-one (m ∷ ms) [] h k left right = absurd (left m (inl refl))

@@ -4,22 +4,22 @@ use Rattle.std.specs.Prelude.{Option, Some, None, IsTrue, slice_get}
 use Rattle.std.specs.List.{AllByRecursion, prefix_len}
 use Rattle.std.specs.List.Sorted.{IsPartitionPoint, IsPartitionedBy}
 use Rattle.std.specs.Cmp.Lexicographic.{slice_cmp, nat_list_cmp_total, nat_list_eq_equiv, texts_ties}
-use Rattle.std.specs.Ordering.{nat_cmp, is_eq, ordering_reverse}
+use Rattle.std.specs.Ordering.{nat_cmp, is_eq, is_lt, ordering_reverse}
 use Rattle.std.specs.declared.cmp.Ordering.{Ordering}
 use Rattle.std.specs.declared.cmp.Ordering.TheVariants.{Less, Equal, Greater}
 use Rattle.std.specs.Str.{bytes_eq}
-use Rattle.hac_model.specs.Listing.{is_before, is_less}
-use Rattle.file_tree.specs.Search.{named_in, rank_in}
-use Rattle.file_tree.specs.Shape.{Rises}
+use Rattle.hac_model.specs.Listing.{is_before}
+use Rattle.file_tree.specs.Search.{first_named, rank_in}
+use Rattle.file_tree.specs.Shape.{NamesRise}
 
-less-from : (o : Ordering) → is_less o ≡ true → o ≡ Less
+less-from : (o : Ordering) → is_lt o ≡ true → o ≡ Less
 less-from Less h = refl
 less-from Equal h = absurd cc
 less-from Greater h = absurd cc
 
 -- names are in order
 pub before-trans : (x y z : List ℕ) → is_before x y ≡ true → is_before y z ≡ true → is_before x z ≡ true
-before-trans x y z h k = ap is_less (nat_list_cmp_total.trans x y z (less-from (slice_cmp nat_cmp x y) h) (less-from (slice_cmp nat_cmp y z) k))
+before-trans x y z h k = ap is_lt (nat_list_cmp_total.trans x y z (less-from (slice_cmp nat_cmp x y) h) (less-from (slice_cmp nat_cmp y z) k))
 
 pub before-differs : (x y : List ℕ) → is_before x y ≡ true → bytes_eq x y ≡ false
 before-differs x y h = texts_ties x y ∙ ap is_eq (less-from (slice_cmp nat_cmp x y) h)
@@ -27,10 +27,10 @@ before-differs x y h = texts_ties x y ∙ ap is_eq (less-from (slice_cmp nat_cmp
 -- of two names that differ one stands before the other
 pub before-other : (x y : List ℕ) → is_before x y ≡ false → bytes_eq x y ≡ false → is_before y x ≡ true
 before-other x y h k =
-    ap is_less (nat_list_cmp_total.antisymm y x)
+    ap is_lt (nat_list_cmp_total.antisymm y x)
     ∙ turned (slice_cmp nat_cmp x y) h (sym (texts_ties x y) ∙ k)
   where
-    turned : (o : Ordering) → is_less o ≡ false → is_eq o ≡ false → is_less (ordering_reverse o) ≡ true
+    turned : (o : Ordering) → is_lt o ≡ false → is_eq o ≡ false → is_lt (ordering_reverse o) ≡ true
     turned Less h k = absurd cc
     turned Equal h k = absurd cc
     turned Greater h k = refl
@@ -51,7 +51,7 @@ prefix-point p (x ∷ xs) (suc i) inside h =
 
 module _ (names : ℕ → List ℕ) (name : List ℕ) where
   -- the names before a name come first
-  pub rank-partition : (ns : List ℕ) → Rises names ns → IsPartitionedBy (λ n. is_before (names n) name) ns
+  pub rank-partition : (ns : List ℕ) → NamesRise names ns → IsPartitionedBy (λ n. is_before (names n) name) ns
   rank-partition [] h i j d le inside passes = absurd (omega arith)
   rank-partition (n ∷ ns) h zero zero d le inside passes = passes
   rank-partition (n ∷ ns) h zero (suc j) d le inside passes =
@@ -64,28 +64,28 @@ module _ (names : ℕ → List ℕ) (name : List ℕ) where
   if_named None = None
   if_named (Some n) = cond (bytes_eq (names n) name) (Some n) None
 
-  none-behind : (x : List ℕ) (ns : List ℕ) → is_before name x ≡ true → AllByRecursion (λ m. IsTrue (is_before x (names m))) ns → named_in names ns name ≡ None
+  none-behind : (x : List ℕ) (ns : List ℕ) → is_before name x ≡ true → AllByRecursion (λ m. IsTrue (is_before x (names m))) ns → first_named names ns name ≡ None
   none-behind x [] h all = refl
   none-behind x (m ∷ ns) h all =
       let other : bytes_eq (names m) name ≡ false = nat_list_eq_equiv.symm (names m) name ∙ before-differs name (names m) (before-trans name x (names m) h all.0) in
-      ap (λ (b : Bool). cond b (Some m) (named_in names ns name)) other ∙ none-behind x ns h all.1
+      ap (λ (b : Bool). cond b (Some m) (first_named names ns name)) other ∙ none-behind x ns h all.1
 
   -- a number that has the name stands where the names before it end
-  pub named-rank : (ns : List ℕ) → Rises names ns → named_in names ns name ≡ if_named (slice_get ns (rank_in names name ns))
+  pub named-rank : (ns : List ℕ) → NamesRise names ns → first_named names ns name ≡ if_named (slice_get ns (rank_in names name ns))
   named-rank [] h = refl
   named-rank (n ∷ ns) h =
-      elim (is_before (names n) name) as (λ b. is_before (names n) name ≡ b → named_in names (n ∷ ns) name ≡ if_named (slice_get (n ∷ ns) (cond b (1 + rank_in names name ns) 0))) [
+      elim (is_before (names n) name) as (λ b. is_before (names n) name ≡ b → first_named names (n ∷ ns) name ≡ if_named (slice_get (n ∷ ns) (cond b (1 + rank_in names name ns) 0))) [
         | true ↦ (λ before.
             let more : 1 + rank_in names name ns ≡ suc (rank_in names name ns) = omega arith in
-            ap (λ (b : Bool). cond b (Some n) (named_in names ns name)) (before-differs (names n) name before)
+            ap (λ (b : Bool). cond b (Some n) (first_named names ns name)) (before-differs (names n) name before)
             ∙ named-rank ns h.1
             ∙ ap (λ (i : ℕ). if_named (slice_get (n ∷ ns) i)) (sym more))
         | false ↦ (λ behind. here (is_before (names n) name) behind)
       ] refl
     where
-      here : (b : Bool) → is_before (names n) name ≡ false → named_in names (n ∷ ns) name ≡ cond (bytes_eq (names n) name) (Some n) None
+      here : (b : Bool) → is_before (names n) name ≡ false → first_named names (n ∷ ns) name ≡ cond (bytes_eq (names n) name) (Some n) None
       here b behind =
-          elim (bytes_eq (names n) name) as (λ b. bytes_eq (names n) name ≡ b → cond b (Some n) (named_in names ns name) ≡ cond b (Some n) None) [
+          elim (bytes_eq (names n) name) as (λ b. bytes_eq (names n) name ≡ b → cond b (Some n) (first_named names ns name) ≡ cond b (Some n) None) [
             | true ↦ (λ same. refl)
             | false ↦ (λ other. none-behind (names n) ns (before-other (names n) name behind other) h.0)
           ] refl
@@ -100,13 +100,13 @@ get-outside [] i outside = refl
 get-outside (n ∷ ns) zero outside = absurd (omega arith)
 get-outside (n ∷ ns) (suc i) outside = get-outside ns i (omega arith)
 
-module _ (names : ℕ → List ℕ) (name : List ℕ) (ns : List ℕ) (rises : Rises names ns) (i : ℕ) (rank : i ≡ rank_in names name ns) where
-  pub named-end : length ns ≤ i → named_in names ns name ≡ None
+module _ (names : ℕ → List ℕ) (name : List ℕ) (ns : List ℕ) (rises : NamesRise names ns) (i : ℕ) (rank : i ≡ rank_in names name ns) where
+  pub named-end : length ns ≤ i → first_named names ns name ≡ None
   named-end outside =
       named-rank names name ns rises ∙ ap (λ (k : ℕ). if_named names name (slice_get ns k)) (sym rank)
       ∙ ap (λ (o : Option ℕ). if_named names name o) (get-outside ns i outside)
 
-  pub named-at : (n : ℕ) → i < length ns → n ≡ get_or ns i n → named_in names ns name ≡ cond (bytes_eq (names n) name) (Some n) None
+  pub named-at : (n : ℕ) → i < length ns → n ≡ get_or ns i n → first_named names ns name ≡ cond (bytes_eq (names n) name) (Some n) None
   named-at n inside is =
       named-rank names name ns rises ∙ ap (λ (k : ℕ). if_named names name (slice_get ns k)) (sym rank)
       ∙ ap (λ (o : Option ℕ). if_named names name o) (get-inside ns i n inside)

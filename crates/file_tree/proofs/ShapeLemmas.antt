@@ -1,11 +1,12 @@
--- The lists of children after an entry came, went or was edited, told the entry, the name and the children of each number.
+-- The lists of children after an entry came, went or was edited, given the entry, the name and the children of each number.
 use Rattle.std.proofs.Common.{◌≡◌, ℕ, ◌<◌, ◌≤◌, Bool, true, false, cond, List, [], subst, refl, ap, sym, ◌∙◌, arith, inl, inr, eq-eqb}
 use Rattle.std.specs.Prelude.{◌⊎◌, nat_eq, insert, remove, Option, Some, None}
 use Rattle.std.specs.Str.{bytes_eq}
 use Rattle.std.proofs.lemmas.Bool.{eqb-true, ne_eqb}
+use Rattle.hac_model.specs.Depends.{Among}
 use Rattle.hac_model.specs.declared.states.Entry.{Entry}
 use Rattle.file_tree.specs.Search.{rank_in}
-use Rattle.file_tree.specs.Shape.{Among, IsTree, Rises, parent_in}
+use Rattle.file_tree.specs.Shape.{AreNested, NamesRise, parent_in}
 use Rattle.file_tree.proofs.ListLemmas.{among-inserted, among-without, inserted-among, kept-among, rank-same, remove-rank, rises-insert, rises-same, rises-without, without, without-among}
 
 -- one number is told anew
@@ -29,20 +30,20 @@ none-standing None h = refl
 none-standing (Some e) h = absurd cc
 
 -- parents and children stay
-pub tree-same : (next : ℕ) (at other : ℕ → Option Entry) (names named : ℕ → List ℕ) (kids lists : ℕ → List ℕ) → IsTree next at names kids →
-    ((n : ℕ) → parent_in (other n) ≡ parent_in (at n)) → ((dir n : ℕ) → parent_in (at n) ≡ Some dir → named n ≡ names n) → ((dir : ℕ) → lists dir ≡ kids dir) → IsTree next other named lists
+pub tree-same : (next : ℕ) (at other : ℕ → Option Entry) (names named : ℕ → List ℕ) (kids lists : ℕ → List ℕ) → AreNested next at names kids →
+    ((n : ℕ) → parent_in (other n) ≡ parent_in (at n)) → ((dir n : ℕ) → parent_in (at n) ≡ Some dir → named n ≡ names n) → ((dir : ℕ) → lists dir ≡ kids dir) → AreNested next other named lists
 tree-same next at other names named kids lists h parents same children = record {
   root = none-standing (other 0) (parents 0 ∙ ap parent_in h.root);
   above = λ n high. none-standing (other n) (parents n ∙ ap parent_in (h.above n high));
   fresh = λ dir high. children dir ∙ h.fresh dir high;
   listed = λ dir n among. parents n ∙ h.listed dir n (subst (λ (ns : List ℕ). Among ns n) (children dir) among);
   lists = λ dir n stands. subst (λ (ns : List ℕ). Among ns n) (sym (children dir)) (h.lists dir n (sym (parents n) ∙ stands));
-  rises = λ dir. subst (λ (ns : List ℕ). Rises named ns) (sym (children dir)) (rises-same names named (kids dir) (λ n among. same dir n (h.listed dir n among)) (h.rises dir));
+  rises = λ dir. subst (λ (ns : List ℕ). NamesRise named ns) (sym (children dir)) (rises-same names named (kids dir) (λ n among. same dir n (h.listed dir n among)) (h.rises dir));
 }
 
 -- an entry goes
-pub tree-unlinked : (next : ℕ) (at : ℕ → Option Entry) (names : ℕ → List ℕ) (kids : ℕ → List ℕ) (n dir : ℕ) → IsTree next at names kids → parent_in (at n) ≡ Some dir →
-    IsTree next (told_at n None at) names (told_at dir (remove (kids dir) (rank_in names (names n) (kids dir))) kids)
+pub tree-unlinked : (next : ℕ) (at : ℕ → Option Entry) (names : ℕ → List ℕ) (kids : ℕ → List ℕ) (n dir : ℕ) → AreNested next at names kids → parent_in (at n) ≡ Some dir →
+    AreNested next (told_at n None at) names (told_at dir (remove (kids dir) (rank_in names (names n) (kids dir))) kids)
 tree-unlinked next at names kids n dir h stands = record {
   root = none-at 0 h.root;
   above = λ q high. none-at q (h.above q high);
@@ -99,16 +100,16 @@ tree-unlinked next at names kids n dir h stands = record {
           ])
     ]
 
-    rises : (d : ℕ) → Rises names (told_at dir (remove (kids dir) (rank_in names (names n) (kids dir))) kids d)
-    rises d = elim (nat_eq dir d) as (λ b. Rises names (cond b (remove (kids dir) (rank_in names (names n) (kids dir))) (kids d))) [
-      | true ↦ subst (λ (ns : List ℕ). Rises names ns) (sym gone) (rises-without names n (kids dir) (h.rises dir))
+    rises : (d : ℕ) → NamesRise names (told_at dir (remove (kids dir) (rank_in names (names n) (kids dir))) kids d)
+    rises d = elim (nat_eq dir d) as (λ b. NamesRise names (cond b (remove (kids dir) (rank_in names (names n) (kids dir))) (kids d))) [
+      | true ↦ subst (λ (ns : List ℕ). NamesRise names ns) (sym gone) (rises-without names n (kids dir) (h.rises dir))
       | false ↦ h.rises d
     ]
 
 -- an entry comes
-pub tree-linked : (next more : ℕ) (at : ℕ → Option Entry) (names : ℕ → List ℕ) (kids : ℕ → List ℕ) (n dir : ℕ) (e : Entry) (name : List ℕ) → IsTree next at names kids →
+pub tree-linked : (next more : ℕ) (at : ℕ → Option Entry) (names : ℕ → List ℕ) (kids : ℕ → List ℕ) (n dir : ℕ) (e : Entry) (name : List ℕ) → AreNested next at names kids →
     at n ≡ None → 0 < n → n < more → next ≤ more → dir < more → e.parent ≡ dir → ((m : ℕ) → Among (kids dir) m → bytes_eq (names m) name ≡ false) →
-    IsTree more (told_at n (Some e) at) (told_at n name names) (told_at dir (insert (kids dir) (rank_in names name (kids dir)) n) kids)
+    AreNested more (told_at n (Some e) at) (told_at n name names) (told_at dir (insert (kids dir) (rank_in names name (kids dir)) n) kids)
 tree-linked next more at names kids n dir e name h new positive low grows inside parent free = record {
   root = told-there n (Some e) at 0 (λ same. omega arith) ∙ h.root;
   above = λ q high. told-there n (Some e) at q (λ same. omega arith) ∙ h.above q (omega arith);
@@ -162,17 +163,17 @@ tree-linked next more at names kids n dir e name h new positive low grows inside
     named : (d q : ℕ) → Among (kids d) q → told_at n name names q ≡ names q
     named d q among = told-there n name names q (absent d q among)
 
-    ordered : Rises (told_at n name names) (insert (kids dir) (rank_in names name (kids dir)) n)
+    ordered : NamesRise (told_at n name names) (insert (kids dir) (rank_in names name (kids dir)) n)
     ordered =
         let mine : told_at n name names n ≡ name = told-here n name names in
         let rank : rank_in (told_at n name names) (told_at n name names n) (kids dir) ≡ rank_in names name (kids dir) =
         ap (λ (x : List ℕ). rank_in (told_at n name names) x (kids dir)) mine ∙ rank-same names (told_at n name names) name (kids dir) (named dir) in
-        subst (λ (i : ℕ). Rises (told_at n name names) (insert (kids dir) i n)) rank
+        subst (λ (i : ℕ). NamesRise (told_at n name names) (insert (kids dir) i n)) rank
         (rises-insert (told_at n name names) (kids dir) n (rises-same names (told_at n name names) (kids dir) (named dir) (h.rises dir)) (λ m among.
         ap (λ (x : List ℕ). bytes_eq x (told_at n name names n)) (named dir m among) ∙ ap (λ (y : List ℕ). bytes_eq (names m) y) mine ∙ free m among))
 
-    rises : (d : ℕ) → Rises (told_at n name names) (told_at dir (insert (kids dir) (rank_in names name (kids dir)) n) kids d)
-    rises d = elim (nat_eq dir d) as (λ b. Rises (told_at n name names) (cond b (insert (kids dir) (rank_in names name (kids dir)) n) (kids d))) [
+    rises : (d : ℕ) → NamesRise (told_at n name names) (told_at dir (insert (kids dir) (rank_in names name (kids dir)) n) kids d)
+    rises d = elim (nat_eq dir d) as (λ b. NamesRise (told_at n name names) (cond b (insert (kids dir) (rank_in names name (kids dir)) n) (kids d))) [
       | true ↦ ordered
       | false ↦ rises-same names (told_at n name names) (kids d) (named d) (h.rises d)
     ]

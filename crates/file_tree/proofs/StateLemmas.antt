@@ -1,10 +1,11 @@
--- What a tree keeps after a change, told what stands under each number before and after.
+-- What a tree keeps after a change, given what stands under each number before and after.
 use Rattle.std.proofs.Common.{◌≡◌, ℕ, ◌+◌, ◌<◌, ◌≤◌, Bool, true, false, cond, List, [], length, subst, refl, ap, sym, ◌∙◌, arith, inl, inr}
 use Rattle.std.specs.Prelude.{◌⊎◌, nat_eq, insert, remove, Option, Some, None, IsSome}
 use Rattle.std.specs.Option.{option_map}
 use Rattle.std.specs.Str.{bytes_eq}
 use Rattle.std.proofs.lemmas.Slice.Eq.{bytes_eq-Decides}
 use Rattle.std.proofs.lemmas.Bool.{ne_eqb}
+use Rattle.hac_model.specs.Depends.{Among}
 use Rattle.hac_model.specs.Events.{added, changed_at, edited, removed, reseated}
 use Rattle.hac_model.specs.Tree.{child, entry_at, is_directory_at, path_of}
 use Rattle.hac_model.specs.Valid.{IsLayout}
@@ -16,7 +17,7 @@ use Rattle.hac_model.proofs.TreeLemmas.{Lives, child-own, directory-lives, entry
 use Rattle.file_tree.specs.Nodes.{entries_below, entry_of, has_node, kids_of, name_of}
 use Rattle.file_tree.specs.Search.{rank_in}
 use Rattle.file_tree.specs.Seen.{Seen}
-use Rattle.file_tree.specs.Shape.{Among, HasNoOther, HasSpare, IsShaped, IsTree, parent_in, seen_of, state_of}
+use Rattle.file_tree.specs.Shape.{HasNoOther, HasSpare, IsShaped, AreNested, parent_in, seen_of, state_of}
 use Rattle.file_tree.specs.declared.tree.Tree.TheInside.{Inside}
 use Rattle.file_tree.proofs.BelowLemmas.{below-added, below-all, below-changed, below-removed, below-same}
 use Rattle.file_tree.proofs.ChildLemmas.{entry-node, name-told, parent-told}
@@ -80,7 +81,7 @@ module _ (t : Inside) (s : Seen) (view : seen_of t ≡ s) (h : IsShaped t) (u : 
   pub shaped-same : u.next ≡ t.next → ((n : ℕ) → parent_in (entry_of u.nodes n) ≡ parent_in (entry_of t.nodes n)) → ((dir n : ℕ) → parent_in (entry_of t.nodes n) ≡ Some dir → name_of u.nodes n ≡ name_of t.nodes n) → ((dir : ℕ) → kids_of u.nodes dir ≡ kids_of t.nodes dir) →
       ((n : ℕ) → (t.next ≡ n → ⊥) → has_node u.nodes n ≡ has_node t.nodes n) → IsLayout (state_of u) → HasSpare u.ready u.nodes u.next u.spare.items → IsShaped u
   shaped-same next parents names kids numbers layout spare = record {
-    lists = subst (λ (k : ℕ). IsTree k (entry_of u.nodes) (name_of u.nodes) (kids_of u.nodes)) (sym next)
+    lists = subst (λ (k : ℕ). AreNested k (entry_of u.nodes) (name_of u.nodes) (kids_of u.nodes)) (sym next)
         (tree-same t.next (entry_of t.nodes) (entry_of u.nodes) (name_of t.nodes) (name_of u.nodes) (kids_of t.nodes) (kids_of u.nodes) h.lists parents names kids);
     layout = layout;
     root = root-there numbers;
@@ -143,7 +144,7 @@ module _ (t : Inside) (s : Seen) (view : seen_of t ≡ s) (h : IsShaped t) (u : 
       ((n : ℕ) → name_of u.nodes n ≡ told_at t.next name (name_of t.nodes) n) → ((d : ℕ) → kids_of u.nodes d ≡ told_at dir (insert (kids_of t.nodes dir) (rank_in (name_of t.nodes) name (kids_of t.nodes dir)) t.next) (kids_of t.nodes) d) →
       ((n : ℕ) → has_node u.nodes n ≡ has_node t.nodes n) → dir < t.next → IsLayout (added s.state dir name body) → HasSpare u.ready u.nodes u.next u.spare.items → IsShaped u
   shaped-added dir name body next told names kids numbers low layout spare = record {
-    lists = subst (λ (k : ℕ). IsTree k (entry_of u.nodes) (name_of u.nodes) (kids_of u.nodes)) (sym next)
+    lists = subst (λ (k : ℕ). AreNested k (entry_of u.nodes) (name_of u.nodes) (kids_of u.nodes)) (sym next)
         (tree-same (t.next + 1) (told_at t.next (Some new) (entry_of t.nodes)) (entry_of u.nodes) (told_at t.next name (name_of t.nodes)) (name_of u.nodes) (told_at dir (insert (kids_of t.nodes dir) (rank_in (name_of t.nodes) name (kids_of t.nodes dir)) t.next) (kids_of t.nodes)) (kids_of u.nodes) linked
         (λ n. ap parent_in (told n)) (λ d n stands. names n) kids);
     layout = sound;
@@ -178,7 +179,7 @@ module _ (t : Inside) (s : Seen) (view : seen_of t ≡ s) (h : IsShaped t) (u : 
             absurd (omega arith))
       ]
 
-      linked : IsTree (t.next + 1) (told_at t.next (Some new) (entry_of t.nodes)) (told_at t.next name (name_of t.nodes)) (told_at dir (insert (kids_of t.nodes dir) (rank_in (name_of t.nodes) name (kids_of t.nodes dir)) t.next) (kids_of t.nodes))
+      linked : AreNested (t.next + 1) (told_at t.next (Some new) (entry_of t.nodes)) (told_at t.next name (name_of t.nodes)) (told_at dir (insert (kids_of t.nodes dir) (rank_in (name_of t.nodes) name (kids_of t.nodes dir)) t.next) (kids_of t.nodes))
       linked = tree-linked t.next (t.next + 1) (entry_of t.nodes) (name_of t.nodes) (kids_of t.nodes) t.next dir new name h.lists (h.lists.above t.next (omega arith)) (rise-below 0 (state_of t).entries t.next h.layout.numbers) (omega arith) (omega arith) (omega arith) refl free
 
   -- an entry is taken out, with its list, which is empty
@@ -186,7 +187,7 @@ module _ (t : Inside) (s : Seen) (view : seen_of t ≡ s) (h : IsShaped t) (u : 
       ((d : ℕ) → kids_of u.nodes d ≡ told_at n [] (told_at dir (remove (kids_of t.nodes dir) (rank_in (name_of t.nodes) (name_of t.nodes n) (kids_of t.nodes dir))) (kids_of t.nodes)) d) →
       ((q : ℕ) → has_node u.nodes q ≡ told_at n false (has_node t.nodes) q) → IsLayout (removed s.state n) → HasSpare u.ready u.nodes u.next u.spare.items → IsShaped u
   shaped-removed n dir next stands told names kids numbers layout spare = record {
-    lists = subst (λ (k : ℕ). IsTree k (entry_of u.nodes) (name_of u.nodes) (kids_of u.nodes)) (sym next)
+    lists = subst (λ (k : ℕ). AreNested k (entry_of u.nodes) (name_of u.nodes) (kids_of u.nodes)) (sym next)
         (tree-same t.next (told_at n None (entry_of t.nodes)) (entry_of u.nodes) (name_of t.nodes) (name_of u.nodes) cut (kids_of u.nodes) (tree-unlinked t.next (entry_of t.nodes) (name_of t.nodes) (kids_of t.nodes) n dir h.lists stands)
         (λ q. ap parent_in (told q)) (λ d q there. names q (ne_eqb n q (λ same.
         let none : parent_in (told_at n None (entry_of t.nodes) q) ≡ None = ap (λ (k : ℕ). parent_in (told_at n None (entry_of t.nodes) k)) (sym same) ∙ ap parent_in (told-here n None (entry_of t.nodes)) in
@@ -265,7 +266,7 @@ module _ (t : Inside) (s : Seen) (view : seen_of t ≡ s) (h : IsShaped t) (u : 
       ((d : ℕ) → kids_of u.nodes d ≡ told_at dir (insert (cut dir) (rank_in (name_of t.nodes) name (cut dir)) n) cut d) →
       ((q : ℕ) → has_node u.nodes q ≡ has_node t.nodes q) → dir < t.next → IsLayout (changed_at s.state n (reseated dir name)) → HasSpare u.ready u.nodes u.next u.spare.items → IsShaped u
   shaped-moved n dir old name next stands told names cut left kids numbers low layout spare = record {
-    lists = subst (λ (k : ℕ). IsTree k (entry_of u.nodes) (name_of u.nodes) (kids_of u.nodes)) (sym next)
+    lists = subst (λ (k : ℕ). AreNested k (entry_of u.nodes) (name_of u.nodes) (kids_of u.nodes)) (sym next)
         (tree-same t.next (told_at n (Some new) (told_at n None (entry_of t.nodes))) (entry_of u.nodes) (told_at n name (name_of t.nodes)) (name_of u.nodes) (told_at dir (insert (cut dir) (rank_in (name_of t.nodes) name (cut dir)) n) cut) (kids_of u.nodes) linked parents (λ d q there. names q) kids);
     layout = sound;
     root = numbers 0 ∙ h.root;
@@ -306,7 +307,7 @@ module _ (t : Inside) (s : Seen) (view : seen_of t ≡ s) (h : IsShaped t) (u : 
         | inr other ↦ there q other ∙ sym (told-there n None (entry_of t.nodes) q other) ∙ sym (told-there n (Some new) (told_at n None (entry_of t.nodes)) q other)
       ])
 
-      unlinked : IsTree t.next (told_at n None (entry_of t.nodes)) (name_of t.nodes) cut
+      unlinked : AreNested t.next (told_at n None (entry_of t.nodes)) (name_of t.nodes) cut
       unlinked =
           let known = tree-unlinked t.next (entry_of t.nodes) (name_of t.nodes) (kids_of t.nodes) n old h.lists stands in
           tree-same t.next (told_at n None (entry_of t.nodes)) (told_at n None (entry_of t.nodes)) (name_of t.nodes) (name_of t.nodes) (told_at old (remove (kids_of t.nodes old) (rank_in (name_of t.nodes) (name_of t.nodes n) (kids_of t.nodes old))) (kids_of t.nodes)) cut known (λ q. refl) (λ d q there. refl) left
@@ -331,5 +332,5 @@ module _ (t : Inside) (s : Seen) (view : seen_of t ≡ s) (h : IsShaped t) (u : 
         | inr other ↦ omega arith
       ]
 
-      linked : IsTree t.next (told_at n (Some new) (told_at n None (entry_of t.nodes))) (told_at n name (name_of t.nodes)) (told_at dir (insert (cut dir) (rank_in (name_of t.nodes) name (cut dir)) n) cut)
+      linked : AreNested t.next (told_at n (Some new) (told_at n None (entry_of t.nodes))) (told_at n name (name_of t.nodes)) (told_at dir (insert (cut dir) (rank_in (name_of t.nodes) name (cut dir)) n) cut)
       linked = tree-linked t.next t.next (told_at n None (entry_of t.nodes)) (name_of t.nodes) cut n dir new name unlinked (told-here n None (entry_of t.nodes)) positive (entry-low t s view h u n entry.0 entry.1) (omega arith) low refl free

@@ -14,27 +14,27 @@ use Rattle.file_tree.specs.declared.tree.EntryKind.{EntryKind}
 use Rattle.file_tree.specs.declared.tree.EntryKind.TheVariants.{File, Dir, Symlink, Semantic, Mount}
 
 -- the stop is for the refusal that is wanted; want of memory may come in place of any answer
-abbrev pub IsFor : Stop → Result Place Refusal → Type 0
-IsFor (Missing path) wanted = wanted ≡ Err (refusal.NoPath path)
-IsFor (NotDir path) wanted = wanted ≡ Err (refusal.NotDir path)
-IsFor (Loop path) wanted = ⊥
-IsFor Memory wanted = ⊤
+abbrev pub IsPlaceFault : Stop → Result Place Refusal → Type 0
+IsPlaceFault (Missing path) wanted = wanted ≡ Err (refusal.NoPath path)
+IsPlaceFault (NotDir path) wanted = wanted ≡ Err (refusal.NotDir path)
+IsPlaceFault (Loop path) wanted = ⊥
+IsPlaceFault Memory wanted = ⊤
 
 -- the look-up gave what is wanted, the place or the stop
 abbrev pub Finds : Result Place Stop → Result Place Refusal → Type 0
 Finds (Ok place) wanted = wanted ≡ Ok place
-Finds (Err stop) wanted = IsFor stop wanted
+Finds (Err stop) wanted = IsPlaceFault stop wanted
 
-abbrev pub kind_in : Body → EntryKind
-kind_in (body.File text dirty shown) = File
-kind_in body.Dir = Dir
-kind_in (body.Symlink target) = Symlink
-kind_in (body.Semantic query permanent prohibited) = Semantic
-kind_in (body.Mount space documents answers) = Mount
+abbrev pub entry_kind : Body → EntryKind
+entry_kind (body.File text dirty shown) = File
+entry_kind body.Dir = Dir
+entry_kind (body.Symlink target) = Symlink
+entry_kind (body.Semantic query permanent prohibited) = Semantic
+entry_kind (body.Mount space documents answers) = Mount
 
 -- the kind of the entry of a number. The root, which is no entry, is a directory.
-abbrev pub kind_at : List Entry → ℕ → EntryKind
-kind_at entries number = option_map_or kind_in (body_at entries number) Dir
+abbrev pub entry_kind_at : List Entry → ℕ → EntryKind
+entry_kind_at entries number = option_map_or entry_kind (body_at entries number) Dir
 
 -- the number of the first of the entries that isn't below the one given
 abbrev pub next_from : List Entry → ℕ → Option ℕ

@@ -50,11 +50,11 @@ module _ {S : Type 0} where
   abbrev pub name_of : IndexMap ℕ Node S → ℕ → List ℕ
   name_of nodes number = option_map_or (λ node. node.name) (get nat_eq nodes number) []
 
-  -- the numbers of what stands in a directory
+  -- the numbers of the entries of a directory
   abbrev pub kids_of : IndexMap ℕ Node S → ℕ → List ℕ
   kids_of nodes number = option_map_or (λ node. node.children.items) (get nat_eq nodes number) []
 
--- the entries of the numbers below a number, in order, told the entry of each
+-- the entries of the numbers below a number, in order, given the entry of each
 abbrev pub entries_below : ℕ → (ℕ → Option Entry) → List Entry
 entries_below zero at = []
 entries_below (suc number) at = entries_below number at ++ option_to_list (at number)

@@ -1,4 +1,4 @@
--- Names among numbers, told the name of each.
+-- Names among numbers, given the name of each.
 use Rattle.std.specs.Prelude.{ℕ, if◌then◌else◌, List, [], ◌∷◌, Option, Some, None}
 use Rattle.std.specs.List.{prefix_len}
 use Rattle.std.specs.Str.{bytes_eq}
@@ -9,6 +9,6 @@ abbrev pub rank_in : (ℕ → List ℕ) → List ℕ → List ℕ → ℕ
 rank_in names name numbers = prefix_len (λ number. is_before (names number) name) numbers
 
 -- the first that has the name
-abbrev pub named_in : (ℕ → List ℕ) → List ℕ → List ℕ → Option ℕ
-named_in names [] name = None
-named_in names (number ∷ numbers) name = if bytes_eq (names number) name then Some number else named_in names numbers name
+abbrev pub first_named : (ℕ → List ℕ) → List ℕ → List ℕ → Option ℕ
+first_named names [] name = None
+first_named names (number ∷ numbers) name = if bytes_eq (names number) name then Some number else first_named names numbers name

@@ -1,8 +1,9 @@
 -- How a tree keeps a state.
-use Rattle.std.specs.Prelude.{◌≡◌, ℕ, ◌<◌, ◌≤◌, false, List, [], ◌∷◌, ◌++◌, Option, Some, None, IsTrue, ◌⊎◌}
+use Rattle.std.specs.Prelude.{◌≡◌, ℕ, ◌<◌, ◌≤◌, false, List, [], ◌∷◌, ◌++◌, Option, Some, None, IsTrue}
 use Rattle.std.specs.List.{AllByRecursion}
 use Rattle.std.specs.Option.{option_map}
 use Rattle.indexmap.specs.IndexMap.{IndexMap}
+use Rattle.hac_model.specs.Depends.{Among}
 use Rattle.hac_model.specs.Listing.{is_before}
 use Rattle.hac_model.specs.Valid.{IsLayout}
 use Rattle.hac_model.specs.declared.states.Entry.{Entry}
@@ -20,28 +21,23 @@ state_of tree = record { next = tree.next; entries = entries_below tree.next (en
 abbrev pub seen_of : Inside → Seen
 seen_of tree = record { state = state_of tree; ready = tree.ready }
 
--- the number is one of these
-abbrev pub Among : List ℕ → ℕ → Type 0
-Among [] number = ⊥
-Among (other ∷ numbers) number = (other ≡ number) ⊎ Among numbers number
-
 -- the names of the numbers rise
-abbrev pub Rises : (ℕ → List ℕ) → List ℕ → Type 0
-Rises names [] = Unit {0}
-Rises names (number ∷ numbers) = AllByRecursion (λ other. IsTrue (is_before (names number) (names other))) numbers × Rises names numbers
+abbrev pub NamesRise : (ℕ → List ℕ) → List ℕ → Type 0
+NamesRise names [] = Unit {0}
+NamesRise names (number ∷ numbers) = AllByRecursion (λ other. IsTrue (is_before (names number) (names other))) numbers × NamesRise names numbers
 
 -- the directory in which the entry stands, where there is one
 abbrev pub parent_in : Option Entry → Option ℕ
 parent_in entry = option_map (λ entry. entry.parent) entry
 
--- the lists of children are those of the entries, told the entry, the name and the children of each number
-pub record IsTree (next : ℕ) (at : ℕ → Option Entry) (names : ℕ → List ℕ) (kids : ℕ → List ℕ) : Type 0 where
+-- the lists of children are those of the entries, given the entry, the name and the children of each number
+pub record AreNested (next : ℕ) (at : ℕ → Option Entry) (names : ℕ → List ℕ) (kids : ℕ → List ℕ) : Type 0 where
   pub root : at 0 ≡ None
   pub above : (number : ℕ) → next ≤ number → at number ≡ None
   pub fresh : (dir : ℕ) → next ≤ dir → kids dir ≡ []
   pub listed : (dir number : ℕ) → Among (kids dir) number → parent_in (at number) ≡ Some dir
   pub lists : (dir number : ℕ) → parent_in (at number) ≡ Some dir → Among (kids dir) number
-  pub rises : (dir : ℕ) → Rises names (kids dir)
+  pub rises : (dir : ℕ) → NamesRise names (kids dir)
 
 module _ {S : Type 0} where
   -- what was prepared stands in the tree: a list of children with a place for one more, and the node of a new entry
@@ -56,7 +52,7 @@ module _ {S : Type 0} where
   HasNoOther nodes next = (number : ℕ) → (number ≡ 0 → ⊥) → (number ≡ next → ⊥) → entry_of nodes number ≡ None → has_node nodes number ≡ false
 
 pub record IsShaped (tree : Inside) : Type 0 where
-  pub lists : IsTree tree.next (entry_of tree.nodes) (name_of tree.nodes) (kids_of tree.nodes)
+  pub lists : AreNested tree.next (entry_of tree.nodes) (name_of tree.nodes) (kids_of tree.nodes)
   pub layout : IsLayout (state_of tree)
   pub root : IsTrue (has_node tree.nodes 0)
   pub spare : HasSpare tree.ready tree.nodes tree.next tree.spare.items

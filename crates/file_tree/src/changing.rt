@@ -6,7 +6,7 @@ ghost use Rattle.hac_model.specs.Valid.{IsLayout};
 ghost use Rattle.file_tree.specs.Nodes.{entry_of, kids_of, name_of};
 ghost use Rattle.file_tree.specs.Ready.{body_in, name_in, new_query, new_text, room_in};
 ghost use Rattle.file_tree.specs.Search.{rank_in};
-ghost use Rattle.file_tree.specs.Shape.{Rises, parent_in};
+ghost use Rattle.file_tree.specs.Shape.{NamesRise, parent_in};
 
 use crate::nodes::{self, Content, Nodes, children_at};
 use crate::ready::{Ready, Room};
@@ -17,7 +17,7 @@ use std::alloc::Global;
 use std::mem;
 
 impl Tree {
-    /// Makes ready for a new entry in a directory. The state stays as it is, whatever the answer.
+    /// Prepares a new entry in a directory. The state doesn't change, whatever the answer.
     pub fn prepare_add(&mut self, dir: Number, body: Body) -> Result<Room, Memory>
         requires { IsTrue (is_directory_at self.old.state.entries dir) }
         ensures room { IfOk result (λ room. room ≡ Room.Add dir) }
@@ -31,7 +31,7 @@ impl Tree {
         Ok(Room::Add { dir })
     }
 
-    /// Makes ready for an entry that goes to a directory, under a name. The state stays as it is, whatever the answer.
+    /// Prepares to move an entry to a directory, under a name. The state doesn't change, whatever the answer.
     pub fn prepare_move(&mut self, dir: Number, name: Name) -> Result<Room, Memory>
         requires { IsTrue (is_directory_at self.old.state.entries dir) }
         ensures room { IfOk result (λ room. room ≡ Room.Move dir) }
@@ -44,7 +44,7 @@ impl Tree {
         Ok(Room::Move { dir })
     }
 
-    /// Makes ready for a new part of an entry, as a file's text. The state stays as it is, whatever the answer.
+    /// Prepares a new part of an entry, as a file's text. The state doesn't change, whatever the answer.
     pub fn prepare_body(&mut self, entry: Number, body: Body) -> Result<Room, Memory>
         ensures room { IfOk result (λ room. room ≡ Room.Edit entry) }
         ensures ok { OnOk result (self.new ≡ record { state = self.old.state; ready = Ready.Edit entry body }) }
@@ -73,7 +73,7 @@ impl Tree {
         number
     }
 
-    /// Takes an entry to the directory and the name that were prepared, with all that stands below it.
+    /// Moves an entry to the prepared directory and name, with everything below it.
     pub fn move_to(&mut self, entry: Number, dir: Number, room: Room)
         requires room { room_in self.old.ready ≡ Some room }
         requires place { room ≡ Room.Move dir }
@@ -93,7 +93,7 @@ impl Tree {
         nodes::put_children(&mut self.nodes, dir, &mut self.spare);
     }
 
-    /// Takes an entry out.
+    /// Removes an entry.
     pub fn remove(&mut self, entry: Number)
         requires there { IsSome (entry_at self.old.state.entries entry) }
         requires layout { IsLayout (removed self.old.state entry) }
@@ -165,7 +165,7 @@ impl Tree {
     }
 }
 
-/// What stands in a directory, and one number more.
+/// The entries of a directory, and one number more.
 fn children_and(
     alloc: Global,
     nodes: &Nodes,
@@ -181,7 +181,7 @@ fn children_and(
     Ok(numbers)
 }
 
-/// The directory in which an entry stands.
+/// The directory of an entry.
 fn parent_at(nodes: &Nodes, entry: Number) -> Number
     requires { IsSome (entry_of nodes.now entry) }
     ensures { parent_in (entry_of nodes.now entry) ≡ Some result }
@@ -194,12 +194,12 @@ fn parent_at(nodes: &Nodes, entry: Number) -> Number
 
 /// The place of an entry in the list of its directory.
 fn place_at(nodes: &Nodes, dir: Number, entry: Number) -> usize
-    ensures { Rises (name_of nodes.now) (kids_of nodes.now dir) → result ≡ rank_in (name_of nodes.now) (name_of nodes.now entry) (kids_of nodes.now dir) }
+    ensures { NamesRise (name_of nodes.now) (kids_of nodes.now dir) → result ≡ rank_in (name_of nodes.now) (name_of nodes.now entry) (kids_of nodes.now dir) }
 {
     rank(nodes, children_at(nodes, dir), nodes::name_at(nodes, entry))
 }
 
-/// Puts a number at the last place of a list, from which it is taken first where it stands in it.
+/// Moves a number to the end of a list, or adds it there.
 fn set_last(numbers: &mut Vec<Number>, number: Number, place: usize, is_in: bool)
     requires some { 0 < length numbers.old.items }
     requires place { is_in ≡ true → place < length numbers.old.items - 1 }

@@ -1,4 +1,4 @@
-//! The nodes of a tree by number, each changed by itself. Nothing here knows how they hang together.
+//! The nodes of a tree by number, each changed by itself. Nothing here knows how they fit together.
 ghost use Rattle.std.specs.Prelude.{◌≡◌, ℕ, ◌<◌, [], Some, None, nat_eq, if◌then◌else◌, length, remove, false, IsSome, IsTrue, OnOk};
 ghost use Rattle.std.specs.Option.{option_copied, option_map};
 ghost use Rattle.indexmap.specs.IndexMap.{get};
@@ -14,7 +14,7 @@ use std::mem;
 /// The nodes by number.
 pub(crate) type Nodes = IndexMap<u64, Node>;
 
-/// What stands under a number.
+/// A node.
 #[derive(Debug, Drop)]
 pub(crate) struct Node {
     // It is an entry. The root is none, nor is what was prepared and isn't put into the tree yet.
@@ -55,7 +55,7 @@ pub(crate) enum Content {
 #[derive(Debug, Drop)]
 pub(crate) enum Shown {
     Never,
-    // It is the file's text still.
+    // It is still the file's text.
     AsItIs,
     Older(Text),
 }
@@ -215,7 +215,7 @@ pub(crate) fn name_at(nodes: &Nodes, number: Number) -> &[u8]
     }
 }
 
-/// What stands in a directory.
+/// The entries of a directory.
 pub(crate) fn children_at(nodes: &Nodes, dir: Number) -> &[Number]
     ensures { result.now ≡ kids_of nodes.now dir }
 {
@@ -276,7 +276,7 @@ pub(crate) fn reseat(nodes: &mut Nodes, number: Number, dir: Number, new_name: N
     }
 }
 
-/// Takes a node out.
+/// Removes a node.
 pub(crate) fn take_out(nodes: &mut Nodes, number: Number)
     ensures numbers { (q : ℕ) → has_node nodes.new q ≡ if nat_eq number q then false else has_node nodes.old q }
     ensures entries { (q : ℕ) → entry_of nodes.new q ≡ if nat_eq number q then None else entry_of nodes.old q }
@@ -286,7 +286,7 @@ pub(crate) fn take_out(nodes: &mut Nodes, number: Number)
     nodes.swap_remove(&number.get());
 }
 
-/// Gives a directory the list of what stands in it.
+/// Gives a directory the list of its entries.
 pub(crate) fn put_children(nodes: &mut Nodes, dir: Number, children: &mut Vec<Number>)
     requires { IsTrue (has_node nodes.old dir) }
     ensures numbers { (q : ℕ) → has_node nodes.new q ≡ has_node nodes.old q }
@@ -299,7 +299,7 @@ pub(crate) fn put_children(nodes: &mut Nodes, dir: Number, children: &mut Vec<Nu
     }
 }
 
-/// Takes a place out of the list of what stands in a directory.
+/// Removes a place from the list of a directory's entries.
 pub(crate) fn drop_child(nodes: &mut Nodes, dir: Number, place: usize)
     requires { place < length (kids_of nodes.old dir) }
     ensures numbers { (q : ℕ) → has_node nodes.new q ≡ has_node nodes.old q }

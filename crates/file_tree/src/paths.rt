@@ -32,7 +32,7 @@ impl Tree {
         path.push(node.name.clone()?)
     }
 
-    /// Whether an entry stands below a directory, at any depth.
+    /// Whether an entry is below a directory, at any depth.
     pub fn is_below(&self, item: Number, dir: Number) -> bool
         requires item { IsTrue (is_live self.now.state.entries item) }
         requires dir { IsTrue (is_live self.now.state.entries dir) }

@@ -14,11 +14,11 @@ use std::alloc::AllocError;
 /// Why a look-up gives no place.
 #[derive(Clone, Debug, Drop, PartialEq, Eq)]
 pub enum Stop {
-    /// Nothing stands at this path, and names remain behind it.
+    /// Nothing is at this path, and names remain behind it.
     Missing(Path),
-    /// A file stands at this path, and names remain behind it.
+    /// A file is at this path, and names remain behind it.
     NotDir(Path),
-    /// The path leads round. No path does so while there are no symbolic links.
+    /// The path leads in a circle. None does while there are no symbolic links.
     Loop(Path),
     /// Memory ran out.
     Memory,

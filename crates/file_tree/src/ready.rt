@@ -6,16 +6,16 @@ use hac_model::{Body, Name, Number};
 pub enum Ready {
     /// Nothing was prepared, or the tree has changed since.
     Nothing,
-    /// An entry is to come.
+    /// An entry is to be created.
     Add {
-        /// The directory in which it will stand.
+        /// The directory that it will be in.
         dir: Number,
         /// What it will be.
         body: Body,
     },
-    /// An entry is to go elsewhere.
+    /// An entry is to be moved.
     Move {
-        /// The directory to which it will go.
+        /// Its new directory.
         dir: Number,
         /// The name that it will have there.
         name: Name,
@@ -29,17 +29,17 @@ pub enum Ready {
     },
 }
 
-/// The leave to make a change that was prepared, while the tree is ready for it.
+/// Permission to make a prepared change, while the tree is ready for it.
 #[derive(Clone, Copy, Debug, PartialEq, Eq)]
 pub enum Room {
     /// For a new entry.
     Add {
-        /// The directory in which it will stand.
+        /// The directory that it will be in.
         dir: Number,
     },
     /// For an entry that moves.
     Move {
-        /// The directory to which it will go.
+        /// Its new directory.
         dir: Number,
     },
     /// For a new part of an entry.

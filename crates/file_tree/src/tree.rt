@@ -6,7 +6,7 @@ ghost use Rattle.hac_model.specs.Links.{parent_of, query_at, shown_of};
 ghost use Rattle.hac_model.specs.Listing.{children};
 ghost use Rattle.hac_model.specs.Tree.{body_at, child, empty, entry_at, is_directory_at, is_dirty, is_file_at, is_made_directory, text_in};
 ghost use Rattle.hac_model.specs.Valid.{IsLayout};
-ghost use Rattle.file_tree.specs.Answers.{kind_at, kind_in, next_from};
+ghost use Rattle.file_tree.specs.Answers.{entry_kind_at, entry_kind, next_from};
 ghost use Rattle.file_tree.specs.Nodes.{body_of};
 
 use crate::nodes::{self, Content, Nodes, children_at};
@@ -44,7 +44,7 @@ impl Model for Tree {
     ghost invariant = { IsShaped };
 }
 
-/// What kind of thing stands under a number.
+/// The kind of an entry.
 #[derive(Clone, Copy, Debug, PartialEq, Eq)]
 pub enum EntryKind {
     /// A file.
@@ -55,9 +55,9 @@ pub enum EntryKind {
     Symlink,
     /// A directory with a query.
     Semantic,
-    /// A directory that stands for another collection.
+    /// A directory that shows another collection.
     Mount,
-    /// What stands in a mount.
+    /// An entry of a mount.
     Document,
 }
 
@@ -100,7 +100,7 @@ impl Tree {
         named(&self.nodes, children_at(&self.nodes, dir), name.as_bytes())
     }
 
-    /// The directory in which an entry stands. The root stands in itself.
+    /// The directory of an entry. The root is in itself.
     pub fn parent(&self, entry: Number) -> Number
         ensures { result ≡ parent_of self.now.state entry }
     {
@@ -110,12 +110,12 @@ impl Tree {
         }
     }
 
-    /// What kind of thing an entry is. The root is a plain directory.
+    /// The kind of an entry. The root is a plain directory.
     pub fn kind(&self, entry: Number) -> EntryKind
-        ensures { result ≡ kind_at self.now.state.entries entry }
+        ensures { result ≡ entry_kind_at self.now.state.entries entry }
     {
         match self.content(entry) {
-            Some(content) => kind_in(content),
+            Some(content) => entry_kind(content),
             None => EntryKind::Dir,
         }
     }
@@ -201,7 +201,7 @@ impl Tree {
         }
     }
 
-    /// What stands in a directory, in byte order of names.
+    /// The entries of a directory, in byte order of names.
     pub fn children(&self, dir: Number) -> &[Number]
         ensures numbers { result.now ≡ map (λ entry. entry.number) (children self.now.state dir) }
         ensures bare { is_bare self.now.state.entries dir ≡ (length result.now == 0) }
@@ -223,8 +223,8 @@ impl Tree {
     }
 }
 
-fn kind_in(content: &Content) -> EntryKind
-    ensures { result ≡ kind_in (body_of content.now) }
+fn entry_kind(content: &Content) -> EntryKind
+    ensures { result ≡ entry_kind (body_of content.now) }
 {
     match content {
         Content::File { .. } => EntryKind::File,

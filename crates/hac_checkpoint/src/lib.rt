@@ -6,6 +6,3 @@ mod laws;
 
 pub use heads::{Root, RootFault, Slot, Stop, roots};
 pub use laws::roots_agree;
-
-#[cfg(test)]
-mod tests;

@@ -3,16 +3,16 @@ use Rattle.std.proofs.Common.{◌≡◌, ℕ, true, false, cond, List, [], ◌�
 use Rattle.std.specs.Prelude.{Some, None}
 use Rattle.std.specs.Option.{option_map}
 use Rattle.hac_model.specs.Answers.{first_cause}
-use Rattle.hac_model.specs.Refusals.{blocked, directory_cause, full_cause, least_path, plain_cause, referenced_cause, root_cause, taken_cause, under_cause, written_cause}
+use Rattle.hac_model.specs.Refusals.{blocked, directory_cause, filled_cause, least_path, plain_cause, referenced_cause, root_cause, taken_cause, under_cause, written_cause}
 use Rattle.hac_model.specs.declared.places.Place.{Place}
 use Rattle.hac_model.specs.declared.places.Place.TheVariants.{There, Free}
 use Rattle.hac_model.specs.declared.replies.Refusal.TheVariants as refusal
 use Rattle.hac_model.specs.declared.resolved.Resolved.{Resolved}
 use Rattle.hac_model.specs.declared.resolved.Resolved.TheVariants.{Mkdir, Rmdir, Write, Cat, Ls, Mv, Rm, Smkdir, Setq, Unq, Query, Sls, Sln, Srm, Sforget, Find, Index, Counts}
 use Rattle.hac_core.specs.Blocking.{is_alone, is_linking}
-use Rattle.hac_core.specs.Linked.{state_of}
-use Rattle.hac_core.specs.declared.linked.LinkedTree.{LinkedTree}
-use Rattle.hac_core.proofs.StateLemmas.{same-bare, same-directory, same-inside, same-path, same-referrers, same-semantic}
+use Rattle.linked_tree.specs.Linked.{state_of}
+use Rattle.linked_tree.specs.declared.linked.LinkedTree.{LinkedTree}
+use Rattle.linked_tree.proofs.StateLemmas.{same-bare, same-directory, same-inside, same-path, same-referrers, same-semantic}
 
 module _ (kept : LinkedTree) where
   pub same-directory_cause : (n : ℕ) → directory_cause (state_of kept) n ≡ directory_cause kept.tree.state n
@@ -21,7 +21,7 @@ module _ (kept : LinkedTree) where
   pub same-plain_cause : (dir : ℕ) → plain_cause (state_of kept) dir ≡ plain_cause kept.tree.state dir
   same-plain_cause dir = λ i. cond (same-semantic kept dir i) None (Some (refusal.NotSemantic (same-path kept dir i)))
 
-  pub same-full_cause : (dir : ℕ) → full_cause (state_of kept) dir ≡ full_cause kept.tree.state dir
+  pub same-full_cause : (dir : ℕ) → filled_cause (state_of kept) dir ≡ filled_cause kept.tree.state dir
   same-full_cause dir = λ i. cond (same-bare kept dir i) None (Some (refusal.NotEmpty (same-path kept dir i)))
 
   same-written : (place : Place) → written_cause (state_of kept) place ≡ written_cause kept.tree.state place

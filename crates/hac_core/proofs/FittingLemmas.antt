@@ -28,11 +28,11 @@ use Rattle.hac_model.proofs.PathLemmas.{root-none}
 use Rattle.hac_model.proofs.TreeLemmas.{entry_at-all}
 use Rattle.link_kinds.proofs.MarkedLemmas.{bare-marked}
 use Rattle.hac_core.specs.Fitting.{is_clear, is_placed, may_come, passes_none}
-use Rattle.hac_core.specs.Linked.{state_of}
-use Rattle.hac_core.specs.declared.linked.LinkedTree.{LinkedTree}
+use Rattle.linked_tree.specs.Linked.{state_of}
+use Rattle.linked_tree.specs.declared.linked.LinkedTree.{LinkedTree}
 use Rattle.hac_core.proofs.LedLemmas.{all-alike}
 use Rattle.hac_core.proofs.LimitingLemmas.{mark-passes, unq-passes}
-use Rattle.hac_core.proofs.StateLemmas.{alike, same-asks, same-bare, same-dirty, same-file, same-inside, same-semantic, same-some}
+use Rattle.linked_tree.proofs.StateLemmas.{alike, same-asks, same-bare, same-dirty, same-file, same-inside, same-semantic, same-some}
 
 -- What stands in the way, part by part.
 

@@ -13,9 +13,9 @@ use Rattle.hac_model.specs.declared.states.State.{State}
 use Rattle.hac_model.proofs.AlikeLemmas.{counts-bare}
 use Rattle.hac_model.proofs.BareLemmas.{bare-commutes}
 use Rattle.link_kinds.proofs.MarkedLemmas.{bare-marked}
-use Rattle.hac_core.specs.Linked.{state_of}
-use Rattle.hac_core.specs.declared.linked.LinkedTree.{LinkedTree}
-use Rattle.hac_core.proofs.StateLemmas.{same-dirty}
+use Rattle.linked_tree.specs.Linked.{state_of}
+use Rattle.linked_tree.specs.declared.linked.LinkedTree.{LinkedTree}
+use Rattle.linked_tree.proofs.StateLemmas.{same-dirty}
 
 -- states that are one without their marks stay so by each event
 pub all-alike : (events : List Event) (s t : State) → bare s ≡ bare t → bare (apply_all s events) ≡ bare (apply_all t events)

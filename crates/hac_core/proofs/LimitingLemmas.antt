@@ -1,4 +1,4 @@
--- Which limits a command would pass.
+-- Which limits a command would exceed.
 use Rattle.std.proofs.Common.{◌≡◌, ℕ, zero, suc, ◌+◌, ◌<◌, ◌≤◌, ◌^◌, Bool, true, false, cond, List, [], ◌∷◌, length, subst, refl, ap, sym, ◌∙◌, arith}
 use Rattle.std.specs.Prelude.{not, nat_le, nat_lt, max, replicate, Option, Some, None, IsTrue, is_some}
 use Rattle.std.specs.Option.{option_map_or}
@@ -7,7 +7,7 @@ use Rattle.std.proofs.lemmas.Bool.Decides.{nat_tests}
 use Rattle.hac_model.specs.Events.{added, apply, apply_all, asking, changed, changed_at, dirty, edited, forgotten, is_bare, marked, plain_body, removed, reseated, rewritten}
 use Rattle.hac_model.specs.Limits.{answer_limits, are_paths_short, counts, directory_count, first_passed, layout_limits, passed, text_size, weight}
 use Rattle.hac_model.specs.Links.{parent_of}
-use Rattle.hac_model.specs.Refusals.{blocked, directory_cause, full_cause, led_to, referenced_cause}
+use Rattle.hac_model.specs.Refusals.{blocked, directory_cause, filled_cause, led_to, referenced_cause}
 use Rattle.hac_model.specs.Tree.{ancestors, entry_at, is_directory, is_directory_at, is_dirty, is_file, is_file_at, lineage, path_of, query_in}
 use Rattle.hac_model.specs.Valid.{IsLayout}
 use Rattle.hac_model.specs.declared.counts.Counts.{Counts}
@@ -37,12 +37,12 @@ use Rattle.hac_model.proofs.PathLemmas.{ancestors-none, length-path, parent-live
 use Rattle.hac_model.proofs.TreeLemmas.{directory-lives}
 use Rattle.hac_model.proofs.ValidLemmas.{marked-kind, plain-kind}
 use Rattle.hac_core.specs.Blocking.{is_linking}
-use Rattle.hac_core.specs.Counting as counting
-use Rattle.hac_core.specs.Counting.{AreSmall, plus, share_of}
+use Rattle.linked_tree.specs.Counting as counting
+use Rattle.linked_tree.specs.Counting.{AreSmall, plus, share_of}
 use Rattle.hac_core.specs.Limiting.{PassAs, with_new}
-use Rattle.hac_core.specs.Standing.{Stands}
-use Rattle.hac_core.proofs.CountingLemmas.{body-small, counts-reseated, rewritten-small, told-added}
-use Rattle.hac_core.proofs.DirtyLemmas.{step-layout}
+use Rattle.hac_core.specs.Standing.{AllStand}
+use Rattle.linked_tree.proofs.CountingLemmas.{body-small, counts-reseated, rewritten-small, told-added}
+use Rattle.linked_tree.proofs.DirtyLemmas.{step-layout}
 use Rattle.hac_core.proofs.StandingLemmas.{is-live, live-is}
 use Rattle.file_tree.specs.Answers.{is_live}
 
@@ -62,7 +62,7 @@ pub depth-is : (s : State) (n : ℕ) → length (ancestors (PATH_LIMIT + 1) s.en
 unfolding lineage
 depth-is s n = sym (length-path s n)
 
--- Counts that pass the limits of a state.
+-- Counts that exceed the limits of a state.
 
 pub same-pass : (t : State) (told : Counts) → told ≡ counts t → PassAs t told
 same-pass t told same = record { layout = ap (λ (c : Counts). first_passed (layout_limits c)) same; answers = ap (λ (c : Counts). first_passed (answer_limits c)) same }
@@ -239,7 +239,7 @@ unq-passes s dir h =
     less-within k m n less within = let high : n ≤ k = ltb-false k n within in le-ltb k m (omega arith)
 
 -- what neither makes nor writes nor moves nor asks passes none
-pub others-pass : (s : State) (r : Resolved) (told : Counts) → IsLayout s → Stands s r → (is_linking r ≡ false → blocked s r ≡ None) → told ≡ counts s →
+pub others-pass : (s : State) (r : Resolved) (told : Counts) → IsLayout s → AllStand s r → (is_linking r ≡ false → blocked s r ≡ None) → told ≡ counts s →
     ((p : Place) → r ≡ Mkdir p → ⊥) → ((p : Place) (q : Formula ℕ) → r ≡ Smkdir p q → ⊥) → ((p : Place) (text : List ℕ) → r ≡ Write p text → ⊥) → ((n : ℕ) (q : Formula ℕ) → r ≡ Setq n q → ⊥) → ((n : ℕ) (p : Place) → r ≡ Mv n p → ⊥) → PassAs (led_to s r) told
 others-pass s (Mkdir p) told h stands free same a b c q d = absurd (a p refl)
 others-pass s (Smkdir p asked) told h stands free same a b c q d = absurd (b p asked refl)
@@ -247,8 +247,8 @@ others-pass s (Write p text) told h stands free same a b c q d = absurd (c p tex
 others-pass s (Setq n asked) told h stands free same a b c q d = absurd (q n asked refl)
 others-pass s (Mv n p) told h stands free same a b c q d = absurd (d n p refl)
 others-pass s (Rmdir dir) told h stands free same a b c q d =
-    let root = no_cause _ (full_cause s dir ∷ referenced_cause s dir ∷ []) (free refl) in
-    let full = no_cause (full_cause s dir) (referenced_cause s dir ∷ []) root.1 in
+    let root = no_cause _ (filled_cause s dir ∷ referenced_cause s dir ∷ []) (free refl) in
+    let full = no_cause (filled_cause s dir) (referenced_cause s dir ∷ []) root.1 in
     none-pass s (removed s dir) told h.limits (bare-passes s dir h (no_other (is_bare s.entries dir) (refusal.NotEmpty (path_of s dir)) full.0)) same
 others-pass s (Rm n) told h stands free same a b c q d =
     let root = no_cause _ (directory_cause s n ∷ []) (free refl) in

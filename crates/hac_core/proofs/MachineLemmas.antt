@@ -2,7 +2,7 @@
 use Rattle.std.proofs.Common.{◌≡◌, List, [], ◌∷◌, subst, ap, sym, ◌∙◌}
 use Rattle.std.specs.Prelude.{Option, None, Ok}
 use Rattle.std.specs.Option.{option_map}
-use Rattle.hac_model.specs.Answers.{first_cause}
+use Rattle.hac_model.specs.Answers.{first_cause, Refuses}
 use Rattle.hac_model.specs.Laws.{AllHappen}
 use Rattle.hac_model.specs.Limits.{answer_limits, counts, first_passed}
 use Rattle.hac_model.specs.Refusals.{answer_cause, cause, cause_against, early_cause, events_of, refusal}
@@ -20,8 +20,8 @@ use Rattle.hac_model.specs.declared.resolved.Resolved.TheVariants as resolved
 use Rattle.hac_model.specs.declared.resolved.Resolved.TheVariants.{Cat, Ls, Query, Sls, Find}
 use Rattle.hac_model.specs.declared.states.State.{State}
 use Rattle.hac_model.proofs.EventLemmas.{commands-happen}
-use Rattle.hac_core.specs.Drafts.{IsDraft, Refuses, reads}
-use Rattle.hac_core.specs.Settling.{Settles, events_in}
+use Rattle.hac_core.specs.Drafts.{IsDraft, reads}
+use Rattle.hac_core.specs.Settling.{Settles, settled_events}
 use Rattle.hac_core.specs.declared.drafts.Settled.{Settled}
 use Rattle.std.specs.Prelude.{true}
 use Rattle.hac_core.proofs.LimitingLemmas.{within-answers}
@@ -40,7 +40,7 @@ module _ (s : State) (r : Resolved) where
   none-cause early answers = ap (λ (o : Option Refusal). first_cause (o ∷ answer_cause s r ∷ [])) early ∙ ap (λ (o : Option Refusal). first_cause (o ∷ [])) answers
 
   -- nothing speaks against a draft that passes no other limit, and its events can happen
-  pub draft-settles : (settled : Settled) → IsValid s → IsDraft s r → answer_cause s r ≡ None → events_in settled ≡ events_of s r → Settles s r settled
+  pub draft-settles : (settled : Settled) → IsValid s → IsDraft s r → answer_cause s r ≡ None → settled_events settled ≡ events_of s r → Settles s r settled
   draft-settles settled h made within events =
       let free : cause s r ≡ None = none-cause made.1.cause within in
       record {

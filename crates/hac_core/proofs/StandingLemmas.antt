@@ -24,10 +24,10 @@ use Rattle.hac_model.proofs.EventLemmas as event
 use Rattle.hac_model.proofs.EventLemmas.{PlaceStands, resolved-stands}
 use Rattle.hac_model.proofs.PathLemmas.{root-none}
 use Rattle.hac_model.proofs.TreeLemmas.{Lives}
-use Rattle.file_tree.specs.Answers.{is_live, kind_at, kind_in}
+use Rattle.file_tree.specs.Answers.{is_live, entry_kind_at, entry_kind}
 use Rattle.file_tree.specs.declared.tree.EntryKind.{EntryKind}
 use Rattle.file_tree.specs.declared.tree.EntryKind.TheVariants as kind
-use Rattle.hac_core.specs.Standing.{Stands, StandsAt}
+use Rattle.hac_core.specs.Standing.{AllStand, StandsAt}
 use Rattle.hac_core.specs.Limiting.{are_texts}
 
 pub live-is : (es : List Entry) (n : ℕ) → Lives es n → is_live es n ≡ true
@@ -54,7 +54,7 @@ is_dir_kind kind.Dir = true
 is_dir_kind kind.Semantic = true
 is_dir_kind other = false
 
-kind-body : (b : Body) → is_dir_kind (kind_in b) ≡ is_directory b
+kind-body : (b : Body) → is_dir_kind (entry_kind b) ≡ is_directory b
 kind-body (body.File text dirty shown) = refl
 kind-body body.Dir = refl
 kind-body (body.Symlink target) = refl
@@ -62,11 +62,11 @@ kind-body (body.Semantic query permanent prohibited) = refl
 kind-body (body.Mount space documents answers) = refl
 
 -- the kind of what lives tells whether it is a directory
-pub kind-directory : (s : State) (n : ℕ) → IsLayout s → is_live s.entries n ≡ true → is_dir_kind (kind_at s.entries n) ≡ is_directory_at s.entries n
+pub kind-directory : (s : State) (n : ℕ) → IsLayout s → is_live s.entries n ≡ true → is_dir_kind (entry_kind_at s.entries n) ≡ is_directory_at s.entries n
 kind-directory s n h lives =
-    elim (n == 0) as (λ b. (n == 0) ≡ b → (b || is_some (entry_at s.entries n)) ≡ true → is_dir_kind (kind_at s.entries n) ≡ (b || option_map_or is_directory (option_map (λ (e : Entry). e.body) (entry_at s.entries n)) false)) [
-      | true ↦ (λ root lives. ap (λ (o : Option Entry). is_dir_kind (option_map_or kind_in (option_map (λ (e : Entry). e.body) o) kind.Dir)) (ap (λ (k : ℕ). entry_at s.entries k) (eqb-true n 0 root) ∙ root-none s h))
-      | false ↦ (λ other lives. elim (entry_at s.entries n) as (λ o. is_some o ≡ true → is_dir_kind (option_map_or kind_in (option_map (λ (e : Entry). e.body) o) kind.Dir) ≡ option_map_or is_directory (option_map (λ (e : Entry). e.body) o) false) [
+    elim (n == 0) as (λ b. (n == 0) ≡ b → (b || is_some (entry_at s.entries n)) ≡ true → is_dir_kind (entry_kind_at s.entries n) ≡ (b || option_map_or is_directory (option_map (λ (e : Entry). e.body) (entry_at s.entries n)) false)) [
+      | true ↦ (λ root lives. ap (λ (o : Option Entry). is_dir_kind (option_map_or entry_kind (option_map (λ (e : Entry). e.body) o) kind.Dir)) (ap (λ (k : ℕ). entry_at s.entries k) (eqb-true n 0 root) ∙ root-none s h))
+      | false ↦ (λ other lives. elim (entry_at s.entries n) as (λ o. is_some o ≡ true → is_dir_kind (option_map_or entry_kind (option_map (λ (e : Entry). e.body) o) kind.Dir) ≡ option_map_or is_directory (option_map (λ (e : Entry). e.body) o) false) [
         | None ↦ (λ lives. absurd cc)
         | Some e ↦ (λ lives. kind-body e.body)
       ] lives)
@@ -76,7 +76,7 @@ place-stands : (s : State) (place : Place) → PlaceStands s place → StandsAt 
 place-stands s (There number) h = live-is s.entries number h
 place-stands s (Free dir name) h = h.directory
 
-command-stands : (s : State) (r : Resolved) → event.Stands s r → Stands s r × (are_texts r ≡ true)
+command-stands : (s : State) (r : Resolved) → event.Stands s r → AllStand s r × (are_texts r ≡ true)
 command-stands s (Mkdir place) h = (place-stands s place h, refl)
 command-stands s (Rmdir dir) h = (h, refl)
 command-stands s (Write place text) h = (place-stands s place h.0, h.1)
@@ -97,7 +97,7 @@ command-stands s Index h = (tt, refl)
 command-stands s Counts h = (tt, refl)
 
 -- all that a line speaks of stands in the state, and its text is one
-pub line-stands : (s : State) (line : Line) (r : Resolved) → IsValid s → IsTrue (is_spelled line.command) → resolve s line ≡ Ok r → Stands s r × (are_texts r ≡ true)
+pub line-stands : (s : State) (line : Line) (r : Resolved) → IsValid s → IsTrue (is_spelled line.command) → resolve s line ≡ Ok r → AllStand s r × (are_texts r ≡ true)
 line-stands s line r h spelled comes = command-stands s r (resolved-stands s line.session line.command r h spelled comes)
 
 -- a denial goes on

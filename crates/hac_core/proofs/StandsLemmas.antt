@@ -6,10 +6,10 @@ use Rattle.hac_model.specs.declared.places.Place.TheVariants.{There, Free}
 use Rattle.hac_model.specs.declared.resolved.Resolved.{Resolved}
 use Rattle.hac_model.specs.declared.resolved.Resolved.TheVariants.{Mkdir, Rmdir, Write, Cat, Ls, Mv, Rm, Smkdir, Setq, Unq, Query, Sls, Sln, Srm, Sforget, Find, Index, Counts}
 use Rattle.file_tree.specs.Answers.{is_live}
-use Rattle.hac_core.specs.Linked.{state_of}
-use Rattle.hac_core.specs.Standing.{Stands, StandsAt}
-use Rattle.hac_core.specs.declared.linked.LinkedTree.{LinkedTree}
-use Rattle.hac_core.proofs.StateLemmas.{same-asks, same-directory, same-some}
+use Rattle.linked_tree.specs.Linked.{state_of}
+use Rattle.hac_core.specs.Standing.{AllStand, StandsAt}
+use Rattle.linked_tree.specs.declared.linked.LinkedTree.{LinkedTree}
+use Rattle.linked_tree.proofs.StateLemmas.{same-asks, same-directory, same-some}
 
 module _ (kept : LinkedTree) where
   live : (n : ℕ) → IsTrue (is_live (state_of kept).entries n) → IsTrue (is_live kept.tree.state.entries n)
@@ -19,7 +19,7 @@ module _ (kept : LinkedTree) where
   place (There number) h = live number h
   place (Free dir name) h = sym (same-directory kept dir) ∙ h
 
-  pub stands-kept : (r : Resolved) → Stands (state_of kept) r → Stands kept.tree.state r
+  pub stands-kept : (r : Resolved) → AllStand (state_of kept) r → AllStand kept.tree.state r
   stands-kept (Mkdir p) h = place p h
   stands-kept (Rmdir dir) h = sym (same-directory kept dir) ∙ h
   stands-kept (Write p text) h = place p h

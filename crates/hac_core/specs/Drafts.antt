@@ -1,12 +1,9 @@
 -- Commands that a state doesn't refuse so far.
-use Rattle.std.specs.Prelude.{◌≡◌, ⊤, Bool, true, false, Option, Some, None, Ok, IsTrue}
+use Rattle.std.specs.Prelude.{◌≡◌, Bool, true, false, None, Ok, IsTrue}
 use Rattle.hac_model.specs.Lines.{is_spelled}
 use Rattle.hac_model.specs.Refusals.{early_cause}
 use Rattle.hac_model.specs.Resolving.{resolve}
 use Rattle.hac_model.specs.declared.commands.Line.{Line}
-use Rattle.hac_model.specs.declared.replies.Deny.{Deny}
-use Rattle.hac_model.specs.declared.replies.Deny.TheVariants.{Refused, Memory}
-use Rattle.hac_model.specs.declared.replies.Refusal.{Refusal}
 use Rattle.hac_model.specs.declared.resolved.Resolved.{Resolved}
 use Rattle.hac_model.specs.declared.resolved.Resolved.TheVariants.{Cat, Ls, Query, Sls, Find, Counts}
 use Rattle.hac_model.specs.declared.states.State.{State}
@@ -21,7 +18,7 @@ reads (Find query) = true
 reads Counts = true
 reads other = false
 
--- a line comes to the command, and nothing speaks against it so far: the limits that hang on what spaces answer are left
+-- a line comes to the command, and nothing speaks against it so far: the limits that depend on what spaces answer are left
 pub record IsDraftOf (s : State) (line : Line) (draft : Resolved) : Type 0 where
   pub spelled : IsTrue (is_spelled line.command)
   pub resolved : resolve s line ≡ Ok draft
@@ -30,8 +27,3 @@ pub record IsDraftOf (s : State) (line : Line) (draft : Resolved) : Type 0 where
 -- some line does
 abbrev pub IsDraft : State → Resolved → Type 0
 IsDraft s draft = (line : Line) × IsDraftOf s line draft
-
--- the call was denied for the cause that there is, unless memory ran out
-abbrev pub Refuses : Deny → Option Refusal → Type 0
-Refuses (Refused refusal) cause = cause ≡ Some refusal
-Refuses Memory cause = ⊤

@@ -10,11 +10,11 @@ use Rattle.hac_model.specs.declared.events.Event.{Event}
 use Rattle.hac_model.specs.declared.events.Event.TheVariants.{Smkdir, Setq, Mark, Mv, Rmdir}
 use Rattle.hac_model.specs.declared.states.State.{State}
 
--- the counts pass no limit
+-- the counts exceed no limit
 abbrev pub passes_none : Counts → Bool
 passes_none counts = is_none (first_passed (layout_limits counts)) && is_none (first_passed (answer_limits counts))
 
--- what the event speaks of stands in the tree. Marks, links and the queries of other directories are left aside.
+-- what the event refers to is in the tree. Marks, links and the queries of other directories are left out.
 abbrev pub is_placed : State → Event → Bool
 is_placed s (Smkdir dir name query told) = is_free s dir name && (may_ask s query && length told == 0)
 is_placed s (Setq dir query told) = is_made_directory s.entries dir && (may_ask s query && length told == 0)
@@ -31,6 +31,6 @@ is_clear s (Mv entry dir name) = is_none (cycle_of_move s entry dir)
 is_clear s (Rmdir dir) = is_unreferenced s dir
 is_clear s other = true
 
--- what the event speaks of stands in the tree, and it passes no limit
+-- what the event refers to is in the tree, and it exceeds no limit
 abbrev pub may_come : State → Event → Bool
 may_come s event = is_placed s event && is_none (passed (apply s event))

@@ -1,15 +1,8 @@
 pub mod Standing
-pub mod Counting
 pub mod Limiting
 pub mod Drafts
 pub mod Blocking
 pub mod Settling
-pub mod Ready
 pub mod Seen
-pub mod Counted
 pub mod Shape
-pub mod Linked
-pub mod Finding
-pub mod Paths
-pub mod Telling
 pub mod Fitting

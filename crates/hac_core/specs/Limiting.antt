@@ -1,4 +1,4 @@
--- Which limits a command would pass, told by counts.
+-- Which limits a command would exceed, told by counts.
 use Rattle.std.specs.Prelude.{◌≡◌, ℕ, zero, suc, Bool, true, false, is_some, map, IsTrue}
 use Rattle.std.specs.List.{list_all}
 use Rattle.hac_model.specs.Events.{added, changed_at, is_bare, is_inside, reseated}
@@ -13,7 +13,7 @@ use Rattle.hac_model.specs.declared.resolved.Resolved.TheVariants.{Write}
 use Rattle.hac_model.specs.declared.states.Body.{Body}
 use Rattle.hac_model.specs.declared.states.State.{State}
 
--- the counts pass the limits that the state passes
+-- the counts exceed the limits that the state passes
 pub record PassAs (state : State) (told : Counts) : Type 0 where
   pub layout : first_passed (layout_limits told) ≡ first_passed (layout_limits (counts state))
   pub answers : first_passed (answer_limits told) ≡ first_passed (answer_limits (counts state))
@@ -23,12 +23,12 @@ abbrev pub is_shallow : ℕ → State → ℕ → Bool
 is_shallow zero s dir = is_bare s.entries dir
 is_shallow (suc names) s dir = list_all (is_shallow names s) (map (λ child. child.number) (children s dir))
 
--- the state with a new entry at a place where nothing stands
+-- the state with a new entry at a place where nothing is
 abbrev pub with_new : State → Place → Body → State
 with_new s (There number) body = s
 with_new s (Free dir name) body = added s dir name body
 
--- the state with an entry at another place where nothing stands
+-- the state with an entry at another place where nothing is
 abbrev pub with_moved : State → ℕ → Place → State
 with_moved s entry (There number) = s
 with_moved s entry (Free dir name) = changed_at s entry (reseated dir name)

@@ -10,12 +10,12 @@ use Rattle.hac_core.specs.declared.drafts.Settled.{Settled}
 use Rattle.hac_core.specs.declared.drafts.Settled.TheVariants.{Change, Steps}
 
 -- the events, one after the other
-abbrev pub events_in : Settled → List Event
-events_in (Change event) = event ∷ []
-events_in (Steps count) = replicate count Step
+abbrev pub settled_events : Settled → List Event
+settled_events (Change event) = event ∷ []
+settled_events (Steps count) = replicate count Step
 
 -- nothing speaks against the command, and these are its events, which can happen
 pub record Settles (s : State) (draft : Resolved) (settled : Settled) : Type 0 where
   pub cause : cause s draft ≡ None
-  pub events : events_in settled ≡ events_of s draft
-  pub happen : AllHappen s (events_in settled)
+  pub events : settled_events settled ≡ events_of s draft
+  pub happen : AllHappen s (settled_events settled)

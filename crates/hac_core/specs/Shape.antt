@@ -1,7 +1,7 @@
 -- How a machine keeps a state, and what is ready.
 use Rattle.hac_model.specs.Laws.{AllHappen}
-use Rattle.hac_core.specs.Linked.{IsLinked, state_of}
-use Rattle.hac_core.specs.Ready.{Suits, ready_events}
+use Rattle.linked_tree.specs.Linked.{IsLinked, state_of}
+use Rattle.linked_tree.specs.Ready.{Suits, ready_events}
 use Rattle.hac_core.specs.Seen.{Seen}
 use Rattle.hac_core.specs.declared.machine.Machine.TheInside.{Inside}
 

@@ -1,4 +1,4 @@
--- What a command whose paths were followed speaks of.
+-- What a command whose paths were followed refers to.
 use Rattle.std.specs.Prelude.{⊤, IsTrue}
 use Rattle.hac_model.specs.Events.{may_ask}
 use Rattle.hac_model.specs.Tree.{is_directory_at}
@@ -19,23 +19,23 @@ abbrev pub IsFree : Place → Type 0
 IsFree (There number) = ⊥
 IsFree (Free dir name) = ⊤
 
--- so does all that the command speaks of
-abbrev pub Stands : State → Resolved → Type 0
-Stands s (Mkdir place) = StandsAt s place
-Stands s (Rmdir dir) = IsTrue (is_directory_at s.entries dir)
-Stands s (Write place text) = StandsAt s place
-Stands s (Cat entry) = IsTrue (is_live s.entries entry)
-Stands s (Ls dir) = IsTrue (is_directory_at s.entries dir)
-Stands s (Mv entry place) = IsTrue (is_live s.entries entry) × StandsAt s place
-Stands s (Rm entry) = IsTrue (is_live s.entries entry)
-Stands s (Smkdir place query) = StandsAt s place × IsTrue (may_ask s query)
-Stands s (Setq dir query) = IsTrue (is_directory_at s.entries dir) × IsTrue (may_ask s query)
-Stands s (Unq dir) = IsTrue (is_directory_at s.entries dir)
-Stands s (Query dir) = IsTrue (is_directory_at s.entries dir)
-Stands s (Sls dir) = IsTrue (is_directory_at s.entries dir)
-Stands s (Sln item dir) = IsTrue (is_live s.entries item) × IsTrue (is_directory_at s.entries dir)
-Stands s (Srm item dir) = IsTrue (is_live s.entries item) × IsTrue (is_directory_at s.entries dir)
-Stands s (Sforget item dir) = IsTrue (is_live s.entries item) × IsTrue (is_directory_at s.entries dir)
-Stands s (Find query) = IsTrue (may_ask s query)
-Stands s Index = ⊤
-Stands s Counts = ⊤
+-- so does everything that the command refers to
+abbrev pub AllStand : State → Resolved → Type 0
+AllStand s (Mkdir place) = StandsAt s place
+AllStand s (Rmdir dir) = IsTrue (is_directory_at s.entries dir)
+AllStand s (Write place text) = StandsAt s place
+AllStand s (Cat entry) = IsTrue (is_live s.entries entry)
+AllStand s (Ls dir) = IsTrue (is_directory_at s.entries dir)
+AllStand s (Mv entry place) = IsTrue (is_live s.entries entry) × StandsAt s place
+AllStand s (Rm entry) = IsTrue (is_live s.entries entry)
+AllStand s (Smkdir place query) = StandsAt s place × IsTrue (may_ask s query)
+AllStand s (Setq dir query) = IsTrue (is_directory_at s.entries dir) × IsTrue (may_ask s query)
+AllStand s (Unq dir) = IsTrue (is_directory_at s.entries dir)
+AllStand s (Query dir) = IsTrue (is_directory_at s.entries dir)
+AllStand s (Sls dir) = IsTrue (is_directory_at s.entries dir)
+AllStand s (Sln item dir) = IsTrue (is_live s.entries item) × IsTrue (is_directory_at s.entries dir)
+AllStand s (Srm item dir) = IsTrue (is_live s.entries item) × IsTrue (is_directory_at s.entries dir)
+AllStand s (Sforget item dir) = IsTrue (is_live s.entries item) × IsTrue (is_directory_at s.entries dir)
+AllStand s (Find query) = IsTrue (may_ask s query)
+AllStand s Index = ⊤
+AllStand s Counts = ⊤

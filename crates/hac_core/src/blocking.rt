@@ -1,25 +1,24 @@
-//! What stands in the way of a command whose paths were followed. Limits are left aside.
+//! What blocks a command whose paths were followed. Limits are left out.
 ghost use Rattle.std.specs.Prelude.{◌≡◌, ◌∷◌, [], IsTrue};
-ghost use Rattle.hac_model.specs.Answers.{first_cause};
+ghost use Rattle.hac_model.specs.Answers.{first_cause, Passes};
 ghost use Rattle.hac_model.specs.Events.{is_inside};
-ghost use Rattle.hac_model.specs.Refusals.{blocked, directory_cause, full_cause, plain_cause, root_cause, taken_cause, under_cause, written_cause};
+ghost use Rattle.hac_model.specs.Refusals.{blocked, directory_cause, filled_cause, plain_cause, root_cause, taken_cause, under_cause, written_cause};
 ghost use Rattle.file_tree.specs.Answers.{is_live};
-ghost use Rattle.hac_core.specs.Blocking.{Passes, is_alone};
-ghost use Rattle.hac_core.specs.Linked.{IsLinked, state_of};
-ghost use Rattle.hac_core.specs.Standing.{Stands, StandsAt};
+ghost use Rattle.hac_core.specs.Blocking.{is_alone};
+ghost use Rattle.linked_tree.specs.Linked.{IsLinked, state_of};
+ghost use Rattle.hac_core.specs.Standing.{AllStand, StandsAt};
 
-use crate::linked::LinkedTree;
-use crate::marking::{linked, marked, not_permanent};
-use crate::referring::unreferenced;
 use crate::resolving::is_directory;
 use file_tree::Tree;
 use hac_model::{Deny, Number, Place, Refusal, Resolved};
+use linked_tree::LinkedTree;
 use std::alloc::Global;
+use tree_answers::{linked, marked, not_permanent, unreferenced};
 
-/// Denies a command in whose way something stands, for the first such cause.
+/// Denies a command that something blocks, for the first such cause.
 pub fn unblocked(alloc: Global, kept: &LinkedTree, command: &Resolved) -> Result<(), Deny>
     requires linked { IsLinked kept.now }
-    requires stands { Stands kept.now.tree.state command.now }
+    requires stands { AllStand kept.now.tree.state command.now }
     ensures { Passes result (blocked (state_of kept.now) command.now) }
 {
     match command {
@@ -31,18 +30,18 @@ pub fn unblocked(alloc: Global, kept: &LinkedTree, command: &Resolved) -> Result
     }
 }
 
-/// The same of a command that hangs on no link and on no other query, told by the state.
+/// The same of a command that depends on no link and on no other query, told by the state.
 fn unblocked_alone(kept: &LinkedTree, command: &Resolved) -> Result<(), Deny>
-    requires stands { Stands kept.now.tree.state command.now }
+    requires stands { AllStand kept.now.tree.state command.now }
     requires alone { IsTrue (is_alone command.now) }
     ensures { Passes result (blocked (state_of kept.now) command.now) }
 {
     unblocked_in(kept.tree.tree(), command)
 }
 
-/// The same of a command that hangs on no link and no other query.
+/// The same of a command that depends on no link and no other query.
 fn unblocked_in(tree: &Tree, command: &Resolved) -> Result<(), Deny>
-    requires stands { Stands tree.now.state command.now }
+    requires stands { AllStand tree.now.state command.now }
     requires alone { IsTrue (is_alone command.now) }
     ensures { Passes result (blocked tree.now.state command.now) }
 {
@@ -67,7 +66,7 @@ fn unblocked_in(tree: &Tree, command: &Resolved) -> Result<(), Deny>
     }
 }
 
-/// A directory goes in which nothing stands, and that no query names.
+/// The directory to be removed is empty, and no query names it.
 fn removable(alloc: Global, kept: &LinkedTree, dir: Number) -> Result<(), Deny>
     requires { IsLinked kept.now }
     ensures { Passes result (blocked (state_of kept.now) (Resolved.Rmdir dir)) }
@@ -99,7 +98,7 @@ fn droppable(alloc: Global, kept: &LinkedTree, item: Number, dir: Number) -> Res
     linked(alloc, kept, item, dir)
 }
 
-/// A mark in a semantic directory is taken away.
+/// A mark in a semantic directory is removed.
 fn forgettable(kept: &LinkedTree, item: Number, dir: Number) -> Result<(), Deny>
     requires linked { IsLinked kept.now }
     requires item { IsTrue (is_live kept.now.tree.state.entries item) }
@@ -110,7 +109,7 @@ fn forgettable(kept: &LinkedTree, item: Number, dir: Number) -> Result<(), Deny>
     marked(kept, item, dir)
 }
 
-/// No directory stands where an item is wanted.
+/// No directory is where an item is wanted.
 fn no_directory(kept: &LinkedTree, item: Number) -> Result<(), Deny>
     requires { IsTrue (is_live kept.now.tree.state.entries item) }
     ensures { Passes result (directory_cause (state_of kept.now) item) }
@@ -125,14 +124,14 @@ fn asking(kept: &LinkedTree, dir: Number) -> Result<(), Deny>
     semantic(kept.tree.tree(), dir)
 }
 
-/// Nothing stands in a directory that is to go.
+/// A directory to be removed is empty.
 fn empty(kept: &LinkedTree, dir: Number) -> Result<(), Deny>
-    ensures { Passes result (full_cause (state_of kept.now) dir) }
+    ensures { Passes result (filled_cause (state_of kept.now) dir) }
 {
     bare(kept.tree.tree(), dir)
 }
 
-/// The root neither goes nor moves.
+/// The root can't be removed or moved.
 fn not_root(number: Number) -> Result<(), Deny>
     ensures { Passes result (root_cause number) }
 {
@@ -142,7 +141,7 @@ fn not_root(number: Number) -> Result<(), Deny>
     Ok(())
 }
 
-/// Nothing stands where something is to be made.
+/// Nothing is where something is to be created.
 fn vacant(tree: &Tree, place: &Place) -> Result<(), Deny>
     ensures { Passes result (taken_cause tree.now.state place.now) }
 {
@@ -152,7 +151,7 @@ fn vacant(tree: &Tree, place: &Place) -> Result<(), Deny>
     }
 }
 
-/// A text is written to a file, or where nothing stands.
+/// A text is written to a file, or where nothing is.
 fn writable(tree: &Tree, place: &Place) -> Result<(), Deny>
     requires { StandsAt tree.now.state place.now }
     ensures { Passes result (written_cause tree.now.state place.now) }
@@ -163,7 +162,7 @@ fn writable(tree: &Tree, place: &Place) -> Result<(), Deny>
     }
 }
 
-/// No directory stands where a file is wanted.
+/// No directory is where a file is wanted.
 fn file(tree: &Tree, number: Number) -> Result<(), Deny>
     requires { IsTrue (is_live tree.now.state.entries number) }
     ensures { Passes result (directory_cause tree.now.state number) }
@@ -174,9 +173,9 @@ fn file(tree: &Tree, number: Number) -> Result<(), Deny>
     Ok(())
 }
 
-/// Nothing stands in a directory that is to go.
+/// A directory to be removed is empty.
 fn bare(tree: &Tree, dir: Number) -> Result<(), Deny>
-    ensures { Passes result (full_cause tree.now.state dir) }
+    ensures { Passes result (filled_cause tree.now.state dir) }
 {
     if tree.children(dir).is_empty() {
         return Ok(());
@@ -184,7 +183,7 @@ fn bare(tree: &Tree, dir: Number) -> Result<(), Deny>
     Err(Deny::Refused(Refusal::NotEmpty(tree.path_of(dir)?)))
 }
 
-/// An entry doesn't go into itself.
+/// An entry doesn't move into itself.
 fn outside(tree: &Tree, entry: Number, place: &Place) -> Result<(), Deny>
     requires entry { IsTrue (is_live tree.now.state.entries entry) }
     requires place { StandsAt tree.now.state place.now }
@@ -199,7 +198,7 @@ fn outside(tree: &Tree, entry: Number, place: &Place) -> Result<(), Deny>
     Ok(())
 }
 
-/// Whether a directory is an entry, or stands below it.
+/// Whether a directory is an entry, or is below it.
 pub fn is_inside(tree: &Tree, dir: Number, entry: Number) -> bool
     requires dir { IsTrue (is_live tree.now.state.entries dir) }
     requires entry { IsTrue (is_live tree.now.state.entries entry) }

@@ -1,4 +1,4 @@
-//! Commands between the test whether a state refuses them and what they come to.
+//! Commands that passed the first tests, before their outcome is known.
 ghost use Rattle.std.specs.Prelude.{◌≡◌};
 ghost use Rattle.hac_core.specs.Drafts.{reads};
 
@@ -57,7 +57,7 @@ impl Draft {
     }
 }
 
-/// What a command that changes the state comes to.
+/// The outcome of a command that changes the state.
 #[derive(Debug, Drop)]
 pub enum Settled {
     /// One event.

@@ -1,22 +1,22 @@
-//! What a command that changes the state comes to.
+//! The outcome of a command that changes the state.
 ghost use Rattle.std.specs.Prelude.{◌≡◌, ◌∷◌, [], None, false};
 ghost use Rattle.hac_model.specs.Events.{dirty};
 ghost use Rattle.hac_model.specs.Refusals.{blocked, events_of, marks, writes};
 ghost use Rattle.hac_core.specs.Drafts.{reads};
-ghost use Rattle.hac_core.specs.Linked.{state_of};
-ghost use Rattle.hac_core.specs.Settling.{events_in};
+ghost use Rattle.linked_tree.specs.Linked.{state_of};
+ghost use Rattle.hac_core.specs.Settling.{settled_events};
 ghost use Rattle.hac_core.specs.Standing.{IsFree};
 
 use crate::drafts::Settled;
-use crate::linked::LinkedTree;
 use hac_model::{Event, Kind, Mark, Name, Number, Place, Resolved, Seq, Text};
+use linked_tree::LinkedTree;
 use std::alloc::Global;
 
-/// What comes of a command in whose way nothing stands.
+/// The outcome of a command that nothing blocks.
 pub fn events_of(alloc: Global, kept: &LinkedTree, command: Resolved) -> Settled
     requires free { blocked (state_of kept.now) command ≡ None }
     requires changes { reads command ≡ false }
-    ensures { events_in result ≡ events_of (state_of kept.now) command }
+    ensures { settled_events result ≡ events_of (state_of kept.now) command }
 {
     match command {
         Resolved::Mkdir { place } => {
@@ -53,7 +53,7 @@ pub fn events_of(alloc: Global, kept: &LinkedTree, command: Resolved) -> Settled
     }
 }
 
-/// How many files are to be indexed.
+/// How many files are dirty.
 fn dirty(kept: &LinkedTree) -> u64
     ensures { result ≡ dirty (state_of kept.now) }
 {
@@ -62,12 +62,12 @@ fn dirty(kept: &LinkedTree) -> u64
 
 /// An item gets a mark in a directory, or loses it.
 fn marking(item: Number, dir: Number, kind: Kind) -> Settled
-    ensures { events_in result ≡ marks item dir kind }
+    ensures { settled_events result ≡ marks item dir kind }
 {
     Settled::Change(Event::Mark(Mark { dir, item, kind }))
 }
 
-/// The directory and the name of a place where nothing stands.
+/// The directory and the name of a free place.
 fn vacancy(place: Place) -> (Number, Name)
     requires { IsFree place }
     ensures { place ≡ Place.Free result.0 result.1 }
@@ -78,7 +78,7 @@ fn vacancy(place: Place) -> (Number, Name)
     }
 }
 
-/// A text goes to a file that stands there, or to a new one.
+/// A text is written to the file that is there, or to a new one.
 fn writing(place: Place, text: Text) -> Event
     ensures { result ∷ [] ≡ writes place text }
 {

@@ -1,25 +1,21 @@
-//! Whether an event can happen to the state, whoever tells it. Commands come to such events alone; a log may hold any.
+//! Whether an event can happen to the state, wherever it comes from. Commands make only such events; a log may hold any.
 ghost use Rattle.std.specs.Prelude.{◌≡◌, ◌==◌, ◌&&◌, is_none, is_some, length, IfOk, IsTrue};
 ghost use Rattle.hac_model.specs.Events.{accepted, apply, is_free, may_ask};
 ghost use Rattle.hac_model.specs.Limits.{is_text, passed};
 ghost use Rattle.hac_model.specs.Tree.{entry_at, is_made_directory};
 ghost use Rattle.hac_core.specs.Fitting.{is_clear, is_placed, may_come, passes_none};
-ghost use Rattle.hac_core.specs.Linked.{IsLinked, state_of};
+ghost use Rattle.linked_tree.specs.Linked.{IsLinked, state_of};
 
 use crate::asking::may_ask;
 use crate::blocking::is_inside;
-use crate::counted::CountedTree;
-use crate::counting::{of_directory, of_file, of_semantic};
-use crate::edges::{cycle_of_move, cycle_of_query};
 use crate::limiting::{with_entry, with_query, with_reseated, with_rewritten};
-use crate::linked::LinkedTree;
-use crate::marking::may_mark;
-use crate::referring::is_unreferenced;
-use crate::resolving::know_layout;
 use file_tree::Tree;
 use hac_model::{Counts, Event, Memory, Name, Number, Query, Seq, TEXT_LIMIT, Text, first_passed};
 use hac_names::is_name;
+use linked_tree::counting::{of_directory, of_file, of_semantic};
+use linked_tree::{CountedTree, LinkedTree, cycle_of_move, cycle_of_query, know_layout};
 use std::alloc::Global;
+use tree_answers::{is_unreferenced, may_mark};
 
 /// Whether an event can happen to the state.
 pub fn fits(alloc: Global, kept: &LinkedTree, event: &Event) -> Result<bool, Memory>
@@ -32,14 +28,14 @@ pub fn fits(alloc: Global, kept: &LinkedTree, event: &Event) -> Result<bool, Mem
     is_clear(alloc, kept, event)
 }
 
-/// Whether what an event speaks of stands in the tree, and it passes no limit.
+/// Whether what an event refers to is in the tree, and it exceeds no limit.
 fn may_come(tree: &CountedTree, event: &Event) -> bool
     ensures { result ≡ may_come tree.now.state event.now }
 {
     is_placed(tree, event) && is_within(tree, event)
 }
 
-/// Whether what an event speaks of stands in the tree. An event that no command makes yet never happens.
+/// Whether what an event refers to is in the tree. An event that no command makes yet never happens.
 fn is_placed(counted: &CountedTree, event: &Event) -> bool
     ensures { result ≡ is_placed counted.now.state event.now }
 {
@@ -71,7 +67,8 @@ fn is_placed(counted: &CountedTree, event: &Event) -> bool
     }
 }
 
-/// Whether no limit is passed by an event that is placed. Only what comes, grows, asks or moves can pass one.
+/// Whether an event whose references are in the tree exceeds no limit. Only a new entry, a new text, a query or a move can
+/// exceed one.
 fn is_within(tree: &CountedTree, event: &Event) -> bool
     requires { IsTrue (is_placed tree.now.state event.now) }
     ensures { result ≡ is_none (passed (apply tree.now.state event.now)) }
@@ -111,7 +108,7 @@ fn is_clear(alloc: Global, kept: &LinkedTree, event: &Event) -> Result<bool, Mem
     }
 }
 
-/// Whether counts pass no limit.
+/// Whether counts exceed no limit.
 fn passes_none(counts: Counts) -> bool
     ensures { result ≡ passes_none counts }
 {
@@ -139,21 +136,21 @@ fn len(text: &Text) -> u64
     text.as_slice().len() as u64
 }
 
-/// Whether a query may be asked, and no space told anything.
+/// Whether a query may be asked, and no space answered anything.
 fn may_be_asked(tree: &Tree, query: &Query<Number>, told: &Seq<Seq<Number>>) -> bool
     ensures { result ≡ may_ask tree.now.state query.now && length told.now == 0 }
 {
     may_ask(tree, query) && told.as_slice().is_empty()
 }
 
-/// Whether an entry may go to a directory under a name, limits and queries left aside.
+/// Whether an entry may go to a directory under a name, limits and queries left out.
 fn may_go(tree: &Tree, entry: Number, dir: Number, name: &Name) -> bool
     ensures { result ≡ is_placed tree.now.state (Event.Mv entry dir name.now) }
 {
     is_entry(tree, entry) && is_free(tree, dir, name) && !is_inside(tree, dir, entry)
 }
 
-/// Whether a file is to be indexed.
+/// Whether a file is dirty.
 fn is_due(tree: &CountedTree) -> bool
     ensures { result ≡ is_placed tree.now.state Event.Step }
 {

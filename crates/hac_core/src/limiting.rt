@@ -1,4 +1,4 @@
-//! How much there would be after a command, told before anything changes.
+//! How much a state would hold after a command, before anything changes.
 ghost use Rattle.std.specs.Prelude.{◌≡◌, ◌<◌, ◌≤◌, ◌^◌, false, ℕ, List, length, IsTrue, None};
 ghost use Rattle.hac_model.specs.Events.{added, apply_all, asking, changed_at, edited, reseated, rewritten};
 ghost use Rattle.hac_model.specs.Limits.{are_paths_short, counts};
@@ -8,22 +8,21 @@ ghost use Rattle.hac_model.specs.Tree.{ancestors, is_directory_at, is_file_at, i
 ghost use Rattle.hac_model.specs.declared.states.Body.{Body};
 ghost use Rattle.file_tree.specs.Answers.{is_live};
 ghost use Rattle.hac_core.specs.Blocking.{is_linking};
-ghost use Rattle.hac_core.specs.Counting.{AreSmall, share_of};
+ghost use Rattle.linked_tree.specs.Counting.{AreSmall, share_of};
 ghost use Rattle.hac_core.specs.Limiting.{GoesTo, PassAs, are_texts, is_shallow, with_moved, with_new};
-ghost use Rattle.hac_core.specs.Standing.{Stands, StandsAt};
+ghost use Rattle.hac_core.specs.Standing.{AllStand, StandsAt};
 
-use crate::counted::CountedTree;
-use crate::counting::{
+use file_tree::Tree;
+use hac_model::{Counts, Number, PATH_LIMIT, Place, Resolved};
+use linked_tree::counting::{
     as_new, of_directory, of_file, of_semantic, plus, replaced, share_at, with_long_paths,
     written_share,
 };
-use crate::resolving::know_layout;
-use file_tree::Tree;
-use hac_model::{Counts, Number, PATH_LIMIT, Place, Resolved};
+use linked_tree::{CountedTree, know_layout};
 
-/// How much there would be after a command in whose way nothing stands. One that can pass no limit counts for nothing.
+/// How much the state would hold after a command that nothing blocks. One that can exceed no limit counts as nothing.
 pub fn counts_after(tree: &CountedTree, command: &Resolved) -> Counts
-    requires stands { Stands tree.now.state command.now }
+    requires stands { AllStand tree.now.state command.now }
     requires texts { IsTrue (are_texts command.now) }
     requires free { is_linking command.now ≡ false → blocked tree.now.state command.now ≡ None }
     ensures { PassAs (led_to tree.now.state command.now) result }
@@ -39,7 +38,7 @@ pub fn counts_after(tree: &CountedTree, command: &Resolved) -> Counts
     }
 }
 
-/// How much there would be with a new entry at a place where nothing stands, which counts for so much.
+/// How much the state would hold with a new entry at a place where nothing is, given its share of the counts.
 fn with_new(tree: &CountedTree, place: &Place, share: Counts) -> Counts
     requires place { StandsAt tree.now.state place.now }
     requires small { AreSmall share }
@@ -51,7 +50,7 @@ fn with_new(tree: &CountedTree, place: &Place, share: Counts) -> Counts
     }
 }
 
-/// How much there would be with a new entry in a directory, which counts for so much.
+/// How much the state would hold with a new entry in a directory, given its share of the counts.
 pub fn with_entry(tree: &CountedTree, dir: Number, share: Counts) -> Counts
     requires dir { IsTrue (is_directory_at tree.now.state.entries dir) }
     requires small { AreSmall share }
@@ -61,7 +60,7 @@ pub fn with_entry(tree: &CountedTree, dir: Number, share: Counts) -> Counts
     plus(tree.counts(), as_new(share, is_long))
 }
 
-/// How much there would be with a text of so many bytes, in a new file or in place of another text.
+/// How much the state would hold with a text of so many bytes, in a new file or in place of another text.
 fn with_text(tree: &CountedTree, place: &Place, bytes: u64) -> Counts
     requires place { StandsAt tree.now.state place.now }
     requires free { written_cause tree.now.state place.now ≡ None }
@@ -75,7 +74,7 @@ fn with_text(tree: &CountedTree, place: &Place, bytes: u64) -> Counts
     }
 }
 
-/// How much there would be with a text of so many bytes in a file.
+/// How much the state would hold with a text of so many bytes in a file.
 pub fn with_rewritten(tree: &CountedTree, file: Number, bytes: u64) -> Counts
     requires file { IsTrue (is_file_at tree.now.state.entries file) }
     requires small { bytes < 2 ^ 62 }
@@ -86,7 +85,7 @@ pub fn with_rewritten(tree: &CountedTree, file: Number, bytes: u64) -> Counts
     replaced(tree.counts(), old, new)
 }
 
-/// How much there would be with a query in a directory that isn't the root.
+/// How much the state would hold with a query in a directory that isn't the root.
 pub fn with_query(tree: &CountedTree, dir: Number) -> Counts
     requires { IsTrue (is_made_directory tree.now.state.entries dir) }
     ensures { (query : Formula ℕ) → result ≡ counts (changed_at tree.now.state dir (edited (asking query))) }
@@ -95,9 +94,9 @@ pub fn with_query(tree: &CountedTree, dir: Number) -> Counts
     replaced(tree.counts(), old, of_semantic())
 }
 
-/// How much there would be with an entry at a place where nothing stands.
+/// How much the state would hold with an entry at a place where nothing is.
 fn with_moved(tree: &CountedTree, entry: Number, place: &Place) -> Counts
-    requires stands { Stands tree.now.state (Resolved.Mv entry place.now) }
+    requires stands { AllStand tree.now.state (Resolved.Mv entry place.now) }
     requires free { blocked tree.now.state (Resolved.Mv entry place.now) ≡ None }
     ensures { result ≡ counts (with_moved tree.now.state entry place.now) }
 {
@@ -107,7 +106,7 @@ fn with_moved(tree: &CountedTree, entry: Number, place: &Place) -> Counts
     }
 }
 
-/// How much there would be with an entry in a directory to which it may go.
+/// How much the state would hold with an entry in a directory to which it may go.
 pub fn with_reseated(tree: &CountedTree, entry: Number, dir: Number) -> Counts
     requires { GoesTo tree.now.state entry dir }
     ensures { (name : List ℕ) → result ≡ counts (changed_at tree.now.state entry (reseated dir name)) }
@@ -116,7 +115,7 @@ pub fn with_reseated(tree: &CountedTree, entry: Number, dir: Number) -> Counts
     with_long_paths(tree.counts(), is_long)
 }
 
-/// Whether all paths are still short once an entry stands in a directory. What stands below it is looked at only where it
+/// Whether all paths are still short once an entry is in a directory. Its contents are looked at only where it
 /// goes deeper.
 fn stays_short(tree: &Tree, entry: Number, dir: Number) -> bool
     requires { GoesTo tree.now.state entry dir }

@@ -1,4 +1,4 @@
-//! What the commands that read tell of the tree: the text of a file, and what stands in a directory.
+//! The data lines of commands that read: the text of a file, the entries of a directory, and more.
 ghost use Rattle.std.specs.Prelude.{◌≡◌, ◌&&◌, ◌∷◌, [], None, IfOk, IsSome, IsTrue, Some, map};
 ghost use Rattle.std.specs.Option.{option_map};
 ghost use Rattle.hac_model.specs.Listing.{children, entry_line, letter};
@@ -6,24 +6,21 @@ ghost use Rattle.hac_model.specs.Play.{data_lines, text_lines};
 ghost use Rattle.hac_model.specs.Refusals.{blocked};
 ghost use Rattle.hac_model.specs.Tree.{entry_at, is_file_at};
 ghost use Rattle.hac_model.specs.declared.states.Body.{Body};
-ghost use Rattle.file_tree.specs.Answers.{kind_in};
-ghost use Rattle.hac_core.specs.Linked.{IsLinked, state_of};
-ghost use Rattle.hac_core.specs.Standing.{Stands};
+ghost use Rattle.file_tree.specs.Answers.{entry_kind};
+ghost use Rattle.linked_tree.specs.Linked.{IsLinked, state_of};
+ghost use Rattle.hac_core.specs.Standing.{AllStand};
 
-use crate::counting_lines::counts_lines;
-use crate::link_lines::{found_lines, link_lines};
-use crate::linked::LinkedTree;
-use crate::query_lines::query_lines;
-use crate::resolving::know_layout;
 use file_tree::{EntryKind, Tree};
 use hac_model::{Memory, Name, Number, Resolved};
 use hac_names::print_text;
+use linked_tree::{LinkedTree, know_layout};
 use std::alloc::Global;
+use tree_answers::{counts_lines, found_lines, link_lines, query_lines};
 
-/// The data lines of a command in whose way nothing stands. One that changes the state has none.
+/// The data lines of a command that nothing blocks. One that changes the state has none.
 pub fn data_lines(alloc: Global, kept: &LinkedTree, command: &Resolved) -> Result<Vec<Name>, Memory>
     requires linked { IsLinked kept.now }
-    requires stands { Stands kept.now.tree.state command.now }
+    requires stands { AllStand kept.now.tree.state command.now }
     requires free { blocked (state_of kept.now) command.now ≡ None }
     ensures { IfOk result (λ lines. lines.items ≡ data_lines (state_of kept.now) command.now) }
 {
@@ -51,7 +48,7 @@ fn text_lines(alloc: Global, tree: &Tree, file: Number) -> Result<Vec<Name>, Mem
     Ok(lines)
 }
 
-/// What stands in a directory, in byte order of names.
+/// The entries of a directory, in byte order of names.
 fn child_lines(alloc: Global, tree: &Tree, dir: Number) -> Result<Vec<Name>, Memory>
     ensures { IfOk result (λ lines. lines.items ≡ map entry_line (children tree.now.state dir)) }
 {
@@ -77,7 +74,7 @@ fn child_line(alloc: Global, tree: &Tree, entry: Number) -> Result<Name, Memory>
 
 /// The letter of a kind.
 fn letter(kind: EntryKind) -> u8
-    ensures { (body : Body) → kind ≡ kind_in body → result ∷ [] ≡ letter body }
+    ensures { (body : Body) → kind ≡ entry_kind body → result ∷ [] ≡ letter body }
 {
     match kind {
         EntryKind::Dir => b'd',

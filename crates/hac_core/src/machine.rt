@@ -1,7 +1,7 @@
 //! The machine itself.
 ghost use Rattle.std.specs.Prelude.{◌≡◌, [], IfOk, IfErr, IsTrue, None, OnOk, OnErr, true, false};
 ghost use Rattle.std.specs.Option.{option_map};
-ghost use Rattle.hac_model.specs.Answers.{Answers};
+ghost use Rattle.hac_model.specs.Answers.{Answers, Passes, Refuses};
 ghost use Rattle.hac_model.specs.Events.{accepted, apply_all, dirty};
 ghost use Rattle.hac_model.specs.Laws.{AllHappen};
 ghost use Rattle.hac_model.specs.Limits.{first_passed};
@@ -11,24 +11,22 @@ ghost use Rattle.hac_model.specs.Refusals.{answer_cause, blocked, cause, early_c
 ghost use Rattle.hac_model.specs.Resolving.{resolve};
 ghost use Rattle.hac_model.specs.Tree.{empty};
 ghost use Rattle.hac_model.specs.Valid.{IsValid};
-ghost use Rattle.hac_core.specs.Blocking.{Passes};
-ghost use Rattle.hac_core.specs.Drafts.{IsDraft, IsDraftOf, Refuses, reads};
+ghost use Rattle.hac_core.specs.Drafts.{IsDraft, IsDraftOf, reads};
 ghost use Rattle.hac_core.specs.Limiting.{are_texts};
-ghost use Rattle.hac_core.specs.Linked.{IsLinked, state_of};
-ghost use Rattle.hac_core.specs.Settling.{Settles, events_in};
-ghost use Rattle.hac_core.specs.Standing.{Stands};
+ghost use Rattle.linked_tree.specs.Linked.{IsLinked, state_of};
+ghost use Rattle.hac_core.specs.Settling.{Settles, settled_events};
+ghost use Rattle.hac_core.specs.Standing.{AllStand};
 
 use crate::blocking::unblocked;
+use crate::cycles::acyclic;
 use crate::drafts::{Draft, Settled};
-use crate::edges::acyclic;
 use crate::events::events_of;
 use crate::fitting::fits;
 use crate::limiting::counts_after;
-use crate::linked::LinkedTree;
 use crate::listing::data_lines;
-use crate::ready::{self, Ready};
 use crate::resolving::resolve;
 use hac_model::{Deny, Event, Limit, Line, Memory, Refusal, Reply, Resolved, Seq, first_passed};
+use linked_tree::{LinkedTree, Ready};
 use std::alloc::Global;
 use std::marker::Model;
 use std::mem;
@@ -67,7 +65,7 @@ impl Machine {
         })
     }
 
-    /// How many files are to be indexed.
+    /// How many files are dirty.
     pub fn dirty(&self) -> u64
         ensures dirty { result ≡ dirty self.now.state }
         ensures valid { IsValid self.now.state }
@@ -76,7 +74,7 @@ impl Machine {
     }
 
     /// Follows the paths of a line that spells a command, and tells whether the state refuses it: for what the paths
-    /// lead to, for what stands in the way, for a limit on the tree itself, or because a directory would depend on
+    /// lead to, for what blocks it, for a limit on the tree itself, or because a directory would depend on
     /// itself, in this order.
     pub fn check(&self, line: Line) -> Result<Draft, Deny>
         requires { IsTrue (is_spelled line.command) }
@@ -101,7 +99,7 @@ impl Machine {
         Ok(Reply::Lines(Seq::new(lines)))
     }
 
-    /// What a command comes to that changes the state, unless it would pass a limit that `check` leaves aside.
+    /// The outcome of a command that changes the state, unless it would exceed a limit that `check` leaves aside.
     pub fn settle(&self, draft: Draft) -> Result<Settled, Deny>
         requires made { IsDraft self.now.state draft }
         requires changes { reads draft ≡ false }
@@ -120,27 +118,27 @@ impl Machine {
         fits(self.alloc, &self.kept, event)
     }
 
-    /// Takes the memory that events want, so that `commit` lets them happen. The state stays as it is, whatever the
-    /// answer, and what was ready before no longer is.
+    /// Takes the memory that events want, so that `commit` can apply them. The state doesn't change, whatever the answer,
+    /// and what was prepared before is dropped.
     pub fn prepare(&mut self, settled: Settled) -> Result<(), Memory>
-        requires { AllHappen self.old.state (events_in settled) }
-        ensures ok { OnOk result (self.new ≡ record { state = self.old.state; ready = events_in settled }) }
+        requires { AllHappen self.old.state (settled_events settled) }
+        ensures ok { OnOk result (self.new ≡ record { state = self.old.state; ready = settled_events settled }) }
         ensures err { OnErr result (self.new ≡ record { state = self.old.state; ready = [] }) }
     {
         self.ready = Ready::Nothing;
         self.ready = match settled {
-            Settled::Change(event) => ready::prepare(self.alloc, &mut self.kept, event)?,
+            Settled::Change(event) => linked_tree::prepare(self.alloc, &mut self.kept, event)?,
             Settled::Steps(count) => Ready::Steps(count),
         };
         Ok(())
     }
 
-    /// Lets happen what is ready. This takes no memory, and can't fail.
+    /// Applies the prepared events. This takes no memory, and can't fail.
     pub fn commit(&mut self)
         ensures { self.new ≡ record { state = apply_all self.old.state self.old.ready; ready = [] } }
     {
         let ready = mem::replace(&mut self.ready, Ready::Nothing);
-        ready::put(&mut self.kept, ready);
+        linked_tree::put(&mut self.kept, ready);
     }
 }
 
@@ -155,7 +153,7 @@ fn followed(alloc: Global, kept: &LinkedTree, line: Line) -> Result<Resolved, De
 /// Denies a command that nothing blocks, if it would exceed a limit on what spaces answer: for the first such limit.
 fn answerable(kept: &LinkedTree, command: &Resolved) -> Result<(), Deny>
     requires linked { IsLinked kept.now }
-    requires stands { Stands kept.now.tree.state command.now }
+    requires stands { AllStand kept.now.tree.state command.now }
     requires texts { IsTrue (are_texts command.now) }
     requires free { blocked (state_of kept.now) command.now ≡ None }
     ensures { Passes result (answer_cause (state_of kept.now) command.now) }
@@ -163,11 +161,11 @@ fn answerable(kept: &LinkedTree, command: &Resolved) -> Result<(), Deny>
     within(&counts_after(&kept.tree, command).answer_limits())
 }
 
-/// Denies a command for what stands in its way, for the first limit on the tree itself that it would exceed, or because
+/// Denies a command for what blocks it, for the first limit on the tree itself that it would exceed, or because
 /// a directory would depend on itself.
 fn allowed(alloc: Global, kept: &LinkedTree, command: &Resolved) -> Result<(), Deny>
     requires linked { IsLinked kept.now }
-    requires stands { Stands kept.now.tree.state command.now }
+    requires stands { AllStand kept.now.tree.state command.now }
     requires texts { IsTrue (are_texts command.now) }
     ensures { Passes result (early_cause (state_of kept.now) command.now) }
 {
@@ -179,7 +177,7 @@ fn allowed(alloc: Global, kept: &LinkedTree, command: &Resolved) -> Result<(), D
 /// Denies a command that nothing blocks, if it would exceed a limit on the tree itself: for the first such limit.
 fn limited(kept: &LinkedTree, command: &Resolved) -> Result<(), Deny>
     requires linked { IsLinked kept.now }
-    requires stands { Stands kept.now.tree.state command.now }
+    requires stands { AllStand kept.now.tree.state command.now }
     requires texts { IsTrue (are_texts command.now) }
     requires free { blocked (state_of kept.now) command.now ≡ None }
     ensures { Passes result (layout_cause (state_of kept.now) command.now) }
@@ -187,7 +185,7 @@ fn limited(kept: &LinkedTree, command: &Resolved) -> Result<(), Deny>
     within(&counts_after(&kept.tree, command).layout_limits())
 }
 
-/// Denies a command for the first limit that is passed.
+/// Denies a command for the first limit that is exceeded.
 fn within(limits: &[Limit]) -> Result<(), Deny>
     ensures { Passes result (option_map Refusal.Limit (first_passed limits.now)) }
 {

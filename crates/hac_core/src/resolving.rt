@@ -11,6 +11,7 @@ use hac_model::{
     Command, Deny, Line, Memory, Name, Node, Number, Path, PathWord, Place, Query, RawQuery,
     Refusal, Resolved,
 };
+use linked_tree::know_layout;
 use std::alloc::Global;
 
 /// The command of a line with what its paths lead to, or the first cause against it that lies in them.
@@ -86,14 +87,6 @@ fn place(tree: &Tree, word: &PathWord) -> Result<Place, Deny>
         Err(Stop::Loop(_)) => unreachable!(),
         Err(Stop::Memory) => Err(Deny::Memory),
     }
-}
-
-/// The entries of a tree fit one another. This does nothing: it is called where a proof has to know so.
-pub fn know_layout(tree: &Tree)
-    ensures layout { IsLayout tree.now.state }
-    ensures sessions { tree.now.state.sessions ≡ [] }
-{
-    let _next = tree.next_number();
 }
 
 /// The entry to which a path word leads, or the root.

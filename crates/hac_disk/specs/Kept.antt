@@ -20,8 +20,8 @@ calls_of (Write at n ∷ older) kept = Wrote at (back n kept) ∷ calls_of older
 calls_of (Sync ∷ older) kept = Synced ∷ calls_of older kept
 calls_of (Attach n make ∷ older) kept = Attached (back n kept) make ∷ calls_of older (front n kept)
 
-abbrev pub state_of : Inside → DiskState
-state_of disk = record {
+abbrev pub disk_of : Inside → DiskState
+disk_of disk = record {
   first = contents disk.first_head.items disk.gap disk.first_tail.items;
   done = calls_of (reverse disk.log.items) disk.kept.items;
   gap_at = vec_len disk.head;
@@ -34,7 +34,7 @@ state_of disk = record {
 }
 
 -- the file is what the calls made of it, and there is room for what may still come
-pub record IsKept (disk : Inside) : Type 0 where
+pub record IsDisk (disk : Inside) : Type 0 where
   pub tells : contents disk.head.items disk.gap disk.tail.items ≡ file_after (contents disk.first_head.items disk.gap disk.first_tail.items) (calls_of (reverse disk.log.items) disk.kept.items)
   pub tail_room : vec_len disk.tail + disk.room ≤ vec_capacity disk.tail
   pub kept_room : vec_len disk.kept + disk.room ≤ vec_capacity disk.kept

@@ -53,8 +53,8 @@ abbrev pub told_by : DiskState → Option (List ℕ)
 told_by disk = Some (file_after disk.first disk.done)
 
 -- what a crash now may leave
-abbrev pub left_by : DiskState → List ℕ → Type 0
-left_by disk c = Image disk.first disk.done c
+abbrev pub left_after : DiskState → List ℕ → Type 0
+left_after disk c = Image disk.first disk.done c
 
 -- the moment: how many calls there were
 abbrev pub moment_of : DiskState → ℕ

@@ -144,29 +144,3 @@ fn sync_folder(rt: &HostRuntime, name: &str) -> io::Result<()> {
     };
     File::open(rt, folder)?.sync_all()
 }
-
-#[cfg(test)]
-mod tests {
-    use super::*;
-    use std::fs;
-    use std::test::Fail;
-
-    #[test]
-    fn disk_over_a_real_file(rt: HostRuntime) -> Result<(), Fail> {
-        let mut disk = FileDisk::new(&rt);
-        let mut into = [0; 3];
-        assert_eq!(rt; disk.len(), Err(Failed));
-        assert_eq!(rt; disk.attach("hac_disk_test.store", false), Err(Failed));
-        assert_eq!(rt; disk.attach("hac_disk_test.store", true), Ok(()));
-        assert_eq!(rt; disk.write_at(0, b"abcd"), Ok(()));
-        assert_eq!(rt; disk.sync(), Ok(()));
-        assert_eq!(rt; disk.attach("hac_disk_test.store", false), Ok(()));
-        assert_eq!(rt; disk.len(), Ok(4));
-        assert_eq!(rt; disk.read_at(1, &mut into), Ok(()));
-        assert_eq!(rt; into, *b"bcd");
-        assert_eq!(rt; disk.read_at(2, &mut into), Err(Failed));
-        assert_eq!(rt; disk.write_at(5, b"e"), Err(Failed));
-        fs::remove_file(&rt, "hac_disk_test.store")?;
-        Ok(())
-    }
-}

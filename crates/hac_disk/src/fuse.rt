@@ -97,21 +97,3 @@ impl<D: Disk> Disk for FuseDisk<D> {
         self.disk.sync()
     }
 }
-
-#[cfg(test)]
-mod tests {
-    use super::*;
-    use crate::{MemoryDisk, write_stable};
-    use std::test::Fail;
-
-    #[test]
-    fn fuse_stops_between_two_calls(rt: HostRuntime) -> Result<(), Fail> {
-        let disk = MemoryDisk::new(rt.alloc(), b"", 0, b"", 9, 9, &[])?;
-        let mut fuse = FuseDisk::new(disk, 3);
-        assert_eq!(rt; write_stable(&mut fuse, 0, b"ab"), Ok(()));
-        assert_eq!(rt; write_stable(&mut fuse, 2, b"cd"), Err(Failed));
-        assert_eq!(rt; fuse.len(), Err(Failed));
-        assert_eq!(rt; fuse.into_disk().len(), Ok(4));
-        Ok(())
-    }
-}

@@ -3,7 +3,7 @@
 ghost use Rattle.std.specs.Prelude.{◌≡◌, ◌⊎◌, ◌-◌, ◌<◌, ◌↔◌, ◌==◌, [], IfOk, IsErr, OnErr, OnOk, if◌then◌else◌, is_ok, length};
 ghost use Rattle.hac_outside.specs.Causes.{HasCause};
 ghost use Rattle.hac_disk.specs.Images.{Elapses, Follows, IsQuiet, Torn};
-ghost use Rattle.hac_disk.specs.Memory.{Attached, IsFailing, IsNextCall, Synced, TouchesGap, Wrote, attached_to, left_by, left_since, moment_of, told_by, with_call};
+ghost use Rattle.hac_disk.specs.Memory.{Attached, IsFailing, IsNextCall, Synced, TouchesGap, Wrote, attached_to, left_after, left_since, moment_of, told_by, with_call};
 ghost use Rattle.hac_disk.specs.Parts.{contents};
 ghost use Rattle.hac_disk.specs.Told.{Attaches, HasLength, IsSettled, RangeWithin, StandAt, StartsWithin, Written, WrittenInPart};
 
@@ -43,11 +43,11 @@ impl Model for MemoryDisk {
 
     ghost Value = { DiskState };
 
-    ghost use Rattle.hac_disk.specs.Kept.{IsKept, state_of};
+    ghost use Rattle.hac_disk.specs.Kept.{IsDisk, disk_of};
 
-    ghost view = { state_of };
+    ghost view = { disk_of };
 
-    ghost invariant = { IsKept };
+    ghost invariant = { IsDisk };
 }
 
 impl MemoryDisk {
@@ -108,7 +108,7 @@ impl Disk for MemoryDisk {
 
     ghost seen = { told_by };
 
-    ghost image = { left_by };
+    ghost image = { left_after };
 
     ghost moment = { moment_of };
 
@@ -126,7 +126,7 @@ impl Disk for MemoryDisk {
 
     fn attach(&mut self, name: &str, make: bool) -> Result<(), Failed>
         ensures attached { Attaches (attached_to self.old) name.now make result (attached_to self.new) }
-        ensures quiet { IsQuiet told_by left_by moment_of left_since self.old self.new }
+        ensures quiet { IsQuiet told_by left_after moment_of left_since self.old self.new }
         ensures cause { HasCause self.old.faults self.new.faults result }
 
         // Which calls fail, and what the others change.
@@ -151,7 +151,7 @@ impl Disk for MemoryDisk {
     fn len(&mut self) -> Result<u64, Failed>
         ensures len { IfOk result (λ len. HasLength (told_by self.old) len) }
         ensures attached { attached_to self.new ≡ attached_to self.old }
-        ensures quiet { IsQuiet told_by left_by moment_of left_since self.old self.new }
+        ensures quiet { IsQuiet told_by left_after moment_of left_since self.old self.new }
         ensures cause { HasCause self.old.faults self.new.faults result }
         ensures fails { IsErr result ↔ IsFailing self.old }
         ensures done { self.new.done ≡ self.old.done }
@@ -166,7 +166,7 @@ impl Disk for MemoryDisk {
         requires { RangeWithin (told_by self.old) at (length into.old) }
         ensures read { OnOk result (StandAt (told_by self.old) at into.new) }
         ensures attached { attached_to self.new ≡ attached_to self.old }
-        ensures quiet { IsQuiet told_by left_by moment_of left_since self.old self.new }
+        ensures quiet { IsQuiet told_by left_after moment_of left_since self.old self.new }
         ensures cause { HasCause self.old.faults self.new.faults result }
         ensures fails { IsErr result ↔ IsFailing self.old }
         ensures done { self.new.done ≡ self.old.done }
@@ -182,8 +182,8 @@ impl Disk for MemoryDisk {
         requires { StartsWithin (told_by self.old) at }
         ensures written { OnOk result (Written (told_by self.old) at bytes.now (told_by self.new)) }
         ensures in_part { OnErr result (WrittenInPart (told_by self.old) at (length bytes.now) (told_by self.new)) }
-        ensures images { Follows (Torn at (length bytes.now)) (left_by self.old) (left_by self.new) }
-        ensures time { Elapses (moment_of self.old) (moment_of self.new) (left_since self.old) (left_since self.new) (left_by self.new) }
+        ensures images { Follows (Torn at (length bytes.now)) (left_after self.old) (left_after self.new) }
+        ensures time { Elapses (moment_of self.old) (moment_of self.new) (left_since self.old) (left_since self.new) (left_after self.new) }
         ensures attached { attached_to self.new ≡ attached_to self.old }
         ensures cause { HasCause self.old.faults self.new.faults result }
         ensures fails { IsErr result ↔ (IsFailing self.old ⊎ ((self.old.room < length bytes.now) ⊎ TouchesGap self.old at (length bytes.now))) }
@@ -205,9 +205,9 @@ impl Disk for MemoryDisk {
     }
 
     fn sync(&mut self) -> Result<(), Failed>
-        ensures settled { OnOk result (IsSettled (told_by self.new) (left_by self.new)) }
+        ensures settled { OnOk result (IsSettled (told_by self.new) (left_after self.new)) }
         ensures attached { attached_to self.new ≡ attached_to self.old }
-        ensures quiet { IsQuiet told_by left_by moment_of left_since self.old self.new }
+        ensures quiet { IsQuiet told_by left_after moment_of left_since self.old self.new }
         ensures cause { HasCause self.old.faults self.new.faults result }
         ensures fails { IsErr result ↔ IsFailing self.old }
         ensures done { self.new.done ≡ with_call result Synced self.old.done }
@@ -216,29 +216,6 @@ impl Disk for MemoryDisk {
     {
         self.calls.begin()?;
         self.log.push(Step::Sync).unwrap();
-        Ok(())
-    }
-}
-
-#[cfg(test)]
-mod tests {
-    use super::*;
-    use std::test::Fail;
-
-    #[test]
-    fn calls_of_a_disk_in_memory(rt: HostRuntime) -> Result<(), Fail> {
-        let mut disk = MemoryDisk::new(rt.alloc(), b"ab", 3, b"cd", 9, 8, &[3])?;
-        let mut into = [9; 8];
-        assert_eq!(rt; disk.attach("s", true), Ok(()));
-        assert_eq!(rt; disk.write_at(6, b"xyz"), Ok(()));
-        assert_eq!(rt; disk.sync(), Err(Failed));
-        assert_eq!(rt; disk.sync(), Ok(()));
-        assert_eq!(rt; disk.write_at(1, b"m"), Ok(()));
-        assert_eq!(rt; disk.write_at(1, b"mn"), Err(Failed));
-        assert_eq!(rt; disk.len(), Ok(9));
-        assert_eq!(rt; disk.read_at(1, &mut into), Ok(()));
-        assert_eq!(rt; into, *b"m\0\0\0cxyz");
-        assert_eq!(rt; disk.len(), Err(Failed));
         Ok(())
     }
 }

@@ -15,6 +15,3 @@ pub use finding::Next;
 pub use laws::{closed_gates_end_a_log, found_records_are_whole, records_are_found};
 pub use reading::{LogReader, next};
 pub use records::{CLOSED, OPEN, STORE_LIMIT};
-
-#[cfg(test)]
-mod tests;

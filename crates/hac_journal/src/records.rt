@@ -13,7 +13,7 @@ pub const CLOSED: u8 = 0;
 /// The most bytes that a store has.
 pub const STORE_LIMIT: u64 = 4_294_967_296;
 
-// Where the records end that begin at `end`, or none where they and the gate behind them pass the limit.
+// Where the records end that begin at `end`, or none where they and the gate behind them exceed the limit.
 pub(crate) fn log_end(end: u64, payloads: &[Vec<u8>]) -> Option<u64>
     ensures { MatchOption result (STORE_LIMIT < end + length (log_of (contents_of payloads.now)))
         (λ new. (new ≡ end + length (records_of (contents_of payloads.now))) × (new < STORE_LIMIT)) }

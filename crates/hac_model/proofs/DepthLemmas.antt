@@ -75,7 +75,7 @@ paths-edited es n edit = each es
         number : (e : Entry) → (touched n (edited edit) e).number ≡ e.number
         number e = elim (e.number == n) as (λ b. (cond b (edited edit e) e).number ≡ e.number) [ true ↦ refl | false ↦ refl ]
 
--- A path where an entry went in which nothing stands.
+-- A path once an empty entry was removed.
 
 ancestors-removed : (steps n : ℕ) (es : List Entry) (m : ℕ) → AllByRecursion (λ e. n ≡ e.parent → ⊥) es → (n ≡ m → ⊥) → ancestors steps (filter (is_kept n) es) m ≡ ancestors steps es m
 ancestors-removed zero n es m bare other = refl

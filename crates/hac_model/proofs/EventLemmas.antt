@@ -12,12 +12,12 @@ use Rattle.hac_model.specs.Formula.{Formula}
 use Rattle.hac_model.specs.Formula as query
 use Rattle.hac_model.specs.Laws.{AllHappen}
 use Rattle.hac_model.specs.Limits.{answer_limits, counts, dirty_count, first_passed, is_text, layout_limits, passed}
-use Rattle.hac_model.specs.Lines.{is_spelled, is_word}
+use Rattle.hac_model.specs.Lines.{is_spelled, is_spelled_word}
 use Rattle.hac_model.specs.Paths.{are_names}
 use Rattle.hac_model.specs.Links.{has, is_item, is_permanent, is_prohibited, is_semantic, links, parent_of}
 use Rattle.hac_model.specs.Queries.{are_terms, is_query, letter_count, not_count, term_count}
 use Rattle.hac_model.specs.QueryReading.{are_rooted, is_spelled_query}
-use Rattle.hac_model.specs.Refusals.{already_cause, answer_cause, blocked, cause, cycle_by, cycle_cause, directory_cause, early_cause, events_of, full_cause, layout_cause, least_path, led_to, marks, plain_cause, referenced_cause, root_cause, taken_cause, under_cause, unlinked_cause, unmarked_cause}
+use Rattle.hac_model.specs.Refusals.{already_cause, answer_cause, blocked, cause, cycle_by, cycle_cause, directory_cause, early_cause, events_of, filled_cause, layout_cause, least_path, led_to, marks, plain_cause, referenced_cause, root_cause, taken_cause, under_cause, unlinked_cause, unmarked_cause}
 use Rattle.hac_model.specs.Resolving.{directed, directory, entry, item_and_dir, listed, numbered, place, resolve, resolved, standing}
 use Rattle.hac_model.specs.Sessions.{stands_in}
 use Rattle.hac_model.specs.Tree.{entry_at, is_directory_at, is_dirty, is_file_at, is_made_directory, path_of}
@@ -194,7 +194,7 @@ resolved-stands s session (command.Rmdir path) r h spelled leads =
     let same : Rmdir found.0 ≡ r = cc (found.2) in
     subst (Stands s) same (directory-stands s session path found.0 found.1)
 resolved-stands s session (command.Write path text) r h spelled leads =
-    let parts = and_parts (is_word path) (is_text text) spelled in
+    let parts = and_parts (is_spelled_word path) (is_text text) spelled in
     let found = then-ok (λ p. Ok (Write p text)) (place s session path) r leads in
     let same : Write found.0 text ≡ r = cc (found.2) in
     subst (Stands s) same (place-stands s session path found.0 h parts.0 found.1, parts.1)
@@ -207,7 +207,7 @@ resolved-stands s session (command.Ls path) r h spelled leads =
     let same : Ls found.0 ≡ r = cc (found.2) in
     subst (Stands s) same (listed-stands s session path found.0 h found.1)
 resolved-stands s session (command.Mv from to) r h spelled leads =
-    let parts = and_parts (is_word from) (is_word to) spelled in
+    let parts = and_parts (is_spelled_word from) (is_spelled_word to) spelled in
     let first = then-ok (λ n. and_then (λ p. Ok (Mv n p)) (place s session to)) (entry s session from) r leads in
     let found = then-ok (λ p. Ok (Mv first.0 p)) (place s session to) r first.2 in
     let same : Mv first.0 found.0 ≡ r = cc (found.2) in
@@ -217,13 +217,13 @@ resolved-stands s session (command.Rm path) r h spelled leads =
     let same : Rm found.0 ≡ r = cc (found.2) in
     subst (Stands s) same (entry-lives s session path found.0 found.1)
 resolved-stands s session (command.Smkdir path raw) r h spelled leads =
-    let parts = and_parts (is_word path) (is_spelled_query raw) spelled in
+    let parts = and_parts (is_spelled_word path) (is_spelled_query raw) spelled in
     let first = then-ok (λ p. and_then (λ q. Ok (Smkdir p q)) (numbered s session raw)) (place s session path) r leads in
     let found = then-ok (λ q. Ok (Smkdir first.0 q)) (numbered s session raw) r first.2 in
     let same : Smkdir first.0 found.0 ≡ r = cc (found.2) in
     subst (Stands s) same (place-stands s session path first.0 h parts.0 first.1, numbered-asks s session raw found.0 parts.1 found.1)
 resolved-stands s session (command.Setq path raw) r h spelled leads =
-    let parts = and_parts (is_word path) (is_spelled_query raw) spelled in
+    let parts = and_parts (is_spelled_word path) (is_spelled_query raw) spelled in
     let first = then-ok (λ n. and_then (λ q. Ok (Setq n q)) (numbered s session raw)) (directory s session path) r leads in
     let found = then-ok (λ q. Ok (Setq first.0 q)) (numbered s session raw) r first.2 in
     let same : Setq first.0 found.0 ≡ r = cc (found.2) in
@@ -273,7 +273,7 @@ no_limit : (o : Option LimitWord) → option_map refusal.Limit o ≡ None → o 
 no_limit None h = refl
 no_limit (Some word) h = absurd cc
 
--- nothing stands in the way, no directory would depend on itself, and the state that would come passes no limit
+-- nothing stands in the way, no directory would depend on itself, and the state that would come exceeds no limit
 pub cause-parts : (s : State) (r : Resolved) → cause s r ≡ None → (blocked s r ≡ None) × (cycle_cause s r ≡ None) × (passed (led_to s r) ≡ None)
 cause-parts s r h =
     let both = no_cause (early_cause s r) (answer_cause s r ∷ []) h in
@@ -401,8 +401,8 @@ pub unblocked-happen : (s : State) (r : Resolved) → IsValid s → Stands s r �
 unblocked-happen s (Mkdir (There number)) h there free acyclic limits = tt
 unblocked-happen s (Mkdir (Free dir name)) h there free acyclic limits = one-happens s (event.Mkdir dir name) (free-is s dir name there) limits
 unblocked-happen s (Rmdir dir) h there free acyclic limits =
-    let root = free-root s dir (full_cause s dir ∷ referenced_cause s dir ∷ []) free in
-    let full = no_cause (full_cause s dir) (referenced_cause s dir ∷ []) root.1 in
+    let root = free-root s dir (filled_cause s dir ∷ referenced_cause s dir ∷ []) free in
+    let full = no_cause (filled_cause s dir) (referenced_cause s dir ∷ []) root.1 in
     let named = no_cause (referenced_cause s dir) [] full.1 in
     let bare : is_bare s.entries dir ≡ true = no_other (is_bare s.entries dir) (refusal.NotEmpty (path_of s dir)) full.0 in
     let made : is_made_directory s.entries dir ≡ true = ap (λ (b : Bool). b || is_made_directory s.entries dir) (sym root.0) ∙ there in

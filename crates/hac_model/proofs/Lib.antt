@@ -8,6 +8,7 @@ pub mod QuoteLemmas
 pub mod TextLemmas
 pub mod WordLemmas
 pub mod LookLemmas
+pub mod AmongLemmas
 pub mod LinkLemmas
 pub mod CountLemmas
 pub mod ValidLemmas

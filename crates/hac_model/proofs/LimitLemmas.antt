@@ -1,4 +1,4 @@
--- A state that passes no limit is within each of them.
+-- A state that exceeds no limit is within each of them.
 use Rattle.std.proofs.Common.{◌≡◌, Bool, true, false, cond, refl, ap, ◌∙◌, List, [], ◌∷◌, ◌++◌}
 use Rattle.std.specs.Prelude.{nat_lt, Option, Some, None}
 use Rattle.hac_model.specs.Limits.{answer_limits, are_paths_short, counts, directory_count, file_count, first_passed, layout_limits, long_paths, passed, semantic_count, text_size}

@@ -1,6 +1,6 @@
 -- The links are the one fixed point of a round, where no directory depends on itself.
 use Rattle.std.proofs.Common.{◌≡◌, ℕ, zero, suc, ◌+◌, ◌≤◌, Bool, true, false, cond, List, [], ◌∷◌, length, refl, ap, sym, ◌∙◌, arith, eq-eqb, inl, inr}
-use Rattle.std.specs.Prelude.{◌&&◌, ◌||◌, ◌==◌, ◌⊎◌, ◌++◌, not, Option, Some, None, is_some, map, filter, option_and_then}
+use Rattle.std.specs.Prelude.{◌&&◌, ◌||◌, ◌==◌, ◌⊎◌, not, Option, Some, None, is_some, map, filter, option_and_then}
 use Rattle.std.specs.List.{list_any}
 use Rattle.std.specs.Option.{option_map_or, option_map}
 use Rattle.std.proofs.Math.Dec.{eqb}
@@ -14,6 +14,7 @@ use Rattle.hac_model.specs.Links.{parent_of, is_permanent, is_semantic, is_unmar
 use Rattle.hac_model.specs.Tree.{entry_at, body_at, query_in}
 use Rattle.hac_model.specs.declared.states.Entry.{Entry}
 use Rattle.hac_model.specs.declared.states.State.{State}
+use Rattle.hac_model.proofs.AmongLemmas.{among-left, among-right}
 use Rattle.hac_model.proofs.GraphLemmas.{leads_more}
 
 -- the number is taken out, wherever it is
@@ -99,20 +100,11 @@ edge-semantic s d e edge = elim (query_at s d) as (λ o. Among (option_map_or (�
 edge-among : (s : State) (d e : ℕ) → Among (depends s d) e → Among (semantic_numbers s.entries) d
 edge-among s d e edge = semantic-among s.entries d (edge-semantic s d e edge)
 
-among-left : (xs ys : List ℕ) (n : ℕ) → Among xs n → Among (xs ++ ys) n
-among-left [] ys n h = absurd h
-among-left (x ∷ xs) ys n (inl here) = inl here
-among-left (x ∷ xs) ys n (inr later) = inr (among-left xs ys n later)
-
-among-right : (xs ys : List ℕ) (n : ℕ) → Among ys n → Among (xs ++ ys) n
-among-right [] ys n h = h
-among-right (x ∷ xs) ys n h = inr (among-right xs ys n h)
-
 provide-same : (s : State) (a b : ℕ → Bool) (dir item : ℕ) → a dir ≡ b dir → provide s a dir item ≡ provide s b dir item
 provide-same s a b dir item same = ap (λ (t : Bool). is_below s dir item || (is_semantic s dir && (t || is_permanent s dir item))) same
 
 -- a query looks at the links of the directories that it names
-holds-same : (s : State) (a b : ℕ → Bool) (q : Formula ℕ) (item : ℕ) → ((e : ℕ) → Among (named_in q) e → a e ≡ b e) → holds s a q item ≡ holds s b q item
+pub holds-same : (s : State) (a b : ℕ → Bool) (q : Formula ℕ) (item : ℕ) → ((e : ℕ) → Among (named_in q) e → a e ≡ b e) → holds s a q item ≡ holds s b q item
 holds-same s a b (query.Term term) item same = refl
 holds-same s a b (query.Dir dir) item same = provide-same s a b dir item (same dir (inl refl))
 holds-same s a b (query.Not q) item same = ap not (holds-same s a b q item same)

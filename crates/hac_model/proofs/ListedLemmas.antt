@@ -15,7 +15,7 @@ use Rattle.hac_model.proofs.MarkLemmas.{has-filter}
 use Rattle.hac_model.proofs.TreeLemmas.{entry_at-next}
 
 -- conditions that agree on the members keep the same
-filter-agree : (p q : ℕ → Bool) (xs : List ℕ) → ((x : ℕ) → has xs x ≡ true → p x ≡ q x) → filter p xs ≡ filter q xs
+pub filter-agree : (p q : ℕ → Bool) (xs : List ℕ) → ((x : ℕ) → has xs x ≡ true → p x ≡ q x) → filter p xs ≡ filter q xs
 filter-agree p q [] same = refl
 filter-agree p q (y ∷ xs) same =
     let here : p y ≡ q y = same y (ap (λ (b : Bool). b || has xs y) (eq-eqb y y refl)) in

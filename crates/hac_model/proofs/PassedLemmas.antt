@@ -23,7 +23,7 @@ use Rattle.hac_model.proofs.ValidLemmas.{bare-all, file-bare, forgetting-measure
 smaller : (limit m n : ℕ) → m ≤ n → nat_lt limit n ≡ false → nat_lt limit m ≡ false
 smaller limit m n less within = let high : n ≤ limit = ltb-false limit n within in le-ltb limit m (omega arith)
 
--- an edit that keeps kinds, and makes no text longer, passes no limit
+-- an edit that keeps kinds, and makes no text longer, exceeds no limit
 pub edited-passes : (s : State) (n : ℕ) (edit : Body → Body) → IsLayout s → KeepsKind edit → text_size (changed_at s n (edited edit)).entries ≤ text_size s.entries → passed (changed_at s n (edited edit)) ≡ None
 edited-passes s n edit h keeps lighter =
     let old : IsWithinLimits s = limits-within s h.limits in
@@ -36,14 +36,14 @@ edited-passes s n edit h keeps lighter =
       numbers = old.numbers;
     })
 
--- a step passes no limit
+-- a step exceeds no limit
 pub step-passes : (s : State) → IsLayout s → passed (apply s Step) ≡ None
 step-passes s h = elim (next_dirty s.entries) as (λ o. passed (option_map_or (λ file. changed_at s file (edited indexed)) o s) ≡ None) [
   | None ↦ h.limits
   | Some file ↦ edited-passes s file indexed h indexed-keeps (text_size-indexed s file)
 ]
 
--- nor does it pass one that an entry goes in which nothing stands
+-- nor does it once an empty entry is removed
 pub removed-passes : (s : State) (n : ℕ) → IsLayout s → AllByRecursion (λ e. n ≡ e.parent → ⊥) s.entries → passed (removed s n) ≡ None
 removed-passes s n h bare =
     let old : IsWithinLimits s = limits-within s h.limits in

@@ -8,7 +8,7 @@ use Rattle.hac_model.specs.Answers.{first_cause}
 use Rattle.hac_model.specs.Events.{apply, apply_all, dirty}
 use Rattle.hac_model.specs.Lines.{Item, is_quiet, is_spelled, item_of, items_of}
 use Rattle.hac_model.specs.Payloads.{event_text}
-use Rattle.hac_model.specs.Play.{Setting, accepted, all_events, end_after, events_in, full_cause, left_by, play, refused, turn, turn_of, turns}
+use Rattle.hac_model.specs.Play.{Setting, answered, all_events, end_after, events_in, full_cause, left_by, play, refused, turn, turn_of, turns}
 use Rattle.hac_model.specs.Refusals.{cause, events_of, led_to}
 use Rattle.hac_model.specs.Resolving.{resolve}
 use Rattle.hac_model.specs.Script.{after_item, after_line, first_items, first_line, items_of_lines, script}
@@ -30,7 +30,7 @@ against setting command = first_cause (cause setting.state command ∷ full_caus
 command-valid : (setting : Setting) (line : Line) (r : Result Resolved Refusal) → IsValid setting.state → IsTrue (is_spelled line.command) → resolve setting.state line ≡ r → IsValid (turn_of setting r).after.state
 command-valid setting line (Err refusal) h spelled leads = h
 command-valid setting line (Ok command) h spelled leads =
-    elim (against setting command) as (λ o. against setting command ≡ o → IsValid (option_map_or (refused setting) o (accepted setting command)).after.state) [
+    elim (against setting command) as (λ o. against setting command ≡ o → IsValid (option_map_or (refused setting) o (answered setting command)).after.state) [
       | None ↦ (λ free. all-valid (events_of setting.state command) setting.state h (commands-happen setting.state line command h spelled leads (no_cause (cause setting.state command) (full_cause setting command ∷ []) free).0))
       | Some refusal ↦ (λ _. h)
     ] refl
@@ -72,7 +72,7 @@ apply_all-append (x ∷ xs) ys s = apply_all-append xs ys (apply s x)
 command-leads : (setting : Setting) (r : Result Resolved Refusal) → (turn_of setting r).after.state ≡ apply_all setting.state (events_in (turn_of setting r))
 command-leads setting (Err refusal) = refl
 command-leads setting (Ok command) =
-    elim (against setting command) as (λ o. (option_map_or (refused setting) o (accepted setting command)).after.state ≡ apply_all setting.state (events_in (option_map_or (refused setting) o (accepted setting command)))) [
+    elim (against setting command) as (λ o. (option_map_or (refused setting) o (answered setting command)).after.state ≡ apply_all setting.state (events_in (option_map_or (refused setting) o (answered setting command)))) [
       | None ↦ ap (apply_all setting.state) (sym (append-nil (events_of setting.state command)))
       | Some refusal ↦ refl
     ]
@@ -97,7 +97,7 @@ end_after-append (x ∷ xs) ys end = end_after-append xs ys (end + 5 + length (e
 command-ends : (setting : Setting) (r : Result Resolved Refusal) → (turn_of setting r).after.end ≡ end_after setting.end (events_in (turn_of setting r))
 command-ends setting (Err refusal) = refl
 command-ends setting (Ok command) =
-    elim (against setting command) as (λ o. (option_map_or (refused setting) o (accepted setting command)).after.end ≡ end_after setting.end (events_in (option_map_or (refused setting) o (accepted setting command)))) [
+    elim (against setting command) as (λ o. (option_map_or (refused setting) o (answered setting command)).after.end ≡ end_after setting.end (events_in (option_map_or (refused setting) o (answered setting command)))) [
       | None ↦ ap (end_after setting.end) (sym (append-nil (events_of setting.state command)))
       | Some refusal ↦ refl
     ]

@@ -16,7 +16,7 @@ use Rattle.hac_model.specs.Grammar.{is_control, Leaf, Word, Prefix, Dir, leaf_pa
 use Rattle.hac_model.specs.PathWords.{is_bad, has_long_part, untested_word, relative, parts, at_root, word_of}
 use Rattle.hac_model.specs.Paths.{are_names}
 use Rattle.hac_model.specs.Queries.{are_terms, is_operator, is_query, letter_count, not_count, term_count}
-use Rattle.hac_model.specs.QueryReading.{join_and, join_or, nots_part, enter, negate, receive, whole, after_and, after_or, grouped, leave, ungrouped, finish, kind_of, operand_begins, sign_begins, operator_begins, after_run, token_begins, run_ends, run_step, brace_step, path_step, escape_step, operand_step, sign_ends, operator_step, kind_step, step, ended_token, ended, start, goes_on, read_on, placed, named, worded, limited_query, spelled_query, read_query, are_rooted, is_spelled_query}
+use Rattle.hac_model.specs.QueryReading.{join_and, join_or, nots_part, enter, negate, receive, whole_part, after_and, after_or, grouped, leave, ungrouped, finish, kind_of, operand_begins, sign_begins, operator_begins, after_run, token_begins, run_ends, run_step, brace_step, path_step, escape_step, operand_step, sign_ends, operator_step, kind_step, step, ended_token, read_whole, fresh_reader, goes_on, read_on, parsed, named, worded, limited_query, spelled_query, read_query, are_rooted, is_spelled_query}
 use Rattle.hac_model.specs.Words.{has_bytes, is_word, is_word_byte, is_lower_word_byte, lower_case}
 use Rattle.hac_model.specs.declared.limits.TheConstants.{QUERY_LIMIT, TERMS_LIMIT, NESTING_LIMIT}
 use Rattle.hac_model.specs.declared.paths.PathWord.{PathWord}
@@ -181,11 +181,11 @@ grouped-good n part [] good levels few = tt
 grouped-good n part (level ∷ outer) good levels few =
     received n (group_part part) (record { level = level; outer = outer }) (good-group part good) levels.0 levels.1 few
 
-whole-few : (n : ℕ) (h : Held) → HeldGood n h → letters (whole h) + all_letters h.outer ≤ n
+whole-few : (n : ℕ) (h : Held) → HeldGood n h → letters (whole_part h) + all_letters h.outer ≤ n
 whole-few n h good = let few : any_letters h.ors + letters h.part + all_letters h.outer ≤ n = good.few in omega (arith, few, letters-or h.ors h.part)
 
 left-good : (n : ℕ) (h : Held) → HeldGood n h → IfSome (leave h) (λ h. HeldGood n h)
-left-good n h good = grouped-good n (whole h) h.outer (good-or h.ors h.part good.ors good.part) good.outer (whole-few n h good)
+left-good n h good = grouped-good n (whole_part h) h.outer (good-or h.ors h.part good.ors good.part) good.outer (whole-few n h good)
 
 ungrouped-good : (n : ℕ) (part : Part) (outer : List Level) → IsGood part → letters part + all_letters outer ≤ n
     → IfSome (ungrouped part outer) (λ part. PartGood n part)
@@ -193,7 +193,7 @@ ungrouped-good n part [] good few = record { good = good; few = omega (arith, fe
 ungrouped-good n part (level ∷ outer) good few = tt
 
 finished : (n : ℕ) (h : Held) → HeldGood n h → IfSome (finish h) (λ part. PartGood n part)
-finished n h good = ungrouped-good n (whole h) h.outer (good-or h.ors h.part good.ors good.part) (whole-few n h good)
+finished n h good = ungrouped-good n (whole_part h) h.outer (good-or h.ors h.part good.ors good.part) (whole-few n h good)
 
 -- Words.
 
@@ -496,7 +496,7 @@ token-ended n None good = tt
 token-ended n (Some (Wanting w)) good = tt
 token-ended n (Some (Holding h)) good = finished n h good
 
-ends : (n : ℕ) (reader : Reader) → ReaderGood n reader → IfSome (ended reader) (λ part. PartGood n part)
+ends : (n : ℕ) (reader : Reader) → ReaderGood n reader → IfSome (read_whole reader) (λ part. PartGood n part)
 ends n (Wants operand.Nothing w) good = tt
 ends n (Wants (operand.Run run) w) good = token-ended n (after_run run w) (run-ended n run w good)
 ends n (Wants operand.Brace w) good = tt
@@ -527,12 +527,12 @@ read-good : (bytes : List ℕ) (place n m : ℕ) (reader : Reader) → n + lengt
 unfolding read_on
 read-good [] place n m reader is good =
     let same : n ≡ m = omega (arith, is) in
-    subst (λ (m : ℕ). ReadGood m (ok_or (ended reader) place)) same (all-read n place (ended reader) (ends n reader good))
+    subst (λ (m : ℕ). ReadGood m (ok_or (read_whole reader) place)) same (all-read n place (read_whole reader) (ends n reader good))
 read-good (b ∷ bytes) place n m reader is good =
     goes n m place (read_on (place + 1) bytes) (step b reader) (steps b n reader good)
     (λ next there. read-good bytes (place + 1) (n + 1) m next (omega (arith, is)) there)
 
-start-good : ReaderGood 0 start
+start-good : ReaderGood 0 fresh_reader
 start-good = record { operand = tt; level = (tt, tt); outer = tt; few = le_refl 0 }
 
 -- Path words.
@@ -636,14 +636,14 @@ module _ (n : ℕ) (part : Part) (short : nat_lt QUERY_LIMIT n ≡ false) (good 
       ap is_spelled_query (sym kept.2) ∙ fits w is kept.0 kept.1
 
 read_good : (n : ℕ) (found : Result Part ℕ) (q : Formula PathWord) → nat_lt QUERY_LIMIT n ≡ false → ReadGood n found
-    → and_then (λ part. and_then (λ w. limited_query part.nesting w) (worded part.query)) (placed found) ≡ Ok q → is_spelled_query q ≡ true
+    → and_then (λ part. and_then (λ w. limited_query part.nesting w) (worded part.query)) (parsed found) ≡ Ok q → is_spelled_query q ≡ true
 read_good n (Err place) q short good e = absurd cc
 read_good n (Ok part) q short good e =
     limited_good n part short good (worded part.query) q (worded_good part.query good.good.terms good.good.paths) e
 
 short_good : (long : Bool) (bytes : List ℕ) (q : Formula PathWord) (x : Refusal) → nat_lt QUERY_LIMIT (length bytes) ≡ long → cond long (Err x) (spelled_query bytes) ≡ Ok q → is_spelled_query q ≡ true
 short_good true bytes q x short e = absurd cc
-short_good false bytes q x short e = read_good (length bytes) (read_on 1 bytes start) q short (read-good bytes 1 0 (length bytes) start (omega arith) start-good) e
+short_good false bytes q x short e = read_good (length bytes) (read_on 1 bytes fresh_reader) q short (read-good bytes 1 0 (length bytes) fresh_reader (omega arith) start-good) e
 
 -- a query that is read is as a line spells it
 pub read_spelled : (bytes : List ℕ) (q : Formula PathWord) → read_query bytes ≡ Ok q → is_spelled_query q ≡ true

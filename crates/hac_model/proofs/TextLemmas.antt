@@ -9,7 +9,7 @@ use Rattle.std.proofs.lemmas.Grind.{common_steps}
 use Rattle.std.proofs.lemmas.List.Folds.{prefix_len-append}
 use Rattle.std.proofs.lemmas.Str.{digit_value-digit_char}
 use Rattle.hac_model.specs.Bytes.{is_backslash, is_line_end}
-use Rattle.hac_model.specs.Texts.{escape_of, escaped_text, hex_of, numbered, escaped_byte, text_of, then_text, with_byte}
+use Rattle.hac_model.specs.Texts.{escape_of, escaped_text, hex_of, hex_byte, escaped_byte, text_of, then_text, with_byte}
 
 -- two digits are read as their number
 digits-read : (high low h l : ℕ) (rest : List ℕ) → digit_value high ≡ h → digit_value low ≡ l → h < 16 → l < 16 →
@@ -17,7 +17,7 @@ digits-read : (high low h l : ℕ) (rest : List ℕ) → digit_value high ≡ h 
 unfolding text_of
 digits-read high low h l rest e f hs ls =
     let both : (is_digit high 16 && is_digit low 16) ≡ true = rw (e, f) (grind (arith, nat_tests)) in
-    let value : numbered high low ≡ Some (h * 16 + l) =
+    let value : hex_byte high low ≡ Some (h * 16 + l) =
     ap (λ (b : Bool). if b then Some (digit_value high * 16 + digit_value low) else None) both
     ∙ ap (λ (n : ℕ). Some (n * 16 + digit_value low)) e
     ∙ ap (λ (n : ℕ). Some (h * 16 + n)) f in

@@ -85,7 +85,7 @@ reseated-layout s n dir name h free limits =
       limits = limits;
     }
 
--- an entry goes in which nothing stands
+-- an empty entry is removed
 pub removed-layout : (s : State) (n : ℕ) → IsLayout s → AllByRecursion (λ e. n ≡ e.parent → ⊥) s.entries → passed (removed s n) ≡ None → IsLayout (removed s n)
 removed-layout s n h bare limits =
     record {
@@ -231,7 +231,7 @@ rmdir-parts s dir h =
     let bare = and_parts (is_made_directory s.entries dir) (is_bare s.entries dir) named.0 in
     (bare.0, bare.1, named.1)
 
--- an event that is accepted fits, and leads to a state that passes no limit
+-- an event that is accepted fits, and leads to a state that exceeds no limit
 pub accepted-parts : (possible : Bool) (passes : Option LimitWord) → (possible && is_none passes) ≡ true → (possible ≡ true) × (passes ≡ None)
 accepted-parts possible passes h = let parts = and_parts possible (is_none passes) h in (parts.0, none_from passes parts.1)
 

@@ -14,7 +14,7 @@ use Rattle.hac_model.specs.declared.replies.Refusal.TheVariants.{NoPath, NotDir}
 use Rattle.hac_model.specs.declared.states.Entry.{Entry}
 use Rattle.hac_model.specs.declared.states.State.{State}
 
--- where names lead from a directory on, told the names that led there
+-- where names lead from a directory on, given the names that led there
 abbrev pub walk : List Entry → ℕ → List (List ℕ) → List (List ℕ) → Result Place Refusal
 walk es dir walked [] = Ok (There dir)
 walk es dir walked (name ∷ names) =

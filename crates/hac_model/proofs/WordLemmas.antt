@@ -19,7 +19,7 @@ pub record LeadsDown (name : List ℕ) : Type 0 where
   pub moves : is_idle name ≡ false
   pub down : is_up name ≡ false
 
--- `is_name`, told what its tests say
+-- `is_name`, given what its tests say
 name_by : (n : ℕ) (bytes dot up : Bool) → (nat_le 1 n && nat_le n 255 && bytes && not dot && not up) ≡ true
     → (bytes ≡ true) × (nat_lt 255 n ≡ false) × ((eqb n 0 || dot) ≡ false) × (up ≡ false)
 name_by n bytes dot up h = grind (arith, nat_tests)
@@ -37,7 +37,7 @@ pub name-from_leads_down : (part : List ℕ) → LeadsDown part → is_name part
 name-from_leads_down part h =
     down_by (length part) (list_all is_name_byte part) (bytes_eq part (codes ".")) (bytes_eq part (codes "..")) h.part h.short h.moves h.down
 
--- `before`, told what kind of part it is
+-- `before`, given what kind of part it is
 names_by : (idle up none : Bool) (part : List ℕ) (word : PathWord) → (idle ≡ false → up ≡ false → is_name part ≡ true) → are_names word.names ≡ true
     → are_names (cond idle word (cond up (record word { ups = word.ups + 1 })
     (cond none (record word { names = part ∷ word.names })

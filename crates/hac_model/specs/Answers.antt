@@ -20,6 +20,16 @@ abbrev pub AnswersSeen : {A B : Type 0} → (A → B) → Result A Deny → Resu
 AnswersSeen view (Ok value) wanted = wanted ≡ Ok (view value)
 AnswersSeen view (Err deny) wanted = Denies deny wanted
 
+-- the call was denied for the cause that there is, unless memory ran out
+abbrev pub Refuses : Deny → Option Refusal → Type 0
+Refuses (Refused refusal) cause = cause ≡ Some refusal
+Refuses Memory cause = ⊤
+
+-- the call let pass what no cause speaks against, and denied for the cause that there is, unless memory ran out
+abbrev pub Passes : {A : Type 0} → Result A Deny → Option Refusal → Type 0
+Passes (Ok value) cause = cause ≡ None
+Passes (Err deny) cause = Refuses deny cause
+
 -- what the value leads to, or the refusal
 abbrev pub and_then : {A B : Type 0} → (A → Result B Refusal) → Result A Refusal → Result B Refusal
 and_then next (Ok value) = next value

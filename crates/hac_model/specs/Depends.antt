@@ -22,11 +22,12 @@ named_in (Or left right) = named_in left ++ named_in right
 abbrev pub depends : State → ℕ → List ℕ
 depends s dir = option_map_or (λ query. parent_of s dir ∷ named_in query) (query_at s dir) []
 
+-- the number is one of these, told by cases
 abbrev pub Among : List ℕ → ℕ → Type 0
 Among [] number = ⊥
 Among (first ∷ numbers) number = (first ≡ number) ⊎ Among numbers number
 
--- so many steps lead from one number to another, told where each leads
+-- so many steps lead from one number to another, given where each leads
 abbrev pub Leads : (ℕ → List ℕ) → ℕ → ℕ → ℕ → Type 0
 Leads edges zero from to = from ≡ to
 Leads edges (suc steps) from to = (next : ℕ) × (Among (edges from) next) × (Leads edges steps next to)
@@ -58,7 +59,7 @@ unfoldable pub first_reaching : State → ℕ → List ℕ → Option ℕ
 first_reaching s dir [] = None
 first_reaching s dir (other ∷ others) = if reaches s other dir then Some other else first_reaching s dir others
 
--- the directory by way of which one would depend on itself that stands in a directory and has a query
+-- the directory through which one would depend on itself that stands in a directory and has a query
 abbrev pub cycle_over : State → ℕ → ℕ → Formula ℕ → Option ℕ
 cycle_over s dir parent query = first_reaching s dir (parent ∷ named_in query)
 

@@ -31,11 +31,11 @@ dirty s = dirty_count s.entries
 abbrev pub is_free : State → ℕ → List ℕ → Bool
 is_free s dir name = is_directory_at s.entries dir && is_name name && is_none (child s.entries dir name)
 
--- nothing stands in the directory
+-- the directory is empty
 abbrev pub is_bare : List Entry → ℕ → Bool
 is_bare entries dir = list_all (λ entry. not (entry.parent == dir)) entries
 
--- the directory is the entry, or stands below it
+-- the directory is the entry itself, or below it
 abbrev pub is_inside : State → ℕ → ℕ → Bool
 is_inside s dir entry = dir == entry || extends (path_of s dir) (path_of s entry)
 
@@ -51,14 +51,14 @@ may_ask s query = is_query query && are_directories s (named_in query)
 abbrev pub is_unreferenced : State → ℕ → Bool
 is_unreferenced s dir = list_all (λ entry. not (names_directory dir entry)) s.entries
 
--- the item may get the mark: it is added where it isn't yet, kept out where it is a link, and its mark goes where it has one
+-- an item may become permanent where it isn't yet, prohibited where it is a link, and unmarked where it has a mark
 abbrev pub may_mark : State → ℕ → ℕ → Kind → Bool
 may_mark s dir item Permanent = not (is_permanent s dir item)
 may_mark s dir item Prohibited = is_permanent s dir item || has (links s dir) item
 may_mark s dir item Unlinked = is_permanent s dir item || is_prohibited s dir item
 may_mark s dir item Transient = false
 
--- what the event speaks of stands there, limits left aside. An event that no command makes yet never happens.
+-- what the event refers to is there, limits aside. An event that no command makes yet never happens.
 abbrev pub is_possible : State → Event → Bool
 is_possible s (Mkdir dir name) = is_free s dir name
 is_possible s (NewFile dir name text) = is_free s dir name && is_text text
@@ -97,18 +97,18 @@ abbrev pub rewritten : List ℕ → Body → Body
 rewritten new (File text dirty shown) = File new true shown
 rewritten new other = other
 
--- the text is shown from now on
+-- the text becomes the shown text, and the file is clean
 abbrev pub indexed : Body → Body
 indexed (File text dirty shown) = File text false (Some text)
 indexed other = other
 
--- the directory asks for this from now on. Its marks stay.
+-- the directory gets a query. Its marks stay.
 abbrev pub asking : Formula ℕ → Body → Body
 asking new Dir = Semantic new [] []
 asking new (Semantic query permanent prohibited) = Semantic new permanent prohibited
 asking new other = other
 
--- the directory is a plain one
+-- a semantic directory becomes a plain one
 abbrev pub plain_body : Body → Body
 plain_body (Semantic query permanent prohibited) = Dir
 plain_body other = other
@@ -117,12 +117,12 @@ plain_body other = other
 abbrev pub without : ℕ → List ℕ → List ℕ
 without number numbers = filter (λ other. not (other == number)) numbers
 
--- numbers that rise, with another one in its place
+-- rising numbers with one more inserted in order
 abbrev pub put_in : ℕ → List ℕ → List ℕ
 put_in number [] = number ∷ []
 put_in number (first ∷ numbers) = if nat_lt number first then number ∷ first ∷ numbers else first ∷ put_in number numbers
 
--- the item has no mark
+-- the item loses its mark
 abbrev pub forgetting : ℕ → Body → Body
 forgetting item (Semantic query permanent prohibited) = Semantic query (without item permanent) (without item prohibited)
 forgetting item other = other
@@ -133,7 +133,7 @@ marking item Permanent (Semantic query permanent prohibited) = Semantic query (p
 marking item Prohibited (Semantic query permanent prohibited) = Semantic query permanent (put_in item prohibited)
 marking item other body = body
 
--- the item leaves both lists, and then stands in the one of its mark, if any
+-- the item leaves both lists, and then joins the list of its mark, if any
 abbrev pub marked : ℕ → Kind → Body → Body
 marked item kind body = marking item kind (forgetting item body)
 
@@ -145,7 +145,7 @@ edited edit entry = record entry { body = edit entry.body }
 abbrev pub reseated : ℕ → List ℕ → Entry → Entry
 reseated dir name entry = record entry { parent = dir; name = name }
 
--- the path of a number once an entry is in another place: what is the entry, or stands below it, has the new path in
+-- the path of a number once an entry is in another place: what is the entry, or is below it, has the new path in
 -- place of the old one at its beginning
 abbrev pub renamed : State → ℕ → ℕ → List ℕ → ℕ → List (List ℕ)
 renamed s entry dir name number =
@@ -175,7 +175,7 @@ apply s (Rmdir dir) = removed s dir
 apply s Step = option_map_or (λ file. changed_at s file (edited indexed)) (next_dirty s.entries) s
 apply s other = s
 
--- the event can happen to the state: what it speaks of stands there, and it passes no limit
+-- the state accepts the event: what it refers to is there, and no limit is exceeded
 abbrev pub accepted : State → Event → Bool
 accepted s event = is_possible s event && is_none (passed (apply s event))
 

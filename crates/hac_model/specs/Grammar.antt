@@ -127,15 +127,15 @@ EndsRun [] = ⊤
 EndsRun (b ∷ bytes) = (is_word_byte b ≡ false) × ((b == 42) ≡ false)
 
 -- the token may end before these bytes
-abbrev pub Ends : Token → List ℕ → Type 0
-Ends Open rest = ⊤
-Ends Close rest = ⊤
-Ends And rest = EndsRun rest
-Ends Or rest = EndsRun rest
-Ends Not rest = EndsRun rest
-Ends (Of (Word letters)) rest = EndsRun rest
-Ends (Of (Prefix letters)) rest = ⊤
-Ends (Of (Dir path)) rest = ⊤
+abbrev pub EndsToken : Token → List ℕ → Type 0
+EndsToken Open rest = ⊤
+EndsToken Close rest = ⊤
+EndsToken And rest = EndsRun rest
+EndsToken Or rest = EndsRun rest
+EndsToken Not rest = EndsRun rest
+EndsToken (Of (Word letters)) rest = EndsRun rest
+EndsToken (Of (Prefix letters)) rest = ⊤
+EndsToken (Of (Dir path)) rest = ⊤
 
 -- so many spaces in front of bytes
 abbrev pub spaced : ℕ → List ℕ → List ℕ
@@ -146,21 +146,21 @@ spaced (suc n) bytes = 32 ∷ spaced n bytes
 abbrev pub SpellAll : List Token → List ℕ → Type 0
 SpellAll [] bytes = (n : ℕ) × (bytes ≡ spaced n [])
 SpellAll (t ∷ ts) bytes =
-    (n : ℕ) × (body : List ℕ) × (rest : List ℕ) × Spells t body × Ends t rest × SpellAll ts rest × (bytes ≡ spaced n (body ++ rest))
+    (n : ℕ) × (body : List ℕ) × (rest : List ℕ) × Spells t body × EndsToken t rest × SpellAll ts rest × (bytes ≡ spaced n (body ++ rest))
 
 -- the bytes are read as this query
 abbrev pub Reads : List ℕ → Part → Type 0
 Reads bytes part = (t : Tree query) × SpellAll (tokens t) bytes × (meaning t ≡ part)
 
 -- a query begins with the bytes
-abbrev pub Begins : List ℕ → Type 0
-Begins bytes = (more : List ℕ) × (part : Part) × Reads (bytes ++ more) part
+abbrev pub BeginsQuery : List ℕ → Type 0
+BeginsQuery bytes = (more : List ℕ) × (part : Part) × Reads (bytes ++ more) part
 
 -- the bytes are no query, and the place, counted from 1, is the least such that so many bytes begin none; it is one
 -- past the last where all of them begin one
 pub record IsFault (bytes : List ℕ) (place : ℕ) : Type 0 where
   pub counted : 0 < place
   pub within : place ≤ length bytes + 1
-  pub least : (n : ℕ) → n < place → Begins (take n bytes)
-  pub stops : place ≤ length bytes → Begins (take place bytes) → ⊥
+  pub least : (n : ℕ) → n < place → BeginsQuery (take n bytes)
+  pub stops : place ≤ length bytes → BeginsQuery (take place bytes) → ⊥
   pub unread : (part : Part) → Reads bytes part → ⊥

@@ -28,7 +28,7 @@ use Rattle.hac_model.specs.declared.resolved.Resolved.{Resolved}
 use Rattle.hac_model.specs.declared.resolved.Resolved.TheVariants.{Index}
 use Rattle.hac_model.specs.declared.states.State.{State}
 
--- scripts that are joined are played one after the other, where the first is made of whole lines
+-- two joined scripts are played one after the other, where the first one consists of whole lines
 abbrev pub ScriptsJoin : Type 0
 ScriptsJoin =
     (setting : Setting) (first second : List ℕ) → whole first ≡ first →
@@ -61,7 +61,7 @@ EmptyIsValid = IsValid empty
 abbrev pub EventsKeepValid : Type 0
 EventsKeepValid = (s : State) (event : Event) → IsValid s → IsTrue (accepted s event) → IsValid (apply s event)
 
--- what an event makes of the tree hangs on the tree alone: not on marks, kept answers or sessions
+-- what an event does to the tree depends on the tree alone: not on marks, kept answers or sessions
 abbrev pub BareCommutes : Type 0
 BareCommutes = (s : State) (event : Event) → bare (apply s event) ≡ bare (apply (bare s) event)
 
@@ -96,7 +96,7 @@ IndexCleans = (s : State) → IsValid s → dirty (led_to s Index) ≡ 0
 abbrev pub ScriptsKeepValid : Type 0
 ScriptsKeepValid = (setting : Setting) (bytes : List ℕ) → IsValid setting.state → IsValid (left_by setting (play setting bytes)).state
 
--- what lines leave is what their events make of the state, one after the other
+-- the state after lines is what their events make of the first state, one after the other
 abbrev pub EventsLead : Type 0
 EventsLead = (setting : Setting) (items : List Item) → (left_by setting (turns setting items)).state ≡ apply_all setting.state (all_events (turns setting items))
 
@@ -104,7 +104,7 @@ EventsLead = (setting : Setting) (items : List Item) → (left_by setting (turns
 abbrev pub EventsEnd : Type 0
 EventsEnd = (setting : Setting) (items : List Item) → (left_by setting (turns setting items)).end ≡ end_after setting.end (all_events (turns setting items))
 
--- each event that can happen to a valid state has a spelling
+-- each event that a valid state accepts has a spelling
 abbrev pub AcceptedAreSpelled : Type 0
 AcceptedAreSpelled = (s : State) (event : Event) → IsValid s → IsTrue (accepted s event) → IsTrue (is_spellable event)
 
@@ -131,7 +131,7 @@ PlainTellsState =
     (s t : State) → IsValid s → IsValid t → s.next ≡ t.next → s.sessions ≡ t.sessions →
     ((path : List (List ℕ)) → plain s path ≡ plain t path) → s ≡ t
 
--- a look-up by the path of an entry finds it
+-- looking up the path of an entry finds the entry
 abbrev pub LooksFind : Type 0
 LooksFind = (s : State) (number : ℕ) → IsValid s → IsTrue (is_some (entry_at s.entries number)) → look s (path_of s number) ≡ Ok (There number)
 
@@ -139,13 +139,13 @@ LooksFind = (s : State) (number : ℕ) → IsValid s → IsTrue (is_some (entry_
 abbrev pub LooksTell : Type 0
 LooksTell = (s : State) (path : List (List ℕ)) (number : ℕ) → IsValid s → look s path ≡ Ok (There number) → path_of s number ≡ path
 
--- a move renames what is moved, and all that stands below it, and nothing else
+-- a move renames the entry and everything below it, and nothing else
 abbrev pub MovesRename : Type 0
 MovesRename =
     (s : State) (entry dir : ℕ) (name : List ℕ) (number : ℕ) → IsValid s → IsTrue (accepted s (Mv entry dir name)) →
     IsTrue (is_some (entry_at s.entries number)) → path_of (apply s (Mv entry dir name)) number ≡ renamed s entry dir name number
 
--- a text is read as it was printed
+-- a printed text is read back
 abbrev pub PrintedTextIsRead : Type 0
 PrintedTextIsRead = (text : List ℕ) → text_of (escaped_text text) ≡ Some text
 
@@ -161,7 +161,7 @@ quoted_byte b = if is_quote b || is_backslash b then 92 ∷ b ∷ [] else b ∷ 
 abbrev pub in_quotes : List ℕ → List ℕ
 in_quotes word = 34 ∷ (flat_map quoted_byte word ++ 34 ∷ [])
 
--- any bytes can stand in quotes, and are read as that word, whatever follows
+-- any bytes can be a word in quotes, and are read as that word, whatever follows
 abbrev pub QuotedWordIsRead : Type 0
 QuotedWordIsRead = (word rest : List ℕ) → IsTrue (is_word_end rest) → first_word (in_quotes word ++ rest) ≡ Ok (word, rest)
 
@@ -199,17 +199,17 @@ MovedListings =
     ∷ codes "t /d/s/g" ∷ codes "ok" ∷ codes "= red apple" ∷ codes "ok" ∷ codes "d d" ∷ codes "d h" ∷ codes "ok"
     ∷ codes "f e" ∷ codes "s s" ∷ codes "ok" ∷ codes "f g" ∷ codes "s t" ∷ codes "ok" ∷ [])
 
--- a store without room for one more record refuses what would change it, and still answers
+-- a store without room for one more record refuses each change, and still answers
 abbrev pub FullStore : Type 0
 FullStore =
     text (replies (play (record opening { start = 4294967290; end = 4294967290 }) (lines_text (codes "mkdir /a" ∷ codes "mkdir /a" ∷ codes "ls" ∷ []))))
     ≡ lines_text (codes "no limit store" ∷ codes "no limit store" ∷ codes "ok" ∷ [])
 
--- a directory's record is 13 bytes longer than its name is
+-- the record of a new directory is 12 bytes longer than its name: 13 bytes for `a`
 abbrev pub FirstEnd : Type 0
 FirstEnd = (left_by opening (play opening (lines_text (codes "mkdir /a" ∷ [])))).end ≡ 64 + 13
 
--- a new store, one that is there, and one whose name begins as an option does
+-- a new store, an existing one, and one whose name begins like an option
 abbrev pub FirstCommandLines : Type 0
 FirstCommandLines =
     (options (codes "--new" ∷ codes "notes" ∷ []) ≡ Some (record { fresh = true; store = codes "notes" }))
@@ -217,7 +217,7 @@ FirstCommandLines =
     × (options (codes "-" ∷ []) ≡ Some (record { fresh = false; store = codes "-" }))
     × (options (codes "--" ∷ codes "--new" ∷ []) ≡ Some (record { fresh = false; store = codes "--new" }))
 
--- words that are no line: none, an empty name, two names, `--new` twice, and an option that isn't known
+-- faulty command lines: no word, an empty name, two names, `--new` twice, and an unknown option
 abbrev pub NoCommandLines : Type 0
 NoCommandLines =
     (options [] ≡ None) × (options ([] ∷ []) ≡ None) × (options (codes "a" ∷ codes "b" ∷ []) ≡ None)

@@ -20,6 +20,7 @@ pub mod Limits
 pub mod Looks
 pub mod Sessions
 pub mod Listing
+pub mod Kinds
 pub mod Links
 pub mod Depends
 pub mod Valid

@@ -1,4 +1,4 @@
--- How much a state holds, and which limit it passes.
+-- How much a state holds, and which limit it exceeds.
 use Rattle.std.specs.Prelude.{ℕ, Bool, ◌+◌, if◌then◌else◌, nat_lt, nat_le, max, List, [], ◌∷◌, ◌++◌, length, sum_by, count_by, Option, Some, None, is_some}
 use Rattle.std.specs.List.{list_all}
 use Rattle.std.specs.Option.{option_map_or}
@@ -17,7 +17,7 @@ use Rattle.hac_model.specs.declared.states.State.{State}
 abbrev pub is_text : List ℕ → Bool
 is_text text = nat_le (length text) TEXT_LIMIT
 
--- the bytes of a file: the longer of its text and of what is shown of it
+-- the bytes of a file: the longer of its text and its shown text
 abbrev pub weight : Body → ℕ
 weight (File text dirty shown) = max (length text) (option_map_or (λ shown. length shown) shown 0)
 weight other = 0
@@ -40,7 +40,7 @@ file_count entries = count_by (λ entry. is_file entry.body) entries
 abbrev pub dirty_count : List Entry → ℕ
 dirty_count entries = count_by (λ entry. is_dirty entry.body) entries
 
--- how many plain directories there are, the root left aside
+-- how many plain directories there are, without the root
 abbrev pub plain_count : List Entry → ℕ
 plain_count entries = count_by (λ entry. is_plain entry.body) entries
 
@@ -68,7 +68,7 @@ counts s = record {
 abbrev pub limit : ℕ → ℕ → LimitWord → Limit
 limit count most word = record { count = count; most = most; word = word }
 
--- the limits on the tree itself, in the order in which they are told
+-- the limits on the tree itself, in the order in which they are tested
 abbrev pub layout_limits : Counts → List Limit
 layout_limits counts =
     limit counts.bytes TEXTS_LIMIT Texts
@@ -77,18 +77,18 @@ layout_limits counts =
     ∷ limit counts.long_paths 0 Path
     ∷ []
 
--- those that also hang on what spaces answer, which are told after all else
+-- those that depend on what spaces answer too, which are tested after all else
 abbrev pub answer_limits : Counts → List Limit
 answer_limits counts =
     limit counts.files ITEMS_LIMIT Items
     ∷ limit counts.next NUMBERS_LIMIT Numbers
     ∷ []
 
--- the word of the first limit that is passed
+-- the word of the first limit that is exceeded
 unfoldable pub first_passed : List Limit → Option LimitWord
 first_passed [] = None
 first_passed (limit ∷ limits) = if nat_lt limit.most limit.count then Some limit.word else first_passed limits
 
--- the first limit that the state passes
+-- the first limit that the state exceeds
 unfoldable pub passed : State → Option LimitWord
 passed s = first_passed (layout_limits (counts s) ++ answer_limits (counts s))

@@ -16,8 +16,8 @@ abbrev pub first_run : List ℕ → List ℕ
 first_run bytes = before_first is_space (skip_spaces bytes)
 
 -- what follows the first run, from the space behind it on
-abbrev pub after_run : List ℕ → List ℕ
-after_run bytes = drop (length (first_run bytes)) (skip_spaces bytes)
+abbrev pub after_first_run : List ℕ → List ℕ
+after_first_run bytes = drop (length (first_run bytes)) (skip_spaces bytes)
 
 -- a byte in front of a word that is read on, with what follows that word
 abbrev pub in_front : ℕ → Option (List ℕ × List ℕ) → Option (List ℕ × List ℕ)
@@ -52,7 +52,7 @@ abbrev pub word_at : List ℕ → Result (List ℕ × List ℕ) Refusal
 word_at bytes =
     if length bytes == 0 then Err BadLine
     else (if is_quote (slice_index bytes 0) then quoted_word (drop 1 bytes)
-    else Ok (first_run bytes, after_run bytes))
+    else Ok (first_run bytes, after_first_run bytes))
 
 -- the first word, before which spaces don't count, and what follows it. The line is bad where there is none, or its quotes are.
 abbrev pub first_word : List ℕ → Result (List ℕ × List ℕ) Refusal

@@ -139,7 +139,7 @@ put_at word count behind =
       text ← limited_put count behind
       Ok (Write path text))
 
--- `put PATH LENGTH`, from what stands behind `put`, told what follows the line
+-- `put PATH LENGTH`, from what stands behind `put`, given what follows the line
 abbrev pub put_of : List ℕ → List ℕ → Result Command Refusal
 put_of arguments behind = do
   words ← put_words arguments
@@ -149,11 +149,11 @@ put_of arguments behind = do
 abbrev pub is_put : List ℕ → Bool
 is_put name = bytes_eq name (codes "put")
 
--- the command of a name, from what stands behind it, told what follows the line
+-- the command of a name, from what stands behind it, given what follows the line
 abbrev pub called_with : List ℕ → List ℕ → List ℕ → Result Command Refusal
 called_with name arguments behind = if is_put name then put_of arguments behind else named_command name arguments
 
--- the command that a line spells, or why it is refused, told what follows it
+-- the command that a line spells, or why it is refused, given what follows it
 abbrev pub command_with : List ℕ → List ℕ → Result Command Refusal
 command_with line behind = do
   name ← first_word line
@@ -175,26 +175,26 @@ abbrev pub put_length : List ℕ → Option ℕ
 put_length line = asked (put_line line)
 
 -- the names of a path word are names
-abbrev pub is_word : PathWord → Bool
-is_word word = are_names word.names
+abbrev pub is_spelled_word : PathWord → Bool
+is_spelled_word word = are_names word.names
 
 -- the words of the command are as a line spells them. No line spells one that isn't built yet.
 abbrev pub is_spelled : Command → Bool
-is_spelled (Mkdir path) = is_word path
-is_spelled (Rmdir path) = is_word path
-is_spelled (Write path text) = is_word path && is_text text
-is_spelled (Cat path) = is_word path
-is_spelled (Ls path) = option_map_or is_word path true
-is_spelled (Mv from to) = is_word from && is_word to
-is_spelled (Rm path) = is_word path
-is_spelled (Smkdir path query) = is_word path && is_spelled_query query
-is_spelled (Setq path query) = is_word path && is_spelled_query query
-is_spelled (Unq path) = is_word path
-is_spelled (Query path) = is_word path
-is_spelled (Sls path) = option_map_or is_word path true
-is_spelled (Sln item dir) = is_word item && is_word dir
-is_spelled (Srm item dir) = is_word item && is_word dir
-is_spelled (Sforget item dir) = is_word item && is_word dir
+is_spelled (Mkdir path) = is_spelled_word path
+is_spelled (Rmdir path) = is_spelled_word path
+is_spelled (Write path text) = is_spelled_word path && is_text text
+is_spelled (Cat path) = is_spelled_word path
+is_spelled (Ls path) = option_map_or is_spelled_word path true
+is_spelled (Mv from to) = is_spelled_word from && is_spelled_word to
+is_spelled (Rm path) = is_spelled_word path
+is_spelled (Smkdir path query) = is_spelled_word path && is_spelled_query query
+is_spelled (Setq path query) = is_spelled_word path && is_spelled_query query
+is_spelled (Unq path) = is_spelled_word path
+is_spelled (Query path) = is_spelled_word path
+is_spelled (Sls path) = option_map_or is_spelled_word path true
+is_spelled (Sln item dir) = is_spelled_word item && is_spelled_word dir
+is_spelled (Srm item dir) = is_spelled_word item && is_spelled_word dir
+is_spelled (Sforget item dir) = is_spelled_word item && is_spelled_word dir
 is_spelled (Find query) = is_spelled_query query
 is_spelled Index = true
 is_spelled Counts = true
@@ -209,7 +209,7 @@ in_main (Err refusal) = Err refusal
 abbrev pub Item : Type 0
 Item = Result Line Refusal
 
--- the item of a line, told all bytes that follow its end
+-- the item of a line, given all bytes that follow its end
 abbrev pub item_of : List ℕ → List ℕ → Item
 item_of line behind = if nat_le (length line) LINE_LIMIT then in_main (command_with line behind) else Err (Limit limit.Line)
 

@@ -20,7 +20,7 @@ is_item s number = is_file_at s.entries number
 abbrev pub items : State → List ℕ
 items s = filter (is_item s) (range_with_len 0 s.next)
 
--- the directory in which an entry stands; the root, which is no entry, stands in itself
+-- the directory of an entry; the root, which is no entry, stands in itself
 abbrev pub parent_of : State → ℕ → ℕ
 parent_of s number = option_map_or (λ entry. entry.parent) (entry_at s.entries number) 0
 
@@ -55,7 +55,7 @@ has numbers number = list_any (λ other. other == number) numbers
 abbrev pub is_permanent : State → ℕ → ℕ → Bool
 is_permanent s dir item = has (permanent_at s dir) item
 
--- the item is kept out of the directory
+-- the item is prohibited in the directory
 abbrev pub is_prohibited : State → ℕ → ℕ → Bool
 is_prohibited s dir item = has (prohibited_at s dir) item
 
@@ -91,7 +91,7 @@ abbrev pub passes : State → (ℕ → Bool) → ℕ → ℕ → Bool
 passes s linked dir item =
     provide s linked (parent_of s dir) item && is_some (shown_of s item) && satisfies s linked dir item && is_unmarked s dir item
 
--- the directories in which an item is linked, told the links of each
+-- the directories in which an item is linked, given the links of each
 abbrev pub column : (ℕ → List ℕ) → ℕ → ℕ → Bool
 column known item dir = has (known dir) item
 
@@ -108,7 +108,7 @@ rounds (suc n) s = round s (rounds n s)
 unfoldable pub links : State → ℕ → List ℕ
 links s = rounds (semantic_count s.entries) s
 
--- the items that a query finds anywhere: those that were indexed and satisfy it, told the links
+-- the items that a query finds anywhere: those that were indexed and satisfy it, given the links
 unfoldable pub found_by : State → Formula ℕ → List ℕ
 found_by s query = filter (λ item. is_some (shown_of s item) && holds s (column (links s) item) query item) (items s)
 
@@ -120,7 +120,7 @@ kind s dir item =
     else (if has (links s dir) item then Transient
     else Unlinked))
 
--- how many links of a kind there are, over all directories, told those of each
+-- how many links of a kind there are, over all directories, given those of each
 abbrev pub over_directories : State → (ℕ → List ℕ) → ℕ
 over_directories s numbers = sum_by (λ dir. length (numbers dir)) (range_with_len 0 s.next)
 

@@ -1,22 +1,15 @@
--- What stands in a directory, in byte order of names.
-use Rattle.std.specs.Prelude.{ℕ, Bool, true, false, ◌==◌, if◌then◌else◌, List, [], ◌∷◌, ◌++◌, filter, codes}
+-- The entries of a directory, in byte order of names.
+use Rattle.std.specs.Prelude.{ℕ, Bool, ◌==◌, if◌then◌else◌, List, [], ◌∷◌, ◌++◌, filter, codes}
 use Rattle.std.specs.Cmp.Lexicographic.{slice_cmp}
-use Rattle.std.specs.declared.cmp.Ordering.{Ordering}
-use Rattle.std.specs.declared.cmp.Ordering.TheVariants.{Less, Equal, Greater}
-use Rattle.std.specs.Ordering.{nat_cmp}
+use Rattle.std.specs.Ordering.{nat_cmp, is_lt}
 use Rattle.hac_model.specs.declared.states.Body.{Body}
 use Rattle.hac_model.specs.declared.states.Body.TheVariants.{File, Dir, Symlink, Semantic, Mount}
 use Rattle.hac_model.specs.declared.states.Entry.{Entry}
 use Rattle.hac_model.specs.declared.states.State.{State}
 
-abbrev pub is_less : Ordering → Bool
-is_less Less = true
-is_less Equal = false
-is_less Greater = false
-
 -- the one name stands before the other, compared by bytes
 abbrev pub is_before : List ℕ → List ℕ → Bool
-is_before name other = is_less (slice_cmp nat_cmp name other)
+is_before name other = is_lt (slice_cmp nat_cmp name other)
 
 -- an entry put into its place among entries in order of their names
 abbrev pub put_in_order : Entry → List Entry → List Entry
@@ -24,11 +17,12 @@ put_in_order new [] = new ∷ []
 put_in_order new (entry ∷ entries) =
     if is_before new.name entry.name then new ∷ entry ∷ entries else entry ∷ put_in_order new entries
 
+-- entries in order of their names
 abbrev pub in_order : List Entry → List Entry
 in_order [] = []
 in_order (entry ∷ entries) = put_in_order entry (in_order entries)
 
--- what stands in the directory
+-- the entries of the directory
 abbrev pub children : State → ℕ → List Entry
 children s dir = in_order (filter (λ entry. entry.parent == dir) s.entries)
 

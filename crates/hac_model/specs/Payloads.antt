@@ -1,10 +1,9 @@
 -- How events are spelled in a store, and what the bytes of a payload say.
 use Rattle.std.specs.Prelude.{ℕ, Bool, true, false, ◌-◌, ◌==◌, ◌&&◌, not, if◌then◌else◌, nat_lt, nat_le, List, [], ◌∷◌, length, Option, Result, Ok, Err}
-use Rattle.std.specs.Cmp.Lexicographic.{slice_cmp}
 use Rattle.std.specs.Int.{w8, w16, w32}
 use Rattle.std.specs.Option.{option_map_or}
-use Rattle.std.specs.Ordering.{nat_cmp, is_lt}
 use Rattle.hac_model.specs.Fields.{Field, Part, Way, ◌>>=◌, num, run, nothing, ◌&◌, checked, list, part, way, choice}
+use Rattle.hac_model.specs.Listing.{is_before}
 use Rattle.hac_model.specs.Names.{is_name}
 use Rattle.hac_model.specs.PathWords.{has_long_part, is_bad}
 use Rattle.hac_model.specs.QueryFields.{query_field}
@@ -43,10 +42,6 @@ target_field = run w16 1024 is_path_word
 -- what comes next is above what came last
 abbrev pub rises : {A : Type 0} → (A → A → Bool) → Option A → A → Bool
 rises less last next = option_map_or (λ before. less before next) last true
-
--- the bytes stand before the others
-abbrev pub is_before : List ℕ → List ℕ → Bool
-is_before bytes others = is_lt (slice_cmp nat_cmp bytes others)
 
 -- numbers that rise
 abbrev pub nums : Field (List ℕ)

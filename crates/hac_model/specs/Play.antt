@@ -11,7 +11,7 @@ use Rattle.hac_model.specs.Links.{found_by, items, kind, permanent_count, prohib
 use Rattle.hac_model.specs.Listing.{children, entry_line}
 use Rattle.hac_model.specs.Paths.{path_text}
 use Rattle.hac_model.specs.Payloads.{event_text}
-use Rattle.hac_model.specs.QueryText.{query_text, renamed}
+use Rattle.hac_model.specs.QueryText.{query_text, named_by}
 use Rattle.hac_model.specs.Refusals.{cause, events_of}
 use Rattle.hac_model.specs.Resolving.{resolve}
 use Rattle.hac_model.specs.Script.{script}
@@ -43,7 +43,7 @@ link_lines s dir = flat_map (λ item. kind_lines (path_of s item) (kind s dir it
 
 -- a query with the present paths of its directories
 abbrev pub query_line : State → Formula ℕ → List ℕ
-query_line s query = codes "= " ++ query_text (renamed (λ dir. path_text (path_of s dir)) query)
+query_line s query = codes "= " ++ query_text (named_by (λ dir. path_text (path_of s dir)) query)
 
 -- the query of a directory
 abbrev pub query_lines : State → ℕ → List (List ℕ)
@@ -91,7 +91,7 @@ data_lines s (Find query) = map (found_line s) (found_by s query)
 data_lines s Counts = counts_line s ∷ []
 data_lines s other = []
 
--- what a run goes on from: a state, and its store: where the live area begins, where its log ends, and how often a root
+-- what a run starts from: a state, and of its store where the live area begins, where its log ends, and how often a root
 -- was written
 pub record Setting : Type 0 where
   pub state : State
@@ -108,7 +108,7 @@ abbrev pub end_after : ℕ → List Event → ℕ
 end_after end [] = end
 end_after end (event ∷ events) = end_after (end + 5 + length (event_text event)) events
 
--- what is gone on from once events have happened, and are stored
+-- the setting after events have happened and are stored
 abbrev pub after_events : Setting → List Event → Setting
 after_events setting events = record setting { state = apply_all setting.state events; end = end_after setting.end events }
 
@@ -128,9 +128,9 @@ pub record Turn : Type 0 where
 abbrev pub refused : Setting → Refusal → Turn
 refused setting refusal = record { reply = Refused refusal; events = []; steps = []; after = setting }
 
--- one that nothing speaks against tells its lines, and its events happen and are stored
-abbrev pub accepted : Setting → Resolved → Turn
-accepted setting command = record {
+-- a command that isn't refused shows its lines, and its events happen and are stored
+abbrev pub answered : Setting → Resolved → Turn
+answered setting command = record {
   reply = Lines (data_lines setting.state command);
   events = events_of setting.state command;
   steps = [];
@@ -141,11 +141,11 @@ accepted setting command = record {
 abbrev pub full_cause : Setting → Resolved → Option Refusal
 full_cause setting command = if have_room setting.end (events_of setting.state command) then None else Some (Limit Store)
 
--- the turn of a command whose paths were followed. That the store is full comes last of all causes.
+-- the turn of a command whose paths were followed. A full store is the last of all causes.
 abbrev pub turn_of : Setting → Result Resolved Refusal → Turn
 turn_of setting (Err refusal) = refused setting refusal
 turn_of setting (Ok command) =
-    option_map_or (refused setting) (first_cause (cause setting.state command ∷ full_cause setting command ∷ [])) (accepted setting command)
+    option_map_or (refused setting) (first_cause (cause setting.state command ∷ full_cause setting command ∷ [])) (answered setting command)
 
 -- the turn of a line, which is a command or refused by its form
 abbrev pub turn : Setting → Item → Turn
@@ -165,7 +165,7 @@ play setting bytes = turns setting (script bytes)
 abbrev pub replies : List Turn → List Reply
 replies told = map (λ turn. turn.reply) told
 
--- what turns leave
+-- what is left after turns
 abbrev pub left_by : Setting → List Turn → Setting
 left_by setting [] = setting
 left_by setting (turn ∷ turns) = left_by turn.after turns

@@ -55,12 +55,12 @@ terms_fit (query.And left right) = terms_fit left && terms_fit right
 terms_fit (query.Or left right) = terms_fit left && terms_fit right
 
 -- the bytes of a query
-abbrev pub query_text : Formula ℕ → List ℕ
-query_text (query.Term term) = token_field.text (Term term)
-query_text (query.Dir dir) = token_field.text (Dir dir)
-query_text (query.Not q) = token_field.text Not ++ query_text q
-query_text (query.And left right) = token_field.text And ++ (query_text left ++ query_text right)
-query_text (query.Or left right) = token_field.text Or ++ (query_text left ++ query_text right)
+abbrev pub query_bytes : Formula ℕ → List ℕ
+query_bytes (query.Term term) = token_field.text (Term term)
+query_bytes (query.Dir dir) = token_field.text (Dir dir)
+query_bytes (query.Not q) = token_field.text Not ++ query_bytes q
+query_bytes (query.And left right) = token_field.text And ++ (query_bytes left ++ query_bytes right)
+query_bytes (query.Or left right) = token_field.text Or ++ (query_bytes left ++ query_bytes right)
 
 -- ---- how a query is read
 
@@ -124,12 +124,12 @@ first_built [] bytes = Err (length bytes)
 first_built (q ∷ queries) bytes = Ok (q, bytes)
 
 -- one query: at most 64 terms, 1,024 bytes of letters, and 32 `NOT`s on any way down
-unfoldable pub query_at : List ℕ → Result (Formula ℕ × List ℕ) ℕ
-query_at bytes = tokens_at (length bytes) (32 ∷ []) 64 1024 bytes >>= λ tokens. first_built (built tokens.0 []) tokens.1
+unfoldable pub query_read : List ℕ → Result (Formula ℕ × List ℕ) ℕ
+query_read bytes = tokens_at (length bytes) (32 ∷ []) 64 1024 bytes >>= λ tokens. first_built (built tokens.0 []) tokens.1
 
 abbrev pub query_fits : Formula ℕ → Bool
 query_fits q = nat_le (term_count q) 64 && nat_le (letter_count q) 1024 && nat_le (not_count q) 32 && terms_fit q
 
 -- a query
 abbrev pub query_field : Field (Formula ℕ)
-query_field = record { fits = λ q. query_fits q; text = λ q. query_text q; read = λ bytes. query_at bytes }
+query_field = record { fits = λ q. query_fits q; text = λ q. query_bytes q; read = λ bytes. query_read bytes }

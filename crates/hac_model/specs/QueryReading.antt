@@ -66,8 +66,8 @@ abbrev pub receive : Part → Wanted → Held
 receive part w = record { ors = w.level.ors; part = join_and w.level.ands (nots_part w.level.nots part); outer = w.outer }
 
 -- all that was read from the last open parenthesis on
-abbrev pub whole : Held → Part
-whole h = join_or h.ors h.part
+abbrev pub whole_part : Held → Part
+whole_part h = join_or h.ors h.part
 
 -- behind `AND`
 abbrev pub after_and : Held → Wanted
@@ -75,16 +75,16 @@ after_and h = record { level = record { ors = h.ors; ands = Some h.part; nots = 
 
 -- behind `OR`
 abbrev pub after_or : Held → Wanted
-after_or h = record { level = record { ors = Some (whole h); ands = None; nots = 0 }; outer = h.outer }
+after_or h = record { level = record { ors = Some (whole_part h); ands = None; nots = 0 }; outer = h.outer }
 
--- a part in parentheses, told what stands before each open one
+-- a part in parentheses, given what stands before each open one
 abbrev pub grouped : Part → List Level → Option Held
 grouped part [] = None
 grouped part (level ∷ outer) = Some (receive (group_part part) (record { level = level; outer = outer }))
 
 -- behind `)`
 abbrev pub leave : Held → Option Held
-leave h = grouped (whole h) h.outer
+leave h = grouped (whole_part h) h.outer
 
 -- the part where no parenthesis is open
 abbrev pub ungrouped : Part → List Level → Option Part
@@ -93,7 +93,7 @@ ungrouped part (level ∷ outer) = None
 
 -- the query, where nothing follows
 abbrev pub finish : Held → Option Part
-finish h = ungrouped (whole h) h.outer
+finish h = ungrouped (whole_part h) h.outer
 
 -- Bytes.
 
@@ -214,32 +214,32 @@ ended_token (Wanting w) = None
 ended_token (Holding h) = finish h
 
 -- the query that was read, where nothing follows
-abbrev pub ended : Reader → Option Part
-ended (Wants (operand.Run run) w) = option_and_then ended_token (after_run run w)
-ended (Wants read w) = None
-ended (Holds operator.Nothing h) = finish h
-ended (Holds read h) = None
+abbrev pub read_whole : Reader → Option Part
+read_whole (Wants (operand.Run run) w) = option_and_then ended_token (after_run run w)
+read_whole (Wants read w) = None
+read_whole (Holds operator.Nothing h) = finish h
+read_whole (Holds read h) = None
 
 -- nothing was read
-abbrev pub start : Reader
-start = Wants operand.Nothing (record { level = empty_level; outer = [] })
+abbrev pub fresh_reader : Reader
+fresh_reader = Wants operand.Nothing (record { level = empty_level; outer = [] })
 
 -- what follows, where a query goes on; else the place
 abbrev pub goes_on : ℕ → (Reader → Result Part ℕ) → Option Reader → Result Part ℕ
 goes_on place next None = Err place
 goes_on place next (Some reader) = next reader
 
--- the query to which bytes lead behind what was read, or the place where none goes on, told that of the first byte
+-- the query to which bytes lead behind what was read, or the place where none goes on, given that of the first byte
 unfoldable pub read_on : ℕ → List ℕ → Reader → Result Part ℕ
-read_on place [] reader = ok_or (ended reader) place
+read_on place [] reader = ok_or (read_whole reader) place
 read_on place (b ∷ bytes) reader = goes_on place (read_on (place + 1) bytes) (step b reader)
 
 -- Queries of lines.
 
 -- the query that was read, or the refusal of its place
-abbrev pub placed : Result Part ℕ → Result Part Refusal
-placed (Ok part) = Ok part
-placed (Err place) = Err (BadQuery place)
+abbrev pub parsed : Result Part ℕ → Result Part Refusal
+parsed (Ok part) = Ok part
+parsed (Err place) = Err (BadQuery place)
 
 -- the word, or the one cause for which a path between braces is none
 abbrev pub named : Result PathWord Refusal → Result PathWord Refusal
@@ -278,7 +278,7 @@ limited_query nesting query =
 -- the query that the bytes spell, or its first refusal, their number aside
 abbrev pub spelled_query : List ℕ → Result (Formula PathWord) Refusal
 spelled_query bytes = do
-  part ← placed (read_on 1 bytes start)
+  part ← parsed (read_on 1 bytes fresh_reader)
   query ← worded part.query
   limited_query part.nesting query
 

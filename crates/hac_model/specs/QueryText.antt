@@ -36,9 +36,9 @@ query_text (formula.And left right) =
 query_text (formula.Or left right) = query_text left ++ (codes " OR " ++ around (is_or right) (query_text right))
 
 -- a query whose directories are named by others
-abbrev pub renamed : {D E : Type 0} → (D → E) → Formula D → Formula E
-renamed name (formula.Term asked) = formula.Term asked
-renamed name (formula.Dir dir) = formula.Dir (name dir)
-renamed name (formula.Not query) = formula.Not (renamed name query)
-renamed name (formula.And left right) = formula.And (renamed name left) (renamed name right)
-renamed name (formula.Or left right) = formula.Or (renamed name left) (renamed name right)
+abbrev pub named_by : {D E : Type 0} → (D → E) → Formula D → Formula E
+named_by name (formula.Term asked) = formula.Term asked
+named_by name (formula.Dir dir) = formula.Dir (name dir)
+named_by name (formula.Not query) = formula.Not (named_by name query)
+named_by name (formula.And left right) = formula.And (named_by name left) (named_by name right)
+named_by name (formula.Or left right) = formula.Or (named_by name left) (named_by name right)

@@ -23,63 +23,66 @@ use Rattle.hac_model.specs.declared.resolved.Resolved.{Resolved}
 use Rattle.hac_model.specs.declared.resolved.Resolved.TheVariants.{Mkdir, Rmdir, Write, Cat, Ls, Mv, Rm, Smkdir, Setq, Unq, Query, Sls, Sln, Srm, Sforget, Find, Index, Counts}
 use Rattle.hac_model.specs.declared.states.State.{State}
 
--- the root neither goes nor moves
+-- the root can't be removed or moved
 abbrev pub root_cause : ℕ → Option Refusal
 root_cause number = if number == 0 then Some Root else None
 
--- a file is wanted, and a directory stands there
+-- a file is wanted, but a directory is there
 abbrev pub directory_cause : State → ℕ → Option Refusal
 directory_cause s number = if is_directory_at s.entries number then Some (NotFile (path_of s number)) else None
 
--- the same of a place at which nothing may stand yet
+-- the same at a place where nothing may be yet
 abbrev pub written_cause : State → Place → Option Refusal
 written_cause s (There number) = directory_cause s number
 written_cause s (Free dir name) = None
 
--- something is made, and something stands there
+-- something is to be created where something is already
 abbrev pub taken_cause : State → Place → Option Refusal
 taken_cause s (There number) = Some (Exists (path_of s number))
 taken_cause s (Free dir name) = None
 
--- an entry would go into itself or below itself
+-- an entry would move into itself or below itself
 abbrev pub under_cause : State → ℕ → Place → Option Refusal
 under_cause s entry (There number) = None
 under_cause s entry (Free dir name) = if is_inside s dir entry then Some (Under (path_of s entry)) else None
 
--- something stands in a directory that is to go
-abbrev pub full_cause : State → ℕ → Option Refusal
-full_cause s dir = if is_bare s.entries dir then None else Some (NotEmpty (path_of s dir))
+-- a directory to be removed isn't empty
+abbrev pub filled_cause : State → ℕ → Option Refusal
+filled_cause s dir = if is_bare s.entries dir then None else Some (NotEmpty (path_of s dir))
 
 -- a semantic directory is wanted
 abbrev pub plain_cause : State → ℕ → Option Refusal
 plain_cause s dir = if is_semantic s dir then None else Some (NotSemantic (path_of s dir))
 
--- the least of paths, compared as they are printed
+-- the lesser of two paths, compared as they are printed
+abbrev pub lesser_path : List (List ℕ) → List (List ℕ) → List (List ℕ)
+lesser_path path other = if is_before (path_text other) (path_text path) then other else path
+
+-- the least of paths: of the first one and the least of the others the lesser
 abbrev pub least_path : List (List (List ℕ)) → Option (List (List ℕ))
 least_path [] = None
-least_path (path ∷ paths) =
-    Some (option_map_or (λ other. if is_before (path_text other) (path_text path) then other else path) (least_path paths) path)
+least_path (path ∷ paths) = Some (option_map_or (lesser_path path) (least_path paths) path)
 
--- a query names a directory that is to go: the least path of one with such a query
+-- a query names the directory to be removed: the least path of a directory with such a query
 abbrev pub referenced_cause : State → ℕ → Option Refusal
 referenced_cause s dir = option_map Referenced (least_path (map (λ entry. path_of s entry.number) (referrers s dir)))
 
--- an item would be added that is a permanent link already
+-- an item to be added is already a permanent link
 abbrev pub already_cause : State → ℕ → ℕ → Option Refusal
 already_cause s item dir = if is_permanent s dir item then Some (Already (path_of s item)) else None
 
--- an item would be removed that is no link
+-- an item to be removed isn't a link
 abbrev pub unlinked_cause : State → ℕ → ℕ → Option Refusal
 unlinked_cause s item dir = if is_permanent s dir item || has (links s dir) item then None else Some (NotLinked (path_of s item))
 
--- a mark would go that isn't there
+-- an item to be unmarked has no mark
 abbrev pub unmarked_cause : State → ℕ → ℕ → Option Refusal
 unmarked_cause s item dir = if is_permanent s dir item || is_prohibited s dir item then None else Some (NoMark (path_of s item))
 
 -- what stands in the way of a command whose paths were followed
 abbrev pub blocked : State → Resolved → Option Refusal
 blocked s (Mkdir place) = taken_cause s place
-blocked s (Rmdir dir) = first_cause (root_cause dir ∷ full_cause s dir ∷ referenced_cause s dir ∷ [])
+blocked s (Rmdir dir) = first_cause (root_cause dir ∷ filled_cause s dir ∷ referenced_cause s dir ∷ [])
 blocked s (Write place text) = written_cause s place
 blocked s (Cat entry) = directory_cause s entry
 blocked s (Ls dir) = None
@@ -97,12 +100,12 @@ blocked s (Find query) = None
 blocked s Index = None
 blocked s Counts = None
 
--- something comes into being where nothing stands
+-- something is created where nothing is
 abbrev pub makes : Place → (ℕ → List ℕ → Event) → List Event
 makes (There number) make = []
 makes (Free dir name) make = make dir name ∷ []
 
--- a text goes to a file that stands there, or to a new one
+-- a text is written to the file that is there, or to a new one
 abbrev pub writes : Place → List ℕ → List Event
 writes (There number) text = event.Rewrite number text ∷ []
 writes (Free dir name) text = event.NewFile dir name text ∷ []
@@ -111,7 +114,7 @@ writes (Free dir name) text = event.NewFile dir name text ∷ []
 abbrev pub marks : ℕ → ℕ → Kind → List Event
 marks item dir kind = event.Mark (record { dir = dir; item = item; kind = kind }) ∷ []
 
--- the events of a command in whose way nothing stands. `index` is as many steps as there are dirty files.
+-- the events of a command that isn't refused. `index` is as many steps as there are dirty files.
 abbrev pub events_of : State → Resolved → List Event
 events_of s (Mkdir place) = makes place event.Mkdir
 events_of s (Rmdir dir) = event.Rmdir dir ∷ []
@@ -136,14 +139,14 @@ events_of s Counts = []
 abbrev pub led_to : State → Resolved → State
 led_to s command = apply_all s (events_of s command)
 
--- the first limit of a list that the state which would come passes
+-- the first limit on the tree that the next state would exceed
 abbrev pub layout_cause : State → Resolved → Option Refusal
 layout_cause s command = option_map Limit (first_passed (layout_limits (counts (led_to s command))))
 
 abbrev pub answer_cause : State → Resolved → Option Refusal
 answer_cause s command = option_map Limit (first_passed (answer_limits (counts (led_to s command))))
 
--- a directory would depend on itself by way of this one
+-- a directory would depend on itself through this one
 abbrev pub cycle_by : State → Option ℕ → Option Refusal
 cycle_by s way = option_map (λ dir. Cycle (path_of s dir)) way
 
@@ -153,15 +156,15 @@ cycle_cause s (Setq dir query) = cycle_by s (cycle_over s dir (parent_of s dir) 
 cycle_cause s (Mv entry (Free dir name)) = cycle_by s (cycle_of_move s entry dir)
 cycle_cause s other = None
 
--- the first cause that doesn't hang on spaces: what stands in the way, then the limits on the tree itself, then a cycle
+-- the first cause that doesn't depend on spaces: what stands in the way, then the limits on the tree itself, then a cycle
 abbrev pub early_cause : State → Resolved → Option Refusal
 early_cause s command = first_cause (blocked s command ∷ layout_cause s command ∷ cycle_cause s command ∷ [])
 
--- the first cause of all, behind which come the limits that hang on what spaces answer
+-- the first cause of all: the limits that depend on what spaces answer come last
 abbrev pub cause : State → Resolved → Option Refusal
 cause s command = first_cause (early_cause s command ∷ answer_cause s command ∷ [])
 
--- the first cause against what a line came to
+-- the first cause against the command of a line, or against its paths
 abbrev pub cause_against : State → Result Resolved Refusal → Option Refusal
 cause_against s (Err refusal) = Some refusal
 cause_against s (Ok command) = cause s command

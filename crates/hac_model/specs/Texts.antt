@@ -15,12 +15,12 @@ then_text None text = None
 then_text (Some b) text = with_byte b text
 
 -- what a byte means behind a backslash: `n` a line end, `t` a tab, and a backslash itself; no other is an escape alone
-abbrev pub escape : ℕ → Option ℕ
-escape b = if b == 110 then Some 10 else (if b == 116 then Some 9 else (if is_backslash b then Some b else None))
+abbrev pub escape_meaning : ℕ → Option ℕ
+escape_meaning b = if b == 110 then Some 10 else (if b == 116 then Some 9 else (if is_backslash b then Some b else None))
 
 -- the byte whose number two hexadecimal digits are, of either case
-abbrev pub numbered : ℕ → ℕ → Option ℕ
-numbered high low = if is_digit high 16 && is_digit low 16 then Some (digit_value high * 16 + digit_value low) else None
+abbrev pub hex_byte : ℕ → ℕ → Option ℕ
+hex_byte high low = if is_digit high 16 && is_digit low 16 then Some (digit_value high * 16 + digit_value low) else None
 
 unfoldable mutual
   -- the text that the bytes spell: each byte is itself, but a backslash begins an escape; none where an escape is bad
@@ -31,13 +31,13 @@ unfoldable mutual
   -- the text from behind a backslash on: an `x` begins the number of a byte, and any other escape is one byte
   pub escape_of : List ℕ → Option (List ℕ)
   escape_of [] = None
-  escape_of (b ∷ bytes) = if b == 120 then hex_of bytes else then_text (escape b) (text_of bytes)
+  escape_of (b ∷ bytes) = if b == 120 then hex_of bytes else then_text (escape_meaning b) (text_of bytes)
 
   -- the text from behind `\x` on: two digits are the number of a byte
   pub hex_of : List ℕ → Option (List ℕ)
   hex_of [] = None
   hex_of (high ∷ []) = None
-  hex_of (high ∷ low ∷ bytes) = then_text (numbered high low) (text_of bytes)
+  hex_of (high ∷ low ∷ bytes) = then_text (hex_byte high low) (text_of bytes)
 
 -- a byte as it is printed: line ends, tabs, backslashes and other control bytes are escaped, with digits in lower case
 unfoldable pub escaped_byte : ℕ → List ℕ

@@ -30,14 +30,14 @@ pub record IsSoundFile (text : List ℕ) (dirty : Bool) (shown : Option (List �
   pub shown_fits : IsTrue (option_map_or is_text shown true)
   pub clean : dirty ≡ false → shown ≡ Some text
 
--- what an entry is fits together. No entry is yet of a kind that no command makes.
+-- the parts of a body fit together. No body is of a kind that no command makes yet.
 abbrev pub IsSound : Body → Type 0
 IsSound (File text dirty shown) = IsSoundFile text dirty shown
 IsSound Dir = Unit {0}
 IsSound (Semantic query permanent prohibited) = Unit {0}
 IsSound other = ⊥
 
--- the entries are sound, and they fit one another and the next number: what a tree is, its queries left aside
+-- the entries are sound, and they fit one another and the next number: the tree without its queries
 pub record IsLayout (s : State) : Type 0 where
   pub numbers : NumbersRise 0 s.entries s.next
   pub names : AllByRecursion (λ entry. IsTrue (is_name entry.name)) s.entries

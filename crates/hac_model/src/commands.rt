@@ -12,61 +12,61 @@ pub struct Line {
     pub command: Command,
 }
 
-/// A command with its words. A relative path starts where the session stands.
+/// A command with its words. A relative path starts at the session's directory.
 #[derive(Debug, Drop)]
 pub enum Command {
-    /// Makes a plain directory.
+    /// Creates a plain directory.
     Mkdir { path: PathWord },
-    /// Removes a directory in which nothing stands.
+    /// Removes an empty directory.
     Rmdir { path: PathWord },
-    /// Makes the file, or replaces its text.
+    /// Creates the file, or replaces its text.
     Write { path: PathWord, text: Text },
-    /// Tells the text of a file or a document.
+    /// Shows the text of a file or a document.
     Cat { path: PathWord },
-    /// Lists what stands in a directory, that of the session where no path is given.
+    /// Lists a directory, by default the session's.
     Ls { path: Option<PathWord> },
-    /// Lets the session stand in a directory, in the root where no path is given.
+    /// Makes a directory the session's, by default the root.
     Cd { path: Option<PathWord> },
-    /// Tells where the session stands.
+    /// Shows the path of the session's directory.
     Pwd,
-    /// Moves an entry, with all that stands below it, to where nothing stands.
+    /// Moves an entry, with everything below it, to a path where nothing is yet.
     Mv { from: PathWord, to: PathWord },
     /// Removes a file or a symbolic link.
     Rm { path: PathWord },
-    /// Makes a symbolic link.
+    /// Creates a symbolic link.
     Ln { target: Text, path: PathWord },
-    /// Tells the target of a symbolic link.
+    /// Shows the target of a symbolic link.
     Readlink { path: PathWord },
-    /// Makes a semantic directory.
+    /// Creates a semantic directory.
     Smkdir { path: PathWord, query: RawQuery },
     /// Gives a directory a query.
     Setq { path: PathWord, query: RawQuery },
-    /// Takes a directory's query away.
+    /// Removes a directory's query.
     Unq { path: PathWord },
-    /// Tells a directory's query.
+    /// Shows a directory's query.
     Query { path: PathWord },
-    /// Lists the links of a semantic directory, that of the session where no path is given.
+    /// Lists the links of a semantic directory, by default the session's.
     Sls { path: Option<PathWord> },
     /// Makes an item a permanent link of a directory.
     Sln { item: PathWord, dir: PathWord },
     /// Makes an item prohibited in a directory.
     Srm { item: PathWord, dir: PathWord },
-    /// Takes an item's mark in a directory away.
+    /// Removes an item's mark in a directory.
     Sforget { item: PathWord, dir: PathWord },
-    /// Lists what satisfies a query.
+    /// Lists the items that satisfy a query.
     Find { query: RawQuery },
-    /// Makes a mount of a space.
+    /// Mounts a space.
     Smount { path: PathWord, space: Name },
-    /// Asks a mount's space anew.
+    /// Asks a mount's space again.
     Ssync { path: PathWord },
     /// Removes a mount.
     Sumount { path: PathWord },
-    /// Indexes the dirty files, one after the other.
+    /// Indexes all dirty files, one after the other.
     Index,
-    /// Indexes so many dirty files at most.
+    /// Indexes at most so many dirty files.
     Tick { steps: u64 },
-    /// Tells how much there is of everything.
+    /// Shows how many things of each kind there are.
     Counts,
-    /// Writes the whole tree anew to the store.
+    /// Writes the whole tree to a new area of the store.
     Checkpoint,
 }

@@ -1,9 +1,9 @@
 //! How much a state holds of what limits count.
 
-/// How much there is of each thing that a limit or the program counts. Each is told of a state by `counts` of the specs.
+/// How much a state holds of each thing that a limit or the program counts, as `counts` of the specs says.
 #[derive(Clone, Copy, Debug, PartialEq, Eq)]
 pub struct Counts {
-    /// Bytes of the files, of each the longer of its text and of what is shown of it.
+    /// Bytes of all files together, of each the longer of its text and its shown text.
     pub bytes: u64,
     /// Directories of any kind, with the root.
     pub directories: u64,

@@ -4,17 +4,17 @@ use crate::marks::Mark;
 use crate::numbers::Number;
 use crate::queries::Query;
 
-/// A change of the state. Which fit a state, and what they do to it, is said by `accepted` and `apply` of the specs.
+/// A change of the state. `accepted` of the specs says which events a state accepts, and `apply` what they do to it.
 #[derive(Debug, Drop)]
 pub enum Event {
-    /// A plain directory comes into being.
+    /// A plain directory is created.
     Mkdir {
         /// The directory in which it is made.
         dir: Number,
         /// The name that it has there.
         name: Name,
     },
-    /// A file comes into being.
+    /// A file is created.
     NewFile {
         /// The directory in which it is made.
         dir: Number,
@@ -27,65 +27,65 @@ pub enum Event {
     Rewrite {
         /// The file.
         file: Number,
-        /// Its text from now on.
+        /// Its new text.
         text: Text,
     },
-    /// A symbolic link comes into being.
+    /// A symbolic link is created.
     Ln {
         /// The directory in which it is made.
         dir: Number,
         /// The name that it has there.
         name: Name,
-        /// The path word to which it leads, as it was given.
+        /// The path word that it leads to, as it was given.
         target: Text,
     },
-    /// An entry goes elsewhere, with all that stands below it.
+    /// An entry moves, with everything below it.
     Mv {
         /// The entry.
         entry: Number,
-        /// The directory in which it stands from now on.
+        /// Its new directory.
         dir: Number,
         /// The name that it has there.
         name: Name,
     },
-    /// A file or a symbolic link goes.
+    /// A file or a symbolic link is removed.
     Rm {
         /// The entry.
         entry: Number,
     },
-    /// A directory in which nothing stands goes.
+    /// An empty directory is removed.
     Rmdir {
         /// The directory.
         dir: Number,
     },
-    /// A semantic directory comes into being.
+    /// A semantic directory is created.
     Smkdir {
         /// The directory in which it is made.
         dir: Number,
         /// The name that it has there.
         name: Name,
-        /// What it asks for.
+        /// Its query.
         query: Query<Number>,
-        /// What the mounts answered to each question, in the order of asking.
+        /// What the mounts answered to each question, in the order of the questions.
         told: Seq<Seq<Number>>,
     },
     /// A directory gets a query.
     Setq {
         /// The directory.
         dir: Number,
-        /// What it asks for from now on.
+        /// Its new query.
         query: Query<Number>,
-        /// What the mounts answered to each question, in the order of asking.
+        /// What the mounts answered to each question, in the order of the questions.
         told: Seq<Seq<Number>>,
     },
-    /// A directory's query goes, with its marks.
+    /// A directory's query is removed, with its marks.
     Unq {
         /// The directory.
         dir: Number,
     },
-    /// An item's mark in a directory is set or goes.
+    /// An item's mark in a directory is set or removed.
     Mark(Mark),
-    /// A mount comes into being.
+    /// A mount is created.
     Smount {
         /// The directory in which it is made.
         dir: Number,
@@ -95,26 +95,26 @@ pub enum Event {
         space: Name,
         /// The names of the space's documents, rising.
         docs: Seq<Name>,
-        /// What the space answered to each question, in the order of asking.
+        /// What the space answered to each question, in the order of the questions.
         told: Seq<Seq<Number>>,
     },
-    /// A mount's documents and answers are those that its space has now.
+    /// A mount takes over the documents and the answers that its space has now.
     Ssync {
         /// The mount.
         mount: Number,
         /// The names of the space's documents, rising.
         docs: Seq<Name>,
-        /// What the space answered to each question, in the order of asking.
+        /// What the space answered to each question, in the order of the questions.
         told: Seq<Seq<Number>>,
     },
-    /// A mount goes with its documents.
+    /// A mount is removed, with its documents.
     Sumount {
         /// The mount.
         mount: Number,
     },
     /// The dirty file of the least number is indexed.
     Step,
-    /// A session stands in another directory. This is never written to a store.
+    /// A session moves to another directory. This is never written to a store.
     Cd {
         /// The session's name.
         session: Name,

@@ -1,14 +1,14 @@
 //! Theorems over the definitions alone. Each is the contract of a function that does nothing.
 ghost use Rattle.hac_model.specs.Laws.{ScriptsJoin, WholeIsLines, WholeIsFront, WholeIsLongest, EmptyIsValid, EventsKeepValid, BareCommutes, LinesSpell, CommandsHappen, StepsAreDue, StepsClean, IndexCleans, ScriptsKeepValid, EventsLead, EventsEnd, AcceptedAreSpelled, SessionsAreNotStored, FullStore, FirstEnd, FirstCommandLines, NoCommandLines, LinksStay, LinksAreOnly, ValidIsAcyclic, PlainTellsState, LooksFind, LooksTell, MovesRename, PrintedTextIsRead, PrintedTextIsOneLine, QuotedWordIsRead, QuotesAreOneSpelling, FirstListings, MovedListings};
 
-/// Two scripts that are joined are played one after the other, where the first is made of whole lines, each
-/// with its end and the bytes that belong to it: no line looks further ahead, and none looks back but to
-/// what the lines before it left.
+/// Two joined scripts are played one after the other, where the first one consists of whole lines, each with its end and
+/// the bytes that belong to it. No line looks further ahead, and none looks back except at the state that the lines
+/// before it left.
 pub fn scripts_join()
     ensures { ScriptsJoin }
 {}
 
-/// What is whole of a script is the longest front of it that is made of whole lines.
+/// The whole part of a script is its longest prefix of whole lines.
 pub fn whole_is_longest()
     ensures lines { WholeIsLines }
     ensures front { WholeIsFront }
@@ -25,12 +25,12 @@ pub fn events_keep_valid()
     ensures { EventsKeepValid }
 {}
 
-/// What an event makes of the tree hangs on the tree alone.
+/// What an event does to the tree depends on the tree alone.
 pub fn bare_commutes()
     ensures { BareCommutes }
 {}
 
-/// A command that a line spells has words that it may have.
+/// A command that a line spells has only words that it may have.
 pub fn lines_spell()
     ensures { LinesSpell }
 {}
@@ -52,8 +52,8 @@ pub fn scripts_keep_valid()
     ensures { ScriptsKeepValid }
 {}
 
-/// The state after a run is what its events make of the first one, so each tree that a run goes through is
-/// told by how many events happened.
+/// The state after a run is what its events make of the state before it. So the number of events that happened
+/// identifies each tree of a run.
 pub fn events_lead()
     ensures state { EventsLead }
     ensures end { EventsEnd }
@@ -69,15 +69,15 @@ pub fn sessions_are_not_stored()
     ensures { SessionsAreNotStored }
 {}
 
-/// Where no directory depends on itself, the links are those, and those alone, that one more round leaves
-/// as they are. So it is in every valid state.
+/// Where no directory depends on itself, as in every valid state, the links are the only ones that one more round
+/// leaves as they are.
 pub fn links_are_fixed()
     ensures stay { LinksStay }
     ensures only { LinksAreOnly }
     ensures valid { ValidIsAcyclic }
 {}
 
-/// A valid state is told by its plain tree and the number that it goes on with.
+/// A valid state is determined by its plain tree and its next number.
 pub fn plain_tells_state()
     ensures { PlainTellsState }
 {}
@@ -88,41 +88,40 @@ pub fn looks_find()
     ensures tell { LooksTell }
 {}
 
-/// A move gives what is moved, and all that stands below it, the new path in place of the old one, and
-/// leaves each other path as it is.
+/// A move replaces the old path by the new one for the entry and everything below it, and leaves each other path.
 pub fn moves_rename()
     ensures { MovesRename }
 {}
 
-/// What is printed of a text is one line, and is read as that text.
+/// A printed text is one line, and is read back as that text.
 pub fn printed_text_is_read()
     ensures read { PrintedTextIsRead }
     ensures line { PrintedTextIsOneLine }
 {}
 
-/// Each word has one spelling in quotes, and is read from it.
+/// Each word has exactly one spelling in quotes, and is read back from it.
 pub fn quoted_words_are_read()
     ensures read { QuotedWordIsRead }
     ensures only { QuotesAreOneSpelling }
 {}
 
-/// A small run, from its bytes to its bytes: what has the word is listed, and no directory is written over.
+/// A small run, from script bytes to reply bytes: files with the word are listed, and no directory is overwritten.
 pub fn first_listings()
     ensures { FirstListings }
 {}
 
-/// A run with directories in one another, in which files are moved into links and out of them.
+/// A run with nested semantic directories, in which moves add links and remove them.
 pub fn moved_listings()
     ensures { MovedListings }
 {}
 
-/// A run over a store that is full, and where the store of a small run ends.
+/// A run over a full store, and where the store of a small run ends.
 pub fn stores_end()
     ensures full { FullStore }
     ensures first { FirstEnd }
 {}
 
-/// What some words of the program ask for, and some that ask for nothing.
+/// What some command lines of the program ask for, and some that are faulty.
 pub fn first_command_lines()
     ensures some { FirstCommandLines }
     ensures none { NoCommandLines }

@@ -19,13 +19,13 @@ pub const QUERY_LIMIT: usize = 1_024;
 /// The most terms of a query: words, beginnings of words, and directories.
 pub const TERMS_LIMIT: u64 = 64;
 
-/// The most parentheses and `NOT`s round any one term of a query.
+/// The most parentheses and `NOT`s around any one term of a query.
 pub const NESTING_LIMIT: u64 = 32;
 
 /// The most bytes of a script.
 pub const SCRIPT_LIMIT: u64 = 268_435_456;
 
-/// The most bytes of all files' texts, of each file the longer of its text and of what is shown of it.
+/// The most bytes of all files together. A file counts with the longer of its text and its shown text.
 pub const TEXTS_LIMIT: u64 = 67_108_864;
 
 /// The most directories of any kind, with the root.
@@ -34,7 +34,7 @@ pub const DIRS_LIMIT: u64 = 10_000;
 /// The most semantic directories.
 pub const SEMANTICS_LIMIT: u64 = 1_000;
 
-/// The most names of a path under which something stands.
+/// The most names in the path of an entry.
 pub const PATH_LIMIT: u64 = 64;
 
 /// The most files.
@@ -46,8 +46,8 @@ pub const NUMBERS_LIMIT: u64 = 4_294_967_295;
 /// The most bytes of a store, up to the closed gate behind its log.
 pub const STORE_LIMIT: u64 = 4_294_967_296;
 
-/// What a limit counts. A command that would pass a limit is refused with its word. Those that no
-/// command of today can pass are met once the commands that count them are there.
+/// What a limit counts. A command that would exceed a limit is refused with its word. Some of them no command of today
+/// can exceed.
 #[derive(Clone, Copy, Debug, PartialEq, Eq)]
 pub enum LimitWord {
     /// Bytes of a line without its end.
@@ -62,9 +62,9 @@ pub enum LimitWord {
     Query,
     /// Word, prefix and directory terms of a query.
     Terms,
-    /// Parentheses and `NOT`s round any one term of a query.
+    /// Parentheses and `NOT`s around any one term of a query.
     Nesting,
-    /// The sum over the files of the longer of text and shown text.
+    /// Bytes of all files together, of each the longer of its text and its shown text.
     Texts,
     /// Directories of any kind, with the root.
     Dirs,
@@ -74,9 +74,9 @@ pub enum LimitWord {
     Mounts,
     /// Symbolic links.
     Symlinks,
-    /// Names in a stored path.
+    /// Names in the path of an entry.
     Path,
-    /// Sessions that stand elsewhere than in the root.
+    /// Sessions that are in a directory other than the root.
     Sessions,
     /// Documents of one mount.
     Docs,
@@ -84,24 +84,24 @@ pub enum LimitWord {
     Items,
     /// The next number.
     Numbers,
-    /// Numbers in the kept answers, and pairs of mount and term.
+    /// Numbers in the kept answers, and kept answers.
     Answers,
     /// Bytes of the store file, and the generation of its root.
     Store,
 }
 
-/// A limit that is tested: a count that is above `most` is refused with the word.
+/// A limit to be tested: a count above `most` is refused with the word.
 #[derive(Clone, Copy, Debug, PartialEq, Eq)]
 pub struct Limit {
     /// How much there is, or would be.
     pub count: u64,
-    /// How much there may be.
+    /// The most that there may be.
     pub most: u64,
     /// What is counted.
     pub word: LimitWord,
 }
 
-/// The word of the first limit that is passed.
+/// The word of the first limit that is exceeded.
 #[tactic(auto, unfolding(crate::specs::Limits::first_passed))]
 pub fn first_passed(limits: &[Limit]) -> Option<LimitWord>
     ensures { result ≡ first_passed limits.now }
@@ -115,7 +115,7 @@ pub fn first_passed(limits: &[Limit]) -> Option<LimitWord>
 }
 
 impl Counts {
-    /// The limits on the tree itself, in the order in which they are told.
+    /// The limits on the tree itself, in the order in which they are tested.
     pub fn layout_limits(self) -> [Limit; 4]
         ensures { result ≡ layout_limits self }
     {
@@ -143,7 +143,7 @@ impl Counts {
         ]
     }
 
-    /// The limits that also hang on what spaces answer.
+    /// The limits that depend on what spaces answer too.
     pub fn answer_limits(self) -> [Limit; 2]
         ensures { result ≡ answer_limits self }
     {

@@ -1,4 +1,7 @@
 //! How an item is linked in a semantic directory.
+ghost use Rattle.std.specs.Prelude.{◌≡◌};
+ghost use Rattle.hac_model.specs.Kinds.{is_linked, is_permanent, is_prohibited, is_transient, is_unlinked};
+
 use crate::numbers::Number;
 
 /// The kind of an item's link in a semantic directory.
@@ -14,6 +17,43 @@ pub enum Kind {
     Unlinked,
 }
 
+impl Kind {
+    /// Whether the query finds the item.
+    pub fn is_transient(self) -> bool
+        ensures { result ≡ is_transient self }
+    {
+        matches!(self, Kind::Transient)
+    }
+
+    /// Whether the user added the item.
+    pub fn is_permanent(self) -> bool
+        ensures { result ≡ is_permanent self }
+    {
+        matches!(self, Kind::Permanent)
+    }
+
+    /// Whether the user removed the item.
+    pub fn is_prohibited(self) -> bool
+        ensures { result ≡ is_prohibited self }
+    {
+        matches!(self, Kind::Prohibited)
+    }
+
+    /// Whether the item is neither linked nor marked.
+    pub fn is_unlinked(self) -> bool
+        ensures { result ≡ is_unlinked self }
+    {
+        matches!(self, Kind::Unlinked)
+    }
+
+    /// Whether the item is a link, found or added.
+    pub fn is_linked(self) -> bool
+        ensures { result ≡ is_linked self }
+    {
+        matches!(self, Kind::Transient | Kind::Permanent)
+    }
+}
+
 /// A mark that an item gets in a semantic directory.
 #[derive(Clone, Copy, Debug, PartialEq, Eq)]
 pub struct Mark {
@@ -21,6 +61,6 @@ pub struct Mark {
     pub dir: Number,
     /// The item.
     pub item: Number,
-    /// What the item is there from now on: permanent or prohibited, or unlinked where its mark goes.
+    /// What the item is there from now on: permanent or prohibited, or unlinked where its mark is removed.
     pub kind: Kind,
 }

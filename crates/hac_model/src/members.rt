@@ -3,7 +3,7 @@ ghost use Rattle.std.specs.Prelude.{◌≡◌, ℕ, Bool};
 
 use crate::numbers::Number;
 
-/// Tells of items whether directories provide them.
+/// Tells whether directories provide items.
 pub trait Member {
     /// That the directory provides the item.
     ghost provides: { Self → ℕ → ℕ → Bool };

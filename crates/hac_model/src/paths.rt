@@ -8,7 +8,7 @@ use crate::memory::Memory;
 use std::alloc::{AllocError, Global};
 use std::marker::Model;
 
-/// The names that lead from the root to a file or a directory. The root has none.
+/// The names that lead from the root to an entry. The path of the root has none.
 #[derive(Debug, Drop)]
 pub struct Path(Vec<Name>);
 
@@ -65,14 +65,14 @@ impl Path {
         Ok(())
     }
 
-    /// Goes up by a name. The root is above itself.
+    /// Goes up by a name. The root is its own parent.
     pub fn pop(&mut self)
         ensures { self.new ≡ take (length self.old - 1) self.old }
     {
         self.0.pop();
     }
 
-    /// Goes down by names, copies of which are made.
+    /// Goes down by copies of names.
     pub fn extend(&mut self, names: &[Name]) -> Result<(), Memory>
         ensures ok { OnOk result (self.new ≡ self.old ++ names.now) }
         ensures err { OnErr result (self.new ≡ self.old) }
@@ -107,9 +107,9 @@ impl Eq for Path {
 /// A path word as it was read: where it begins, and how it leads on.
 #[derive(Debug, Drop, PartialEq, Eq)]
 pub struct PathWord {
-    /// It begins at the root, and not where the session stands.
+    /// It begins at the root, and not at the session's directory.
     pub absolute: bool,
-    /// By how many names it first leads up. None for an absolute word, since the root is above itself.
+    /// How many names it first leads up: 0 for an absolute word, since the root is its own parent.
     pub ups: u64,
     /// The names by which it then leads down.
     pub names: Path,

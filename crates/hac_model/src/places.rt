@@ -2,12 +2,12 @@
 use crate::bytes::Name;
 use crate::numbers::Number;
 
-/// What a path leads to. How it is found is said by `look` of the specs.
+/// What a path leads to, as `look` of the specs says.
 #[derive(Debug, Drop)]
 pub enum Place {
     /// An entry, or the root.
     There(Number),
-    /// Nothing yet: a directory has nothing of this name.
+    /// Nothing yet: a directory without an entry of this name.
     Free {
         /// The directory.
         dir: Number,

@@ -1,5 +1,5 @@
-//! How far a query was read, byte by byte: what stands before the next byte. What a byte makes of it is
-//! said by `step` of the specs.
+//! How far a query was read, byte by byte: what stands before the next byte. `step` of the specs says what a byte makes
+//! of it.
 ghost use Rattle.std.specs.Prelude.{◌≡◌, ◌∷◌, [], MatchOption, OnOk, OnErr};
 
 use crate::bytes::{Name, Text};
@@ -52,7 +52,7 @@ impl<T> Pile<T> {
 pub struct Part {
     /// What it says.
     pub query: Query<Name>,
-    /// The most parentheses and `NOT`s that stand round one of its terms.
+    /// The most parentheses and `NOT`s around any one of its terms.
     pub nesting: u64,
 }
 

@@ -1,4 +1,4 @@
-//! What a command is answered.
+//! The replies to commands.
 ghost use Rattle.std.specs.Prelude.{◌≡◌};
 ghost use Rattle.hac_model.specs.declared.replies.Deny.TheVariants.{Memory};
 
@@ -20,37 +20,37 @@ pub enum Reply {
 /// Why a command is refused. How each is printed is said by `refusal_text` of the specs.
 #[derive(Clone, Debug, Drop, PartialEq, Eq)]
 pub enum Refusal {
-    /// The line is no command.
+    /// The line isn't a command.
     BadLine,
     /// A path word breaks the rules of names.
     BadName,
-    /// Nothing stands at the path where something is wanted.
+    /// Nothing is at the path, where an entry is wanted.
     NoPath(Path),
-    /// Something else than a directory stands there where one is wanted.
+    /// Something other than a directory is at the path, where a directory is wanted.
     NotDir(Path),
-    /// A directory stands there where a file is wanted.
+    /// A directory is at the path, where a file is wanted.
     NotFile(Path),
-    /// Something stands there where something is to be made.
+    /// Something is already at the path where an entry is to be created.
     Exists(Path),
-    /// Something stands in the directory that is to be removed.
+    /// The directory to be removed isn't empty.
     NotEmpty(Path),
-    /// The entry would go into itself or below itself.
+    /// The entry would move into itself or below itself.
     Under(Path),
-    /// The root neither goes nor moves.
+    /// The root can't be removed or moved.
     Root,
-    /// The bytes are no query: the least place, counted from 1, up to which they begin none.
+    /// The bytes aren't a query: the least place, counted from 1, such that no query begins with the bytes up to it.
     BadQuery(u64),
-    /// The directory would depend on itself by way of this one.
+    /// The directory would depend on itself through this one.
     Cycle(Path),
-    /// The query of this directory names the one that is to go.
+    /// The query of this directory names the one to be removed.
     Referenced(Path),
-    /// This session stands in the directory that is to go.
+    /// This session is in the directory to be removed.
     Busy(Name),
-    /// The directory has no query.
+    /// The directory isn't semantic.
     NotSemantic(Path),
-    /// The item isn't linked in the directory.
+    /// The item isn't a link of the directory.
     NotLinked(Path),
-    /// The item is a permanent link of the directory already.
+    /// The item is already a permanent link of the directory.
     Already(Path),
     /// The item has no mark in the directory.
     NoMark(Path),
@@ -58,23 +58,23 @@ pub enum Refusal {
     NoSpace(Name),
     /// The space failed.
     SpaceFault(Name),
-    /// The command would pass a limit.
+    /// The command would exceed a limit.
     Limit(LimitWord),
-    /// What stands in this mount is its space's alone.
+    /// The entries of this mount belong to its space.
     InMount(Path),
-    /// The path follows more symbolic links than a path may.
+    /// The path leads through more symbolic links than a path may.
     Loop(Path),
-    /// The entry is no symbolic link.
+    /// The entry isn't a symbolic link.
     NotLink(Path),
     /// The script ends before all bytes of a `put` came.
     ShortPut,
-    /// The directory is no mount.
+    /// The directory isn't a mount.
     NotMount(Path),
-    /// The document's space has it no more.
+    /// The document's space no longer has it.
     Gone(Path),
 }
 
-/// Why a call gives no value: the command is refused, or memory ran out.
+/// Why a call returns no value: the command is refused, or memory ran out.
 #[derive(Clone, Debug, Drop, PartialEq, Eq)]
 pub enum Deny {
     /// The command is refused.

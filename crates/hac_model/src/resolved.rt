@@ -1,16 +1,16 @@
-//! Commands between their words and what they do: a path stands there for what it leads to.
+//! Commands whose paths were followed: in place of each path stands what it leads to.
 use crate::bytes::Text;
 use crate::numbers::Number;
 use crate::places::Place;
 use crate::queries::Query;
 
-/// A command whose paths were followed in a state. How they are is said by `resolve` of the specs; what the command
-/// does and tells is read off this alone.
+/// A command whose paths were followed in a state, as `resolve` of the specs says. What the command does and shows
+/// depends on this and the state alone.
 #[derive(Debug, Drop)]
 pub enum Resolved {
-    /// Makes a plain directory.
+    /// Creates a plain directory.
     Mkdir {
-        /// Where it is to stand.
+        /// Where it is to be.
         place: Place,
     },
     /// Removes a directory.
@@ -18,19 +18,19 @@ pub enum Resolved {
         /// The directory.
         dir: Number,
     },
-    /// Makes a file, or replaces its text.
+    /// Creates a file, or replaces its text.
     Write {
-        /// Where it stands or is to stand.
+        /// Where it is, or is to be.
         place: Place,
         /// The text.
         text: Text,
     },
-    /// Tells the text of a file.
+    /// Shows the text of a file.
     Cat {
         /// The file.
         entry: Number,
     },
-    /// Lists what stands in a directory.
+    /// Lists a directory.
     Ls {
         /// The directory.
         dir: Number,
@@ -39,7 +39,7 @@ pub enum Resolved {
     Mv {
         /// The entry.
         entry: Number,
-        /// Where it is to stand.
+        /// Where it is to be.
         place: Place,
     },
     /// Removes a file.
@@ -47,26 +47,26 @@ pub enum Resolved {
         /// The file.
         entry: Number,
     },
-    /// Makes a semantic directory.
+    /// Creates a semantic directory.
     Smkdir {
-        /// Where it is to stand.
+        /// Where it is to be.
         place: Place,
-        /// What it is to ask for.
+        /// Its query.
         query: Query<Number>,
     },
     /// Gives a directory a query.
     Setq {
         /// The directory.
         dir: Number,
-        /// What it is to ask for.
+        /// Its query.
         query: Query<Number>,
     },
-    /// Takes a directory's query away.
+    /// Removes a directory's query.
     Unq {
         /// The directory.
         dir: Number,
     },
-    /// Tells a directory's query.
+    /// Shows a directory's query.
     Query {
         /// The directory.
         dir: Number,
@@ -83,27 +83,27 @@ pub enum Resolved {
         /// The directory.
         dir: Number,
     },
-    /// Keeps an item out of a directory.
+    /// Makes an item prohibited in a directory.
     Srm {
         /// The item.
         item: Number,
         /// The directory.
         dir: Number,
     },
-    /// Takes an item's mark in a directory away.
+    /// Removes an item's mark in a directory.
     Sforget {
         /// The item.
         item: Number,
         /// The directory.
         dir: Number,
     },
-    /// Lists what satisfies a query.
+    /// Lists the items that satisfy a query.
     Find {
         /// The query.
         query: Query<Number>,
     },
-    /// Indexes the dirty files.
+    /// Indexes all dirty files.
     Index,
-    /// Tells how much there is of everything.
+    /// Shows how many things of each kind there are.
     Counts,
 }

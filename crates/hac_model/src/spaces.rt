@@ -31,7 +31,7 @@ pub struct Asks {
     pub fetch: Option<Fetch>,
 }
 
-/// What spaces answered, one answer to each question.
+/// The answers of spaces, one to each question.
 #[derive(Debug, Drop)]
 pub struct Answers {
     /// The names of the documents, rising, or none where no list was asked for.

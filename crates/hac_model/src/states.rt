@@ -4,18 +4,18 @@ use crate::numbers::Number;
 use crate::queries::Query;
 use crate::terms::Term;
 
-/// The whole tree but its root, which has the number 0 and no entry, and where sessions stand.
+/// The whole tree, and the directories of sessions. The root has the number 0 and no entry.
 #[derive(Debug, Drop)]
 pub struct State {
     /// The number that the next entry takes.
     pub next: Number,
     /// The entries, their numbers rising.
     pub entries: Seq<Entry>,
-    /// The sessions that stand elsewhere than in the root.
+    /// The sessions that are in a directory other than the root.
     pub sessions: Seq<Session>,
 }
 
-/// Where a session stands.
+/// A session and its directory.
 #[derive(Debug, Drop)]
 pub struct Session {
     /// The session's name.
@@ -24,14 +24,14 @@ pub struct Session {
     pub dir: Number,
 }
 
-/// Something that stands in a directory.
+/// A file, a directory or a link.
 #[derive(Debug, Drop)]
 pub struct Entry {
     /// The number by which it is known.
     pub number: Number,
-    /// The directory in which it stands.
+    /// Its directory.
     pub parent: Number,
-    /// The name under which it stands there.
+    /// Its name there.
     pub name: Name,
     /// What it is.
     pub body: Body,
@@ -53,12 +53,12 @@ pub enum Body {
     Dir,
     /// A symbolic link.
     Symlink {
-        /// The path word to which it leads, as it was given.
+        /// The path word that it leads to, as it was given.
         target: Text,
     },
     /// A directory that the system fills with links to the items that satisfy its query.
     Semantic {
-        /// What it asks for.
+        /// Its query.
         query: Query<Number>,
         /// The items that the user added, rising.
         permanent: Seq<Number>,

@@ -1,7 +1,7 @@
 //! What a query may ask of a text, and the words that a text has.
 use crate::bytes::{Name, Seq};
 
-/// Something that a text has or lacks. Which it has is said by `has_term` of the specs.
+/// Something that a text has or lacks, as `has_term` of the specs says.
 #[derive(Clone, Debug, Drop, PartialEq, Eq, PartialOrd, Ord)]
 pub enum Term {
     /// One of the text's words is these letters. Words have no capitals, so no text has a term with one.

@@ -5,7 +5,7 @@ use Rattle.std.specs.Borrow.{Bor}
 use Rattle.std.specs.Option.{option_map}
 use Rattle.std.specs.Prelude.{◌==◌, if◌then◌else◌, slice_index, Option, Some, None}
 use Rattle.hac_model.specs.Bytes.{is_backslash}
-use Rattle.hac_model.specs.Texts.{escape, escape_of, hex_of, numbered, text_of, then_text, with_byte}
+use Rattle.hac_model.specs.Texts.{escape_meaning, escape_of, hex_of, hex_byte, text_of, then_text, with_byte}
 use Rattle.hac_names.specs.Spelling.{SpellsFirst}
 
 -- what is spelled behind the first byte is spelled from it on, where that is how they are read
@@ -26,7 +26,7 @@ escape_of-none [] h = refl
 escape_of-none (b ∷ bytes) h = absurd (omega arith)
 
 pub escape_of-step : (bytes : List ℕ) → 0 < length bytes →
-    escape_of bytes ≡ (if slice_index bytes 0 == 120 then hex_of (drop 1 bytes) else then_text (escape (slice_index bytes 0)) (text_of (drop 1 bytes)))
+    escape_of bytes ≡ (if slice_index bytes 0 == 120 then hex_of (drop 1 bytes) else then_text (escape_meaning (slice_index bytes 0)) (text_of (drop 1 bytes)))
 unfolding text_of
 escape_of-step [] h = absurd (omega arith)
 escape_of-step (b ∷ bytes) h = refl
@@ -38,7 +38,7 @@ hex_of-none (high ∷ []) h = refl
 hex_of-none (high ∷ low ∷ bytes) h = absurd (omega arith)
 
 pub hex_of-step : (bytes : List ℕ) → 2 ≤ length bytes →
-    hex_of bytes ≡ then_text (numbered (slice_index bytes 0) (slice_index bytes 1)) (text_of (drop 2 bytes))
+    hex_of bytes ≡ then_text (hex_byte (slice_index bytes 0) (slice_index bytes 1)) (text_of (drop 2 bytes))
 unfolding text_of
 hex_of-step [] h = absurd (omega arith)
 hex_of-step (high ∷ []) h = absurd (omega arith)

@@ -45,7 +45,7 @@ nothing_left n = take_all _ [] (omega arith)
 length_up : (xs : List (List ℕ)) → length (without_last 1 xs) ≡ length xs - 1
 length_up xs = omega (arith, length-take (length xs - 1) xs)
 
--- `walked` and `before`, told what kind of part it is
+-- `walked` and `before`, given what kind of part it is
 abbrev walked_by : Bool → Bool → PathWord → List ℕ → PathWord
 walked_by idle up word part =
     cond idle word (cond up (cond (eqb (length word.names) 0) (record word { ups = word.ups + 1 })

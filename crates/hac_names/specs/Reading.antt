@@ -10,15 +10,15 @@ use Rattle.hac_names.specs.declared.reading.NameFault.{NameFault}
 use Rattle.hac_names.specs.declared.reading.NameFault.TheVariants as fault
 
 -- the fault is for the refusal that is wanted; want of memory may come in place of any answer
-abbrev pub IsFor : {A : Type 0} → NameFault → Result A Refusal → Type 0
-IsFor fault.Bad wanted = wanted ≡ Err BadName
-IsFor fault.Limit wanted = wanted ≡ Err (Limit limit.Name)
-IsFor fault.Memory wanted = ⊤
+abbrev pub IsNameFault : {A : Type 0} → NameFault → Result A Refusal → Type 0
+IsNameFault fault.Bad wanted = wanted ≡ Err BadName
+IsNameFault fault.Limit wanted = wanted ≡ Err (Limit limit.Name)
+IsNameFault fault.Memory wanted = ⊤
 
 -- the call gave what is wanted, the value or the fault
-abbrev pub Reads : {A : Type 0} → Result A NameFault → Result A Refusal → Type 0
-Reads (Ok value) wanted = wanted ≡ Ok value
-Reads (Err fault) wanted = IsFor fault wanted
+abbrev pub ReadsWord : {A : Type 0} → Result A NameFault → Result A Refusal → Type 0
+ReadsWord (Ok value) wanted = wanted ≡ Ok value
+ReadsWord (Err fault) wanted = IsNameFault fault wanted
 
 -- a relative word led on by a part behind it: a `..` removes the name before it, and leads up where none is left
 abbrev pub walked : PathWord → List ℕ → PathWord

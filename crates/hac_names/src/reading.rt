@@ -3,7 +3,7 @@ ghost use Rattle.std.specs.Prelude.{◌≡◌, ◌+◌, ◌<◌, ◌^◌, length
 ghost use Rattle.hac_model.specs.Paths.{are_names};
 ghost use Rattle.hac_model.specs.PathWords.{word_of, relative, parts};
 ghost use Rattle.hac_model.specs.PathWords as words;
-ghost use Rattle.hac_names.specs.Reading.{Reads, walked};
+ghost use Rattle.hac_names.specs.Reading.{ReadsWord, walked};
 
 use crate::names::is_part;
 use hac_model::{Memory, NAME_LIMIT, Name, Path, PathWord};
@@ -37,7 +37,7 @@ impl From<Memory> for NameFault {
 /// The path word that bytes spell.
 #[tactic(auto, unfolding(hac_model::specs::PathWords::word_of))]
 pub fn parse_word(alloc: Global, bytes: &[u8]) -> Result<PathWord, NameFault>
-    ensures word { Reads result (word_of bytes.now) }
+    ensures word { ReadsWord result (word_of bytes.now) }
     ensures names { IfOk result (λ word. IsTrue (are_names word.names)) }
 {
     if is_bad(bytes) {

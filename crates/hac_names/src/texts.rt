@@ -3,7 +3,7 @@
 ghost use Rattle.std.specs.Prelude.{◌≡◌, ◌++◌, ◌<◌, ◌&&◌, ◌+◌, ◌*◌, length, is_some, IfSome, IfOk, OnOk};
 ghost use Rattle.std.specs.Char.{digit_char, digit_value, is_digit};
 ghost use Rattle.std.specs.Option.{option_map};
-ghost use Rattle.hac_model.specs.Texts.{escape, escape_of, escaped_text, hex_of, numbered, escaped_byte, text_of};
+ghost use Rattle.hac_model.specs.Texts.{escape_meaning, escape_of, escaped_text, hex_of, hex_byte, escaped_byte, text_of};
 ghost use Rattle.hac_names.specs.Spelling.{SpellsFirst};
 
 use hac_model::Memory;
@@ -86,7 +86,7 @@ fn escaped_byte(bytes: &[u8]) -> Option<(u8, &[u8])>
 {
     match bytes {
         [b'x', rest @ ..] => numbered_byte(rest),
-        [letter, rest @ ..] => Some((escape(*letter)?, rest)),
+        [letter, rest @ ..] => Some((escape_meaning(*letter)?, rest)),
         [] => None,
     }
 }
@@ -102,8 +102,8 @@ fn numbered_byte(bytes: &[u8]) -> Option<(u8, &[u8])>
 }
 
 /// What a byte means behind a backslash, where it is an escape alone.
-fn escape(letter: u8) -> Option<u8>
-    ensures { result ≡ escape letter }
+fn escape_meaning(letter: u8) -> Option<u8>
+    ensures { result ≡ escape_meaning letter }
 {
     match letter {
         b'n' => Some(b'\n'),
@@ -115,7 +115,7 @@ fn escape(letter: u8) -> Option<u8>
 
 /// The byte whose number two hexadecimal digits are, of either case.
 fn number(high: u8, low: u8) -> Option<u8>
-    ensures { result ≡ numbered high low }
+    ensures { result ≡ hex_byte high low }
 {
     Some(digit_value(high)? * 16 + digit_value(low)?)
 }

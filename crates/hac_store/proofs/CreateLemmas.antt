@@ -105,9 +105,6 @@ module _ {D : Type 0} (seen : D → Option (List ℕ)) (image : D → List ℕ �
       let only = told-settled (seen old) file (image old) is settled in
       subst (λ s. IsSettled s (image mid)) (sym now) (λ c left. only c (quiet.images c left))
 
-  pub quiet-new : (old new : D) → Settled old → IsUnheld (seen old) → Quiet old new → Leaves old new
-  quiet-new old new settled unheld quiet = if_told (seen old) (LeavesNew old new) (λ file is. quiet-run old new file is settled unheld quiet)
-
   -- one write behind quiet calls
   write-new : (old mid new : D) (at n : ℕ) → Settled old → IsUnheld (seen old) → Quiet old mid → Runs mid new at n
       → ((file c : List ℕ) → seen old ≡ Some file → Torn at n file c → IsNewOrNone c) → Leaves old new

@@ -15,23 +15,23 @@ use Rattle.hac_model.specs.Play.{end_after}
 use Rattle.hac_model.specs.declared.events.Event.{Event}
 use Rattle.hac_model.specs.declared.states.State.{State}
 use Rattle.event_codec.proofs.PayloadLemmas.{written_is_read}
-use Rattle.hac_store.specs.Held.{Log, after_found, go_on, judged, log, read_on}
+use Rattle.hac_store.specs.Held.{Log, after_found, go_on, after_payload, log, log_from}
 
 -- one step of a log that is read
-read-step : (n : ℕ) (s : State) (at : ℕ) (file : List ℕ) → read_on (suc n) s at file ≡ after_found s at (found_at at file) (λ new behind. read_on n new behind file)
-unfolding read_on
+read-step : (n : ℕ) (s : State) (at : ℕ) (file : List ℕ) → log_from (suc n) s at file ≡ after_found s at (found_at at file) (λ new behind. log_from n new behind file)
+unfolding log_from
 read-step n s at file = refl
 
-read-none : (s : State) (at : ℕ) (file : List ℕ) → read_on zero s at file ≡ Err stop.Short
-unfolding read_on
+read-none : (s : State) (at : ℕ) (file : List ℕ) → log_from zero s at file ≡ Err stop.Short
+unfolding log_from
 read-none s at file = refl
 
 -- past the end of a file there is too little
-read-past : (n : ℕ) (s : State) (at : ℕ) (file : List ℕ) → length file ≤ at → read_on n s at file ≡ Err stop.Short
+read-past : (n : ℕ) (s : State) (at : ℕ) (file : List ℕ) → length file ≤ at → log_from n s at file ≡ Err stop.Short
 read-past zero s at file past = read-none s at file
 read-past (suc n) s at file past =
     let short : found_at at file ≡ Short = ap (found_in at) (drop_all at file past) in
-    read-step n s at file ∙ ap (λ (f : Found). after_found s at f (λ new behind. read_on n new behind file)) short
+    read-step n s at file ∙ ap (λ (f : Found). after_found s at f (λ new behind. log_from n new behind file)) short
 
 -- what follows what was found, where it is the same behind each record that may be there
 go-same : (r : Result State Stop) (next other : State → Result Log Stop) → ((new : State) → next new ≡ other new) → go_on r next ≡ go_on r other
@@ -43,15 +43,15 @@ found-same : (s : State) (at : ℕ) (found : Found) (next other : State → ℕ 
     → after_found s at found next ≡ after_found s at found other
 found-same s at Short next other same = refl
 found-same s at Closed next other same = refl
-found-same s at (Whole payload behind) next other same = go-same (judged s at (spelled payload)) (λ new. next new behind) (λ new. other new behind) (λ new. same payload behind new refl)
+found-same s at (Whole payload behind) next other same = go-same (after_payload s at (spelled payload)) (λ new. next new behind) (λ new. other new behind) (λ new. same payload behind new refl)
 
 -- as many steps as there are bytes are enough
-read-enough : (m n : ℕ) (s : State) (at : ℕ) (file : List ℕ) → length file ≤ at + m → length file ≤ at + n → read_on m s at file ≡ read_on n s at file
+read-enough : (m n : ℕ) (s : State) (at : ℕ) (file : List ℕ) → length file ≤ at + m → length file ≤ at + n → log_from m s at file ≡ log_from n s at file
 read-enough zero n s at file short enough = read-past zero s at file (omega arith) ∙ sym (read-past n s at file (omega arith))
 read-enough (suc m) zero s at file short enough = read-past (suc m) s at file (omega arith) ∙ sym (read-past zero s at file (omega arith))
 read-enough (suc m) (suc n) s at file short enough =
     read-step m s at file
-    ∙ found-same s at (found_at at file) (λ new behind. read_on m new behind file) (λ new behind. read_on n new behind file)
+    ∙ found-same s at (found_at at file) (λ new behind. log_from m new behind file) (λ new behind. log_from n new behind file)
     (λ payload behind new found. let whole = found-is-whole at behind payload file found in read-enough m n new behind file (omega (arith, whole.0)) (omega (arith, whole.0)))
     ∙ sym (read-step n s at file)
 
@@ -66,7 +66,7 @@ pub log-short : (s : State) (at : ℕ) (file : List ℕ) → found_at at file �
 log-short s at file found = log-step s at file ∙ ap (λ (f : Found). after_found s at f (λ new behind. log new behind file)) found
 
 pub log-whole : (s : State) (at : ℕ) (file payload : List ℕ) (behind : ℕ) → found_at at file ≡ Whole payload behind
-    → log s at file ≡ go_on (judged s at (spelled payload)) (λ new. log new behind file)
+    → log s at file ≡ go_on (after_payload s at (spelled payload)) (λ new. log new behind file)
 log-whole s at file payload behind found = log-step s at file ∙ ap (λ (f : Found). after_found s at f (λ new behind. log new behind file)) found
 
 -- a log that was read ends at a closed gate, and goes on in a file that agrees up to there
@@ -81,14 +81,14 @@ go-parts (Ok new) next l is = (new, refl, is)
 go-parts (Err stop) next l is = absurd (cc)
 
 found-ends : (n : ℕ) (s : State) (at : ℕ) (d : List ℕ) (l : Log) (found : Found) → found_at at d ≡ found
-    → ((new : State) (behind : ℕ) → read_on n new behind d ≡ Ok l → Ends new behind d l)
-    → after_found s at found (λ new behind. read_on n new behind d) ≡ Ok l → Ends s at d l
+    → ((new : State) (behind : ℕ) → log_from n new behind d ≡ Ok l → Ends new behind d l)
+    → after_found s at found (λ new behind. log_from n new behind d) ≡ Ok l → Ends s at d l
 found-ends n s at d l Short found rest is = absurd (cc)
 found-ends n s at d l Closed found rest is =
     let same : record { state = s; end = at } ≡ l = cc in
     subst (Ends s at d) same (record { closed = found-is-closed at d found; behind = omega arith; along = λ c front long. refl })
 found-ends n s at d l (Whole payload behind) found rest is =
-    let parts = go-parts (judged s at (spelled payload)) (λ new. read_on n new behind d) l is in
+    let parts = go-parts (after_payload s at (spelled payload)) (λ new. log_from n new behind d) l is in
     let new = parts.0 in
     let ends = rest new behind parts.2 in
     let whole = found-is-whole at behind payload d found in
@@ -100,7 +100,7 @@ found-ends n s at d l (Whole payload behind) found rest is =
           log-whole s at c payload behind again ∙ ap (λ (r : Result State Stop). go_on r (λ next. log next behind c)) parts.1 ∙ ends.along c front long;
     }
 
-read-ends : (n : ℕ) (s : State) (at : ℕ) (d : List ℕ) (l : Log) → read_on n s at d ≡ Ok l → Ends s at d l
+read-ends : (n : ℕ) (s : State) (at : ℕ) (d : List ℕ) (l : Log) → log_from n s at d ≡ Ok l → Ends s at d l
 read-ends zero s at d l is = let none = sym (read-none s at d) ∙ is in absurd (cc)
 read-ends (suc n) s at d l is =
     found-ends n s at d l (found_at at d) refl (λ new behind. read-ends n new behind d l) (sym (read-step n s at d) ∙ is)
@@ -118,9 +118,9 @@ pub end-grows : (events : List Event) (end : ℕ) → end ≤ end_after end even
 end-grows [] end = omega arith
 end-grows (event ∷ events) end = omega (arith, end-grows events (end + 5 + length (event_text event)))
 
-judged-event : (s : State) (at : ℕ) (event : Event) → IsTrue (accepted s event) → IsTrue (is_spellable event) → judged s at (spelled (event_text event)) ≡ Ok (apply s event)
+judged-event : (s : State) (at : ℕ) (event : Event) → IsTrue (accepted s event) → IsTrue (is_spellable event) → after_payload s at (spelled (event_text event)) ≡ Ok (apply s event)
 judged-event s at event accepted spellable =
-    ap (judged s at) (written_is_read event spellable) ∙ ap (λ (b : Bool). if b then Ok (apply s event) else Err (stop.BadAt (at + 5))) accepted
+    ap (after_payload s at) (written_is_read event spellable) ∙ ap (λ (b : Bool). if b then Ok (apply s event) else Err (stop.BadAt (at + 5))) accepted
 
 -- records of events are read as what these lead to
 pub log-records : (events : List Event) (s : State) (at : ℕ) (file : List ℕ) → AreStored s events → end_after at events < 2 ^ 32

@@ -21,7 +21,7 @@ use Rattle.hac_model.proofs.AcyclicLemmas.{apply-valid}
 use Rattle.hac_model.proofs.SpelledLemmas.{accepted-spelled}
 use Rattle.hac_core.specs.Seen.{Seen as Kept}
 use Rattle.hac_store.specs.Held.{held}
-use Rattle.hac_store.specs.Stores.{HeldBetween, Seen, Stands, whole}
+use Rattle.hac_store.specs.Stores.{HeldBetween, Seen, Stands, intact}
 use Rattle.hac_store.proofs.HeldLemmas.{held-appending, held-gate, held-overlaid}
 use Rattle.hac_store.proofs.LogLemmas.{AreStored}
 use Rattle.hac_store.proofs.RoomLemmas.{within-limit}
@@ -36,12 +36,12 @@ all-stored (event ∷ events) s valid (happens, rest) =
 pub put-seen : (seen : Seen) (s new : State) (start end generation to : ℕ) (broken : Bool) (events : List Event)
     → record { setting = record { state = s; start = start; end = end; generation = generation }; broken = broken } ≡ seen
     → seen.broken ≡ false → new ≡ apply_all s events → to ≡ end_after end events
-    → record { setting = record { state = new; start = start; end = to; generation = generation }; broken = broken } ≡ whole (after_events seen.setting events)
+    → record { setting = record { state = new; start = start; end = to; generation = generation }; broken = broken } ≡ intact (after_events seen.setting events)
 put-seen seen s new start end generation to broken events is unbroken state ends =
     let kept : broken ≡ false = ap (λ (x : Seen). x.broken) is ∙ unbroken in
     let of : ℕ → State → Bool → Seen = λ to state broken. record { setting = record { state = state; start = start; end = to; generation = generation }; broken = broken } in
     ap (of to new) kept ∙ ap (λ (t : State). of to t false) state ∙ ap (λ (n : ℕ). of n (apply_all s events) false) ends
-    ∙ ap (λ (x : Seen). whole (after_events x.setting events)) is
+    ∙ ap (λ (x : Seen). intact (after_events x.setting events)) is
 
 -- the machine after what it was ready for
 pub put-state : (old ready new : Kept) (events : List Event) → ready ≡ record { state = old.state; ready = events }

@@ -22,7 +22,7 @@ use Rattle.hac_model.specs.Tree.{empty}
 use Rattle.hac_model.specs.declared.events.Event.{Event}
 use Rattle.hac_model.specs.declared.states.State.{State}
 use Rattle.hac_store.specs.Faults.{of_root}
-use Rattle.hac_store.specs.Held.{Log, from_root, go_on, held, judged, log, with_root}
+use Rattle.hac_store.specs.Held.{Log, from_root, go_on, held, after_payload, log, with_root}
 use Rattle.hac_store.specs.Reading.{Judges, ReadsLog}
 use Rattle.hac_store.specs.Stores.{Opens, Seen, Stands}
 use Rattle.hac_store.specs.declared.fault.StoreFault.{StoreFault}
@@ -54,21 +54,21 @@ read-short (Some file) old start s new at len so_far tells =
 
 -- one record more
 pub read-more : (seen : Option (List ℕ)) (old : State) (start : ℕ) (s new : State) (at next : ℕ) (payload : Vec ℕ Global) → IsRead seen old start s at
-    → TellsAt (Entry payload next) at seen → judged s at (spelled payload.items) ≡ Ok new → IsRead seen old start new next
+    → TellsAt (Entry payload next) at seen → after_payload s at (spelled payload.items) ≡ Ok new → IsRead seen old start new next
 read-more None old start s new at next payload so_far tells is = tt
 read-more (Some file) old start s new at next payload so_far tells is =
     so_far ∙ log-whole s at file payload.items next tells ∙ ap (λ (r : Result State Stop). go_on r (λ after. log after next file)) is
 
 -- a record that isn't sound
 pub read-wrong : (seen : Option (List ℕ)) (old : State) (start : ℕ) (s new : State) (at next place : ℕ) (payload : Vec ℕ Global) → IsRead seen old start s at
-    → TellsAt (Entry payload next) at seen → judged s at (spelled payload.items) ≡ Err (stop.BadAt place) → Reads (Err (fault.NotStore place)) seen old start new
+    → TellsAt (Entry payload next) at seen → after_payload s at (spelled payload.items) ≡ Err (stop.BadAt place) → Reads (Err (fault.NotStore place)) seen old start new
 read-wrong None old start s new at next place payload so_far tells is = tt
 read-wrong (Some file) old start s new at next place payload so_far tells is =
     ap (placed file) (so_far ∙ log-whole s at file payload.items next tells ∙ ap (λ (r : Result State Stop). go_on r (λ after. log after next file)) is)
 
 -- a fault of a record is a fault of the log
 pub read-stop : (seen : Option (List ℕ)) (old : State) (start : ℕ) (s new : State) (at next : ℕ) (payload : Vec ℕ Global) (why : StoreFault) → IsRead seen old start s at
-    → TellsAt (Entry payload next) at seen → Judges (Err why) new (judged s at (spelled payload.items)) → Reads (Err why) seen old start new
+    → TellsAt (Entry payload next) at seen → Judges (Err why) new (after_payload s at (spelled payload.items)) → Reads (Err why) seen old start new
 read-stop seen old start s new at next payload fault.Disk so_far tells judges = absurd judges
 read-stop seen old start s new at next payload (fault.NotStore place) so_far tells judges = read-wrong seen old start s new at next place payload so_far tells judges
 read-stop seen old start s new at next payload fault.AlreadyStore so_far tells judges = absurd judges

@@ -22,16 +22,6 @@ pub step-spellable : IsTrue (is_spellable Step)
 unfolding is_spellable
 step-spellable = refl
 
--- one payload of a step more
-pub steps-more : (vs : List (Vec ℕ Global)) (v : Vec ℕ Global) (count : ℕ) → contents_of vs ≡ map event_text (replicate count Step) → v.items ≡ event_text Step
-    → contents_of (vs ++ v ∷ []) ≡ map event_text (replicate (count + 1) Step)
-steps-more vs v count so_far is =
-    map-append (λ (payload : Vec ℕ Global). payload.items) vs (v ∷ [])
-    ∙ ap (λ (l : List (List ℕ)). l ++ v.items ∷ []) so_far
-    ∙ ap (λ (l : List ℕ). map event_text (replicate count Step) ++ l ∷ []) is
-    ∙ sym (map-append event_text (replicate count Step) (Step ∷ []))
-    ∙ ap (map event_text) (replicate_more count Step)
-
 end-steps : (count end : ℕ) → end_after end (replicate count Step) ≡ end + count * 7
 end-steps zero end = omega arith
 end-steps (suc count) end =
@@ -65,7 +55,7 @@ room-of event events end high = grind (arith, nat_tests)
 room-within : (event : Event) (events : List Event) (end : ℕ) → end_after end (event ∷ events) < STORE_LIMIT → have_room end (event ∷ events) ≡ true
 room-within event events end low = grind (arith, nat_tests)
 
--- there is no room where they pass the limit
+-- there is no room where they exceed the limit
 pub no-room : (vs : List (Vec ℕ Global)) (events : List Event) (end : ℕ) → 0 < length vs → contents_of vs ≡ map event_text events
     → STORE_LIMIT < end + length (log_of (contents_of vs)) → have_room end events ≡ false
 no-room vs [] end some texts past = absurd (omega (arith, some, length-contents vs, ap length texts))

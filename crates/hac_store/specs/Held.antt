@@ -12,11 +12,11 @@ use Rattle.hac_model.specs.Tree.{empty}
 use Rattle.hac_model.specs.declared.events.Event.{Event}
 use Rattle.hac_model.specs.declared.states.State.{State}
 
--- what a payload makes of the state so far, told the place of its gate. It is wrong where it breaks the grammar, and at its
+-- what a payload makes of the state so far, given the place of its gate. It is wrong where it breaks the grammar, and at its
 -- first byte where its event can't happen.
-abbrev pub judged : State → ℕ → Result Event ℕ → Result State Stop
-judged s at (Err offset) = Err (stop.BadAt (at + 5 + offset))
-judged s at (Ok event) = if accepted s event then Ok (apply s event) else Err (stop.BadAt (at + 5))
+abbrev pub after_payload : State → ℕ → Result Event ℕ → Result State Stop
+after_payload s at (Err offset) = Err (stop.BadAt (at + 5 + offset))
+after_payload s at (Ok event) = if accepted s event then Ok (apply s event) else Err (stop.BadAt (at + 5))
 
 -- the end of a log: the state that its records lead to, and the place of the closed gate behind them
 pub record Log : Type 0 where
@@ -28,20 +28,20 @@ abbrev pub go_on : Result State Stop → (State → Result Log Stop) → Result 
 go_on (Err stop) next = Err stop
 go_on (Ok new) next = next new
 
--- what a log holds from a gate on, told what stands there and how it is read behind a record
+-- what a log holds from a gate on, given what stands there and how it is read behind a record
 abbrev pub after_found : State → ℕ → Found → (State → ℕ → Result Log Stop) → Result Log Stop
 after_found s at Short next = Err stop.Short
 after_found s at Closed next = Ok (record { state = s; end = at })
-after_found s at (Whole payload behind) next = go_on (judged s at (spelled payload)) (λ new. next new behind)
+after_found s at (Whole payload behind) next = go_on (after_payload s at (spelled payload)) (λ new. next new behind)
 
 -- a log from a gate on, at most so many records
-unfoldable pub read_on : ℕ → State → ℕ → List ℕ → Result Log Stop
-read_on zero s at file = Err stop.Short
-read_on (suc n) s at file = after_found s at (found_at at file) (λ new behind. read_on n new behind file)
+unfoldable pub log_from : ℕ → State → ℕ → List ℕ → Result Log Stop
+log_from zero s at file = Err stop.Short
+log_from (suc n) s at file = after_found s at (found_at at file) (λ new behind. log_from n new behind file)
 
 -- a log from a gate on; a file has fewer records than bytes
 abbrev pub log : State → ℕ → List ℕ → Result Log Stop
-log s at file = read_on (length file) s at file
+log s at file = log_from (length file) s at file
 
 -- the store of a root and its log
 abbrev pub with_root : Root → Result Log Stop → Result Setting Stop

@@ -9,7 +9,7 @@ use Rattle.hac_model.specs.declared.limits.TheConstants.{STORE_LIMIT}
 use Rattle.hac_model.specs.declared.states.State.{State}
 use Rattle.hac_store.specs.Held.{held}
 use Rattle.hac_store.specs.declared.fault.StoreFault.{StoreFault}
-use Rattle.hac_store.specs.declared.fault.StoreFault.TheVariants.{Disk, NotStore, AlreadyStore, Full, Memory}
+use Rattle.hac_store.specs.declared.fault.StoreFault.TheVariants.{NotStore}
 
 -- a store: what a run goes on from, and whether a write of it failed
 pub record Seen : Type 0 where
@@ -28,8 +28,8 @@ abbrev pub fit_behind : ℕ → ℕ → ℕ → Bool
 fit_behind end records payload = records == 0 || nat_lt (end + records * (5 + payload)) STORE_LIMIT
 
 -- a store that no write of failed
-abbrev pub whole : Setting → Seen
-whole setting = record { setting = setting; broken = false }
+abbrev pub intact : Setting → Seen
+intact setting = record { setting = setting; broken = false }
 
 -- the disk tells its bytes, and whatever a crash leaves of them holds this
 abbrev pub Stands : Option (List ℕ) → (List ℕ → Type 0) → Setting → Type 0
@@ -44,14 +44,8 @@ HeldBetween setting events c = (held c ≡ Ok setting) ⊎ (held c ≡ Ok (after
 abbrev pub IsNewOrNone : List ℕ → Type 0
 IsNewOrNone c = (setting : Setting) → held c ≡ Ok setting → setting.state ≡ empty
 
--- what a call that opens a store answers, told what the file holds
+-- what a call that opens a store answers, given what the file holds
 abbrev pub Opens : Result Seen StoreFault → Result Setting ℕ → Type 0
 Opens (Ok store) kept = kept ≡ Ok store.setting
 Opens (Err (NotStore at)) kept = kept ≡ Err at
 Opens (Err other) kept = ⊤
-
--- the call failed, and before any write
-abbrev pub is_unwritten : StoreFault → Bool
-is_unwritten Full = true
-is_unwritten Memory = true
-is_unwritten other = false

@@ -9,8 +9,8 @@ ghost use Rattle.hac_model.specs.Laws.{AllHappen};
 ghost use Rattle.hac_model.specs.Payloads.{event_text};
 ghost use Rattle.hac_model.specs.Play.{after_events, have_room};
 ghost use Rattle.hac_model.specs.declared.events.Event.TheVariants as event;
-ghost use Rattle.hac_core.specs.Settling.{events_in};
-ghost use Rattle.hac_store.specs.Stores.{HeldBetween, Stands, whole};
+ghost use Rattle.hac_core.specs.Settling.{settled_events};
+ghost use Rattle.hac_store.specs.Stores.{HeldBetween, Stands, intact};
 
 use crate::fault::StoreFault;
 use crate::store::Store;
@@ -22,13 +22,13 @@ use hac_model::{Event, Memory};
 use std::alloc::Global;
 
 impl Store {
-    /// Stores an event, and then lets it happen. After `Full` and `Memory` nothing was written and all is as before;
+    /// Stores an event, and then applies it. After `Full` and `Memory` nothing was written and all is as before;
     /// after `Disk` the store is broken.
     pub fn command<D: Disk>(&mut self, disk: &mut D, event: Event) -> Result<(), StoreFault>
-        requires whole { self.old.broken ≡ false }
+        requires intact { self.old.broken ≡ false }
         requires accepted { IsTrue (accepted self.old.setting.state event) }
         requires place { HasByteAt (D.seen disk.old) self.old.setting.end }
-        ensures ok { OnOk result (self.new ≡ whole (after_events self.old.setting (event ∷ []))) }
+        ensures ok { OnOk result (self.new ≡ intact (after_events self.old.setting (event ∷ []))) }
         ensures err { (IsErrOf result StoreFault.Full ⊎ IsErrOf result StoreFault.Memory) → self.new ≡ self.old }
         ensures broken { IsErrOf result StoreFault.Disk → self.new ≡ record self.old { broken = true } }
         ensures full { IsErrOf result StoreFault.Full → have_room self.old.setting.end (event ∷ []) ≡ false }
@@ -49,14 +49,14 @@ impl Store {
         self.put(disk, Settled::Change(event), &[payload])
     }
 
-    /// Stores so many index steps by one append, and then lets them happen: after a crash all of them are there, or
+    /// Stores so many index steps by one append, and then applies them: after a crash all of them are there, or
     /// none. It answers as `command` does.
     pub fn steps<D: Disk>(&mut self, disk: &mut D, count: u64) -> Result<(), StoreFault>
-        requires whole { self.old.broken ≡ false }
+        requires intact { self.old.broken ≡ false }
         requires some { 0 < count }
         requires happen { AllHappen self.old.setting.state (replicate count event.Step) }
         requires place { HasByteAt (D.seen disk.old) self.old.setting.end }
-        ensures ok { OnOk result (self.new ≡ whole (after_events self.old.setting (replicate count event.Step))) }
+        ensures ok { OnOk result (self.new ≡ intact (after_events self.old.setting (replicate count event.Step))) }
         ensures err { (IsErrOf result StoreFault.Full ⊎ IsErrOf result StoreFault.Memory) → self.new ≡ self.old }
         ensures broken { IsErrOf result StoreFault.Disk → self.new ≡ record self.old { broken = true } }
         ensures full { IsErrOf result StoreFault.Full → have_room self.old.setting.end (replicate count event.Step) ≡ false }
@@ -79,23 +79,23 @@ impl Store {
         self.put(disk, Settled::Steps(count), &payloads)
     }
 
-    // Puts the records of what is to happen behind the log, and then lets it happen.
+    // Puts the records of what is to happen behind the log, and then applies it.
     fn put<D: Disk>(
         &mut self,
         disk: &mut D,
         settled: Settled,
         payloads: &[Vec<u8>],
     ) -> Result<(), StoreFault>
-        requires whole { self.old.broken ≡ false }
+        requires intact { self.old.broken ≡ false }
         requires some { 0 < length payloads.now }
-        requires happen { AllHappen self.old.setting.state (events_in settled) }
-        requires texts { contents_of payloads.now ≡ map event_text (events_in settled) }
+        requires happen { AllHappen self.old.setting.state (settled_events settled) }
+        requires texts { contents_of payloads.now ≡ map event_text (settled_events settled) }
         requires place { HasByteAt (D.seen disk.old) self.old.setting.end }
-        ensures ok { OnOk result (self.new ≡ whole (after_events self.old.setting (events_in settled))) }
+        ensures ok { OnOk result (self.new ≡ intact (after_events self.old.setting (settled_events settled))) }
         ensures err { (IsErrOf result StoreFault.Full ⊎ IsErrOf result StoreFault.Memory) → self.new ≡ self.old }
         ensures broken { IsErrOf result StoreFault.Disk → self.new ≡ record self.old { broken = true } }
-        ensures full { IsErrOf result StoreFault.Full → have_room self.old.setting.end (events_in settled) ≡ false }
-        ensures room { have_room self.old.setting.end (events_in settled) ≡ false → IsErrOf result StoreFault.Full ⊎ IsErrOf result StoreFault.Memory }
+        ensures full { IsErrOf result StoreFault.Full → have_room self.old.setting.end (settled_events settled) ≡ false }
+        ensures room { have_room self.old.setting.end (settled_events settled) ≡ false → IsErrOf result StoreFault.Full ⊎ IsErrOf result StoreFault.Memory }
         ensures kind { ((at : ℕ) → result ≡ Err (StoreFault.NotStore at) → ⊥) × (result ≡ Err StoreFault.AlreadyStore → ⊥) }
         ensures unwritten { (IsErrOf result StoreFault.Full ⊎ IsErrOf result StoreFault.Memory) → disk.new ≡ disk.old }
         ensures written { OnOk result (Written (D.seen disk.old) self.old.setting.end (log_of (contents_of payloads.now)) (D.seen disk.new)) }
@@ -103,7 +103,7 @@ impl Store {
         ensures place { OnOk result (HasByteAt (D.seen disk.new) self.new.setting.end) }
         ensures stands { Stands (D.seen disk.old) (D.image disk.old) self.old.setting → OnOk result (Stands (D.seen disk.new) (D.image disk.new) self.new.setting) }
         ensures any_moment { Stands (D.seen disk.old) (D.image disk.old) self.old.setting →
-            LeavesOnly D.moment D.image_since disk.old disk.new (HeldBetween self.old.setting (events_in settled)) }
+            LeavesOnly D.moment D.image_since disk.old disk.new (HeldBetween self.old.setting (settled_events settled)) }
         ensures attached { D.attached disk.new ≡ D.attached disk.old }
         ensures later { D.faults disk.old ≤ D.faults disk.new }
         ensures cause { IsErrOf result StoreFault.Disk → Rose (D.faults disk.old) (D.faults disk.new) }

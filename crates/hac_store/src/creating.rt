@@ -7,7 +7,7 @@ ghost use Rattle.hac_journal.specs.Appending.{ClosedAt};
 ghost use Rattle.hac_model.specs.Play.{opening};
 ghost use Rattle.hac_store.specs.Creating.{Becomes, IsReady, IsUnheld, none_in};
 ghost use Rattle.hac_store.specs.Held.{held};
-ghost use Rattle.hac_store.specs.Stores.{IsNewOrNone, Stands, whole};
+ghost use Rattle.hac_store.specs.Stores.{IsNewOrNone, Stands, intact};
 
 use crate::fault::StoreFault;
 use crate::opening::read_store;
@@ -26,7 +26,7 @@ const NEW: [u8; 65] =
 impl Store {
     /// Makes a new store on a disk that holds none.
     pub fn create<D: Disk>(alloc: Global, disk: &mut D) -> Result<Store, StoreFault>
-        ensures made { IfOk result (λ store. store ≡ whole opening) }
+        ensures made { IfOk result (λ store. store ≡ intact opening) }
         ensures new { IfSome (D.seen disk.old) (λ file. OnOk result (IsErr (held file))) }
         ensures already { IfSome (D.seen disk.old) (λ file. result ≡ Err StoreFault.AlreadyStore → IsOk (held file)) }
         ensures stands { IfSome (D.seen disk.old) (λ _. OnOk result (Stands (D.seen disk.new) (D.image disk.new) opening)) }
@@ -46,7 +46,7 @@ impl Store {
     }
 }
 
-// What speaks against making a store, told why none was read.
+// What prevents making a store, given why none was read.
 fn none(found: Option<StoreFault>) -> Result<(), StoreFault>
     ensures { result ≡ none_in found }
 {
@@ -61,7 +61,7 @@ fn none(found: Option<StoreFault>) -> Result<(), StoreFault>
 fn new_store<D: Disk>(alloc: Global, disk: &mut D) -> Result<Store, StoreFault>
     requires settled { IsSettled (D.seen disk.old) (D.image disk.old) }
     requires unheld { IsUnheld (D.seen disk.old) }
-    ensures made { IfOk result (λ store. store ≡ whole opening) }
+    ensures made { IfOk result (λ store. store ≡ intact opening) }
     ensures stands { IfSome (D.seen disk.old) (λ _. OnOk result (Stands (D.seen disk.new) (D.image disk.new) opening)) }
     ensures place { OnOk result (HasByteAt (D.seen disk.new) opening.end) }
     ensures any_moment { IfSome (D.seen disk.old) (λ _. LeavesOnly D.moment D.image_since disk.old disk.new IsNewOrNone) }

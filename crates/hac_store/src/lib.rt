@@ -12,6 +12,3 @@ mod store;
 pub use fault::StoreFault;
 pub use laws::{appends_extend, steps_have_room};
 pub use store::Store;
-
-#[cfg(test)]
-mod tests;

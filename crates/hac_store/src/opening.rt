@@ -5,7 +5,7 @@ ghost use Rattle.hac_disk.specs.Images.{IsQuiet};
 ghost use Rattle.hac_disk.specs.Told.{HasByteAt, IsSettled};
 ghost use Rattle.hac_model.specs.Payloads.{spelled};
 ghost use Rattle.hac_model.specs.Valid.{IsValid};
-ghost use Rattle.hac_store.specs.Held.{held, judged, log};
+ghost use Rattle.hac_store.specs.Held.{held, after_payload, log};
 ghost use Rattle.hac_store.specs.Reading.{Judges, ReadsLog};
 ghost use Rattle.hac_store.specs.Stores.{Opens, Stands};
 
@@ -20,7 +20,7 @@ use hac_model::Event;
 use std::alloc::Global;
 
 impl Store {
-    /// Opens the store that stands on a disk: syncs, reads it and lets its events happen. It writes nothing.
+    /// Opens the store that stands on a disk: syncs, reads it and applies its events. It writes nothing.
     pub fn load<D: Disk>(alloc: Global, disk: &mut D) -> Result<Store, StoreFault>
         ensures held { IfSome (D.seen disk.old) (λ file. Opens result (held file)) }
         ensures sound { IfOk result (λ store. (store.broken ≡ false) × IsValid store.setting.state) }
@@ -62,7 +62,7 @@ pub(crate) fn read_store<D: Disk>(alloc: Global, disk: &mut D) -> Result<Store, 
     })
 }
 
-// Lets the events of a log happen, and gives the place of the closed gate behind it.
+// Applies the events of a log, and gives the place of the closed gate behind it.
 fn read_log<D: Disk>(
     alloc: Global,
     disk: &mut D,
@@ -93,7 +93,7 @@ fn read_log<D: Disk>(
     }
 }
 
-// Lets happen what the payload of a record says, told the place of its gate, and whether it is the log's first.
+// Applies what the payload of a record says, given the place of its gate, and whether it is the log's first.
 fn replay(
     alloc: Global,
     machine: &mut Machine,
@@ -103,7 +103,7 @@ fn replay(
 ) -> Result<(), StoreFault>
     requires valid { IsValid machine.old.state }
     requires place { at + 5 + length payload.now < 2 ^ 64 }
-    ensures judged { Judges result machine.new.state (judged machine.old.state at (spelled payload.now)) }
+    ensures judged { Judges result machine.new.state (after_payload machine.old.state at (spelled payload.now)) }
     ensures valid { OnOk result (IsValid machine.new.state) }
 {
     match read_payload(alloc, payload, first) {
@@ -115,11 +115,11 @@ fn replay(
     }
 }
 
-// Lets an event of a record happen, if it can.
+// Applies the event of a record, if the state accepts it.
 fn happen(machine: &mut Machine, at: u64, event: Event) -> Result<(), StoreFault>
     requires valid { IsValid machine.old.state }
     requires place { at + 5 < 2 ^ 64 }
-    ensures judged { Judges result machine.new.state (judged machine.old.state at (Ok event)) }
+    ensures judged { Judges result machine.new.state (after_payload machine.old.state at (Ok event)) }
     ensures valid { OnOk result (IsValid machine.new.state) }
 {
     if !machine.fits(&event)? {

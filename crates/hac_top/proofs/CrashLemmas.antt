@@ -6,7 +6,7 @@ use Rattle.std.proofs.lemmas.Grind.{flat_map-append}
 use Rattle.hac_model.specs.Answers.{first_cause}
 use Rattle.hac_model.specs.Events.{apply_all}
 use Rattle.hac_model.specs.Lines.{Item}
-use Rattle.hac_model.specs.Play.{Setting, Turn, accepted, all_events, events_before, events_in, full_cause, refused, turn, turn_of, turns}
+use Rattle.hac_model.specs.Play.{Setting, Turn, answered, all_events, events_before, events_in, full_cause, refused, turn, turn_of, turns}
 use Rattle.hac_model.specs.Refusals.{cause}
 use Rattle.hac_model.specs.Resolving.{resolve}
 use Rattle.hac_model.specs.declared.events.Event.{Event}
@@ -15,7 +15,7 @@ use Rattle.hac_model.specs.declared.resolved.Resolved.{Resolved}
 use Rattle.hac_model.specs.declared.states.State.{State}
 use Rattle.hac_model.proofs.PlayLemmas.{apply_all-append}
 use Rattle.hac_store.specs.Held.{held}
-use Rattle.hac_top.specs.Crashes.{Holds, IsTree, IsTreeOfAnswered, Reopens}
+use Rattle.hac_top.specs.Crashes.{Holds, IsTreeAfter, IsTreeOfAnswered, Reopens}
 
 -- Events of turns.
 
@@ -26,7 +26,7 @@ all_events-append xs ys = flat_map-append events_in xs ys
 command-steps : (setting : Setting) (r : Result Resolved Refusal) → (turn_of setting r).steps ≡ []
 command-steps setting (Err refusal) = refl
 command-steps setting (Ok command) =
-    elim (first_cause (cause setting.state command ∷ full_cause setting command ∷ [])) as (λ o. (option_map_or (refused setting) o (accepted setting command)).steps ≡ []) [ None ↦ refl | Some refusal ↦ refl ]
+    elim (first_cause (cause setting.state command ∷ full_cause setting command ∷ [])) as (λ o. (option_map_or (refused setting) o (answered setting command)).steps ≡ []) [ None ↦ refl | Some refusal ↦ refl ]
 
 pub turn-steps : (setting : Setting) (item : Item) → (turn setting item).steps ≡ []
 turn-steps setting (Ok line) = command-steps setting (resolve setting.state line)
@@ -110,7 +110,7 @@ all-answered s now all done rest is led =
 
 -- some of what is in hand is there too
 pub some-answered : (s t now : State) (setting : Setting) (all done : List Turn) (items : List Item) (rest : List Turn) → all ≡ done ++ (turns setting items ++ rest) → length (turns setting items) ≤ 1 →
-    t ≡ apply_all s (all_events done) → IsTree t (all_events (turns setting items)) now → IsTreeOfAnswered s all (length done) now
+    t ≡ apply_all s (all_events done) → IsTreeAfter t (all_events (turns setting items)) now → IsTreeOfAnswered s all (length done) now
 some-answered s t now setting all done items rest is few led tree =
     subst (λ (ts : List Turn). IsTreeOfAnswered s ts (length done) now) (sym is) (record {
       count = length (all_events done) + tree.count;
@@ -128,9 +128,9 @@ some-answered s t now setting all done items rest is few led tree =
     further (item ∷ other ∷ items) rest few within more = absurd (omega (arith, few))
 
 -- a tree of what is in hand is one of all
-pub tree-of-all : (s t now : State) (all done here rest : List Turn) → all ≡ done ++ (here ++ rest) → t ≡ apply_all s (all_events done) → IsTree t (all_events here) now → IsTree s (all_events all) now
+pub tree-of-all : (s t now : State) (all done here rest : List Turn) → all ≡ done ++ (here ++ rest) → t ≡ apply_all s (all_events done) → IsTreeAfter t (all_events here) now → IsTreeAfter s (all_events all) now
 tree-of-all s t now all done here rest is led tree =
-    subst (λ (ts : List Turn). IsTree s (all_events ts) now) (sym is) (record {
+    subst (λ (ts : List Turn). IsTreeAfter s (all_events ts) now) (sym is) (record {
       count = length (all_events done) + tree.count;
       within = count-within done here rest tree.count tree.within;
       is = tree-behind s t now done here rest tree.count led tree.within tree.is;

@@ -6,7 +6,7 @@ use Rattle.hac_disk.proofs.Moments.{started, then_run, weaken}
 use Rattle.hac_model.specs.Play.{Setting, all_events, play, turns}
 use Rattle.hac_outside.specs.Seen.{SinkSeen}
 use Rattle.hac_store.specs.Stores.{Stands}
-use Rattle.hac_top.specs.Crashes.{Holds, IsTree}
+use Rattle.hac_top.specs.Crashes.{Holds, IsTreeAfter}
 use Rattle.hac_top.specs.TakenLines.{Gives, items_of_taken}
 use Rattle.hac_top.specs.declared.taking.TakenLine.{TakenLine}
 use Rattle.hac_top.proofs.GoesOn.{GoesOn}
@@ -28,7 +28,7 @@ any (Some x) P all = all x
 
 -- the tree after some of the events of a script
 abbrev pub IsTreeOf : Setting → List ℕ → List ℕ → Type 0
-IsTreeOf first script c = Holds (IsTree first.state (all_events (play first script))) c
+IsTreeOf first script c = Holds (IsTreeAfter first.state (all_events (play first script))) c
 
 module _ {D : Type 0} (seen : D → Option (List ℕ)) (image : D → List ℕ → Type 0) (moment : D → ℕ) (image_since : D → ℕ → List ℕ → Type 0) where
   -- nothing was done yet
@@ -42,11 +42,11 @@ module _ {D : Type 0} (seen : D → Option (List ℕ)) (image : D → List ℕ �
   pub moments-line : (old mid new : D) (first : Setting) (script pending behind : Option (List ℕ)) (line : TakenLine) (old_ended new_ended : Bool) (setting : Setting) (refused : Bool) (before now : SinkSeen) →
       GoesOn first script pending old_ended setting refused before now → Gives (Some line) new_ended pending behind → (Stands (seen old) (image old) first → Stands (seen mid) (image mid) setting) →
       IfSome script (λ s. Stands (seen old) (image old) first → LeavesOnly moment image_since old mid (IsTreeOf first s)) →
-      (Stands (seen mid) (image mid) setting → LeavesOnly moment image_since mid new (Holds (IsTree setting.state (all_events (turns setting (items_of_taken line)))))) →
+      (Stands (seen mid) (image mid) setting → LeavesOnly moment image_since mid new (Holds (IsTreeAfter setting.state (all_events (turns setting (items_of_taken line)))))) →
       IfSome script (λ s. Stands (seen old) (image old) first → LeavesOnly moment image_since old new (IsTreeOf first s))
   moments-line old mid new first script pending behind line old_ended new_ended setting refused before now goes gives stands so_far moments =
-      let here = Holds (IsTree setting.state (all_events (turns setting (items_of_taken line)))) in
-      both script (λ s. Stands (seen old) (image old) first → LeavesOnly moment image_since old mid (IsTreeOf first s)) (λ s. (c : List ℕ) → Holds (IsTree setting.state (all_events (turns setting (items_of_taken line)))) c → IsTreeOf first s c)
+      let here = Holds (IsTreeAfter setting.state (all_events (turns setting (items_of_taken line)))) in
+      both script (λ s. Stands (seen old) (image old) first → LeavesOnly moment image_since old mid (IsTreeOf first s)) (λ s. (c : List ℕ) → Holds (IsTreeAfter setting.state (all_events (turns setting (items_of_taken line)))) c → IsTreeOf first s c)
       (λ s. Stands (seen old) (image old) first → LeavesOnly moment image_since old new (IsTreeOf first s))
       (λ s so_far then_all stood.
       then_run moment image_since old mid new (IsTreeOf first s) (so_far stood) (weaken moment image_since mid new here (IsTreeOf first s) then_all (moments (stands stood))))

@@ -3,10 +3,10 @@ use Rattle.std.proofs.Common.{◌≡◌, true, false, Bool, cond, List, [], ◌�
 use Rattle.std.specs.Prelude.{Option, None, Some, Ok}
 use Rattle.std.specs.Option.{option_map_or}
 use Rattle.hac_core.specs.Drafts.{reads}
-use Rattle.hac_core.specs.Settling.{Settles, events_in}
+use Rattle.hac_core.specs.Settling.{Settles, settled_events}
 use Rattle.hac_core.specs.declared.drafts.Settled.{Settled}
 use Rattle.hac_model.specs.Answers.{first_cause}
-use Rattle.hac_model.specs.Play.{Setting, Turn, accepted, after_events, data_lines, have_room, refused, turn_of}
+use Rattle.hac_model.specs.Play.{Setting, Turn, answered, after_events, data_lines, have_room, refused, turn_of}
 use Rattle.hac_model.specs.Refusals.{cause, events_of}
 use Rattle.hac_model.specs.declared.events.Event.{Event}
 use Rattle.hac_model.specs.declared.limits.LimitWord.TheVariants.{Store}
@@ -38,7 +38,7 @@ no-lines s (Find query) changes = absurd cc
 no-lines s Index changes = refl
 no-lines s Counts changes = absurd cc
 
--- what a turn comes to, told whether there is room for its events
+-- what a turn comes to, given whether there is room for its events
 pub record IsTurn (turn : Turn) (setting : Setting) (made : List Event) (room : Bool) : Type 0 where
   pub reply : turn.reply ≡ cond room (Lines []) (Refused (Limit Store))
   pub events : turn.events ≡ cond room made []
@@ -46,12 +46,12 @@ pub record IsTurn (turn : Turn) (setting : Setting) (made : List Event) (room : 
 
 module _ (setting : Setting) (draft : Resolved) (changes : reads draft ≡ false) where
   turn-by : (o : Option Refusal) (room : Bool) → o ≡ None →
-      IsTurn (option_map_or (refused setting) (first_cause (o ∷ cond room None (Some (Limit Store)) ∷ [])) (accepted setting draft)) setting (events_of setting.state draft) room
+      IsTurn (option_map_or (refused setting) (first_cause (o ∷ cond room None (Some (Limit Store)) ∷ [])) (answered setting draft)) setting (events_of setting.state draft) room
   turn-by None true free = record { reply = ap Lines (no-lines setting.state draft changes); events = refl; after = refl }
   turn-by None false free = record { reply = refl; events = refl; after = refl }
   turn-by (Some refusal) room free = absurd cc
 
-  pub settled-turn : (settled : Settled) → Settles setting.state draft settled → IsTurn (turn_of setting (Ok draft)) setting (events_in settled) (have_room setting.end (events_in settled))
+  pub settled-turn : (settled : Settled) → Settles setting.state draft settled → IsTurn (turn_of setting (Ok draft)) setting (settled_events settled) (have_room setting.end (settled_events settled))
   settled-turn settled settles =
       subst (λ (es : List Event). IsTurn (turn_of setting (Ok draft)) setting es (have_room setting.end es)) (sym settles.events)
       (turn-by (cause setting.state draft) (have_room setting.end (events_of setting.state draft)) settles.cause)

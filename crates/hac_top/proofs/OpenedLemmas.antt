@@ -1,4 +1,4 @@
--- How a run ends, told how its store was opened.
+-- How a run ends, given how its store was opened.
 use Rattle.std.proofs.Common.{◌≡◌, ℕ, ◌≤◌, true, false, Bool, List, [], refl, sym, subst, arith, rules, inl, inr}
 use Rattle.std.specs.Prelude.{Option, None, Some, Result, Ok, Err, IfOk}
 use Rattle.std.specs.Option.{IfSome}
@@ -10,7 +10,7 @@ use Rattle.hac_model.specs.declared.events.Event.{Event}
 use Rattle.hac_model.specs.declared.states.State.{State}
 use Rattle.hac_store.specs.Held.{held}
 use Rattle.hac_store.specs.Stores.{Seen}
-use Rattle.hac_top.specs.Crashes.{Holds, IsOpened, IsTree, IsTreeOfAnswered, Reopens, StopsOpening, TellsFile, opened}
+use Rattle.hac_top.specs.Crashes.{Holds, IsOpened, IsTreeAfter, IsTreeOfAnswered, Reopens, StopsOpening, TellsFile, opening_outcome}
 use Rattle.hac_outside.specs.Causes.{Rose}
 use Rattle.hac_top.specs.Ends.{IsFinished, end_status, finished_status, stopped_status}
 use Rattle.hac_top.specs.Run.{Completes, Ends, IfOpens, Outside, Plays, Ran}
@@ -28,14 +28,11 @@ reopens-weaker : (fresh : Bool) (P Q : State → Type 0) (image : List ℕ) → 
 reopens-weaker false P Q image then_q holds = holds-weaker P Q image then_q holds
 reopens-weaker true P Q image then_q holds = λ kept is. then_q kept.state (holds kept is)
 
-no-event : (s now : State) (events : List Event) → now ≡ s → IsTree s events now
+no-event : (s now : State) (events : List Event) → now ≡ s → IsTreeAfter s events now
 no-event s now events same = record { count = 0; within = omega arith; is = same }
 
-answered-tree : (s now : State) (turns : List Turn) (done : ℕ) → IsTreeOfAnswered s turns done now → IsTree s (all_events turns) now
-answered-tree s now turns done tree = record { count = tree.count; within = tree.within; is = tree.is }
-
 -- a fact on what a run goes on from, where that is known
-pub opens-as : (asked : Options) (seen left : Option (List ℕ)) (setting : Setting) (P : Bool → Setting → List ℕ → Type 0) → IfSome seen (λ file. opened asked.fresh (held file) ≡ Ok setting) →
+pub opens-as : (asked : Options) (seen left : Option (List ℕ)) (setting : Setting) (P : Bool → Setting → List ℕ → Type 0) → IfSome seen (λ file. opening_outcome asked.fresh (held file) ≡ Ok setting) →
     IfSome seen (λ file. IfSome left (λ script. P asked.fresh setting script)) → IfOpens (Some asked) seen left P
 opens-as asked None left setting P is fact = search rules
 opens-as asked (Some file) None setting P is fact = search rules
@@ -43,7 +40,7 @@ opens-as asked (Some file) (Some script) setting P is fact = subst (λ (r : Resu
 
 -- ---- a store was opened
 
-module _ (asked : Options) (seen left : Option (List ℕ)) (store : Seen) (is : IfSome seen (λ file. IsOpened (Ok store) (opened asked.fresh (held file)))) where
+module _ (asked : Options) (seen left : Option (List ℕ)) (store : Seen) (is : IfSome seen (λ file. IsOpened (Ok store) (opening_outcome asked.fresh (held file)))) where
   -- the replies, and what a crash leaves at the end
   pub ran-opened : (ends : Status) (before after : Outside) (settled stood : Type 0) (image : List ℕ → Type 0) → IfSome seen (λ _. stood) →
       IfSome left (λ script. Ran false ends store.setting script before after stood image) →
@@ -60,41 +57,41 @@ module _ (asked : Options) (seen left : Option (List ℕ)) (store : Seen) (is : 
 
   -- what a crash leaves at each moment
   pub moments-opened : {D : Type 0} (moment : D → ℕ) (image_since : D → ℕ → List ℕ → Type 0) (old mid new : D) (settled stood : Type 0) → IfSome seen (λ _. stood) →
-      IfSome seen (λ file. IfOk (opened asked.fresh (held file)) (λ setting. settled → LeavesOnly moment image_since old mid (Reopens asked.fresh (λ s. s ≡ setting.state)))) →
-      IfSome left (λ script. stood → LeavesOnly moment image_since mid new (Holds (IsTree store.setting.state (all_events (play store.setting script))))) →
-      IfOpens (Some asked) seen left (λ fresh setting script. settled → LeavesOnly moment image_since old new (Reopens fresh (IsTree setting.state (all_events (play setting script)))))
+      IfSome seen (λ file. IfOk (opening_outcome asked.fresh (held file)) (λ setting. settled → LeavesOnly moment image_since old mid (Reopens asked.fresh (λ s. s ≡ setting.state)))) →
+      IfSome left (λ script. stood → LeavesOnly moment image_since mid new (Holds (IsTreeAfter store.setting.state (all_events (play store.setting script))))) →
+      IfOpens (Some asked) seen left (λ fresh setting script. settled → LeavesOnly moment image_since old new (Reopens fresh (IsTreeAfter setting.state (all_events (play setting script)))))
   moments-opened moment image_since old mid new settled stood stands opening playing =
-      opens-as asked seen left store.setting (λ fresh setting script. settled → LeavesOnly moment image_since old new (Reopens fresh (IsTree setting.state (all_events (play setting script))))) is
-      (both seen (λ file. (opened asked.fresh (held file) ≡ Ok store.setting) × stood) (λ file. IfOk (opened asked.fresh (held file)) (λ setting. settled → LeavesOnly moment image_since old mid (Reopens asked.fresh (λ s. s ≡ setting.state))))
-      (λ file. IfSome left (λ script. settled → LeavesOnly moment image_since old new (Reopens asked.fresh (IsTree store.setting.state (all_events (play store.setting script))))))
-      (λ file known opening_of. each left (λ script. stood → LeavesOnly moment image_since mid new (Holds (IsTree store.setting.state (all_events (play store.setting script)))))
-      (λ script. settled → LeavesOnly moment image_since old new (Reopens asked.fresh (IsTree store.setting.state (all_events (play store.setting script)))))
-      (λ script playing settles. one script (λ z. settled → LeavesOnly moment image_since old mid (Reopens asked.fresh (λ s. s ≡ z.state))) (opened asked.fresh (held file)) known.0 opening_of settles (playing known.1)) playing)
-      (both seen (λ file. opened asked.fresh (held file) ≡ Ok store.setting) (λ _. stood) (λ file. (opened asked.fresh (held file) ≡ Ok store.setting) × stood) (λ file goes stands_now. (goes, stands_now)) is stands) opening)
+      opens-as asked seen left store.setting (λ fresh setting script. settled → LeavesOnly moment image_since old new (Reopens fresh (IsTreeAfter setting.state (all_events (play setting script))))) is
+      (both seen (λ file. (opening_outcome asked.fresh (held file) ≡ Ok store.setting) × stood) (λ file. IfOk (opening_outcome asked.fresh (held file)) (λ setting. settled → LeavesOnly moment image_since old mid (Reopens asked.fresh (λ s. s ≡ setting.state))))
+      (λ file. IfSome left (λ script. settled → LeavesOnly moment image_since old new (Reopens asked.fresh (IsTreeAfter store.setting.state (all_events (play store.setting script))))))
+      (λ file known opening_of. each left (λ script. stood → LeavesOnly moment image_since mid new (Holds (IsTreeAfter store.setting.state (all_events (play store.setting script)))))
+      (λ script. settled → LeavesOnly moment image_since old new (Reopens asked.fresh (IsTreeAfter store.setting.state (all_events (play store.setting script)))))
+      (λ script playing settles. one script (λ z. settled → LeavesOnly moment image_since old mid (Reopens asked.fresh (λ s. s ≡ z.state))) (opening_outcome asked.fresh (held file)) known.0 opening_of settles (playing known.1)) playing)
+      (both seen (λ file. opening_outcome asked.fresh (held file) ≡ Ok store.setting) (λ _. stood) (λ file. (opening_outcome asked.fresh (held file) ≡ Ok store.setting) × stood) (λ file goes stands_now. (goes, stands_now)) is stands) opening)
     where
       one : (script : List ℕ) (P : Setting → Type 0) (r : Result Setting Status) → r ≡ Ok store.setting → IfOk r (λ z. settled → LeavesOnly moment image_since old mid (Reopens asked.fresh (λ s. s ≡ z.state))) → settled →
-          LeavesOnly moment image_since mid new (Holds (IsTree store.setting.state (all_events (play store.setting script)))) →
-          LeavesOnly moment image_since old new (Reopens asked.fresh (IsTree store.setting.state (all_events (play store.setting script))))
+          LeavesOnly moment image_since mid new (Holds (IsTreeAfter store.setting.state (all_events (play store.setting script)))) →
+          LeavesOnly moment image_since old new (Reopens asked.fresh (IsTreeAfter store.setting.state (all_events (play store.setting script))))
       one script P r goes opening_of settles playing =
           let events = all_events (play store.setting script) in
           let first = store.setting.state in
           let opening_now : settled → LeavesOnly moment image_since old mid (Reopens asked.fresh (λ s. s ≡ store.setting.state)) =
           subst (λ (r : Result Setting Status). IfOk r (λ z. settled → LeavesOnly moment image_since old mid (Reopens asked.fresh (λ s. s ≡ z.state)))) goes opening_of in
-          then_run moment image_since old mid new (Reopens asked.fresh (IsTree first events))
-          (weaken moment image_since old mid (Reopens asked.fresh (λ s. s ≡ store.setting.state)) (Reopens asked.fresh (IsTree first events))
-          (λ c holds. reopens-weaker asked.fresh (λ s. s ≡ store.setting.state) (IsTree store.setting.state (all_events (play store.setting script))) c (λ s same. no-event first s events same) holds) (opening_now settles))
-          (weaken moment image_since mid new (Holds (IsTree first events)) (Reopens asked.fresh (IsTree first events)) (λ c holds. reopens asked.fresh (IsTree first events) c holds) playing)
+          then_run moment image_since old mid new (Reopens asked.fresh (IsTreeAfter first events))
+          (weaken moment image_since old mid (Reopens asked.fresh (λ s. s ≡ store.setting.state)) (Reopens asked.fresh (IsTreeAfter first events))
+          (λ c holds. reopens-weaker asked.fresh (λ s. s ≡ store.setting.state) (IsTreeAfter store.setting.state (all_events (play store.setting script))) c (λ s same. no-event first s events same) holds) (opening_now settles))
+          (weaken moment image_since mid new (Holds (IsTreeAfter first events)) (Reopens asked.fresh (IsTreeAfter first events)) (λ c holds. reopens asked.fresh (IsTreeAfter first events) c holds) playing)
 
 -- ---- no store was opened
 
 -- the run does nothing, and a crash leaves what it might have left before
 pub ran-unopened : (asked : Options) (seen left : Option (List ℕ)) (ends : Status) (before : Outside) (settled : Type 0) (image : List ℕ → Type 0) → left ≡ before.source.left → StopsOpening ends →
-    IfSome seen (λ file. IsOpened (Err ends) (opened asked.fresh (held file))) →
-    IfSome seen (λ file. IfOk (opened asked.fresh (held file)) (λ setting. settled → (c : List ℕ) → image c → Reopens asked.fresh (λ s. s ≡ setting.state) c)) →
+    IfSome seen (λ file. IsOpened (Err ends) (opening_outcome asked.fresh (held file))) →
+    IfSome seen (λ file. IfOk (opening_outcome asked.fresh (held file)) (λ setting. settled → (c : List ℕ) → image c → Reopens asked.fresh (λ s. s ≡ setting.state) c)) →
     IfOpens (Some asked) seen left (λ fresh setting script. Ran fresh ends setting script before before settled image)
 ran-unopened asked None left ends before settled image left_is why told holds = search rules
 ran-unopened asked (Some file) None ends before settled image left_is why told holds = search rules
-ran-unopened asked (Some file) (Some script) ends before settled image left_is why told holds = of (opened asked.fresh (held file)) told holds
+ran-unopened asked (Some file) (Some script) ends before settled image left_is why told holds = of (opening_outcome asked.fresh (held file)) told holds
   where
     stop-of : (ends : Status) → StopsOpening ends → (TellsFile ends → ⊥) → (stop : Stop) × StopsCommand stop × (stopped_status stop ≡ ends)
     stop-of ends (inl disk) other = (DiskFault, inl refl, sym disk)
@@ -151,24 +148,24 @@ completes (Err Memory) setting script before after plays ends read wrote disk = 
 completes (Err TooLong) setting script before after plays ends read wrote disk = record { within = λ few. absurd (omega (arith, few, (plays.too_long refl).longer)); past = λ _. inl refl }
 
 -- where the run was begun
-pub completes-opened : (asked : Options) (seen left : Option (List ℕ)) (store : Seen) → IfSome seen (λ file. IsOpened (Ok store) (opened asked.fresh (held file))) → (r : Result Bool Stop) (before after : Outside) (stood : Type 0) (image : List ℕ → Type 0) →
+pub completes-opened : (asked : Options) (seen left : Option (List ℕ)) (store : Seen) → IfSome seen (λ file. IsOpened (Ok store) (opening_outcome asked.fresh (held file))) → (r : Result Bool Stop) (before after : Outside) (stood : Type 0) (image : List ℕ → Type 0) →
     IfSome left (λ script. Ran false (end_status r) store.setting script before after stood image) → Ends (end_status r) before after → ¬ Rose before.source.faults after.source.faults → ¬ Rose before.sink.faults after.sink.faults →
     (end_status r ≡ status.DiskFault → ⊥) → IfOpens (Some asked) seen left (λ fresh setting script. Completes (end_status r) script)
 completes-opened asked seen left store is r before after stood image ran ends read wrote disk =
     opens-as asked seen left store.setting (λ fresh setting script. Completes (end_status r) script) is
-    (each seen (λ file. IsOpened (Ok store) (opened asked.fresh (held file))) (λ _. IfSome left (λ script. Completes (end_status r) script))
+    (each seen (λ file. IsOpened (Ok store) (opening_outcome asked.fresh (held file))) (λ _. IfSome left (λ script. Completes (end_status r) script))
     (λ file goes. each left (λ script. Ran false (end_status r) store.setting script before after stood image) (λ script. Completes (end_status r) script)
     (λ script ran. completes r store.setting script before after ran.plays ends read wrote disk) ran) is)
 
 -- what a crash may leave now is what it might have left at one of the moments so far
 pub images-now : {D : Type 0} (image : D → List ℕ → Type 0) (moment : D → ℕ) (image_since : D → ℕ → List ℕ → Type 0) → ((disk : D) (t : ℕ) (c : List ℕ) → t ≤ moment disk → image disk c → image_since disk t c) →
     (fresh : Bool) (seen : Option (List ℕ)) (old new : D) (settled : Type 0) →
-    IfSome seen (λ file. IfOk (opened fresh (held file)) (λ setting. settled → LeavesOnly moment image_since old new (Reopens fresh (λ s. s ≡ setting.state)))) →
-    IfSome seen (λ file. IfOk (opened fresh (held file)) (λ setting. settled → (c : List ℕ) → image new c → Reopens fresh (λ s. s ≡ setting.state) c))
+    IfSome seen (λ file. IfOk (opening_outcome fresh (held file)) (λ setting. settled → LeavesOnly moment image_since old new (Reopens fresh (λ s. s ≡ setting.state)))) →
+    IfSome seen (λ file. IfOk (opening_outcome fresh (held file)) (λ setting. settled → (c : List ℕ) → image new c → Reopens fresh (λ s. s ≡ setting.state) c))
 images-now image moment image_since counts_now fresh seen old new settled moments =
-    each seen (λ file. IfOk (opened fresh (held file)) (λ setting. settled → LeavesOnly moment image_since old new (Reopens fresh (λ s. s ≡ setting.state))))
-    (λ file. IfOk (opened fresh (held file)) (λ setting. settled → (c : List ℕ) → image new c → Reopens fresh (λ s. s ≡ setting.state) c))
-    (λ file now. of (opened fresh (held file)) now) moments
+    each seen (λ file. IfOk (opening_outcome fresh (held file)) (λ setting. settled → LeavesOnly moment image_since old new (Reopens fresh (λ s. s ≡ setting.state))))
+    (λ file. IfOk (opening_outcome fresh (held file)) (λ setting. settled → (c : List ℕ) → image new c → Reopens fresh (λ s. s ≡ setting.state) c))
+    (λ file now. of (opening_outcome fresh (held file)) now) moments
   where
     of : (r : Result Setting Status) → IfOk r (λ setting. settled → LeavesOnly moment image_since old new (Reopens fresh (λ s. s ≡ setting.state))) → IfOk r (λ setting. settled → (c : List ℕ) → image new c → Reopens fresh (λ s. s ≡ setting.state) c)
     of (Ok setting) run = λ settles c now. (run settles).each c (counts_now new (moment old) c (run settles).later now)

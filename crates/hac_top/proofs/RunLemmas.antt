@@ -20,7 +20,7 @@ use Rattle.shell_lang.specs.declared.reading.Piece.{Piece}
 use Rattle.shell_lang.specs.declared.reading.Piece.TheVariants.{Blank, Bytes, LongLine, End, PastLimit}
 use Rattle.shell_lang.specs.declared.reading.TheConstants.{PIECE}
 use Rattle.hac_top.specs.Ends.{IsFinished, finished_status, stopped_status, end_status}
-use Rattle.hac_top.specs.Crashes.{Holds, IsTree, IsTreeOfAnswered}
+use Rattle.hac_top.specs.Crashes.{Holds, IsTreeAfter, IsTreeOfAnswered}
 use Rattle.hac_top.specs.Run.{AnswersTaken, AnswersWithin, AnswersPromptly, Outside, Plays, Ran}
 use Rattle.hac_top.specs.Stops.{StopsAnswer, StopsCommand, CutsAnswer}
 use Rattle.hac_top.specs.TakenLines.{items_of_piece, items_of_taken, GivesTaken, Gives, CutsLine, Cuts, StopsIn, StopsAt}
@@ -314,7 +314,7 @@ module _ (first : Setting) where
       ∙ sym (apply_all-append (all_events done) (all_events (turns setting items)) first.state) ∙ ap (apply_all first.state) (sym (all_events-append done (turns setting items)))
 
   none-told : (all done : List Turn) (items : List Item) (rest : List Turn) (setting : Setting) (told : ℕ) (c : List ℕ) → all ≡ done ++ (turns setting items ++ rest) → length (turns setting items) ≤ 1 →
-      setting.state ≡ apply_all first.state (all_events done) → told ≡ length done → Holds (IsTree setting.state (all_events (turns setting items))) c → Holds (IsTreeOfAnswered first.state all told) c
+      setting.state ≡ apply_all first.state (all_events done) → told ≡ length done → Holds (IsTreeAfter setting.state (all_events (turns setting items))) c → Holds (IsTreeOfAnswered first.state all told) c
   none-told all done items rest setting told c is few led place some =
       record {
         kept = some.kept;
@@ -327,7 +327,7 @@ module _ (first : Setting) where
   -- Where the sink failed, all that is in hand was stored before, and else nothing of its reply was written.
   reopens-within : (all done : List Turn) (items : List Item) (rest : List Turn) (setting : Setting) (stop : Stop) (count told : ℕ) (c : List ℕ) → all ≡ done ++ (turns setting items ++ rest) → length (turns setting items) ≤ 1 →
       setting.state ≡ apply_all first.state (all_events done) → ((told ≡ length done) ⊎ (told ≡ length (done ++ turns setting items))) → (count ≡ 0 → told ≡ length done) → ((stop ≡ WriteFault → ⊥) → count ≡ 0) → StopsAnswer stop →
-      Holds (IsTree setting.state (all_events (turns setting items))) c → (stop ≡ WriteFault → held c ≡ Ok (left_by setting (turns setting items))) → Holds (IsTreeOfAnswered first.state all told) c
+      Holds (IsTreeAfter setting.state (all_events (turns setting items))) c → (stop ≡ WriteFault → held c ≡ Ok (left_by setting (turns setting items))) → Holds (IsTreeOfAnswered first.state all told) c
   reopens-within all done items rest setting stop count told c is few led (inl place) none cut why some stored = none-told all done items rest setting told c is few led place some
   reopens-within all done items rest setting stop count told c is few led (inr place) none cut (inl write) some stored =
       record {
@@ -344,7 +344,7 @@ module _ (first : Setting) where
   pub stops-within : (stood : Type 0) (image : List ℕ → Type 0) (stop : Stop) (script pending left : Option (List ℕ)) (line : TakenLine) (r : Reading) (is_ended : Bool) (setting : Setting) (refused : Bool) (mid : SinkSeen) (before after : Outside) →
       left ≡ after.source.left → GoesOn first script pending is_ended setting refused before.sink mid → (before.sink.held_back ≡ 0 → mid.held_back ≡ 0) → Gives (Some line) r.ended pending (prepend_known r.held left) →
       length r.held < PIECE → CutsAnswer stop mid after.sink (told_text (turns setting (items_of_taken line))) → StopsAnswer stop →
-      (stood → (c : List ℕ) → image c → Holds (IsTree setting.state (all_events (turns setting (items_of_taken line)))) c) →
+      (stood → (c : List ℕ) → image c → Holds (IsTreeAfter setting.state (all_events (turns setting (items_of_taken line)))) c) →
       (stop ≡ WriteFault → stood → (c : List ℕ) → image c → held c ≡ Ok (left_by setting (turns setting (items_of_taken line)))) →
       IfSome script (λ s. Ran false (stopped_status stop) first s before after stood image)
   stops-within stood image stop None pending left line r is_ended setting refused mid before after left_is goes passed gives near cuts why some all = search rules
@@ -468,7 +468,7 @@ module _ (first : Setting) where
   -- what a crash leaves while a line is answered is a tree of the whole run
   pub tree-of-line : (script pending behind : Option (List ℕ)) (line : TakenLine) (old_ended new_ended : Bool) (setting : Setting) (refused : Bool) (before mid : SinkSeen) →
       GoesOn first script pending old_ended setting refused before mid → Gives (Some line) new_ended pending behind →
-      IfSome script (λ s. (c : List ℕ) → Holds (IsTree setting.state (all_events (turns setting (items_of_taken line)))) c → Holds (IsTree first.state (all_events (play first s))) c)
+      IfSome script (λ s. (c : List ℕ) → Holds (IsTreeAfter setting.state (all_events (turns setting (items_of_taken line)))) c → Holds (IsTreeAfter first.state (all_events (play first s))) c)
   tree-of-line None pending behind line old_ended new_ended setting refused before mid goes gives = search rules
   tree-of-line (Some s) None behind line old_ended new_ended setting refused before mid goes gives = absurd goes
   tree-of-line (Some s) (Some p) None line old_ended new_ended setting refused before mid goes gives = absurd gives
@@ -476,7 +476,7 @@ module _ (first : Setting) where
       let now = turns setting (items_of_taken line) in
       let all_is : play first s ≡ goes.done ++ (turns setting (items_of_taken line) ++ play (left_by setting (turns setting (items_of_taken line))) q) =
       goes.turns_are ∙ ap (λ (ts : List Turn). goes.done ++ ts) (turns-next line new_ended p q setting gives) in
-      λ c. holds-weaker (IsTree setting.state (all_events now)) (IsTree first.state (all_events (play first s))) c
+      λ c. holds-weaker (IsTreeAfter setting.state (all_events now)) (IsTreeAfter first.state (all_events (play first s))) c
       (λ t tree. tree-of-all first.state setting.state t (play first s) goes.done now (play (left_by setting now) q) all_is goes.state_is tree)
 
   -- nothing was told yet

@@ -12,8 +12,8 @@ use Rattle.hac_model.specs.declared.limits.TheConstants.{STORE_LIMIT}
 use Rattle.hac_model.specs.declared.states.State.{State}
 use Rattle.hac_disk.specs.Images.{LeavesOnly}
 use Rattle.hac_disk.proofs.Moments.{then_run, weaken}
-use Rattle.hac_store.specs.Stores.{HeldBetween, Seen, fit_behind, whole}
-use Rattle.hac_top.specs.Crashes.{Holds, IsTree}
+use Rattle.hac_store.specs.Stores.{HeldBetween, Seen, fit_behind, intact}
+use Rattle.hac_top.specs.Crashes.{Holds, IsTreeAfter}
 use Rattle.hac_model.proofs.PlayLemmas.{apply_all-append, end_after-append}
 
 abbrev pub steps : ℕ → List Event
@@ -57,7 +57,7 @@ pub part-happens : (s : State) (done batch count : ℕ) → done + batch ≤ cou
 part-happens s done batch count few happen = happen-behind s done batch (done + batch) refl (happen-front s (done + batch) count few happen)
 
 -- the steps of one part are some of all, where they happen behind the first ones
-pub part-held : (setting : Setting) (done batch count : ℕ) (c : List ℕ) → done + batch ≤ count → HeldBetween (after_events setting (steps done)) (steps batch) c → Holds (IsTree setting.state (steps count)) c
+pub part-held : (setting : Setting) (done batch count : ℕ) (c : List ℕ) → done + batch ≤ count → HeldBetween (after_events setting (steps done)) (steps batch) c → Holds (IsTreeAfter setting.state (steps count)) c
 part-held setting done batch count c few (inl before) =
     record {
       kept = after_events setting (steps done);
@@ -89,9 +89,9 @@ part-room end done batch count few some fits =
     grind (arith, nat_tests, at, below, few)
 
 -- what a crash leaves while one part more is stored
-pub part-moments : {D : Type 0} (moment : D → ℕ) (image_since : D → ℕ → List ℕ → Type 0) (old mid new : D) (setting : Setting) (store : Seen) (done batch count : ℕ) → done + batch ≤ count → store ≡ whole (after_events setting (steps done)) →
-    LeavesOnly moment image_since old mid (Holds (IsTree setting.state (steps count))) → LeavesOnly moment image_since mid new (HeldBetween store.setting (steps batch)) → LeavesOnly moment image_since old new (Holds (IsTree setting.state (steps count)))
+pub part-moments : {D : Type 0} (moment : D → ℕ) (image_since : D → ℕ → List ℕ → Type 0) (old mid new : D) (setting : Setting) (store : Seen) (done batch count : ℕ) → done + batch ≤ count → store ≡ intact (after_events setting (steps done)) →
+    LeavesOnly moment image_since old mid (Holds (IsTreeAfter setting.state (steps count))) → LeavesOnly moment image_since mid new (HeldBetween store.setting (steps batch)) → LeavesOnly moment image_since old new (Holds (IsTreeAfter setting.state (steps count)))
 part-moments moment image_since old mid new setting store done batch count few is so_far part =
-    then_run moment image_since old mid new (Holds (IsTree setting.state (steps count))) so_far
-    (weaken moment image_since mid new (HeldBetween store.setting (steps batch)) (Holds (IsTree setting.state (steps count)))
+    then_run moment image_since old mid new (Holds (IsTreeAfter setting.state (steps count))) so_far
+    (weaken moment image_since mid new (HeldBetween store.setting (steps batch)) (Holds (IsTreeAfter setting.state (steps count)))
     (λ c between. part-held setting done batch count c few (subst (λ (z : Seen). HeldBetween z.setting (steps batch) c) is between)) part)

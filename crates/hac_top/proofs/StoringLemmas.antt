@@ -16,7 +16,7 @@ use Rattle.hac_top.specs.Obeying.{is_disk_fault, kept_events}
 use Rattle.hac_top.specs.Stops.{is_disk_stop}
 use Rattle.hac_top.specs.declared.stops.Stop.{Stop}
 use Rattle.hac_top.specs.declared.stops.Stop.TheVariants.{Memory}
-use Rattle.hac_top.specs.Crashes.{Holds, IsTree, Stores}
+use Rattle.hac_top.specs.Crashes.{Holds, IsTreeAfter, Stores}
 
 -- what stands on a disk is held by all that a crash may leave
 pub stands-held : (seen : Option (List ℕ)) (image : List ℕ → Type 0) (setting : Setting) → Stands seen image setting → (c : List ℕ) → image c → held c ≡ Ok setting
@@ -24,15 +24,15 @@ stands-held None image setting stands = absurd stands
 stands-held (Some file) image setting stands = stands
 
 -- nothing of the events has happened
-pub held-before : (setting : Setting) (events : List Event) (c : List ℕ) → held c ≡ Ok setting → Holds (IsTree setting.state events) c
+pub held-before : (setting : Setting) (events : List Event) (c : List ℕ) → held c ≡ Ok setting → Holds (IsTreeAfter setting.state events) c
 held-before setting events c is = record { kept = setting; is = is; state = record { count = 0; within = omega arith; is = refl } }
 
 -- all of them
-pub held-after : (setting : Setting) (events : List Event) (c : List ℕ) → held c ≡ Ok (after_events setting events) → Holds (IsTree setting.state events) c
+pub held-after : (setting : Setting) (events : List Event) (c : List ℕ) → held c ≡ Ok (after_events setting events) → Holds (IsTreeAfter setting.state events) c
 held-after setting events c is =
     record { kept = after_events setting events; is = is; state = record { count = length events; within = omega arith; is = ap (apply_all setting.state) (sym (take-length events)) } }
 
-pub held-between : (setting : Setting) (events : List Event) (c : List ℕ) → HeldBetween setting events c → Holds (IsTree setting.state events) c
+pub held-between : (setting : Setting) (events : List Event) (c : List ℕ) → HeldBetween setting events c → Holds (IsTreeAfter setting.state events) c
 held-between setting events c (inl before) = held-before setting events c before
 held-between setting events c (inr after) = held-after setting events c after
 
@@ -43,7 +43,7 @@ module _ {D : Type 0} (seen : D → Option (List ℕ)) (image : D → List ℕ �
   stores-nothing only_now disk setting events failed none =
       record {
         moments = λ stands.
-            started moment image_since disk (Holds (IsTree setting.state events)) (λ c left. held-before setting events c (stands-held (seen disk) (image disk) setting stands c (only_now disk c left)));
+            started moment image_since disk (Holds (IsTreeAfter setting.state events)) (λ c left. held-before setting events c (stands-held (seen disk) (image disk) setting stands c (only_now disk c left)));
         names = refl;
         later = omega arith;
         cause = λ fails. absurd (let never : true ≡ false = sym fails ∙ none in cc);
@@ -61,7 +61,7 @@ module _ {D : Type 0} (seen : D → Option (List ℕ)) (image : D → List ℕ �
       attached new ≡ attached old → faults old ≤ faults new → (failed ≡ true → Rose (faults old) (faults new)) → Stores seen image moment image_since attached faults old new setting events failed
   stores-once old new setting events failed moments same later cause =
       record {
-        moments = λ stands. weaken moment image_since old new (HeldBetween setting events) (Holds (IsTree setting.state events)) (held-between setting events) (moments stands);
+        moments = λ stands. weaken moment image_since old new (HeldBetween setting events) (Holds (IsTreeAfter setting.state events)) (held-between setting events) (moments stands);
         names = same;
         later = later;
         cause = cause;

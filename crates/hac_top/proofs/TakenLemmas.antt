@@ -13,7 +13,7 @@ use Rattle.std.proofs.lemmas.Bool.{and_from}
 use Rattle.std.proofs.lemmas.List.{take-append-drop, length-take}
 use Rattle.hac_model.specs.Lines.{Item, is_quiet, bytes_due, command_with, in_main, item_of, items_of, put_length}
 use Rattle.shell_lang.specs.Told.{came}
-use Rattle.shell_lang.specs.Takes.{Takes, TakesFrom, FallsShort, Follows, Loses}
+use Rattle.shell_lang.specs.Takes.{Takes, TakesFrom, FallsShort, TakenAdvances, Loses}
 use Rattle.shell_lang.proofs.ToldLemmas.{item-told}
 use Rattle.hac_model.specs.Script.{first_line, after_line, is_first_ended, due, after_item, is_first_whole, whole}
 use Rattle.hac_model.specs.declared.limits.LimitWord.TheVariants as limit
@@ -36,7 +36,7 @@ use Rattle.hac_top.specs.declared.stops.Stop.{Stop}
 use Rattle.hac_top.specs.declared.stops.Stop.TheVariants.{ReadFault}
 use Rattle.hac_top.specs.declared.taking.TakenLine.{TakenLine}
 
--- the items of the piece that a line is given as, told what is taken of the bytes behind it, are the line's
+-- the items of the piece that a line is given as, given what is taken of the bytes behind it, are the line's
 items-taken : (bytes behind : List ℕ) → items_of_piece (piece_of bytes) (option_map (λ count. came count behind) (bytes_due bytes)) ≡ items_of bytes behind
 items-taken bytes behind =
     elim (is_quiet bytes) as (λ q. items_of_piece (if q then Blank else (if nat_le (length bytes) LINE_LIMIT then Bytes bytes else LongLine)) (option_map (λ count. came count behind) (if q then None else (if nat_le (length bytes) LINE_LIMIT then put_length bytes else None))) ≡ (if q then [] else item_of bytes behind ∷ [])) [
@@ -58,7 +58,7 @@ due_of_piece-piece_of bytes =
     ]
 
 -- a piece that doesn't end the script is a line
-is_line : (piece : Piece) (ended : Bool) (bytes rest : List ℕ) → (piece ≡ End → ⊥) → (piece ≡ PastLimit → ⊥) → line.GivesFrom piece ended bytes rest → GivesLine piece ended bytes rest
+is_line : (piece : Piece) (ended : Bool) (bytes rest : List ℕ) → (piece ≡ End → ⊥) → (piece ≡ PastLimit → ⊥) → line.GivesPieceFrom piece ended bytes rest → GivesLine piece ended bytes rest
 is_line Blank ended bytes rest no_end no_past gives = gives
 is_line (Bytes line) ended bytes rest no_end no_past gives = gives
 is_line LongLine ended bytes rest no_end no_past gives = gives
@@ -103,7 +103,7 @@ last-known : (was : Bool) (held : List ℕ) (left : Option (List ℕ)) → IsAtE
 last-known was held left end (inl old) = inl old
 last-known was held left end (inr none) = inr (at-end held left none end)
 
-taken-known : (piece : Piece) (taken : Option Taken) (was ended : Bool) (old mid new : Option (List ℕ)) → (piece ≡ End → ⊥) → (piece ≡ PastLimit → ⊥) → line.Gives piece was old mid →
+taken-known : (piece : Piece) (taken : Option Taken) (was ended : Bool) (old mid new : Option (List ℕ)) → (piece ≡ End → ⊥) → (piece ≡ PastLimit → ⊥) → line.GivesPiece piece was old mid →
     TakesBehind (due_of_piece piece) taken ended mid new → (was ≡ true → ended ≡ true) → (ended ≡ true → (was ≡ true) ⊎ IsAtEnd new) → Gives (Some (record { piece = piece; taken = taken })) ended old new
 taken-known piece taken was ended None mid new no_end no_past gives takes stays last = search rules
 taken-known piece taken was ended (Some p) None new no_end no_past gives takes stays last = absurd gives
@@ -113,7 +113,7 @@ taken-known piece taken was ended (Some p) (Some q) (Some r) no_end no_past give
 
 -- what is told of a line, from what is told of its bytes
 pub taken-gives : (got : Result (Option Taken) Stop) (told : Result (Option TakenLine) Stop) (piece : Piece) (was : Bool) (new : Reading) (old mid left : Option (List ℕ)) →
-    MatchResult got (λ taken. told ≡ Ok (Some (record { piece = piece; taken = taken }))) (λ stop. told ≡ Err stop) → (piece ≡ End → ⊥) → (piece ≡ PastLimit → ⊥) → line.Gives piece was old mid →
+    MatchResult got (λ taken. told ≡ Ok (Some (record { piece = piece; taken = taken }))) (λ stop. told ≡ Err stop) → (piece ≡ End → ⊥) → (piece ≡ PastLimit → ⊥) → line.GivesPiece piece was old mid →
     IfOk got (λ taken. TakesBehind (due_of_piece piece) taken new.ended mid (prepend_known new.held left)) → (was ≡ true → new.ended ≡ true) →
     IfOk got (λ taken. new.ended ≡ true → (was ≡ true) ⊎ (new.held ≡ [])) → (new.ended ≡ true → IsAtEnd left) → IfOk told (λ line. Gives line new.ended old (prepend_known new.held left))
 taken-gives (Ok taken) told piece was new old mid left is no_end no_past gives takes stays last end =
@@ -143,7 +143,7 @@ lacks-cuts piece was beyond p q left gives goes lacks =
       none = whole-short first lacks.front (first_line-is_unended p) (omega (arith, lacks.short, count));
     }
 
-pub taken-cut : (piece : Piece) (was : Bool) (beyond : ℕ) (old mid left : Option (List ℕ)) → (piece ≡ End → ⊥) → (piece ≡ PastLimit → ⊥) → line.Gives piece was old mid → was ≡ false →
+pub taken-cut : (piece : Piece) (was : Bool) (beyond : ℕ) (old mid left : Option (List ℕ)) → (piece ≡ End → ⊥) → (piece ≡ PastLimit → ⊥) → line.GivesPiece piece was old mid → was ≡ false →
     Lacks (due_of_piece piece) beyond mid left → Cuts beyond old left
 taken-cut piece was beyond None mid left no_end no_past gives goes lacks = search rules
 taken-cut piece was beyond (Some p) None left no_end no_past gives goes lacks = absurd gives
@@ -158,7 +158,7 @@ held-cut (Some p) None held keeps unended = absurd keeps
 held-cut (Some p) (Some l) held keeps unended = record { front = held; over = []; bytes_are = sym keeps; over_is = refl; none = whole-unended held unended }
 
 -- nor what is held up to the limit of a script
-pub past-cut : (old left : Option (List ℕ)) (r : Reading) → line.Gives PastLimit r.ended old (prepend_known r.held left) → IsPastLimit r → Cuts 1 old left
+pub past-cut : (old left : Option (List ℕ)) (r : Reading) → line.GivesPiece PastLimit r.ended old (prepend_known r.held left) → IsPastLimit r → Cuts 1 old left
 past-cut None left r gives past = search rules
 past-cut (Some p) None r gives past = absurd gives
 past-cut (Some p) (Some l) r gives past =
@@ -177,7 +177,7 @@ read_stop fault.Read stop is read = refl
 read_stop fault.Memory stop is read = cc
 
 -- where a line is given, the reader goes on
-goes-line : (piece : Piece) (old new : Reading) → (piece ≡ End → ⊥) → (piece ≡ PastLimit → ⊥) → line.Advances piece old new → GoesOn old new
+goes-line : (piece : Piece) (old new : Reading) → (piece ≡ End → ⊥) → (piece ≡ PastLimit → ⊥) → line.PieceAdvances piece old new → GoesOn old new
 goes-line Blank old new no_end no_past goes = goes
 goes-line (Bytes bytes) old new no_end no_past goes = goes
 goes-line LongLine old new no_end no_past goes = goes
@@ -188,16 +188,12 @@ goes-further : (old mid new : Reading) → GoesOn old mid → TakesOn mid new �
 goes-further old mid new goes takes = record { further = omega (arith, goes.further, takes.further); limit = takes.limit; near = takes.near }
 
 pub taken-advances : (got : Result (Option Taken) Stop) (told : Result (Option TakenLine) Stop) (piece : Piece) (old mid new : Reading) →
-    MatchResult got (λ taken. told ≡ Ok (Some (record { piece = piece; taken = taken }))) (λ stop. told ≡ Err stop) → (piece ≡ End → ⊥) → (piece ≡ PastLimit → ⊥) → line.Advances piece old mid →
+    MatchResult got (λ taken. told ≡ Ok (Some (record { piece = piece; taken = taken }))) (λ stop. told ≡ Err stop) → (piece ≡ End → ⊥) → (piece ≡ PastLimit → ⊥) → line.PieceAdvances piece old mid →
     IfOk got (λ taken. TakesOn mid new) → IfOk told (λ line. Advances line old new)
 taken-advances (Ok taken) told piece old mid new is no_end no_past advances takes =
     subst (λ (r : Result (Option TakenLine) Stop). IfOk r (λ line. Advances line old new)) (sym is) (goes-further old mid new (goes-line piece old mid no_end no_past advances) takes)
 taken-advances (Err stop) told piece old mid new is no_end no_past advances takes =
     subst (λ (r : Result (Option TakenLine) Stop). IfOk r (λ line. Advances line old new)) (sym is) (search rules)
-
--- a stop that is handed on
-pub handed-on : {A B : Type 0} (got : Result A Stop) (told : Result B Stop) (cause stop want : Stop) → got ≡ Err cause → told ≡ Err stop → stop ≡ cause → told ≡ Err want → got ≡ Err want
-handed-on got told cause stop want got_is told_is same want_is = let is : stop ≡ want = cc (told_is, want_is) in got_is ∙ ap Err (sym same ∙ is)
 
 no_rest : (xs ys : List ℕ) → xs ++ ys ≡ [] → ys ≡ []
 no_rest [] ys e = e
@@ -313,7 +309,7 @@ short-stops piece false p q held left gives loses =
       near = omega (arith, length-drop more held, loses.near, loses.short, count);
     }
 
-pub short-stop : (piece : Piece) (was : Bool) (old mid left : Option (List ℕ)) (r : Reading) → (piece ≡ End → ⊥) → (piece ≡ PastLimit → ⊥) → line.Gives piece was old mid →
+pub short-stop : (piece : Piece) (was : Bool) (old mid left : Option (List ℕ)) (r : Reading) → (piece ≡ End → ⊥) → (piece ≡ PastLimit → ⊥) → line.GivesPiece piece was old mid →
     FallsShort (unwrap_or (due_of_piece piece) 0) r mid left → StopsAt old left
 short-stop piece was None mid left r no_end no_past gives falls = search rules
 short-stop piece was (Some p) None left r no_end no_past gives falls = absurd gives
@@ -355,14 +351,14 @@ takes-behind count taken ended None new no_past takes short = search rules
 takes-behind count taken ended (Some bytes) None no_past takes short = absurd takes
 takes-behind count taken ended (Some bytes) (Some rest) no_past takes short = takes-due count taken ended bytes rest no_past takes short
 
-pub follows-on : (taken : Taken) (old new : Reading) → (taken ≡ took.PastLimit → ⊥) → Follows taken old new → TakesOn old new
+pub follows-on : (taken : Taken) (old new : Reading) → (taken ≡ took.PastLimit → ⊥) → TakenAdvances taken old new → TakesOn old new
 follows-on (took.Whole text) old new no_past follows = follows
 follows-on took.Dropped old new no_past follows = follows
 follows-on took.Short old new no_past follows = follows
 follows-on took.PastLimit old new no_past follows = absurd (no_past refl)
 
 -- the same of any answer for its bytes
-pub stop-given : (got : Result (Option Taken) Stop) (piece : Piece) (was : Bool) (old mid left : Option (List ℕ)) (r : Reading) → (piece ≡ End → ⊥) → (piece ≡ PastLimit → ⊥) → line.Gives piece was old mid →
+pub stop-given : (got : Result (Option Taken) Stop) (piece : Piece) (was : Bool) (old mid left : Option (List ℕ)) (r : Reading) → (piece ≡ End → ⊥) → (piece ≡ PastLimit → ⊥) → line.GivesPiece piece was old mid →
     OnErr got (FallsShort (unwrap_or (due_of_piece piece) 0) r mid left) → OnErr got (StopsAt old left)
 stop-given (Ok taken) piece was old mid left r no_end no_past gives falls = tt
 stop-given (Err stop) piece was old mid left r no_end no_past gives falls = short-stop piece was old mid left r no_end no_past gives falls

@@ -38,18 +38,5 @@ some-flushed (Err fault) a b c bytes writes keeps less =
       front = subst (λ (xs : List ℕ). Writes a c xs) (sym (take-length bytes)) (record { written = appends-keeps a.written b.written c.written bytes writes.written keeps; held = omega (arith, writes.held, less) });
     }
 
--- some of the bytes are some of them
-pub some-written : (a b : SinkSeen) (bytes : List ℕ) → WritesSome a b bytes → AppendsSome a.written b.written bytes
-some-written a b bytes some = (some.count, some.front.written)
-
 pub some-all : (a b : Option (List ℕ)) (bytes : List ℕ) → Appends a b bytes → AppendsSome a b bytes
 some-all a b bytes all = (length bytes, subst (λ (xs : List ℕ). Appends a b xs) (sym (take-length bytes)) all)
-
--- an answer that stops before a write
-pub cut-none : (stop : Stop) (sink : SinkSeen) (bytes : List ℕ) → CutsAnswer stop sink sink bytes
-cut-none stop sink bytes =
-    record { count = 0; within = omega arith; front = record { written = appends-nothing sink.written; held = omega arith }; none = λ _. refl }
-
--- an answer that stops at a write or a flush
-pub cut-some : (stop : Stop) (a b : SinkSeen) (bytes : List ℕ) → stop ≡ WriteFault → WritesSome a b bytes → CutsAnswer stop a b bytes
-cut-some stop a b bytes is some = record { count = some.count; within = some.within; front = some.front; none = λ other. absurd (other is) }

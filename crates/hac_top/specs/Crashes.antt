@@ -14,12 +14,12 @@ use Rattle.hac_store.specs.declared.fault.StoreFault.TheVariants as fault
 use Rattle.hac_top.specs.declared.status.Status.{Status}
 use Rattle.hac_top.specs.declared.status.Status.TheVariants.{DiskFault, NotStore, Memory, AlreadyStore}
 
--- what a run goes on from, told whether a new store is asked for and what the file holds; or the status with which it ends
-abbrev pub opened : Bool → Result Setting ℕ → Result Setting Status
-opened false (Ok setting) = Ok setting
-opened false (Err at) = Err (NotStore at)
-opened true (Ok setting) = Err AlreadyStore
-opened true (Err at) = Ok opening
+-- what a run goes on from, given whether a new store is asked for and what the file holds; or the status with which it ends
+abbrev pub opening_outcome : Bool → Result Setting ℕ → Result Setting Status
+opening_outcome false (Ok setting) = Ok setting
+opening_outcome false (Err at) = Err (NotStore at)
+opening_outcome true (Ok setting) = Err AlreadyStore
+opening_outcome true (Err at) = Ok opening
 
 -- the status says what the file holds
 abbrev pub TellsFile : Status → Type 0
@@ -49,7 +49,7 @@ abbrev pub StopsOpening : Status → Type 0
 StopsOpening status = (status ≡ DiskFault) ⊎ ((status ≡ Memory) ⊎ TellsFile status)
 
 -- the state after some of these events, the first ones in order
-pub record IsTree (s : State) (events : List Event) (now : State) : Type 0 where
+pub record IsTreeAfter (s : State) (events : List Event) (now : State) : Type 0 where
   pub count : ℕ
   pub within : count ≤ length events
   pub is : now ≡ apply_all s (take count events)
@@ -60,7 +60,7 @@ pub record Holds (P : State → Type 0) (image : List ℕ) : Type 0 where
   pub is : held image ≡ Ok kept
   pub state : P kept.state
 
--- the same, unless the image may still be none of a store, since a new one was asked for
+-- the same; or the image holds no store, as may be where a new one was asked for
 abbrev pub Reopens : Bool → (State → Type 0) → List ℕ → Type 0
 Reopens false P image = Holds P image
 Reopens true P image = (kept : Setting) → held image ≡ Ok kept → P kept.state
@@ -78,7 +78,7 @@ pub record IsTreeOfAnswered (s : State) (turns : List Turn) (done : ℕ) (now : 
 -- where a call of the disk failed, its count of faults rose.
 pub record Stores {D : Type 0} (seen : D → Option (List ℕ)) (image : D → List ℕ → Type 0) (moment : D → ℕ) (image_since : D → ℕ → List ℕ → Type 0)
     (attached : D → Option (List (List ℕ × Bool))) (faults : D → ℕ) (old new : D) (setting : Setting) (events : List Event) (failed : Bool) : Type 0 where
-  pub moments : Stands (seen old) (image old) setting → LeavesOnly moment image_since old new (Holds (IsTree setting.state events))
+  pub moments : Stands (seen old) (image old) setting → LeavesOnly moment image_since old new (Holds (IsTreeAfter setting.state events))
   pub names : attached new ≡ attached old
   pub later : faults old ≤ faults new
   pub cause : failed ≡ true → Rose (faults old) (faults new)

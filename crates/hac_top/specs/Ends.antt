@@ -17,7 +17,7 @@ status_number Memory = 7
 status_number TooLong = 9
 status_number AlreadyStore = 10
 
--- the status of a script that was read to its end, told whether some command was refused
+-- the status of a script that was read to its end, given whether some command was refused
 abbrev pub finished_status : Bool → Status
 finished_status refused = if refused then SomeRefused else Done
 
@@ -29,7 +29,7 @@ stopped_status stop.DiskFault = DiskFault
 stopped_status stop.Memory = Memory
 stopped_status stop.TooLong = TooLong
 
--- the status of a run, told whether some command was refused, or why it stopped
+-- the status of a run, given whether some command was refused, or why it stopped
 abbrev pub end_status : Result Bool Stop → Status
 end_status (Ok refused) = finished_status refused
 end_status (Err why) = stopped_status why

@@ -1,4 +1,4 @@
--- What comes of a command in whose way nothing stands but, perhaps, the size of the store.
+-- The outcome of a command that nothing blocks but, perhaps, the size of the store.
 use Rattle.std.specs.Prelude.{Bool, true, false, if◌then◌else◌, List, [], Result, Ok, Err}
 use Rattle.hac_model.specs.Play.{Setting, have_room}
 use Rattle.hac_model.specs.declared.events.Event.{Event}

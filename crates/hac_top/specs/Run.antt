@@ -1,4 +1,4 @@
--- What a run promises. Most of it hangs on the script, which its source may tell.
+-- What a run promises. Most of it depends on the script, which its source may tell.
 use Rattle.std.specs.Prelude.{◌≡◌, ◌⊎◌, ℕ, ◌+◌, ◌<◌, ◌≤◌, ⊤, Bool, List, [], ◌++◌, length, take, drop, codes, Option, None, Some, Ok, IfOk}
 use Rattle.std.specs.Option.{IfSome}
 use Rattle.std.specs.Io.KnownBytes.{Appends}
@@ -10,7 +10,7 @@ use Rattle.hac_model.specs.Printed.{ended}
 use Rattle.hac_model.specs.Script.{after_item, whole}
 use Rattle.hac_model.specs.declared.limits.TheConstants.{SCRIPT_LIMIT}
 use Rattle.hac_store.specs.Held.{held}
-use Rattle.hac_top.specs.Crashes.{IsTreeOfAnswered, Reopens, opened}
+use Rattle.hac_top.specs.Crashes.{IsTreeOfAnswered, Reopens, opening_outcome}
 use Rattle.hac_top.specs.Ends.{IsFinished, finished_status, is_read_fault, is_write_fault}
 use Rattle.hac_top.specs.Told.{Told}
 use Rattle.hac_top.specs.declared.status.Status.{Status}
@@ -110,7 +110,7 @@ pub record Ran (fresh : Bool) (status : Status) (setting : Setting) (script : Li
 
 -- the words, the file and the script, where they are told, and what the run then goes on from
 abbrev pub IfOpens : Option Options → Option (List ℕ) → Option (List ℕ) → (Bool → Setting → List ℕ → Type 0) → Type 0
-IfOpens words seen left P = IfSome words (λ options. IfSome seen (λ file. IfSome left (λ script. IfOk (opened options.fresh (held file)) (λ setting. P options.fresh setting script))))
+IfOpens words seen left P = IfSome words (λ options. IfSome seen (λ file. IfSome left (λ script. IfOk (opening_outcome options.fresh (held file)) (λ setting. P options.fresh setting script))))
 
 -- the run has begun: a byte of the script was taken, or one of a reply was written, or the script has ended
 abbrev pub HasBegun : Status → Outside → Outside → Type 0

@@ -15,7 +15,7 @@ use Rattle.shell_lang.specs.declared.reading.Piece.{Piece}
 use Rattle.shell_lang.specs.declared.reading.Piece.TheVariants.{Blank, Bytes, LongLine, End, PastLimit}
 use Rattle.hac_top.specs.declared.taking.TakenLine.{TakenLine}
 
--- the items of a piece of the script, told what came of the bytes that it asks for
+-- the items of a piece of the script, given what came of the bytes that it asks for
 abbrev pub items_of_piece : Piece → Option Taken → List Item
 items_of_piece Blank taken = []
 items_of_piece (Bytes line) taken = item_taken line taken ∷ []

@@ -11,7 +11,7 @@ use Rattle.hac_top.specs.declared.words.Asked.{Asked}
 abbrev pub asked_of : Options → line.Options
 asked_of options = record { fresh = options.fresh; store = options.store.now }
 
--- what options and names ask for, with the words that follow them, told whether these are names alone
+-- what options and names ask for, with the words that follow them, given whether these are names alone
 abbrev pub asked_with : Bool → List (List ℕ) → List (List ℕ) → List (List ℕ) → Option line.Options
 asked_with true given names words = asked_by given (names ++ words)
 asked_with false given names words =

@@ -7,7 +7,7 @@ ghost use Rattle.hac_outside.specs.Seen.{WritesSome};
 ghost use Rattle.hac_model.specs.Play.{all_events, turn, turns, left_by, is_refused, has_refusal};
 ghost use Rattle.hac_model.specs.Printed.{reply_text};
 ghost use Rattle.hac_store.specs.Held.{held};
-ghost use Rattle.hac_store.specs.Stores.{Stands, whole};
+ghost use Rattle.hac_store.specs.Stores.{Stands, intact};
 ghost use Rattle.hac_top.specs.Crashes.{Stores};
 ghost use Rattle.hac_top.specs.Stops.{CutsAnswer, StopsAnswer, StopsTelling, is_disk_stop, is_write_stop};
 ghost use Rattle.hac_top.specs.TakenLines.{items_of_taken};
@@ -43,9 +43,9 @@ impl Player {
         disk: &mut D,
         line: TakenLine,
     ) -> Result<(), Stop>
-        requires whole { self.old.store.broken ≡ false }
+        requires intact { self.old.store.broken ≡ false }
         requires place { HasByteAt (D.seen disk.old) self.old.store.setting.end }
-        ensures store { OnOk result (self.new.store ≡ whole (left_by self.old.store.setting (turns self.old.store.setting (items_of_taken line)))) }
+        ensures store { OnOk result (self.new.store ≡ intact (left_by self.old.store.setting (turns self.old.store.setting (items_of_taken line)))) }
         ensures refused { OnOk result (self.new.refused ≡ (self.old.refused || has_refusal (turns self.old.store.setting (items_of_taken line)))) }
         ensures written { OnOk result (Appends (K.seen output.old).written (K.seen output.new).written (told_text (turns self.old.store.setting (items_of_taken line)))) }
         ensures passed { OnOk result ((K.seen output.old).held_back ≡ 0 → (K.seen output.new).held_back ≡ 0) }
@@ -74,9 +74,9 @@ impl Player {
         line: Text,
         taken: Option<Taken>,
     ) -> Result<(), Stop>
-        requires whole { self.old.store.broken ≡ false }
+        requires intact { self.old.store.broken ≡ false }
         requires place { HasByteAt (D.seen disk.old) self.old.store.setting.end }
-        ensures store { OnOk result (self.new.store ≡ whole (turn self.old.store.setting (item_taken line taken)).after) }
+        ensures store { OnOk result (self.new.store ≡ intact (turn self.old.store.setting (item_taken line taken)).after) }
         ensures refused { OnOk result (self.new.refused ≡ (self.old.refused || is_refused (turn self.old.store.setting (item_taken line taken)).reply)) }
         ensures written { OnOk result (Appends (K.seen output.old).written (K.seen output.new).written (reply_text (turn self.old.store.setting (item_taken line taken)).reply)) }
         ensures passed { OnOk result ((K.seen output.new).held_back ≡ 0) }

@@ -1,4 +1,4 @@
-//! The whole of the program but its last edge: words, a script and a store come in, replies and a status go out.
+//! The whole of the program but its last edge: it takes words, a script and a store, and gives replies and a status.
 //! It knows its source, its sink and its disk by their contracts alone.
 #![tactic(auto)]
 

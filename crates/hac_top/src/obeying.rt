@@ -1,13 +1,13 @@
-//! Obeying: what a line spells is tested against the tree, and then read from it, or stored and done to it.
+//! Carrying out commands: each is tested against the tree, then answered from it, or stored and applied to it.
 ghost use Rattle.std.specs.Prelude.{◌≡◌, ◌⊎◌, ◌≤◌, ◌<◌, ◌∷◌, [], length, replicate, if◌then◌else◌, IfOk, IfErr, IsErrOf, OnOk, IsTrue, Ok, true, false};
 ghost use Rattle.hac_core.specs.Drafts.{IsDraft, reads};
-ghost use Rattle.hac_core.specs.Settling.{events_in};
+ghost use Rattle.hac_core.specs.Settling.{settled_events};
 ghost use Rattle.hac_disk.specs.Told.{HasByteAt};
 ghost use Rattle.hac_model.specs.Laws.{AllHappen};
 ghost use Rattle.hac_model.specs.Lines.{is_spelled};
 ghost use Rattle.hac_model.specs.Play.{after_events, have_room, turn, turn_of};
 ghost use Rattle.hac_model.specs.declared.events.Event.TheVariants as event;
-ghost use Rattle.hac_store.specs.Stores.{Stands, whole};
+ghost use Rattle.hac_store.specs.Stores.{Stands, intact};
 ghost use Rattle.hac_top.specs.Crashes.{Stores};
 ghost use Rattle.hac_top.specs.Obeying.{is_disk_fault, kept_events, kept_reply};
 ghost use Rattle.hac_top.specs.Stops.{IsDenial, StopsCommand, is_disk_stop};
@@ -27,7 +27,7 @@ const BATCH: u64 = 4_096;
 // How many bytes the payload of an index step has.
 const STEP_BYTES: u64 = 2;
 
-/// Carries out the command that a line spells, told what was taken of the bytes behind it, or refuses it. What a
+/// Carries out the command that a line spells, given what was taken of the bytes behind it, or refuses it. What a
 /// command changes is in the store before this returns.
 pub fn carry_out<D: Disk>(
     alloc: Global,
@@ -36,10 +36,10 @@ pub fn carry_out<D: Disk>(
     line: Text,
     taken: Option<Taken>,
 ) -> Result<Reply, Stop>
-    requires whole { store.old.broken ≡ false }
+    requires intact { store.old.broken ≡ false }
     requires place { HasByteAt (D.seen disk.old) store.old.setting.end }
     ensures reply { IfOk result (λ reply. reply ≡ (turn store.old.setting (item_taken line taken)).reply) }
-    ensures store { OnOk result (store.new ≡ whole (turn store.old.setting (item_taken line taken)).after) }
+    ensures store { OnOk result (store.new ≡ intact (turn store.old.setting (item_taken line taken)).after) }
     ensures place { OnOk result (HasByteAt (D.seen disk.new) store.new.setting.end) }
     ensures stands { Stands (D.seen disk.old) (D.image disk.old) store.old.setting → OnOk result (Stands (D.seen disk.new) (D.image disk.new) store.new.setting) }
     ensures stores { Stores D.seen D.image D.moment D.image_since D.attached D.faults disk.old disk.new store.old.setting
@@ -52,13 +52,13 @@ pub fn carry_out<D: Disk>(
     }
 }
 
-/// Carries out a command, or refuses it for what the tree is.
+/// Carries out a command, or refuses it because of the tree.
 fn obey<D: Disk>(alloc: Global, store: &mut Store, disk: &mut D, line: Line) -> Result<Reply, Stop>
-    requires whole { store.old.broken ≡ false }
+    requires intact { store.old.broken ≡ false }
     requires place { HasByteAt (D.seen disk.old) store.old.setting.end }
     requires spelled { IsTrue (is_spelled line.command) }
     ensures reply { IfOk result (λ reply. reply ≡ (turn store.old.setting (Ok line)).reply) }
-    ensures store { OnOk result (store.new ≡ whole (turn store.old.setting (Ok line)).after) }
+    ensures store { OnOk result (store.new ≡ intact (turn store.old.setting (Ok line)).after) }
     ensures place { OnOk result (HasByteAt (D.seen disk.new) store.new.setting.end) }
     ensures stands { Stands (D.seen disk.old) (D.image disk.old) store.old.setting → OnOk result (Stands (D.seen disk.new) (D.image disk.new) store.new.setting) }
     ensures stores { Stores D.seen D.image D.moment D.image_since D.attached D.faults disk.old disk.new store.old.setting
@@ -88,11 +88,11 @@ fn follow<D: Disk>(
     disk: &mut D,
     draft: Draft,
 ) -> Result<Reply, Stop>
-    requires whole { store.old.broken ≡ false }
+    requires intact { store.old.broken ≡ false }
     requires place { HasByteAt (D.seen disk.old) store.old.setting.end }
     requires made { IsDraft store.old.setting.state draft }
     ensures reply { IfOk result (λ reply. reply ≡ (turn_of store.old.setting (Ok draft)).reply) }
-    ensures store { OnOk result (store.new ≡ whole (turn_of store.old.setting (Ok draft)).after) }
+    ensures store { OnOk result (store.new ≡ intact (turn_of store.old.setting (Ok draft)).after) }
     ensures place { OnOk result (HasByteAt (D.seen disk.new) store.new.setting.end) }
     ensures stands { Stands (D.seen disk.old) (D.image disk.old) store.old.setting → OnOk result (Stands (D.seen disk.new) (D.image disk.new) store.new.setting) }
     ensures stores { Stores D.seen D.image D.moment D.image_since D.attached D.faults disk.old disk.new store.old.setting
@@ -105,19 +105,19 @@ fn follow<D: Disk>(
     change(alloc, store, disk, draft)
 }
 
-/// Lets a command change the tree, unless it would pass a limit.
+/// Carries out a command that changes the tree, unless it would exceed a limit.
 fn change<D: Disk>(
     alloc: Global,
     store: &mut Store,
     disk: &mut D,
     draft: Draft,
 ) -> Result<Reply, Stop>
-    requires whole { store.old.broken ≡ false }
+    requires intact { store.old.broken ≡ false }
     requires place { HasByteAt (D.seen disk.old) store.old.setting.end }
     requires made { IsDraft store.old.setting.state draft }
     requires changes { reads draft ≡ false }
     ensures reply { IfOk result (λ reply. reply ≡ (turn_of store.old.setting (Ok draft)).reply) }
-    ensures store { OnOk result (store.new ≡ whole (turn_of store.old.setting (Ok draft)).after) }
+    ensures store { OnOk result (store.new ≡ intact (turn_of store.old.setting (Ok draft)).after) }
     ensures place { OnOk result (HasByteAt (D.seen disk.new) store.new.setting.end) }
     ensures stands { Stands (D.seen disk.old) (D.image disk.old) store.old.setting → OnOk result (Stands (D.seen disk.new) (D.image disk.new) store.new.setting) }
     ensures stores { Stores D.seen D.image D.moment D.image_since D.attached D.faults disk.old disk.new store.old.setting
@@ -130,22 +130,22 @@ fn change<D: Disk>(
     }
 }
 
-/// Stores events and lets them happen, unless the store is full. The reply has no lines.
+/// Stores events and applies them, unless the store is full. The reply has no lines.
 fn happen<D: Disk>(
     alloc: Global,
     store: &mut Store,
     disk: &mut D,
     settled: Settled,
 ) -> Result<Reply, Stop>
-    requires whole { store.old.broken ≡ false }
+    requires intact { store.old.broken ≡ false }
     requires place { HasByteAt (D.seen disk.old) store.old.setting.end }
-    requires happen { AllHappen store.old.setting.state (events_in settled) }
-    ensures reply { IfOk result (λ reply. reply ≡ kept_reply store.old.setting (events_in settled)) }
-    ensures store { OnOk result (store.new ≡ whole (after_events store.old.setting (kept_events store.old.setting (events_in settled)))) }
+    requires happen { AllHappen store.old.setting.state (settled_events settled) }
+    ensures reply { IfOk result (λ reply. reply ≡ kept_reply store.old.setting (settled_events settled)) }
+    ensures store { OnOk result (store.new ≡ intact (after_events store.old.setting (kept_events store.old.setting (settled_events settled)))) }
     ensures place { OnOk result (HasByteAt (D.seen disk.new) store.new.setting.end) }
     ensures stands { Stands (D.seen disk.old) (D.image disk.old) store.old.setting → OnOk result (Stands (D.seen disk.new) (D.image disk.new) store.new.setting) }
     ensures stores { Stores D.seen D.image D.moment D.image_since D.attached D.faults disk.old disk.new store.old.setting
-        (kept_events store.old.setting (events_in settled)) (is_disk_stop result) }
+        (kept_events store.old.setting (settled_events settled)) (is_disk_stop result) }
     ensures stops { IfErr result StopsCommand }
 {
     match store_events(store, disk, settled) {
@@ -158,22 +158,22 @@ fn happen<D: Disk>(
     }
 }
 
-/// Stores the events that a command comes to, and lets them happen. `Full` comes before any write.
+/// Stores the events that a command comes to, and applies them. `Full` comes before any write.
 fn store_events<D: Disk>(
     store: &mut Store,
     disk: &mut D,
     settled: Settled,
 ) -> Result<(), StoreFault>
-    requires whole { store.old.broken ≡ false }
+    requires intact { store.old.broken ≡ false }
     requires place { HasByteAt (D.seen disk.old) store.old.setting.end }
-    requires happen { AllHappen store.old.setting.state (events_in settled) }
-    ensures ok { OnOk result (store.new ≡ whole (after_events store.old.setting (events_in settled))) }
-    ensures full { IsErrOf result StoreFault.Full → (have_room store.old.setting.end (events_in settled) ≡ false) × (store.new ≡ store.old) }
-    ensures room { have_room store.old.setting.end (events_in settled) ≡ false → (IsErrOf result StoreFault.Full ⊎ IsErrOf result StoreFault.Memory) × (disk.new ≡ disk.old) }
+    requires happen { AllHappen store.old.setting.state (settled_events settled) }
+    ensures ok { OnOk result (store.new ≡ intact (after_events store.old.setting (settled_events settled))) }
+    ensures full { IsErrOf result StoreFault.Full → (have_room store.old.setting.end (settled_events settled) ≡ false) × (store.new ≡ store.old) }
+    ensures room { have_room store.old.setting.end (settled_events settled) ≡ false → (IsErrOf result StoreFault.Full ⊎ IsErrOf result StoreFault.Memory) × (disk.new ≡ disk.old) }
     ensures place { OnOk result (HasByteAt (D.seen disk.new) store.new.setting.end) }
     ensures stands { Stands (D.seen disk.old) (D.image disk.old) store.old.setting → OnOk result (Stands (D.seen disk.new) (D.image disk.new) store.new.setting) }
     ensures stores { Stores D.seen D.image D.moment D.image_since D.attached D.faults disk.old disk.new store.old.setting
-        (events_in settled) (is_disk_fault result) }
+        (settled_events settled) (is_disk_fault result) }
 {
     match settled {
         Settled::Change(event) => store.command(disk, event),
@@ -181,12 +181,12 @@ fn store_events<D: Disk>(
     }
 }
 
-/// Stores index steps and lets them happen, some thousands by one append. `Full` comes before any write.
+/// Stores index steps and applies them, some thousands by one append. `Full` comes before any write.
 fn take_steps<D: Disk>(store: &mut Store, disk: &mut D, count: u64) -> Result<(), StoreFault>
-    requires whole { store.old.broken ≡ false }
+    requires intact { store.old.broken ≡ false }
     requires place { HasByteAt (D.seen disk.old) store.old.setting.end }
     requires happen { AllHappen store.old.setting.state (replicate count event.Step) }
-    ensures ok { OnOk result (store.new ≡ whole (after_events store.old.setting (replicate count event.Step))) }
+    ensures ok { OnOk result (store.new ≡ intact (after_events store.old.setting (replicate count event.Step))) }
     ensures full { IsErrOf result StoreFault.Full → (have_room store.old.setting.end (replicate count event.Step) ≡ false) × (store.new ≡ store.old) }
     ensures room { have_room store.old.setting.end (replicate count event.Step) ≡ false → (IsErrOf result StoreFault.Full ⊎ IsErrOf result StoreFault.Memory) × (disk.new ≡ disk.old) }
     ensures place { OnOk result (HasByteAt (D.seen disk.new) store.new.setting.end) }

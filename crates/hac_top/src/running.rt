@@ -1,4 +1,4 @@
-//! The run: the store is opened, the script is taken line by line, and each line is answered before the next is taken up.
+//! The run: the store is opened, the script is taken line by line, and each line is answered before the next is taken.
 ghost use Rattle.std.specs.Prelude.{◌≡◌, ◌⊎◌, ℕ, ◌≤◌, ◌<◌, false, IfErr, IfSome, List, None, Ok, map, string_bytes};
 ghost use Rattle.std.specs.Io.KnownBytes.{Appends};
 ghost use Rattle.hac_disk.specs.Images.{IsQuiet, LeavesOnly};
@@ -9,7 +9,7 @@ ghost use Rattle.hac_outside.specs.Causes.{Rose, TellsFault};
 ghost use Rattle.hac_store.specs.Held.{held};
 ghost use Rattle.hac_store.specs.Stores.{Stands};
 ghost use Rattle.hac_top.specs.Attaching.{AttachesStore, MayAttach};
-ghost use Rattle.hac_top.specs.Crashes.{Holds, IsTree, Reopens, TellsFile, opened};
+ghost use Rattle.hac_top.specs.Crashes.{Holds, IsTreeAfter, Reopens, TellsFile, opening_outcome};
 ghost use Rattle.hac_top.specs.Ends.{end_status, is_write_fault};
 ghost use Rattle.hac_top.specs.Run.{usage_line, outside, AppendsSome, RefusesWords, Ends, EndsSo, HasBegun, IfOpens, Plays, Ran, Completes};
 
@@ -41,7 +41,7 @@ pub fn run<S: Source, K: Sink, D: Disk>(
 ) -> Status
     requires { (S.seen input.old).ended ≡ false }
 
-    // Words that are no line of the program are refused.
+    // Faulty command lines are refused.
     ensures usage { result ≡ Status.Usage → options (map string_bytes words.now) ≡ None }
     ensures words { options (map string_bytes words.now) ≡ None →
         RefusesWords result (outside (S.seen input.old) (K.seen output.old)) (outside (S.seen input.new) (K.seen output.new)) × (disk.new ≡ disk.old) }
@@ -55,23 +55,23 @@ pub fn run<S: Source, K: Sink, D: Disk>(
     // At each moment a crash leaves that tree after some of the events, the first ones in order.
     ensures any_moment { IfOpens (options (map string_bytes words.now)) (D.seen disk.old) (S.seen input.old).left (λ fresh setting script.
         IsSettled (D.seen disk.old) (D.image disk.old) →
-        LeavesOnly D.moment D.image_since disk.old disk.new (Reopens fresh (IsTree setting.state (all_events (play setting script))))) }
+        LeavesOnly D.moment D.image_since disk.old disk.new (Reopens fresh (IsTreeAfter setting.state (all_events (play setting script))))) }
 
     // Once it has begun to take the script, a crash leaves a store.
     ensures begun { IfOpens (options (map string_bytes words.now)) (D.seen disk.old) (S.seen input.old).left (λ fresh setting script.
         IsSettled (D.seen disk.old) (D.image disk.old) → HasBegun result (outside (S.seen input.old) (K.seen output.old)) (outside (S.seen input.new) (K.seen output.new)) →
-        (c : List ℕ) → D.image disk.new c → Holds (IsTree setting.state (all_events (play setting script))) c) }
+        (c : List ℕ) → D.image disk.new c → Holds (IsTreeAfter setting.state (all_events (play setting script))) c) }
 
-    // Where the file holds no store, or one though a new one was asked for, that is told, and nothing else is done.
-    ensures unopened { IfSome (options (map string_bytes words.now)) (λ asked. IfSome (D.seen disk.old) (λ file. IfErr (opened asked.fresh (held file)) (λ wanted.
+    // Where the file holds no store, or one though a new one was asked for, it says so and does nothing else.
+    ensures unopened { IfSome (options (map string_bytes words.now)) (λ asked. IfSome (D.seen disk.old) (λ file. IfErr (opening_outcome asked.fresh (held file)) (λ wanted.
         EndsSo wanted result × IsQuiet D.seen D.image D.moment D.image_since disk.old disk.new × (input.new ≡ input.old) × (output.new ≡ output.old)))) }
-    ensures file { IfSome (options (map string_bytes words.now)) (λ asked. IfSome (D.seen disk.old) (λ file. TellsFile result → opened asked.fresh (held file) ≡ Err result)) }
+    ensures file { IfSome (options (map string_bytes words.now)) (λ asked. IfSome (D.seen disk.old) (λ file. TellsFile result → opening_outcome asked.fresh (held file) ≡ Err result)) }
 
     // The disk is attached once, by the name that the words give.
     ensures attached { IfSome (options (map string_bytes words.now)) (λ asked. MayAttach (D.attached disk.old) asked (D.attached disk.new)
         × ((result ≡ Status.DiskFault → ⊥) → AttachesStore (D.attached disk.old) asked (D.attached disk.new))) }
 
-    // Whatever the source and the disk tell, a fault is told, and nothing is left behind in the sink.
+    // Each fault is reported, and nothing is left unflushed in the sink.
     ensures ends { Ends result (outside (S.seen input.old) (K.seen output.old)) (outside (S.seen input.new) (K.seen output.new)) }
     ensures read_told { (S.seen input.old).faults < (S.seen input.new).faults → result ≡ Status.ReadFault }
     ensures write_told { (K.seen output.old).faults < (K.seen output.new).faults → result ≡ Status.WriteFault }
@@ -116,13 +116,13 @@ fn play_store<S: Source, K: Sink, D: Disk>(
     disk: &mut D,
 ) -> Result<bool, Stop>
     requires source { (S.seen input.old).ended ≡ false }
-    requires whole { store.broken ≡ false }
+    requires intact { store.broken ≡ false }
     requires place { HasByteAt (D.seen disk.old) store.setting.end }
     ensures ran { IfSome (S.seen input.old).left (λ script.
         Ran false (end_status result) store.setting script (outside (S.seen input.old) (K.seen output.old)) (outside (S.seen input.new) (K.seen output.new))
         (Stands (D.seen disk.old) (D.image disk.old) store.setting) (D.image disk.new)) }
     ensures any_moment { IfSome (S.seen input.old).left (λ script. Stands (D.seen disk.old) (D.image disk.old) store.setting →
-        LeavesOnly D.moment D.image_since disk.old disk.new (Holds (IsTree store.setting.state (all_events (play store.setting script))))) }
+        LeavesOnly D.moment D.image_since disk.old disk.new (Holds (IsTreeAfter store.setting.state (all_events (play store.setting script))))) }
     ensures ends { Ends (end_status result) (outside (S.seen input.old) (K.seen output.old)) (outside (S.seen input.new) (K.seen output.new)) }
     ensures attached { D.attached disk.new ≡ D.attached disk.old }
     ensures later { D.faults disk.old ≤ D.faults disk.new }
@@ -146,13 +146,13 @@ fn play_script<S: Source, K: Sink, D: Disk>(
 ) -> Result<bool, Stop>
     requires source { (S.seen input.old).ended ≡ false }
     requires begun { player.old.refused ≡ false }
-    requires whole { player.old.store.broken ≡ false }
+    requires intact { player.old.store.broken ≡ false }
     requires place { HasByteAt (D.seen disk.old) player.old.store.setting.end }
     ensures ran { IfSome (S.seen input.old).left (λ script.
         Ran false (end_status result) player.old.store.setting script (outside (S.seen input.old) (K.seen output.old)) (outside (S.seen input.new) (K.seen output.new))
         (Stands (D.seen disk.old) (D.image disk.old) player.old.store.setting) (D.image disk.new)) }
     ensures any_moment { IfSome (S.seen input.old).left (λ script. Stands (D.seen disk.old) (D.image disk.old) player.old.store.setting →
-        LeavesOnly D.moment D.image_since disk.old disk.new (Holds (IsTree player.old.store.setting.state (all_events (play player.old.store.setting script))))) }
+        LeavesOnly D.moment D.image_since disk.old disk.new (Holds (IsTreeAfter player.old.store.setting.state (all_events (play player.old.store.setting script))))) }
     ensures ends { Ends (end_status result) (outside (S.seen input.old) (K.seen output.old)) (outside (S.seen input.new) (K.seen output.new)) }
     ensures attached { D.attached disk.new ≡ D.attached disk.old }
     ensures later { D.faults disk.old ≤ D.faults disk.new }

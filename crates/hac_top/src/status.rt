@@ -9,7 +9,7 @@ pub enum Status {
     Done,
     /// The script was read to its end, and some command was refused.
     SomeRefused,
-    /// The words of the program are none that it takes.
+    /// The command line is faulty.
     Usage,
     /// The script can't be read further.
     ReadFault,

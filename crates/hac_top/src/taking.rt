@@ -1,4 +1,4 @@
-//! Taking up: the next line of the script, with the bytes that belong to it.
+//! Taking the next line of the script, with the bytes that belong to it.
 ghost use Rattle.std.specs.Prelude.{◌≡◌, ◌⊎◌, ◌≤◌, ◌<◌, ◌+◌, true, false, [], length, Ok, Err, IfOk, OnErr, MatchResult, Some};
 ghost use Rattle.std.specs.Option.{unwrap_or};
 ghost use Rattle.hac_outside.specs.Causes.{TellsFault};
@@ -12,7 +12,7 @@ use hac_model::SCRIPT_LIMIT;
 use hac_outside::Source;
 use shell_lang::{PIECE, Piece, Reader, Taken, put_length};
 
-/// A line that is taken up, and what came of the bytes that it asks for, where it asks for any.
+/// A line that was taken, and what came of the bytes that it asks for, where it asks for any.
 #[derive(Debug, Drop)]
 pub struct TakenLine {
     pub piece: Piece,

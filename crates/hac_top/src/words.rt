@@ -13,7 +13,7 @@ pub(crate) struct Options<'a> {
     pub(crate) store: &'a str,
 }
 
-/// What the words of the program ask for, behind its own name. None where they are no line of it.
+/// What the words of the program ask for, behind its own name. None where they are faulty.
 #[tactic(auto, unfolding(hac_model::specs::CommandLine::options))]
 pub(crate) fn read_words(words: &[String]) -> Option<Options<'_>>
     ensures { option_map asked_of result ≡ options (map string_bytes words.now) }
@@ -39,7 +39,7 @@ struct Asked<'a> {
 }
 
 impl<'a> Asked<'a> {
-    /// What is asked for with one word more. None where no line of the program begins so.
+    /// What is asked for with one word more. None where no command line begins so.
     fn with(self, word: &'a str) -> Option<Asked<'a>>
         ensures { (rest : List (List ℕ)) → asked_after result rest ≡ asked_on self.entry (word.now ∷ rest) }
     {

@@ -56,19 +56,22 @@ fn finds_words_and_prefixes(rt: HostRuntime) -> Result<(), Fail> {
 
 #[test]
 fn tells_which_events_fit(rt: HostRuntime) -> Result<(), Fail> {
-    let alloc = rt.alloc();
-    let mut machine = Machine::new(alloc)?;
-    for (event, want) in [
-        (mkdir(alloc, b"a")?, true),
-        (setq(alloc, 1), false),
-        (setq(alloc, 0), true),
-        (Event::Step, false),
-        (rmdir(1), true),
-        (rmdir(1), false),
-    ] {
-        assert_eq!(rt; happens(&mut machine, event)?, want);
-    }
+    let mut machine = Machine::new(rt.alloc())?;
+    let told = which_happen(rt.alloc(), &mut machine)?;
+    assert_eq!(rt; told, [true, false, true, false, true, false]);
     Ok(())
+}
+
+/// Whether each of six events fits, one after the other.
+fn which_happen(alloc: Global, machine: &mut Machine) -> Result<[bool; 6], Memory> {
+    Ok([
+        happens(machine, mkdir(alloc, b"a")?)?,
+        happens(machine, setq(alloc, 1))?,
+        happens(machine, setq(alloc, 0))?,
+        happens(machine, Event::Step)?,
+        happens(machine, rmdir(1))?,
+        happens(machine, rmdir(1))?,
+    ])
 }
 
 /// Whether an event fits. If so, it happens.
@@ -81,7 +84,7 @@ fn happens(machine: &mut Machine, event: Event) -> Result<bool, Memory> {
     Ok(true)
 }
 
-/// A directory comes into being in the root.
+/// A directory is created in the root.
 fn mkdir(alloc: Global, name: &[u8]) -> Result<Event, AllocError> {
     Ok(Event::Mkdir {
         dir: Number::ROOT,

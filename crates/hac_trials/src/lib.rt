@@ -7,6 +7,14 @@ mod calls;
 #[cfg(test)]
 mod devices;
 #[cfg(test)]
+mod files;
+#[cfg(test)]
+mod logs;
+#[cfg(test)]
+mod payloads;
+#[cfg(test)]
 mod runs;
 #[cfg(test)]
 mod stores;
+#[cfg(test)]
+mod streams;

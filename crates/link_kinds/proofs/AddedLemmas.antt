@@ -8,8 +8,8 @@ use Rattle.indexmap.specs.IndexMap.{get}
 use Rattle.hac_model.specs.declared.marks.Kind.{Kind}
 use Rattle.hac_model.specs.declared.marks.Kind.TheVariants.{Transient, Permanent, Prohibited, Unlinked}
 use Rattle.set_pool.specs.Sets.{AllListsRise, Sets, is_live, list_of}
-use Rattle.link_kinds.specs.Kept.{AreDistinct, AreFresh, AreLive, IsKept, OthersStay, StandIn, lists_of, seen_of}
-use Rattle.link_kinds.specs.Kinds.{AreApart, nothing}
+use Rattle.link_kinds.specs.Kept.{AreDistinct, AreFresh, AreLive, AreLinksKept, OthersStay, StandIn, dir_lists, seen_of}
+use Rattle.link_kinds.specs.Kinds.{AreApart, no_lists}
 use Rattle.link_kinds.specs.Seen.{SameKinds, has_sets}
 use Rattle.link_kinds.specs.declared.links.Links.TheInside.{Inside}
 use Rattle.link_kinds.specs.declared.sets.DirSets.{DirSets}
@@ -61,7 +61,7 @@ module _ (old new : Inside) (dir : ℕ) (sets : DirSets) (dirs : (d : ℕ) → g
             ap is_some (other-dir d differ) ∙ sym (has-seen old (seen_of old) refl d) ∙ (rw e (or-none (has_sets (seen_of old) d)))
       ]
 
-  module _ (kept : IsKept old) (none : get nat_eq old.dirs dir ≡ None) (empty : lists_of new.pool sets ≡ nothing) (fresh : AreFresh old.pool sets) (others : OthersStay old.pool new.pool sets) where
+  module _ (kept : AreLinksKept old) (none : get nat_eq old.dirs dir ≡ None) (empty : dir_lists new.pool sets ≡ no_lists) (fresh : AreFresh old.pool sets) (others : OthersStay old.pool new.pool sets) where
     -- a set that was live isn't one of the new ones
     apart-of : (set : ℕ) → IsTrue (is_live old.pool set) → (set ≢ sets.transient) × (set ≢ sets.permanent) × (set ≢ sets.prohibited)
     apart-of set live = (live-differs old.pool set sets.transient live fresh.0, live-differs old.pool set sets.permanent live fresh.1, live-differs old.pool set sets.prohibited live fresh.2)
@@ -119,7 +119,7 @@ module _ (old new : Inside) (dir : ℕ) (sets : DirSets) (dirs : (d : ℕ) → g
           | inr differ ↦ inr (sym (other-dir d differ) ∙ is)
         ]
 
-    pub kept-added : AreLive new.pool sets → AreDistinct sets → AllListsRise new.pool → IsKept new
+    pub kept-added : AreLive new.pool sets → AreDistinct sets → AllListsRise new.pool → AreLinksKept new
     kept-added live differ rise =
         record {
           live = λ d other is. elim (was d other is) [
@@ -139,7 +139,7 @@ module _ (old new : Inside) (dir : ℕ) (sets : DirSets) (dirs : (d : ℕ) → g
         }
 
 -- links that were just made
-pub kept-new : (links : Inside) → links.dirs.entries ≡ [] → ((set : ℕ) → list_of links.pool set ≡ None) → IsKept links
+pub kept-new : (links : Inside) → links.dirs.entries ≡ [] → ((set : ℕ) → list_of links.pool set ≡ None) → AreLinksKept links
 kept-new links empty none =
     record {
       live = λ d sets is. absurd (never d sets is);

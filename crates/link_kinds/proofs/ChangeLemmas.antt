@@ -13,8 +13,8 @@ use Rattle.hac_model.specs.declared.states.Body.TheVariants.{File, Dir, Symlink,
 use Rattle.hac_model.specs.declared.states.Entry.{Entry}
 use Rattle.hac_model.specs.declared.states.State.{State}
 use Rattle.link_kinds.specs.Kinds.{Lists, with_kind}
-use Rattle.link_kinds.specs.Marked.{marked, marked_body, marked_entry}
-use Rattle.link_kinds.specs.Seen.{AllRise, Changes, Drops, Known, SameKinds, lists_in, permanent_in, prohibited_in}
+use Rattle.link_kinds.specs.Marked.{with_marks, marked_body, marked_entry}
+use Rattle.link_kinds.specs.Seen.{LinkListsRise, ChangesDir, DropsItem, Known, SameKinds, lists_in, permanent_in, prohibited_in}
 use Rattle.link_kinds.proofs.PutLemmas.{inserted-put, removed-without}
 
 -- links with the same marks make the same state
@@ -30,10 +30,10 @@ module _ (one other : Known) (permanent : (dir : ℕ) → permanent_in one dir �
   same-entries [] = refl
   same-entries (e ∷ es) = λ i. record e { body = same-body e.number e.body i } ∷ same-entries es i
 
-  pub marked-same : (s : State) → marked one s ≡ marked other s
+  pub marked-same : (s : State) → with_marks one s ≡ with_marks other s
   marked-same s = λ i. record s { entries = same-entries s.entries i }
 
-pub marked-same_kinds : (old new : Known) (s : State) → SameKinds old new → marked new s ≡ marked old s
+pub marked-same_kinds : (old new : Known) (s : State) → SameKinds old new → with_marks new s ≡ with_marks old s
 marked-same_kinds old new s same = marked-same new old (λ dir. ap (λ (lists : Lists). lists.permanent) (same dir)) (λ dir. ap (λ (lists : Lists). lists.prohibited) (same dir)) s
 
 module _ (links : Known) where
@@ -49,11 +49,11 @@ module _ (links : Known) where
   again-entries other (e ∷ es) = λ i. record e { body = again-body other e.number e.body i } ∷ again-entries other es i
 
   -- the last links tell the marks
-  pub marked-again : (other : Known) (s : State) → marked links (marked other s) ≡ marked links s
+  pub marked-again : (other : Known) (s : State) → with_marks links (with_marks other s) ≡ with_marks links s
   marked-again other s = λ i. record s { entries = again-entries other s.entries i }
 
   -- an entry is added
-  pub marked-added : (s : State) (dir : ℕ) (name : List ℕ) (body : Body) → marked links (added s dir name body) ≡ added (marked links s) dir name (marked_body links s.next body)
+  pub marked-added : (s : State) (dir : ℕ) (name : List ℕ) (body : Body) → with_marks links (added s dir name body) ≡ added (with_marks links s) dir name (marked_body links s.next body)
   marked-added s dir name body = λ i. record s { next = s.next + 1; entries = map-append (marked_entry links) s.entries (new ∷ []) i }
     where
       new : Entry
@@ -68,7 +68,7 @@ module _ (links : Known) where
       ]
 
   -- an entry goes
-  pub marked-removed : (s : State) (number : ℕ) → marked links (removed s number) ≡ removed (marked links s) number
+  pub marked-removed : (s : State) (number : ℕ) → with_marks links (removed s number) ≡ removed (with_marks links s) number
   marked-removed s number = λ i. record s { entries = kept-entries number s.entries i }
 
   changed-entries : (number : ℕ) (change : Entry → Entry) (es : List Entry) → ((e : Entry) → marked_entry links (change e) ≡ change (marked_entry links e)) → map (marked_entry links) (changed number change es) ≡ changed number change (map (marked_entry links) es)
@@ -80,7 +80,7 @@ module _ (links : Known) where
       one false = refl
 
   -- an entry changes in what has nothing to do with marks
-  pub marked-changed : (s : State) (number : ℕ) (change : Entry → Entry) → ((e : Entry) → marked_entry links (change e) ≡ change (marked_entry links e)) → marked links (changed_at s number change) ≡ changed_at (marked links s) number change
+  pub marked-changed : (s : State) (number : ℕ) (change : Entry → Entry) → ((e : Entry) → marked_entry links (change e) ≡ change (marked_entry links e)) → with_marks links (changed_at s number change) ≡ changed_at (with_marks links s) number change
   marked-changed s number change same = λ i. record s { entries = changed-entries number change s.entries same i }
 
   rewritten-body : (text : List ℕ) (number : ℕ) (body : Body) → marked_body links number (rewritten text body) ≡ rewritten text (marked_body links number body)
@@ -90,7 +90,7 @@ module _ (links : Known) where
   rewritten-body text number (Semantic query p x) = refl
   rewritten-body text number (Mount space documents answers) = refl
 
-  pub marked-rewritten : (s : State) (file : ℕ) (text : List ℕ) → marked links (changed_at s file (edited (rewritten text))) ≡ changed_at (marked links s) file (edited (rewritten text))
+  pub marked-rewritten : (s : State) (file : ℕ) (text : List ℕ) → with_marks links (changed_at s file (edited (rewritten text))) ≡ changed_at (with_marks links s) file (edited (rewritten text))
   marked-rewritten s file text = marked-changed s file (edited (rewritten text)) (λ e. ap (λ (body : Body). record e { body = body }) (rewritten-body text e.number e.body))
 
   indexed-body : (number : ℕ) (body : Body) → marked_body links number (indexed body) ≡ indexed (marked_body links number body)
@@ -100,14 +100,14 @@ module _ (links : Known) where
   indexed-body number (Semantic query p x) = refl
   indexed-body number (Mount space documents answers) = refl
 
-  pub marked-indexed : (s : State) (file : ℕ) → marked links (changed_at s file (edited indexed)) ≡ changed_at (marked links s) file (edited indexed)
+  pub marked-indexed : (s : State) (file : ℕ) → with_marks links (changed_at s file (edited indexed)) ≡ changed_at (with_marks links s) file (edited indexed)
   marked-indexed s file = marked-changed s file (edited indexed) (λ e. ap (λ (body : Body). record e { body = body }) (indexed-body e.number e.body))
 
-  pub marked-reseated : (s : State) (entry dir : ℕ) (name : List ℕ) → marked links (changed_at s entry (reseated dir name)) ≡ changed_at (marked links s) entry (reseated dir name)
+  pub marked-reseated : (s : State) (entry dir : ℕ) (name : List ℕ) → with_marks links (changed_at s entry (reseated dir name)) ≡ changed_at (with_marks links s) entry (reseated dir name)
   marked-reseated s entry dir name = marked-changed s entry (reseated dir name) (λ e. refl)
 
 -- an item goes from all links: it has no mark any more
-module _ (old new : Known) (item : ℕ) (drops : Drops old new item) where
+module _ (old new : Known) (item : ℕ) (drops : DropsItem old new item) where
   forgotten-body : (number : ℕ) (body : Body) → marked_body new number body ≡ forgetting item (marked_body old number body)
   forgotten-body number (File text dirty shown) = refl
   forgotten-body number Dir = refl
@@ -121,11 +121,11 @@ module _ (old new : Known) (item : ℕ) (drops : Drops old new item) where
   forgotten-entries [] = refl
   forgotten-entries (e ∷ es) = λ i. record e { body = forgotten-body e.number e.body i } ∷ forgotten-entries es i
 
-  pub marked-forgotten : (s : State) → marked new s ≡ forgotten (marked old s) item
+  pub marked-forgotten : (s : State) → with_marks new s ≡ forgotten (with_marks old s) item
   marked-forgotten s = λ i. record s { entries = forgotten-entries s.entries i }
 
 -- an item gets a kind in a directory: it gets the mark there
-module _ (old new : Known) (dir item : ℕ) (kind : Kind) (rise : AllRise old) (change : Changes old new dir (with_kind kind item (lists_in old dir))) where
+module _ (old new : Known) (dir item : ℕ) (kind : Kind) (rise : LinkListsRise old) (change : ChangesDir old new dir (with_kind kind item (lists_in old dir))) where
   lists-here : lists_in new dir ≡ with_kind kind item (lists_in old dir)
   lists-here = let e = eq-eqb dir dir refl in change dir ∙ (rw e refl)
 
@@ -189,5 +189,5 @@ module _ (old new : Known) (dir item : ℕ) (kind : Kind) (rise : AllRise old) (
   marking-entries [] = refl
   marking-entries (e ∷ es) = λ i. marking-entry e (e.number == dir) refl i ∷ marking-entries es i
 
-  pub marked-marking : (s : State) → marked new s ≡ changed_at (marked old s) dir (edited (events.marked item kind))
+  pub marked-marking : (s : State) → with_marks new s ≡ changed_at (with_marks old s) dir (edited (events.marked item kind))
   marked-marking s = λ i. record s { entries = marking-entries s.entries i }

@@ -9,9 +9,9 @@ use Rattle.hac_model.specs.declared.states.Body.{Body}
 use Rattle.hac_model.specs.declared.states.Body.TheVariants.{File, Dir, Symlink, Semantic, Mount}
 use Rattle.hac_model.specs.declared.states.Entry.{Entry}
 use Rattle.hac_model.specs.declared.states.State.{State}
-use Rattle.link_kinds.specs.Kinds.{nothing}
-use Rattle.link_kinds.specs.Marked.{marked, marked_body, marked_entry}
-use Rattle.link_kinds.specs.Seen.{Changes, Known, lists_in}
+use Rattle.link_kinds.specs.Kinds.{no_lists}
+use Rattle.link_kinds.specs.Marked.{with_marks, marked_body, marked_entry}
+use Rattle.link_kinds.specs.Seen.{ChangesDir, Known, lists_in}
 use Rattle.link_kinds.proofs.ChangeLemmas.{marked-added, marked-changed, marked-removed}
 
 -- no entry of the number has a query
@@ -43,7 +43,7 @@ module _ (old new : Known) (dir : ℕ) (same : (d : ℕ) → (d == dir) ≡ fals
   but-entries [] none = refl
   but-entries (e ∷ es) none = λ i. one-entry e (e.number == dir) refl none.0 i ∷ but-entries es none.1 i
 
-  pub marked-but : (s : State) → HasNoQuery dir s.entries → marked new s ≡ marked old s
+  pub marked-but : (s : State) → HasNoQuery dir s.entries → with_marks new s ≡ with_marks old s
   marked-but s none = λ i. record s { entries = but-entries s.entries none i }
 
 -- an entry that goes has no query any more, nor has one that becomes plain
@@ -78,27 +78,27 @@ plain-body links number (Semantic query p x) = refl
 plain-body links number (Mount space documents answers) = refl
 
 -- a directory goes with all its links, or becomes plain and loses them
-module _ (old new : Known) (dir : ℕ) (drops : Changes old new dir nothing) where
+module _ (old new : Known) (dir : ℕ) (drops : ChangesDir old new dir no_lists) where
   others : (d : ℕ) → (d == dir) ≡ false → lists_in new d ≡ lists_in old d
   others d differ = drops d ∙ (rw differ refl)
 
-  pub marked-rmdir : (s : State) → marked new (removed s dir) ≡ removed (marked old s) dir
+  pub marked-rmdir : (s : State) → with_marks new (removed s dir) ≡ removed (with_marks old s) dir
   marked-rmdir s = marked-but old new dir others (removed s dir) (none-removed dir s.entries) ∙ marked-removed old s dir
 
-  pub marked-unq : (s : State) → marked new (changed_at s dir (edited plain_body)) ≡ changed_at (marked old s) dir (edited plain_body)
+  pub marked-unq : (s : State) → with_marks new (changed_at s dir (edited plain_body)) ≡ changed_at (with_marks old s) dir (edited plain_body)
   marked-unq s =
       marked-but old new dir others (changed_at s dir (edited plain_body)) (none-plain dir s.entries)
       ∙ marked-changed old s dir (edited plain_body) (λ e. ap (λ (body : Body). record e { body = body }) (plain-body old e.number e.body))
 
 -- a directory that comes with a query has no marks, where nothing is linked under its number
-pub marked-smkdir : (links : Known) (s : State) (dir : ℕ) (name : List ℕ) (query : Formula ℕ) → lists_in links s.next ≡ nothing → marked links (added s dir name (Semantic query [] [])) ≡ added (marked links s) dir name (Semantic query [] [])
-marked-smkdir links s dir name query none = marked-added links s dir name (Semantic query [] []) ∙ (λ i. added (marked links s) dir name (Semantic query (none i).permanent (none i).prohibited))
+pub marked-smkdir : (links : Known) (s : State) (dir : ℕ) (name : List ℕ) (query : Formula ℕ) → lists_in links s.next ≡ no_lists → with_marks links (added s dir name (Semantic query [] [])) ≡ added (with_marks links s) dir name (Semantic query [] [])
+marked-smkdir links s dir name query none = marked-added links s dir name (Semantic query [] []) ∙ (λ i. added (with_marks links s) dir name (Semantic query (none i).permanent (none i).prohibited))
 
 -- in a directory without a query nothing is linked
 abbrev pub IsUnlinked : Known → Entry → Type 0
-IsUnlinked links e = query_in e.body ≡ None → lists_in links e.number ≡ nothing
+IsUnlinked links e = query_in e.body ≡ None → lists_in links e.number ≡ no_lists
 
-asking-body : (links : Known) (query : Formula ℕ) (number : ℕ) (body : Body) → (query_in body ≡ None → lists_in links number ≡ nothing) → marked_body links number (asking query body) ≡ asking query (marked_body links number body)
+asking-body : (links : Known) (query : Formula ℕ) (number : ℕ) (body : Body) → (query_in body ≡ None → lists_in links number ≡ no_lists) → marked_body links number (asking query body) ≡ asking query (marked_body links number body)
 asking-body links query number (File text dirty shown) none = refl
 asking-body links query number Dir none = λ i. Semantic query (none refl i).permanent (none refl i).prohibited
 asking-body links query number (Symlink target) none = refl
@@ -114,5 +114,5 @@ asking-entries links query dir (e ∷ es) none = λ i. one (e.number == dir) i �
     one true = ap (λ (body : Body). record e { body = body }) (asking-body links query e.number e.body none.0)
     one false = refl
 
-pub marked-setq : (links : Known) (s : State) (dir : ℕ) (query : Formula ℕ) → AllByRecursion (IsUnlinked links) s.entries → marked links (changed_at s dir (edited (asking query))) ≡ changed_at (marked links s) dir (edited (asking query))
+pub marked-setq : (links : Known) (s : State) (dir : ℕ) (query : Formula ℕ) → AllByRecursion (IsUnlinked links) s.entries → with_marks links (changed_at s dir (edited (asking query))) ≡ changed_at (with_marks links s) dir (edited (asking query))
 marked-setq links s dir query none = λ i. record s { entries = asking-entries links query dir s.entries none i }

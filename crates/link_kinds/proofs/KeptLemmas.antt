@@ -9,9 +9,9 @@ use Rattle.hac_model.specs.declared.marks.Kind.TheVariants.{Transient, Permanent
 use Rattle.set_pool.specs.Rising.{removed}
 use Rattle.set_pool.specs.Sets as pool
 use Rattle.set_pool.specs.Sets.{AllListsRise, SameLive, Sets, is_live, list_of, members_of}
-use Rattle.link_kinds.specs.Kept.{AreDistinct, AreLive, IsKept, OthersStay, lists_of, seen_of}
-use Rattle.link_kinds.specs.Kinds.{AreApart, Lists, kind_in, nothing, with_kind}
-use Rattle.link_kinds.specs.Seen.{Changes, Drops, Known, SameKinds, SameSets, has_sets, kind_at, lists_in}
+use Rattle.link_kinds.specs.Kept.{AreDistinct, AreLive, AreLinksKept, OthersStay, dir_lists, seen_of}
+use Rattle.link_kinds.specs.Kinds.{AreApart, Lists, kind_in, no_lists, with_kind}
+use Rattle.link_kinds.specs.Seen.{ChangesDir, DropsItem, Known, SameKinds, SameLinks, has_sets, kind_at, lists_in}
 use Rattle.link_kinds.specs.declared.links.Links.TheInside.{Inside}
 use Rattle.link_kinds.specs.declared.sets.DirSets.{DirSets}
 use Rattle.link_kinds.proofs.KindLemmas.{apart-with, kind-with}
@@ -25,7 +25,7 @@ kinds-differ : (place : ℕ → ℕ × Kind) (one other d e : ℕ) (k j : Kind) 
 kinds-differ place one other d e k j first second differ same = differ (ap (λ (p : ℕ × Kind). p.1) (sym first ∙ ap place same ∙ second))
 
 -- no two sets of a directory are one
-pub distinct : (links : Inside) (dir : ℕ) (sets : DirSets) → IsKept links → get nat_eq links.dirs dir ≡ Some sets → AreDistinct sets
+pub distinct : (links : Inside) (dir : ℕ) (sets : DirSets) → AreLinksKept links → get nat_eq links.dirs dir ≡ Some sets → AreDistinct sets
 distinct links dir sets kept there =
     let at = kept.apart dir sets there in (
       kinds-differ kept.place sets.transient sets.permanent dir dir Transient Permanent at.0 at.1 (λ same. cc),
@@ -37,7 +37,7 @@ distinct links dir sets kept there =
 abbrev pub Stay : Sets → Sets → DirSets → Type 0
 Stay p q sets = (list_of q sets.transient ≡ list_of p sets.transient) × (list_of q sets.permanent ≡ list_of p sets.permanent) × (list_of q sets.prohibited ≡ list_of p sets.prohibited)
 
-stay-lists : (p q : Sets) (sets : DirSets) → Stay p q sets → lists_of q sets ≡ lists_of p sets
+stay-lists : (p q : Sets) (sets : DirSets) → Stay p q sets → dir_lists q sets ≡ dir_lists p sets
 stay-lists p q sets stay = λ i. record { transient = unwrap_or (stay.0 i) []; permanent = unwrap_or (stay.1 i) []; prohibited = unwrap_or (stay.2 i) [] }
 
 -- and are live, if they were
@@ -48,7 +48,7 @@ pub stay-live : (p q : Sets) (sets : DirSets) → Stay p q sets → AreLive p se
 stay-live p q sets stay live = (alive _ _ stay.0 live.0, alive _ _ stay.1 live.1, alive _ _ stay.2 live.2)
 
 -- the sets of other directories have theirs
-others-stay : (links : Inside) (q : Sets) (dir d : ℕ) (sets other : DirSets) → IsKept links → get nat_eq links.dirs dir ≡ Some sets → get nat_eq links.dirs d ≡ Some other → d ≢ dir → OthersStay links.pool q sets → Stay links.pool q other
+others-stay : (links : Inside) (q : Sets) (dir d : ℕ) (sets other : DirSets) → AreLinksKept links → get nat_eq links.dirs dir ≡ Some sets → get nat_eq links.dirs d ≡ Some other → d ≢ dir → OthersStay links.pool q sets → Stay links.pool q other
 others-stay links q dir d sets other kept there too differ stay =
     let at = kept.apart dir sets there in
     let to = kept.apart d other too in
@@ -65,7 +65,7 @@ under-stay p q None stay = refl
 under-stay p q (Some sets) stay = stay-lists p q sets (stay sets refl)
 
 module _ (old new : Inside) where
-  pub sets-kept : ((d : ℕ) → get nat_eq new.dirs d ≡ get nat_eq old.dirs d) → SameSets (seen_of old) (seen_of new)
+  pub sets-kept : ((d : ℕ) → get nat_eq new.dirs d ≡ get nat_eq old.dirs d) → SameLinks (seen_of old) (seen_of new)
   sets-kept dirs d = has-seen new (seen_of new) refl d ∙ ap is_some (dirs d) ∙ sym (has-seen old (seen_of old) refl d)
 
   -- all sets have the lists that they had
@@ -77,7 +77,7 @@ module _ (old new : Inside) where
         ∙ under-stay old.pool new.pool (get nat_eq old.dirs d) (λ sets is. (same sets.transient, same sets.permanent, same sets.prohibited))
         ∙ sym (lists-seen old (seen_of old) refl d)
 
-    pub kept-same : IsKept old → IsKept new
+    pub kept-same : AreLinksKept old → AreLinksKept new
     kept-same kept =
         record {
           live = λ d sets there. stay-live old.pool new.pool sets (same sets.transient, same sets.permanent, same sets.prohibited) (kept.live d sets (sym (dirs d) ∙ there));
@@ -88,9 +88,9 @@ module _ (old new : Inside) where
         }
 
   -- the sets of one directory change
-  module _ (dir : ℕ) (sets : DirSets) (kept : IsKept old) (there : get nat_eq old.dirs dir ≡ Some sets) (stay : OthersStay old.pool new.pool sets) where
+  module _ (dir : ℕ) (sets : DirSets) (kept : AreLinksKept old) (there : get nat_eq old.dirs dir ≡ Some sets) (stay : OthersStay old.pool new.pool sets) where
     module _ (dirs : (d : ℕ) → get nat_eq new.dirs d ≡ get nat_eq old.dirs d) where
-      pub changes-set : (lists : Lists) → lists_of new.pool sets ≡ lists → Changes (seen_of old) (seen_of new) dir lists
+      pub changes-set : (lists : Lists) → dir_lists new.pool sets ≡ lists → ChangesDir (seen_of old) (seen_of new) dir lists
       changes-set lists here d =
           lists-seen new (seen_of new) refl d
           ∙ ap (lists_under new.pool) (dirs d)
@@ -105,9 +105,9 @@ module _ (old new : Inside) where
                 ∙ (rw e refl)
           ]
 
-      pub kept-set : (kind : Kind) (item : ℕ) → lists_of new.pool sets ≡ with_kind kind item (lists_of old.pool sets) → SameLive old.pool new.pool → AllListsRise new.pool → IsKept new
+      pub kept-set : (kind : Kind) (item : ℕ) → dir_lists new.pool sets ≡ with_kind kind item (dir_lists old.pool sets) → SameLive old.pool new.pool → AllListsRise new.pool → AreLinksKept new
       kept-set kind item here live rise =
-          let lists : lists_in (seen_of old) dir ≡ lists_of old.pool sets = lists-seen old (seen_of old) refl dir ∙ ap (lists_under old.pool) there in
+          let lists : lists_in (seen_of old) dir ≡ dir_lists old.pool sets = lists-seen old (seen_of old) refl dir ∙ ap (lists_under old.pool) there in
           record {
             live = λ d other is.
                 let was = kept.live d other (sym (dirs d) ∙ is) in
@@ -115,7 +115,7 @@ module _ (old new : Inside) where
             place = kept.place;
             apart = λ d other is. kept.apart d other (sym (dirs d) ∙ is);
             rise = rise;
-            kinds = apart-changed (seen_of old) (seen_of new) dir _ (changes-set (with_kind kind item (lists_of old.pool sets)) here) (apart-with kind item (lists_of old.pool sets) (subst AreApart lists (kept.kinds dir))) kept.kinds;
+            kinds = apart-changed (seen_of old) (seen_of new) dir _ (changes-set (with_kind kind item (dir_lists old.pool sets)) here) (apart-with kind item (dir_lists old.pool sets) (subst AreApart lists (kept.kinds dir))) kept.kinds;
           }
 
     -- a directory goes
@@ -126,7 +126,7 @@ module _ (old new : Inside) where
       left : (d : ℕ) → d ≢ dir → get nat_eq new.dirs d ≡ get nat_eq old.dirs d
       left d differ = let e = ne_eqb dir d (λ same. differ (sym same)) in dirs d ∙ (rw e refl)
 
-      pub changes-drop : Changes (seen_of old) (seen_of new) dir nothing
+      pub changes-drop : ChangesDir (seen_of old) (seen_of new) dir no_lists
       changes-drop d =
           lists-seen new (seen_of new) refl d
           ∙ elim (cases_eq d dir) [
@@ -146,7 +146,7 @@ module _ (old new : Inside) where
           let differ : d ≢ dir = λ same. let none : get nat_eq new.dirs d ≡ None = ap (get nat_eq new.dirs) same ∙ gone in cc in
           (differ, sym (left d differ) ∙ is)
 
-      pub kept-drop : AllListsRise new.pool → IsKept new
+      pub kept-drop : AllListsRise new.pool → AreLinksKept new
       kept-drop rise =
           record {
             live = λ d other is.
@@ -155,7 +155,7 @@ module _ (old new : Inside) where
             place = kept.place;
             apart = λ d other is. kept.apart d other (was d other is).1;
             rise = rise;
-            kinds = apart-changed (seen_of old) (seen_of new) dir nothing changes-drop (record { transient = λ item. refl; permanent = λ item. refl; prohibited = λ item. refl }) kept.kinds;
+            kinds = apart-changed (seen_of old) (seen_of new) dir no_lists changes-drop (record { transient = λ item. refl; permanent = λ item. refl; prohibited = λ item. refl }) kept.kinds;
           }
 
   -- whether a directory has its sets, once one has gone
@@ -177,7 +177,7 @@ module _ (old new : Inside) where
       and-true false = refl
 
   -- nothing is known of a directory that had no sets
-  pub changes-none : (dir : ℕ) → get nat_eq old.dirs dir ≡ None → SameKinds (seen_of old) (seen_of new) → Changes (seen_of old) (seen_of new) dir nothing
+  pub changes-none : (dir : ℕ) → get nat_eq old.dirs dir ≡ None → SameKinds (seen_of old) (seen_of new) → ChangesDir (seen_of old) (seen_of new) dir no_lists
   changes-none dir none same d =
       elim (cases_eq d dir) [
         | inl is ↦ let e = eq-eqb d dir is in same d ∙ ap (lists_in (seen_of old)) is ∙ lists-none old (seen_of old) refl dir none ∙ (rw e refl)
@@ -197,14 +197,14 @@ module _ (old new : Inside) where
     under-drop None = refl
     under-drop (Some sets) = λ i. record { transient = thinned sets.transient i; permanent = thinned sets.permanent i; prohibited = thinned sets.prohibited i }
 
-    pub drops-item : Drops (seen_of old) (seen_of new) item
+    pub drops-item : DropsItem (seen_of old) (seen_of new) item
     drops-item d =
         lists-seen new (seen_of new) refl d
         ∙ ap (lists_under new.pool) (dirs d)
         ∙ under-drop (get nat_eq old.dirs d)
         ∙ ap (with_kind Unlinked item) (sym (lists-seen old (seen_of old) refl d))
 
-    pub kept-thin : SameLive old.pool new.pool → AllListsRise new.pool → IsKept old → IsKept new
+    pub kept-thin : SameLive old.pool new.pool → AllListsRise new.pool → AreLinksKept old → AreLinksKept new
     kept-thin live rise kept =
         record {
           live = λ d other is.
@@ -217,7 +217,7 @@ module _ (old new : Inside) where
         }
 
 -- the kinds of items, after the lists of one directory changed
-pub kinds-set : (old new : Known) (dir item : ℕ) (kind : Kind) → Changes old new dir (with_kind kind item (lists_in old dir)) → (d i : ℕ) → kind_at new d i ≡ cond (d == dir && i == item) kind (kind_at old d i)
+pub kinds-set : (old new : Known) (dir item : ℕ) (kind : Kind) → ChangesDir old new dir (with_kind kind item (lists_in old dir)) → (d i : ℕ) → kind_at new d i ≡ cond (d == dir && i == item) kind (kind_at old d i)
 kinds-set old new dir item kind change d i = ap (λ lists. kind_in lists i) (change d) ∙ either (d == dir) refl
   where
     either : (b : Bool) → (d == dir) ≡ b → kind_in (cond b (with_kind kind item (lists_in old dir)) (lists_in old d)) i ≡ cond (b && i == item) kind (kind_at old d i)

@@ -16,7 +16,7 @@ use Rattle.hac_model.specs.declared.states.State.{State}
 use Rattle.hac_model.specs.Valid.{IsLayout}
 use Rattle.hac_model.proofs.AlikeLemmas.{layout-bare, layout-unbare}
 use Rattle.hac_model.proofs.MapLemmas.{child-mapped, directory-mapped, mapped, path_of-mapped, test-mapped}
-use Rattle.link_kinds.specs.Marked.{marked, marked_body, marked_entry}
+use Rattle.link_kinds.specs.Marked.{with_marks, marked_body, marked_entry}
 use Rattle.link_kinds.specs.Seen.{Known, permanent_in, prohibited_in}
 
 module _ (links : Known) where
@@ -32,17 +32,17 @@ module _ (links : Known) where
   entries-alike (e ∷ es) = λ i. record e { body = bare-marked_body e.number e.body i } ∷ entries-alike es i
 
   -- without marks and answers, the two are one
-  alike : (s : State) → mapped bare_body (marked links s) ≡ mapped bare_body s
+  alike : (s : State) → mapped bare_body (with_marks links s) ≡ mapped bare_body s
   alike s = λ i. record s { entries = entries-alike s.entries i }
 
-  pub bare-marked : (s : State) → bare (marked links s) ≡ bare s
+  pub bare-marked : (s : State) → bare (with_marks links s) ≡ bare s
   bare-marked s = λ i. record { next = s.next; entries = entries-alike s.entries i; sessions = [] }
 
-  pub path_of-marked : (s : State) (number : ℕ) → path_of (marked links s) number ≡ path_of s number
-  path_of-marked s number = sym (path_of-mapped bare_body (marked links s) number) ∙ ap (λ (t : State). path_of t number) (alike s) ∙ path_of-mapped bare_body s number
+  pub path_of-marked : (s : State) (number : ℕ) → path_of (with_marks links s) number ≡ path_of s number
+  path_of-marked s number = sym (path_of-mapped bare_body (with_marks links s) number) ∙ ap (λ (t : State). path_of t number) (alike s) ∙ path_of-mapped bare_body s number
 
-  pub child-marked : (s : State) (dir : ℕ) (name : List ℕ) → child (marked links s).entries dir name ≡ child s.entries dir name
-  child-marked s dir name = sym (child-mapped bare_body (marked links s).entries dir name) ∙ ap (λ (es : List Entry). child es dir name) (entries-alike s.entries) ∙ child-mapped bare_body s.entries dir name
+  pub child-marked : (s : State) (dir : ℕ) (name : List ℕ) → child (with_marks links s).entries dir name ≡ child s.entries dir name
+  child-marked s dir name = sym (child-mapped bare_body (with_marks links s).entries dir name) ∙ ap (λ (es : List Entry). child es dir name) (entries-alike s.entries) ∙ child-mapped bare_body s.entries dir name
 
   bare-file : (body : Body) → tree.is_file (bare_body body) ≡ tree.is_file body
   bare-file (File text dirty shown) = refl
@@ -58,17 +58,17 @@ module _ (links : Known) where
   bare-directory (Semantic query permanent prohibited) = refl
   bare-directory (Mount space documents answers) = refl
 
-  pub file-marked : (s : State) (number : ℕ) → is_file_at (marked links s).entries number ≡ is_file_at s.entries number
-  file-marked s number = sym (test-mapped tree.is_file bare_body (marked links s).entries number bare-file) ∙ ap (λ (es : List Entry). is_file_at es number) (entries-alike s.entries) ∙ test-mapped tree.is_file bare_body s.entries number bare-file
+  pub file-marked : (s : State) (number : ℕ) → is_file_at (with_marks links s).entries number ≡ is_file_at s.entries number
+  file-marked s number = sym (test-mapped tree.is_file bare_body (with_marks links s).entries number bare-file) ∙ ap (λ (es : List Entry). is_file_at es number) (entries-alike s.entries) ∙ test-mapped tree.is_file bare_body s.entries number bare-file
 
-  pub directory-marked : (s : State) (number : ℕ) → is_directory_at (marked links s).entries number ≡ is_directory_at s.entries number
-  directory-marked s number = sym (directory-mapped bare_body (marked links s).entries number bare-directory) ∙ ap (λ (es : List Entry). is_directory_at es number) (entries-alike s.entries) ∙ directory-mapped bare_body s.entries number bare-directory
+  pub directory-marked : (s : State) (number : ℕ) → is_directory_at (with_marks links s).entries number ≡ is_directory_at s.entries number
+  directory-marked s number = sym (directory-mapped bare_body (with_marks links s).entries number bare-directory) ∙ ap (λ (es : List Entry). is_directory_at es number) (entries-alike s.entries) ∙ directory-mapped bare_body s.entries number bare-directory
 
   -- what is stored below a directory
-  pub below-marked : (s : State) (dir item : ℕ) → is_below (marked links s) dir item ≡ is_below s dir item
+  pub below-marked : (s : State) (dir item : ℕ) → is_below (with_marks links s) dir item ≡ is_below s dir item
   below-marked s dir item = λ i. (file-marked s item i && directory-marked s dir i) && extends (path_of-marked s item i) (path_of-marked s dir i)
 
-  pub items-marked : (s : State) → items (marked links s) ≡ items s
+  pub items-marked : (s : State) → items (with_marks links s) ≡ items s
   items-marked s = ap (λ (test : ℕ → Bool). filter test (range_with_len 0 s.next)) (λ i number. file-marked s number i)
 
   pub entry_at-marked : (es : List Entry) (number : ℕ) → entry_at (map (marked_entry links) es) number ≡ option_map (marked_entry links) (entry_at es number)
@@ -85,7 +85,7 @@ module _ (links : Known) where
   body_at-entries [] number = refl
   body_at-entries (e ∷ es) number = body-of e number (e.number == number) (entry_at (map (marked_entry links) es) number) (entry_at es number) refl (body_at-entries es number)
 
-  pub body_at-marked : (s : State) (number : ℕ) → body_at (marked links s).entries number ≡ option_map (marked_body links number) (body_at s.entries number)
+  pub body_at-marked : (s : State) (number : ℕ) → body_at (with_marks links s).entries number ≡ option_map (marked_body links number) (body_at s.entries number)
   body_at-marked s number = body_at-entries s.entries number
 
   query-body : (number : ℕ) (o : Option Body) → option_and_then query_in (option_map (marked_body links number) o) ≡ option_and_then query_in o
@@ -96,10 +96,10 @@ module _ (links : Known) where
   query-body number (Some (Semantic query permanent prohibited)) = refl
   query-body number (Some (Mount space documents answers)) = refl
 
-  pub query_at-marked : (s : State) (dir : ℕ) → query_at (marked links s) dir ≡ query_at s dir
+  pub query_at-marked : (s : State) (dir : ℕ) → query_at (with_marks links s) dir ≡ query_at s dir
   query_at-marked s dir = ap (option_and_then query_in) (body_at-marked s dir) ∙ query-body dir (body_at s.entries dir)
 
-  pub semantic-marked : (s : State) (dir : ℕ) → is_semantic (marked links s) dir ≡ is_semantic s dir
+  pub semantic-marked : (s : State) (dir : ℕ) → is_semantic (with_marks links s) dir ≡ is_semantic s dir
   semantic-marked s dir = ap is_some (query_at-marked s dir)
 
   shown-body : (number : ℕ) (o : Option Body) → option_and_then shown_text (option_map (marked_body links number) o) ≡ option_and_then shown_text o
@@ -110,14 +110,14 @@ module _ (links : Known) where
   shown-body number (Some (Semantic query permanent prohibited)) = refl
   shown-body number (Some (Mount space documents answers)) = refl
 
-  pub shown_of-marked : (s : State) (item : ℕ) → shown_of (marked links s) item ≡ shown_of s item
+  pub shown_of-marked : (s : State) (item : ℕ) → shown_of (with_marks links s) item ≡ shown_of s item
   shown_of-marked s item = ap (option_and_then shown_text) (body_at-marked s item) ∙ shown-body item (body_at s.entries item)
 
   parent-entry : (o : Option Entry) → option_map_or (λ (e : Entry). e.parent) (option_map (marked_entry links) o) 0 ≡ option_map_or (λ (e : Entry). e.parent) o 0
   parent-entry None = refl
   parent-entry (Some e) = refl
 
-  pub parent_of-marked : (s : State) (number : ℕ) → parent_of (marked links s) number ≡ parent_of s number
+  pub parent_of-marked : (s : State) (number : ℕ) → parent_of (with_marks links s) number ≡ parent_of s number
   parent_of-marked s number = ap (λ (o : Option Entry). option_map_or (λ (e : Entry). e.parent) o 0) (entry_at-marked s.entries number) ∙ parent-entry (entry_at s.entries number)
 
   permanent-body : (number : ℕ) (o : Option Body) → option_map_or tree.permanent_in (option_map (marked_body links number) o) [] ≡ cond (is_some (option_and_then query_in o)) (permanent_in links number) []
@@ -129,7 +129,7 @@ module _ (links : Known) where
   permanent-body number (Some (Mount space documents answers)) = refl
 
   -- a semantic directory has the marks that the links tell, and no other has any
-  pub permanent_at-marked : (s : State) (dir : ℕ) → permanent_at (marked links s) dir ≡ cond (is_semantic s dir) (permanent_in links dir) []
+  pub permanent_at-marked : (s : State) (dir : ℕ) → permanent_at (with_marks links s) dir ≡ cond (is_semantic s dir) (permanent_in links dir) []
   permanent_at-marked s dir = ap (λ (o : Option Body). option_map_or tree.permanent_in o []) (body_at-marked s dir) ∙ permanent-body dir (body_at s.entries dir)
 
   prohibited-body : (number : ℕ) (o : Option Body) → option_map_or tree.prohibited_in (option_map (marked_body links number) o) [] ≡ cond (is_some (option_and_then query_in o)) (prohibited_in links number) []
@@ -140,12 +140,12 @@ module _ (links : Known) where
   prohibited-body number (Some (Semantic query permanent prohibited)) = refl
   prohibited-body number (Some (Mount space documents answers)) = refl
 
-  pub prohibited_at-marked : (s : State) (dir : ℕ) → prohibited_at (marked links s) dir ≡ cond (is_semantic s dir) (prohibited_in links dir) []
+  pub prohibited_at-marked : (s : State) (dir : ℕ) → prohibited_at (with_marks links s) dir ≡ cond (is_semantic s dir) (prohibited_in links dir) []
   prohibited_at-marked s dir = ap (λ (o : Option Body). option_map_or tree.prohibited_in o []) (body_at-marked s dir) ∙ prohibited-body dir (body_at s.entries dir)
 
   -- a tree is one with any marks
-  pub layout-marked : (s : State) → IsLayout s → IsLayout (marked links s)
-  layout-marked s layout = layout-unbare (marked links s) (subst IsLayout (sym (bare-marked s)) (layout-bare s layout))
+  pub layout-marked : (s : State) → IsLayout s → IsLayout (with_marks links s)
+  layout-marked s layout = layout-unbare (with_marks links s) (subst IsLayout (sym (bare-marked s)) (layout-bare s layout))
 
-  pub layout-unmarked : (s : State) → IsLayout (marked links s) → IsLayout s
-  layout-unmarked s layout = layout-unbare s (subst IsLayout (bare-marked s) (layout-bare (marked links s) layout))
+  pub layout-unmarked : (s : State) → IsLayout (with_marks links s) → IsLayout s
+  layout-unmarked s layout = layout-unbare s (subst IsLayout (bare-marked s) (layout-bare (with_marks links s) layout))

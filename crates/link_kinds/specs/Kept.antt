@@ -10,8 +10,8 @@ use Rattle.link_kinds.specs.declared.links.Links.TheInside.{Inside}
 use Rattle.link_kinds.specs.declared.sets.DirSets.{DirSets}
 
 -- what the three sets of a directory hold
-abbrev pub lists_of : Sets → DirSets → Lists
-lists_of pool sets = record { transient = members_of pool sets.transient; permanent = members_of pool sets.permanent; prohibited = members_of pool sets.prohibited }
+abbrev pub dir_lists : Sets → DirSets → Lists
+dir_lists pool sets = record { transient = members_of pool sets.transient; permanent = members_of pool sets.permanent; prohibited = members_of pool sets.prohibited }
 
 -- the three sets are live
 abbrev pub AreLive : Sets → DirSets → Type 0
@@ -34,10 +34,10 @@ abbrev pub StandIn : (ℕ → ℕ × Kind) → ℕ → DirSets → Type 0
 StandIn place dir sets = (place sets.transient ≡ (dir, Transient)) × (place sets.permanent ≡ (dir, Permanent)) × (place sets.prohibited ≡ (dir, Prohibited))
 
 abbrev pub seen_of : Inside → Known
-seen_of links = record { dirs = map (λ entry. (entry.0, lists_of links.pool entry.1)) links.dirs.entries; spare = links.pool.spare }
+seen_of links = record { dirs = map (λ entry. (entry.0, dir_lists links.pool entry.1)) links.dirs.entries; spare = links.pool.spare }
 
 -- the sets of directories are live, and no set stands at two places, since each is told its place
-pub record IsKept (links : Inside) : Type 0 where
+pub record AreLinksKept (links : Inside) : Type 0 where
   pub live : (dir : ℕ) (sets : DirSets) → get nat_eq links.dirs dir ≡ Some sets → AreLive links.pool sets
   pub place : ℕ → ℕ × Kind
   pub apart : (dir : ℕ) (sets : DirSets) → get nat_eq links.dirs dir ≡ Some sets → StandIn place dir sets

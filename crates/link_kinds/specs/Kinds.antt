@@ -1,6 +1,7 @@
 -- The items of one directory, by the kind of their links.
-use Rattle.std.specs.Prelude.{◌≡◌, ℕ, Bool, true, false, if◌then◌else◌, List, []}
+use Rattle.std.specs.Prelude.{◌≡◌, ℕ, if◌then◌else◌, List, []}
 use Rattle.std.specs.List.Sorted.{IsStrictlyIncreasing}
+use Rattle.hac_model.specs.Kinds.{is_permanent, is_prohibited, is_transient}
 use Rattle.hac_model.specs.declared.marks.Kind.{Kind}
 use Rattle.hac_model.specs.declared.marks.Kind.TheVariants.{Transient, Permanent, Prohibited, Unlinked}
 use Rattle.set_pool.specs.Rising.{inserted, is_among, removed}
@@ -12,8 +13,8 @@ pub record Lists : Type 0 where
   pub prohibited : List ℕ
 
 -- no item is linked
-abbrev pub nothing : Lists
-nothing = record { transient = []; permanent = []; prohibited = [] }
+abbrev pub no_lists : Lists
+no_lists = record { transient = []; permanent = []; prohibited = [] }
 
 -- the kind of an item's link
 abbrev pub kind_in : Lists → ℕ → Kind
@@ -34,24 +35,6 @@ with_kind Transient item lists = record { transient = inserted item lists.transi
 with_kind Permanent item lists = record { transient = removed item lists.transient; permanent = inserted item lists.permanent; prohibited = removed item lists.prohibited }
 with_kind Prohibited item lists = record { transient = removed item lists.transient; permanent = removed item lists.permanent; prohibited = inserted item lists.prohibited }
 with_kind Unlinked item lists = record { transient = removed item lists.transient; permanent = removed item lists.permanent; prohibited = removed item lists.prohibited }
-
-abbrev pub is_transient : Kind → Bool
-is_transient Transient = true
-is_transient other = false
-
-abbrev pub is_permanent : Kind → Bool
-is_permanent Permanent = true
-is_permanent other = false
-
-abbrev pub is_prohibited : Kind → Bool
-is_prohibited Prohibited = true
-is_prohibited other = false
-
--- an item of the kind is a link, found or added
-abbrev pub is_linked : Kind → Bool
-is_linked Transient = true
-is_linked Permanent = true
-is_linked other = false
 
 -- an item is in the list of its kind, and in no other
 pub record AreApart (lists : Lists) : Type 0 where

@@ -17,5 +17,5 @@ abbrev pub marked_entry : Known → Entry → Entry
 marked_entry links entry = edited (marked_body links entry.number) entry
 
 -- the state in which each semantic directory has the marks that the links tell
-abbrev pub marked : Known → State → State
-marked links s = record s { entries = map (marked_entry links) s.entries }
+abbrev pub with_marks : Known → State → State
+with_marks links s = record s { entries = map (marked_entry links) s.entries }

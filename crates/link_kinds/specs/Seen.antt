@@ -2,7 +2,7 @@
 use Rattle.std.specs.Prelude.{◌≡◌, ℕ, Bool, ◌==◌, is_some, if◌then◌else◌, List, Option, unwrap_or}
 use Rattle.std.specs.Map.{lookup}
 use Rattle.hac_model.specs.declared.marks.Kind.{Kind}
-use Rattle.link_kinds.specs.Kinds.{AreApart, AreRising, Lists, kind_in, nothing, with_kind}
+use Rattle.link_kinds.specs.Kinds.{AreApart, AreRising, Lists, kind_in, no_lists, with_kind}
 
 -- the lists of the directories that have their sets, and how many calls may still give a kind without memory
 pub record Known : Type 0 where
@@ -19,7 +19,7 @@ has_sets links dir = is_some (lists_at links dir)
 
 -- the lists of a directory. One without sets has no items.
 abbrev pub lists_in : Known → ℕ → Lists
-lists_in links dir = unwrap_or (lists_at links dir) nothing
+lists_in links dir = unwrap_or (lists_at links dir) no_lists
 
 -- the transient items of a directory, in order of number
 abbrev pub transient_in : Known → ℕ → List ℕ
@@ -38,8 +38,8 @@ abbrev pub kind_at : Known → ℕ → ℕ → Kind
 kind_at links dir item = kind_in (lists_in links dir) item
 
 -- all lists rise
-abbrev pub AllRise : Known → Type 0
-AllRise links = (dir : ℕ) → AreRising (lists_in links dir)
+abbrev pub LinkListsRise : Known → Type 0
+LinkListsRise links = (dir : ℕ) → AreRising (lists_in links dir)
 
 -- no item has two kinds in one directory
 abbrev pub AllApart : Known → Type 0
@@ -47,20 +47,20 @@ AllApart links = (dir : ℕ) → AreApart (lists_in links dir)
 
 -- nothing is linked anywhere
 abbrev pub IsEmpty : Known → Type 0
-IsEmpty links = (dir : ℕ) → lists_in links dir ≡ nothing
+IsEmpty links = (dir : ℕ) → lists_in links dir ≡ no_lists
 
 -- each item has the kinds that it had
 abbrev pub SameKinds : Known → Known → Type 0
 SameKinds old new = (dir : ℕ) → lists_in new dir ≡ lists_in old dir
 
 -- the same directories have their sets
-abbrev pub SameSets : Known → Known → Type 0
-SameSets old new = (dir : ℕ) → has_sets new dir ≡ has_sets old dir
+abbrev pub SameLinks : Known → Known → Type 0
+SameLinks old new = (dir : ℕ) → has_sets new dir ≡ has_sets old dir
 
 -- one directory has those lists, and the others have theirs
-abbrev pub Changes : Known → Known → ℕ → Lists → Type 0
-Changes old new dir lists = (d : ℕ) → lists_in new d ≡ (if d == dir then lists else lists_in old d)
+abbrev pub ChangesDir : Known → Known → ℕ → Lists → Type 0
+ChangesDir old new dir lists = (d : ℕ) → lists_in new d ≡ (if d == dir then lists else lists_in old d)
 
 -- the item isn't linked in any directory, and each other item is as before
-abbrev pub Drops : Known → Known → ℕ → Type 0
-Drops old new item = (dir : ℕ) → lists_in new dir ≡ with_kind Kind.Unlinked item (lists_in old dir)
+abbrev pub DropsItem : Known → Known → ℕ → Type 0
+DropsItem old new item = (dir : ℕ) → lists_in new dir ≡ with_kind Kind.Unlinked item (lists_in old dir)

@@ -6,6 +6,3 @@ mod links;
 mod sets;
 
 pub use links::Links;
-
-#[cfg(test)]
-mod tests;

@@ -3,8 +3,8 @@ ghost use Rattle.std.specs.Prelude.{◌≡◌, ◌==◌, ◌&&◌, ◌||◌, ◌
 ghost use Rattle.indexmap.specs.IndexMap.{get, spare};
 ghost use Rattle.set_pool.specs.Rising.{first_from};
 ghost use Rattle.set_pool.specs.Sets as pool_sets;
-ghost use Rattle.link_kinds.specs.Kinds.{items_of, nothing, with_kind};
-ghost use Rattle.link_kinds.specs.Seen.{AllApart, AllRise, Changes, Drops, IsEmpty, SameKinds, SameSets, has_sets, kind_at, lists_in, permanent_in, prohibited_in, transient_in};
+ghost use Rattle.link_kinds.specs.Kinds.{items_of, no_lists, with_kind};
+ghost use Rattle.link_kinds.specs.Seen.{AllApart, LinkListsRise, ChangesDir, DropsItem, IsEmpty, SameKinds, SameLinks, has_sets, kind_at, lists_in, permanent_in, prohibited_in, transient_in};
 
 use crate::sets::DirSets;
 use hac_model::{Kind, Memory, Number};
@@ -29,11 +29,11 @@ impl Model for Links {
 
     ghost Value = { Known };
 
-    ghost use Rattle.link_kinds.specs.Kept.{IsKept, seen_of};
+    ghost use Rattle.link_kinds.specs.Kept.{AreLinksKept, seen_of};
 
     ghost view = { seen_of };
 
-    ghost invariant = { IsKept };
+    ghost invariant = { AreLinksKept };
 }
 
 impl Links {
@@ -50,7 +50,7 @@ impl Links {
         })
     }
 
-    /// Sees to it that a directory has its sets, and that there is memory for `count` calls of `set_kind`. What is
+    /// Ensures that a directory has its sets, and that there is memory for `count` calls of `set_kind`. What is
     /// left of earlier calls counts.
     pub fn prepare(&mut self, dir: Number, count: u64) -> Result<(), Memory>
         ensures room { OnOk result (count ≤ self.new.spare) }
@@ -59,7 +59,7 @@ impl Links {
         ensures kinds { SameKinds self.old self.new }
 
         // After want of memory all is as before.
-        ensures err { OnErr result ((self.new.spare ≡ self.old.spare) × SameSets self.old self.new) }
+        ensures err { OnErr result ((self.new.spare ≡ self.old.spare) × SameLinks self.old self.new) }
     {
         if sets_at(&self.dirs, dir).is_some() {
             self.pool.reserve(count)?;
@@ -76,7 +76,7 @@ impl Links {
     pub fn kind(&self, dir: Number, item: Number) -> Kind
         ensures kind { result ≡ kind_at self.now dir item }
         ensures apart { AllApart self.now }
-        ensures rise { AllRise self.now }
+        ensures rise { LinkListsRise self.now }
     {
         match sets_at(&self.dirs, dir) {
             Some(sets) => sets.kind(&self.pool, item.get()),
@@ -125,9 +125,9 @@ impl Links {
     pub fn set_kind(&mut self, dir: Number, item: Number, kind: Kind)
         requires sets { IsTrue (has_sets self.old dir) }
         requires room { 0 < self.old.spare }
-        ensures lists { Changes self.old self.new dir (with_kind kind item (lists_in self.old dir)) }
+        ensures lists { ChangesDir self.old self.new dir (with_kind kind item (lists_in self.old dir)) }
         ensures kind { (d i : ℕ) → kind_at self.new d i ≡ (if d == dir && i == item then kind else kind_at self.old d i) }
-        ensures sets { SameSets self.old self.new }
+        ensures sets { SameLinks self.old self.new }
         ensures spare { self.old.spare ≤ self.new.spare + 1 }
     {
         let Some(sets) = sets_at(&self.dirs, dir) else {
@@ -138,7 +138,7 @@ impl Links {
 
     /// No item is linked in the directory any more, and it has no sets.
     pub fn drop_dir(&mut self, dir: Number)
-        ensures lists { Changes self.old self.new dir nothing }
+        ensures lists { ChangesDir self.old self.new dir no_lists }
         ensures sets { (d : ℕ) → has_sets self.new d ≡ (has_sets self.old d && not (d == dir)) }
         ensures spare { self.old.spare ≤ self.new.spare }
     {
@@ -149,8 +149,8 @@ impl Links {
 
     /// The item isn't linked in any directory any more.
     pub fn drop_item(&mut self, item: Number)
-        ensures lists { Drops self.old self.new item }
-        ensures sets { SameSets self.old self.new }
+        ensures lists { DropsItem self.old self.new item }
+        ensures sets { SameLinks self.old self.new }
         ensures spare { self.old.spare ≤ self.new.spare }
     {
         self.pool.remove_everywhere(item.get());
@@ -159,7 +159,7 @@ impl Links {
     /// The same links once more, with no room for others.
     pub fn copy(&self) -> Result<Links, Memory>
         ensures kinds { IfOk result (λ links. SameKinds self.now links) }
-        ensures sets { IfOk result (λ links. SameSets self.now links) }
+        ensures sets { IfOk result (λ links. SameLinks self.now links) }
         ensures spare { IfOk result (λ links. links.spare ≡ 0) }
     {
         let pool = self.pool.copy()?;
@@ -201,7 +201,7 @@ fn put_sets(dirs: &mut Dirs, dir: Number, sets: DirSets)
     }
 }
 
-/// Takes the sets of a directory out.
+/// Removes the sets of a directory.
 fn take_sets(dirs: &mut Dirs, dir: Number) -> Option<DirSets>
     ensures sets { result ≡ get nat_eq dirs.old dir }
     ensures taken { (d : ℕ) → get nat_eq dirs.new d ≡ (if nat_eq dir d then None else get nat_eq dirs.old d) }

@@ -1,8 +1,8 @@
 //! The three sets of one directory, within the pool that all directories share.
 ghost use Rattle.std.specs.Prelude.{◌≡◌, ◌+◌, ◌<◌, ◌≤◌, length, IsTrue, ℕ};
 ghost use Rattle.set_pool.specs.Sets.{AllListsRise, SameLive, is_live};
-ghost use Rattle.link_kinds.specs.Kept.{AreDistinct, AreFresh, AreLive, OthersStay, lists_of};
-ghost use Rattle.link_kinds.specs.Kinds.{items_of, kind_in, nothing, with_kind};
+ghost use Rattle.link_kinds.specs.Kept.{AreDistinct, AreFresh, AreLive, OthersStay, dir_lists};
+ghost use Rattle.link_kinds.specs.Kinds.{items_of, kind_in, no_lists, with_kind};
 
 use hac_model::Kind;
 use set_pool::{SetId, SetPool};
@@ -19,7 +19,7 @@ impl DirSets {
     /// How an item is linked in the directory.
     pub(crate) fn kind(&self, pool: &SetPool, item: u64) -> Kind
         requires { AreLive pool.now self.now }
-        ensures { result ≡ kind_in (lists_of pool.now self.now) item }
+        ensures { result ≡ kind_in (dir_lists pool.now self.now) item }
     {
         if pool.contains(self.transient, item) {
             Kind::Transient
@@ -35,7 +35,7 @@ impl DirSets {
     /// How many items have a kind.
     pub(crate) fn count(&self, pool: &SetPool, kind: Kind) -> u64
         requires { AreLive pool.now self.now }
-        ensures { result ≡ length (items_of kind (lists_of pool.now self.now)) }
+        ensures { result ≡ length (items_of kind (dir_lists pool.now self.now)) }
     {
         match kind {
             Kind::Transient => pool.len(self.transient),
@@ -50,7 +50,7 @@ impl DirSets {
         requires live { AreLive pool.old self.now }
         requires differ { AreDistinct self.now }
         requires room { 0 < pool.old.spare }
-        ensures lists { lists_of pool.new self.now ≡ with_kind kind item (lists_of pool.old self.now) }
+        ensures lists { dir_lists pool.new self.now ≡ with_kind kind item (dir_lists pool.old self.now) }
         ensures others { OthersStay pool.old pool.new self.now }
         ensures live { SameLive pool.old pool.new }
         ensures spare { pool.old.spare ≤ pool.new.spare + 1 }
@@ -84,7 +84,7 @@ impl DirSets {
     pub(crate) fn make(pool: &mut SetPool) -> DirSets
         requires { 3 ≤ pool.old.spare }
         ensures live { AreLive pool.new result }
-        ensures empty { lists_of pool.new result ≡ nothing }
+        ensures empty { dir_lists pool.new result ≡ no_lists }
         ensures fresh { AreFresh pool.old result }
         ensures differ { AreDistinct result }
         ensures others { OthersStay pool.old pool.new result }
@@ -102,7 +102,7 @@ impl DirSets {
         }
     }
 
-    /// Ends the three sets.
+    /// Frees the three sets.
     pub(crate) fn free(&self, pool: &mut SetPool)
         requires live { AreLive pool.old self.now }
         requires differ { AreDistinct self.now }

@@ -4,7 +4,7 @@ use Rattle.hac_model.specs.Formula.{Formula}
 use Rattle.hac_model.specs.Formula as query
 use Rattle.hac_model.specs.declared.terms.Term.{Term}
 
--- the item satisfies the query, told which items have a term and which a directory provides
+-- the item satisfies the query, given which items have a term and which a directory provides
 abbrev pub judged : (Term → ℕ → Bool) → (ℕ → ℕ → Bool) → Formula ℕ → ℕ → Bool
 judged has provides (query.Term term) item = has term item
 judged has provides (query.Dir dir) item = provides dir item

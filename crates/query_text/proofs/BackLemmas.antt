@@ -12,9 +12,9 @@ use Rattle.hac_model.specs.Grammar.{IsPath, AllPathBytes, is_control}
 use Rattle.hac_model.specs.Names.{is_name, is_name_byte}
 use Rattle.hac_model.specs.PathWords.{word_of}
 use Rattle.hac_model.specs.Paths.{are_names, path_text, slashed}
-use Rattle.hac_model.specs.QueryReading.{read_on, start, placed, named, worded, limited_query, spelled_query, read_query}
+use Rattle.hac_model.specs.QueryReading.{read_on, fresh_reader, parsed, named, worded, limited_query, spelled_query, read_query}
 use Rattle.hac_model.specs.Queries.{are_terms, term_count}
-use Rattle.hac_model.specs.QueryText.{renamed}
+use Rattle.hac_model.specs.QueryText.{named_by}
 use Rattle.hac_model.specs.declared.limits.LimitWord.{LimitWord}
 use Rattle.hac_model.specs.declared.limits.TheConstants.{QUERY_LIMIT, TERMS_LIMIT, NESTING_LIMIT}
 use Rattle.hac_model.specs.declared.paths.PathWord.{PathWord}
@@ -63,7 +63,7 @@ named_at (told ∷ paths) dir all known =
     let both = and_parts (are_names told.path) (list_all (λ told. are_names told.path) paths) all in
     chosen (told.dir == dir) told.path (path_at paths dir) both.0 (λ known. named_at paths dir both.1 known) known
 
--- a directory with its path, told what was found
+-- a directory with its path, given what was found
 dir_read : (found : Option (List (List ℕ))) → Named found → IsPath (option_map_or path_text found [])
     × (named (word_of (option_map_or path_text found [])) ≡ Ok (record { absolute = true; ups = 0; names = option_map_or (λ path. path) found [] }))
 dir_read None is = elim is [ ]
@@ -73,7 +73,7 @@ module _ (paths : List Told) (all : list_all (λ told. are_names told.path) path
   record Known (q : Formula ℕ) : Type 0 where
     terms : are_terms (pathed paths q) ≡ are_terms q
     dirs : ArePaths (pathed paths q)
-    words : worded (pathed paths q) ≡ Ok (renamed (word_to paths) q)
+    words : worded (pathed paths q) ≡ Ok (named_by (word_to paths) q)
 
   known : (q : Formula ℕ) → are_known paths q ≡ true → Known q
   known (formula.Term asked) h = record { terms = refl; dirs = tt; words = refl }
@@ -91,7 +91,7 @@ module _ (paths : List Told) (all : list_all (λ told. are_names told.path) path
         terms = ap (λ (b : Bool). b && are_terms (pathed paths r)) left.terms ∙ ap (λ (b : Bool). are_terms l && b) right.terms;
         dirs = (left.dirs, right.dirs);
         words = ap (λ (x : Result (Formula PathWord) Refusal). and_then (λ v. and_then (λ w. Ok (formula.And v w)) (worded (pathed paths r))) x) left.words
-            ∙ ap (and_then (λ w. Ok (formula.And (renamed (word_to paths) l) w))) right.words;
+            ∙ ap (and_then (λ w. Ok (formula.And (named_by (word_to paths) l) w))) right.words;
       }
   known (formula.Or l r) h =
       let both = and_parts (are_known paths l) (are_known paths r) h in
@@ -101,7 +101,7 @@ module _ (paths : List Told) (all : list_all (λ told. are_names told.path) path
         terms = ap (λ (b : Bool). b && are_terms (pathed paths r)) left.terms ∙ ap (λ (b : Bool). are_terms l && b) right.terms;
         dirs = (left.dirs, right.dirs);
         words = ap (λ (x : Result (Formula PathWord) Refusal). and_then (λ v. and_then (λ w. Ok (formula.Or v w)) (worded (pathed paths r))) x) left.words
-            ∙ ap (and_then (λ w. Ok (formula.Or (renamed (word_to paths) l) w))) right.words;
+            ∙ ap (and_then (λ w. Ok (formula.Or (named_by (word_to paths) l) w))) right.words;
       }
 
 -- Limits.
@@ -116,16 +116,16 @@ long_read q true x r is = tt
 long_read q false x r is = is
 
 pub read_back : (paths : List Told) (q : Formula ℕ) → list_all (λ told. are_names told.path) paths ≡ true → are_known paths q ≡ true → are_terms q ≡ true
-    → IsReadBack (renamed (word_to paths) q) (read_query (printed_query paths q))
+    → IsReadBack (named_by (word_to paths) q) (read_query (printed_query paths q))
 unfolding read_query
 read_back paths q all knows word =
     let k = known paths all q knows in
     let text = text_read (pathed paths q) (k.terms ∙ word) k.dirs in
-    let wanted = renamed (word_to paths) q in
-    let found : read_on 1 (printed_query paths q) start ≡ Ok text.0 = is_found (printed_query paths q) text.0 text.1 in
+    let wanted = named_by (word_to paths) q in
+    let found : read_on 1 (printed_query paths q) fresh_reader ≡ Ok text.0 = is_found (printed_query paths q) text.0 text.1 in
     let words : worded text.0.query ≡ Ok wanted = ap worded text.2 ∙ k.words in
     let spelled : spelled_query (printed_query paths q) ≡ limited_query text.0.nesting wanted =
-    ap (λ (r : Result Part ℕ). and_then (λ part. and_then (λ w. limited_query part.nesting w) (worded part.query)) (placed r)) found
+    ap (λ (r : Result Part ℕ). and_then (λ part. and_then (λ w. limited_query part.nesting w) (worded part.query)) (parsed r)) found
     ∙ ap (and_then (λ w. limited_query text.0.nesting w)) words in
     long_read wanted (nat_lt QUERY_LIMIT (length (printed_query paths q))) _ (spelled_query (printed_query paths q))
     (subst (λ (r : Result (Formula PathWord) Refusal). IsReadBack wanted r) (sym spelled)

@@ -3,9 +3,9 @@ use Rattle.std.proofs.Common.{◌≡◌, ℕ, zero, suc, ◌≤◌, Bool, true, 
 use Rattle.std.specs.Prelude.{◌||◌, ◌==◌, option_and_then, codes}
 use Rattle.std.specs.Option.{option_map, IfSome}
 use Rattle.std.specs.Str.{bytes_eq}
-use Rattle.hac_model.specs.Grammar.{AllWordBytes, IsRun, AllPathBytes, IsPath, escape, escaped, Spells, EndsRun, Ends, spaced, SpellAll, Token, Open, Close, And, Or, Not, Of, Word, Prefix, Dir, leaf_part}
+use Rattle.hac_model.specs.Grammar.{AllWordBytes, IsRun, AllPathBytes, IsPath, escape, escaped, Spells, EndsRun, EndsToken, spaced, SpellAll, Token, Open, Close, And, Or, Not, Of, Word, Prefix, Dir, leaf_part}
 use Rattle.hac_model.specs.Queries.{is_operator}
-use Rattle.hac_model.specs.QueryReading.{negate, receive, after_and, after_or, leave, at, after_run, run_step, sign_ends, brace_step, path_step, escape_step, token_begins, operand_begins, operator_begins, kind_of, step, ended, ended_token}
+use Rattle.hac_model.specs.QueryReading.{negate, receive, after_and, after_or, leave, at, after_run, run_step, sign_ends, brace_step, path_step, escape_step, token_begins, operand_begins, operator_begins, kind_of, step, read_whole, ended_token}
 use Rattle.hac_model.specs.Words.{lower_case}
 use Rattle.hac_model.specs.declared.reading.ByteKind.{ByteKind}
 use Rattle.hac_model.specs.declared.reading.ByteKind.TheVariants as kind
@@ -23,7 +23,7 @@ use Rattle.query_text.proofs.TokenLemmas.{feed, feeds}
 
 -- the query to which bytes lead behind what was read
 abbrev pub reads : List ℕ → Reader → Option Part
-reads [] reader = ended reader
+reads [] reader = read_whole reader
 reads (b ∷ bytes) reader = option_and_then (reads bytes) (step b reader)
 
 -- Spaces.
@@ -43,7 +43,7 @@ spaces_skipped (suc n) bytes s =
     ap (option_and_then (reads (spaced n bytes))) (at_step 32 s ∙ ap (λ (k : ByteKind). token_begins k 32 s) space_kind ∙ space_stays s)
     ∙ spaces_skipped n bytes s
 
-ended_at : (s : Stack) → ended (at s) ≡ ended_token s
+ended_at : (s : Stack) → read_whole (at s) ≡ ended_token s
 ended_at (Wanting w) = refl
 ended_at (Holding h) = refl
 
@@ -79,7 +79,7 @@ run_over run (b ∷ rest) w (word, star) =
     ∙ ap (λ (f : Stack → Option Part). option_and_then f (after_run run w)) (λ i s. option_and_then (reads rest) (sym (at_step b s) i))
 
 -- what ends an operator is a byte behind it
-sign_over : (rest : List ℕ) (w : Wanted) → EndsRun rest → (reader : Reader) → ended reader ≡ None
+sign_over : (rest : List ℕ) (w : Wanted) → EndsRun rest → (reader : Reader) → read_whole reader ≡ None
     → ((b : ℕ) → step b reader ≡ sign_ends (kind_of b) b w) → reads rest reader ≡ reads rest (Wants operand.Nothing w)
 sign_over [] w ends reader none steps = none
 sign_over (b ∷ rest) w (word, star) reader none steps =
@@ -157,7 +157,7 @@ capital : (b : ℕ) → 65 ≤ b → b ≤ 90 → kind_of b ≡ kind.Word
 capital b low high = word_kind b (letter_word b low high)
 
 -- a spelled token, where it may stand
-token_reads : (t : Token) (s : Stack) (body rest : List ℕ) → Spells t body → Ends t rest
+token_reads : (t : Token) (s : Stack) (body rest : List ℕ) → Spells t body → EndsToken t rest
     → IfSome (feed t s) (λ next. reads (body ++ rest) (at s) ≡ reads rest (at next))
 token_reads Open (Wanting w) body rest is ends =
     ap (λ (x : List ℕ). reads (x ++ rest) (Wants operand.Nothing w)) is

@@ -2,8 +2,8 @@
 use Rattle.std.proofs.Common.{◌≡◌, ℕ, zero, suc, ◌+◌, ◌<◌, ◌≤◌, true, List, [], ◌∷◌, ◌++◌, length, take, Option, Some, None, Result, Ok, Err, refl, ap, sym, subst, ◌∙◌, arith}
 use Rattle.std.specs.Prelude.{option_and_then}
 use Rattle.std.specs.Option.{ok_or}
-use Rattle.hac_model.specs.Grammar.{Begins, Reads, SpellAll, Token, tokens, meaning, Prefix, Dir, leaf_part, group_part}
-use Rattle.hac_model.specs.QueryReading.{join_or, receive, after_and, after_or, kind_of, operand_begins, operator_begins, run_step, brace_step, path_step, escape_step, sign_ends, step, ended, empty_level, start, goes_on, read_on}
+use Rattle.hac_model.specs.Grammar.{BeginsQuery, Reads, SpellAll, Token, tokens, meaning, Prefix, Dir, leaf_part, group_part}
+use Rattle.hac_model.specs.QueryReading.{join_or, receive, after_and, after_or, kind_of, operand_begins, operator_begins, run_step, brace_step, path_step, escape_step, sign_ends, step, read_whole, empty_level, fresh_reader, goes_on, read_on}
 use Rattle.hac_model.specs.Words.{is_word_byte, lower_case}
 use Rattle.hac_model.specs.declared.reading.ByteKind.{ByteKind}
 use Rattle.hac_model.specs.declared.reading.Held.{Held}
@@ -23,13 +23,13 @@ use Rattle.query_text.specs.Laws.{IsFound}
 
 -- Bytes are a query exactly where they lead to it.
 
-pub reads_is : (bytes : List ℕ) (part : Part) → reads bytes start ≡ Some part → Reads bytes part
+pub reads_is : (bytes : List ℕ) (part : Part) → reads bytes fresh_reader ≡ Some part → Reads bytes part
 reads_is bytes part e =
-    let seen = shown bytes part start tt e in
+    let seen = shown bytes part fresh_reader tt e in
     let tree = sound seen.0 part seen.2 in
     (tree.0, subst (λ (ts : List Token). SpellAll ts bytes) (sym tree.1) seen.1, tree.2)
 
-pub is_reads : (bytes : List ℕ) (part : Part) → Reads bytes part → reads bytes start ≡ Some part
+pub is_reads : (bytes : List ℕ) (part : Part) → Reads bytes part → reads bytes fresh_reader ≡ Some part
 is_reads bytes part (t, all, m) =
     spelled_reads (tokens t) bytes (Wanting (record { level = empty_level; outer = [] })) (meaning t) all (complete t) ∙ ap Some m
 
@@ -152,7 +152,7 @@ no_more : (bytes : List ℕ) (reader : Reader) (n : ℕ) → n ≤ 0 → (next :
 no_more bytes reader zero h = (reader, refl)
 no_more bytes reader (suc n) h = absurd (omega arith)
 
-told_end : (place : ℕ) (reader : Reader) (o : Option Part) → ended reader ≡ o → Told place [] reader (ok_or o place)
+told_end : (place : ℕ) (reader : Reader) (o : Option Part) → read_whole reader ≡ o → Told place [] reader (ok_or o place)
 told_end place reader (Some part) e = e
 told_end place reader None e = record {
   many = 0;
@@ -195,26 +195,26 @@ told_byte place b bytes reader follow (Some next) e told = told_more place b byt
 
 told : (bytes : List ℕ) (place : ℕ) (reader : Reader) → Told place bytes reader (read_on place bytes reader)
 unfolding read_on
-told [] place reader = told_end place reader (ended reader) refl
+told [] place reader = told_end place reader (read_whole reader) refl
 told (b ∷ bytes) place reader = told_byte place b bytes reader (read_on (place + 1) bytes) (step b reader) refl (λ next. told bytes (place + 1) next)
 
 -- bytes behind which some query goes on begin one
-begins : (bytes : List ℕ) (next : Reader) → after bytes start ≡ Some next → Begins bytes
+begins : (bytes : List ℕ) (next : Reader) → after bytes fresh_reader ≡ Some next → BeginsQuery bytes
 begins bytes next e =
     let on = leads next in (
       more_of next,
       on.0,
-      reads_is (bytes ++ more_of next) on.0 (reads-after bytes (more_of next) start ∙ ap (option_and_then (reads (more_of next))) e ∙ on.1),
+      reads_is (bytes ++ more_of next) on.0 (reads-after bytes (more_of next) fresh_reader ∙ ap (option_and_then (reads (more_of next))) e ∙ on.1),
     )
 
-begins_none : (bytes : List ℕ) → after bytes start ≡ None → Begins bytes → ⊥
+begins_none : (bytes : List ℕ) → after bytes fresh_reader ≡ None → BeginsQuery bytes → ⊥
 begins_none bytes e (more, part, is) =
-    let h : Some part ≡ None = sym (is_reads (bytes ++ more) part is) ∙ reads-after bytes more start ∙ ap (option_and_then (reads more)) e in cc
+    let h : Some part ≡ None = sym (is_reads (bytes ++ more) part is) ∙ reads-after bytes more fresh_reader ∙ ap (option_and_then (reads more)) e in cc
 
-unread_none : (bytes : List ℕ) → reads bytes start ≡ None → (part : Part) → Reads bytes part → ⊥
+unread_none : (bytes : List ℕ) → reads bytes fresh_reader ≡ None → (part : Part) → Reads bytes part → ⊥
 unread_none bytes e part is = let h : Some part ≡ None = sym (is_reads bytes part is) ∙ e in cc
 
-found : (bytes : List ℕ) (result : Result Part ℕ) → Told 1 bytes start result → IsFound bytes result
+found : (bytes : List ℕ) (result : Result Part ℕ) → Told 1 bytes fresh_reader result → IsFound bytes result
 found bytes (Ok part) told = reads_is bytes part told
 found bytes (Err at) told =
     let is : at ≡ suc told.many = told.is ∙ omega arith in
@@ -223,17 +223,17 @@ found bytes (Err at) told =
       counted = omega arith;
       within = omega arith;
       least = λ n h. let there = told.lives n (omega arith) in begins (take n bytes) there.0 there.1;
-      stops = λ h. begins_none (take at bytes) (ap (λ (n : ℕ). after (take n bytes) start) is ∙ told.dead (omega arith));
+      stops = λ h. begins_none (take at bytes) (ap (λ (n : ℕ). after (take n bytes) fresh_reader) is ∙ told.dead (omega arith));
       unread = unread_none bytes told.unread;
     }
 
-pub read_is_found : (bytes : List ℕ) → IsFound bytes (read_on 1 bytes start)
-read_is_found bytes = found bytes (read_on 1 bytes start) (told bytes 1 start)
+pub read_is_found : (bytes : List ℕ) → IsFound bytes (read_on 1 bytes fresh_reader)
+read_is_found bytes = found bytes (read_on 1 bytes fresh_reader) (told bytes 1 fresh_reader)
 
 module _ (bytes : List ℕ) (part : Part) (is : Reads bytes part) where
   as_read : (result : Result Part ℕ) → IsFound bytes result → result ≡ Ok part
   as_read (Ok other) found = ap Ok (one_reading bytes other part found is)
   as_read (Err at) found = absurd (found.unread part is)
 
-pub is_found : (bytes : List ℕ) (part : Part) → Reads bytes part → read_on 1 bytes start ≡ Ok part
-is_found bytes part is = as_read bytes part is (read_on 1 bytes start) (read_is_found bytes)
+pub is_found : (bytes : List ℕ) (part : Part) → Reads bytes part → read_on 1 bytes fresh_reader ≡ Ok part
+is_found bytes part is = as_read bytes part is (read_on 1 bytes fresh_reader) (read_is_found bytes)

@@ -9,7 +9,7 @@ use Rattle.std.proofs.lemmas.Bool.Decides.{nat_tests}
 use Rattle.std.proofs.lemmas.Slice.Eq.{bytes_eq-Decides}
 use Rattle.hac_model.specs.Formula.{Formula}
 use Rattle.hac_model.specs.Formula as formula
-use Rattle.hac_model.specs.Grammar.{query, and_rule, not_rule, Tree, of_and, or, of_not, and, of_prim, negation, group, leaf, Token, Open, Close, And, Or, Not, Of, Leaf, Word, Prefix, Dir, tokens, meaning, Spells, SpellAll, EndsRun, Ends, IsRun, AllWordBytes, escaped, Reads}
+use Rattle.hac_model.specs.Grammar.{query, and_rule, not_rule, Tree, of_and, or, of_not, and, of_prim, negation, group, leaf, Token, Open, Close, And, Or, Not, Of, Leaf, Word, Prefix, Dir, tokens, meaning, Spells, SpellAll, EndsRun, EndsToken, IsRun, AllWordBytes, escaped, Reads}
 use Rattle.hac_model.specs.Queries.{are_terms, is_operator}
 use Rattle.hac_model.specs.QueryText.{is_or, is_joined, around, query_text}
 use Rattle.hac_model.specs.Words.{has_bytes, is_word, is_word_byte, is_lower_word_byte, lower_case}
@@ -137,7 +137,7 @@ close_ends bytes = (refl, refl)
 respelled : (ts us : List Token) (xs ys : List ℕ) → ts ≡ us → xs ≡ ys → SpellAll us ys → SpellAll ts xs
 respelled ts us xs ys e f all = subst (λ (u : List Token). SpellAll u xs) (sym e) (subst (λ (x : List ℕ). SpellAll us x) (sym f) all)
 
-print_leaf : (l : Leaf) (bytes : List ℕ) → Spells (Of l) bytes → ((rest : List ℕ) → EndsRun rest → Ends (Of l) rest) → Prints (Of l ∷ []) bytes
+print_leaf : (l : Leaf) (bytes : List ℕ) → Spells (Of l) bytes → ((rest : List ℕ) → EndsRun rest → EndsToken (Of l) rest) → Prints (Of l ∷ []) bytes
 print_leaf l bytes spells may more rest all ends = (zero, bytes, rest, spells, may rest ends, all, refl)
 
 print_group : (ts : List Token) (bytes : List ℕ) → Prints ts bytes → Prints (Open ∷ (ts ++ (Close ∷ []))) (40 ∷ (bytes ++ (41 ∷ [])))
@@ -156,7 +156,7 @@ print_not : (ts : List Token) (bytes : List ℕ) → Prints ts bytes → Prints 
 print_not ts bytes prints more rest all ends =
     (zero, codes "NOT", 32 ∷ (bytes ++ rest), refl, space_ends (bytes ++ rest), space_more (ts ++ more) (bytes ++ rest) (prints more rest all ends), refl)
 
-print_two : (t : Token) (sign : List ℕ) (ts us : List Token) (bytes other : List ℕ) → Spells t sign → ((rest : List ℕ) → EndsRun rest → Ends t rest)
+print_two : (t : Token) (sign : List ℕ) (ts us : List Token) (bytes other : List ℕ) → Spells t sign → ((rest : List ℕ) → EndsRun rest → EndsToken t rest)
     → Prints ts bytes → Prints us other → Prints (ts ++ (t ∷ us)) (bytes ++ ((32 ∷ (sign ++ (32 ∷ []))) ++ other))
 print_two t sign ts us bytes other spells may first second more rest all ends =
     respelled ((ts ++ (t ∷ us)) ++ more) (ts ++ (t ∷ (us ++ more))) ((bytes ++ ((32 ∷ (sign ++ (32 ∷ []))) ++ other)) ++ rest) (bytes ++ (32 ∷ (sign ++ (32 ∷ (other ++ rest)))))

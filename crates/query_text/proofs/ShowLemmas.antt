@@ -5,9 +5,9 @@ use Rattle.std.specs.Option.{option_map, IfSome}
 use Rattle.std.specs.Str.{bytes_eq}
 use Rattle.std.proofs.lemmas.Bool.{eqb-true}
 use Rattle.std.proofs.lemmas.Slice.Eq.{bytes_eq-Decides}
-use Rattle.hac_model.specs.Grammar.{AllWordBytes, IsRun, AllPathBytes, IsPath, is_control, escape, escaped, Spells, EndsRun, Ends, SpellAll, Token, Open, Close, And, Or, Not, Of, Word, Prefix, Dir, leaf_part}
+use Rattle.hac_model.specs.Grammar.{AllWordBytes, IsRun, AllPathBytes, IsPath, is_control, escape, escaped, Spells, EndsRun, EndsToken, SpellAll, Token, Open, Close, And, Or, Not, Of, Word, Prefix, Dir, leaf_part}
 use Rattle.hac_model.specs.Queries.{is_operator}
-use Rattle.hac_model.specs.QueryReading.{enter, negate, receive, after_and, after_or, leave, after_run, run_step, run_ends, sign_ends, brace_step, path_step, escape_step, token_begins, operand_begins, operator_begins, kind_step, kind_of, ended, ended_token}
+use Rattle.hac_model.specs.QueryReading.{enter, negate, receive, after_and, after_or, leave, after_run, run_step, run_ends, sign_ends, brace_step, path_step, escape_step, token_begins, operand_begins, operator_begins, kind_step, kind_of, read_whole, ended_token}
 use Rattle.hac_model.specs.Words.{is_word_byte, lower_case}
 use Rattle.hac_model.specs.declared.reading.ByteKind.{ByteKind}
 use Rattle.hac_model.specs.declared.reading.ByteKind.TheVariants as kind
@@ -58,7 +58,7 @@ space_shown : (bytes : List ℕ) (s : Stack) (part : Part) → Shown bytes s par
 space_shown bytes s part ([], (n, is), e) = ([], (suc n, ap (λ (x : List ℕ). 32 ∷ x) is), e)
 space_shown bytes s part (t ∷ ts, (n, body, rest, spells, ends, all, is), e) = (t ∷ ts, (suc n, body, rest, spells, ends, all, ap (λ (x : List ℕ). 32 ∷ x) is), e)
 
-token_shown : (t : Token) (s next : Stack) (body rest : List ℕ) (part : Part) → Spells t body → Ends t rest → feed t s ≡ Some next → Shown rest next part → Shown (body ++ rest) s part
+token_shown : (t : Token) (s next : Stack) (body rest : List ℕ) (part : Part) → Spells t body → EndsToken t rest → feed t s ≡ Some next → Shown rest next part → Shown (body ++ rest) s part
 token_shown t s next body rest part spells ends fed (ts, all, e) =
     (t ∷ ts, (zero, body, rest, spells, ends, all, refl), ap (option_and_then (feeds ts)) fed ∙ e)
 
@@ -85,13 +85,13 @@ escaped_more (c ∷ path) b = ap (λ (x : List ℕ). escape c ++ x) (escaped_mor
 
 -- the token that a run is
 run_token : (run : List ℕ) (w : Wanted) → IsRun run
-    → IfSome (after_run run w) (λ next. (t : Token) × Spells t run × (feed t (Wanting w) ≡ Some next) × ((rest : List ℕ) → EndsRun rest → Ends t rest))
+    → IfSome (after_run run w) (λ next. (t : Token) × Spells t run × (feed t (Wanting w) ≡ Some next) × ((rest : List ℕ) → EndsRun rest → EndsToken t rest))
 unfolding after_run
 run_token run w is = pick (bytes_eq run (codes "NOT")) (is_operator run) refl refl
   where
     pick : (a b : Bool) → bytes_eq run (codes "NOT") ≡ a → is_operator run ≡ b
         → IfSome (cond a (Some (Wanting (negate w))) (cond b None (Some (Holding (receive (leaf_part (Word (lower_case run))) w)))))
-        (λ next. (t : Token) × Spells t run × (feed t (Wanting w) ≡ Some next) × ((rest : List ℕ) → EndsRun rest → Ends t rest))
+        (λ next. (t : Token) × Spells t run × (feed t (Wanting w) ≡ Some next) × ((rest : List ℕ) → EndsRun rest → EndsToken t rest))
     pick true b e f = (Not, (bytes_eq-Decides run (codes "NOT")).0 e, refl, λ rest ends. ends)
     pick false true e f = tt
     pick false false e f = (Of (Word (lower_case run)), (is, f, refl), refl, λ rest ends. ends)
@@ -103,12 +103,12 @@ run_shown : (run rest : List ℕ) (w : Wanted) (part : Part) (follow : Stack →
 run_shown run rest w part follow is ends shown e = at_token (after_run run w) (run_token run w is) e
   where
     at_token : (o : Option Stack)
-        → IfSome o (λ next. (t : Token) × Spells t run × (feed t (Wanting w) ≡ Some next) × ((rest : List ℕ) → EndsRun rest → Ends t rest))
+        → IfSome o (λ next. (t : Token) × Spells t run × (feed t (Wanting w) ≡ Some next) × ((rest : List ℕ) → EndsRun rest → EndsToken t rest))
         → option_and_then follow o ≡ Some part → Shown (run ++ rest) (Wanting w) part
     at_token None none e = cc
     at_token (Some next) (t, spells, fed, may) e = token_shown t (Wanting w) next run rest part spells (may rest ends) fed (shown next e)
 
--- One byte more, told what is shown behind it.
+-- One byte more, given what is shown behind it.
 
 module _ (bytes : List ℕ) (part : Part) (known : (reader : Reader) → Proper reader → reads bytes reader ≡ Some part → Shown (pending reader ++ bytes) (before reader) part) where
   -- where an operand is wanted
@@ -260,7 +260,7 @@ module _ (bytes : List ℕ) (part : Part) (known : (reader : Reader) → Proper 
 
   -- behind an operator
   in_sign : (k : ByteKind) (b : ℕ) (t : Token) (body : List ℕ) (h : Held) (w : Wanted) → IsKind k b → Spells t body → feed t (Holding h) ≡ Some (Wanting w)
-      → ((rest : List ℕ) → EndsRun rest → Ends t rest) → option_and_then (reads bytes) (sign_ends k b w) ≡ Some part → Shown (body ++ (b ∷ bytes)) (Holding h) part
+      → ((rest : List ℕ) → EndsRun rest → EndsToken t rest) → option_and_then (reads bytes) (sign_ends k b w) ≡ Some part → Shown (body ++ (b ∷ bytes)) (Holding h) part
   in_sign kind.Word b t body h w is spells fed may e = cc
   in_sign kind.Star b t body h w is spells fed may e = cc
   in_sign kind.Space b t body h w is spells fed may e = token_shown t (Holding h) (Wanting w) body (b ∷ bytes) part spells (may (b ∷ bytes) (kind_ends kind.Space b is tt)) fed (wanted_shown kind.Space b w is e)
@@ -303,7 +303,7 @@ module _ (bytes : List ℕ) (part : Part) (known : (reader : Reader) → Proper 
   byte_shown k b (Holds operator.O h) is proper e = letter_shown (b == 82) b 82 (79 ∷ []) h operator.Or refl refl e
   byte_shown k b (Holds operator.Or h) is proper e = in_sign k b Or (79 ∷ 82 ∷ []) h (after_or h) is refl refl (λ rest ends. ends) e
 
-end_shown : (reader : Reader) (part : Part) → Proper reader → ended reader ≡ Some part → Shown (pending reader ++ []) (before reader) part
+end_shown : (reader : Reader) (part : Part) → Proper reader → read_whole reader ≡ Some part → Shown (pending reader ++ []) (before reader) part
 end_shown (Wants operand.Nothing w) part proper e = cc
 end_shown (Wants (operand.Run run) w) part proper e = run_shown run [] w part ended_token proper tt (λ next e. ([], (zero, refl), e)) e
 end_shown (Wants operand.Brace w) part proper e = cc

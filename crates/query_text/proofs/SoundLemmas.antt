@@ -6,9 +6,9 @@ use Rattle.hac_model.specs.Formula.{Formula}
 use Rattle.hac_model.specs.QueryReading.{read_query, is_spelled_query}
 use Rattle.hac_model.specs.declared.paths.PathWord.{PathWord}
 use Rattle.hac_model.proofs.QueryLemmas.{read_spelled}
-use Rattle.query_text.specs.Reading.{Reads}
+use Rattle.query_text.specs.Reading.{ReadsQuery}
 use Rattle.query_text.specs.declared.faults.QueryFault.{QueryFault}
 
-pub reads_spelled : (bytes : List ℕ) (r : Result (Formula PathWord) QueryFault) → Reads r (read_query bytes) → IfOk r (λ q. is_spelled_query q ≡ true)
+pub reads_spelled : (bytes : List ℕ) (r : Result (Formula PathWord) QueryFault) → ReadsQuery r (read_query bytes) → IfOk r (λ q. is_spelled_query q ≡ true)
 reads_spelled bytes (Ok q) e = read_spelled bytes q e
 reads_spelled bytes (Err fault) e = tt

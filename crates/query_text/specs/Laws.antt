@@ -7,8 +7,8 @@ use Rattle.hac_model.specs.Formula as formula
 use Rattle.hac_model.specs.Grammar.{Token, Open, Tree, query, tokens, meaning, SpellAll, IsFault, IsPath, Reads}
 use Rattle.hac_model.specs.Paths.{are_names}
 use Rattle.hac_model.specs.Queries.{are_terms}
-use Rattle.hac_model.specs.QueryReading.{read_on, start, read_query, is_spelled_query}
-use Rattle.hac_model.specs.QueryText.{query_text, renamed}
+use Rattle.hac_model.specs.QueryReading.{read_on, fresh_reader, read_query, is_spelled_query}
+use Rattle.hac_model.specs.QueryText.{query_text, named_by}
 use Rattle.hac_model.specs.declared.paths.PathWord.{PathWord}
 use Rattle.hac_model.specs.declared.replies.Refusal.{Refusal}
 use Rattle.hac_model.specs.declared.replies.Refusal.TheVariants.{Limit}
@@ -27,11 +27,11 @@ IsFound bytes (Err place) = IsFault bytes place
 
 -- what reading finds is the query that the bytes are, or their first fault
 abbrev pub QueriesAreRead : Type 0
-QueriesAreRead = (bytes : List ℕ) → IsFound bytes (read_on 1 bytes start)
+QueriesAreRead = (bytes : List ℕ) → IsFound bytes (read_on 1 bytes fresh_reader)
 
 -- reading finds each query
 abbrev pub QueriesAreFound : Type 0
-QueriesAreFound = (bytes : List ℕ) (part : Part) → Reads bytes part → read_on 1 bytes start ≡ Ok part
+QueriesAreFound = (bytes : List ℕ) (part : Part) → Reads bytes part → read_on 1 bytes fresh_reader ≡ Ok part
 
 -- the directories of the query are named by paths that begin at the root
 abbrev pub ArePaths : Formula (List ℕ) → Type 0
@@ -63,7 +63,7 @@ ParenthesesAreNeeded =
 abbrev pub ReadQueriesAreSpelled : Type 0
 ReadQueriesAreSpelled = (bytes : List ℕ) (asked : Formula PathWord) → read_query bytes ≡ Ok asked → is_spelled_query asked ≡ true
 
--- what was read is the query, or it passes a limit
+-- what was read is the query, or it exceeds a limit
 abbrev pub IsReadBack : Formula PathWord → Result (Formula PathWord) Refusal → Type 0
 IsReadBack asked (Ok read) = read ≡ asked
 IsReadBack asked (Err (Limit word)) = ⊤
@@ -78,4 +78,4 @@ word_to paths dir = record { absolute = true; ups = 0; names = option_map_or (λ
 abbrev pub PrintedQueryIsReadBack : Type 0
 PrintedQueryIsReadBack =
     (paths : List Told) (asked : Formula ℕ) → list_all (λ told. are_names told.path) paths ≡ true → are_known paths asked ≡ true → are_terms asked ≡ true
-    → IsReadBack (renamed (word_to paths) asked) (read_query (printed_query paths asked))
+    → IsReadBack (named_by (word_to paths) asked) (read_query (printed_query paths asked))

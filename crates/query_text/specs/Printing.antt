@@ -1,10 +1,10 @@
--- Queries as they are printed, told the paths of their directories.
+-- Queries as they are printed, given the paths of their directories.
 use Rattle.std.specs.Prelude.{ℕ, Bool, true, ◌==◌, ◌&&◌, if◌then◌else◌, List, [], ◌∷◌, Option, Some, None, is_some}
 use Rattle.std.specs.Option.{option_map_or}
 use Rattle.hac_model.specs.Formula.{Formula}
 use Rattle.hac_model.specs.Formula as query
 use Rattle.hac_model.specs.Paths.{path_text}
-use Rattle.hac_model.specs.QueryText.{query_text, renamed}
+use Rattle.hac_model.specs.QueryText.{query_text, named_by}
 use Rattle.query_text.specs.declared.paths.Told.{Told}
 
 -- the path that was told of a directory, the first of it
@@ -26,7 +26,7 @@ dir_path paths dir = option_map_or path_text (path_at paths dir) []
 
 -- the query with the paths of its directories
 abbrev pub pathed : List Told → Formula ℕ → Formula (List ℕ)
-pathed paths asked = renamed (dir_path paths) asked
+pathed paths asked = named_by (dir_path paths) asked
 
 -- the query as it is printed
 abbrev pub printed_query : List Told → Formula ℕ → List ℕ

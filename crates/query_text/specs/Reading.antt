@@ -7,15 +7,15 @@ use Rattle.query_text.specs.declared.faults.QueryFault.{QueryFault}
 use Rattle.query_text.specs.declared.faults.QueryFault.TheVariants as fault
 
 -- the fault is for the refusal that is wanted; want of memory may come in place of any answer
-abbrev pub IsFor : {A : Type 0} → QueryFault → Result A Refusal → Type 0
-IsFor (fault.BadAt place) wanted = wanted ≡ Err (BadQuery place)
-IsFor (fault.Limit word) wanted = wanted ≡ Err (Limit word)
-IsFor fault.Memory wanted = ⊤
+abbrev pub IsQueryFault : {A : Type 0} → QueryFault → Result A Refusal → Type 0
+IsQueryFault (fault.BadAt place) wanted = wanted ≡ Err (BadQuery place)
+IsQueryFault (fault.Limit word) wanted = wanted ≡ Err (Limit word)
+IsQueryFault fault.Memory wanted = ⊤
 
 -- the call gave what is wanted, the value or the fault
-abbrev pub Reads : {A : Type 0} → Result A QueryFault → Result A Refusal → Type 0
-Reads (Ok value) wanted = wanted ≡ Ok value
-Reads (Err fault) wanted = IsFor fault wanted
+abbrev pub ReadsQuery : {A : Type 0} → Result A QueryFault → Result A Refusal → Type 0
+ReadsQuery (Ok value) wanted = wanted ≡ Ok value
+ReadsQuery (Err fault) wanted = IsQueryFault fault wanted
 
 -- the fault is for the place
 abbrev pub IsAt : QueryFault → Result Part ℕ → Type 0

@@ -10,7 +10,7 @@ pub enum QueryFault {
     /// No query begins with so many bytes, but one with each fewer. One more than there are, where they only begin one.
     #[error("no query begins with the first {0} bytes")]
     BadAt(u64),
-    /// The query passes a limit.
+    /// The query exceeds a limit.
     #[error("the query passes a limit")]
     Limit(LimitWord),
     /// Memory ran out.

@@ -101,7 +101,7 @@ pub(crate) fn leave(alloc: Global, held: Held) -> Result<Option<Held>, Memory>
     grouped(alloc, whole, outer)
 }
 
-/// The part in parentheses, told what stands before each open one.
+/// The part in parentheses, given what stands before each open one.
 fn grouped(alloc: Global, part: Part, mut outer: Pile<Level>) -> Result<Option<Held>, Memory>
     ensures { IfOk result (λ held. held ≡ reading.grouped part outer) }
 {
@@ -199,7 +199,7 @@ fn group_part(part: Part) -> Result<Part, Memory>
     })
 }
 
-/// One more. What is counted stands in memory, which has no room for so much that it doesn't fit.
+/// One more. The counted things are in memory, so the count fits.
 fn one_more(count: u64) -> Result<u64, Memory>
     ensures { IfOk result (λ more. more ≡ count + 1) }
 {

@@ -21,7 +21,7 @@ pub fn printed_query_is_read()
     ensures { PrintedQueryIsRead }
 {}
 
-/// Reading a query as it is printed gives that query, or tells a limit that its text passes.
+/// Reading a query as it is printed gives that query, or names a limit that its text exceeds.
 pub fn printed_query_is_read_back()
     ensures { PrintedQueryIsReadBack }
 {}

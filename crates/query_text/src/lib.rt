@@ -15,6 +15,3 @@ pub use faults::QueryFault;
 pub use paths::{Paths, Told};
 pub use printing::print;
 pub use reading::{parse, terms_left};
-
-#[cfg(test)]
-mod tests;

@@ -10,7 +10,7 @@ use hac_model::{Memory, Name, Node, Number, Path, Query, Term};
 use hac_names::print_path;
 use std::alloc::Global;
 
-/// A query as it is printed: with one space round each operator, with the paths of its directories, and with
+/// A query as it is printed: with one space around each operator, with the paths of its directories, and with
 /// only the parentheses that it needs.
 pub fn print(alloc: Global, query: &Query<Number>, paths: &Paths) -> Result<Name, Memory>
     requires known { IsTrue (are_known paths.now query.now) }

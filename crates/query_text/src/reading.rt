@@ -2,7 +2,7 @@
 ghost use Rattle.std.specs.Prelude.{◌≡◌, ◌-◌, if◌then◌else◌, nat_lt, IfOk, IsTrue};
 ghost use Rattle.hac_model.specs.Queries as queries;
 ghost use Rattle.hac_model.specs.QueryReading as reading;
-ghost use Rattle.query_text.specs.Reading.{IsPart, Reads};
+ghost use Rattle.query_text.specs.Reading.{IsPart, ReadsQuery};
 
 use crate::faults::QueryFault;
 use crate::stepping::{ended, start, step};
@@ -15,7 +15,7 @@ use std::alloc::Global;
 
 /// The query that bytes spell. Its directories are path words, which begin at the root.
 pub fn parse(alloc: Global, bytes: &[u8]) -> Result<RawQuery, QueryFault>
-    ensures query { Reads result (reading.read_query bytes.now) }
+    ensures query { ReadsQuery result (reading.read_query bytes.now) }
     ensures spelled { IfOk result (λ query. IsTrue (reading.is_spelled_query query)) }
 {
     let outcome = parse_short(alloc, bytes);
@@ -25,7 +25,7 @@ pub fn parse(alloc: Global, bytes: &[u8]) -> Result<RawQuery, QueryFault>
 /// The query that bytes spell, where they aren't too many.
 #[tactic(auto, unfolding(hac_model::specs::QueryReading::read_query))]
 fn parse_short(alloc: Global, bytes: &[u8]) -> Result<RawQuery, QueryFault>
-    ensures { Reads result (reading.read_query bytes.now) }
+    ensures { ReadsQuery result (reading.read_query bytes.now) }
 {
     if bytes.len() > QUERY_LIMIT {
         return Err(QueryFault::Limit(LimitWord::Query));
@@ -38,7 +38,7 @@ fn parse_short(alloc: Global, bytes: &[u8]) -> Result<RawQuery, QueryFault>
 
 /// The query of the bytes, its limits not tested.
 fn read(alloc: Global, bytes: &[u8]) -> Result<Part, QueryFault>
-    ensures { IsPart result (reading.read_on 1 bytes.now reading.start) }
+    ensures { IsPart result (reading.read_on 1 bytes.now reading.fresh_reader) }
 {
     let mut reader = start(alloc);
     for (index, byte) in bytes.iter().enumerate() {
@@ -56,7 +56,7 @@ fn read(alloc: Global, bytes: &[u8]) -> Result<Part, QueryFault>
 /// The query with its directories as path words. It goes down as deep as the query does, which has no more
 /// parts than the bytes that spelled it.
 fn worded(alloc: Global, query: Query<Name>) -> Result<RawQuery, QueryFault>
-    ensures { Reads result (reading.worded query) }
+    ensures { ReadsQuery result (reading.worded query) }
 {
     match query.node {
         Node::Term(term) => Ok(Query::term(term)),
@@ -80,7 +80,7 @@ fn worded(alloc: Global, query: Query<Name>) -> Result<RawQuery, QueryFault>
 
 /// The word of a directory's path.
 fn path_word(alloc: Global, path: &[u8]) -> Result<PathWord, QueryFault>
-    ensures { Reads result (reading.dir_word path.now) }
+    ensures { ReadsQuery result (reading.dir_word path.now) }
 {
     match parse_word(alloc, path) {
         Ok(word) => Ok(word),
@@ -89,9 +89,9 @@ fn path_word(alloc: Global, path: &[u8]) -> Result<PathWord, QueryFault>
     }
 }
 
-/// The query, where it passes no limit.
+/// The query, where it exceeds no limit.
 fn limited(query: RawQuery, nesting: u64) -> Result<RawQuery, QueryFault>
-    ensures { Reads result (reading.limited_query nesting query) }
+    ensures { ReadsQuery result (reading.limited_query nesting query) }
 {
     if is_above(TERMS_LIMIT, &query) {
         return Err(QueryFault::Limit(LimitWord::Terms));

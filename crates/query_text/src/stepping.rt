@@ -13,7 +13,7 @@ use std::alloc::Global;
 
 /// Before the first byte.
 pub(crate) fn start(alloc: Global) -> Reader
-    ensures { result ≡ reading.start }
+    ensures { result ≡ reading.fresh_reader }
 {
     Reader::Wants(
         Operand::Nothing,
@@ -38,7 +38,7 @@ pub(crate) fn step(alloc: Global, reader: Reader, byte: u8) -> Result<Option<Rea
 
 /// The query that was read, where nothing follows.
 pub(crate) fn ended(alloc: Global, reader: Reader) -> Result<Option<Part>, Memory>
-    ensures { IfOk result (λ part. part ≡ reading.ended reader) }
+    ensures { IfOk result (λ part. part ≡ reading.read_whole reader) }
 {
     match reader {
         Reader::Wants(operand, wanted) => ended_wanting(alloc, operand, wanted),
@@ -47,7 +47,7 @@ pub(crate) fn ended(alloc: Global, reader: Reader) -> Result<Option<Part>, Memor
 }
 
 fn ended_wanting(alloc: Global, operand: Operand, wanted: Wanted) -> Result<Option<Part>, Memory>
-    ensures { IfOk result (λ part. part ≡ reading.ended (Reader.Wants operand wanted)) }
+    ensures { IfOk result (λ part. part ≡ reading.read_whole (Reader.Wants operand wanted)) }
 {
     match operand {
         Operand::Run(run) => ended_run(alloc, run, wanted),
@@ -56,7 +56,7 @@ fn ended_wanting(alloc: Global, operand: Operand, wanted: Wanted) -> Result<Opti
 }
 
 fn ended_holding(alloc: Global, operator: Operator, held: Held) -> Result<Option<Part>, Memory>
-    ensures { IfOk result (λ part. part ≡ reading.ended (Reader.Holds operator held)) }
+    ensures { IfOk result (λ part. part ≡ reading.read_whole (Reader.Holds operator held)) }
 {
     match operator {
         Operator::Nothing => finish(alloc, held),

@@ -1,18 +1,18 @@
 //! Whether a directory provides an item.
 ghost use Rattle.std.specs.Prelude.{◌≡◌, ◌&&◌};
+ghost use Rattle.hac_model.specs.Kinds.{is_linked};
 ghost use Rattle.hac_model.specs.Links.{column, is_below, is_semantic, provide};
-ghost use Rattle.link_kinds.specs.Kinds.{is_linked};
-ghost use Rattle.link_kinds.specs.Marked.{marked};
+ghost use Rattle.link_kinds.specs.Marked.{with_marks};
 ghost use Rattle.link_kinds.specs.Seen.{kind_at, transient_in};
 
 use file_tree::Tree;
-use hac_model::{Kind, Number};
+use hac_model::Number;
 use link_kinds::Links;
 
 /// Whether a directory provides an item: it is stored below it, at any depth, or is a link of it, found or added.
 /// The links tell the marks.
 pub fn provides(tree: &Tree, links: &Links, dir: Number, item: Number) -> bool
-    ensures { result ≡ provide (marked links.now tree.now.state) (column (transient_in links.now) item) dir item }
+    ensures { result ≡ provide (with_marks links.now tree.now.state) (column (transient_in links.now) item) dir item }
 {
     is_stored_below(tree, dir, item) || is_link(tree, links, dir, item)
 }
@@ -28,15 +28,5 @@ fn is_stored_below(tree: &Tree, dir: Number, item: Number) -> bool
 fn is_link(tree: &Tree, links: &Links, dir: Number, item: Number) -> bool
     ensures { result ≡ (is_semantic tree.now.state dir && is_linked (kind_at links.now dir item)) }
 {
-    tree.query(dir).is_some() && is_linked(links.kind(dir, item))
-}
-
-/// Whether an item of the kind is a link.
-fn is_linked(kind: Kind) -> bool
-    ensures { result ≡ is_linked kind }
-{
-    match kind {
-        Kind::Transient | Kind::Permanent => true,
-        Kind::Prohibited | Kind::Unlinked => false,
-    }
+    tree.query(dir).is_some() && links.kind(dir, item).is_linked()
 }

@@ -14,7 +14,7 @@ use Rattle.std.proofs.lemmas.List.{get_or_append_left, get_or_past, get_or_push,
 use Rattle.std.proofs.lemmas.List.Sums.{sum_by-append, sum_by-set}
 use Rattle.set_pool.specs.Lists.{AllRise, ChangesAt, SameLists, is_live_at, list_at, members_at}
 use Rattle.set_pool.specs.Rising.{Rises}
-use Rattle.set_pool.specs.Slots.{IsFreeAbove, IsStacked, is_free, list_of_slot, lists_of, slot_at}
+use Rattle.set_pool.specs.Slots.{IsFreeAbove, IsStacked, is_free_slot, list_of_slot, lists_of, slot_at}
 use Rattle.set_pool.specs.declared.slots.Slot.{Slot}
 use Rattle.set_pool.specs.declared.slots.Slot.TheVariants.{Free, Live}
 
@@ -103,7 +103,7 @@ module _ (xs ys : List Slot) (n : ℕ) (v : Slot) (new : (q : ℕ) → slot_at y
         (f.0, other q differ ∙ f.1)
 
     -- a live slot with another list
-    kept-stack : (u : List ℕ) (top free : ℕ) → v ≡ Live u → free ≡ count_by is_free ys → ((q : ℕ) → Rises (members_at (lists_of ys) q)) → IsStacked xs top free → IsStacked ys top free
+    kept-stack : (u : List ℕ) (top free : ℕ) → v ≡ Live u → free ≡ count_by is_free_slot ys → ((q : ℕ) → Rises (members_at (lists_of ys) q)) → IsStacked xs top free → IsStacked ys top free
     kept-stack u top free is counted rise i =
         record {
           counted = counted;
@@ -115,7 +115,7 @@ module _ (xs ys : List Slot) (n : ℕ) (v : Slot) (new : (q : ℕ) → slot_at y
         }
 
     -- a live slot, or the one past the end, is put on the stack
-    pushed-stack : (top free : ℕ) → v ≡ Free top free → suc free ≡ count_by is_free ys → ((q : ℕ) → Rises (members_at (lists_of ys) q)) → IsStacked xs top free → IsStacked ys n (suc free)
+    pushed-stack : (top free : ℕ) → v ≡ Free top free → suc free ≡ count_by is_free_slot ys → ((q : ℕ) → Rises (members_at (lists_of ys) q)) → IsStacked xs top free → IsStacked ys n (suc free)
     pushed-stack top free is counted rise i =
         record {
           counted = counted;
@@ -166,7 +166,7 @@ module _ (xs ys : List Slot) (n : ℕ) (v : Slot) (new : (q : ℕ) → slot_at y
         }
 
   -- the top of the stack becomes live
-  popped-stack : (below count : ℕ) → slot_at xs n ≡ Free below count → v ≡ Live [] → count ≡ count_by is_free ys → ((q : ℕ) → Rises (members_at (lists_of ys) q)) → IsStacked xs n (suc count) → IsStacked ys below count
+  popped-stack : (below count : ℕ) → slot_at xs n ≡ Free below count → v ≡ Live [] → count ≡ count_by is_free_slot ys → ((q : ℕ) → Rises (members_at (lists_of ys) q)) → IsStacked xs n (suc count) → IsStacked ys below count
   popped-stack below count top is counted rise i =
       record {
         counted = counted;
@@ -198,26 +198,26 @@ module _ (xs ys : List Slot) (n : ℕ) (v : Slot) (new : (q : ℕ) → slot_at y
       }
 
 -- the count of free slots after a write
-counted-set : (xs : List Slot) (n : ℕ) (v s : Slot) → n < length xs → slot_at xs n ≡ s → count_by is_free (set xs n v) + cond (is_free s) 1 0 ≡ count_by is_free xs + cond (is_free v) 1 0
-counted-set xs n v s within e = ap (λ z. count_by is_free (set xs n v) + cond (is_free z) 1 0) (sym e) ∙ sum_by-set (λ z. cond (is_free z) 1 0) xs n v (Live []) within
+counted-set : (xs : List Slot) (n : ℕ) (v s : Slot) → n < length xs → slot_at xs n ≡ s → count_by is_free_slot (set xs n v) + cond (is_free_slot s) 1 0 ≡ count_by is_free_slot xs + cond (is_free_slot v) 1 0
+counted-set xs n v s within e = ap (λ z. count_by is_free_slot (set xs n v) + cond (is_free_slot z) 1 0) (sym e) ∙ sum_by-set (λ z. cond (is_free_slot z) 1 0) xs n v (Live []) within
 
 pub kept : (xs : List Slot) (n top free : ℕ) (t u : List ℕ) → n < length xs → slot_at xs n ≡ Live t → (Rises t → Rises u) → IsStacked xs top free → IsStacked (set xs n (Live u)) top free
 kept xs n top free t u within live rises i =
     let c = counted-set xs n (Live u) (Live t) within live in
-    let counted : free ≡ count_by is_free (set xs n (Live u)) = omega (arith, i.counted, c) in
+    let counted : free ≡ count_by is_free_slot (set xs n (Live u)) = omega (arith, i.counted, c) in
     let old : Rises t = subst (λ o. Rises (unwrap_or o [])) (list_at-slot xs n within ∙ ap list_of_slot live) (i.rise n) in
     kept-stack xs (set xs n (Live u)) n (Live u) (λ q. get_or-set xs n q (Live u) (Live []) within) t live u top free refl counted (rise-changed xs n (Live u) within (rises old) i.rise) i
 
 pub pushed : (xs : List Slot) (n top free : ℕ) (t : List ℕ) → n < length xs → slot_at xs n ≡ Live t → IsStacked xs top free → IsStacked (set xs n (Free top free)) n (free + 1)
 pushed xs n top free t within live i =
     let c = counted-set xs n (Free top free) (Live t) within live in
-    let counted : suc free ≡ count_by is_free (set xs n (Free top free)) = omega (arith, i.counted, c) in
+    let counted : suc free ≡ count_by is_free_slot (set xs n (Free top free)) = omega (arith, i.counted, c) in
     rw add-one (pushed-stack xs (set xs n (Free top free)) n (Free top free) (λ q. get_or-set xs n q (Free top free) (Live []) within) t live top free refl counted (rise-changed xs n (Free top free) within tt i.rise) i)
 
 pub added : (xs : List Slot) (top free : ℕ) → IsStacked xs top free → IsStacked (xs ++ Free top free ∷ []) (length xs) (free + 1)
 added xs top free i =
-    let c = sum_by-append (λ z. cond (is_free z) 1 0) xs (Free top free ∷ []) in
-    let counted : suc free ≡ count_by is_free (xs ++ Free top free ∷ []) = omega (arith, i.counted, c) in
+    let c = sum_by-append (λ z. cond (is_free_slot z) 1 0) xs (Free top free ∷ []) in
+    let counted : suc free ≡ count_by is_free_slot (xs ++ Free top free ∷ []) = omega (arith, i.counted, c) in
     let rise = λ (q : ℕ). subst (λ o. Rises (unwrap_or o [])) (sym (same-pushed xs top free q)) (i.rise q) in
     rw add-one (pushed-stack xs (xs ++ Free top free ∷ []) (length xs) (Free top free) (λ q. get_or-push xs q (Free top free) (Live [])) [] (get_or_past xs (length xs) (Live []) (omega arith)) top free refl counted rise i)
 
@@ -225,7 +225,7 @@ pub popped : (xs : List Slot) (n below count : ℕ) → slot_at xs n ≡ Free be
 popped xs n below count top i =
     let within = free-within xs n below count top in
     let c = counted-set xs n (Live []) (Free below count) within top in
-    let counted : count ≡ count_by is_free (set xs n (Live [])) = omega (arith, i.counted, c) in
+    let counted : count ≡ count_by is_free_slot (set xs n (Live [])) = omega (arith, i.counted, c) in
     popped-stack xs (set xs n (Live [])) n (Live []) (λ q. get_or-set xs n q (Live []) (Live []) within) below count top refl counted (rise-changed xs n (Live []) within tt i.rise) i
 
 -- a list that rises is one in which each number is below the next

@@ -57,12 +57,12 @@ abbrev pub SameLive : Sets → Sets → Type 0
 SameLive old new = (s : ℕ) → is_live new s ≡ is_live old s
 
 -- that set begins to live, and each other set lives as before
-abbrev pub Begins : Sets → Sets → ℕ → Type 0
-Begins old new set = (s : ℕ) → is_live new s ≡ (is_live old s || s == set)
+abbrev pub BeginsSet : Sets → Sets → ℕ → Type 0
+BeginsSet old new set = (s : ℕ) → is_live new s ≡ (is_live old s || s == set)
 
 -- that set no longer lives, and each other set lives as before
-abbrev pub Ends : Sets → Sets → ℕ → Type 0
-Ends old new set = (s : ℕ) → is_live new s ≡ (is_live old s && not (s == set))
+abbrev pub EndsSet : Sets → Sets → ℕ → Type 0
+EndsSet old new set = (s : ℕ) → is_live new s ≡ (is_live old s && not (s == set))
 
 -- nothing is in that set any more, and whatever is in another stays there
 abbrev pub Clears : Sets → Sets → ℕ → Type 0

@@ -15,18 +15,18 @@ abbrev pub members_in : Slot → List ℕ
 members_in slot = unwrap_or (list_of_slot slot) []
 
 -- the slot without a number in its tree
-abbrev pub without : ℕ → Slot → Slot
-without value (Free below count) = Free below count
-without value (Live tree) = Live (removed value tree)
+abbrev pub slots_without : ℕ → Slot → Slot
+slots_without value (Free below count) = Free below count
+slots_without value (Live tree) = Live (removed value tree)
 
 -- the list of each slot
 abbrev pub lists_of : List Slot → List (Option (List ℕ))
 lists_of slots = map list_of_slot slots
 
 -- whether a slot is free
-abbrev pub is_free : Slot → Bool
-is_free (Free below count) = true
-is_free (Live tree) = false
+abbrev pub is_free_slot : Slot → Bool
+is_free_slot (Free below count) = true
+is_free_slot (Live tree) = false
 
 -- the free name below this one on the stack, and how many there are below
 abbrev pub link_of : Slot → ℕ × ℕ
@@ -43,7 +43,7 @@ IsFreeAbove slots name count = (below : ℕ) × (slot_at slots name ≡ Free bel
 
 -- the free names are a stack, of which the top is told, and each list rises
 pub record IsStacked (slots : List Slot) (top free : ℕ) : Type 0 where
-  pub counted : free ≡ count_by is_free slots
+  pub counted : free ≡ count_by is_free_slot slots
   pub top_is_free : (count : ℕ) → free ≡ suc count → IsFreeAbove slots top count
   pub below_is_free : (name below count : ℕ) → slot_at slots name ≡ Free below (suc count) → IsFreeAbove slots below count
   pub below_top : (name below count : ℕ) → slot_at slots name ≡ Free below count → count < free

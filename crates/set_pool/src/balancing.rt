@@ -10,7 +10,7 @@ use std::mem;
 
 impl Tree {
     /// How many levels of blocks there are; a lone number counts as one.
-    pub fn height(&self) -> u8 {
+    pub(crate) fn height(&self) -> u8 {
         match &self.root {
             Link::Empty => 0,
             Link::One(_) => 1,
@@ -120,7 +120,7 @@ impl Block {
         self.measure();
     }
 
-    // Gives its row for the one above it, takes what is on that one's right, and leaves its own left side.
+    // Passes up its row, takes the right side of the block above, and leaves its own left side.
     fn pass_right(&mut self, row: &mut Row, right: Tree) -> Tree
         ensures { result ++ (members row.new ++ numbers_in self.new) ≡ numbers_in self.old ++ (members row.old ++ right) }
     {

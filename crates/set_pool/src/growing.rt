@@ -109,7 +109,7 @@ impl Block {
         self.insert_right(value, blocks)
     }
 
-    // A full row gives its greatest number to the right.
+    // A full row passes its greatest number to the right.
     #[cycle(insert)]
     fn place_within(&mut self, value: u64, blocks: &mut Vec<Box<Block>>) -> bool
         requires rising { Rises (numbers_in self.old) }

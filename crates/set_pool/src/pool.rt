@@ -1,7 +1,7 @@
 //! The pool: sets by name, and what was set aside for those to come. It knows nothing of how a set is kept.
 ghost use Rattle.std.specs.Prelude.{◌≡◌, ◌+◌, ◌<◌, ◌≤◌, [], length, not, IfOk, IsTrue, None, OnErr, OnOk, Some, false, vec_len, ℕ};
 ghost use Rattle.set_pool.specs.Rising.{first_from, inserted, is_among, removed};
-ghost use Rattle.set_pool.specs.Sets.{AllListsRise, Begins, Changes, Clears, Drops, Ends, Joins, Leaves, SameLive, SameMembers, SameSets, is_in, is_live, list_of, members_of};
+ghost use Rattle.set_pool.specs.Sets.{AllListsRise, BeginsSet, Changes, Clears, Drops, EndsSet, Joins, Leaves, SameLive, SameMembers, SameSets, is_in, is_live, list_of, members_of};
 
 use crate::rows::Row;
 use crate::slots::Slots;
@@ -115,7 +115,7 @@ impl SetPool {
         ensures fresh { is_live self.old result ≡ false }
         ensures made { Changes self.old self.new result (Some []) }
         ensures members { SameMembers self.old self.new }
-        ensures live { Begins self.old self.new result }
+        ensures live { BeginsSet self.old self.new result }
         ensures spare { self.old.spare ≤ self.new.spare + 1 }
         ensures rise { AllListsRise self.new }
     {
@@ -188,12 +188,12 @@ impl SetPool {
         self.slots.tree(set.0 as usize).first_from(value)
     }
 
-    /// Ends the set. Its name is free for another.
+    /// Frees the set. Its name is free for another.
     pub fn free(&mut self, set: SetId)
         requires { IsTrue (is_live self.old set) }
         ensures freed { Changes self.old self.new set None }
         ensures members { Clears self.old self.new set }
-        ensures live { Ends self.old self.new set }
+        ensures live { EndsSet self.old self.new set }
         ensures spare { self.old.spare ≤ self.new.spare }
         ensures rise { AllListsRise self.new }
     {
@@ -201,7 +201,7 @@ impl SetPool {
     }
 }
 
-// Sees to it that there are so many blocks.
+// Ensures that there are so many blocks.
 fn set_aside(alloc: Global, blocks: &mut Vec<Box<Block>>, count: usize) -> Result<(), AllocError>
     ensures room { OnOk result (count ≤ vec_len blocks.new) }
     ensures kept { vec_len blocks.old ≤ vec_len blocks.new }

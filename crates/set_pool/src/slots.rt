@@ -3,7 +3,7 @@
 ghost use Rattle.std.specs.Prelude.{◌≡◌, ◌+◌, ◌<◌, ◌≤◌, [], not, false, IfOk, IsTrue, OnErr, OnOk, vec_len};
 ghost use Rattle.set_pool.specs.Rising.{Rises, inserted, is_among, removed};
 ghost use Rattle.set_pool.specs.Lists.{AllRise, ChangesAt, DropsAt, SameLists, is_live_at, members_at};
-ghost use Rattle.set_pool.specs.Slots.{link_of, members_in, without};
+ghost use Rattle.set_pool.specs.Slots.{link_of, members_in, slots_without};
 
 use crate::trees::{Block, Tree};
 use std::alloc::{AllocError, Global};
@@ -47,7 +47,7 @@ impl Slots {
         }
     }
 
-    /// Sees to it that `count` names are free.
+    /// Ensures that `count` names are free.
     pub fn reserve(&mut self, count: usize) -> Result<(), AllocError>
         ensures room { OnOk result (count ≤ self.new.free) }
         ensures free { self.old.free ≤ self.new.free }
@@ -182,7 +182,7 @@ impl Slot {
 
     fn remove(&mut self, value: u64)
         requires { Rises (members_in self.old) }
-        ensures { self.new ≡ without value self.old }
+        ensures { self.new ≡ slots_without value self.old }
     {
         if let Slot::Live(tree) = self {
             tree.remove(value);

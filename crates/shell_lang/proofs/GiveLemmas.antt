@@ -14,15 +14,15 @@ use Rattle.shell_lang.specs.declared.reading.Piece.TheVariants.{Blank, Bytes, Lo
 use Rattle.shell_lang.specs.declared.reading.LineFault.{LineFault}
 use Rattle.shell_lang.specs.declared.reading.Found.TheVariants.{Ended}
 use Rattle.shell_lang.specs.Reading.{Reading, IsReading, IsUnended, ReadsOn}
-use Rattle.shell_lang.specs.Pieces.{piece_of, GivesLine, GivesFrom, Gives, IsFound}
+use Rattle.shell_lang.specs.Pieces.{piece_of, GivesLine, GivesPieceFrom, GivesPiece, IsLineFound}
 
 -- a line is given as a piece that has a line's clauses
-from_line : (line : List ℕ) (ended : Bool) (bytes rest : List ℕ) → GivesLine (piece_of line) ended bytes rest → GivesFrom (piece_of line) ended bytes rest
+from_line : (line : List ℕ) (ended : Bool) (bytes rest : List ℕ) → GivesLine (piece_of line) ended bytes rest → GivesPieceFrom (piece_of line) ended bytes rest
 from_line line ended bytes rest h =
-    elim (is_quiet line) as (λ q. GivesLine (if q then Blank else (if nat_le (length line) LINE_LIMIT then Bytes line else LongLine)) ended bytes rest → GivesFrom (if q then Blank else (if nat_le (length line) LINE_LIMIT then Bytes line else LongLine)) ended bytes rest) [
+    elim (is_quiet line) as (λ q. GivesLine (if q then Blank else (if nat_le (length line) LINE_LIMIT then Bytes line else LongLine)) ended bytes rest → GivesPieceFrom (if q then Blank else (if nat_le (length line) LINE_LIMIT then Bytes line else LongLine)) ended bytes rest) [
       | true ↦ (λ h. h)
       | false ↦
-          elim (nat_le (length line) LINE_LIMIT) as (λ s. GivesLine (if s then Bytes line else LongLine) ended bytes rest → GivesFrom (if s then Bytes line else LongLine) ended bytes rest) [ true ↦ (λ h. h) | false ↦ (λ h. h) ]
+          elim (nat_le (length line) LINE_LIMIT) as (λ s. GivesLine (if s then Bytes line else LongLine) ended bytes rest → GivesPieceFrom (if s then Bytes line else LongLine) ended bytes rest) [ true ↦ (λ h. h) | false ↦ (λ h. h) ]
     ] h
 
 -- more behind it doesn't take a line's end away
@@ -52,7 +52,7 @@ goes_on reading sound inside =
 -- an ended line is given of what is pending
 pub gives-ended : (old mid new : Reading) (before after : Option (List ℕ)) (piece : Piece) (end : ℕ) → IsReading mid → Keeps (prepend_known old.held before) (prepend_known mid.held after) →
     end ≡ position_or_len is_line_end mid.held → end < length mid.held → piece ≡ piece_of (take end mid.held) → new ≡ record mid { held = drop (end + 1) mid.held } →
-    Gives piece new.ended (prepend_known old.held before) (prepend_known new.held after)
+    GivesPiece piece new.ended (prepend_known old.held before) (prepend_known new.held after)
 gives-ended old mid new None after piece end sound keeps place inside piece_is new_is = search rules
 gives-ended old mid new (Some x) None piece end sound keeps place inside piece_is new_is = absurd keeps
 gives-ended old mid new (Some x) (Some y) piece end sound keeps place inside piece_is new_is =
@@ -61,16 +61,16 @@ gives-ended old mid new (Some x) (Some y) piece end sound keeps place inside pie
     let line = take (position_or_len is_line_end mid.held) mid.held in
     let as_line : piece ≡ piece_of line = piece_is ∙ ap (λ (n : ℕ). piece_of (take n mid.held)) place in
     let rest : drop (position_or_len is_line_end mid.held + 1) mid.held ≡ new.held = ap (λ (n : ℕ). drop (n + 1) mid.held) (sym place) ∙ sym (ap (λ (r : Reading). r.held) new_is) in
-    let given : GivesFrom (piece_of line) new.ended (mid.held ++ y) (drop (position_or_len is_line_end mid.held + 1) mid.held ++ y) =
+    let given : GivesPieceFrom (piece_of line) new.ended (mid.held ++ y) (drop (position_or_len is_line_end mid.held + 1) mid.held ++ y) =
     from_line line new.ended (mid.held ++ y) (drop (position_or_len is_line_end mid.held + 1) mid.held ++ y) (ended_line_given mid.held y new.ended goes inside_is) in
-    subst (λ (p : Piece). GivesFrom p new.ended (old.held ++ x) (new.held ++ y)) (sym as_line)
-    (subst (λ (bytes : List ℕ). GivesFrom (piece_of line) new.ended bytes (new.held ++ y)) keeps
-    (subst (λ (held : List ℕ). GivesFrom (piece_of line) new.ended (mid.held ++ y) (held ++ y)) rest given))
+    subst (λ (p : Piece). GivesPieceFrom p new.ended (old.held ++ x) (new.held ++ y)) (sym as_line)
+    (subst (λ (bytes : List ℕ). GivesPieceFrom (piece_of line) new.ended bytes (new.held ++ y)) keeps
+    (subst (λ (held : List ℕ). GivesPieceFrom (piece_of line) new.ended (mid.held ++ y) (held ++ y)) rest given))
 
 -- the same of what the call that gives an ended line answers
 pub gives-ended-told : (result : Result Piece LineFault) (old mid new : Reading) (before after : SourceSeen) (end : ℕ) → IsReading mid → ReadsOn old mid before after →
-    IsFound (Ended end) mid → IfOk result (λ piece. piece ≡ piece_of (take end mid.held)) → OnOk result (new ≡ record mid { held = drop (end + 1) mid.held }) →
-    IfOk result (λ piece. Gives piece new.ended (prepend_known old.held before.left) (prepend_known new.held after.left))
+    IsLineFound (Ended end) mid → IfOk result (λ piece. piece ≡ piece_of (take end mid.held)) → OnOk result (new ≡ record mid { held = drop (end + 1) mid.held }) →
+    IfOk result (λ piece. GivesPiece piece new.ended (prepend_known old.held before.left) (prepend_known new.held after.left))
 gives-ended-told (Ok piece) old mid new before after end sound reads found piece_is new_is =
     gives-ended old mid new before.left after.left piece end sound reads.pending found.0 found.1 piece_is new_is
 gives-ended-told (Err fault) old mid new before after end sound reads found piece_is new_is = search rules

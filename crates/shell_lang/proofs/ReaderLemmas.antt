@@ -78,27 +78,6 @@ total_on m n o (Some x) None c first second = absurd first
 total_on m n o (Some x) (Some y) None first second = absurd second
 total_on m n o (Some x) (Some y) (Some z) first second = omega arith
 
--- reading nothing
-pub reads-nothing : (r : Reading) (source : SourceSeen) → IsReaderOf r source → ReadsOn r r source source
-reads-nothing r source reader =
-    record {
-      pending = keeps_same (prepend_known r.held source.left);
-      held = ([], sym (append-nil r.held));
-      taken = omega arith;
-      given = refl;
-      total = total_same r.taken source.left;
-      source = reader;
-      stays = λ e. e;
-    }
-  where
-    keeps_same : (known : Option (List ℕ)) → Keeps known known
-    keeps_same None = search rules
-    keeps_same (Some x) = refl
-
-    total_same : (n : ℕ) (known : Option (List ℕ)) → SameTotal n known n known
-    total_same n None = search rules
-    total_same n (Some x) = refl
-
 -- reading once and once more
 pub reads-on : (r s t : Reading) (a b c : SourceSeen) → ReadsOn r s a b → ReadsOn s t b c → ReadsOn r t a c
 reads-on r s t a b c first second =

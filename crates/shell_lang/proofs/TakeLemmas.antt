@@ -83,22 +83,6 @@ total-nothing : (n : ℕ) (known : Option (List ℕ)) → SameTotal n known n kn
 total-nothing n None = search rules
 total-nothing n (Some x) = refl
 
-pub takes-begin : (r : Reading) (source : SourceSeen) (asked : ℕ) (keeps : Bool) → IsReaderOf r source → length r.held < PIECE → TakesSome r r source source asked asked keeps []
-takes-begin r source asked keeps reader near =
-    record {
-      front = [];
-      bytes = consumes-nothing (prepend_known r.held source.left);
-      counted = zero-add asked;
-      kept = λ _. refl;
-      dropped = λ _. refl;
-      given = omega arith;
-      total = total-nothing r.taken source.left;
-      source = reader;
-      stays = λ e. e;
-      last = λ e. inl e;
-      near = omega (arith, near);
-    }
-
 consumes-moved : (all after : Option (List ℕ)) (front held : List ℕ) (count : ℕ) → Consumes all (prepend_known held after) front → Consumes all (prepend_known (drop count held) after) (front ++ take count held)
 consumes-moved None after front held count h = search rules
 consumes-moved (Some x) None front held count h = absurd h
@@ -237,7 +221,7 @@ past-taken None new asked front h short = search rules
 past-taken (Some x) None asked front h short = absurd h
 past-taken (Some x) (Some y) asked front h short = record { front = front; bytes_are = h; short = short }
 
--- why no more bytes come, told what was taken
+-- why no more bytes come, given what was taken
 pub takes-cut : (taken : Taken) (old now new : Reading) (before after : SourceSeen) (asked due count : ℕ) (keeps : Bool) (text : List ℕ) → TakesSome old new before after asked (due - count) keeps text →
     count ≡ min due (within now) → new ≡ record now { held = drop count now.held } → 0 < due - count → IsReading new → IsCut taken new → Takes taken asked (prepend_known old.held before.left) (prepend_known new.held after.left)
 takes-cut (Whole kept) old now new before after asked due count keeps text takes count_is new_is more sound cut = absurd cut

@@ -1,4 +1,4 @@
--- What a line is, told what was taken, is what it is, told all bytes behind it.
+-- What a line is, given what was taken, is what it is, given all bytes behind it.
 use Rattle.std.proofs.Common.{◌≡◌, ℕ, ◌≤◌, Bool, true, false, List, [], length, take, refl, ap, sym, ◌∙◌, arith, subst, Option, Some, None, Result, Ok, Err}
 use Rattle.std.specs.Prelude.{if◌then◌else◌, nat_le, nat_lt, IsTrue, codes}
 use Rattle.std.proofs.lemmas.Bool.{and_from}

@@ -26,18 +26,18 @@ pub record GivesLine (piece : Piece) (ended : Bool) (bytes rest : List ℕ) : Ty
   pub last : ended ≡ true → rest ≡ []
 
 -- of pending bytes the piece is given, and the rest is pending then
-abbrev pub GivesFrom : Piece → Bool → List ℕ → List ℕ → Type 0
-GivesFrom End ended bytes rest = (bytes ≡ []) × (rest ≡ [])
-GivesFrom PastLimit ended bytes rest = rest ≡ bytes
-GivesFrom Blank ended bytes rest = GivesLine Blank ended bytes rest
-GivesFrom (Bytes line) ended bytes rest = GivesLine (Bytes line) ended bytes rest
-GivesFrom LongLine ended bytes rest = GivesLine LongLine ended bytes rest
+abbrev pub GivesPieceFrom : Piece → Bool → List ℕ → List ℕ → Type 0
+GivesPieceFrom End ended bytes rest = (bytes ≡ []) × (rest ≡ [])
+GivesPieceFrom PastLimit ended bytes rest = rest ≡ bytes
+GivesPieceFrom Blank ended bytes rest = GivesLine Blank ended bytes rest
+GivesPieceFrom (Bytes line) ended bytes rest = GivesLine (Bytes line) ended bytes rest
+GivesPieceFrom LongLine ended bytes rest = GivesLine LongLine ended bytes rest
 
 -- the same, where the source tells what it has left
-abbrev pub Gives : Piece → Bool → Option (List ℕ) → Option (List ℕ) → Type 0
-Gives piece ended None new = ⊤
-Gives piece ended (Some bytes) None = ⊥
-Gives piece ended (Some bytes) (Some rest) = GivesFrom piece ended bytes rest
+abbrev pub GivesPiece : Piece → Bool → Option (List ℕ) → Option (List ℕ) → Type 0
+GivesPiece piece ended None new = ⊤
+GivesPiece piece ended (Some bytes) None = ⊥
+GivesPiece piece ended (Some bytes) (Some rest) = GivesPieceFrom piece ended bytes rest
 
 -- one byte more than the limit of a script was taken, and no line that ends within the limit is held
 pub record IsPastLimit (reading : Reading) : Type 0 where
@@ -53,16 +53,16 @@ pub record GoesOn (old new : Reading) : Type 0 where
   pub near : length new.held < PIECE
 
 -- where the piece stands against the limit of a script
-abbrev pub Advances : Piece → Reading → Reading → Type 0
-Advances End old new = new.taken ≤ SCRIPT_LIMIT
-Advances PastLimit old new = IsPastLimit new
-Advances Blank old new = GoesOn old new
-Advances (Bytes line) old new = GoesOn old new
-Advances LongLine old new = GoesOn old new
+abbrev pub PieceAdvances : Piece → Reading → Reading → Type 0
+PieceAdvances End old new = new.taken ≤ SCRIPT_LIMIT
+PieceAdvances PastLimit old new = IsPastLimit new
+PieceAdvances Blank old new = GoesOn old new
+PieceAdvances (Bytes line) old new = GoesOn old new
+PieceAdvances LongLine old new = GoesOn old new
 
 -- where the first line of what is held ends
-abbrev pub IsFound : Found → Reading → Type 0
-IsFound (Ended end) reading =
+abbrev pub IsLineFound : Found → Reading → Type 0
+IsLineFound (Ended end) reading =
     (end ≡ position_or_len is_line_end reading.held) × (end < length reading.held) × (given reading + end < SCRIPT_LIMIT)
-IsFound Last reading = (reading.ended ≡ true) × IsUnended reading.held
-IsFound Past reading = IsPastLimit reading
+IsLineFound Last reading = (reading.ended ≡ true) × IsUnended reading.held
+IsLineFound Past reading = IsPastLimit reading

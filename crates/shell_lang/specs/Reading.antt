@@ -63,7 +63,7 @@ is_read_fault (Err Memory) = false
 
 -- What each call of a reader leaves. What it took is what the source lost, at most one byte above the limit of a script.
 -- Behind the first line that it holds, it holds less than one piece. A fault of the source is told as one, and nothing else is.
-pub record Reads {T : Type 0} (result : Result T LineFault) (old new : Reading) (before after : SourceSeen) : Type 0 where
+pub record LeavesReader {T : Type 0} (result : Result T LineFault) (old new : Reading) (before after : SourceSeen) : Type 0 where
   pub source : IsReaderOf new after
   pub sound : IsReading new
   pub stays : old.ended ≡ true → new.ended ≡ true

@@ -60,11 +60,11 @@ pub record IsCutOff (reading : Reading) : Type 0 where
   pub held : length reading.held ≡ 1
 
 -- where the reader stands against the limit of a script
-abbrev pub Follows : Taken → Reading → Reading → Type 0
-Follows (Whole text) old new = TakesOn old new
-Follows Dropped old new = TakesOn old new
-Follows Short old new = TakesOn old new
-Follows PastLimit old new = IsCutOff new
+abbrev pub TakenAdvances : Taken → Reading → Reading → Type 0
+TakenAdvances (Whole text) old new = TakesOn old new
+TakenAdvances Dropped old new = TakesOn old new
+TakenAdvances Short old new = TakesOn old new
+TakenAdvances PastLimit old new = IsCutOff new
 
 -- why no more bytes come
 abbrev pub IsCut : Taken → Reading → Type 0

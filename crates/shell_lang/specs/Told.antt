@@ -1,4 +1,4 @@
--- What a line is, told what the reader took of the bytes that it asks for.
+-- What a line is, given what the reader took of the bytes that it asks for.
 use Rattle.std.specs.Prelude.{ℕ, if◌then◌else◌, nat_le, nat_lt, List, length, take, Option, None, Some, Result, Ok, Err}
 use Rattle.std.specs.Option.{option_map}
 use Rattle.hac_model.specs.Answers.{◌>>=◌}
@@ -14,7 +14,7 @@ use Rattle.hac_model.specs.declared.replies.Refusal.TheVariants.{Limit, ShortPut
 use Rattle.shell_lang.specs.declared.taken.Taken.{Taken}
 use Rattle.shell_lang.specs.declared.taken.Taken.TheVariants.{Whole, Dropped, Short, PastLimit}
 
--- what comes of so many bytes, told what stands behind the line. No more are kept than a text may have.
+-- what comes of so many bytes, given what stands behind the line. No more are kept than a text may have.
 abbrev pub came : ℕ → List ℕ → Taken
 came count behind =
     if nat_lt (length behind) count then Short

@@ -35,7 +35,7 @@ pub fn parse_line(alloc: Global, line: &[u8], taken: Option<Taken>) -> Result<Li
     Ok(Line { session, command })
 }
 
-/// The command that a line of any length spells, told what came of the bytes behind it.
+/// The command that a line of any length spells, given what came of the bytes behind it.
 fn parse_with(alloc: Global, line: &[u8], taken: Option<Taken>) -> Result<Command, Deny>
     ensures { Answers result (command_taken line.now taken) }
 {
@@ -43,7 +43,7 @@ fn parse_with(alloc: Global, line: &[u8], taken: Option<Taken>) -> Result<Comman
     parse_called(alloc, &name, arguments, taken)
 }
 
-/// The command of a name, from what follows it, told what came of the bytes behind the line.
+/// The command of a name, from what follows it, given what came of the bytes behind the line.
 fn parse_called(
     alloc: Global,
     name: &[u8],

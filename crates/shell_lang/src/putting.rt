@@ -1,4 +1,4 @@
-//! The line of a `put`, and the command that it spells, told what came of the bytes behind it.
+//! The line of a `put`, and the command that it spells, given what came of the bytes behind it.
 ghost use Rattle.std.specs.Prelude.{◌≡◌, codes, true, if◌then◌else◌, Some, None, IfOk};
 ghost use Rattle.std.specs.Char.{is_ascii_digit};
 ghost use Rattle.std.specs.List.{list_all};

@@ -6,8 +6,8 @@ ghost use Rattle.hac_outside.specs.Causes.{TellsFault};
 ghost use Rattle.hac_model.specs.Bytes.{is_line_end};
 ghost use Rattle.hac_model.specs.Lines.{is_quiet};
 ghost use Rattle.hac_model.specs.Script.{is_first_ended};
-ghost use Rattle.shell_lang.specs.Reading.{pending, given, is_read_fault, IsUnended, IsReading, IsReaderOf, Reads, ReadsOn, ReadsPiece};
-ghost use Rattle.shell_lang.specs.Pieces.{piece_of, Gives, Advances, IsFound};
+ghost use Rattle.shell_lang.specs.Reading.{pending, given, is_read_fault, IsUnended, IsReading, IsReaderOf, LeavesReader, ReadsOn, ReadsPiece};
+ghost use Rattle.shell_lang.specs.Pieces.{piece_of, GivesPiece, PieceAdvances, IsLineFound};
 
 mod taking;
 
@@ -118,15 +118,15 @@ impl Reader {
         // A reader is given the source that it began with.
         requires { IsReaderOf self.old (S.seen source.old) }
 
-        ensures piece { IfOk result (λ piece. Gives piece self.new.ended (pending self.old (S.seen source.old).left) (pending self.new (S.seen source.new).left)) }
-        ensures advances { IfOk result (λ piece. Advances piece self.old self.new) }
+        ensures piece { IfOk result (λ piece. GivesPiece piece self.new.ended (pending self.old (S.seen source.old).left) (pending self.new (S.seen source.new).left)) }
+        ensures advances { IfOk result (λ piece. PieceAdvances piece self.old self.new) }
         ensures err { OnErr result (Keeps (pending self.old (S.seen source.old).left) (pending self.new (S.seen source.new).left)) }
 
         // A line that is held is given without a read, so a fault comes only where none is.
         ensures unread { is_first_ended self.old.held ≡ true → source.new ≡ source.old }
         ensures unended { IsErrOf result LineFault.Read → (self.new.ended ≡ false) × IsUnended self.new.held }
 
-        ensures reads { Reads result self.old self.new (S.seen source.old) (S.seen source.new) }
+        ensures reads { LeavesReader result self.old self.new (S.seen source.old) (S.seen source.new) }
     {
         match self.find_line(source)? {
             Found::Ended(end) => self.give(end, end + 1),
@@ -138,7 +138,7 @@ impl Reader {
     /// Reads until the first line is held, or all that there is of it.
     fn find_line<S: Source>(&mut self, source: &mut S) -> Result<Found, LineFault>
         requires { IsReaderOf self.old (S.seen source.old) }
-        ensures found { IfOk result (λ found. IsFound found self.new) }
+        ensures found { IfOk result (λ found. IsLineFound found self.new) }
         ensures sound { IsReading self.new }
         ensures reads { ReadsOn self.old self.new (S.seen source.old) (S.seen source.new) }
         ensures unread { is_first_ended self.old.held ≡ true → source.new ≡ source.old }
@@ -156,7 +156,7 @@ impl Reader {
     /// Where the first line ends by what is held. None where more is to be read.
     fn look(&self) -> Option<Found>
         ensures sound { IsReading self.now }
-        ensures found { IfSome result (λ found. IsFound found self.now) }
+        ensures found { IfSome result (λ found. IsLineFound found self.now) }
         ensures none { IfNone result ((self.now.ended ≡ false) × (self.now.taken ≤ SCRIPT_LIMIT) × IsUnended self.now.held) }
     {
         match line_end(self.held(), self.scanned - self.start) {
@@ -171,7 +171,7 @@ impl Reader {
     fn found_at(&self, end: usize) -> Found
         requires place { end ≡ position_or_len is_line_end self.now.held }
         requires inside { end < length self.now.held }
-        ensures { IsFound result self.now }
+        ensures { IsLineFound result self.now }
     {
         let given = self.taken - self.held().len() as u64;
         if given + (end as u64) < SCRIPT_LIMIT {

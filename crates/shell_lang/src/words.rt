@@ -5,7 +5,7 @@ ghost use Rattle.std.specs.List.{prefix_len, position_or_len, list_all};
 ghost use Rattle.std.specs.Option.{ok_or, option_map};
 ghost use Rattle.hac_model.specs.Answers.{AnswersSeen};
 ghost use Rattle.hac_model.specs.Bytes.{is_quote, is_space};
-ghost use Rattle.hac_model.specs.LineWords.{skip_spaces, first_run, after_run, first_word, is_word_end, quoted, quoted_escape, quoted_word, word_at};
+ghost use Rattle.hac_model.specs.LineWords.{skip_spaces, first_run, after_first_run, first_word, is_word_end, quoted, quoted_escape, quoted_word, word_at};
 ghost use Rattle.hac_model.specs.Lines.{only_word};
 ghost use Rattle.hac_model.specs.declared.replies.Refusal.TheVariants.{BadLine};
 ghost use Rattle.shell_lang.specs.Quotes.{QuotesFirst};
@@ -158,7 +158,7 @@ fn is_word_end(bytes: &[u8]) -> bool
 /// empty where there are only spaces.
 pub fn split_run(bytes: &[u8]) -> (&[u8], &[u8])
     ensures run { result.0.now ≡ first_run bytes.now }
-    ensures rest { result.1.now ≡ after_run bytes.now }
+    ensures rest { result.1.now ≡ after_first_run bytes.now }
 {
     let bytes = skip_spaces(bytes);
     bytes.split_at(run_len(bytes))

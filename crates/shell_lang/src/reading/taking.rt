@@ -1,8 +1,8 @@
 //! The bytes that follow a line, in whatever pieces the stream comes.
 ghost use Rattle.std.specs.Prelude.{◌≡◌, ◌+◌, ◌-◌, ◌<◌, ◌≤◌, ◌⊎◌, ◌++◌, true, false, [], length, min, take, drop, if◌then◌else◌, Ok, IfOk, OnErr, IsErrOf, IfSome, IfNone};
 ghost use Rattle.shell_lang.specs.declared.taken.Taken.TheVariants.{Whole, Dropped};
-ghost use Rattle.shell_lang.specs.Reading.{pending, IsReading, IsReaderOf, Reads};
-ghost use Rattle.shell_lang.specs.Takes.{Takes, IsTakenOf, FallsShort, Follows, IsCut, within};
+ghost use Rattle.shell_lang.specs.Reading.{pending, IsReading, IsReaderOf, LeavesReader};
+ghost use Rattle.shell_lang.specs.Takes.{Takes, IsTakenOf, FallsShort, TakenAdvances, IsCut, within};
 
 use super::{LineFault, PIECE, Reader};
 use crate::taken::Taken;
@@ -20,7 +20,7 @@ impl Reader {
 
         ensures taken { IfOk result (λ taken. Takes taken asked (pending self.old (S.seen source.old).left) (pending self.new (S.seen source.new).left)) }
         ensures kept { IfOk result (IsTakenOf asked) }
-        ensures follows { IfOk result (λ taken. Follows taken self.old self.new) }
+        ensures follows { IfOk result (λ taken. TakenAdvances taken self.old self.new) }
 
         // Bytes that are held are given without a read, so a fault comes only where some are missing.
         ensures unread { asked ≤ within self.old → source.new ≡ source.old }
@@ -35,7 +35,7 @@ impl Reader {
         // Where the source is found to have ended here, nothing is held.
         ensures last { self.new.ended ≡ true → (self.old.ended ≡ true) ⊎ (self.new.held ≡ []) }
 
-        ensures reads { Reads result self.old self.new (S.seen source.old) (S.seen source.new) }
+        ensures reads { LeavesReader result self.old self.new (S.seen source.old) (S.seen source.new) }
     {
         let keeps = asked <= TEXT_LIMIT;
         let mut text = Vec::new(self.alloc);

@@ -3,7 +3,7 @@ use Rattle.std.specs.Prelude.{Option}
 use Rattle.hac_model.specs.Refusals.{plain_cause}
 use Rattle.hac_model.specs.declared.replies.Refusal.{Refusal}
 use Rattle.file_tree.specs.Seen.{Seen}
-use Rattle.hac_core.specs.Blocking.{Passes}
+use Rattle.hac_model.specs.Answers.{Passes}
 use Rattle.hac_core.proofs.BlockingLemmas.{same-plain_cause}
 use Rattle.hac_core.proofs.blocking.asking.Goals as goal
 

@@ -3,9 +3,9 @@ use Rattle.hac_model.specs.Tree.{is_directory_at, path_of}
 use Rattle.hac_model.specs.declared.replies.Refusal.TheVariants as refusal
 use Rattle.hac_core.proofs.LimitingLemmas.{no_refusal}
 use Rattle.hac_model.proofs.LookLemmas.{file-or_directory}
-use Rattle.hac_core.specs.Linked.{state_of}
+use Rattle.linked_tree.specs.Linked.{state_of}
 use Rattle.hac_core.proofs.StandingLemmas.{is-live}
-use Rattle.hac_core.proofs.StateLemmas.{same-directory, tree-layout}
+use Rattle.linked_tree.proofs.StateLemmas.{same-directory, tree-layout}
 use Rattle.hac_core.proofs.blocking.droppable.Goals as goal
 
 pub linked-requires-clause-file : goal.linked-requires-clause-file

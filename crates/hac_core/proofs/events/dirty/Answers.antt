@@ -1,6 +1,6 @@
 use Rattle.std.proofs.Common.{ap, sym, ◌∙◌}
 use Rattle.hac_model.specs.declared.counts.Counts.{Counts}
-use Rattle.hac_core.proofs.StateLemmas.{same-dirty}
+use Rattle.linked_tree.proofs.StateLemmas.{same-dirty}
 use Rattle.hac_core.proofs.events.dirty.Goals as goal
 
 pub returns : goal.returns

@@ -1,7 +1,7 @@
 use Rattle.std.proofs.Common.{◌≡◌, Bool, ap, subst, sym, ◌∙◌}
 use Rattle.std.specs.Prelude.{◌&&◌, IfOk}
 use Rattle.hac_core.specs.Fitting.{is_clear}
-use Rattle.hac_core.specs.Linked.{state_of}
+use Rattle.linked_tree.specs.Linked.{state_of}
 use Rattle.hac_core.proofs.FittingLemmas.{accepted-told, come-placed}
 use Rattle.hac_core.proofs.fitting.fits.Goals as goal
 

@@ -6,11 +6,11 @@ use Rattle.hac_model.specs.declared.replies.Refusal.TheVariants as refusal
 use Rattle.hac_model.specs.declared.resolved.Resolved.{Resolved}
 use Rattle.hac_model.specs.declared.resolved.Resolved.TheVariants.{Setq}
 use Rattle.hac_core.specs.Blocking.{is_linking}
-use Rattle.hac_core.specs.Standing.{Stands}
+use Rattle.hac_core.specs.Standing.{AllStand}
 use Rattle.hac_model.specs.declared.counts.Counts.{Counts}
 use Rattle.hac_model.specs.declared.states.Body.TheVariants.{Dir, Semantic}
-use Rattle.hac_core.specs.Counting.{AreSmall}
-use Rattle.hac_core.proofs.CountingLemmas.{body-small}
+use Rattle.linked_tree.specs.Counting.{AreSmall}
+use Rattle.linked_tree.proofs.CountingLemmas.{body-small}
 use Rattle.hac_core.proofs.LimitingLemmas.{mkdir-pass, no_refusal, others-pass, setq-pass, smkdir-pass}
 use Rattle.hac_core.proofs.limiting.counts_after.Goals as goal
 
@@ -31,7 +31,7 @@ with_query-requires c =
     let s = c.args.tree.now.state in
     let dir : Setq c.in-Setq.dir c.in-Setq.query ≡ c.args.command.now = sym c.in-Setq.is in
     let root = no_refusal (c.in-Setq.dir == 0) refusal.Root (ap (blocked s) dir ∙ c.requires.free (ap is_linking (sym dir))) in
-    ap (λ (b : Bool). b || is_made_directory s.entries c.in-Setq.dir) (sym root) ∙ (subst (λ (r : Resolved). Stands s r) (sym dir) c.requires.stands).0
+    ap (λ (b : Bool). b || is_made_directory s.entries c.in-Setq.dir) (sym root) ∙ (subst (λ (r : Resolved). AllStand s r) (sym dir) c.requires.stands).0
 
 pub returns-in-Setq : goal.returns-in-Setq
 returns-in-Setq c = setq-pass c.args.tree.now.state c.args.command.now c.with_query.result c.in-Setq.dir c.in-Setq.query c.in-Setq.is (c.with_query.ensures c.in-Setq.query)

@@ -7,8 +7,8 @@ use Rattle.hac_model.specs.Tree.{is_file_at}
 use Rattle.hac_model.specs.Valid.{IsLayout}
 use Rattle.hac_model.specs.declared.resolved.Resolved.{Resolved}
 use Rattle.file_tree.specs.Seen.{Seen}
-use Rattle.hac_core.specs.Linked.{state_of}
-use Rattle.hac_core.specs.Standing.{Stands}
+use Rattle.linked_tree.specs.Linked.{state_of}
+use Rattle.hac_core.specs.Standing.{AllStand}
 use Rattle.hac_core.proofs.DataLemmas.{children-marked, query-marked, read-file, text-marked}
 use Rattle.hac_core.proofs.listing.data_lines.Goals as goal
 
@@ -16,7 +16,7 @@ pub text_lines-requires : goal.text_lines-requires
 text_lines-requires c =
     ap (λ (t : Seen). is_file_at t.state.entries c.in-Cat.entry) c.tree-tree.ensures.same
     ∙ read-file c.args.kept.now.marks c.args.kept.now.tree.state c.in-Cat.entry (subst (λ (t : Seen). IsLayout t.state) c.tree-tree.ensures.same c.tree-tree.ensures.layout)
-    (subst (λ (r : Resolved). Stands c.args.kept.now.tree.state r) c.in-Cat.is c.requires.stands) (subst (λ (r : Resolved). blocked (state_of c.args.kept.now) r ≡ None) c.in-Cat.is c.requires.free)
+    (subst (λ (r : Resolved). AllStand c.args.kept.now.tree.state r) c.in-Cat.is c.requires.stands) (subst (λ (r : Resolved). blocked (state_of c.args.kept.now) r ≡ None) c.in-Cat.is c.requires.free)
 
 pub returns-in-Cat : goal.returns-in-Cat
 returns-in-Cat c =

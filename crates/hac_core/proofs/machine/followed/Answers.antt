@@ -5,7 +5,7 @@ use Rattle.hac_model.specs.Resolving.{resolve}
 use Rattle.hac_model.specs.declared.replies.Refusal.{Refusal}
 use Rattle.hac_model.specs.declared.resolved.Resolved.{Resolved}
 use Rattle.file_tree.specs.Seen.{Seen}
-use Rattle.hac_core.proofs.StateLemmas.{same-resolved}
+use Rattle.linked_tree.proofs.StateLemmas.{same-resolved}
 use Rattle.hac_core.proofs.machine.followed.Goals as goal
 
 pub returns : goal.returns

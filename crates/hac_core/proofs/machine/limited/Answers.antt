@@ -7,7 +7,7 @@ use Rattle.hac_model.specs.declared.limits.Limit.{Limit}
 use Rattle.hac_model.specs.declared.limits.LimitWord.{LimitWord}
 use Rattle.hac_model.specs.declared.replies.Refusal.{Refusal}
 use Rattle.hac_model.specs.declared.replies.Refusal.TheVariants as refusal
-use Rattle.hac_core.specs.Blocking.{Passes}
+use Rattle.hac_model.specs.Answers.{Passes}
 use Rattle.hac_core.proofs.BlockingLemmas.{same-unlinked}
 use Rattle.hac_core.proofs.LedLemmas.{same-led}
 use Rattle.hac_core.proofs.machine.limited.Goals as goal

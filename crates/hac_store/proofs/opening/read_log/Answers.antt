@@ -2,7 +2,7 @@ use Rattle.std.proofs.Common.{◌≡◌, ◌∙◌, sym, ap, subst, arith, rules
 use Rattle.hac_journal.specs.Finding.{TellsAt}
 use Rattle.hac_journal.specs.declared.finding.Next.TheVariants.{Entry, End, Bad}
 use Rattle.hac_model.specs.Payloads.{spelled}
-use Rattle.hac_store.specs.Held.{judged}
+use Rattle.hac_store.specs.Held.{after_payload}
 use Rattle.hac_store.proofs.ReadLemmas.{IsRead, Reads, read-end, read-more, read-short, read-stop}
 use Rattle.hac_store.proofs.opening.read_log.Goals as goal
 

@@ -4,7 +4,7 @@ use Rattle.std.proofs.lemmas.Result.{err_from_is_err_and}
 use Rattle.hac_model.specs.Laws.{AllHappen}
 use Rattle.hac_model.specs.Play.{after_events}
 use Rattle.hac_outside.specs.Causes.{Rose}
-use Rattle.hac_store.specs.Stores.{Seen, fit_behind, whole}
+use Rattle.hac_store.specs.Stores.{Seen, fit_behind, intact}
 use Rattle.hac_store.specs.declared.fault.StoreFault.{StoreFault}
 use Rattle.hac_store.specs.declared.fault.StoreFault.TheVariants.{Full}
 use Rattle.hac_store.proofs.RoomLemmas.{steps-have-room}
@@ -71,7 +71,7 @@ loop-left-preserved g c =
       within = omega (arith, was.within);
       room = was.room;
       store =
-          now.ok ∙ ap whole (ap (λ (z : Seen). after_events z.setting (steps c.min-batch.result)) was.store
+          now.ok ∙ ap intact (ap (λ (z : Seen). after_events z.setting (steps c.min-batch.result)) was.store
           ∙ after-steps c.args.store.now.setting (c.args.count - c.loop-left.left) c.min-batch.result (c.args.count - (c.loop-left.left - c.min-batch.result)) (omega (arith, was.within, c.min-batch.ensures)));
       place = now.place;
       stands = λ stands. now.stands (was.stands stands);

@@ -2,8 +2,8 @@ use Rattle.std.proofs.Common.{◌≡◌, ◌≤◌, ◌-◌, true}
 use Rattle.hac_disk.specs.Images.{LeavesOnly}
 use Rattle.hac_disk.specs.Told.{HasByteAt}
 use Rattle.hac_model.specs.Play.{after_events}
-use Rattle.hac_store.specs.Stores.{Stands, fit_behind, whole}
-use Rattle.hac_top.specs.Crashes.{Holds, IsTree}
+use Rattle.hac_store.specs.Stores.{Stands, fit_behind, intact}
+use Rattle.hac_top.specs.Crashes.{Holds, IsTreeAfter}
 use Rattle.hac_top.proofs.StepLemmas.{steps}
 use Rattle.hac_top.proofs.obeying.take_steps.Given as goal
 
@@ -16,11 +16,11 @@ invariant-loop-left g l =
     record {
       within : l.left ≤ l.fn.count;
       room : fit_behind l.fn.store.setting.end l.fn.count 2 ≡ true;
-      store : l.store ≡ whole (after_events first (steps (l.fn.count - l.left)));
+      store : l.store ≡ intact (after_events first (steps (l.fn.count - l.left)));
       place : HasByteAt (disk l.disk) l.store.setting.end;
       stands : Stands (disk l.fn.disk) (image l.fn.disk) first → Stands (disk l.disk) (image l.disk) l.store.setting;
       moments : Stands (disk l.fn.disk) (image l.fn.disk) first →
-          LeavesOnly g.D.Disk.moment g.D.Disk.image_since l.fn.disk l.disk (Holds (IsTree first.state (steps l.fn.count)));
+          LeavesOnly g.D.Disk.moment g.D.Disk.image_since l.fn.disk l.disk (Holds (IsTreeAfter first.state (steps l.fn.count)));
       names : g.D.Disk.attached l.disk ≡ g.D.Disk.attached l.fn.disk;
       later : g.D.Disk.faults l.fn.disk ≤ g.D.Disk.faults l.disk;
     }

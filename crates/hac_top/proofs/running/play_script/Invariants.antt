@@ -6,7 +6,7 @@ use Rattle.hac_model.specs.Play.{all_events, play}
 use Rattle.hac_model.specs.declared.limits.TheConstants.{SCRIPT_LIMIT}
 use Rattle.hac_store.specs.Stores.{Stands}
 use Rattle.shell_lang.specs.Reading.{pending, given, IsReaderOf, SameTotal}
-use Rattle.hac_top.specs.Crashes.{Holds, IsTree}
+use Rattle.hac_top.specs.Crashes.{Holds, IsTreeAfter}
 use Rattle.hac_top.proofs.GoesOn.{GoesOn}
 use Rattle.hac_top.proofs.running.play_script.Given as goal
 
@@ -31,7 +31,7 @@ invariant-lines g l =
       place : HasByteAt (disk l.disk) l.player.store.setting.end;
       stands : Stands (disk l.fn.disk) (image l.fn.disk) first → Stands (disk l.disk) (image l.disk) l.player.store.setting;
       moments : IfSome (input l.fn.input).left (λ script. Stands (disk l.fn.disk) (image l.fn.disk) first →
-          LeavesOnly g.D.Disk.moment g.D.Disk.image_since l.fn.disk l.disk (Holds (IsTree first.state (all_events (play first script)))));
+          LeavesOnly g.D.Disk.moment g.D.Disk.image_since l.fn.disk l.disk (Holds (IsTreeAfter first.state (all_events (play first script)))));
       names : g.D.Disk.attached l.disk ≡ g.D.Disk.attached l.fn.disk;
       later : g.D.Disk.faults l.fn.disk ≤ g.D.Disk.faults l.disk;
     }

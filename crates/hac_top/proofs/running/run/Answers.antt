@@ -6,7 +6,7 @@ use Rattle.hac_disk.specs.Told.{IsSettled}
 use Rattle.hac_model.specs.CommandLine.{Options}
 use Rattle.hac_model.specs.Play.{all_events, play}
 use Rattle.hac_store.specs.Stores.{Stands}
-use Rattle.hac_top.specs.Crashes.{IsTree, Reopens}
+use Rattle.hac_top.specs.Crashes.{IsTreeAfter, Reopens}
 use Rattle.hac_top.specs.Ends.{end_status}
 use Rattle.hac_top.specs.Run.{Completes, IfOpens, Ran, outside}
 use Rattle.hac_top.specs.Words.{asked_of}
@@ -40,7 +40,7 @@ returns-in-Ok-clause-any_moment g c =
     let settled = IsSettled (g.D.Disk.seen c.args.disk.now) (g.D.Disk.image c.args.disk.now) in
     let mid = c.open_store.new.disk in
     subst (λ (w : Option Options). IfOpens w (g.D.Disk.seen c.args.disk.now) (g.S.Source.seen c.args.input.now).left (λ fresh setting script. IsSettled (g.D.Disk.seen c.args.disk.now) (g.D.Disk.image c.args.disk.now) →
-    LeavesOnly g.D.Disk.moment g.D.Disk.image_since c.args.disk.now c.play_store.new.disk (Reopens fresh (IsTree setting.state (all_events (play setting script))))))
+    LeavesOnly g.D.Disk.moment g.D.Disk.image_since c.args.disk.now c.play_store.new.disk (Reopens fresh (IsTreeAfter setting.state (all_events (play setting script))))))
     (ap (option_map asked_of) (sym c.in-Some.is) ∙ c.read_words.ensures)
     (moments-opened (asked_of c.in-Some.options) seen left c.in-Ok.store c.in-Ok.ensures.opened disk.moment disk.image_since c.args.disk.now mid c.play_store.new.disk settled (Stands (disk.seen mid) (disk.image mid) c.in-Ok.store.setting) c.in-Ok.ensures.stands
     c.in-Ok.ensures.any_moment c.play_store.ensures.any_moment)

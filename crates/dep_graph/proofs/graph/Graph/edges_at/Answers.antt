@@ -1,6 +1,5 @@
-use Rattle.std.proofs.Common.{◌≡◌, ℕ, List, [], ap, sym, ◌∙◌}
-use Rattle.std.specs.Prelude.{if◌then◌else◌, nat_eq}
-use Rattle.dep_graph.proofs.NodeLemmas.{kept-at, kept-seen}
+use Rattle.std.proofs.Common.{◌∙◌}
+use Rattle.dep_graph.proofs.NodeLemmas.{kept-seen}
 use Rattle.dep_graph.proofs.graph.Graph.edges_at.Goals as goal
 
 pub returns : goal.returns

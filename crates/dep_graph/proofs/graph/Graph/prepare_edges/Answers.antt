@@ -1,5 +1,4 @@
-use Rattle.std.proofs.Common.{◌≡◌, ℕ, List, [], ap, sym, ◌∙◌}
-use Rattle.std.specs.Prelude.{if◌then◌else◌, nat_eq}
+use Rattle.std.proofs.Common.{◌∙◌}
 use Rattle.dep_graph.proofs.NodeLemmas.{kept-at, kept-seen}
 use Rattle.dep_graph.proofs.graph.Graph.prepare_edges.Goals as goal
 

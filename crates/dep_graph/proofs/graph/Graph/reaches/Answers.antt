@@ -1,12 +1,11 @@
-use Rattle.std.proofs.Common.{◌≡◌, ℕ, ◌+◌, ◌<◌, ◌≤◌, ◌++◌, ◌∷◌, [], Bool, true, false, nat_eq, List, eq-eqb, length, vec_len, subst, refl, ap, sym, ◌∙◌, arith}
-use Rattle.std.specs.Prelude.{not}
+use Rattle.std.proofs.Common.{◌≡◌, ℕ, ◌++◌, true, false, nat_eq, List, eq-eqb, length, subst, ap, sym, ◌∙◌, arith}
 use Rattle.std.proofs.lemmas.Bool.{eqb-true}
 use Rattle.std.proofs.lemmas.List.{append-nil}
 use Rattle.indexmap.specs.IndexSet.{contains}
 use Rattle.dep_graph.specs.Graphs.{edges_of}
 use Rattle.dep_graph.specs.Steps.{Marks}
 use Rattle.dep_graph.proofs.OwedLemmas.{owed-opened}
-use Rattle.dep_graph.proofs.ReachLemmas.{Searching, begins, finds, keeps, misses, opens, passes, unmarked, was-marked}
+use Rattle.dep_graph.proofs.ReachLemmas.{Searching, finds, misses, opens, passes, unmarked, was-marked}
 use Rattle.dep_graph.proofs.graph.Graph.reaches.Goals as goal
 
 pub returns-then-eq-clause-reached : goal.returns-then-eq-clause-reached

@@ -1,4 +1,4 @@
-use Rattle.std.proofs.Common.{◌≡◌, ℕ, List, [], ap, sym, ◌∙◌}
+use Rattle.std.proofs.Common.{ℕ, List, ap, ◌∙◌}
 use Rattle.std.specs.Prelude.{if◌then◌else◌, nat_eq}
 use Rattle.dep_graph.proofs.NodeLemmas.{kept-at, kept-seen}
 use Rattle.dep_graph.proofs.graph.Graph.set_edges.Goals as goal

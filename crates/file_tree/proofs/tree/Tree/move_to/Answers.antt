@@ -9,7 +9,7 @@ use Rattle.file_tree.specs.Nodes.{entry_of, has_node, kids_of, name_of}
 use Rattle.file_tree.specs.Ready.{name_in, room_in}
 use Rattle.file_tree.specs.Search.{rank_in}
 use Rattle.file_tree.specs.Seen.{Seen}
-use Rattle.file_tree.specs.Shape.{HasSpare, Rises}
+use Rattle.file_tree.specs.Shape.{HasSpare, NamesRise}
 use Rattle.file_tree.specs.declared.ready.Ready.{Ready}
 use Rattle.file_tree.specs.declared.ready.Room.{Room}
 use Rattle.file_tree.specs.declared.ready.Room.TheVariants as room
@@ -76,8 +76,8 @@ module _ (c : goal.After-put_children) where
       ap (λ (x : List ℕ). rank_in (name_of c.drop_child.new.nodes) x (kids_of c.drop_child.new.nodes c.args.dir)) (c.as_bytes.ensures ∙ name-here)
       ∙ rank-same (name_of c.self.inside.nodes) (name_of c.drop_child.new.nodes) (name_in c.args.self.now.ready) (kids_of c.drop_child.new.nodes c.args.dir) (λ n among. c.drop_child.ensures.names n))
     where
-      ordered : Rises (name_of c.self.inside.nodes) (kids_of c.drop_child.new.nodes c.args.dir)
-      ordered = subst (λ (ns : List ℕ). Rises (name_of c.self.inside.nodes) ns) (sym (left c.args.dir))
+      ordered : NamesRise (name_of c.self.inside.nodes) (kids_of c.drop_child.new.nodes c.args.dir)
+      ordered = subst (λ (ns : List ℕ). NamesRise (name_of c.self.inside.nodes) ns) (sym (left c.args.dir))
           ((tree-unlinked c.self.inside.next (entry_of c.self.inside.nodes) (name_of c.self.inside.nodes) (kids_of c.self.inside.nodes) c.args.entry c.parent_at-parent.result c.self.invariant.lists c.parent_at-parent.ensures).rises c.args.dir)
 
   entries : (q : ℕ) → entry_of c.put_children.new.nodes q ≡ touched_at c.args.entry (reseated c.args.dir (name_in c.args.self.now.ready)) (entry_of c.self.inside.nodes) q

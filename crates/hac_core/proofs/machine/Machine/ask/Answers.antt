@@ -1,7 +1,7 @@
 use Rattle.std.proofs.Common.{ap, subst}
 use Rattle.hac_model.specs.Valid.{IsValid}
 use Rattle.hac_model.specs.declared.states.State.{State}
-use Rattle.hac_core.specs.Linked.{state_of}
+use Rattle.linked_tree.specs.Linked.{state_of}
 use Rattle.hac_core.specs.Seen.{Seen}
 use Rattle.hac_core.proofs.MachineLemmas.{kept-draft, reading-free}
 use Rattle.hac_core.proofs.StandingLemmas.{line-stands}

@@ -1,7 +1,7 @@
 use Rattle.std.proofs.Common.{subst}
 use Rattle.hac_model.specs.Refusals.{refusal}
-use Rattle.hac_core.specs.Drafts.{Refuses}
-use Rattle.hac_core.specs.Linked.{state_of}
+use Rattle.hac_model.specs.Answers.{Refuses}
+use Rattle.linked_tree.specs.Linked.{state_of}
 use Rattle.hac_core.specs.Seen.{Seen}
 use Rattle.hac_core.proofs.MachineLemmas.{refused-early}
 use Rattle.hac_core.proofs.StandingLemmas.{line-stands}

@@ -2,7 +2,7 @@ use Rattle.std.proofs.Common.{ap, sym, ◌∙◌}
 use Rattle.hac_model.specs.Events.{dirty}
 use Rattle.hac_model.specs.declared.counts.Counts.{Counts}
 use Rattle.hac_core.specs.Seen.{Seen}
-use Rattle.hac_core.proofs.StateLemmas.{same-dirty}
+use Rattle.linked_tree.proofs.StateLemmas.{same-dirty}
 use Rattle.hac_core.proofs.machine.Machine.dirty.Goals as goal
 
 pub returns-clause-dirty : goal.returns-clause-dirty

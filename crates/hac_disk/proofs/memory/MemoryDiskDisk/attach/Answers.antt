@@ -1,5 +1,5 @@
 use Rattle.std.proofs.Common.{◌∷◌, ◌-◌, ap, ◌∙◌, length, rules}
-use Rattle.hac_disk.specs.Kept.{state_of}
+use Rattle.hac_disk.specs.Kept.{disk_of}
 use Rattle.hac_disk.specs.Memory.{DiskState, Attached}
 use Rattle.hac_disk.proofs.MemoryLemmas.{quiet-attach, calls-attach}
 use Rattle.hac_disk.proofs.memory.MemoryDiskDisk.attach.Goals as goal
@@ -7,7 +7,7 @@ use Rattle.hac_disk.proofs.memory.MemoryDiskDisk.attach.Goals as goal
 pub returns-clause-quiet : goal.returns-clause-quiet
 returns-clause-quiet c =
     let name = c.args.name.now in
-    let new : DiskState = state_of (record c.self.inside {
+    let new : DiskState = disk_of (record c.self.inside {
       log = c.push.new.self;
       kept = c.extend_from_slice.new.self;
       room = c.self.inside.room - length c.as_bytes-name.result.now;

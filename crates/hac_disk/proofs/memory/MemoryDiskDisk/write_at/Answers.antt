@@ -1,5 +1,5 @@
 use Rattle.std.proofs.Common.{◌∷◌, ◌-◌, ap, ◌∙◌, length, rules}
-use Rattle.hac_disk.specs.Kept.{state_of}
+use Rattle.hac_disk.specs.Kept.{disk_of}
 use Rattle.hac_disk.specs.Memory.{DiskState, Wrote}
 use Rattle.hac_disk.proofs.MemoryLemmas.{write-images, write-time, calls-write}
 use Rattle.hac_disk.proofs.memory.MemoryDiskDisk.write_at.Goals as goal
@@ -7,7 +7,7 @@ use Rattle.hac_disk.proofs.memory.MemoryDiskDisk.write_at.Goals as goal
 pub returns-clause-images : goal.returns-clause-images
 returns-clause-images c =
     let bytes = c.args.bytes.now in
-    let new : DiskState = state_of (record c.self.inside {
+    let new : DiskState = disk_of (record c.self.inside {
       head = c.write_parts.new.head;
       tail = c.write_parts.new.tail;
       log = c.push.new.self;
@@ -21,7 +21,7 @@ returns-clause-images c =
 pub returns-clause-time : goal.returns-clause-time
 returns-clause-time c =
     let bytes = c.args.bytes.now in
-    let new : DiskState = state_of (record c.self.inside {
+    let new : DiskState = disk_of (record c.self.inside {
       head = c.write_parts.new.head;
       tail = c.write_parts.new.tail;
       log = c.push.new.self;

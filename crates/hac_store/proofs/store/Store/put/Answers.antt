@@ -8,7 +8,7 @@ use Rattle.hac_model.specs.Valid.{IsValid}
 use Rattle.hac_model.specs.declared.limits.TheConstants.{STORE_LIMIT}
 use Rattle.hac_model.specs.declared.states.State.{State}
 use Rattle.hac_model.proofs.EventLemmas.{all-valid}
-use Rattle.hac_core.specs.Settling.{events_in}
+use Rattle.hac_core.specs.Settling.{settled_events}
 use Rattle.hac_store.specs.Stores.{Seen, Stands}
 use Rattle.hac_store.proofs.PutLemmas.{all-stored, put-moments, put-seen, put-stands, put-state}
 use Rattle.hac_store.proofs.RoomLemmas.{end-is, has-room, no-room}
@@ -16,7 +16,7 @@ use Rattle.hac_store.proofs.store.Store.put.Goals as goal
 
 pub invariant_of-self-in-Ok : goal.invariant_of-self-in-Ok
 invariant_of-self-in-Ok g c =
-    let events = events_in c.args.settled in
+    let events = settled_events c.args.settled in
     let s = c.self.inside.machine.state in
     let state : c.args.self.now.setting.state ≡ s = ap (λ (x : Seen). x.setting.state) (sym c.self.view_is) in
     let after = put-state c.self.inside.machine c.prepare.new.self c.commit.new.self events c.in_ok-prepare.ensures.ok c.commit.ensures in
@@ -24,10 +24,10 @@ invariant_of-self-in-Ok g c =
 
 pub returns-in-Ok-clause-ok : goal.returns-in-Ok-clause-ok
 returns-in-Ok-clause-ok g c =
-    let events = events_in c.args.settled in
+    let events = settled_events c.args.settled in
     let after = put-state c.self.inside.machine c.prepare.new.self c.commit.new.self events c.in_ok-prepare.ensures.ok c.commit.ensures in
     put-seen c.args.self.now c.self.inside.machine.state c.commit.new.self.state c.self.inside.start c.self.inside.end c.self.inside.generation c.in-Ok.end c.self.inside.broken events
-    c.self.view_is c.requires.whole after (c.in-Ok.ensures.end ∙ end-is c.args.payloads.now events c.self.inside.end c.requires.texts)
+    c.self.view_is c.requires.intact after (c.in-Ok.ensures.end ∙ end-is c.args.payloads.now events c.self.inside.end c.requires.texts)
 
 pub returns-in-Ok-clause-room : goal.returns-in-Ok-clause-room
 returns-in-Ok-clause-room g c =
@@ -35,7 +35,7 @@ returns-in-Ok-clause-room g c =
     let size : c.self.inside.end ≡ z.end = ap (λ (x : Seen). x.setting.end) c.self.view_is in
     let full = rw size at c.in-Ok.ensures.full in
     λ none.
-    let never : true ≡ false = sym (has-room c.args.payloads.now (events_in c.args.settled) z.end c.requires.texts (λ past. let full_now = full.1 past in cc)) ∙ none in
+    let never : true ≡ false = sym (has-room c.args.payloads.now (settled_events c.args.settled) z.end c.requires.texts (λ past. let full_now = full.1 past in cc)) ∙ none in
     absurd cc
 
 pub returns-in-Err-Disk-clause-room : goal.returns-in-Err-Disk-clause-room
@@ -45,21 +45,21 @@ returns-in-Err-Disk-clause-room g c =
     let full = rw size at c.append.ensures.full in
     let failed = c.in-Err-Disk.is ∙ ap (λ f. Err f) c.in-Err-Disk.field-0-is in
     λ none.
-    let never : true ≡ false = sym (has-room c.args.payloads.now (events_in c.args.settled) z.end c.requires.texts (λ past. let full_now = sym failed ∙ full.1 past in cc)) ∙ none in
+    let never : true ≡ false = sym (has-room c.args.payloads.now (settled_events c.args.settled) z.end c.requires.texts (λ past. let full_now = sym failed ∙ full.1 past in cc)) ∙ none in
     absurd cc
 
 pub returns-in-Ok-clause-stands : goal.returns-in-Ok-clause-stands
 returns-in-Ok-clause-stands g c stands =
     let disk = g.D.Disk in
     let z = c.args.self.now.setting in
-    let events = events_in c.args.settled in
+    let events = settled_events c.args.settled in
     let size : c.self.inside.end ≡ z.end = ap (λ (x : Seen). x.setting.end) c.self.view_is in
     let state : c.self.inside.machine.state ≡ z.state = ap (λ (x : Seen). x.setting.state) c.self.view_is in
     let stored = all-stored events z.state (subst IsValid state c.self.invariant) c.requires.happen in
     let full = rw size at c.in-Ok.ensures.full in
     let after = put-state c.self.inside.machine c.prepare.new.self c.commit.new.self events c.in_ok-prepare.ensures.ok c.commit.ensures in
     let is = put-seen c.args.self.now c.self.inside.machine.state c.commit.new.self.state c.self.inside.start c.self.inside.end c.self.inside.generation c.in-Ok.end c.self.inside.broken events
-    c.self.view_is c.requires.whole after (c.in-Ok.ensures.end ∙ end-is c.args.payloads.now events c.self.inside.end c.requires.texts) in
+    c.self.view_is c.requires.intact after (c.in-Ok.ensures.end ∙ end-is c.args.payloads.now events c.self.inside.end c.requires.texts) in
     subst (λ (x : Seen). Stands (disk.seen c.append.new.disk) (disk.image c.append.new.disk) x.setting) (sym is)
     (put-stands (disk.seen c.args.disk.now) (disk.seen c.append.new.disk) (disk.image c.args.disk.now) (disk.image c.append.new.disk) z events c.args.payloads.now
     (g.met.D.Disk.read_is_image c.args.disk.now) c.requires.texts stored (λ past. let never = full.1 past in cc)
@@ -70,13 +70,13 @@ returns-in-Err-Full-clause-full g c is_full =
     let z = c.args.self.now.setting in
     let size : c.self.inside.end ≡ z.end = ap (λ (x : Seen). x.setting.end) c.self.view_is in
     let full = rw size at c.append.ensures.full in
-    no-room c.args.payloads.now (events_in c.args.settled) z.end c.requires.some c.requires.texts (full.0 (c.in-Err-Full.is ∙ ap (λ f. Err f) c.in-Err-Full.field-0-is))
+    no-room c.args.payloads.now (settled_events c.args.settled) z.end c.requires.some c.requires.texts (full.0 (c.in-Err-Full.is ∙ ap (λ f. Err f) c.in-Err-Full.field-0-is))
 
 pub returns-in-Ok-clause-any_moment : goal.returns-in-Ok-clause-any_moment
 returns-in-Ok-clause-any_moment g c =
     let disk = g.D.Disk in
     let z = c.args.self.now.setting in
-    let events = events_in c.args.settled in
+    let events = settled_events c.args.settled in
     let size : c.self.inside.end ≡ z.end = ap (λ (x : Seen). x.setting.end) c.self.view_is in
     let state : c.self.inside.machine.state ≡ z.state = ap (λ (x : Seen). x.setting.state) c.self.view_is in
     let stored = all-stored events z.state (subst IsValid state c.self.invariant) c.requires.happen in
@@ -88,7 +88,7 @@ pub returns-in-Err-Disk-clause-any_moment : goal.returns-in-Err-Disk-clause-any_
 returns-in-Err-Disk-clause-any_moment g c =
     let disk = g.D.Disk in
     let z = c.args.self.now.setting in
-    let events = events_in c.args.settled in
+    let events = settled_events c.args.settled in
     let size : c.self.inside.end ≡ z.end = ap (λ (x : Seen). x.setting.end) c.self.view_is in
     let state : c.self.inside.machine.state ≡ z.state = ap (λ (x : Seen). x.setting.state) c.self.view_is in
     let stored = all-stored events z.state (subst IsValid state c.self.invariant) c.requires.happen in

@@ -4,7 +4,7 @@ use Rattle.std.specs.Prelude.{nat_eq}
 use Rattle.std.proofs.lemmas.Map.Entries.{entries_from_clone}
 use Rattle.indexmap.specs.IndexMap.{get}
 use Rattle.link_kinds.specs.Kept.{seen_of}
-use Rattle.link_kinds.specs.Seen.{SameKinds, SameSets}
+use Rattle.link_kinds.specs.Seen.{SameKinds, SameLinks}
 use Rattle.link_kinds.proofs.KeptLemmas.{kept-same, same-kinds, sets-kept}
 use Rattle.link_kinds.proofs.links.Links.copy.Goals as goal
 
@@ -23,4 +23,4 @@ returns-clause-kinds c =
 pub returns-clause-sets : goal.returns-clause-sets
 returns-clause-sets c =
     let new = record c.self.inside { dirs = c.in_ok-clone.field-0; pool = c.in_ok-pool.pool } in
-    subst (λ old. SameSets old (seen_of new)) c.self.view_is (sets-kept c.self.inside new (same c))
+    subst (λ old. SameLinks old (seen_of new)) c.self.view_is (sets-kept c.self.inside new (same c))

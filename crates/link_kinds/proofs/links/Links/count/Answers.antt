@@ -1,7 +1,7 @@
 use Rattle.std.proofs.Common.{◌≡◌, ap, length, refl, sym, ◌∙◌}
 use Rattle.hac_model.specs.declared.marks.Kind.{Kind}
 use Rattle.hac_model.specs.declared.marks.Kind.TheVariants.{Transient, Permanent, Prohibited, Unlinked}
-use Rattle.link_kinds.specs.Kinds.{items_of, nothing}
+use Rattle.link_kinds.specs.Kinds.{items_of, no_lists}
 use Rattle.link_kinds.proofs.SeenLemmas.{lists-none, lists-some}
 use Rattle.link_kinds.proofs.links.Links.count.Goals as goal
 
@@ -16,7 +16,7 @@ returns-in-Some c =
 pub returns-in-None : goal.returns-in-None
 returns-in-None c = sym (ap (λ lists. length (items_of c.args.kind lists)) (lists-none c.self.inside c.args.self.now c.self.view_is c.args.dir (sym c.sets_at.ensures ∙ c.in-None.is)) ∙ none c.args.kind)
   where
-    none : (k : Kind) → length (items_of k nothing) ≡ 0
+    none : (k : Kind) → length (items_of k no_lists) ≡ 0
     none Transient = refl
     none Permanent = refl
     none Prohibited = refl

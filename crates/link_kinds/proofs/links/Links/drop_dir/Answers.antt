@@ -2,8 +2,8 @@ use Rattle.std.proofs.Common.{ap, refl, subst, sym, ◌∙◌, ◌≡◌, ℕ}
 use Rattle.std.specs.Prelude.{◌==◌, ◌&&◌, nat_eq, not}
 use Rattle.indexmap.specs.IndexMap.{get}
 use Rattle.link_kinds.specs.Kept.{seen_of}
-use Rattle.link_kinds.specs.Kinds.{nothing}
-use Rattle.link_kinds.specs.Seen.{Changes, has_sets}
+use Rattle.link_kinds.specs.Kinds.{no_lists}
+use Rattle.link_kinds.specs.Seen.{ChangesDir, has_sets}
 use Rattle.link_kinds.proofs.KeptLemmas.{absent, changes-drop, changes-none, distinct, kept-drop, kept-same, same-kinds, sets-drop}
 use Rattle.link_kinds.proofs.links.Links.drop_dir.Goals as goal
 
@@ -21,7 +21,7 @@ invariant_of-self c =
 pub returns-in-Some-clause-lists : goal.returns-in-Some-clause-lists
 returns-in-Some-clause-lists c =
     let new = record c.self.inside { dirs = c.take_sets.new.dirs; pool = c.free.new.pool } in
-    subst (λ old. Changes old (seen_of new) c.args.dir nothing) c.self.view_is
+    subst (λ old. ChangesDir old (seen_of new) c.args.dir no_lists) c.self.view_is
     (changes-drop c.self.inside new c.args.dir c.in-Some.sets c.self.invariant (sym c.take_sets.ensures.sets ∙ c.in-Some.is) c.free.ensures.others c.take_sets.ensures.taken)
 
 pub returns-in-Some-clause-sets : goal.returns-in-Some-clause-sets
@@ -43,7 +43,7 @@ invariant_of-self-in_default c = kept-same c.self.inside (record c.self.inside {
 pub returns-in_default-clause-lists : goal.returns-in_default-clause-lists
 returns-in_default-clause-lists c =
     let new = record c.self.inside { dirs = c.take_sets.new.dirs } in
-    subst (λ old. Changes old (seen_of new) c.args.dir nothing) c.self.view_is
+    subst (λ old. ChangesDir old (seen_of new) c.args.dir no_lists) c.self.view_is
     (changes-none c.self.inside new c.args.dir (none c) (same-kinds c.self.inside new (same c) (λ set. refl)))
 
 pub returns-in_default-clause-sets : goal.returns-in_default-clause-sets

@@ -1,7 +1,7 @@
 use Rattle.std.proofs.Common.{refl, subst}
 use Rattle.set_pool.specs.Sets as pool
 use Rattle.link_kinds.specs.Kept.{seen_of}
-use Rattle.link_kinds.specs.Seen.{Drops, SameSets}
+use Rattle.link_kinds.specs.Seen.{DropsItem, SameLinks}
 use Rattle.link_kinds.proofs.KeptLemmas.{drops-item, kept-thin, sets-kept}
 use Rattle.link_kinds.proofs.links.Links.drop_item.Goals as goal
 
@@ -12,9 +12,9 @@ pub returns-clause-lists : goal.returns-clause-lists
 returns-clause-lists c =
     let new = record c.self.inside { pool = c.remove_everywhere.new.self } in
     let drops = subst (pool.Drops c.self.inside.pool c.remove_everywhere.new.self) c.get.ensures c.remove_everywhere.ensures.lists in
-    subst (λ old. Drops old (seen_of new) c.args.item) c.self.view_is (drops-item c.self.inside new c.args.item (λ d. refl) drops)
+    subst (λ old. DropsItem old (seen_of new) c.args.item) c.self.view_is (drops-item c.self.inside new c.args.item (λ d. refl) drops)
 
 pub returns-clause-sets : goal.returns-clause-sets
 returns-clause-sets c =
     let new = record c.self.inside { pool = c.remove_everywhere.new.self } in
-    subst (λ old. SameSets old (seen_of new)) c.self.view_is (sets-kept c.self.inside new (λ d. refl))
+    subst (λ old. SameLinks old (seen_of new)) c.self.view_is (sets-kept c.self.inside new (λ d. refl))

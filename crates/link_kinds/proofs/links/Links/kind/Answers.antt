@@ -1,5 +1,5 @@
 use Rattle.std.proofs.Common.{ap, sym, ◌∙◌}
-use Rattle.link_kinds.specs.Kept.{lists_of}
+use Rattle.link_kinds.specs.Kept.{dir_lists}
 use Rattle.link_kinds.specs.Kinds.{kind_in}
 use Rattle.link_kinds.proofs.SeenLemmas.{apart-seen, lists-none, lists-some, rise-seen}
 use Rattle.link_kinds.proofs.links.Links.kind.Goals as goal
@@ -10,7 +10,7 @@ kind-requires c = c.self.invariant.live c.args.dir c.in-Some.sets (sym c.sets_at
 pub returns-in-Some-clause-kind : goal.returns-in-Some-clause-kind
 returns-in-Some-clause-kind c =
     c.kind.ensures
-    ∙ ap (kind_in (lists_of c.self.inside.pool c.in-Some.sets)) c.get.ensures
+    ∙ ap (kind_in (dir_lists c.self.inside.pool c.in-Some.sets)) c.get.ensures
     ∙ sym (ap (λ lists. kind_in lists c.args.item) (lists-some c.self.inside c.args.self.now c.self.view_is c.args.dir c.in-Some.sets (sym c.sets_at.ensures ∙ c.in-Some.is)))
 
 pub returns-in-Some-clause-apart : goal.returns-in-Some-clause-apart

@@ -2,7 +2,7 @@ use Rattle.std.proofs.Common.{ap, refl, subst, sym, ◌∙◌, ◌≡◌, ℕ, t
 use Rattle.std.specs.Map.{lookup}
 use Rattle.std.specs.Prelude.{◌==◌, ◌||◌, is_some, nat_eq}
 use Rattle.indexmap.specs.IndexMap.{get}
-use Rattle.link_kinds.specs.Kept.{IsKept, seen_of}
+use Rattle.link_kinds.specs.Kept.{AreLinksKept, seen_of}
 use Rattle.link_kinds.specs.Seen.{SameKinds, has_sets}
 use Rattle.link_kinds.proofs.AddedLemmas.{kept-added, none-there, same-added, sets-added, sets-there}
 use Rattle.link_kinds.proofs.KeptLemmas.{kept-same, same-kinds, sets-kept}
@@ -34,7 +34,7 @@ pub invariant_of-self-2 : goal.invariant_of-self-2
 invariant_of-self-2 c =
     let mid = record c.self.inside { dirs = c.reserve-2.new.self; pool = c.reserve_more.new.pool } in
     let new = record c.self.inside { dirs = c.put_sets.new.dirs; pool = c.make-sets.new.pool } in
-    let kept : IsKept mid = kept-same c.self.inside mid (λ d. ap (lookup (nat_eq d)) c.reserve-2.ensures.entries) c.reserve_more.ensures.same c.self.invariant in
+    let kept : AreLinksKept mid = kept-same c.self.inside mid (λ d. ap (lookup (nat_eq d)) c.reserve-2.ensures.entries) c.reserve_more.ensures.same c.self.invariant in
     kept-added mid new c.args.dir c.make-sets.result c.put_sets.ensures kept (none c) c.make-sets.ensures.empty c.make-sets.ensures.fresh c.make-sets.ensures.others c.make-sets.ensures.live c.make-sets.ensures.differ c.make-sets.ensures.rise
 
 pub returns-clause-sets : goal.returns-clause-sets
@@ -48,7 +48,7 @@ pub returns-clause-kinds : goal.returns-clause-kinds
 returns-clause-kinds c =
     let mid = record c.self.inside { dirs = c.reserve-2.new.self; pool = c.reserve_more.new.pool } in
     let new = record c.self.inside { dirs = c.put_sets.new.dirs; pool = c.make-sets.new.pool } in
-    let kept : IsKept mid = kept-same c.self.inside mid (λ d. ap (lookup (nat_eq d)) c.reserve-2.ensures.entries) c.reserve_more.ensures.same c.self.invariant in
+    let kept : AreLinksKept mid = kept-same c.self.inside mid (λ d. ap (lookup (nat_eq d)) c.reserve-2.ensures.entries) c.reserve_more.ensures.same c.self.invariant in
     subst (λ old. SameKinds old (seen_of new)) c.self.view_is
     (λ d. same-added mid new c.args.dir c.make-sets.result c.put_sets.ensures kept (none c) c.make-sets.ensures.empty c.make-sets.ensures.fresh c.make-sets.ensures.others d
     ∙ same-kinds c.self.inside mid (λ d. ap (lookup (nat_eq d)) c.reserve-2.ensures.entries) c.reserve_more.ensures.same d)

@@ -1,6 +1,0 @@
-use Rattle.hac_core.specs.Finding.{GetsFound}
-use Rattle.hac_core.proofs.finding.find_in.Given as goal
-
--- what is found among the numbers so far
-abbrev pub invariant-loop-number : goal.invariant-loop-number
-invariant-loop-number l = GetsFound l.tree.state l.dir l.first l.number l.fn.found l.found

@@ -1,7 +1,0 @@
-use Rattle.std.proofs.Common.{ℕ, ap, sym, ◌∙◌}
-use Rattle.std.specs.Prelude.{◌==◌}
-use Rattle.hac_core.proofs.ReferringLemmas.{unreferenced-told}
-use Rattle.hac_core.proofs.referring.is_unreferenced.Goals as goal
-
-pub returns : goal.returns
-returns c = c.is_empty.ensures ∙ ap (λ (k : ℕ). k == 0) c.in_ok-referrers.referrers.ok.0 ∙ sym (unreferenced-told c.args.kept.now c.requires c.args.dir c.in_ok-referrers.referrers.items c.in_ok-referrers.ensures.all)

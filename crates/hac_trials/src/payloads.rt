@@ -1,0 +1,212 @@
+//! Payloads whose bytes were written by hand from the table of events.
+use event_codec::{CodecFault, Payload, read_payload, write_event};
+use std::alloc::Global;
+use std::test::Fail;
+
+#[test]
+fn events_are_read_and_written(rt: HostRuntime) -> Result<(), Fail> {
+    let alloc = rt.alloc();
+    let rows: [(&[u8], &str); 17] = [
+        (
+            b"\x01\x01\0\0\0\0\x01a",
+            "Mkdir { dir: Number(0), name: Name([97]) }",
+        ),
+        (
+            b"\x01\x02\x01\0\0\0\x01b\x02\0\0\0\n\xff",
+            "NewFile { dir: Number(1), name: Name([98]), text: Seq([10, 255]) }",
+        ),
+        (
+            b"\x01\x03\x04\x03\x02\x01\0\0\0\0",
+            "Rewrite { file: Number(16909060), text: Seq([]) }",
+        ),
+        (
+            b"\x01\x04\0\0\0\0\x01l\x05\0../.x",
+            "Ln { dir: Number(0), name: Name([108]), target: Seq([46, 46, 47, 46, 120]) }",
+        ),
+        (
+            b"\x01\x05\x01\0\0\0\x02\0\0\0\x01c",
+            "Mv { entry: Number(1), dir: Number(2), name: Name([99]) }",
+        ),
+        (
+            b"\x01\x06\xff\xff\xff\xff",
+            "Rm { entry: Number(4294967295) }",
+        ),
+        (b"\x01\x07\x02\0\0\0", "Rmdir { dir: Number(2) }"),
+        (
+            b"\x01\x08\0\0\0\0\x01s\x01\x01\0k\0\0\0\0",
+            "Smkdir { dir: Number(0), name: Name([115]), query: Query { node: Term(Word(Name([107]))) }, told: Seq([]) }",
+        ),
+        (
+            b"\x01\x09\x03\0\0\0\x05\x04\x02\x01\0k\x03\x07\0\0\0\x02\0\0\0\x01\0\0\0\x08\0\0\0\0\0\0\0",
+            "Setq { dir: Number(3), query: Query { node: And(Query { node: Not(Query { node: Term(Prefix(Name([107]))) }) }, Query { node: Dir(Number(7)) }) }, told: Seq([Seq([Number(8)]), Seq([])]) }",
+        ),
+        (
+            b"\x01\x09\x03\0\0\0\x06\x03\0\0\0\0\x03\x01\0\0\0\0\0\0\0",
+            "Setq { dir: Number(3), query: Query { node: Or(Query { node: Dir(Number(0)) }, Query { node: Dir(Number(1)) }) }, told: Seq([]) }",
+        ),
+        (b"\x01\x0a\x03\0\0\0", "Unq { dir: Number(3) }"),
+        (
+            b"\x01\x0b\x03\0\0\0\x09\0\0\0\x01",
+            "Mark(Mark { dir: Number(3), item: Number(9), kind: Permanent })",
+        ),
+        (
+            b"\x01\x0b\x03\0\0\0\x09\0\0\0\x02",
+            "Mark(Mark { dir: Number(3), item: Number(9), kind: Prohibited })",
+        ),
+        (
+            b"\x01\x0c\0\0\0\0\x01m\x03a_9\x02\0\0\0\x01x\x02xa\0\0\0\0",
+            "Smount { dir: Number(0), name: Name([109]), space: Name([97, 95, 57]), docs: Seq([Name([120]), Name([120, 97])]), told: Seq([]) }",
+        ),
+        (
+            b"\x01\x0d\x05\0\0\0\0\0\0\0\0\0\0\0",
+            "Ssync { mount: Number(5), docs: Seq([]), told: Seq([]) }",
+        ),
+        (b"\x01\x0e\x05\0\0\0", "Sumount { mount: Number(5) }"),
+        (b"\x01\x0f", "Step"),
+    ];
+    for (bytes, told) in rows {
+        let Payload::Event(event) = read_payload(alloc, bytes, false)?;
+        assert_eq!(rt; format!(in alloc; "{event:?}")?.as_str(), told);
+        assert_eq!(rt; write_event(alloc, &event)?.as_slice(), bytes);
+    }
+    Ok(())
+}
+
+#[test]
+fn faults_are_told_with_their_place(rt: HostRuntime) -> Result<(), Fail> {
+    let alloc = rt.alloc();
+    let rows: [(&[u8], u64); 32] = [
+        // The payload and its kind: none, one of a state, one of no event, and a byte behind an event.
+        (b"", 0),
+        (b"\x02\x01\0\0\0\0\0\0\0", 0),
+        (b"\x01", 1),
+        (b"\x01\x10", 1),
+        (b"\x01\0", 1),
+        (b"\x01\x01\0\0\0\0\x01a\0", 8),
+        (b"\x01\x0f\x0f", 2),
+        // A number that is cut short.
+        (b"\x01\x06\x01\0\0", 2),
+        (b"\x01\x05\x01\0\0\0\x02\0\0", 6),
+        // Names: none, no name, one with a slash, one that is cut short.
+        (b"\x01\x01\0\0\0\0\0", 6),
+        (b"\x01\x01\0\0\0\0\x01.", 6),
+        (b"\x01\x01\0\0\0\0\x03a/b", 6),
+        (b"\x01\x01\0\0\0\0\x02a", 6),
+        // Texts: one that is cut short, and one whose size is.
+        (b"\x01\x03\0\0\0\0\x02\0\0\0a", 6),
+        (b"\x01\x03\0\0\0\0\x02\0\0", 6),
+        // Targets: none, and one with a control byte.
+        (b"\x01\x04\0\0\0\0\x01l\0\0", 8),
+        (b"\x01\x04\0\0\0\0\x01l\x01\0\n", 8),
+        // Terms: none, one with a capital, one of two words, a kind of none.
+        (b"\x01\x09\0\0\0\0\x01\0\0\0\0\0\0", 6),
+        (b"\x01\x09\0\0\0\0\x04\x02\x01\0K\0\0\0\0", 7),
+        (b"\x01\x09\0\0\0\0\x01\x03\0a b\0\0\0\0", 6),
+        (b"\x01\x09\0\0\0\0\x05\x01\x01\0a\x07", 11),
+        // A directory of a query whose number is cut short, and a query that is.
+        (b"\x01\x09\0\0\0\0\x03\0\0\0", 7),
+        (b"\x01\x09\0\0\0\0\x05\x01\x01\0a", 11),
+        // Answers: numbers that don't rise, and too few of them.
+        (
+            b"\x01\x09\0\0\0\0\x01\x01\0a\x01\0\0\0\x02\0\0\0\x05\0\0\0\x05\0\0\0",
+            22,
+        ),
+        (b"\x01\x09\0\0\0\0\x01\x01\0a\x02\0\0\0\0\0\0\0", 18),
+        // A mark of no kind.
+        (b"\x01\x0b\0\0\0\0\x01\0\0\0\x03", 10),
+        // Spaces: none, one of a byte that none has, and one that is too long.
+        (b"\x01\x0c\0\0\0\0\x01m\0", 8),
+        (b"\x01\x0c\0\0\0\0\x01m\x01.", 8),
+        (
+            b"\x01\x0c\0\0\0\0\x01m\x21aaaaaaaaaaaaaaaaaaaaaaaaaaaaaaaaa\0\0\0\0\0\0\0\0",
+            8,
+        ),
+        // Documents: too many, names that don't rise, and no name.
+        (b"\x01\x0d\0\0\0\0\x11\x27\0\0", 6),
+        (b"\x01\x0d\0\0\0\0\x02\0\0\0\x01b\x01a\0\0\0\0", 12),
+        (b"\x01\x0d\0\0\0\0\x01\0\0\0\0\0\0\0\0", 10),
+    ];
+    for (bytes, at) in rows {
+        assert_eq!(rt;
+            fault(alloc, bytes),
+            Some(CodecFault::Bad { at }),
+            "at {bytes:?}"
+        );
+    }
+    Ok(())
+}
+
+#[test]
+fn limits_of_queries(rt: HostRuntime) -> Result<(), Fail> {
+    let alloc = rt.alloc();
+    // 64 terms, joined by 63 parts, and then 65.
+    let mut most = setq(alloc, 5, 63)?;
+    repeat(&mut most, b"\x03\0\0\0\0", 64)?;
+    most.extend_from_slice(b"\0\0\0\0")?;
+    assert_eq!(rt; fault(alloc, most.as_slice()), None);
+    let mut more = setq(alloc, 6, 64)?;
+    repeat(&mut more, b"\x03\0\0\0\0", 65)?;
+    assert_eq!(rt;
+        fault(alloc, more.as_slice()),
+        Some(CodecFault::Bad {
+            at: 6 + 64 + 64 * 5
+        })
+    );
+    // 32 `NOT`s, and then 33.
+    let mut most = setq(alloc, 4, 32)?;
+    most.extend_from_slice(b"\x01\x01\0a\0\0\0\0")?;
+    assert_eq!(rt; fault(alloc, most.as_slice()), None);
+    let more = setq(alloc, 4, 33)?;
+    assert_eq!(rt;
+        fault(alloc, more.as_slice()),
+        Some(CodecFault::Bad { at: 6 + 32 })
+    );
+    // 1,024 bytes of letters, and then one more.
+    let mut most = setq(alloc, 5, 1)?;
+    most.extend_from_slice(b"\x01\xff\x01")?;
+    repeat(&mut most, b"a", 511)?;
+    most.extend_from_slice(b"\x02\x01\x02")?;
+    repeat(&mut most, b"a", 513)?;
+    most.extend_from_slice(b"\0\0\0\0")?;
+    assert_eq!(rt; fault(alloc, most.as_slice()), None);
+    let mut more = setq(alloc, 5, 1)?;
+    more.extend_from_slice(b"\x01\xff\x01")?;
+    repeat(&mut more, b"a", 511)?;
+    more.extend_from_slice(b"\x02\x02\x02")?;
+    repeat(&mut more, b"a", 514)?;
+    assert_eq!(rt;
+        fault(alloc, more.as_slice()),
+        Some(CodecFault::Bad {
+            at: 6 + 1 + 3 + 511
+        })
+    );
+    // A million `AND`s are read, and nothing behind them.
+    let many = setq(alloc, 5, 1_000_000)?;
+    assert_eq!(rt;
+        fault(alloc, many.as_slice()),
+        Some(CodecFault::Bad { at: 1_000_006 })
+    );
+    Ok(())
+}
+
+/// The fault of a payload, where it has one.
+fn fault(alloc: Global, bytes: &[u8]) -> Option<CodecFault> {
+    match read_payload(alloc, bytes, true) {
+        Ok(_) => None,
+        Err(fault) => Some(fault),
+    }
+}
+
+/// A payload that sets a query, as far as so many parts of one kind.
+fn setq(alloc: Global, part: u8, count: usize) -> Result<Vec<u8>, Fail> {
+    let mut bytes = b"\x01\x09\0\0\0\0".to_vec(alloc)?;
+    repeat(&mut bytes, &[part], count)?;
+    Ok(bytes)
+}
+
+fn repeat(bytes: &mut Vec<u8>, more: &[u8], count: usize) -> Result<(), Fail> {
+    for _ in 0..count {
+        bytes.extend_from_slice(more)?;
+    }
+    Ok(())
+}

@@ -1,0 +1,4 @@
+pub mod Counting
+pub mod Ready
+pub mod Counted
+pub mod Linked

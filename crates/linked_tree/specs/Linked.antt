@@ -1,0 +1,50 @@
+-- A tree with the marks of its semantic directories, and with what depends on what.
+use Rattle.std.specs.Prelude.{◌≡◌, ℕ, [], ◌∷◌, false, Option, Some, None}
+use Rattle.hac_model.specs.Depends.{depends, named_in}
+use Rattle.hac_model.specs.Formula.{Formula}
+use Rattle.hac_model.specs.Links.{is_semantic, query_at}
+use Rattle.hac_model.specs.Valid.{IsValid}
+use Rattle.hac_model.specs.declared.states.State.{State}
+use Rattle.dep_graph.specs.Graphs.{edges_of}
+use Rattle.dep_graph.specs.Graphs as graph
+use Rattle.dep_graph.specs.declared.graph.NewEdges.{NewEdges}
+use Rattle.link_kinds.specs.Kinds.{no_lists}
+use Rattle.link_kinds.specs.Marked.{with_marks}
+use Rattle.link_kinds.specs.Seen.{SameKinds, lists_in, transient_in}
+use Rattle.linked_tree.specs.declared.linked.LinkedTree.{LinkedTree}
+
+-- the state: the tree, in which each semantic directory has its marks
+abbrev pub state_of : LinkedTree → State
+state_of kept = with_marks kept.marks kept.tree.state
+
+-- the tree, the marks and the graph are those of one valid state
+pub record IsLinked (kept : LinkedTree) : Type 0 where
+  pub valid : IsValid (state_of kept)
+  pub edges : (dir : ℕ) → edges_of kept.graph dir ≡ depends kept.tree.state dir
+  -- found links aren't kept
+  pub found : (dir : ℕ) → transient_in kept.marks dir ≡ []
+  -- no marks are left of what is no semantic directory
+  pub plain : (dir : ℕ) → is_semantic kept.tree.state dir ≡ false → lists_in kept.marks dir ≡ no_lists
+
+-- the one has what the other has, and may be ready for something else
+pub record AreAlike (old new : LinkedTree) : Type 0 where
+  pub state : new.tree.state ≡ old.tree.state
+  pub kinds : SameKinds old.marks new.marks
+  pub edges : (dir : ℕ) → edges_of new.graph dir ≡ edges_of old.graph dir
+
+-- the same, and the tree and the marks are ready for what they were ready for
+pub record KeepsTree (old new : LinkedTree) : Type 0 where
+  pub tree : new.tree ≡ old.tree
+  pub marks : new.marks ≡ old.marks
+  pub edges : (dir : ℕ) → edges_of new.graph dir ≡ edges_of old.graph dir
+
+-- the graph is ready for the edges of a directory that stands in another and has a query
+pub record AreEdges (ready_for : graph.Seen) (dir parent : ℕ) (asked : Formula ℕ) (edges : NewEdges) : Type 0 where
+  pub ready : ready_for.ready ≡ Some dir
+  pub dir_is : edges.dir ≡ dir
+  pub edges_are : edges.edges.items ≡ parent ∷ named_in asked
+
+-- the edges of an entry that moves, which is semantic just where there are some
+abbrev pub AreMovedEdges : State → graph.Seen → ℕ → ℕ → Option NewEdges → Type 0
+AreMovedEdges s ready_for entry dir None = query_at s entry ≡ None
+AreMovedEdges s ready_for entry dir (Some edges) = (asked : Formula ℕ) × (query_at s entry ≡ Some asked) × AreEdges ready_for entry dir asked edges

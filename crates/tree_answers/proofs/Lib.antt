@@ -1,0 +1,9 @@
+pub mod FindingLemmas
+pub mod MarkingLemmas
+pub mod FoundLemmas
+pub mod RangeLemmas
+pub mod LinkLineLemmas
+pub mod QueryLineLemmas
+pub mod PlainLemmas
+pub mod CountsLemmas
+pub mod ReferringLemmas

@@ -1,0 +1,15 @@
+-- The paths of directories, told one behind the other.
+use Rattle.std.specs.Prelude.{◌≡◌, ℕ, List, ◌++◌, map}
+use Rattle.hac_model.specs.Depends.{named_in}
+use Rattle.hac_model.specs.Formula.{Formula}
+use Rattle.hac_model.specs.Tree.{path_of}
+use Rattle.hac_model.specs.declared.states.State.{State}
+use Rattle.query_text.specs.declared.paths.Told.{Told}
+
+-- a directory with its path
+abbrev pub told_of : State → ℕ → Told
+told_of s dir = record { dir = dir; path = path_of s dir }
+
+-- the paths of the directories that a query names were added
+abbrev pub AddsPaths : State → Formula ℕ → List Told → List Told → Type 0
+AddsPaths s query old new = new ≡ old ++ map (told_of s) (named_in query)

@@ -1,0 +1,73 @@
+//! Which directories name another one in their queries.
+ghost use Rattle.std.specs.Prelude.{◌≡◌, map, IfOk};
+ghost use Rattle.hac_model.specs.Events.{is_unreferenced};
+ghost use Rattle.hac_model.specs.Listing.{is_before};
+ghost use Rattle.hac_model.specs.Refusals.{least_path, lesser_path, referenced_cause};
+ghost use Rattle.hac_model.specs.Tree.{path_of};
+ghost use Rattle.hac_model.specs.Answers.{Passes};
+ghost use Rattle.linked_tree.specs.Linked.{IsLinked, state_of};
+
+use file_tree::Tree;
+use hac_model::{Deny, Memory, Number, Path, Refusal};
+use hac_names::print_path;
+use linked_tree::LinkedTree;
+use std::alloc::Global;
+use std::cmp::Ordering;
+
+/// No query names a directory to be removed. Where some do, the answer is the least path of such a directory.
+pub fn unreferenced(alloc: Global, kept: &LinkedTree, dir: Number) -> Result<(), Deny>
+    requires { IsLinked kept.now }
+    ensures { Passes result (referenced_cause (state_of kept.now) dir) }
+{
+    let mut referrers = kept.graph.referrers(dir)?;
+    referrers.sort_unstable();
+    match least_path(alloc, kept.tree.tree(), referrers.as_slice())? {
+        Some(path) => Err(Deny::Refused(Refusal::Referenced(path))),
+        None => Ok(()),
+    }
+}
+
+/// Whether no query names a directory.
+pub fn is_unreferenced(kept: &LinkedTree, dir: Number) -> Result<bool, Memory>
+    requires { IsLinked kept.now }
+    ensures { IfOk result (λ is. is ≡ is_unreferenced (state_of kept.now) dir) }
+{
+    let referrers = kept.graph.referrers(dir)?;
+    Ok(referrers.is_empty())
+}
+
+/// The least of the paths of entries, compared as they are printed.
+fn least_path(alloc: Global, tree: &Tree, entries: &[Number]) -> Result<Option<Path>, Memory>
+    ensures { IfOk result (λ least. least ≡ least_path (map (path_of tree.now.state) entries.now)) }
+{
+    let mut least: Option<Path> = None;
+    let mut left = entries.len();
+    'entries: while left > 0 {
+        left -= 1;
+        let path = tree.path_of(entries[left])?;
+        least = match least {
+            Some(other) => Some(lesser(alloc, path, other)?),
+            None => Some(path),
+        };
+    }
+    Ok(least)
+}
+
+/// The lesser of two paths, compared as they are printed.
+fn lesser(alloc: Global, path: Path, other: Path) -> Result<Path, Memory>
+    ensures { IfOk result (λ least. least ≡ lesser_path path other) }
+{
+    let first = print_path(alloc, &path)?;
+    let second = print_path(alloc, &other)?;
+    if is_before(second.as_bytes(), first.as_bytes()) {
+        Ok(other)
+    } else {
+        Ok(path)
+    }
+}
+
+fn is_before(bytes: &[u8], other: &[u8]) -> bool
+    ensures { result ≡ is_before bytes.now other.now }
+{
+    matches!(bytes.cmp(other), Ordering::Less)
+}
