@@ -118,7 +118,7 @@ misses edges from to seen stack h none reach =
       | inr on ↦ (let never : Among [] from = subst (λ (s : List ℕ). Among s from) none on in absurd never)
     ]
 
--- what an insertion tells of the set before it
+-- what an insertion says of the set before it
 pub unmarked : (is_new had : Bool) → is_new ≡ not had → is_new ≡ true → had ≡ false
 unmarked is_new true tells h = absurd cc
 unmarked is_new false tells h = refl

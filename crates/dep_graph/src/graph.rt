@@ -1,4 +1,4 @@
-//! The graph itself, what it tells of a directory, and its changes. Those that may want memory are prepared.
+//! The graph itself, what it says of a directory, and its changes. Those that may want memory are prepared.
 ghost use Rattle.std.specs.Prelude.{◌≡◌, ℕ, [], Some, None, IfOk, OnOk, OnErr};
 ghost use Rattle.std.specs.Option.{option_copied};
 ghost use Rattle.dep_graph.specs.Graphs.{edges_of, if_any, replaced};

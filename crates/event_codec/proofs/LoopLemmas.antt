@@ -3,7 +3,6 @@ use Rattle.std.proofs.Common.{◌≡◌, ℕ, suc, ◌+◌, ◌-◌, ◌<◌, �
 use Rattle.std.specs.List.{slice_get}
 use Rattle.std.proofs.lemmas.Bool.{and_parts}
 use Rattle.std.proofs.lemmas.List.{append-nil, length-append, take_more}
-use Rattle.std.proofs.Math.ListN.{drop_of_length-le}
 use Rattle.std.proofs.Math.Seq.{drop-cons}
 use Rattle.hac_model.specs.Fields.{Field, ◌>>=◌, items_at, items_fit, items_text}
 use Rattle.event_codec.specs.declared.faults.Fault.{Fault}
@@ -69,24 +68,16 @@ is_done item front count i bytes total le so_far =
 
 -- ---- writing
 
--- so many items were written, and the others may be
+-- this many items were written, and the others may be
 pub record WritesOn {A : Type 0} (item : Option A → Field A) (before : List ℕ) (xs : List A) (i : ℕ) (out : List ℕ) : Type 0 where
   pub text : out ++ items_text item (last_of (take i xs)) (drop i xs) ≡ before ++ items_text item None xs
   pub fits : items_fit item (last_of (take i xs)) (drop i xs) ≡ true
-
-pub writes_first : {A : Type 0} (item : Option A → Field A) (before : List ℕ) (xs : List A) → items_fit item None xs ≡ true → WritesOn item before xs 0 before
-writes_first item before xs fits = record { text = refl; fits = fits }
 
 split_at : {A : Type 0} (xs : List A) (i : ℕ) (x : A) → i < length xs → x ≡ get_or xs i x → drop i xs ≡ x ∷ drop (i + 1) xs
 split_at xs i x lt is = drop-cons xs i x lt ∙ ap (λ y. y ∷ drop (suc i) xs) (sym is) ∙ ap (λ k. x ∷ drop k xs) (sym (add-one i))
 
 taken_more : {A : Type 0} (xs : List A) (i : ℕ) (x : A) → i < length xs → x ≡ get_or xs i x → last_of (take (i + 1) xs) ≡ Some x
 taken_more xs i x lt is = ap last_of (take_more xs i x lt) ∙ last_of-push (take i xs) (get_or xs i x) ∙ ap (λ y. Some y) (sym is)
-
--- the item at a place may be written
-pub item_fits : {A : Type 0} (item : Option A → Field A) (before : List ℕ) (xs : List A) (i : ℕ) (out : List ℕ) (x : A)
-    → i < length xs → x ≡ get_or xs i x → WritesOn item before xs i out → (item (last_of (take i xs))).fits x ≡ true
-item_fits item before xs i out x lt is so_far = (and_parts _ _ (rw (split_at xs i x lt is) at so_far.fits)).0
 
 pub writes_more : {A : Type 0} (item : Option A → Field A) (before : List ℕ) (xs : List A) (i : ℕ) (out new : List ℕ) (x : A)
     → i < length xs → x ≡ get_or xs i x → ((last : Option A) → new ≡ out ++ (item last).text x) → WritesOn item before xs i out → WritesOn item before xs (i + 1) new
@@ -99,8 +90,3 @@ writes_more item before xs i out new x lt is wrote so_far =
       text = rw (taken_more xs i x lt is, wrote last) (append_assoc out ((item last).text x) rest ∙ text);
       fits = rw (taken_more xs i x lt is) fits.1;
     }
-
-pub writes_all : {A : Type 0} (item : Option A → Field A) (before : List ℕ) (xs : List A) (i : ℕ) (out : List ℕ) → length xs ≤ i → WritesOn item before xs i out → out ≡ before ++ items_text item None xs
-writes_all item before xs i out le so_far =
-    let none : drop i xs ≡ [] = drop_of_length-le xs le in
-    sym (append-nil out) ∙ (rw none at so_far.text)

@@ -1,5 +1,5 @@
 -- Lists that are kept with the first one last.
-use Rattle.std.proofs.Common.{◌≡◌, ℕ, zero, suc, ◌+◌, ◌-◌, ◌<◌, ◌≤◌, List, [], ◌∷◌, ◌++◌, length, Option, Some, None, Result, Ok, Err, refl, sym, ap, ◌∙◌, append_assoc, arith}
+use Rattle.std.proofs.Common.{◌≡◌, ℕ, zero, suc, ◌+◌, ◌-◌, ◌<◌, ◌≤◌, List, [], ◌∷◌, ◌++◌, length, Some, None, Result, Ok, Err, refl, sym, ap, ◌∙◌, append_assoc, arith}
 use Rattle.std.specs.Prelude.{map, reverse}
 use Rattle.std.proofs.lemmas.List.{reverse-append, append-nil}
 use Rattle.hac_model.specs.Fields.{◌>>=◌}
@@ -9,7 +9,7 @@ use Rattle.event_codec.specs.declared.faults.Fault.{Fault}
 use Rattle.event_codec.specs.declared.faults.Fault.TheVariants as fault
 use Rattle.event_codec.specs.Reading.{Fails}
 
--- one more stands in front
+-- with one more in front
 pub reverse-push : {A : Type 0} (xs : List A) (x : A) → reverse (xs ++ x ∷ []) ≡ x ∷ reverse xs
 reverse-push xs x = reverse-append xs (x ∷ [])
 
@@ -40,10 +40,6 @@ with_parts front (Err left) = Err left
 regroup : (front : List Token) (t : Token) (read : Result (List Token × List ℕ) ℕ) → with_parts front (read >>= λ others. Ok (t ∷ others.0, others.1)) ≡ with_parts (front ++ t ∷ []) read
 regroup front t (Ok others) = ap (λ ts. Ok (ts, others.1)) (sym (append_assoc front (t ∷ []) others.0))
 regroup front t (Err left) = refl
-
-pub none_before : (read : Result (List Token × List ℕ) ℕ) → with_parts [] read ≡ read
-none_before (Ok x) = refl
-none_before (Err left) = refl
 
 -- what is read behind the parts from here on is what is read in all
 abbrev pub PartsGoOn : List Token → Room → ℕ → List ℕ → Result (List Token × List ℕ) ℕ → Type 0

@@ -49,9 +49,6 @@ token_again token.Not rest fits = refl
 token_again token.And rest fits = refl
 token_again token.Or rest fits = refl
 
-pub token_lawful : Lawful token_field
-token_lawful = record { takes = token_takes; again = token_again }
-
 -- ---- what is read is what it spells
 
 -- the bytes of queries, one behind the other

@@ -39,7 +39,7 @@ ReadsPayload (Err fault) wanted = IsPayloadFault fault wanted
 abbrev pub IsSpellable : Payload → Type 0
 IsSpellable (payload.Event event) = IsTrue (is_spellable event)
 
--- the bytes behind the number that says how many they are, where all are there and they are at most so many
+-- the bytes behind their own number, if all are there and they are at most this many
 abbrev pub run_in : Width → ℕ → List ℕ → Option (List ℕ)
 run_in width most bytes =
     let count = from_le_bytes width (take (byte_len width) bytes) in

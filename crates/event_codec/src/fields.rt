@@ -80,7 +80,7 @@ fn long_run(bytes: &[u8], most: usize) -> Option<&[u8]>
     run(&bytes[4..], count as usize, most)
 }
 
-/// The first bytes, where there are so many and they are at most so many.
+/// The first `count` bytes, if they are there and `count` is at most `most`.
 fn run(bytes: &[u8], count: usize, most: usize) -> Option<&[u8]>
     ensures { option_copied result ≡ if nat_le count (length bytes.now) && nat_le count most then Some (take count bytes.now) else None }
 {

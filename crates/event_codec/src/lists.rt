@@ -1,4 +1,4 @@
-//! The fields that are lists, read and written: a number, and so many items.
+//! The fields that are lists, read and written: a number, and as many items.
 ghost use Rattle.std.specs.Prelude.{◌≡◌, ◌<◌, ◌^◌, ℕ, List, Option, None, nat_lt, ◌++◌, IsTrue, OnOk, length};
 ghost use Rattle.std.specs.Option.{option_copied};
 ghost use Rattle.hac_model.specs.Fields.{Field, checked, items_at, items_fit, items_text, num};
@@ -20,11 +20,11 @@ const DOCS_LIMIT: u64 = 10_000;
 pub(crate) trait Item: Sized + Drop {
     ghost item: { Option Self → Field Self };
 
-    /// The item at the front, which stands behind another one.
+    /// The item at the front, behind another one.
     fn read(alloc: Global, bytes: &mut Bytes, last: Option<&Self>) -> Result<Self, Fault>
         ensures { GivesField result bytes.new ((item (option_copied last.entry)).read bytes.old) };
 
-    /// Adds the bytes of the item, wherever in a list it stands.
+    /// Adds the bytes of the item, wherever in a list it is.
     fn put(&self, out: &mut Vec<u8>) -> Result<(), Memory>
         requires { (last : Option Self) × IsTrue ((item last).fits self.now) }
         ensures { OnOk result ((last : Option Self) → out.new.items ≡ out.old.items ++ (item last).text self.now) };
@@ -114,7 +114,7 @@ pub(crate) fn told(alloc: Global, bytes: &mut Bytes) -> Result<Seq<Seq<Number>>,
     items(alloc, bytes, count.get())
 }
 
-/// So many items. Each takes a byte at least, so that no number makes this long where the bytes are few.
+/// `count` items. Each takes a byte at least, so no number makes this long if the bytes are few.
 fn items<T: Item>(alloc: Global, bytes: &mut Bytes, count: u64) -> Result<Seq<T>, Fault>
     ensures { GivesField result bytes.new (items_at T.item count None bytes.old) }
 {

@@ -65,7 +65,7 @@ fn tokens(alloc: Global, bytes: &mut Bytes) -> Result<Vec<Token>, Fault>
     }
 }
 
-/// The part at the front, where so many terms may still come.
+/// The part at the front, where `terms` terms may still come.
 #[tactic(auto, unfolding(hac_model::specs::Fields::choice_at, hac_model::specs::Fields::way_at))]
 fn next_token(alloc: Global, bytes: &mut Bytes, terms: u64) -> Result<Token, Fault>
     ensures { GivesSeen token_of result bytes.new (token_at terms bytes.old) }
@@ -85,7 +85,7 @@ fn next_token(alloc: Global, bytes: &mut Bytes, terms: u64) -> Result<Token, Fau
     }
 }
 
-/// The letters of a term, which fail where so many bytes are left.
+/// The letters of a term. Where they are bad, the fault is where `left` bytes are left.
 fn whole_word(alloc: Global, bytes: &mut Bytes, left: usize) -> Result<Name, Fault>
     ensures { GivesField result bytes.new (failing_at left (word_field.read bytes.old)) }
 {

@@ -1,7 +1,8 @@
 //! Payloads and the events that they hold.
-ghost use Rattle.std.specs.Prelude.{◌≡◌, ◌-◌, IfOk};
+ghost use Rattle.std.specs.Option.{option_map_or};
+ghost use Rattle.std.specs.Prelude.{◌≡◌, ◌+◌, ◌-◌, IfOk, List, ℕ, Ok, Err, length};
 ghost use Rattle.hac_model.specs.Fields.{way_at};
-ghost use Rattle.hac_model.specs.Payloads.{event_field, event_ways, mark_field, mount_ways, payload_field, query_ways, spelled};
+ghost use Rattle.hac_model.specs.Payloads.{event_field, event_ways, mark_field, mark_ways, mount_ways, payload_field, query_ways, spelled};
 ghost use Rattle.event_codec.specs.Reading.{GivesField, IsSpellable, ReadsPayload};
 ghost use Rattle.event_codec.specs.declared.faults.CodecFault.TheVariants as codec;
 
@@ -33,13 +34,16 @@ pub fn read_payload(alloc: Global, bytes: &[u8], first: bool) -> Result<Payload,
     let mut rest = Bytes::new(bytes);
     match payload_at(alloc, &mut rest) {
         Ok(event) if rest.left() == 0 => Ok(Payload::Event(event)),
-        Ok(_) => Err(bad(size, rest.left())),
+        Ok(event) => {
+            drop(event);
+            Err(bad(size, rest.left()))
+        }
         Err(Fault::Bad { left }) => Err(bad(size, left)),
         Err(Fault::Memory) => Err(CodecFault::Memory),
     }
 }
 
-/// The fault at the place from which on so many bytes are left.
+/// The fault at the place in a payload of `size` bytes that has `left` bytes behind it.
 fn bad(size: usize, left: usize) -> CodecFault
     ensures { result ≡ codec.Bad (size - left) }
 {
@@ -160,15 +164,26 @@ fn mount_event(alloc: Global, kind: u8, bytes: &mut Bytes) -> Result<Event, Faul
 }
 
 /// What an item is marked as.
-#[tactic(auto, unfolding(hac_model::specs::Fields::choice_at, hac_model::specs::Fields::way_at))]
+#[tactic(auto, unfolding(hac_model::specs::Fields::choice_at))]
 fn mark(bytes: &mut Bytes) -> Result<Kind, Fault>
     ensures { GivesField result bytes.new (mark_field.read bytes.old) }
 {
     let left = bytes.left();
-    match bytes.byte() {
-        Some(0) => Ok(Kind::Unlinked),
-        Some(1) => Ok(Kind::Permanent),
-        Some(2) => Ok(Kind::Prohibited),
-        _ => Err(Fault::Bad { left }),
+    match bytes.byte().and_then(mark_of) {
+        Some(kind) => Ok(kind),
+        None => Err(Fault::Bad { left }),
+    }
+}
+
+/// The mark that a byte spells.
+#[tactic(auto, unfolding(hac_model::specs::Fields::way_at))]
+fn mark_of(byte: u8) -> Option<Kind>
+    ensures { (rest : List ℕ) → way_at mark_ways byte rest ≡ option_map_or (λ kind. Ok (kind, rest)) result (Err (length rest + 1)) }
+{
+    match byte {
+        0 => Some(Kind::Unlinked),
+        1 => Some(Kind::Permanent),
+        2 => Some(Kind::Prohibited),
+        _ => None,
     }
 }

@@ -16,7 +16,7 @@ const NOTS_LIMIT: u64 = 32;
 /// What may still come of a query whose parts are read one by one.
 #[derive(Debug, Drop)]
 pub(crate) struct Room {
-    /// For each query that is still wanted how many `NOT`s it may have. The next one stands last.
+    /// For each query that is still wanted, how many `NOT`s it may have. The next one is last.
     pub wanted: Vec<u64>,
     /// How many terms.
     pub terms: u64,
@@ -36,7 +36,7 @@ impl Room {
         })
     }
 
-    /// Whether a part may come that may have so many `NOT`s. It makes room for what it joins.
+    /// Whether a part that may have `nots` `NOT`s may come. It makes room for what the part joins.
     #[tactic(auto, using(crate::proofs::PileLemmas::piles))]
     pub(crate) fn take(&mut self, nots: u64, token: &Token) -> Result<bool, Memory>
         ensures { IfOk result (λ taken. TakesPart nots (token_of token.now) self.old self.new taken) }
@@ -59,7 +59,7 @@ impl Room {
         }
     }
 
-    /// Whether a term of so many letters may come.
+    /// Whether a term of `size` letters may come.
     fn take_term(&mut self, size: u64) -> bool
         ensures taken { result ≡ (nat_le 1 self.old.terms && nat_le size self.old.letters) }
         ensures room { self.new ≡ if result then record self.old { terms = self.old.terms - 1; letters = self.old.letters - size } else self.old }

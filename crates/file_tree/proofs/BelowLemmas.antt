@@ -11,7 +11,7 @@ use Rattle.hac_model.specs.declared.states.Entry.{Entry}
 use Rattle.hac_model.proofs.ChangeLemmas.{entry_at-other, entry_at-new}
 use Rattle.file_tree.specs.Nodes.{entries_below}
 
--- each entry has the number under which it is told
+-- each entry has the number under which it is found
 abbrev pub IsNumbered : (ℕ → Option Entry) → Type 0
 IsNumbered at = (n : ℕ) (e : Entry) → at n ≡ Some e → e.number ≡ n
 
@@ -61,7 +61,7 @@ below-made make nothing parts (suc k) at other told =
     ∙ ap (λ (es : List Entry). make (entries_below k at) ++ es) (told k (omega arith))
     ∙ sym (parts (entries_below k at) (option_to_list (at k)))
 
--- numbers told alike give the same entries
+-- equal numbers give equal entries
 pub below-same : (k : ℕ) (at other : ℕ → Option Entry) → ((n : ℕ) → n < k → other n ≡ at n) → entries_below k other ≡ entries_below k at
 below-same k at other same = below-made (λ es. es) refl (λ xs ys. refl) k at other (λ n low. ap (λ (o : Option Entry). option_to_list o) (same n low))
 

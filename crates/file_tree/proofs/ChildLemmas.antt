@@ -38,7 +38,7 @@ named-among names (m ∷ ns) name n among same none =
       ])
     ] refl none
 
--- an entry that stands in a directory
+-- an entry of a directory
 pub parent-told : (found : Option Entry) (dir : ℕ) → parent_in found ≡ Some dir → (e : Entry) × (found ≡ Some e) × (e.parent ≡ dir)
 parent-told None dir h = absurd cc
 parent-told (Some e) dir h = let same : e.parent ≡ dir = cc in (e, refl, same)

@@ -29,7 +29,7 @@ pub none-among : (ns : List ℕ) → ((n : ℕ) → Among ns n → ⊥) → ns �
 none-among [] none = refl
 none-among (n ∷ ns) none = absurd (none n (inl refl))
 
--- names that are told alike are in the same order
+-- equal names are in the same order
 pub rises-same : (names other : ℕ → List ℕ) (ns : List ℕ) → ((n : ℕ) → Among ns n → other n ≡ names n) → NamesRise names ns → NamesRise other ns
 rises-same names other [] same rises = tt
 rises-same names other (n ∷ ns) same rises = (
@@ -122,7 +122,7 @@ module _ (names : ℕ → List ℕ) where
       let other : (m == n) ≡ false = ne_eqb m n (λ same. let never : is_before (names n) (names n) ≡ true = subst (λ (k : ℕ). is_before (names n) (names k) ≡ true) same all.0 in let none : is_before (names n) (names n) ≡ false = before-itself (names n) in cc) in
       ap (λ (b : Bool). cond (not b) (m ∷ without n ns) (without n ns)) other ∙ ap (λ (xs : List ℕ). m ∷ xs) (without-none n ns all.1)
 
-  -- what stands where the names before its own end
+  -- what is where the names before its own end
   pub rank-inside : (ns : List ℕ) (n : ℕ) → NamesRise names ns → Among ns n → rank_in names (names n) ns < length ns
   rank-inside [] n rises among = absurd among
   rank-inside (m ∷ ns) n rises among =

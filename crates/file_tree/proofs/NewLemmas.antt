@@ -24,7 +24,7 @@ module _ {S : Type 0} where
   pub empty-kids : (nodes : IndexMap ℕ Node S) → nodes.entries ≡ [] → (n : ℕ) → kids_of nodes n ≡ []
   empty-kids nodes none n = ap (λ (es : List (ℕ × Node)). option_map_or (λ (node : Node). node.children.items) (lookup (nat_eq n) es) []) none
 
--- nothing stands anywhere
+-- no directory has anything in it
 nowhere : (ns : List ℕ) (n : ℕ) → ns ≡ [] → Among ns n → ⊥
 nowhere ns n none among = subst (λ (xs : List ℕ). Among xs n) none among
 

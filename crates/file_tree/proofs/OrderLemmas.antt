@@ -1,4 +1,4 @@
--- What stands in a directory, in byte order of names, is what its list has.
+-- A directory's list has what is in it, in byte order of names.
 use Rattle.std.proofs.Common.{◌≡◌, ℕ, Bool, true, false, cond, List, [], ◌∷◌, length, subst, refl, ap, sym, ◌∙◌, arith, inl, inr, eq-eqb}
 use Rattle.std.specs.Prelude.{◌==◌, ◌&&◌, not, filter, map, Some, None, IsTrue}
 use Rattle.std.specs.List.{AllByRecursion}
@@ -27,7 +27,7 @@ use Rattle.file_tree.proofs.SearchLemmas.{before-other, before-trans}
 abbrev pub numbers_of : List Entry → List ℕ
 numbers_of es = map (λ (e : Entry). e.number) es
 
--- what stands in a directory, of these entries
+-- what is in a directory, of these entries
 abbrev pub standing : ℕ → List Entry → List Entry
 standing dir es = filter (λ (e : Entry). e.parent == dir) es
 
@@ -58,7 +58,7 @@ put-kept new (e ∷ es) n among = elim (is_before new.name e.name) as (λ b. Amo
   | false ↦ elim among [ inl here ↦ inl here | inr rest ↦ inr (put-kept new es n rest) ]
 ]
 
--- an entry that stands in the directory is among them
+-- an entry of the directory is among them
 order-among : (dir : ℕ) (es : List Entry) (n : ℕ) (e : Entry) → entry_at es n ≡ Some e → e.number ≡ n → e.parent ≡ dir → Among (numbers_of (in_order (standing dir es))) n
 order-among dir [] n e found number parent = absurd cc
 order-among dir (f ∷ es) n e found number parent =
@@ -76,7 +76,7 @@ order-among dir (f ∷ es) n e found number parent =
           ])
     ] refl found
 
--- what holds of entries holds of those that stand in the directory
+-- what holds of entries holds of those in the directory
 standing-all : (P : Entry → Type 0) (dir : ℕ) (es : List Entry) → AllByRecursion P es → AllByRecursion (λ e. P e × (e.parent ≡ dir)) (standing dir es)
 standing-all P dir [] h = tt
 standing-all P dir (e ∷ es) h = elim (e.parent == dir) as (λ b. (e.parent == dir) ≡ b → AllByRecursion (λ e. P e × (e.parent ≡ dir)) (cond b (e ∷ standing dir es) (standing dir es))) [
@@ -84,13 +84,13 @@ standing-all P dir (e ∷ es) h = elim (e.parent == dir) as (λ b. (e.parent == 
   | false ↦ (λ other. standing-all P dir es h.1)
 ] refl
 
--- what stands in a directory are entries, each found by its number
+-- what is in a directory are entries, each found by its number
 pub children-found : (s : State) (dir : ℕ) → NumbersRise 0 s.entries s.next → AllByRecursion (λ e. (entry_at s.entries e.number ≡ Some e) × (e.parent ≡ dir)) (children s dir)
 children-found s dir numbers =
     all-order (λ e. (entry_at s.entries e.number ≡ Some e) × (e.parent ≡ dir)) (standing dir s.entries)
     (standing-all (λ e. entry_at s.entries e.number ≡ Some e) dir s.entries (all-entries (λ e. entry_at s.entries e.number ≡ Some e) 0 s.entries s.next numbers (λ e found. found)))
 
--- nothing of a name stands in the directory
+-- the directory has nothing under a name
 free-all : (P : Entry → Type 0) (es : List Entry) (dir : ℕ) (name : List ℕ) → child es dir name ≡ None → AllByRecursion P es → AllByRecursion (λ e. P e × ((e.parent == dir && bytes_eq e.name name) ≡ false)) es
 free-all P [] dir name none h = tt
 free-all P (e ∷ es) dir name none h = elim (e.parent == dir && bytes_eq e.name name) as (λ b. (e.parent == dir && bytes_eq e.name name) ≡ b → cond b (Some e.number) (child es dir name) ≡ None → AllByRecursion (λ e. P e × ((e.parent == dir && bytes_eq e.name name) ≡ false)) (e ∷ es)) [
@@ -99,7 +99,7 @@ free-all P (e ∷ es) dir name none h = elim (e.parent == dir && bytes_eq e.name
 ] refl none
 
 module _ (names : ℕ → List ℕ) where
-  -- the name of an entry is told
+  -- the name of an entry
   abbrev pub IsTold : Entry → Type 0
   IsTold e = names e.number ≡ e.name
 
@@ -129,7 +129,7 @@ module _ (names : ℕ → List ℕ) where
             ))
       ] refl
 
-  -- what stands in a directory is in order of names
+  -- what is in a directory is in order of names
   order-rises : (dir : ℕ) (es : List Entry) → NamesDiffer es → AllByRecursion IsTold es → NamesRise names (numbers_of (in_order (standing dir es)))
   order-rises dir [] differ told = tt
   order-rises dir (e ∷ es) differ told =
@@ -189,7 +189,7 @@ module _ (t : Inside) (h : IsShaped t) (dir : ℕ) where
   names-all : AllByRecursion (IsTold (name_of t.nodes)) (state_of t).entries
   names-all = all-entries (IsTold (name_of t.nodes)) 0 (state_of t).entries t.next h.layout.numbers (λ e found. name-told t.nodes e.number e (sym (seen-entry t h e.number) ∙ found))
 
-  -- the numbers of what stands in a directory are those of its list
+  -- the numbers of what is in a directory are those of its list
   pub children-numbers : numbers_of (children (state_of t) dir) ≡ kids_of t.nodes dir
   children-numbers = rising-one (name_of t.nodes) (numbers_of (children (state_of t) dir)) (kids_of t.nodes dir) (order-rises (name_of t.nodes) dir (state_of t).entries h.layout.differ names-all) (h.lists.rises dir) forward backward
     where
@@ -205,7 +205,7 @@ module _ (t : Inside) (h : IsShaped t) (dir : ℕ) where
           let found = parent-told (entry_of t.nodes n) dir (h.lists.listed dir n among) in
           order-among dir (state_of t).entries n found.0 (seen-entry t h n ∙ found.1) (entry_of-number t.nodes n found.0 found.1) found.2
 
--- nothing stands in a directory where its list is empty
+-- a directory with an empty list is empty
 bare-list : (dir : ℕ) (es : List Entry) → is_bare es dir ≡ (length (numbers_of (in_order (standing dir es))) == 0)
 bare-list dir [] = refl
 bare-list dir (e ∷ es) = elim (e.parent == dir) as (λ b. (not b && is_bare es dir) ≡ (length (numbers_of (in_order (cond b (e ∷ standing dir es) (standing dir es)))) == 0)) [

@@ -27,7 +27,7 @@ pub seen-entry : (t : Inside) → IsShaped t → (n : ℕ) → entry_at (state_o
 seen-entry t h n = below-all t.next (entry_of t.nodes) n (entry_of-number t.nodes) h.lists.above
 
 module _ (t : Inside) (s : Seen) (view : seen_of t ≡ s) (h : IsShaped t) (n : ℕ) where
-  -- what is seen under a number is what stands there
+  -- what is seen under a number is what is kept there
   pub seen-at : entry_at s.state.entries n ≡ entry_of t.nodes n
   seen-at = subst (λ (x : Seen). entry_at x.state.entries n ≡ entry_of t.nodes n) view (seen-entry t h n)
 

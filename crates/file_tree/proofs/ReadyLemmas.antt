@@ -1,4 +1,4 @@
--- What a tree is ready for, told its room.
+-- What a tree is ready for, given its room.
 use Rattle.std.proofs.Common.{◌≡◌, ℕ, ◌<◌, List, [], ◌∷◌, ◌++◌, subst, ap}
 use Rattle.std.specs.Prelude.{Some, IsTrue}
 use Rattle.indexmap.specs.IndexMap.{IndexMap}

@@ -24,7 +24,7 @@ before-trans x y z h k = ap is_lt (nat_list_cmp_total.trans x y z (less-from (sl
 pub before-differs : (x y : List ℕ) → is_before x y ≡ true → bytes_eq x y ≡ false
 before-differs x y h = texts_ties x y ∙ ap is_eq (less-from (slice_cmp nat_cmp x y) h)
 
--- of two names that differ one stands before the other
+-- of two names that differ one comes before the other
 pub before-other : (x y : List ℕ) → is_before x y ≡ false → bytes_eq x y ≡ false → is_before y x ≡ true
 before-other x y h k =
     ap is_lt (nat_list_cmp_total.antisymm y x)
@@ -40,7 +40,7 @@ all-index P [] i d h inside = absurd (omega arith)
 all-index P (x ∷ xs) zero d h inside = h.0
 all-index P (x ∷ xs) (suc i) d h inside = all-index P xs i d h.1 (omega arith)
 
--- the first numbers pass the test, and no others do: so many are the first that pass it
+-- the first `n` numbers pass the test, and no others do: then `n` is how many first ones pass it
 pub prefix-point : (p : ℕ → Bool) (xs : List ℕ) (i : ℕ) → i ≤ length xs → IsPartitionPoint (λ y. p y ≡ true) (λ y. p y ≡ false) xs i → i ≡ prefix_len p xs
 prefix-point p [] i inside h = omega arith
 prefix-point p (x ∷ xs) zero inside h = let first : p x ≡ false = h.1 0 x (omega arith) (omega arith) in rw first refl
@@ -70,7 +70,7 @@ module _ (names : ℕ → List ℕ) (name : List ℕ) where
       let other : bytes_eq (names m) name ≡ false = nat_list_eq_equiv.symm (names m) name ∙ before-differs name (names m) (before-trans name x (names m) h all.0) in
       ap (λ (b : Bool). cond b (Some m) (first_named names ns name)) other ∙ none-behind x ns h all.1
 
-  -- a number that has the name stands where the names before it end
+  -- a number that has the name is where the names before it end
   pub named-rank : (ns : List ℕ) → NamesRise names ns → first_named names ns name ≡ if_named (slice_get ns (rank_in names name ns))
   named-rank [] h = refl
   named-rank (n ∷ ns) h =

@@ -1,4 +1,5 @@
--- The lists of children after an entry came, went or was edited, given the entry, the name and the children of each number.
+-- The lists of children after an entry came, went or was edited, given the entry, the name and the children of each
+-- number.
 use Rattle.std.proofs.Common.{◌≡◌, ℕ, ◌<◌, ◌≤◌, Bool, true, false, cond, List, [], subst, refl, ap, sym, ◌∙◌, arith, inl, inr, eq-eqb}
 use Rattle.std.specs.Prelude.{◌⊎◌, nat_eq, insert, remove, Option, Some, None}
 use Rattle.std.specs.Str.{bytes_eq}
@@ -9,7 +10,7 @@ use Rattle.file_tree.specs.Search.{rank_in}
 use Rattle.file_tree.specs.Shape.{AreNested, NamesRise, parent_in}
 use Rattle.file_tree.proofs.ListLemmas.{among-inserted, among-without, inserted-among, kept-among, rank-same, remove-rank, rises-insert, rises-same, rises-without, without, without-among}
 
--- one number is told anew
+-- one number gets a new value
 abbrev pub told_at : {X : Type 0} → ℕ → X → (ℕ → X) → ℕ → X
 told_at n x old q = cond (nat_eq n q) x (old q)
 

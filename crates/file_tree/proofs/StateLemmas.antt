@@ -1,4 +1,4 @@
--- What a tree keeps after a change, given what stands under each number before and after.
+-- What a tree keeps after a change, given what is under each number before and after.
 use Rattle.std.proofs.Common.{◌≡◌, ℕ, ◌+◌, ◌<◌, ◌≤◌, Bool, true, false, cond, List, [], length, subst, refl, ap, sym, ◌∙◌, arith, inl, inr}
 use Rattle.std.specs.Prelude.{◌⊎◌, nat_eq, insert, remove, Option, Some, None, IsSome}
 use Rattle.std.specs.Option.{option_map}
@@ -100,7 +100,7 @@ module _ (t : Inside) (s : Seen) (view : seen_of t ≡ s) (h : IsShaped t) (u : 
   entry-low : (n : ℕ) (e : Entry) → entry_of t.nodes n ≡ Some e → n < t.next
   entry-low n e found = entry_at-below 0 (state_of t).entries t.next n e h.layout.numbers (seen-entry t h n ∙ found)
 
-  -- a node that is no entry stands under the next number
+  -- a node that is no entry is under the next number
   pub shaped-prepared : u.next ≡ t.next → ((n : ℕ) → entry_of u.nodes n ≡ entry_of t.nodes n) → ((n : ℕ) → nat_eq t.next n ≡ false → name_of u.nodes n ≡ name_of t.nodes n) → ((dir : ℕ) → kids_of u.nodes dir ≡ kids_of t.nodes dir) →
       ((n : ℕ) → nat_eq t.next n ≡ false → has_node u.nodes n ≡ has_node t.nodes n) → HasSpare u.ready u.nodes u.next u.spare.items → IsShaped u
   shaped-prepared next told names kids numbers spare =
@@ -124,7 +124,7 @@ module _ (t : Inside) (s : Seen) (view : seen_of t ≡ s) (h : IsShaped t) (u : 
           let there : entry_of t.nodes dir ≡ Some found.0 = sym (seen-entry t h dir) ∙ found.1 in
           (entry-node t.nodes dir found.0 there, entry-low dir found.0 there)
 
--- two entries of a sound layout that stand in one directory under one name are one
+-- two entries of a sound layout in one directory under one name are one
 apart : (u : Inside) → IsLayout (state_of u) → ((n : ℕ) → u.next ≤ n → entry_of u.nodes n ≡ None) → (m n : ℕ) (e f : Entry) → entry_of u.nodes m ≡ Some e → entry_of u.nodes n ≡ Some f → e.parent ≡ f.parent → e.name ≡ f.name → m ≡ n
 apart u layout above m n e f found other parents names =
     let both : Some m ≡ Some n =
@@ -214,7 +214,7 @@ module _ (t : Inside) (s : Seen) (view : seen_of t ≡ s) (h : IsShaped t) (u : 
       entry : (e : Entry) × (entry_of t.nodes n ≡ Some e) × (e.parent ≡ dir)
       entry = parent-told (entry_of t.nodes n) dir stands
 
-      -- it doesn't stand in itself
+      -- it isn't in itself
       outside : dir ≡ n → ⊥
       outside same =
           let deeper = path_of-deeper (state_of t) n entry.0 h.layout (seen-entry t h n ∙ entry.1) in
@@ -222,7 +222,7 @@ module _ (t : Inside) (s : Seen) (view : seen_of t ≡ s) (h : IsShaped t) (u : 
           let never = subst (λ (k : ℕ). length (path_of (state_of t) n) ≡ length (path_of (state_of t) k) + 1) own deeper in
           omega arith
 
-      -- nothing stands in it
+      -- nothing is in it
       nothing : (q : ℕ) → Among (kids_of t.nodes n) q → ⊥
       nothing q among =
           let found = parent-told (entry_of t.nodes q) n (h.lists.listed n q among) in
@@ -255,7 +255,7 @@ module _ (t : Inside) (s : Seen) (view : seen_of t ≡ s) (h : IsShaped t) (n : 
   pub entry-there : IsSome (entry_at s.state.entries n) → IsSome (entry_of t.nodes n)
   entry-there there = subst (λ (o : Option Entry). IsSome o) (seen-at t s view h n) there
 
-  -- it stands in the list of its directory
+  -- it is in the list of its directory
   pub entry-listed : (dir : ℕ) → parent_in (entry_of t.nodes n) ≡ Some dir → rank_in (name_of t.nodes) (name_of t.nodes n) (kids_of t.nodes dir) < length (kids_of t.nodes dir)
   entry-listed dir stands = rank-inside (name_of t.nodes) (kids_of t.nodes dir) n (h.lists.rises dir) (h.lists.lists dir n stands)
 

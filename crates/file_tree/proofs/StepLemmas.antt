@@ -37,7 +37,7 @@ live-lives es n h =
     there None found h = absurd cc
     there (Some e) found h = (e, found)
 
--- steps over parents lead from what stands below a directory to it, and from nothing else
+-- steps over parents lead to a directory from what is below it, and from nothing else
 pub steps-extend : (s : State) (item dir : ℕ) → IsLayout s → IsTrue (is_live s.entries item) → IsTrue (is_live s.entries dir) → list_any (λ (e : Entry). e.parent == dir) (ancestors (PATH_LIMIT + 1) s.entries item) ≡ extends (path_of s item) (path_of s dir)
 steps-extend s item dir h live lives =
     ap (list_any stands) (lineage-steps s.entries item)

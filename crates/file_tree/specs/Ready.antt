@@ -1,5 +1,5 @@
 -- What a tree is ready for, read part by part.
-use Rattle.std.specs.Prelude.{ℕ, List, [], Option, Some, None}
+use Rattle.std.specs.Prelude.{⊤, ℕ, List, [], Option, Some, None}
 use Rattle.std.specs.Option.{option_map_or, unwrap_or}
 use Rattle.hac_model.specs.Formula.{Formula}
 use Rattle.hac_model.specs.Formula as query
@@ -31,6 +31,13 @@ name_in Nothing = []
 name_in (Add dir body) = []
 name_in (Move dir name) = name
 name_in (Edit entry body) = []
+
+-- an entry is to be moved
+abbrev pub IsMove : Ready → Type 0
+IsMove Nothing = ⊥
+IsMove (Add dir body) = ⊥
+IsMove (Move dir name) = ⊤
+IsMove (Edit entry body) = ⊥
 
 -- the text that is to replace that of a file
 abbrev pub new_text : Ready → List ℕ

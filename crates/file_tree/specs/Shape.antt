@@ -26,7 +26,7 @@ abbrev pub NamesRise : (ℕ → List ℕ) → List ℕ → Type 0
 NamesRise names [] = Unit {0}
 NamesRise names (number ∷ numbers) = AllByRecursion (λ other. IsTrue (is_before (names number) (names other))) numbers × NamesRise names numbers
 
--- the directory in which the entry stands, where there is one
+-- the directory of the entry, if it has one
 abbrev pub parent_in : Option Entry → Option ℕ
 parent_in entry = option_map (λ entry. entry.parent) entry
 
@@ -40,14 +40,14 @@ pub record AreNested (next : ℕ) (at : ℕ → Option Entry) (names : ℕ → L
   pub rises : (dir : ℕ) → NamesRise names (kids dir)
 
 module _ {S : Type 0} where
-  -- what was prepared stands in the tree: a list of children with a place for one more, and the node of a new entry
+  -- what was prepared is in the tree: a list of children with a place for one more, and the node of a new entry
   abbrev pub HasSpare : Ready → IndexMap ℕ Node S → ℕ → List ℕ → Type 0
   HasSpare Nothing nodes next spare = Unit {0}
   HasSpare (Add dir body) nodes next spare = (spare ≡ kids_of nodes dir ++ next ∷ []) × IsTrue (has_node nodes next) × IsTrue (has_node nodes dir) × (dir < next)
   HasSpare (Move dir name) nodes next spare = (spare ≡ kids_of nodes dir ++ 0 ∷ []) × IsTrue (has_node nodes dir) × (dir < next)
   HasSpare (Edit entry body) nodes next spare = Unit {0}
 
-  -- nothing else has a node than the entries, the root, and what may stand ready under the next number
+  -- only the entries, the root, and what may be ready under the next number have nodes
   abbrev pub HasNoOther : IndexMap ℕ Node S → ℕ → Type 0
   HasNoOther nodes next = (number : ℕ) → (number ≡ 0 → ⊥) → (number ≡ next → ⊥) → entry_of nodes number ≡ None → has_node nodes number ≡ false
 

@@ -14,7 +14,6 @@ use crate::searching::{order_last, rank};
 use crate::tree::Tree;
 use hac_model::{Body, Memory, Name, Number};
 use std::alloc::Global;
-use std::mem;
 
 impl Tree {
     /// Prepares a new entry in a directory. The state doesn't change, whatever the answer.
@@ -24,10 +23,10 @@ impl Tree {
         ensures ok { OnOk result (self.new ≡ record { state = self.old.state; ready = Ready.Add dir body }) }
         ensures err { OnErr result (self.new ≡ record { state = self.old.state; ready = Ready.Nothing }) }
     {
-        self.ready = Ready::Nothing;
+        self.ready.set(Ready::Nothing);
         nodes::prepare(self.alloc, &mut self.nodes, self.next)?;
         self.spare = children_and(self.alloc, &self.nodes, dir, self.next)?;
-        self.ready = Ready::Add { dir, body };
+        self.ready.set(Ready::Add { dir, body });
         Ok(Room::Add { dir })
     }
 
@@ -38,9 +37,9 @@ impl Tree {
         ensures ok { OnOk result (self.new ≡ record { state = self.old.state; ready = Ready.Move dir name }) }
         ensures err { OnErr result (self.new ≡ record { state = self.old.state; ready = Ready.Nothing }) }
     {
-        self.ready = Ready::Nothing;
+        self.ready.set(Ready::Nothing);
         self.spare = children_and(self.alloc, &self.nodes, dir, Number::ROOT)?;
-        self.ready = Ready::Move { dir, name };
+        self.ready.set(Ready::Move { dir, name });
         Ok(Room::Move { dir })
     }
 
@@ -50,7 +49,7 @@ impl Tree {
         ensures ok { OnOk result (self.new ≡ record { state = self.old.state; ready = Ready.Edit entry body }) }
         ensures err { OnErr result (self.new ≡ record { state = self.old.state; ready = Ready.Nothing }) }
     {
-        self.ready = Ready::Edit { entry, body };
+        self.ready.set(Ready::Edit { entry, body });
         Ok(Room::Edit { entry })
     }
 
@@ -62,9 +61,7 @@ impl Tree {
         ensures number { result ≡ self.old.state.next }
         ensures added { self.new ≡ record { state = added self.old.state dir name (body_in self.old.ready); ready = Ready.Nothing } }
     {
-        let Ready::Add { body, .. } = mem::replace(&mut self.ready, Ready::Nothing) else {
-            unreachable!()
-        };
+        let body = self.ready.take_body();
         let number = self.next;
         order_last(&self.nodes, &mut self.spare, name.as_bytes());
         nodes::put(&mut self.nodes, number, dir, name, Content::new(body));
@@ -81,9 +78,7 @@ impl Tree {
         requires layout { IsLayout (changed_at self.old.state entry (reseated dir (name_in self.old.ready))) }
         ensures { self.new ≡ record { state = changed_at self.old.state entry (reseated dir (name_in self.old.ready)); ready = Ready.Nothing } }
     {
-        let Ready::Move { name, .. } = mem::replace(&mut self.ready, Ready::Nothing) else {
-            unreachable!()
-        };
+        let name = self.ready.take_name();
         let parent = parent_at(&self.nodes, entry);
         let place = place_at(&self.nodes, parent, entry);
         nodes::drop_child(&mut self.nodes, parent, place);
@@ -99,7 +94,7 @@ impl Tree {
         requires layout { IsLayout (removed self.old.state entry) }
         ensures { self.new ≡ record { state = removed self.old.state entry; ready = Ready.Nothing } }
     {
-        self.ready = Ready::Nothing;
+        self.ready.set(Ready::Nothing);
         let parent = parent_at(&self.nodes, entry);
         let place = place_at(&self.nodes, parent, entry);
         nodes::drop_child(&mut self.nodes, parent, place);
@@ -114,11 +109,7 @@ impl Tree {
         requires layout { IsLayout (changed_at self.old.state file (edited (rewritten (new_text self.old.ready)))) }
         ensures { self.new ≡ record { state = changed_at self.old.state file (edited (rewritten (new_text self.old.ready))); ready = Ready.Nothing } }
     {
-        let Ready::Edit {
-            body: Body::File { text, .. },
-            ..
-        } = mem::replace(&mut self.ready, Ready::Nothing)
-        else {
+        let Body::File { text, .. } = self.ready.take_body() else {
             unreachable!()
         };
         nodes::set_text(&mut self.nodes, file, text);
@@ -132,14 +123,11 @@ impl Tree {
         requires layout { IsLayout (changed_at self.old.state dir (edited (asking (new_query self.old.ready)))) }
         ensures { self.new ≡ record { state = changed_at self.old.state dir (edited (asking (new_query self.old.ready))); ready = Ready.Nothing } }
     {
-        let Ready::Edit {
-            body: Body::Semantic {
-                query,
-                permanent,
-                prohibited,
-            },
-            ..
-        } = mem::replace(&mut self.ready, Ready::Nothing)
+        let Body::Semantic {
+            query,
+            permanent,
+            prohibited,
+        } = self.ready.take_body()
         else {
             unreachable!()
         };
@@ -151,7 +139,7 @@ impl Tree {
         requires { IsLayout (changed_at self.old.state dir (edited plain_body)) }
         ensures { self.new ≡ record { state = changed_at self.old.state dir (edited plain_body); ready = Ready.Nothing } }
     {
-        self.ready = Ready::Nothing;
+        self.ready.set(Ready::Nothing);
         nodes::clear_query(&mut self.nodes, dir);
     }
 
@@ -160,7 +148,7 @@ impl Tree {
         requires { IsLayout (changed_at self.old.state file (edited indexed)) }
         ensures { self.new ≡ record { state = changed_at self.old.state file (edited indexed); ready = Ready.Nothing } }
     {
-        self.ready = Ready::Nothing;
+        self.ready.set(Ready::Nothing);
         nodes::show_text(&mut self.nodes, file);
     }
 }

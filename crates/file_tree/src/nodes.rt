@@ -19,11 +19,11 @@ pub(crate) type Nodes = IndexMap<u64, Node>;
 pub(crate) struct Node {
     // It is an entry. The root is none, nor is what was prepared and isn't put into the tree yet.
     pub(crate) placed: bool,
-    // The directory in which it stands, and its name there.
+    // The directory that it is in, and its name there.
     pub(crate) parent: Number,
     pub(crate) name: Name,
     pub(crate) content: Content,
-    // What stands in it, in byte order of names.
+    // What is in it, in byte order of names.
     pub(crate) children: Vec<Number>,
 }
 

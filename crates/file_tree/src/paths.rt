@@ -18,7 +18,7 @@ impl Tree {
         Ok(path)
     }
 
-    /// Goes down by the names that lead to an entry, of which there are so many at most.
+    /// Goes down by the names that lead to an entry, at most `steps` of them.
     fn push_names(&self, steps: u64, entry: Number, path: &mut Path) -> Result<(), Memory>
         ensures { OnOk result (path.new ≡ path.old ++ reverse (map (λ entry. entry.name) (ancestors steps self.now.state.entries entry))) }
     {
@@ -42,7 +42,7 @@ impl Tree {
         self.leads_up(PATH_LIMIT + 1, item, dir)
     }
 
-    /// Whether so many steps over parents, or fewer, lead from an entry to a directory.
+    /// Whether at most `steps` steps over parents lead from an entry to a directory.
     fn leads_up(&self, steps: u64, item: Number, dir: Number) -> bool
         ensures { result ≡ list_any (λ entry. entry.parent == dir) (ancestors steps self.now.state.entries item) }
     {

@@ -56,7 +56,7 @@ impl Tree {
         self.walk(Number::ROOT, path.as_slice(), 0)
     }
 
-    /// Where the names of a path lead on from a directory, so many of which led there.
+    /// Where the names of a path lead on from a directory to which the first `walked` of them led.
     fn walk(&self, dir: Number, path: &[Name], walked: usize) -> Result<Place, Stop>
         requires { walked ≤ length path.now }
         ensures { Finds result (walk self.now.state.entries dir (take walked path.now) (drop walked path.now)) }

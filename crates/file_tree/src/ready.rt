@@ -1,5 +1,9 @@
 //! What a tree is ready for. A change that may want memory is prepared first, and then made without any.
+ghost use Rattle.std.specs.Prelude.{◌≡◌};
+ghost use Rattle.file_tree.specs.Ready.{IsMove, body_in, name_in};
+
 use hac_model::{Body, Name, Number};
+use std::mem;
 
 /// The change that was prepared last, and what it will put into the tree.
 #[derive(Debug, Drop)]
@@ -27,6 +31,39 @@ pub enum Ready {
         /// What has the new part.
         body: Body,
     },
+}
+
+impl Ready {
+    /// Prepares another change, or none, in place of this one.
+    pub(crate) fn set(&mut self, next: Ready)
+        ensures { self.new ≡ next }
+    {
+        drop(mem::replace(self, next));
+    }
+
+    /// Takes the body that was prepared, of a new entry or for a part of one; a plain directory if there is none.
+    pub(crate) fn take_body(&mut self) -> Body
+        ensures body { result ≡ body_in self.old }
+        ensures after { self.new ≡ Ready.Nothing }
+    {
+        match mem::replace(self, Ready::Nothing) {
+            Ready::Add { body, .. } => body,
+            Ready::Edit { body, .. } => body,
+            _ => Body::Dir,
+        }
+    }
+
+    /// Takes the name that the entry that is to move will have.
+    pub(crate) fn take_name(&mut self) -> Name
+        requires { IsMove self.old }
+        ensures name { result ≡ name_in self.old }
+        ensures after { self.new ≡ Ready.Nothing }
+    {
+        match mem::replace(self, Ready::Nothing) {
+            Ready::Move { name, .. } => name,
+            _ => unreachable!(),
+        }
+    }
 }
 
 /// Permission to make a prepared change, while the tree is ready for it.

@@ -1,4 +1,4 @@
-//! The tree itself, and what it tells of its entries.
+//! The tree itself, and what it says of its entries.
 ghost use Rattle.std.specs.Prelude.{◌≡◌, ◌==◌, Some, IfOk, IsTrue, IsSome, [], false, length, map};
 ghost use Rattle.std.specs.Option.{option_copied, option_map, option_map_or, option_and_then};
 ghost use Rattle.hac_model.specs.Events.{is_bare};

@@ -1,4 +1,4 @@
--- The first 43 bytes of an image tell its root.
+-- The first 43 bytes of an image decide its root.
 use Rattle.std.proofs.Common.{◌≡◌, ℕ, suc, ◌+◌, ◌-◌, ◌<◌, ◌≤◌, zero, min, Bool, true, false, nat_le, nat_lt, ◌==◌, if◌then◌else◌, List, [], ◌∷◌, length, take, drop, slice_index, Result, Ok, Err, None, Some, ⊎_elim, refl, sym, ◌∙◌, ap, subst, arith}
 use Rattle.std.specs.declared.option.Option.{Option}
 use Rattle.std.proofs.lemmas.Bool.{cases_lt}
@@ -119,7 +119,7 @@ root-head image =
 pub roots-agree : RootsAgree
 roots-agree c d same = sym (root-head c) ∙ ap root_of same ∙ root-head d
 
--- what the head of a file that is told tells, the file tells
+-- what the head of a known file says, the file says
 head-file : (file : List ℕ) (size len : ℕ) (root : Result Root Stop) → size ≡ min 43 len → len ≡ length file → root ≡ root_of (take size file) → root ≡ root_of file
 head-file file size len root is long head =
     ⊎_elim

@@ -34,7 +34,7 @@ agreeing [] ys = 0
 agreeing (x ∷ xs) [] = 0
 agreeing (x ∷ xs) (y ∷ ys) = if x == y then suc (agreeing xs ys) else 0
 
--- the answer, where the image has so many bytes
+-- the answer, if the image has this many bytes
 abbrev pub needs : ℕ → List ℕ → Result Root Stop → Result Root Stop
 needs n image answer = if nat_le n (length image) then answer else Err Short
 
@@ -62,11 +62,11 @@ unfoldable pub named : List ℕ → Result Root Stop
 named image =
     needs 9 image (if agreeing store_name (drop 1 image) == 8 then slots image else Err (BadAt (1 + agreeing store_name (drop 1 image))))
 
--- the root of an image, or the first thing that stands against it
+-- the root of an image, or the first thing that is wrong with it
 unfoldable pub root_of : List ℕ → Result Root Stop
 root_of image = needs 1 image (if slice_index image 0 == 1 then named image else Err (BadAt 0))
 
--- the place of what stands against an answer: where the image is too short, its end
+-- the place of what is wrong: if the image is too short, its end
 abbrev pub placed : {A : Type 0} → List ℕ → Result A Stop → Result A ℕ
 placed image (Ok value) = Ok value
 placed image (Err Short) = Err (length image)
@@ -78,12 +78,12 @@ IsRootOf (Ok root) file = root_of file ≡ Ok root
 IsRootOf (Err (Bad at)) file = placed file (root_of file) ≡ Err at
 IsRootOf (Err Disk) file = ⊤
 
--- so it is, where the file is told
+-- so it is, if the disk tells its bytes
 abbrev pub IsRootSeen : Result Root RootFault → Option (List ℕ) → Type 0
 IsRootSeen result None = ⊤
 IsRootSeen result (Some file) = IsRootOf result file
 
--- the root that the first n bytes of the file tell, where the file is told
+-- the root that the first n bytes of the file give, if the disk tells its bytes
 abbrev pub IsHeadRoot : Result Root Stop → ℕ → Option (List ℕ) → Type 0
 IsHeadRoot root n None = ⊤
 IsHeadRoot root n (Some file) = root ≡ root_of (take n file)

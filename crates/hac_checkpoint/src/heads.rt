@@ -14,7 +14,7 @@ use thiserror::Error;
 
 const NAME: [u8; 8] = *b"HACSTOR1";
 
-// So many bytes hold all that tells the root.
+// This many bytes decide the root.
 const HEAD: usize = 43;
 
 // No area begins before this place.
@@ -32,7 +32,7 @@ pub enum Slot {
 /// The root that counts.
 #[derive(Clone, Copy, Debug, PartialEq, Eq)]
 pub struct Root {
-    /// Where it stands.
+    /// Its place.
     pub slot: Slot,
     /// How often a root was written before it, and one.
     pub generation: u64,
@@ -92,7 +92,7 @@ pub fn roots<D: Disk>(disk: &mut D) -> Result<Root, RootFault>
     }
 }
 
-// Fills the bytes from the begin of the file, and gives the root that they tell.
+// Fills the bytes from the beginning of the file, and gives the root that they decide.
 fn read_root<D: Disk>(disk: &mut D, head: &mut [u8]) -> Result<Result<Root, Stop>, Failed>
     requires { RangeWithin (D.seen disk.old) 0 (length head.old) }
     ensures root { IfOk result (λ root. IsHeadRoot root (length head.old) (D.seen disk.old)) }
@@ -104,7 +104,7 @@ fn read_root<D: Disk>(disk: &mut D, head: &mut [u8]) -> Result<Result<Root, Stop
     Ok(root_in(head))
 }
 
-// The root that these bytes tell, which begin a file.
+// The root of a file that begins with these bytes.
 #[tactic(auto, unfolding(crate::specs::Roots::root_of))]
 fn root_in(image: &[u8]) -> Result<Root, Stop>
     ensures { result ≡ root_of image.now }

@@ -1,4 +1,4 @@
-//! Roots: the head of a store says which area is live. This crate knows nothing of what stands in an area.
+//! Roots: the head of a store says which area is live. This crate knows nothing of what is in an area.
 #![tactic(auto)]
 
 mod heads;

@@ -1,4 +1,4 @@
--- What stands in the way of a command is told by the tree, but for marks.
+-- What blocks a command doesn't depend on marks, so the tree alone decides it.
 use Rattle.std.proofs.Common.{◌≡◌, ℕ, true, false, cond, List, [], ◌∷◌, refl, ap}
 use Rattle.std.specs.Prelude.{Some, None}
 use Rattle.std.specs.Option.{option_map}
@@ -59,7 +59,7 @@ module _ (kept : LinkedTree) where
   same-referenced : (dir : ℕ) → referenced_cause (state_of kept) dir ≡ referenced_cause kept.tree.state dir
   same-referenced dir = ap (λ (paths : List (List (List ℕ))). option_map refusal.Referenced (least_path paths)) (same-referrers kept dir)
 
-  -- so is what stands in the way of any command that speaks of no link
+  -- so is what blocks any command that speaks of no link
   pub same-unlinked : (r : Resolved) → is_linking r ≡ false → blocked (state_of kept) r ≡ blocked kept.tree.state r
   same-unlinked (Rmdir dir) other = λ i. first_cause (root_cause dir ∷ same-full_cause dir i ∷ same-referenced dir i ∷ [])
   same-unlinked (Mkdir place) other = same-blocked (Mkdir place) refl

@@ -1,4 +1,4 @@
--- What is told of the bare tree is told of the state.
+-- What is true of the bare tree is true of the state.
 use Rattle.std.proofs.Common.{◌≡◌, ℕ, Bool, true, false, cond, refl, List, [], ◌∷◌, ◌++◌, map, ap, sym, ◌∙◌}
 use Rattle.std.specs.Prelude.{codes, Option, Some, None, option_and_then}
 use Rattle.std.specs.Option.{option_map_or}

@@ -1,4 +1,4 @@
--- Which events can happen, told part by part.
+-- Which events can happen, part by part.
 use Rattle.std.proofs.Common.{◌≡◌, ℕ, ◌<◌, ◌≤◌, ◌^◌, Bool, true, false, cond, List, [], ◌∷◌, ◌++◌, subst, refl, ap, sym, ◌∙◌, arith}
 use Rattle.std.specs.Prelude.{◌==◌, ◌&&◌, ◌||◌, not, length, nat_lt, Option, Some, None, is_none, is_some}
 use Rattle.std.specs.Option.{option_map, option_map_or}
@@ -34,7 +34,7 @@ use Rattle.hac_core.proofs.LedLemmas.{all-alike}
 use Rattle.hac_core.proofs.LimitingLemmas.{mark-passes, unq-passes}
 use Rattle.linked_tree.proofs.StateLemmas.{alike, same-asks, same-bare, same-dirty, same-file, same-inside, same-semantic, same-some}
 
--- What stands in the way, part by part.
+-- What blocks an event, part by part.
 
 moved : (a b c d : Bool) → (((a && b) && c) && d) ≡ ((a && (b && d)) && c)
 moved false b c d = refl
@@ -65,7 +65,7 @@ possible-is s other = sym (and-true (is_possible s other))
 accepted-is : (s : State) (e : Event) → accepted s e ≡ (may_come s e && is_clear s e)
 accepted-is s e = ap (λ (b : Bool). b && is_none (passed (apply s e))) (possible-is s e) ∙ swapped (is_placed s e) (is_clear s e) (is_none (passed (apply s e)))
 
--- The tree tells what is placed, and which limits are passed.
+-- The tree knows what is placed, and which limits are exceeded.
 
 module _ (kept : LinkedTree) where
   same-made : (n : ℕ) → is_made_directory (state_of kept).entries n ≡ is_made_directory kept.tree.state.entries n

@@ -1,4 +1,4 @@
--- What a command leads to, told by the tree but for marks.
+-- What a command leads to, which the tree decides without marks.
 use Rattle.std.proofs.Common.{◌≡◌, ℕ, List, [], ◌∷◌, refl, ap, sym, ◌∙◌}
 use Rattle.std.specs.Prelude.{replicate}
 use Rattle.hac_model.specs.Bare.{bare}
@@ -23,7 +23,7 @@ all-alike [] s t same = same
 all-alike (e ∷ events) s t same =
     all-alike events (apply s e) (apply t e) (bare-commutes s e ∙ ap (λ (x : State). bare (apply x e)) same ∙ sym (bare-commutes t e))
 
--- a command's events are told by the tree
+-- a command's events depend on the tree alone
 pub same-events : (kept : LinkedTree) (r : Resolved) → events_of (state_of kept) r ≡ events_of kept.tree.state r
 same-events kept Index = ap (λ (n : ℕ). replicate n event.Step) (same-dirty kept)
 same-events kept other = refl

@@ -85,7 +85,7 @@ some-text : (n : ℕ) → (text : List ℕ) × (length text ≡ n)
 some-text zero = ([], refl)
 some-text (suc n) = let rest = some-text n in (0 ∷ rest.0, ap (λ (k : ℕ). suc k) rest.1)
 
--- what is told of each file of so many bytes is told of one with such a text
+-- what holds of each file of this many bytes holds of one with such a text
 pub file-told : (bytes : ℕ) (share : Counts) → ((b : Body) → IsTrue (is_file b) → weight b ≡ bytes → is_dirty b ≡ true → share ≡ share_of b) → (text : List ℕ) → length text ≡ bytes → share ≡ share_of (body.File text true None)
 file-told bytes share each text long =
     let all : max (length text) 0 ≡ bytes = grind (arith, long) in

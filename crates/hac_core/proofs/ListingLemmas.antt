@@ -11,7 +11,7 @@ use Rattle.hac_model.specs.declared.states.State.{State}
 use Rattle.hac_model.proofs.ChangeLemmas.{all-filter}
 use Rattle.hac_model.proofs.TreeLemmas.{all-entries}
 
--- What stands in a directory.
+-- What is in a directory.
 
 all-put : (P : Entry → Type 0) (new : Entry) (es : List Entry) → P new → AllByRecursion P es → AllByRecursion P (put_in_order new es)
 all-put P new [] one p = (one, tt)

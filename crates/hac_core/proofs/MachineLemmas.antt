@@ -1,4 +1,4 @@
--- Which cause speaks against a command, told part by part.
+-- Which cause refuses a command, part by part.
 use Rattle.std.proofs.Common.{◌≡◌, List, [], ◌∷◌, subst, ap, sym, ◌∙◌}
 use Rattle.std.specs.Prelude.{Option, None, Ok}
 use Rattle.std.specs.Option.{option_map}
@@ -27,7 +27,7 @@ use Rattle.std.specs.Prelude.{true}
 use Rattle.hac_core.proofs.LimitingLemmas.{within-answers}
 
 module _ (s : State) (line : Line) (deny : Deny) where
-  -- the paths were followed, and something stands in the way, or a limit on the tree would be passed
+  -- the paths were followed, and something blocks the command, or a limit on the tree would be exceeded
   pub refused-early : (r : Resolved) → resolve s line ≡ Ok r → Refuses deny (early_cause s r) → Refuses deny (refusal s line)
   refused-early r comes h = told deny h
     where

@@ -1,4 +1,4 @@
--- How deep it goes below a directory, told by its children one after the other.
+-- How deep it goes below a directory, by its children one after the other.
 use Rattle.std.proofs.Common.{◌≡◌, ℕ, zero, suc, ◌+◌, ◌-◌, ◌<◌, ◌≤◌, Bool, true, false, cond, List, [], ◌∷◌, length, map, refl, ap, sym, ◌∙◌, subst, arith, inr, eq-eqb}
 use Rattle.std.specs.Prelude.{◌==◌, ◌&&◌, ◌||◌, not, nat_le, Some, filter}
 use Rattle.std.specs.List.{AllByRecursion, list_all}
@@ -69,7 +69,7 @@ rises-more es zero m n d e found here same = (e, ap (λ (k : ℕ). entry_at es k
 rises-more es (suc steps) m n d e found here (f, at, more) = (f, at, rises-more es steps f.parent n d e found here more)
 
 module _ (s : State) (h : IsLayout s) where
-  -- steps lead from a path with so many names more
+  -- steps lead from a path with this many names more
   rises-depth : (steps m n : ℕ) → Rises s.entries steps m n → length (path_of s m) ≡ length (path_of s n) + steps
   rises-depth zero m n same = let even = ap (λ (k : ℕ). length (path_of s k)) same in omega (arith, even)
   rises-depth (suc steps) m n (e, found, more) = omega (arith, path_of-deeper s m e h found, rises-depth steps e.parent n more)
@@ -118,14 +118,14 @@ module _ (s : State) (h : IsLayout s) where
     entry_is : (e : Entry) × (entry_at s.entries n ≡ Some e)
     entry_is = some-found s.entries n goes.there
 
-    -- the path of an entry is short once that of what moves has so many names
+    -- the path of an entry is short once that of what moves has this many names
     abbrev is_short : ℕ → Entry → Bool
     is_short new f = not (is_inside s f.number n) || nat_le (new + (length (path_of s f.number) - length (path_of s n))) PATH_LIMIT
 
     moved-short : (name : List ℕ) → are_paths_short (changed_at s n (reseated dir name)).entries ≡ list_all (is_short (length (path_of s dir) + 1)) s.entries
     moved-short name = paths-moved-inside s n dir name entry_is.0 h (record { there = entry_is.1; lives = directory-lives s.entries dir goes.directory; outside = goes.outside })
 
-    -- what moves stands below itself by no step
+    -- no step leads from what moves to itself
     inside-rises : (m : ℕ) → Lives s.entries m → is_inside s m n ≡ true → (steps : ℕ) × Rises s.entries steps m n
     inside-rises m lives inside = elim (m == n) as (λ b. (m == n) ≡ b → (b || extends (path_of s m) (path_of s n)) ≡ true → (steps : ℕ) × Rises s.entries steps m n) [
       | true ↦ (λ same inside. (zero, eqb-true m n same))
@@ -149,7 +149,7 @@ module _ (s : State) (h : IsLayout s) where
           | false ↦ refl
         ]
 
-    -- else its own path has to stay short, and what stands below it may not be too deep
+    -- else its own path has to stay short, and what is below it may not be too deep
     deeper : (new : ℕ) → list_all (is_short new) s.entries ≡ true → (nat_le new PATH_LIMIT && is_shallow (PATH_LIMIT - new) s n) ≡ true
     deeper new all =
         let own : nat_le new PATH_LIMIT ≡ true = low n zero refl (ap (λ (b : Bool). b || extends (path_of s n) (path_of s n)) (eq-eqb n n refl)) entry_is.0 entry_is.1 in

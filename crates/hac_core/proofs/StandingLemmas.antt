@@ -1,4 +1,4 @@
--- What the paths of a command lead to stands in the state.
+-- What the paths of a command lead to is in the state.
 use Rattle.std.proofs.Common.{◌≡◌, ℕ, Bool, true, false, List, refl, ap, ◌∙◌, inl, inr, eq-eqb}
 use Rattle.std.specs.Prelude.{◌==◌, ◌||◌, Option, Some, None, is_some, Result, Ok, IsTrue}
 use Rattle.std.specs.Option.{option_map, option_map_or}
@@ -61,7 +61,7 @@ kind-body (body.Symlink target) = refl
 kind-body (body.Semantic query permanent prohibited) = refl
 kind-body (body.Mount space documents answers) = refl
 
--- the kind of what lives tells whether it is a directory
+-- the kind of what lives says whether it is a directory
 pub kind-directory : (s : State) (n : ℕ) → IsLayout s → is_live s.entries n ≡ true → is_dir_kind (entry_kind_at s.entries n) ≡ is_directory_at s.entries n
 kind-directory s n h lives =
     elim (n == 0) as (λ b. (n == 0) ≡ b → (b || is_some (entry_at s.entries n)) ≡ true → is_dir_kind (entry_kind_at s.entries n) ≡ (b || option_map_or is_directory (option_map (λ (e : Entry). e.body) (entry_at s.entries n)) false)) [
@@ -96,7 +96,7 @@ command-stands s (Find query) h = (h, refl)
 command-stands s Index h = (tt, refl)
 command-stands s Counts h = (tt, refl)
 
--- all that a line speaks of stands in the state, and its text is one
+-- all that a line refers to is in the state, and its text is one
 pub line-stands : (s : State) (line : Line) (r : Resolved) → IsValid s → IsTrue (is_spelled line.command) → resolve s line ≡ Ok r → AllStand s r × (are_texts r ≡ true)
 line-stands s line r h spelled comes = command-stands s r (resolved-stands s line.session line.command r h spelled comes)
 

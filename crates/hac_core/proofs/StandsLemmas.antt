@@ -1,4 +1,4 @@
--- What a command speaks of stands in the tree just where it stands in the state.
+-- What a command refers to is in the tree just where it is in the state.
 use Rattle.std.proofs.Common.{ℕ, Bool, ap, sym, ◌∙◌}
 use Rattle.std.specs.Prelude.{◌==◌, ◌||◌, IsTrue}
 use Rattle.hac_model.specs.declared.places.Place.{Place}

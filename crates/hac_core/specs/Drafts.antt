@@ -18,7 +18,8 @@ reads (Find query) = true
 reads Counts = true
 reads other = false
 
--- a line comes to the command, and nothing speaks against it so far: the limits that depend on what spaces answer are left
+-- the line was resolved to the command, and nothing refuses it so far: the limits that depend on what spaces answer are
+-- left
 pub record IsDraftOf (s : State) (line : Line) (draft : Resolved) : Type 0 where
   pub spelled : IsTrue (is_spelled line.command)
   pub resolved : resolve s line ≡ Ok draft

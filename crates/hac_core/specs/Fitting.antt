@@ -1,4 +1,4 @@
--- What stands in the way of an event that no command made, and what doesn't.
+-- What blocks an event that no command made, and what doesn't.
 use Rattle.std.specs.Prelude.{Bool, true, ◌==◌, ◌&&◌, not, length, is_none, is_some}
 use Rattle.hac_model.specs.Depends.{cycle_of_move, cycle_over}
 use Rattle.hac_model.specs.Events.{apply, is_bare, is_free, is_inside, is_possible, is_unreferenced, may_ask, may_mark}
@@ -23,7 +23,7 @@ is_placed s (Mv entry dir name) = is_some (entry_at s.entries entry) && is_free 
 is_placed s (Rmdir dir) = is_made_directory s.entries dir && is_bare s.entries dir
 is_placed s other = is_possible s other
 
--- no mark, no link and no query of another directory stands in the event's way
+-- no mark, no link and no query of another directory blocks the event
 abbrev pub is_clear : State → Event → Bool
 is_clear s (Setq dir query told) = is_none (cycle_over s dir (parent_of s dir) query)
 is_clear s (Mark mark) = may_mark s mark.dir mark.item mark.kind

@@ -1,4 +1,4 @@
--- Which limits a command would exceed, told by counts.
+-- Which limits a command would exceed, by counts.
 use Rattle.std.specs.Prelude.{◌≡◌, ℕ, zero, suc, Bool, true, false, is_some, map, IsTrue}
 use Rattle.std.specs.List.{list_all}
 use Rattle.hac_model.specs.Events.{added, changed_at, is_bare, is_inside, reseated}
@@ -18,7 +18,7 @@ pub record PassAs (state : State) (told : Counts) : Type 0 where
   pub layout : first_passed (layout_limits told) ≡ first_passed (layout_limits (counts state))
   pub answers : first_passed (answer_limits told) ≡ first_passed (answer_limits (counts state))
 
--- no more than so many names lead from a directory to anything below it
+-- at most this many names lead from a directory to anything below it
 abbrev pub is_shallow : ℕ → State → ℕ → Bool
 is_shallow zero s dir = is_bare s.entries dir
 is_shallow (suc names) s dir = list_all (is_shallow names s) (map (λ child. child.number) (children s dir))

@@ -1,4 +1,4 @@
--- What commands come to that change the state.
+-- What commands do that change the state.
 use Rattle.std.specs.Prelude.{◌≡◌, List, [], ◌∷◌, replicate, None}
 use Rattle.hac_model.specs.Laws.{AllHappen}
 use Rattle.hac_model.specs.Refusals.{cause, events_of}

@@ -9,12 +9,12 @@ use Rattle.hac_model.specs.declared.resolved.Resolved.TheVariants.{Mkdir, Rmdir,
 use Rattle.hac_model.specs.declared.states.State.{State}
 use Rattle.file_tree.specs.Answers.{is_live}
 
--- the entry or the root that was found stands in the state, or the directory that has room for the name
+-- the entry or the root that was found is in the state, or the directory that has room for the name
 abbrev pub StandsAt : State → Place → Type 0
 StandsAt s (There number) = IsTrue (is_live s.entries number)
 StandsAt s (Free dir name) = IsTrue (is_directory_at s.entries dir)
 
--- nothing stands at the place
+-- the place is vacant
 abbrev pub IsFree : Place → Type 0
 IsFree (There number) = ⊥
 IsFree (Free dir name) = ⊤

@@ -49,7 +49,7 @@ fn letters(term: &Term) -> &[u8]
     }
 }
 
-/// How many letters may follow those of a query, where so many may stand in all; None where it has more.
+/// How many letters may follow those of a query, if `most` may be there in all; None if it has more.
 fn letters_left(most: usize, query: &Query<Number>) -> Option<usize>
     ensures { result ≡ (if nat_lt most (letter_count query.now) then None else Some (most - letter_count query.now)) }
 {
@@ -63,7 +63,7 @@ fn letters_left(most: usize, query: &Query<Number>) -> Option<usize>
     }
 }
 
-/// Whether no more than so many `NOT`s stand round any one term of a query.
+/// Whether no term of a query has more than `most` `NOT`s round it.
 fn nests_within(most: u64, query: &Query<Number>) -> bool
     ensures { result ≡ nat_le (not_count query.now) most }
 {

@@ -30,7 +30,7 @@ pub fn unblocked(alloc: Global, kept: &LinkedTree, command: &Resolved) -> Result
     }
 }
 
-/// The same of a command that depends on no link and on no other query, told by the state.
+/// The same for a command that depends on no link and on no other query, by the state.
 fn unblocked_alone(kept: &LinkedTree, command: &Resolved) -> Result<(), Deny>
     requires stands { AllStand kept.now.tree.state command.now }
     requires alone { IsTrue (is_alone command.now) }

@@ -62,6 +62,6 @@ impl Draft {
 pub enum Settled {
     /// One event.
     Change(Event),
-    /// So many index steps.
+    /// This many index steps.
     Steps(u64),
 }

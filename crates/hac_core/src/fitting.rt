@@ -1,4 +1,5 @@
-//! Whether an event can happen to the state, wherever it comes from. Commands make only such events; a log may hold any.
+//! Whether an event can happen to the state, wherever it comes from. Commands make only such events; a log may hold
+//! any.
 ghost use Rattle.std.specs.Prelude.{◌≡◌, ◌==◌, ◌&&◌, is_none, is_some, length, IfOk, IsTrue};
 ghost use Rattle.hac_model.specs.Events.{accepted, apply, is_free, may_ask};
 ghost use Rattle.hac_model.specs.Limits.{is_text, passed};
@@ -67,8 +68,8 @@ fn is_placed(counted: &CountedTree, event: &Event) -> bool
     }
 }
 
-/// Whether an event whose references are in the tree exceeds no limit. Only a new entry, a new text, a query or a move can
-/// exceed one.
+/// Whether an event whose references are in the tree exceeds no limit. Only a new entry, a new text, a query or a move
+/// can exceed one.
 fn is_within(tree: &CountedTree, event: &Event) -> bool
     requires { IsTrue (is_placed tree.now.state event.now) }
     ensures { result ≡ is_none (passed (apply tree.now.state event.now)) }
@@ -87,7 +88,7 @@ fn is_within(tree: &CountedTree, event: &Event) -> bool
     }
 }
 
-/// Whether no mark, no link and no query of another directory stands in the way of an event.
+/// Whether no mark, no link and no query of another directory blocks an event.
 fn is_clear(alloc: Global, kept: &LinkedTree, event: &Event) -> Result<bool, Memory>
     requires linked { IsLinked kept.now }
     requires placed { IsTrue (is_placed kept.now.tree.state event.now) }

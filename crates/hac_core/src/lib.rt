@@ -1,10 +1,11 @@
-//! The machine: commands against a state that is kept so that they are quick. It is seen as that state and as the events
-//! for which memory was taken. It knows no line's bytes, no outside, and of a kept state only what `linked_tree` and
-//! `tree_answers` promise.
+//! The machine: commands against a state that is kept so that they are quick. It is seen as that state and as the
+//! events for which memory was taken. It knows no line's bytes, no outside, and of a kept state only what `linked_tree`
+//! and `tree_answers` promise.
 #![tactic(auto)]
 
 mod asking;
 mod blocking;
+mod commands;
 mod cycles;
 mod drafts;
 mod events;

@@ -60,7 +60,7 @@ pub fn with_entry(tree: &CountedTree, dir: Number, share: Counts) -> Counts
     plus(tree.counts(), as_new(share, is_long))
 }
 
-/// How much the state would hold with a text of so many bytes, in a new file or in place of another text.
+/// The counts once `bytes` bytes are written to a place, as a new file or in place of another text.
 fn with_text(tree: &CountedTree, place: &Place, bytes: u64) -> Counts
     requires place { StandsAt tree.now.state place.now }
     requires free { written_cause tree.now.state place.now ≡ None }
@@ -74,7 +74,7 @@ fn with_text(tree: &CountedTree, place: &Place, bytes: u64) -> Counts
     }
 }
 
-/// How much the state would hold with a text of so many bytes in a file.
+/// The counts once `bytes` bytes are written to `file`.
 pub fn with_rewritten(tree: &CountedTree, file: Number, bytes: u64) -> Counts
     requires file { IsTrue (is_file_at tree.now.state.entries file) }
     requires small { bytes < 2 ^ 62 }
@@ -127,7 +127,7 @@ fn stays_short(tree: &Tree, entry: Number, dir: Number) -> bool
     new <= old || (new <= PATH_LIMIT && is_shallow(tree, entry, PATH_LIMIT - new))
 }
 
-/// Whether no more than so many names lead from a directory to anything below it.
+/// Whether at most `names` names lead from a directory to anything below it.
 fn is_shallow(tree: &Tree, dir: Number, names: u64) -> bool
     ensures { result ≡ is_shallow names tree.now.state dir }
 {
@@ -153,7 +153,7 @@ fn depth(tree: &Tree, entry: Number) -> u64
     ancestors(tree, PATH_LIMIT + 1, entry)
 }
 
-/// How many ancestors an entry has, itself among them, told within so many steps over parents.
+/// How many ancestors an entry has, itself among them, counting at most `steps` of them.
 fn ancestors(tree: &Tree, steps: u64, entry: Number) -> u64
     requires { IsTrue (is_live tree.now.state.entries entry) }
     ensures ancestors { result ≡ length (ancestors steps tree.now.state.entries entry) }

@@ -18,13 +18,13 @@ ghost use Rattle.hac_core.specs.Settling.{Settles, settled_events};
 ghost use Rattle.hac_core.specs.Standing.{AllStand};
 
 use crate::blocking::unblocked;
+use crate::commands::resolve;
 use crate::cycles::acyclic;
 use crate::drafts::{Draft, Settled};
 use crate::events::events_of;
 use crate::fitting::fits;
 use crate::limiting::counts_after;
 use crate::listing::data_lines;
-use crate::resolving::resolve;
 use hac_model::{Deny, Event, Limit, Line, Memory, Refusal, Reply, Resolved, Seq, first_passed};
 use linked_tree::{LinkedTree, Ready};
 use std::alloc::Global;
@@ -73,7 +73,7 @@ impl Machine {
         self.kept.tree.counts().dirty
     }
 
-    /// Follows the paths of a line that spells a command, and tells whether the state refuses it: for what the paths
+    /// Follows the paths of a line that spells a command, and says whether the state refuses it: for what the paths
     /// lead to, for what blocks it, for a limit on the tree itself, or because a directory would depend on
     /// itself, in this order.
     pub fn check(&self, line: Line) -> Result<Draft, Deny>
@@ -84,7 +84,10 @@ impl Machine {
         let command = followed(self.alloc, &self.kept, line)?;
         match allowed(self.alloc, &self.kept, &command) {
             Ok(()) => Ok(Draft::new(command)),
-            Err(deny) => Err(deny),
+            Err(deny) => {
+                drop(command);
+                Err(deny)
+            }
         }
     }
 
@@ -95,8 +98,9 @@ impl Machine {
         ensures reply { IfOk result (λ reply. reply ≡ Reply.Lines (data_lines self.now.state draft)) }
         ensures cause { cause self.now.state draft ≡ None }
     {
-        let lines = data_lines(self.alloc, &self.kept, draft.command())?;
-        Ok(Reply::Lines(Seq::new(lines)))
+        let lines = data_lines(self.alloc, &self.kept, draft.command());
+        drop(draft);
+        Ok(Reply::Lines(Seq::new(lines?)))
     }
 
     /// The outcome of a command that changes the state, unless it would exceed a limit that `check` leaves aside.
@@ -107,19 +111,24 @@ impl Machine {
         ensures refused { IfErr result (λ deny. Refuses deny (cause self.now.state draft)) }
     {
         let command = draft.into_command();
-        answerable(&self.kept, &command)?;
-        Ok(events_of(self.alloc, &self.kept, command))
+        match answerable(&self.kept, &command) {
+            Ok(()) => Ok(events_of(self.alloc, &self.kept, command)),
+            Err(deny) => {
+                drop(command);
+                Err(deny)
+            }
+        }
     }
 
-    /// Whether an event can happen to the state. It may be any event, as one that stands in a log.
+    /// Whether an event can happen to the state. It may be any event, as one that was read from a log.
     pub fn fits(&self, event: &Event) -> Result<bool, Memory>
         ensures { IfOk result (λ fits. fits ≡ accepted self.now.state event.now) }
     {
         fits(self.alloc, &self.kept, event)
     }
 
-    /// Takes the memory that events want, so that `commit` can apply them. The state doesn't change, whatever the answer,
-    /// and what was prepared before is dropped.
+    /// Takes the memory that events want, so that `commit` can apply them. The state doesn't change, whatever the
+    /// answer, and what was prepared before is dropped.
     pub fn prepare(&mut self, settled: Settled) -> Result<(), Memory>
         requires { AllHappen self.old.state (settled_events settled) }
         ensures ok { OnOk result (self.new ≡ record { state = self.old.state; ready = settled_events settled }) }

@@ -1,7 +1,6 @@
 -- A write to a part of a file is a write to the whole.
-use Rattle.std.proofs.Common.{◌≡◌, ℕ, ◌+◌, ◌≤◌, List, ◌++◌, length, take, drop, sym, ◌∙◌, ap, arith, append_assoc}
+use Rattle.std.proofs.Common.{◌≡◌, ℕ, ◌+◌, List, ◌++◌, length, take, drop, ◌∙◌, ap, arith, append_assoc}
 use Rattle.std.proofs.Math.Seq.{take-append-add, drop-append-add}
-use Rattle.std.proofs.lemmas.List.{take-append-le, drop-append-le}
 use Rattle.hac_disk.specs.Images.{overlaid}
 
 -- behind a front part
@@ -14,10 +13,3 @@ overlaid-behind xs ys bytes at n is =
     ∙ ap (λ (l : List ℕ). (xs ++ take n ys) ++ bytes ++ l) (drop-append-add xs ys (n + length bytes))
     ∙ ap (λ (l : List ℕ). l ++ drop (n + length bytes) ys) (append_assoc xs (take n ys) bytes)
     ∙ append_assoc xs (take n ys ++ bytes) (drop (n + length bytes) ys)
-
--- within a front part
-pub overlaid-within : (xs ys bytes : List ℕ) (at : ℕ) → at + length bytes ≤ length xs → overlaid at bytes (xs ++ ys) ≡ overlaid at bytes xs ++ ys
-overlaid-within xs ys bytes at fits =
-    ap (λ (l : List ℕ). l ++ bytes ++ drop (at + length bytes) (xs ++ ys)) (take-append-le at xs ys (omega arith))
-    ∙ ap (λ (l : List ℕ). take at xs ++ bytes ++ l) (drop-append-le (at + length bytes) xs ys fits)
-    ∙ sym (append_assoc (take at xs ++ bytes) (drop (at + length bytes) xs) ys)

@@ -13,7 +13,7 @@ front n kept = take (length kept - n) kept
 abbrev pub back : ℕ → List ℕ → List ℕ
 back n kept = drop (length kept - n) kept
 
--- the calls of these steps, the newest first, whose bytes stand one behind the other
+-- the calls of these steps, the newest first, whose bytes follow one another
 abbrev pub calls_of : List Step → List ℕ → List Call
 calls_of [] kept = []
 calls_of (Write at n ∷ older) kept = Wrote at (back n kept) ∷ calls_of older (front n kept)

@@ -72,7 +72,7 @@ attached_to disk = Some (attached_by disk.done)
 abbrev pub next_number : ℕ → ℕ
 next_number n = min (n + 1) (2 ^ 64 - 1)
 
--- after so many calls the next one fails: the room for calls is used up, or the next one is to fail
+-- after this many calls the next one fails: the room for calls is used up, or the next one is to fail
 abbrev pub IsFailingCall : ℕ → List ℕ → ℕ → Type 0
 IsFailingCall last_call failing calls = (last_call ≤ calls) ⊎ Contains failing (calls + 1)
 

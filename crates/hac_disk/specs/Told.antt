@@ -1,4 +1,4 @@
--- Facts about the bytes of a disk, where it tells them. Of a disk that doesn't, nothing is to be shown.
+-- Facts about the bytes of a disk that tells them. Of one that doesn't, there is nothing to show.
 use Rattle.std.specs.Prelude.{◌≡◌, ℕ, ◌+◌, ◌<◌, ◌≤◌, ⊤, Bool, List, [], ◌∷◌, ◌++◌, length, take, drop, None, Some, Ok, Err, Result}
 use Rattle.std.specs.declared.option.Option.{Option}
 use Rattle.hac_disk.specs.Images.{overlaid, Torn, Only}
@@ -23,17 +23,17 @@ abbrev pub HasLength : Option (List ℕ) → ℕ → Type 0
 HasLength None n = ⊤
 HasLength (Some file) n = n ≡ length file
 
--- these bytes stand there
+-- the file has these bytes there
 abbrev pub StandAt : Option (List ℕ) → ℕ → List ℕ → Type 0
 StandAt None at bytes = ⊤
 StandAt (Some file) at bytes = bytes ≡ take (length bytes) (drop at file)
 
--- the bytes were written, and the file is still told if it was
+-- the bytes were written, and a disk that told its bytes still does
 abbrev pub Written : Option (List ℕ) → ℕ → List ℕ → Option (List ℕ) → Type 0
 Written None at bytes new = new ≡ None
 Written (Some old) at bytes new = new ≡ Some (overlaid at bytes old)
 
--- at most the n bytes from this place on were changed, and the file is still told if it was
+-- at most the n bytes from this place on were changed, and a disk that told its bytes still does
 abbrev pub WrittenInPart : Option (List ℕ) → ℕ → ℕ → Option (List ℕ) → Type 0
 WrittenInPart None at n new = new ≡ None
 WrittenInPart (Some old) at n None = ⊥

@@ -13,7 +13,7 @@ use hac_outside::Failed;
 /// An image is what a crash leaves. A disk over a real file tells neither its bytes nor its images, and then
 /// no condition on a place binds: it answers a range outside its file with a fault.
 pub trait Disk {
-    // The bytes that a read gives, where they are told. A call never changes whether they are.
+    // The bytes that a read gives, if the disk tells them. A call never changes whether it does.
     ghost seen: { Self → Option (List ℕ) };
 
     // The images that a crash now may leave.
@@ -25,10 +25,10 @@ pub trait Disk {
     // The images that a crash at some moment from that one on might have left.
     ghost image_since: { Self → ℕ → List ℕ → Type 0 };
 
-    // The names that were attached, each with its `make`, where they are told.
+    // The names that were attached, each with its `make`, if the disk tells them.
     ghost attached: { Self → Option (List (List ℕ × Bool)) };
 
-    // How many faults there were. At the end of its type the count stands still.
+    // How many faults there were. At the end of its type the count stays as it is.
     ghost faults: { Self → ℕ };
 
     /// Binds the disk to the file of that name. A file that is missing is made where `make` says so, else it

@@ -135,7 +135,7 @@ fn open(rt: &HostRuntime, name: &str, make: bool) -> io::Result<File> {
     Ok(file)
 }
 
-// Syncs the folder in which that name stands.
+// Syncs the folder of that name.
 fn sync_folder(rt: &HostRuntime, name: &str) -> io::Result<()> {
     let here = Path::new(".");
     let folder = match Path::new(name).parent() {

@@ -1,4 +1,4 @@
-//! A disk that stops after so many calls.
+//! A disk that stops after a number of calls.
 ghost use Rattle.std.specs.Prelude.{◌≡◌, ◌+◌, ◌-◌, ◌↔◌, IsErr, if◌then◌else◌, is_ok};
 ghost use Rattle.hac_outside.specs.Causes.{HasCause};
 ghost use Rattle.hac_disk.specs.Memory.{next_number};
@@ -16,7 +16,7 @@ pub struct FuseDisk<D: Disk> {
 }
 
 impl<D: Disk> FuseDisk<D> {
-    /// A fuse that passes so many calls.
+    /// A fuse that lets `calls` calls pass.
     pub fn new(disk: D, calls: u64) -> FuseDisk<D>
         ensures disk { result.disk ≡ disk }
         ensures calls { result.calls ≡ calls }

@@ -29,8 +29,8 @@ pub struct MemoryDisk {
     calls: Calls,
 }
 
-// A call that went well: a write of so many bytes at a place, a sync, or an attached name of so many bytes.
-// The bytes stand in `kept`, one step's behind the other's.
+// A call that went well: a write with its place and length, a sync, or an attached name with its length.
+// The bytes are in `kept`, those of one step behind those of the other.
 #[derive(Clone, Copy, Drop)]
 enum Step {
     Write(u64, u64),
@@ -51,10 +51,9 @@ impl Model for MemoryDisk {
 }
 
 impl MemoryDisk {
-    /// A disk that holds `head`, a gap of so many zeros and `tail`, with nothing pending and nothing attached. It
-    /// has room for so many bytes, written or in names, and so many calls. A call whose number, from 1, stands in
-    /// `failing` is a fault. The gap takes no memory. Where all of it passes what 64 bits count, it is want of
-    /// memory.
+    /// A disk that holds `head`, `gap` zeros and `tail`, with nothing pending and nothing attached. It has room for
+    /// `bytes` bytes, written or in names, and for `calls` calls. A call whose number, from 1, is in `failing` is a
+    /// fault. The gap takes no memory. If 64 bits can't count all of it, the answer is want of memory.
     pub fn new(
         alloc: Global,
         head: &[u8],

@@ -1,4 +1,4 @@
--- What stands at a place, by its bytes.
+-- What is at a place, by its bytes.
 use Rattle.std.proofs.Common.{◌≡◌, ◌≢◌, ℕ, ◌+◌, ◌-◌, ◌<◌, ◌≤◌, List, [], ◌∷◌, ◌++◌, length, take, drop, slice_index, sym, ◌∙◌, ap, arith, length-append, length-drop}
 use Rattle.std.proofs.lemmas.Bool.Decides.{nat_tests}
 use Rattle.std.proofs.lemmas.List.{take_rest, take-append-le, drop-append-le}
@@ -22,11 +22,6 @@ found-open at gate rest is = grind (arith, nat_tests)
 
 pub found-shut : (at gate : ℕ) (rest : List ℕ) → gate ≢ 1 → found_in at (gate ∷ rest) ≡ Closed
 found-shut at gate rest shut = grind (arith, nat_tests)
-
--- the first bytes of a record, and what follows them
-pub look-shut : (bytes more : List ℕ) (at : ℕ) → 0 < length bytes → slice_index bytes 0 ≢ 1 → found_in at (bytes ++ more) ≡ Closed
-look-shut [] more at some shut = absurd (omega arith)
-look-shut (gate ∷ rest) more at some shut = found-shut at gate (rest ++ more) shut
 
 pub look-few : (bytes more : List ℕ) (at : ℕ) → 0 < length bytes → slice_index bytes 0 ≡ 1 → length (bytes ++ more) < 5 → found_in at (bytes ++ more) ≡ Short
 look-few [] more at some is few = absurd (omega arith)

@@ -14,7 +14,7 @@ use Rattle.hac_journal.proofs.RecordLemmas.{length-record}
 take-one : (m n : ℕ) (rest : List ℕ) → m ≡ suc n → take m (1 ∷ rest) ≡ 1 ∷ take n rest
 take-one m n rest is = ap (λ (k : ℕ). take k (1 ∷ rest)) is
 
--- a length and so many bytes, with at least a gate behind
+-- a length and as many bytes, with at least a gate behind
 whole-found : (at size : ℕ) (front more : List ℕ) → length front ≡ 4 + size → little_number 4 front ≡ size → 0 < length more
     → found_in at (1 ∷ (front ++ more)) ≡ Whole (drop 4 front) (at + 5 + size)
 whole-found at size front more long number some =
@@ -95,7 +95,7 @@ none-is-closed at file holds =
     (λ past. let none : [] ≡ 0 ∷ [] = ap (take 1) (sym (drop_all at file past)) ∙ holds in absurd (cc))
     (cases_lt at (length file))
 
--- a record and what stands behind it
+-- a record and what follows it
 record-found : (at : ℕ) (payload more : List ℕ) → length payload < 2 ^ 32 → 0 < length more
     → found_in at (record_of payload ++ more) ≡ Whole payload (at + 5 + length payload)
 unfolding record_of

@@ -1,4 +1,4 @@
--- What some bytes of a file tell of the file.
+-- What some bytes of a file say of the file.
 use Rattle.std.proofs.Common.{◌≡◌, ⊎_elim, ℕ, ◌+◌, ◌-◌, ◌<◌, List, [], ◌++◌, length, take, drop, None, Some, Vec, sym, ◌∙◌, ap, arith, length-drop, take-append-drop}
 use Rattle.std.specs.declared.option.Option.{Option}
 use Rattle.std.specs.declared.alloc.Global.{Global}

@@ -6,7 +6,7 @@ pub record ClosedAt (at : ℕ) (file : List ℕ) : Type 0 where
   pub there : at < length file
   pub shut : slice_index file at ≢ 1
 
--- these bytes stand at this place of the file
+-- the file has these bytes at this place
 abbrev pub HoldsAt : ℕ → List ℕ → List ℕ → Type 0
 HoldsAt at bytes file = take (length bytes) (drop at file) ≡ bytes
 

@@ -1,4 +1,4 @@
--- What stands at a place of a file of records.
+-- What is at a place of a file of records.
 use Rattle.std.specs.Prelude.{◌≡◌, ℕ, ◌+◌, ◌-◌, ◌^◌, ◌<◌, ⊤, nat_lt, ◌==◌, if◌then◌else◌, List, [], ◌∷◌, ◌++◌, length, take, drop, Some, None}
 use Rattle.std.specs.declared.option.Option.{Option}
 use Rattle.byteorder.specs.Endian.{little_number}
@@ -7,34 +7,35 @@ use Rattle.hac_journal.specs.declared.finding.Look.TheVariants.{Record, ClosedGa
 use Rattle.hac_journal.specs.declared.finding.Next.{Next}
 use Rattle.hac_journal.specs.declared.finding.Next.TheVariants.{Entry, End, Bad}
 
--- a record that is whole, with its payload and the place of the gate behind it; a gate that isn't open; or less than is needed
+-- a record that is whole, with its payload and the place of the gate behind it; a gate that isn't open; or less than is
+-- needed
 pub data Found : Type 0 where
   Whole : List ℕ → ℕ → Found
   Closed : Found
   Short : Found
 
--- behind an open gate at this place: a length, so many bytes, and the next gate are needed
+-- behind an open gate at this place: a length, as many bytes, and the next gate are needed
 unfoldable pub behind_gate : ℕ → List ℕ → Found
 behind_gate at rest =
     let size = little_number 4 rest in
     if nat_lt (4 + size) (length rest) then Whole (take size (drop 4 rest)) (at + 5 + size) else Short
 
--- what these bytes are, which stand at this place
+-- what these bytes, at this place, are
 abbrev pub found_in : ℕ → List ℕ → Found
 found_in at [] = Short
 found_in at (gate ∷ rest) = if gate == 1 then behind_gate at rest else Closed
 
--- what stands at a place of the file
+-- what is at a place of the file
 abbrev pub found_at : ℕ → List ℕ → Found
 found_at at file = found_in at (drop at file)
 
--- the answer tells what was found; where less was there than is needed, it tells the file's length
+-- the answer is what was found; if less was there than is needed, it has the file's length
 abbrev pub Tells : Next → Found → List ℕ → Type 0
 Tells (Entry payload next) found file = found ≡ Whole payload.items next
 Tells End found file = found ≡ Closed
 Tells (Bad at) found file = (found ≡ Short) × (at ≡ length file)
 
--- the answer tells what stands at a place of the file, where the file is told
+-- the answer is what is at a place of the file, if the disk tells its bytes
 abbrev pub TellsAt : Next → ℕ → Option (List ℕ) → Type 0
 TellsAt next at None = ⊤
 TellsAt next at (Some file) = Tells next (found_at at file) file
@@ -50,7 +51,7 @@ pub record Window : Type 0 where
   pub start : ℕ
   pub bytes : List ℕ
 
--- how many of them stand before this place: all, where the place is before them
+-- how many of them are before this place: all, if the place is before them
 abbrev pub skipped : Window → ℕ → ℕ
 skipped window at = if nat_lt at window.start then length window.bytes else at - window.start
 
@@ -58,7 +59,7 @@ skipped window at = if nat_lt at window.start then length window.bytes else at -
 abbrev pub held_from : Window → ℕ → List ℕ
 held_from window at = drop (skipped window at) window.bytes
 
--- what some bytes tell of the place where they begin, whatever follows them: a whole record with a payload of this
+-- what some bytes say of the place where they begin, whatever follows them: a whole record with a payload of this
 -- size, a gate that isn't open, or too little where fewer bytes follow than this
 abbrev pub Shows : Look → List ℕ → Type 0
 Shows (Record size) bytes = (5 + size < length bytes) × ((more : List ℕ) (at : ℕ) → found_in at (bytes ++ more) ≡ Whole (take size (drop 5 bytes)) (at + 5 + size))

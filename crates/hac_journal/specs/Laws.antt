@@ -1,15 +1,15 @@
--- What holds of records wherever they stand.
+-- What holds of records wherever they are.
 use Rattle.std.specs.Prelude.{◌≡◌, ℕ, ◌+◌, ◌^◌, ◌<◌, List, [], ◌∷◌, length, take}
 use Rattle.hac_journal.specs.Appending.{ClosedAt, HoldsAt}
 use Rattle.hac_journal.specs.Finding.{Whole, Closed, found_at}
 use Rattle.hac_journal.specs.Records.{log_of}
 
--- where records stand, the first is found, and the others stand behind it
+-- of records, the first is found, and the others follow it
 abbrev pub RecordsAreFound : Type 0
 RecordsAreFound = (at : ℕ) (payload : List ℕ) (payloads : List (List ℕ)) (file : List ℕ) → length payload < 2 ^ 32 → HoldsAt at (log_of (payload ∷ payloads)) file
     → (found_at at file ≡ Whole payload (at + 5 + length payload)) × HoldsAt (at + 5 + length payload) (log_of payloads) file
 
--- where none stands, there is a closed gate
+-- where there is no record, there is a closed gate
 abbrev pub NoneIsClosed : Type 0
 NoneIsClosed = (at : ℕ) (file : List ℕ) → HoldsAt at (log_of []) file → ClosedAt at file
 

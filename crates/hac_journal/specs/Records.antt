@@ -1,4 +1,4 @@
--- Records, as they stand in a file one behind the other.
+-- Records, as a file has them, one behind the other.
 use Rattle.std.specs.Prelude.{ℕ, List, [], ◌∷◌, ◌++◌, length, map, Vec}
 use Rattle.std.specs.declared.alloc.Global.{Global}
 use Rattle.byteorder.specs.Endian.{little_bytes}

@@ -1,10 +1,10 @@
-//! What stands at a place of a log.
+//! What is at a place of a log.
 ghost use Rattle.hac_journal.specs.Finding.{Shows};
 
 use super::records::OPEN;
 use byteorder::{ByteOrder, LittleEndian};
 
-/// What stands at a place of a log.
+/// What is at a place of a log.
 #[derive(Drop)]
 pub enum Next {
     /// A record, its payload, and the place of the gate behind it.
@@ -23,14 +23,14 @@ pub enum Next {
     },
 }
 
-// What the first bytes of a record, or some of them, tell.
+// What the first bytes of a record, or some of them, say.
 #[derive(Clone, Copy)]
 pub(crate) enum Look {
     // A record with a payload of that size; the next gate is there too.
     Record(usize),
     // A gate that isn't open.
     ClosedGate,
-    // So many bytes are needed to tell more.
+    // This many bytes are needed to say more.
     Needs(usize),
 }
 

@@ -1,7 +1,7 @@
 //! Theorems on records alone. Each is the contract of a function that does nothing.
 ghost use Rattle.hac_journal.specs.Laws.{ClosedIsFound, FoundAlong, FoundIsClosed, FoundIsWhole, NoneIsClosed, RecordsAreFound};
 
-/// Records that stand in a file are found one by one, up to the closed gate behind them.
+/// Records of a file are found one by one, up to the closed gate behind them.
 pub fn records_are_found()
     ensures records { RecordsAreFound }
     ensures none { NoneIsClosed }
@@ -13,7 +13,7 @@ pub fn closed_gates_end_a_log()
     ensures only { FoundIsClosed }
 {}
 
-/// A record that is found stands whole before the next gate, and is found in each file that agrees up to there.
+/// A record that is found is whole before the next gate, and is found in each file that agrees up to there.
 pub fn found_records_are_whole()
     ensures whole { FoundIsWhole }
     ensures along { FoundAlong }

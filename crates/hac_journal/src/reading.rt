@@ -45,7 +45,7 @@ impl LogReader {
         }
     }
 
-    /// What stands at a place of the log. Where the reader doesn't hold all of the record, it reads a piece of the
+    /// What is at a place of the log. If the reader doesn't hold all of the record, it reads a piece of the
     /// file from that place on, or the whole record where that is longer.
     pub fn next<D: Disk>(&mut self, disk: &mut D, at: u64) -> Result<Next, JournalFault>
         requires { StandAt (D.seen disk.old) self.old.start self.old.bytes }
@@ -83,7 +83,7 @@ impl LogReader {
         &self.bytes[self.skip(at)..]
     }
 
-    // How many of the bytes that are held stand before a place.
+    // How many of the bytes that are held are before a place.
     fn skip(&self, at: u64) -> usize
         ensures same { held_from self.now at ≡ drop result self.now.bytes }
         ensures within { result ≤ length self.now.bytes }
@@ -103,7 +103,7 @@ impl LogReader {
         Vec::from_slice(self.alloc, &self.from(at)[5..5 + size])
     }
 
-    // Reads from a place on, at least so many bytes. Where the file hasn't so many, it gives the file's length.
+    // Reads `need` bytes or more from a place on. If the file hasn't as many, it gives the file's length.
     fn fill<D: Disk>(
         &mut self,
         disk: &mut D,
@@ -139,7 +139,7 @@ impl LogReader {
     }
 }
 
-/// What stands at a place of the log, by a reader of its own: for one look. To go over a log, keep a `LogReader`.
+/// What is at a place of the log, by a reader of its own: for one look. To go over a log, keep a `LogReader`.
 pub fn next<D: Disk>(alloc: Global, disk: &mut D, at: u64) -> Result<Next, JournalFault>
     ensures next { IfOk result (λ next. TellsAt next at (D.seen disk.old)) }
     ensures ahead { IfOk result (λ next. GoesAhead next at) }

@@ -1,7 +1,7 @@
--- What a state tells without its marks is what it tells with them.
+-- What a state says without its marks is what it says with them.
 use Rattle.std.proofs.Common.{◌≡◌, ℕ, Bool, true, false, cond, List, [], ◌∷◌, length, map, reverse, refl, ap, sym, ◌∙◌, arith}
 use Rattle.std.specs.Prelude.{◌+◌, ◌==◌, codes, ◌&&◌, ◌||◌, ◌++◌, ◌-◌, filter, not, Option, Some, None, Ok, Err, IsTrue, is_some, is_none, option_and_then}
-use Rattle.std.specs.List.{AllByRecursion, range_with_len, slice_index_or}
+use Rattle.std.specs.List.{AllByRecursion, slice_index_or}
 use Rattle.std.specs.Option.{option_map, option_map_or, unwrap_or}
 use Rattle.hac_model.specs.Answers.{and_then, first_cause}
 use Rattle.hac_model.specs.Bare.{bare, bare_body}
@@ -10,7 +10,7 @@ use Rattle.hac_model.specs.Events.{are_directories, dirty, edited, is_bare, is_f
 use Rattle.hac_model.specs.Formula.{Formula}
 use Rattle.hac_model.specs.Formula as query
 use Rattle.hac_model.specs.Limits.{answer_limits, layout_limits, counts, first_passed, passed, weight}
-use Rattle.hac_model.specs.Links.{has, is_below, is_semantic, items, parent_of, query_at, shown_of}
+use Rattle.hac_model.specs.Links.{has, parent_of, query_at}
 use Rattle.hac_model.specs.Listing.{children, entry_line, in_order, is_before, letter, put_in_order}
 use Rattle.hac_model.specs.Looks.{look, stands_at, stop_at, ways}
 use Rattle.hac_model.specs.Names.{is_name}
@@ -18,7 +18,7 @@ use Rattle.hac_model.specs.Paths.{join, without_last}
 use Rattle.hac_model.specs.Queries.{is_query}
 use Rattle.hac_model.specs.Resolving.{directory, entry, item_and_dir, listed, numbered, place, resolved, standing}
 use Rattle.hac_model.specs.Sessions.{base_of, stands_in}
-use Rattle.hac_model.specs.Tree.{body_at, child, entry_at, extends, is_directory, is_directory_at, is_dirty, is_file, is_file_at, path_of, query_in, shown_text, text_in}
+use Rattle.hac_model.specs.Tree.{body_at, child, entry_at, extends, is_directory, is_directory_at, is_dirty, is_file, is_file_at, path_of, query_in, text_in}
 use Rattle.hac_model.specs.Valid.{IsLayout, IsSound, NamesDiffer, NumbersRise}
 use Rattle.hac_model.specs.declared.commands.Command.{Command}
 use Rattle.hac_model.specs.declared.commands.Command.TheVariants as command
@@ -53,11 +53,6 @@ pub bare-query : (body : Body) → query_in (bare_body body) ≡ query_in body
 bare-query (Semantic query permanent prohibited) = refl
 bare-query (Mount space documents answers) = refl
 bare-query other = refl
-
-bare-shown : (body : Body) → shown_text (bare_body body) ≡ shown_text body
-bare-shown (Semantic query permanent prohibited) = refl
-bare-shown (Mount space documents answers) = refl
-bare-shown other = refl
 
 bare-text : (body : Body) → text_in (bare_body body) ≡ text_in body
 bare-text (Semantic query permanent prohibited) = refl
@@ -97,7 +92,7 @@ bare-measures = record { kind = bare-kind; file = bare-file; queried = (λ body.
 pub entry_at-bare : (s : State) (n : ℕ) → entry_at (bare s).entries n ≡ option_map (edited bare_body) (entry_at s.entries n)
 entry_at-bare s n = entry_at-mapped bare_body s.entries n
 
--- a part of bodies that is told alike
+-- a function of a body that doesn't depend on marks
 part-bare : {X : Type 0} (part : Body → Option X) (s : State) (n : ℕ) → ((body : Body) → part (bare_body body) ≡ part body) → option_and_then part (body_at (bare s).entries n) ≡ option_and_then part (body_at s.entries n)
 part-bare part s n same =
     ap (λ (o : Option Entry). option_and_then part (option_map (λ (e : Entry). e.body) o)) (entry_at-bare s n)
@@ -105,12 +100,6 @@ part-bare part s n same =
 
 pub query_at-bare : (s : State) (n : ℕ) → query_at (bare s) n ≡ query_at s n
 query_at-bare s n = part-bare query_in s n bare-query
-
-pub is_semantic-bare : (s : State) (n : ℕ) → is_semantic (bare s) n ≡ is_semantic s n
-is_semantic-bare s n = ap (λ (o : Option (Formula ℕ)). is_some o) (query_at-bare s n)
-
-pub shown_of-bare : (s : State) (n : ℕ) → shown_of (bare s) n ≡ shown_of s n
-shown_of-bare s n = part-bare shown_text s n bare-shown
 
 pub text_at-bare : (s : State) (n : ℕ) → option_and_then text_in (body_at (bare s).entries n) ≡ option_and_then text_in (body_at s.entries n)
 text_at-bare s n = part-bare text_in s n bare-text
@@ -136,12 +125,6 @@ some-bare s n =
 
 pub path_of-bare : (s : State) (n : ℕ) → path_of (bare s) n ≡ path_of s n
 path_of-bare s n = path-names (bare s) n ∙ ap reverse (lineage-mapped bare_body s.entries n) ∙ sym (path-names s n)
-
-pub items-bare : (s : State) → items (bare s) ≡ items s
-items-bare s = λ i. filter (λ n. file-bare s n i) (range_with_len 0 s.next)
-
-pub is_below-bare : (s : State) (dir item : ℕ) → is_below (bare s) dir item ≡ is_below s dir item
-is_below-bare s dir item = λ i. file-bare s item i && directory-bare s dir i && extends (path_of-bare s item i) (path_of-bare s dir i)
 
 pub is_inside-bare : (s : State) (dir e : ℕ) → is_inside (bare s) dir e ≡ is_inside s dir e
 is_inside-bare s dir e = λ i. dir == e || extends (path_of-bare s dir i) (path_of-bare s e i)
@@ -230,7 +213,7 @@ module _ (s : State) (h : s.sessions ≡ []) (session : List ℕ) where
   item_and_dir-bare : (make : ℕ → ℕ → Resolved) (item dir : PathWord) → item_and_dir make (bare s) session item dir ≡ item_and_dir make s session item dir
   item_and_dir-bare make item dir = λ i. and_then (λ first. and_then (λ second. Ok (make first second)) (directory-leads dir i)) (entry-bare item i)
 
-  -- what a command comes to
+  -- the outcome of a command
   pub resolved-bare : (c : Command) → resolved (bare s) session c ≡ resolved s session c
   resolved-bare (command.Mkdir path) = ap (and_then (λ found. Ok (done.Mkdir found))) (place-bare path)
   resolved-bare (command.Rmdir path) = ap (and_then (λ dir. Ok (done.Rmdir dir))) (directory-leads path)
@@ -279,7 +262,7 @@ pub passed-bare : (s : State) → passed (bare s) ≡ passed s
 unfolding passed
 passed-bare s = ap (λ c. first_passed (layout_limits c ++ answer_limits c)) (counts-bare s)
 
--- What stands in a directory.
+-- What is in a directory.
 
 order-bare : (es : List Entry) → map entry_line (in_order (map (edited bare_body) es)) ≡ map entry_line (in_order es)
 order-bare es = ap (map entry_line) (ordered es) ∙ lines (in_order es)

@@ -55,7 +55,7 @@ directory-append es e d h = elim (d == 0) as (λ b. (b || is_made_directory es d
       | Some there ↦ (λ found h. ap (λ (o : Option Entry). option_map_or is_directory (option_map (λ (e : Entry). e.body) o) false) (entry_at-append es e d there found) ∙ h)
     ] refl h
 
--- two entries stand at one place or not, whichever is named first
+-- whether two entries have the same place doesn't depend on which is named first
 pub apart : (a b : ℕ) (x y : List ℕ) → (a == b && bytes_eq x y) ≡ false → (b == a && bytes_eq y x) ≡ false
 apart a b x y h = rw (nat_eq_equiv.symm b a, nat_list_eq_equiv.symm y x) h
 
@@ -63,7 +63,7 @@ pub first_apart : (b : Bool) (n : ℕ) (rest : Option ℕ) → cond b (Some n) r
 first_apart true n rest h = absurd cc
 first_apart false n rest h = (refl, h)
 
--- nothing of a name stands in a directory, and what is added is something else
+-- a directory has nothing under a name, and what is added has another name
 pub child-append : (es : List Entry) (e : Entry) (dir : ℕ) (name : List ℕ) → child es dir name ≡ None → (e.parent == dir && bytes_eq e.name name) ≡ false → child (es ++ e ∷ []) dir name ≡ None
 child-append [] e dir name h other = ap (λ (b : Bool). cond b (Some e.number) None) other
 child-append (x ∷ es) e dir name h other = elim (x.parent == dir && bytes_eq x.name name) as (λ b. cond b (Some x.number) (child es dir name) ≡ None → cond b (Some x.number) (child (es ++ e ∷ []) dir name) ≡ None) [ true ↦ (λ h. cc) | false ↦ (λ h. child-append es e dir name h other) ] h

@@ -1,4 +1,4 @@
--- The counts of a state after an event, told from those before it.
+-- The counts of a state after an event, from those before it.
 use Rattle.std.proofs.Common.{◌≡◌, ℕ, ◌+◌, ◌<◌, ◌≤◌, Bool, true, false, cond, List, [], ◌∷◌, ◌++◌, refl, ap, ◌∙◌, arith}
 use Rattle.std.specs.Prelude.{◌==◌, not, filter, sum_by, Some, is_some}
 use Rattle.std.proofs.lemmas.Bool.{eqb-true, ne_eqb}

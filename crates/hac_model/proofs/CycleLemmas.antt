@@ -56,7 +56,7 @@ within-walk edges (suc most) from to h = elim (or-cases (from == to) (list_any (
       (suc rest.0, (next.0, next.1, rest.1)))
 ]
 
--- what is reached is told so, and what isn't isn't
+-- `reaches` is true exactly where something is reached
 pub reaches-told : (s : State) (from to : ℕ) → IsAcyclic s → Reaches (depends s) from to → reaches s from to ≡ true
 unfolding reaches
 reaches-told s from to acyclic walk = walk-within (depends s) (semantic_count s.entries) walk.0 from to (walk-short s walk.0 from to acyclic walk.1) walk.1
@@ -65,7 +65,7 @@ pub reaches-walk : (s : State) (from to : ℕ) → reaches s from to ≡ true �
 unfolding reaches
 reaches-walk s from to h = within-walk (depends s) (semantic_count s.entries) from to h
 
--- where none of the directories is told to reach, none does
+-- where `reaches` is false of each of the directories, none reaches
 pub none-reaching : (s : State) (dir : ℕ) (others : List ℕ) → IsAcyclic s → first_reaching s dir others ≡ None → (e : ℕ) → Among others e → Reaches (depends s) e dir → ⊥
 unfolding first_reaching
 none-reaching s dir [] acyclic none e inside walk = absurd inside

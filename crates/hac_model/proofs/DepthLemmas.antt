@@ -1,4 +1,4 @@
--- Which paths are short after an event, told from the paths before it.
+-- Which paths are short after an event, from the paths before it.
 use Rattle.std.proofs.Common.{◌≡◌, ℕ, zero, suc, Bool, true, false, cond, List, [], ◌∷◌, length, map, subst, refl, ap, sym, ◌∙◌}
 use Rattle.std.specs.Prelude.{◌==◌, ◌&&◌, not, nat_le, filter, Option, Some, None}
 use Rattle.std.specs.Option.{option_map}

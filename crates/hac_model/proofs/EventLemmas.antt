@@ -51,14 +51,14 @@ use Rattle.hac_model.proofs.LookLemmas.{IsFreePlace, file-or_directory, free-is,
 use Rattle.hac_model.proofs.PassedLemmas.{step-passes}
 use Rattle.hac_model.proofs.TreeLemmas.{Lives, entry_at-above, entry_at-behind, entry_at-first}
 
--- What the paths of a command lead to stands there.
+-- What the paths of a command lead to is in the state.
 
 -- something lives there, or the place is free
 abbrev pub PlaceStands : State → Place → Type 0
 PlaceStands s (There number) = Lives s.entries number
 PlaceStands s (Free dir name) = IsFreePlace s.entries dir name
 
--- what a command speaks of stands in the state, and its words are as a line spells them
+-- what a command refers to is in the state, and its words are as a line spells them
 abbrev pub Stands : State → Resolved → Type 0
 Stands s (Mkdir place) = PlaceStands s place
 Stands s (Rmdir dir) = is_directory_at s.entries dir ≡ true
@@ -92,7 +92,7 @@ place-stands : (s : State) (session : List ℕ) (word : PathWord) (found : Place
 place-stands s session word (There number) h named leads = place-lives s session word number leads
 place-stands s session word (Free dir name) h named leads = place-free s session word dir name h named leads
 
--- what stands at the end of a path lives
+-- the entry at the end of a path lives
 entry-lives : (s : State) (session : List ℕ) (word : PathWord) (n : ℕ) → entry s session word ≡ Ok n → Lives s.entries n
 entry-lives s session word n h = there (then-ok (standing s) (place s session word) n h)
   where
@@ -113,7 +113,7 @@ listed-stands s session None n h leads =
     let root : n ≡ 0 = sym same ∙ session-root s session h in
     ap (is_directory_at s.entries) root
 
--- a query with its directories by number holds as much as with them by word, and they stand there
+-- a query with its directories by number has the same size as with them by word, and they are in the state
 record IsNumbered (s : State) (raw : Formula PathWord) (asked : Formula ℕ) : Type 0 where
   terms : are_terms asked ≡ are_terms raw
   count : term_count asked ≡ term_count raw
@@ -254,7 +254,7 @@ resolved-stands s session (command.Sls path) r h spelled leads =
 resolved-stands s session command.Index r h spelled leads = let same : Index ≡ r = cc in subst (Stands s) same tt
 resolved-stands s session other r h spelled leads = absurd cc
 
--- A command that nothing speaks against comes to events that can happen.
+-- The events of a command that isn't refused can happen.
 
 -- no cause of a list means that the first one isn't there, nor any behind it
 pub no_cause : (first : Option Refusal) (causes : List (Option Refusal)) → first_cause (first ∷ causes) ≡ None → (first ≡ None) × (first_cause causes ≡ None)
@@ -273,7 +273,7 @@ no_limit : (o : Option LimitWord) → option_map refusal.Limit o ≡ None → o 
 no_limit None h = refl
 no_limit (Some word) h = absurd cc
 
--- nothing stands in the way, no directory would depend on itself, and the state that would come exceeds no limit
+-- nothing blocks the event, no directory would depend on itself, and the next state exceeds no limit
 pub cause-parts : (s : State) (r : Resolved) → cause s r ≡ None → (blocked s r ≡ None) × (cycle_cause s r ≡ None) × (passed (led_to s r) ≡ None)
 cause-parts s r h =
     let both = no_cause (early_cause s r) (answer_cause s r ∷ []) h in
@@ -363,7 +363,7 @@ all-valid (e ∷ events) s h happen = all-valid events (apply s e) (apply-valid 
 free-root : (s : State) (n : ℕ) (more : List (Option Refusal)) → first_cause (root_cause n ∷ more) ≡ None → ((n == 0) ≡ false) × (first_cause more ≡ None)
 free-root s n more free = let parts = no_cause (root_cause n) more free in (no_refusal (n == 0) refusal.Root parts.0, parts.1)
 
--- no query names a directory that none is told to name
+-- where no query is found that names a directory, none names it
 unreferenced : (s : State) (dir : ℕ) → referenced_cause s dir ≡ None → is_unreferenced s dir ≡ true
 unreferenced s dir none = all s.entries (no-paths (referrers s dir) (no-referenced (least_path (map (λ e. path_of s e.number) (referrers s dir))) none))
   where

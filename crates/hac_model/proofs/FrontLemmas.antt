@@ -1,4 +1,4 @@
--- Of what stands behind a line, the bytes that it asks for are all that counts.
+-- Of the bytes behind a line only those that it asks for count.
 use Rattle.std.proofs.Common.{◌≡◌, ℕ, Bool, true, false, cond, List, [], ◌∷◌, ◌++◌, length, refl, ap, sym, ◌∙◌, arith, length-append}
 use Rattle.std.specs.Prelude.{nat_le, nat_lt, None, Result, Ok, Err}
 use Rattle.std.specs.Option.{unwrap_or}

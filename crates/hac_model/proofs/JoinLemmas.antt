@@ -29,7 +29,7 @@ le-told m n h = grind (arith, common_steps, h)
 pub position-ended : (a more : List ℕ) → position_or_len is_line_end a < length a → position_or_len is_line_end (a ++ more) ≡ position_or_len is_line_end a
 position-ended a more h = grind (arith, common_steps, prefix_len-append (λ b. not (is_line_end b)) a more)
 
--- bytes without a line end end where the next line end stands
+-- bytes without a line end end where the next line end is
 pub position-unended : (a b : List ℕ) → position_or_len is_line_end a ≡ length a → position_or_len is_line_end (a ++ 10 ∷ b) ≡ length a
 position-unended a b e = grind (arith, common_steps, prefix_len-append (λ x. not (is_line_end x)) a (10 ∷ b))
 
@@ -79,7 +79,7 @@ script-line line xs more unended asked =
     ∙ ap (λ (items : List Item). items ++ script (after_item b)) (first_items-line line xs more unended asked)
     ∙ ap (λ (rest : List ℕ). items_of line xs ++ script rest) (after_item-line line xs more unended asked)
 
--- whether a line with its end is whole is told by the bytes behind it
+-- whether a line with its end is whole depends on the bytes behind it
 is_first_whole-line : (line behind : List ℕ) → position_or_len is_line_end line ≡ length line → is_first_whole (line ++ 10 ∷ behind) ≡ nat_le (due line) (length behind)
 is_first_whole-line line behind unended =
     let b = line ++ 10 ∷ behind in

@@ -100,7 +100,7 @@ edge-semantic s d e edge = elim (query_at s d) as (λ o. Among (option_map_or (�
 edge-among : (s : State) (d e : ℕ) → Among (depends s d) e → Among (semantic_numbers s.entries) d
 edge-among s d e edge = semantic-among s.entries d (edge-semantic s d e edge)
 
-provide-same : (s : State) (a b : ℕ → Bool) (dir item : ℕ) → a dir ≡ b dir → provide s a dir item ≡ provide s b dir item
+pub provide-same : (s : State) (a b : ℕ → Bool) (dir item : ℕ) → a dir ≡ b dir → provide s a dir item ≡ provide s b dir item
 provide-same s a b dir item same = ap (λ (t : Bool). is_below s dir item || (is_semantic s dir && (t || is_permanent s dir item))) same
 
 -- a query looks at the links of the directories that it names
@@ -150,7 +150,7 @@ trail-next s free d e trail edge v inside =
       ])
     ] refl
 
--- after as many rounds as directories are free, the links of a directory no longer tell where the rounds began
+-- after as many rounds as directories are free, the links of a directory no longer depend on where the rounds began
 settled : (s : State) → IsAcyclic s → (k : ℕ) (free : List ℕ) (d : ℕ) (b c : ℕ → List ℕ) → length free ≤ k → Trail s (semantic_numbers s.entries) free d →
     ((v : ℕ) → (Among (semantic_numbers s.entries) v → ⊥) → b v ≡ c v) → iterate k (round s) b d ≡ iterate k (round s) c d
 settled s acyclic zero free d b c few trail outside =

@@ -154,7 +154,7 @@ look-lives s path n h = walk-lives s.entries 0 [] path n (inl refl) (sym (look-w
 pub look-free : (s : State) (path : List (List ℕ)) (dir : ℕ) (name : List ℕ) → IsLayout s → are_names path ≡ true → look s path ≡ Ok (Free dir name) → IsFreePlace s.entries dir name
 look-free s path dir name layout named h = walk-free s 0 [] path dir name layout refl named (sym (look-walk s path) ∙ h)
 
--- every session stands in the root
+-- every session is in the root
 pub session-root : (s : State) (session : List ℕ) → IsValid s → stands_in s.sessions session ≡ 0
 session-root s session h = ap (λ (sessions : List Session). stands_in sessions session) h.sessions
 

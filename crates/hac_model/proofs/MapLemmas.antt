@@ -96,7 +96,7 @@ measured-mapped f edit (e ∷ es) same =
     let here : f (edit e.body) ≡ f e.body = same e.body in
     omega (arith, measured-cons f (edited edit e) (map (edited edit) es), measured-cons f e es, here, measured-mapped f edit es same)
 
--- the limits are told as before
+-- the limits are as before
 counts-mapped : (edit : Body → Body) (s : State) → KeepsMeasures edit → first_passed (layout_limits (counts (mapped edit s)) ++ answer_limits (counts (mapped edit s))) ≡ first_passed (layout_limits (counts s) ++ answer_limits (counts s))
 counts-mapped edit s keeps = λ i. first_passed (
     limits_of.limit (texts i) TEXTS_LIMIT Texts ∷ limits_of.limit (dirs i) DIRS_LIMIT Dirs ∷ limits_of.limit (semantics i) SEMANTICS_LIMIT Semantics

@@ -1,4 +1,4 @@
--- Lists of marks: who stands in them after an item was put in or taken out, and that they rise.
+-- Lists of marks: what is in them after an item was put in or taken out, and that they rise.
 use Rattle.std.proofs.Common.{◌≡◌, ℕ, ◌+◌, ◌≤◌, Bool, true, false, cond, List, [], ◌∷◌, refl, ap, sym, ◌∙◌, arith, eq-eqb, inl, inr}
 use Rattle.std.specs.Prelude.{◌==◌, ◌&&◌, ◌||◌, not, nat_lt, filter}
 use Rattle.std.specs.List.{AllByRecursion}

@@ -216,7 +216,7 @@ names-moved s n dir name e m h move lives = from_root s (λ m. (steps : ℕ) →
 lineage-moved : (s : State) (n dir : ℕ) (name : List ℕ) (e : Entry) (m : ℕ) → IsLayout s → IsMove s n dir e → Lives s.entries m → names_of (lineage (changed n (reseated dir name) s.entries) m) ≡ take (suc limit) (reverse (renamed s n dir name m))
 lineage-moved s n dir name e m h move lives = ap names_of (lineage-is (changed n (reseated dir name) s.entries) m) ∙ names-moved s n dir name e m h move lives (suc limit)
 
--- so many of them as the new path has names, or one more than it may have
+-- as many of them as the new path has names, or one more than it may have
 length-moved : (s : State) (n dir : ℕ) (name : List ℕ) (e : Entry) (m : ℕ) → IsLayout s → IsMove s n dir e → Lives s.entries m → length (lineage (changed n (reseated dir name) s.entries) m) ≡ min (suc limit) (length (renamed s n dir name m))
 length-moved s n dir name e m h move lives =
     sym (length-map (lineage (changed n (reseated dir name) s.entries) m) (λ (e : Entry). e.name))

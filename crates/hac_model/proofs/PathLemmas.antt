@@ -35,7 +35,7 @@ pub ancestors-none : (steps : ℕ) (es : List Entry) (n : ℕ) → entry_at es n
 ancestors-none zero es n none = refl
 ancestors-none (suc steps) es n none = ap (ancestors_by steps es) none
 
--- fewer steps tell the first ones
+-- fewer steps give the first of the ancestors
 pub ancestors-taken : (steps : ℕ) (es : List Entry) (n : ℕ) → ancestors steps es n ≡ take steps (ancestors (suc steps) es n)
 ancestors-taken zero es n = refl
 ancestors-taken (suc steps) es n =
@@ -44,7 +44,7 @@ ancestors-taken (suc steps) es n =
       | Some e ↦ ap (λ (above : List Entry). e ∷ above) (ancestors-taken steps es e.parent)
     ]
 
--- where steps are left over, one step more tells no more
+-- where steps are left over, one step more gives nothing more
 pub ancestors-more : (steps : ℕ) (es : List Entry) (n : ℕ) → length (ancestors steps es n) < steps → ancestors (suc steps) es n ≡ ancestors steps es n
 ancestors-more zero es n few = absurd (omega arith)
 ancestors-more (suc steps) es n few =
@@ -55,7 +55,7 @@ ancestors-more (suc steps) es n few =
           ancestors-step (suc steps) es n e found ∙ ap (λ (above : List Entry). e ∷ above) (ancestors-more steps es e.parent fewer) ∙ sym (ancestors-step steps es n e found))
     ] refl
 
--- so many steps are enough for a short path, and one is left over
+-- for a short path the steps are enough, and one is left over
 unfoldable pub limit : ℕ
 limit = PATH_LIMIT
 
@@ -107,21 +107,21 @@ pub path_of-few : (s : State) (n : ℕ) → IsLayout s → Lives s.entries n →
 unfolding limit
 path_of-few s n h lives = subst (λ (k : ℕ). k ≤ PATH_LIMIT) (sym (length-path s n)) (few-ancestors s n h lives)
 
--- what lives and is no root stands in a directory, which lives
+-- what lives and isn't the root is in a directory, which lives
 pub parent-directory : (s : State) (n : ℕ) (e : Entry) → IsLayout s → entry_at s.entries n ≡ Some e → is_directory_at s.entries e.parent ≡ true
 parent-directory s n e h found = entry_at-all (λ e. IsTrue (is_directory_at s.entries e.parent)) s.entries n e h.parents found
 
 pub parent-lives : (s : State) (n : ℕ) (e : Entry) → IsLayout s → entry_at s.entries n ≡ Some e → Lives s.entries e.parent
 parent-lives s n e h found = directory-lives s.entries e.parent (parent-directory s n e h found)
 
--- the ancestors of what lives, told by its directory's
+-- the ancestors of what lives, from those of its directory
 pub lineage-parent : (s : State) (n : ℕ) (e : Entry) → IsLayout s → entry_at s.entries n ≡ Some e → lineage s.entries n ≡ e ∷ lineage s.entries e.parent
 lineage-parent s n e h found =
     let step = lineage-is s.entries n ∙ ancestors-step limit s.entries n e found in
     let few : length (ancestors limit s.entries e.parent) < limit = omega (arith, few-ancestors s n h (inr (e, found)), ap length step) in
     step ∙ ap (λ (above : List Entry). e ∷ above) (sym (ancestors-more limit s.entries e.parent few) ∙ sym (lineage-is s.entries e.parent))
 
--- so many steps are enough for what lives
+-- for what lives the steps are enough
 pub lineage-take : (s : State) (n : ℕ) → IsLayout s → Lives s.entries n → ancestors limit s.entries n ≡ lineage s.entries n
 lineage-take s n h lives =
     ancestors-taken limit s.entries n
@@ -198,7 +198,7 @@ abbrev pub walk_on : List Entry → List (List ℕ) → List ℕ → List (List 
 walk_on es walked name rest number =
     cond (has_names rest && is_file_at es number) (Err (NotDir (walked ++ name ∷ []))) (walk es number (walked ++ name ∷ []) rest)
 
--- a walk from the root over a path comes to where the path leads, and goes on from there
+-- a walk from the root over a path ends where the path leads, and goes on from there
 pub walk-path : (s : State) (n : ℕ) (rest : List (List ℕ)) → IsLayout s → Lives s.entries n → (has_names rest && is_file_at s.entries n) ≡ false → walk s.entries 0 [] (path_of s n ++ rest) ≡ walk s.entries n (path_of s n) rest
 walk-path s n rest h lives goes =
     from_root s (λ n. (rest : List (List ℕ)) → (has_names rest && is_file_at s.entries n) ≡ false → walk s.entries 0 [] (path_of s n ++ rest) ≡ walk s.entries n (path_of s n) rest) h root step n lives rest goes
@@ -235,11 +235,11 @@ extends-last (z ∷ path) (y ∷ base) x =
     ap (λ (b : Bool). bytes_eq z y && b) (extends-last path base x)
     ∙ (elim (bytes_eq z y) as (λ b. (b && (is_same_path path base || extends path base)) ≡ ((b && is_same_path path base) || (b && extends path base))) [ true ↦ refl | false ↦ refl ])
 
--- nothing stands above the root
+-- nothing is above the root
 pub extends-root : (s : State) (base : List (List ℕ)) → IsLayout s → extends (path_of s 0) base ≡ false
 extends-root s base h = ap (λ (p : List (List ℕ)). extends p base) (path_of-root s h)
 
--- what an entry stands below is its directory, and what that stands below
+-- above an entry are its directory and all that is above that one
 pub extends-parent : (s : State) (n d : ℕ) (e : Entry) → IsLayout s → Lives s.entries d → entry_at s.entries n ≡ Some e → extends (path_of s n) (path_of s d) ≡ (e.parent == d || extends (path_of s e.parent) (path_of s d))
 extends-parent s n d e h lives found =
     let one : Decides (is_same_path (path_of s e.parent) (path_of s d)) (e.parent ≡ d) =
@@ -248,7 +248,7 @@ extends-parent s n d e h lives found =
     ∙ extends-last (path_of s e.parent) (path_of s d) e.name
     ∙ ap (λ (b : Bool). b || extends (path_of s e.parent) (path_of s d)) (same_from_decides (is_same_path (path_of s e.parent) (path_of s d)) (e.parent == d) one (Decides-eqb e.parent d))
 
--- so many steps over parents lead from a number to another
+-- this many steps over parents lead from a number to another
 abbrev pub Rises : List Entry → ℕ → ℕ → ℕ → Type 0
 Rises es zero n d = n ≡ d
 Rises es (suc steps) n d = (e : Entry) × (entry_at es n ≡ Some e) × Rises es steps e.parent d

@@ -1,4 +1,4 @@
--- What the plain tree of a valid state tells.
+-- What the plain tree of a valid state shows.
 use Rattle.std.proofs.Common.{◌≡◌, ℕ, ◌<◌, ◌≤◌, List, [], ◌∷◌, ◌++◌, subst, refl, ap, sym, ◌∙◌, arith, inl, inr, append_assoc}
 use Rattle.std.specs.Prelude.{◌⊎◌, Option, Some, None, option_and_then}
 use Rattle.std.specs.Option.{option_map, unwrap_or}
@@ -16,7 +16,7 @@ use Rattle.hac_model.proofs.PathLemmas.{from_root, parent-lives, path_of-parent,
 use Rattle.hac_model.proofs.LookLemmas.{child-lives, child-path}
 use Rattle.hac_model.proofs.TreeLemmas.{Lives, child-own, entry_at-behind, entry_at-cases, entry_at-first, entry_at-low, entry_at-number}
 
--- one name more leads to a child of what stands there
+-- one name more leads to a child of the entry there
 stands-last : (es : List Entry) (dir : ℕ) (path : List (List ℕ)) (name : List ℕ) → stands_at es dir (path ++ name ∷ []) ≡ option_and_then (λ number. child es number name) (stands_at es dir path)
 stands-last es dir [] name = elim (child es dir name) as (λ o. option_and_then (λ number. Some number) o ≡ o) [ None ↦ refl | Some n ↦ refl ]
 stands-last es dir (x ∷ path) name = elim (child es dir x) as (λ o. option_and_then (λ n. stands_at es n (path ++ name ∷ [])) o ≡ option_and_then (λ n. child es n name) (option_and_then (λ n. stands_at es n path) o)) [
@@ -24,7 +24,7 @@ stands-last es dir (x ∷ path) name = elim (child es dir x) as (λ o. option_an
   | Some n ↦ stands-last es n path name
 ]
 
--- what lives stands at its path
+-- what lives is found at its path
 pub stands-path : (s : State) (n : ℕ) → IsLayout s → Lives s.entries n → stands_at s.entries 0 (path_of s n) ≡ Some n
 stands-path s n h lives = from_root s (λ n. stands_at s.entries 0 (path_of s n) ≡ Some n) h (ap (stands_at s.entries 0) (path_of-root s h)) step n lives
   where
@@ -35,7 +35,7 @@ stands-path s n h lives = from_root s (λ n. stands_at s.entries 0 (path_of s n)
         ∙ ap (λ (o : Option ℕ). option_and_then (λ number. child s.entries number e.name) o) known
         ∙ child-own s.entries n e h.differ found
 
--- what stands at a path has that path
+-- what is found at a path has that path
 stands-found : (s : State) (dir : ℕ) (names : List (List ℕ)) (n : ℕ) → IsLayout s → Lives s.entries dir → stands_at s.entries dir names ≡ Some n → (path_of s n ≡ path_of s dir ++ names) × Lives s.entries n
 stands-found s dir [] n h lives found = let same : dir ≡ n = cc in (ap (path_of s) (sym same) ∙ sym (append-nil (path_of s dir)), subst (Lives s.entries) same lives)
 stands-found s dir (name ∷ names) n h lives found =
@@ -64,7 +64,7 @@ row-of s (Some m) row h =
 row-parts : (s : State) (path : List (List ℕ)) (row : Row) → plain s path ≡ Some row → (stands_at s.entries 0 path ≡ Some row.0) × (body_of s row.0 ≡ row.1)
 row-parts s path row h = row-of s (stands_at s.entries 0 path) row h
 
--- a number of one state stands at the same path in another that shows the same tree
+-- a number of one state has the same path in another that shows the same tree
 there-too : (s t : State) (n : ℕ) → IsLayout s → ((path : List (List ℕ)) → plain s path ≡ plain t path) → Lives s.entries n → (stands_at t.entries 0 (path_of s n) ≡ Some n) × (body_of t n ≡ body_of s n)
 there-too s t n h same lives =
     row-parts t (path_of s n) (n, body_of s n) (sym (same (path_of s n)) ∙ ap (row_of s) (stands-path s n h lives))
@@ -105,7 +105,7 @@ same-lookup s t n h k same = elim (entry_at-cases s.entries n) [
   ]
 ]
 
--- entries whose numbers rise are told by what is looked up among them
+-- entries whose numbers rise are known by what is looked up among them
 entries-told : (above : ℕ) (es fs : List Entry) (next : ℕ) → NumbersRise above es next → NumbersRise above fs next → ((n : ℕ) → entry_at es n ≡ entry_at fs n) → es ≡ fs
 entries-told above [] [] next h k same = refl
 entries-told above [] (f ∷ fs) next h k same = let never : None ≡ Some f = same f.number ∙ entry_at-first f fs in absurd cc

@@ -1,5 +1,5 @@
 -- The first line end of a list, found from a place before it on.
-use Rattle.std.proofs.Common.{◌≡◌, ℕ, zero, suc, ◌+◌, ◌-◌, ◌<◌, ◌≤◌, Bool, true, false, cond, List, [], ◌∷◌, length, take, drop, refl, ap, ◌∙◌, arith}
+use Rattle.std.proofs.Common.{◌≡◌, ℕ, zero, suc, ◌+◌, ◌-◌, ◌≤◌, Bool, true, false, cond, List, [], ◌∷◌, length, take, drop, refl, ap, ◌∙◌, arith}
 use Rattle.std.specs.List.{prefix_len, position_or_len}
 use Rattle.std.specs.Prelude.{not, position, nat_lt, Some, None}
 use Rattle.std.proofs.lemmas.List.{length-drop, take_rest}
@@ -26,7 +26,7 @@ prefix_len-take p zero xs h = refl
 prefix_len-take p (suc n) [] h = refl
 prefix_len-take p (suc n) (x ∷ xs) h = passed_front (p x) n (prefix_len p xs) (prefix_len p (take n xs)) (length (take n xs)) (prefix_len-take p n xs) h
 
--- the first line end is where it stands behind a front that has none
+-- behind a front without a line end, the first line end is that of the rest
 pub position-skip : (p : ℕ → Bool) (n : ℕ) (xs : List ℕ) → n ≤ position_or_len p xs → position_or_len p xs ≡ n + position_or_len p (drop n xs)
 position-skip p n xs h = prefix_len-skip (λ x. not (p x)) n xs h
 
@@ -51,9 +51,6 @@ position-from p n xs h =
 
 pub position-none : (p : ℕ → Bool) (xs : List ℕ) → position p xs ≡ None → position_or_len p xs ≡ length xs
 position-none p xs e = elim (nat_lt (position_or_len p xs) (length xs)) as (λ b. nat_lt (position_or_len p xs) (length xs) ≡ b → cond b (Some (position_or_len p xs)) None ≡ None → position_or_len p xs ≡ length xs) [ true ↦ (λ _ e. cc) | false ↦ (λ other _. grind (arith, common_steps, other, prefix_len-le-length (λ x. not (p x)) xs)) ] refl e
-
-pub position-some : (p : ℕ → Bool) (xs : List ℕ) (n : ℕ) → position p xs ≡ Some n → (n ≡ position_or_len p xs) × (n < length xs)
-position-some p xs n e = elim (nat_lt (position_or_len p xs) (length xs)) as (λ b. nat_lt (position_or_len p xs) (length xs) ≡ b → cond b (Some (position_or_len p xs)) None ≡ Some n → (n ≡ position_or_len p xs) × (n < length xs)) [ true ↦ (λ test e. let same : n ≡ position_or_len p xs = cc in (same, grind (arith, common_steps, test, same))) | false ↦ (λ _ e. cc) ] refl e
 
 -- a front that has no line end has none
 pub unended-take : (p : ℕ → Bool) (n : ℕ) (xs : List ℕ) → n ≤ position_or_len p xs → position_or_len p (take n xs) ≡ length (take n xs)

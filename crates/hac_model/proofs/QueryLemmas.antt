@@ -1,4 +1,5 @@
--- A query that is read is as a line spells it: it holds no more than a query may, and its directories begin at the root.
+-- A query that is read is as a line spells it: it holds no more than a query may, and its directories begin at the
+-- root.
 use Rattle.std.proofs.Common.{◌≡◌, ℕ, zero, suc, ◌+◌, ◌≤◌, Bool, true, false, cond, List, [], ◌∷◌, ◌++◌, length, Option, Some, None, Result, Ok, Err, refl, ap, sym, subst, ◌∙◌, arith, length-append, le_refl}
 use Rattle.std.specs.Prelude.{◌&&◌, ◌==◌, nat_le, nat_lt, max, map, slice_index, codes, option_and_then, ⊤}
 use Rattle.std.specs.Char.{to_ascii_lowercase}
@@ -83,7 +84,7 @@ abbrev all_letters : List Level → ℕ
 all_letters [] = 0
 all_letters (l ∷ outer) = level_letters l + all_letters outer
 
--- what is wanted, or held, is good, and has no more letters than so many
+-- what is wanted, or held, is good, and has at most this many letters
 record WantedGood (n : ℕ) (w : Wanted) : Type 0 where
   level : GoodLevel w.level
   outer : GoodLevels w.outer
@@ -286,7 +287,7 @@ GoodOperand operand.Brace = ⊤
 GoodOperand (operand.Path path) = IsRooted path
 GoodOperand (operand.Escape path) = IsRooted path
 
--- what was read of so many bytes is good
+-- what was read of this many bytes is good
 record WantsGood (n : ℕ) (read : Operand) (w : Wanted) : Type 0 where
   operand : GoodOperand read
   level : GoodLevel w.level
@@ -509,7 +510,7 @@ ends n (Holds operator.And h) good = tt
 ends n (Holds operator.O h) good = tt
 ends n (Holds operator.Or h) good = tt
 
--- the part that was read of so many bytes is good
+-- the part that was read of this many bytes is good
 abbrev ReadGood : ℕ → Result Part ℕ → Type 0
 ReadGood n (Ok part) = PartGood n part
 ReadGood n (Err place) = ⊤

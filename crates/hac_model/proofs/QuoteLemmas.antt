@@ -88,7 +88,7 @@ quoted_byte-plain b other plain =
 quoted_byte-escaped : (b : ℕ) → (is_quote b || is_backslash b) ≡ true → quoted_byte b ≡ 92 ∷ b ∷ []
 quoted_byte-escaped b meant = ap (λ (s : Bool). if s then 92 ∷ b ∷ [] else b ∷ []) meant
 
--- what stands in quotes up to the closing one, and then the rest
+-- what is in quotes up to the closing one, and then the rest
 abbrev pub spelled : List ℕ → List ℕ → List ℕ
 spelled word rest = flat_map quoted_byte word ++ 34 ∷ rest
 

@@ -1,5 +1,5 @@
--- Each event that can happen to a valid state has a spelling: its numbers have four bytes, and its names, texts and queries
--- are no longer than such may be.
+-- Each event that can happen to a valid state has a spelling: its numbers have four bytes, and its names, texts and
+-- queries are no longer than such may be.
 use Rattle.std.proofs.Common.{inl, inr, ◌≡◌, ℕ, ◌<◌, ◌≤◌, Bool, true, false, List, [], ◌∷◌, length, refl, ap, sym, ◌∙◌, arith}
 use Rattle.std.specs.Prelude.{codes, not, option_and_then, ◌&&◌, ◌==◌, nat_le, Option, Some, None, IsTrue, is_none, is_some}
 use Rattle.std.proofs.lemmas.Bool.{and_from, and_parts, eqb-true}
@@ -170,7 +170,7 @@ module _ (s : State) (h : IsValid s) where
 pub accepted-spelled : (s : State) (e : Event) → IsValid s → IsTrue (accepted s e) → IsTrue (is_spellable e)
 accepted-spelled s e h is = possible-spelled s h e (accepted-parts (is_possible s e) (passed (apply s e)) is).0
 
--- no session stands elsewhere than in the root, so all of a valid state is stored
+-- every session is in the root, so all of a valid state is stored
 pub all-stored : (s : State) → IsValid s → stored s ≡ s
 all-stored s h = ap (λ (sessions : List Session). record s { sessions = sessions }) (sym h.sessions)
 

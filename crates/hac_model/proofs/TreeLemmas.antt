@@ -128,7 +128,7 @@ child-own (first ∷ es) n e h found =
       | false ↦ (λ here. there)
     ] refl
 
--- what a directory has under a name is an entry that stands there
+-- what a directory has under a name is an entry of that directory
 pub child-entry : (above : ℕ) (es : List Entry) (next d n : ℕ) (x : List ℕ) → NumbersRise above es next → child es d x ≡ Some n → (e : Entry) × (entry_at es n ≡ Some e) × (e.parent ≡ d) × (e.name ≡ x)
 child-entry above [] next d n x h found = absurd cc
 child-entry above (first ∷ es) next d n x h found =

@@ -101,7 +101,7 @@ removed-layout s n h bare limits =
     stay [] other there = tt
     stay (e ∷ es) other there = (directory-kept n s.entries e.parent other.0 ∙ there.0, stay es other.1 there.1)
 
--- nothing stands in a file
+-- nothing is in a file
 pub file-bare : (s : State) (n : ℕ) → IsLayout s → is_file_at s.entries n ≡ true → AllByRecursion (λ e. n ≡ e.parent → ⊥) s.entries
 file-bare s n h file = all-weaker (λ e. IsTrue (is_directory_at s.entries e.parent)) (λ e. n ≡ e.parent → ⊥) s.entries (λ e there same.
     let other : is_file_at s.entries e.parent ≡ false = directory-no_file s.entries e.parent (root-none s h) there in

@@ -1,4 +1,5 @@
--- What is whole of a script is its longest front that is made of lines, each with its end and the bytes that belong to it.
+-- What is whole of a script is its longest front that is made of lines, each with its end and the bytes that belong to
+-- it.
 use Rattle.std.proofs.Common.{◌≡◌, ℕ, zero, suc, ◌<◌, ◌≤◌, Bool, true, false, List, [], ◌∷◌, ◌++◌, length, take, refl, ap, sym, ◌∙◌, arith, append_assoc, length-append}
 use Rattle.std.specs.Prelude.{if◌then◌else◌}
 use Rattle.hac_model.specs.Laws.{AreLines}

@@ -1,4 +1,4 @@
--- A state without what stands beside its tree: marks, kept answers and sessions.
+-- A state without what is kept beside its tree: marks, kept answers and sessions.
 use Rattle.std.specs.Prelude.{[], map}
 use Rattle.hac_model.specs.Events.{edited}
 use Rattle.hac_model.specs.declared.states.Body.{Body}

@@ -19,12 +19,12 @@ is_option word = nat_le 2 (length word) && bytes_eq (take 1 word) (codes "-")
 abbrev pub is_no_option : List ℕ → Bool
 is_no_option word = not (is_option word)
 
--- `--new` stands there once, and no other option does
+-- `--new` is given once, and no other option is
 abbrev pub is_new : List (List ℕ) → Bool
 is_new (word ∷ []) = bytes_eq word (codes "--new")
 is_new other = false
 
--- no option stands there, or `--new`, once
+-- no option is given, or `--new`, once
 abbrev pub are_known : List (List ℕ) → Bool
 are_known [] = true
 are_known (word ∷ words) = is_new (word ∷ words)
@@ -34,7 +34,7 @@ abbrev pub asked_by : List (List ℕ) → List (List ℕ) → Option Options
 asked_by given (store ∷ []) = if are_known given && nat_le 1 (length store) then Some (record { fresh = is_new given; store = store }) else None
 asked_by given other = None
 
--- what words ask for, if they are a line of the program: `[--new] STORE`, where options stand anywhere before `--`
+-- what words ask for, if they fit the usage: `[--new] STORE`, with options anywhere before `--`
 unfoldable pub options : List (List ℕ) → Option Options
 options words =
     let before = before_first ends_options words in

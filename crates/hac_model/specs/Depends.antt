@@ -17,17 +17,17 @@ named_in (Not query) = named_in query
 named_in (And left right) = named_in left ++ named_in right
 named_in (Or left right) = named_in left ++ named_in right
 
--- the directories that a directory depends on: a semantic one on that in which it stands, and on those that its query
+-- the directories that a directory depends on: a semantic one on its parent, and on those that its query
 -- names
 abbrev pub depends : State → ℕ → List ℕ
 depends s dir = option_map_or (λ query. parent_of s dir ∷ named_in query) (query_at s dir) []
 
--- the number is one of these, told by cases
+-- the number is one of these, by cases
 abbrev pub Among : List ℕ → ℕ → Type 0
 Among [] number = ⊥
 Among (first ∷ numbers) number = (first ≡ number) ⊎ Among numbers number
 
--- so many steps lead from one number to another, given where each leads
+-- this many steps lead from one number to another, given where each leads
 abbrev pub Leads : (ℕ → List ℕ) → ℕ → ℕ → ℕ → Type 0
 Leads edges zero from to = from ≡ to
 Leads edges (suc steps) from to = (next : ℕ) × (Among (edges from) next) × (Leads edges steps next to)
@@ -44,7 +44,7 @@ NeverReturns edges = (steps number : ℕ) → ¬ Leads edges (suc steps) number 
 abbrev pub IsAcyclic : State → Type 0
 IsAcyclic s = NeverReturns (depends s)
 
--- at most so many steps lead from one number to another
+-- at most this many steps lead from one number to another
 abbrev pub leads_within : (ℕ → List ℕ) → ℕ → ℕ → ℕ → Bool
 leads_within edges zero from to = from == to
 leads_within edges (suc steps) from to = from == to || list_any (λ next. leads_within edges steps next to) (edges from)

@@ -22,7 +22,7 @@ number_at width bytes =
     if nat_lt (length bytes) (byte_len width) then Err (length bytes)
     else Ok (from_le_bytes width (take (byte_len width) bytes), drop (byte_len width) bytes)
 
--- a number of so many bytes, the lowest first
+-- a number of this many bytes, the lowest first
 abbrev pub number : Width → Field ℕ
 number width = record { fits = λ n. nat_lt n (256 ^ byte_len width); text = λ n. to_le_bytes width n; read = λ bytes. number_at width bytes }
 
@@ -37,7 +37,7 @@ run_at width most test bytes =
     if nat_le (byte_len width + count) (length bytes) && nat_le count most && test (take count rest) then Ok (take count rest, drop count rest)
     else Err (length bytes)
 
--- bytes behind their number, at most so many, which pass a test. All of it is one field.
+-- bytes behind their number, at most this many, which pass a test. All of it is one field.
 abbrev pub run : Width → ℕ → (List ℕ → Bool) → Field (List ℕ)
 run width most test = record {
   fits = λ run. nat_le (length run) most && test run;
@@ -68,7 +68,7 @@ checked f test = record {
   read = λ bytes. f.read bytes >>= λ x. if test x.0 then Ok x else Err (length bytes);
 }
 
--- so many items, one behind the other. An item's field may depend on the item before it, which the first one lacks.
+-- this many items, one behind the other. An item's field may depend on the item before it, which the first one lacks.
 unfoldable pub items_at : {A : Type 0} → (Option A → Field A) → ℕ → Option A → List ℕ → Result (List A × List ℕ) ℕ
 items_at item zero last bytes = Ok ([], bytes)
 items_at item (suc n) last bytes =
@@ -106,7 +106,7 @@ pub record Way (A : Type 0) : Type 0 where
   pub kind : ℕ
   pub read : List ℕ → Result (A × List ℕ) ℕ
 
--- by a field, of whose value a value is made
+-- reading by a field, and making a value of what it read
 abbrev pub way : {A B : Type 0} → ℕ → Field A → (A → B) → Way B
 way kind f made = record { kind = kind; read = λ bytes. f.read bytes >>= λ x. Ok (made x.0, x.1) }
 

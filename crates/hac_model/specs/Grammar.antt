@@ -29,7 +29,7 @@ pub data Tree : Rule → Type 0 where
   group : Tree query → Tree prim
   leaf : Leaf → Tree prim
 
--- what spaces may stand between
+-- what spaces may separate
 pub data Token : Type 0 where
   Open Close And Or Not : Token
   Of : Leaf → Token
@@ -67,7 +67,7 @@ or_part p q = record { query = formula.Or p.query q.query; nesting = max p.nesti
 abbrev pub group_part : Part → Part
 group_part p = record { query = p.query; nesting = p.nesting + 1 }
 
--- the query of a tree, and how deep its terms stand in parentheses and `NOT`s
+-- the query of a tree, and how deep its terms are in parentheses and `NOT`s
 abbrev pub meaning : {rule : Rule} → Tree rule → Part
 meaning (of_and t) = meaning t
 meaning (or t u) = or_part (meaning t) (meaning u)
@@ -102,7 +102,7 @@ abbrev pub IsPath : List ℕ → Type 0
 IsPath [] = ⊥
 IsPath (b ∷ bytes) = (b ≡ 47) × AllPathBytes bytes
 
--- a byte of a path between braces: `}` and `\` stand behind a backslash
+-- a byte of a path between braces: `}` and `\` have a backslash before them
 abbrev pub escape : ℕ → List ℕ
 escape b = if b == 125 || b == 92 then 92 ∷ b ∷ [] else b ∷ []
 
@@ -137,7 +137,7 @@ EndsToken (Of (Word letters)) rest = EndsRun rest
 EndsToken (Of (Prefix letters)) rest = ⊤
 EndsToken (Of (Dir path)) rest = ⊤
 
--- so many spaces in front of bytes
+-- this many spaces in front of bytes
 abbrev pub spaced : ℕ → List ℕ → List ℕ
 spaced zero bytes = bytes
 spaced (suc n) bytes = 32 ∷ spaced n bytes

@@ -34,14 +34,14 @@ ScriptsJoin =
     (setting : Setting) (first second : List ℕ) → whole first ≡ first →
     play setting (first ++ second) ≡ play setting first ++ play (left_by setting (play setting first)) second
 
--- the bytes are so many lines, each with its end and the bytes that belong to it
+-- the bytes are this many lines, each with its end and the bytes that belong to it
 abbrev pub AreLines : ℕ → List ℕ → Type 0
 AreLines zero bytes = bytes ≡ []
 AreLines (suc n) bytes =
     (line taken rest : List ℕ) × (position_or_len is_line_end line ≡ length line) × (length taken ≡ due line)
     × (bytes ≡ line ++ 10 ∷ (taken ++ rest)) × AreLines n rest
 
--- what is whole of any bytes is so many lines
+-- what is whole of any bytes is a number of lines
 abbrev pub WholeIsLines : Type 0
 WholeIsLines = (bytes : List ℕ) → (n : ℕ) × AreLines n (whole bytes)
 
@@ -108,8 +108,8 @@ EventsEnd = (setting : Setting) (items : List Item) → (left_by setting (turns 
 abbrev pub AcceptedAreSpelled : Type 0
 AcceptedAreSpelled = (s : State) (event : Event) → IsValid s → IsTrue (accepted s event) → IsTrue (is_spellable event)
 
--- where sessions stand is never stored: what can happen to a state can happen to what is stored of it, and leads to what is
--- stored of the outcome
+-- where sessions stand is never stored: what can happen to a state can happen to what is stored of it, and leads to
+-- what is stored of the outcome
 abbrev pub SessionsAreNotStored : Type 0
 SessionsAreNotStored = (s : State) (event : Event) → IsValid s → IsTrue (accepted s event) → IsTrue (accepted (stored s) event) × (stored (apply s event) ≡ apply (stored s) event)
 
@@ -153,7 +153,7 @@ PrintedTextIsRead = (text : List ℕ) → text_of (escaped_text text) ≡ Some t
 abbrev pub PrintedTextIsOneLine : Type 0
 PrintedTextIsOneLine = (text : List ℕ) → position_or_len is_line_end (escaped_text text) ≡ length (escaped_text text)
 
--- a byte of a word that stands in quotes
+-- a byte of a word in quotes
 abbrev pub quoted_byte : ℕ → List ℕ
 quoted_byte b = if is_quote b || is_backslash b then 92 ∷ b ∷ [] else b ∷ []
 
@@ -183,8 +183,8 @@ FirstListings =
     codes "ok" ∷ codes "ok" ∷ codes "ok" ∷ codes "ok" ∷ codes "t /a" ∷ codes "ok"
     ∷ codes "ok" ∷ codes "t /a" ∷ codes "ok" ∷ codes "no not-file /s" ∷ codes "no exists /s" ∷ [])
 
--- a semantic directory has files that its parent provides: those below a plain one, the links of a semantic one. So a move
--- takes files out of its links, and brings others in.
+-- a semantic directory has files that its parent provides: those below a plain one, the links of a semantic one. So a
+-- move takes files out of its links, and brings others in.
 abbrev pub MovedListings : Type 0
 MovedListings =
     text (replies (play opening (lines_text (

@@ -48,7 +48,7 @@ plain_count entries = count_by (λ entry. is_plain entry.body) entries
 abbrev pub are_paths_short : List Entry → Bool
 are_paths_short entries = list_all (λ entry. is_path_short entries entry.number) entries
 
--- how many paths have more names than a path may have, told as 1 where there is any
+-- how many paths have more names than a path may have: 1 where there is any
 abbrev pub long_paths : List Entry → ℕ
 long_paths entries = if are_paths_short entries then 0 else 1
 

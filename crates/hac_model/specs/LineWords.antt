@@ -32,7 +32,7 @@ unfoldable mutual
       else (if is_backslash b then quoted_escape bytes
       else in_front b (quoted bytes))
 
-  -- the same from behind a backslash on: it stands before a quote or a backslash, and nothing else
+  -- the same from behind a backslash on: a quote or a backslash follows it, and nothing else may
   pub quoted_escape : List ℕ → Option (List ℕ × List ℕ)
   quoted_escape [] = None
   quoted_escape (b ∷ bytes) = if is_quote b || is_backslash b then in_front b (quoted bytes) else None
@@ -47,14 +47,16 @@ quoted_word bytes = do
   word ← ok_or (quoted bytes) BadLine
   if is_word_end word.1 then Ok word else Err BadLine
 
--- the word at the front, and what follows it: one that begins with a quote runs to the closing quote, any other up to a space
+-- the word at the front, and what follows it: one that begins with a quote runs to the closing quote, any other up to a
+-- space
 abbrev pub word_at : List ℕ → Result (List ℕ × List ℕ) Refusal
 word_at bytes =
     if length bytes == 0 then Err BadLine
     else (if is_quote (slice_index bytes 0) then quoted_word (drop 1 bytes)
     else Ok (first_run bytes, after_first_run bytes))
 
--- the first word, before which spaces don't count, and what follows it. The line is bad where there is none, or its quotes are.
+-- the first word, before which spaces don't count, and what follows it. The line is bad where there is none, or its
+-- quotes are.
 abbrev pub first_word : List ℕ → Result (List ℕ × List ℕ) Refusal
 first_word bytes = word_at (skip_spaces bytes)
 

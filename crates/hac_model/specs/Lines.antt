@@ -23,7 +23,7 @@ use Rattle.hac_model.specs.declared.paths.PathWord.{PathWord}
 use Rattle.hac_model.specs.declared.replies.Refusal.{Refusal}
 use Rattle.hac_model.specs.declared.replies.Refusal.TheVariants.{BadLine, BadName, Limit, ShortPut}
 
--- the one word of the bytes, behind which only spaces stand
+-- the one word of the bytes, with only spaces behind it
 abbrev pub only_word : List ℕ → Result (List ℕ) Refusal
 only_word bytes = do
   word ← first_word bytes
@@ -35,13 +35,13 @@ only_path bytes = do
   word ← only_word bytes
   word_of word
 
--- the command of one path word, from what stands behind its name
+-- the command of one path word, from the bytes behind its name
 unfoldable pub one_path : (PathWord → Command) → List ℕ → Result Command Refusal
 one_path command arguments = do
   path ← only_path arguments
   Ok (command path)
 
--- `ls` with a path or without, from what stands behind `ls`
+-- `ls` with a path or without, from the bytes behind `ls`
 unfoldable pub ls_of : List ℕ → Result Command Refusal
 ls_of arguments = if list_all is_space arguments then Ok (Ls None) else one_path (λ path. Ls (Some path)) arguments
 
@@ -56,7 +56,7 @@ each_path first second = do
 abbrev pub two_paths : List ℕ → List ℕ → Result (PathWord × PathWord) Refusal
 two_paths first second = if is_bad first || is_bad second then Err BadName else each_path first second
 
--- the command of two path words, from what stands behind its name
+-- the command of two path words, from the bytes behind its name
 unfoldable pub of_two_paths : (PathWord → PathWord → Command) → List ℕ → Result Command Refusal
 of_two_paths command arguments = do
   first ← first_word arguments
@@ -68,7 +68,7 @@ of_two_paths command arguments = do
 abbrev pub limited_text : List ℕ → Result (List ℕ) Refusal
 limited_text bytes = if is_text bytes then Ok bytes else Err (Limit limit.Text)
 
--- `write PATH TEXT`, from what stands behind `write`
+-- `write PATH TEXT`, from the bytes behind `write`
 unfoldable pub write_of : List ℕ → Result Command Refusal
 write_of arguments = do
   word ← first_word arguments
@@ -77,7 +77,7 @@ write_of arguments = do
   text ← limited_text spelled
   Ok (Write path text)
 
--- the command of a path word and a query, from what stands behind its name. The query is all that stands behind one space.
+-- the command of a path word and a query, from the bytes behind its name. The query is all that follows one space.
 unfoldable pub path_and_query : (PathWord → Formula PathWord → Command) → List ℕ → Result Command Refusal
 path_and_query command arguments = do
   word ← first_word arguments
@@ -85,17 +85,17 @@ path_and_query command arguments = do
   query ← read_query (after_space word.1)
   Ok (command path query)
 
--- `find QUERY`, from what stands behind `find`
+-- `find QUERY`, from the bytes behind `find`
 unfoldable pub find_of : List ℕ → Result Command Refusal
 find_of arguments = do
   query ← read_query (after_space arguments)
   Ok (Find query)
 
--- the command that is its name alone, from what stands behind it
+-- the command that is its name alone, from the bytes behind it
 unfoldable pub alone : Command → List ℕ → Result Command Refusal
 alone command arguments = if list_all is_space arguments then Ok command else Err BadLine
 
--- the command of a name, from what stands behind it
+-- the command of a name, from the bytes behind it
 abbrev pub named_command : List ℕ → List ℕ → Result Command Refusal
 named_command name arguments =
     if bytes_eq name (codes "mkdir") then one_path Mkdir arguments
@@ -118,18 +118,18 @@ named_command name arguments =
     else (if bytes_eq name (codes "counts") then alone Counts arguments
     else Err BadLine)))))))))))))))))
 
--- the path and the length of a `put`, from what stands behind `put`: two words and no more
+-- the path and the length of a `put`, from the bytes behind `put`: two words and no more
 unfoldable pub put_words : List ℕ → Result (List ℕ × List ℕ) Refusal
 put_words arguments = do
   path ← first_word arguments
   length ← only_word path.1
   if is_length length then Ok (path.0, length) else Err BadLine
 
--- so many bytes, where a file may have as many
+-- the length of a text, if a file may have one that long
 abbrev pub limited_put : ℕ → List ℕ → Result (List ℕ) Refusal
 limited_put count behind = if nat_le count TEXT_LIMIT then Ok (take count behind) else Err (Limit limit.Text)
 
--- the file of a path word gets so many of the bytes that follow the line, or the first refusal: not all came, then the
+-- the file of a path word gets the first of the bytes that follow the line, or the first refusal: not all came, then the
 -- path, then their count
 abbrev pub put_at : List ℕ → ℕ → List ℕ → Result Command Refusal
 put_at word count behind =
@@ -139,7 +139,7 @@ put_at word count behind =
       text ← limited_put count behind
       Ok (Write path text))
 
--- `put PATH LENGTH`, from what stands behind `put`, given what follows the line
+-- `put PATH LENGTH`, from the bytes behind `put`, given what follows the line
 abbrev pub put_of : List ℕ → List ℕ → Result Command Refusal
 put_of arguments behind = do
   words ← put_words arguments
@@ -149,7 +149,7 @@ put_of arguments behind = do
 abbrev pub is_put : List ℕ → Bool
 is_put name = bytes_eq name (codes "put")
 
--- the command of a name, from what stands behind it, given what follows the line
+-- the command of a name, from the bytes behind it, given what follows the line
 abbrev pub called_with : List ℕ → List ℕ → List ℕ → Result Command Refusal
 called_with name arguments behind = if is_put name then put_of arguments behind else named_command name arguments
 

@@ -20,7 +20,7 @@ is_item s number = is_file_at s.entries number
 abbrev pub items : State → List ℕ
 items s = filter (is_item s) (range_with_len 0 s.next)
 
--- the directory of an entry; the root, which is no entry, stands in itself
+-- the directory of an entry; that of the root, which is no entry, is the root
 abbrev pub parent_of : State → ℕ → ℕ
 parent_of s number = option_map_or (λ entry. entry.parent) (entry_at s.entries number) 0
 
@@ -47,7 +47,7 @@ permanent_at s dir = option_map_or permanent_in (body_at s.entries dir) []
 abbrev pub prohibited_at : State → ℕ → List ℕ
 prohibited_at s dir = option_map_or prohibited_in (body_at s.entries dir) []
 
--- the number stands in the list
+-- the number is in the list
 abbrev pub has : List ℕ → ℕ → Bool
 has numbers number = list_any (λ other. other == number) numbers
 
@@ -85,8 +85,8 @@ satisfies s linked dir item = option_map_or (λ query. holds s linked query item
 abbrev pub is_unmarked : State → ℕ → ℕ → Bool
 is_unmarked s dir item = not (is_permanent s dir item || is_prohibited s dir item)
 
--- the directory is to have a found link to the item: its parent provides it, it was indexed, it satisfies the query, and the
--- user says nothing else
+-- the directory is to have a found link to the item: its parent provides it, it was indexed, it satisfies the query,
+-- and the user says nothing else
 abbrev pub passes : State → (ℕ → Bool) → ℕ → ℕ → Bool
 passes s linked dir item =
     provide s linked (parent_of s dir) item && is_some (shown_of s item) && satisfies s linked dir item && is_unmarked s dir item

@@ -7,7 +7,7 @@ use Rattle.hac_model.specs.declared.states.Body.TheVariants.{File, Dir, Symlink,
 use Rattle.hac_model.specs.declared.states.Entry.{Entry}
 use Rattle.hac_model.specs.declared.states.State.{State}
 
--- the one name stands before the other, compared by bytes
+-- the one name comes before the other, compared by bytes
 abbrev pub is_before : List ℕ → List ℕ → Bool
 is_before name other = is_lt (slice_cmp nat_cmp name other)
 

@@ -14,7 +14,7 @@ use Rattle.hac_model.specs.declared.states.Body.TheVariants.{Dir}
 use Rattle.hac_model.specs.declared.states.Entry.{Entry}
 use Rattle.hac_model.specs.declared.states.State.{State}
 
--- the number of what stands at a path that begins at a directory
+-- the number of the entry at a path that begins at a directory
 abbrev pub stands_at : List Entry → ℕ → List (List ℕ) → Option ℕ
 stands_at entries dir [] = Some dir
 stands_at entries dir (name ∷ names) = option_and_then (λ number. stands_at entries number names) (child entries dir name)
@@ -28,7 +28,7 @@ abbrev pub ways : List (List ℕ) → List (List (List ℕ))
 ways [] = []
 ways (name ∷ names) = if has_names names then (name ∷ []) ∷ map (λ way. name ∷ way) (ways names) else []
 
--- what stops a look-up on its way: nothing stands there, or a file does
+-- what stops a look-up on its way: nothing is there, or a file is
 abbrev pub stop_at : State → List (List ℕ) → Option Refusal
 stop_at s way =
     option_map_or
@@ -40,7 +40,7 @@ stop_at s way =
 abbrev pub vacancy : State → List (List ℕ) → Place
 vacancy s path = Free (unwrap_or (stands_at s.entries 0 (without_last 1 path)) 0) (slice_index_or path (length path - 1) [])
 
--- where a path leads: the first stop on its way, or what stands there, or the vacancy
+-- where a path leads: the first stop on its way, or the entry there, or the vacancy
 unfoldable pub look : State → List (List ℕ) → Result Place Refusal
 look s path =
     option_map_or Err (first_cause (map (stop_at s) (ways path)))
@@ -50,6 +50,6 @@ look s path =
 abbrev pub body_of : State → ℕ → Body
 body_of s number = unwrap_or (body_at s.entries number) Dir
 
--- the tree as its user sees it, a map from paths: the number and the body of what stands there
+-- the tree as its user sees it, a map from paths: the number and the body of the entry there
 abbrev pub plain : State → List (List ℕ) → Option (ℕ × Body)
 plain s path = option_map (λ number. (number, body_of s number)) (stands_at s.entries 0 path)

@@ -10,7 +10,7 @@ use Rattle.hac_model.specs.declared.paths.PathWord.{PathWord}
 use Rattle.hac_model.specs.declared.replies.Refusal.{Refusal}
 use Rattle.hac_model.specs.declared.replies.Refusal.TheVariants.{BadName, Limit}
 
--- what stands between the slashes of a word. The first part of an absolute word is empty.
+-- the parts of a word between its slashes. The first part of an absolute word is empty.
 abbrev pub parts : List ℕ → List (List ℕ)
 parts bytes = slice_split is_slash bytes
 

@@ -140,7 +140,7 @@ event_text e = payload_field.text e
 abbrev pub all_of : Event × List ℕ → Result Event ℕ
 all_of read = if length read.1 == 0 then Ok read.0 else Err (length read.1)
 
--- where so many bytes are left of the payload, a place in it
+-- the place in a payload that has this many bytes left behind it
 abbrev pub placed : ℕ → Result Event ℕ → Result Event ℕ
 placed size (Ok e) = Ok e
 placed size (Err left) = Err (size - left)

@@ -73,7 +73,7 @@ counts_line s =
     ++ counted (codes "dirty") (dirty_count s.entries)
     ++ counted (codes "next") s.next
 
--- a text, as `cat` tells it
+-- a text, as `cat` prints it
 abbrev pub text_line : List ℕ → List ℕ
 text_line text = codes "= " ++ escaped_text text
 
@@ -91,8 +91,8 @@ data_lines s (Find query) = map (found_line s) (found_by s query)
 data_lines s Counts = counts_line s ∷ []
 data_lines s other = []
 
--- what a run starts from: a state, and of its store where the live area begins, where its log ends, and how often a root
--- was written
+-- what a run starts from: a state, and of its store where the live area begins, where its log ends, and how often a
+-- root was written
 pub record Setting : Type 0 where
   pub state : State
   pub start : ℕ
@@ -103,7 +103,8 @@ pub record Setting : Type 0 where
 abbrev pub opening : Setting
 opening = record { state = empty; start = 64; end = 64; generation = 1 }
 
--- where a log ends once it holds the records of events too: of each a gate, the payload's length in four bytes, the payload
+-- where a log ends once it holds the records of events too: of each a gate, the payload's length in four bytes, the
+-- payload
 abbrev pub end_after : ℕ → List Event → ℕ
 end_after end [] = end
 end_after end (event ∷ events) = end_after (end + 5 + length (event_text event)) events
@@ -117,7 +118,8 @@ abbrev pub have_room : ℕ → List Event → Bool
 have_room end [] = true
 have_room end events = nat_lt (end_after end events) STORE_LIMIT
 
--- what comes of one command: its reply, the events that it makes, the index steps behind it, and what the next command meets
+-- what comes of one command: its reply, the events that it makes, the index steps behind it, and what the next command
+-- meets
 pub record Turn : Type 0 where
   pub reply : Reply
   pub events : List Event
@@ -161,7 +163,7 @@ turns setting (item ∷ items) = turn setting item ∷ turns (turn setting item)
 abbrev pub play : Setting → List ℕ → List Turn
 play setting bytes = turns setting (script bytes)
 
--- what is told by turns
+-- what is read off turns
 abbrev pub replies : List Turn → List Reply
 replies told = map (λ turn. turn.reply) told
 
@@ -182,7 +184,7 @@ all_events turns = flat_map events_in turns
 abbrev pub tree_after : ℕ → State → List Turn → State
 tree_after k s turns = apply_all s (take k (all_events turns))
 
--- how many events stand before the i-th reply, counted from 1
+-- how many events come before the i-th reply, counted from 1
 abbrev pub events_before : ℕ → List Turn → ℕ
 events_before zero turns = 0
 events_before (suc i) [] = 0

@@ -89,7 +89,7 @@ is_barred terms (kind ∷ bytes) = kind == 3 && terms == 0
 abbrev pub token_at : ℕ → List ℕ → Result (Token × List ℕ) ℕ
 token_at terms bytes = if is_barred terms bytes then Err (length bytes) else token_field.read bytes
 
--- the parts of the queries that are wanted, at most so many parts. One that is too many fails where it begins.
+-- the parts of the queries that are wanted, at most this many parts. One that is too many fails where it begins.
 unfoldable pub tokens_at : ℕ → List ℕ → ℕ → ℕ → List ℕ → Result (List Token × List ℕ) ℕ
 tokens_at k [] terms letters bytes = Ok ([], bytes)
 tokens_at zero (nots ∷ wanted) terms letters bytes = Err 0

@@ -44,12 +44,12 @@ abbrev pub join_or : Option Part → Part → Part
 join_or None part = part
 join_or (Some left) part = or_part left part
 
--- a part behind so many `NOT`s
+-- a part behind this many `NOT`s
 abbrev pub nots_part : ℕ → Part → Part
 nots_part zero part = part
 nots_part (suc n) part = nots_part n (not_part part)
 
--- what stands before the first operand behind a parenthesis
+-- what comes before the first operand behind a parenthesis
 abbrev pub empty_level : Level
 empty_level = record { ors = None; ands = None; nots = 0 }
 
@@ -77,7 +77,7 @@ after_and h = record { level = record { ors = h.ors; ands = Some h.part; nots = 
 abbrev pub after_or : Held → Wanted
 after_or h = record { level = record { ors = Some (whole_part h); ands = None; nots = 0 }; outer = h.outer }
 
--- a part in parentheses, given what stands before each open one
+-- a part in parentheses, given what comes before each open one
 abbrev pub grouped : Part → List Level → Option Held
 grouped part [] = None
 grouped part (level ∷ outer) = Some (receive (group_part part) (record { level = level; outer = outer }))
@@ -268,7 +268,7 @@ worded (formula.Or left right) = do
   second ← worded right
   Ok (formula.Or first second)
 
--- the query, where it has no more terms than a query may have, and they stand no deeper than they may
+-- the query, if it has no more terms than a query may have, and these are no deeper than they may be
 abbrev pub limited_query : ℕ → Formula PathWord → Result (Formula PathWord) Refusal
 limited_query nesting query =
     if nat_lt TERMS_LIMIT (term_count query) then Err (Limit limit.Terms)

@@ -25,8 +25,8 @@ abbrev pub term_text : Term → List ℕ
 term_text (term.Word letters) = letters
 term_text (term.Prefix letters) = letters ++ codes "*"
 
--- a query as it is printed, with only the parentheses that its tree needs: round an `OR` below an `AND`, round both below
--- a `NOT`, and round what stands to the right of the same operator
+-- a query as it is printed, with only the parentheses that its tree needs: round an `OR` below an `AND`, round both
+-- below a `NOT`, and parentheses round a right operand of the same operator
 abbrev pub query_text : Formula (List ℕ) → List ℕ
 query_text (formula.Term asked) = term_text asked
 query_text (formula.Dir path) = codes "{" ++ (escaped path ++ codes "}")

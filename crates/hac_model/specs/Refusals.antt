@@ -79,7 +79,7 @@ unlinked_cause s item dir = if is_permanent s dir item || has (links s dir) item
 abbrev pub unmarked_cause : State → ℕ → ℕ → Option Refusal
 unmarked_cause s item dir = if is_permanent s dir item || is_prohibited s dir item then None else Some (NoMark (path_of s item))
 
--- what stands in the way of a command whose paths were followed
+-- what blocks a command whose paths were followed
 abbrev pub blocked : State → Resolved → Option Refusal
 blocked s (Mkdir place) = taken_cause s place
 blocked s (Rmdir dir) = first_cause (root_cause dir ∷ filled_cause s dir ∷ referenced_cause s dir ∷ [])
@@ -150,13 +150,15 @@ answer_cause s command = option_map Limit (first_passed (answer_limits (counts (
 abbrev pub cycle_by : State → Option ℕ → Option Refusal
 cycle_by s way = option_map (λ dir. Cycle (path_of s dir)) way
 
--- a directory would depend on itself once it has a query, or another place. A new one can't, as nothing depends on it yet.
+-- a directory would depend on itself once it has a query, or another place. A new one can't, as nothing depends on it
+-- yet.
 abbrev pub cycle_cause : State → Resolved → Option Refusal
 cycle_cause s (Setq dir query) = cycle_by s (cycle_over s dir (parent_of s dir) query)
 cycle_cause s (Mv entry (Free dir name)) = cycle_by s (cycle_of_move s entry dir)
 cycle_cause s other = None
 
--- the first cause that doesn't depend on spaces: what stands in the way, then the limits on the tree itself, then a cycle
+-- the first cause that doesn't depend on spaces: what blocks the command, then the limits on the tree itself, then a
+-- cycle
 abbrev pub early_cause : State → Resolved → Option Refusal
 early_cause s command = first_cause (blocked s command ∷ layout_cause s command ∷ cycle_cause s command ∷ [])
 
@@ -169,6 +171,6 @@ abbrev pub cause_against : State → Result Resolved Refusal → Option Refusal
 cause_against s (Err refusal) = Some refusal
 cause_against s (Ok command) = cause s command
 
--- why the state refuses a line: a path comes before what stands in the way, and that before limits
+-- why the state refuses a line: a path comes before what blocks the command, and that before limits
 abbrev pub refusal : State → Line → Option Refusal
 refusal s line = cause_against s (resolve s line)

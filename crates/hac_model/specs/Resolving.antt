@@ -20,11 +20,11 @@ use Rattle.hac_model.specs.declared.resolved.Resolved.{Resolved}
 use Rattle.hac_model.specs.declared.resolved.Resolved.TheVariants.{Mkdir, Rmdir, Write, Cat, Ls, Mv, Rm, Smkdir, Setq, Unq, Query, Sls, Sln, Srm, Sforget, Find, Index, Counts}
 use Rattle.hac_model.specs.declared.states.State.{State}
 
--- where a path word of a session leads: something may stand there or not
+-- where a path word of a session leads: an entry or a vacancy
 abbrev pub place : State → List ℕ → PathWord → Result Place Refusal
 place s session word = look s (join (base_of s session) word)
 
--- something is to stand there
+-- there is to be an entry there
 abbrev pub standing : State → Place → Result ℕ Refusal
 standing s (There number) = Ok number
 standing s (Free dir name) = Err (NoPath (path_of s dir ++ name ∷ []))
@@ -35,7 +35,7 @@ entry s session word = do
   found ← place s session word
   standing s found
 
--- what stands there is to be a directory
+-- the entry there is to be a directory
 abbrev pub directed : State → ℕ → Result ℕ Refusal
 directed s number = if is_directory_at s.entries number then Ok number else Err (NotDir (path_of s number))
 
@@ -45,7 +45,7 @@ directory s session word = do
   number ← entry s session word
   directed s number
 
--- the directory to which a path word leads, that of the session where none is given
+-- the directory to which a path word leads, that of the session if none is given
 abbrev pub listed : State → List ℕ → Option PathWord → Result ℕ Refusal
 listed s session word = option_map_or (directory s session) word (Ok (stands_in s.sessions session))
 
@@ -125,6 +125,6 @@ resolved s session command.Index = Ok Index
 resolved s session command.Counts = Ok Counts
 resolved s session other = Err BadLine
 
--- what a line comes to
+-- what a line asks for
 abbrev pub resolve : State → Line → Result Resolved Refusal
 resolve s line = resolved s line.session line.command

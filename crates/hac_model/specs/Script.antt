@@ -38,7 +38,7 @@ items_of_lines (suc n) bytes = first_items bytes ++ items_of_lines n (after_item
 unfoldable pub script : List ℕ → List Item
 script bytes = items_of_lines (length bytes) bytes
 
--- the first line has its end, and all bytes that belong to it stand behind it
+-- the first line has its end, and all bytes that belong to it follow
 abbrev pub is_first_whole : List ℕ → Bool
 is_first_whole bytes = is_first_ended bytes && nat_le (due (first_line bytes)) (length (after_line bytes))
 

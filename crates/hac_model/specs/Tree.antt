@@ -1,4 +1,4 @@
--- The tree: what stands where.
+-- The tree: entries, and which is in which directory.
 use Rattle.std.specs.Prelude.{ℕ, zero, suc, ◌+◌, Bool, true, false, ◌==◌, ◌&&◌, ◌||◌, if◌then◌else◌, nat_le, List, [], ◌∷◌, length, map, reverse, Option, Some, None}
 use Rattle.std.specs.Option.{option_map, option_map_or}
 use Rattle.std.specs.Str.{bytes_eq}
@@ -28,7 +28,7 @@ child [] dir name = None
 child (entry ∷ entries) dir name =
     if entry.parent == dir && bytes_eq entry.name name then Some entry.number else child entries dir name
 
--- the entry of a number, then that of its directory, and so on up to the one in the root, told within so many steps
+-- the entry of a number, then that of its directory, and so on up to the one in the root, in at most this many steps
 abbrev pub ancestors : ℕ → List Entry → ℕ → List Entry
 ancestors zero entries number = []
 ancestors (suc steps) entries number = option_map_or (λ entry. entry ∷ ancestors steps entries entry.parent) (entry_at entries number) []

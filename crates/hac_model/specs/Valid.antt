@@ -41,7 +41,7 @@ IsSound other = ⊥
 pub record IsLayout (s : State) : Type 0 where
   pub numbers : NumbersRise 0 s.entries s.next
   pub names : AllByRecursion (λ entry. IsTrue (is_name entry.name)) s.entries
-  -- each stands in a directory
+  -- each is in a directory
   pub parents : AllByRecursion (λ entry. IsTrue (is_directory_at s.entries entry.parent)) s.entries
   pub differ : NamesDiffer s.entries
   pub bodies : AllByRecursion (λ entry. IsSound entry.body) s.entries

@@ -63,7 +63,7 @@ pub enum Command {
     Sumount { path: PathWord },
     /// Indexes all dirty files, one after the other.
     Index,
-    /// Indexes at most so many dirty files.
+    /// Indexes at most this many dirty files.
     Tick { steps: u64 },
     /// Shows how many things of each kind there are.
     Counts,

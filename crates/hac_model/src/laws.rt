@@ -1,8 +1,8 @@
 //! Theorems over the definitions alone. Each is the contract of a function that does nothing.
 ghost use Rattle.hac_model.specs.Laws.{ScriptsJoin, WholeIsLines, WholeIsFront, WholeIsLongest, EmptyIsValid, EventsKeepValid, BareCommutes, LinesSpell, CommandsHappen, StepsAreDue, StepsClean, IndexCleans, ScriptsKeepValid, EventsLead, EventsEnd, AcceptedAreSpelled, SessionsAreNotStored, FullStore, FirstEnd, FirstCommandLines, NoCommandLines, LinksStay, LinksAreOnly, ValidIsAcyclic, PlainTellsState, LooksFind, LooksTell, MovesRename, PrintedTextIsRead, PrintedTextIsOneLine, QuotedWordIsRead, QuotesAreOneSpelling, FirstListings, MovedListings};
 
-/// Two joined scripts are played one after the other, where the first one consists of whole lines, each with its end and
-/// the bytes that belong to it. No line looks further ahead, and none looks back except at the state that the lines
+/// Two joined scripts are played one after the other, where the first one consists of whole lines, each with its end
+/// and the bytes that belong to it. No line looks further ahead, and none looks back except at the state that the lines
 /// before it left.
 pub fn scripts_join()
     ensures { ScriptsJoin }

@@ -1,9 +1,9 @@
-//! What tells which items a directory provides.
+//! Which items a directory provides, as a caller of queries knows it.
 ghost use Rattle.std.specs.Prelude.{◌≡◌, ℕ, Bool};
 
 use crate::numbers::Number;
 
-/// Tells whether directories provide items.
+/// Knows which items directories provide.
 pub trait Member {
     /// That the directory provides the item.
     ghost provides: { Self → ℕ → ℕ → Bool };

@@ -1,4 +1,4 @@
-//! How far a query was read, byte by byte: what stands before the next byte. `step` of the specs says what a byte makes
+//! How far a query was read, byte by byte: what comes before the next byte. `step` of the specs says what a byte makes
 //! of it.
 ghost use Rattle.std.specs.Prelude.{◌≡◌, ◌∷◌, [], MatchOption, OnOk, OnErr};
 
@@ -56,23 +56,23 @@ pub struct Part {
     pub nesting: u64,
 }
 
-/// What stands before an operand, from the last open parenthesis on.
+/// What comes before an operand, from the last open parenthesis on.
 #[derive(Debug, Drop)]
 pub struct Level {
     /// What an `OR` joins to what follows.
     pub ors: Option<Part>,
     /// What an `AND` joins to what follows.
     pub ands: Option<Part>,
-    /// How many `NOT`s stand directly before it.
+    /// How many `NOT`s come directly before it.
     pub nots: u64,
 }
 
-/// What stands before the operand that is wanted.
+/// What comes before the operand that is wanted.
 #[derive(Debug, Drop)]
 pub struct Wanted {
-    /// What stands behind the last open parenthesis.
+    /// What follows the last open parenthesis.
     pub level: Level,
-    /// What stands before each open parenthesis, the last one first.
+    /// What comes before each open parenthesis, the last one first.
     pub outer: Pile<Level>,
 }
 
@@ -81,9 +81,9 @@ pub struct Wanted {
 pub struct Held {
     /// What an `OR` joins to the part, from the last open parenthesis on.
     pub ors: Option<Part>,
-    /// The operand, with all that stands before it of its `AND`s and `NOT`s.
+    /// The operand, with its `AND`s and `NOT`s before it.
     pub part: Part,
-    /// What stands before each open parenthesis, the last one first.
+    /// What comes before each open parenthesis, the last one first.
     pub outer: Pile<Level>,
 }
 
@@ -119,7 +119,7 @@ pub enum Operator {
     Or,
 }
 
-/// What stands before the next token.
+/// What comes before the next token.
 #[derive(Debug, Drop)]
 pub enum Stack {
     /// An operand is wanted.

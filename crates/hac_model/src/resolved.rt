@@ -1,4 +1,4 @@
-//! Commands whose paths were followed: in place of each path stands what it leads to.
+//! Commands whose paths were followed: in place of each path there is what it leads to.
 use crate::bytes::Text;
 use crate::numbers::Number;
 use crate::places::Place;

@@ -8,7 +8,8 @@ use Rattle.hac_model.specs.PathWords.{relative, before, is_idle, is_up}
 use Rattle.hac_model.specs.declared.paths.PathWord.{PathWord}
 use Rattle.hac_names.specs.Reading.{walked}
 
--- the first word and then the second, which is relative: what the second leads up removes names of the first, and leads further up where these are too few
+-- the first word and then the second, which is relative: what the second leads up removes names of the first, and leads
+-- further up where these are too few
 abbrev pub led_on : PathWord → PathWord → PathWord
 led_on first second = record {
   absolute = first.absolute;

@@ -13,7 +13,7 @@ pub fn is_name(bytes: &[u8]) -> bool
     !bytes.is_empty() && bytes.len() <= NAME_LIMIT && is_part(bytes) && !is_dots(bytes)
 }
 
-/// Whether bytes may stand between the slashes of a path word, their number aside.
+/// Whether bytes may be a part of a path word between slashes, their number aside.
 pub(crate) fn is_part(bytes: &[u8]) -> bool
     ensures { result ≡ words.is_part bytes.now }
 {

@@ -21,8 +21,8 @@ pub record SourceState : Type 0 where
   pub faults : ℕ
   pub ended : Bool
 
--- a sink: the bytes that it holds, how many of them were passed on, how many more it has room for, the last call that it
--- has room for, the calls that are to fail, the calls and the faults so far
+-- a sink: the bytes that it holds, how many of them were passed on, how many more it has room for, the last call that
+-- it has room for, the calls that are to fail, the calls and the faults so far
 pub record SinkState : Type 0 where
   pub written : List ℕ
   pub flushed : ℕ

@@ -3,13 +3,13 @@ use Rattle.std.specs.Prelude.{ℕ, Bool, false, ◌+◌, ◌≤◌, ◌==◌, �
 use Rattle.std.specs.Io.KnownBytes.{Appends}
 use Rattle.std.specs.declared.option.Option.{Option}
 
--- a source: the bytes that it has left, where it tells them, how many faults there were, and whether its end was given
+-- a source: the bytes that it has left, if it tells them, how many faults there were, and whether its end was given
 pub record SourceSeen : Type 0 where
   pub left : Option (List ℕ)
   pub faults : ℕ
   pub ended : Bool
 
--- a sink: the bytes that it was written, where it tells them, how many of the last of them may be held back, as those
+-- a sink: the bytes that were written to it, if it tells them, how many of the last of them may be held back, as those
 -- before them were passed on, and how many faults there were
 pub record SinkSeen : Type 0 where
   pub written : Option (List ℕ)

@@ -44,7 +44,7 @@ impl Model for MemorySource {
 impl MemorySource {
     /// The first read gives at most as many bytes as the first piece says, and so on; a piece of
     /// 0 counts as 1, and a read past the last piece has no such bound. A read whose number, from
-    /// 1, stands in `failing` is a fault: it uses up its piece, and no byte.
+    /// 1, is in `failing` is a fault: it uses up its piece, and no byte.
     pub fn new(
         alloc: Global,
         bytes: &[u8],
@@ -98,7 +98,7 @@ impl Source for MemorySource {
     }
 }
 
-// The piece of the read that comes after so many, where the list goes that far.
+// The piece of the read with this number, from 0, if the list goes that far.
 fn piece_at(pieces: &[u64], calls: u64) -> Option<u64>
     ensures { result ≡ slice_get pieces.now calls }
 {
@@ -158,7 +158,7 @@ impl Model for MemorySink {
 
 impl MemorySink {
     /// Takes the memory for `bytes` bytes at once: no later call takes any. Writes and flushes are
-    /// numbered together, from 1. One whose number is above `calls` or stands in `failing` is a
+    /// numbered together, from 1. One whose number is above `calls` or is in `failing` is a
     /// fault, and so is a write of which nothing fits.
     pub fn new(
         alloc: Global,

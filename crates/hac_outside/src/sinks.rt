@@ -10,7 +10,7 @@ use super::fault::Failed;
 /// A place that bytes are written to, with a count of its faults.
 pub trait Sink {
     // A sink that tells its bytes goes on telling them; one that doesn't may begin to. At the end of its
-    // type the count of faults stands still.
+    // type the count of faults stays as it is.
     ghost seen: { Self → SinkSeen };
 
     /// Takes some bytes from the front of `bytes`, and says how many. Where there are any, it takes one at

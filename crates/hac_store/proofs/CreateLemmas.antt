@@ -19,7 +19,7 @@ pub ok-then : {T E P Q : Type 0} (result : Result T E) → (P → Q) → OnOk re
 ok-then (Ok value) then_q p = then_q p
 ok-then (Err e) then_q p = tt
 
--- what a file became that is told
+-- what a known file became
 pub record Became (P : List ℕ → Type 0) (new : Option (List ℕ)) : Type 0 where
   pub file : List ℕ
   pub is : new ≡ Some file

@@ -1,4 +1,4 @@
--- What a file holds, told by its root and its log.
+-- What a file holds, by its root and its log.
 use Rattle.std.proofs.Common.{◌≡◌, ◌⊎◌, inl, inr, ⊎_elim, ℕ, ◌+◌, ◌<◌, ◌≤◌, ◌^◌, List, [], ◌∷◌, ◌++◌, length, take, drop, map, nat_lt, Result, Ok, Err, IsTrue, refl, sym, ◌∙◌, ap, subst, arith, append_assoc, length-append, length-drop}
 use Rattle.std.proofs.lemmas.Bool.Decides.{nat_tests}
 use Rattle.std.proofs.lemmas.List.{take_at, drop_at, length-take}
@@ -83,7 +83,7 @@ module _ (c d : List ℕ) (z : Setting) (is : held d ≡ Ok z) (front : take z.e
       → held c ≡ Ok (after_events z events)
   held-records events stored fits holds = held-along (record { state = apply_all z.state events; end = end_after z.end events }) (log-records events z.state z.end c stored fits holds)
 
--- what stands somewhere is there
+-- bytes at a place are within the file
 holds-long : (at : ℕ) (bytes file : List ℕ) → 0 < length bytes → HoldsAt at bytes file → at < length file
 holds-long at bytes file some holds =
     ⊎_elim
@@ -104,7 +104,7 @@ held-appending image z events stands stored fits c left =
     (λ holds. inr (held-records c left.old z is left.front (holds-long z.end (log_of (map event_text events)) c (log-some (map event_text events)) holds) events stored fits holds))
     left.rest
 
--- bytes that were put somewhere stand there
+-- bytes that were put somewhere are there
 pub overlaid-holds : (at : ℕ) (bytes file : List ℕ) → at ≤ length file → HoldsAt at bytes (overlaid at bytes file)
 overlaid-holds at bytes file starts =
     let behind = drop (at + length bytes) file in

@@ -1,19 +1,18 @@
 -- What a file holds where a new store is being made.
-use Rattle.std.proofs.Common.{◌≡◌, ◌≢◌, inl, inr, ⊎_elim, ℕ, ◌+◌, ◌-◌, ◌<◌, ◌≤◌, Bool, true, false, if◌then◌else◌, List, [], ◌∷◌, ◌++◌, length, take, drop, slice_index, nat_le, Result, Ok, Err, IsErr, refl, sym, ◌∙◌, ap, subst, arith, length-drop}
-use Rattle.std.proofs.lemmas.Bool.{cases_eq, cases_lt}
+use Rattle.std.proofs.Common.{◌≡◌, ◌≢◌, ⊎_elim, ℕ, ◌-◌, ◌<◌, ◌≤◌, List, [], ◌∷◌, length, take, drop, slice_index, Ok, Err, IsErr, refl, sym, ◌∙◌, ap, subst, arith, length-drop}
+use Rattle.std.proofs.lemmas.Bool.{cases_eq}
 use Rattle.std.proofs.lemmas.Bool.Decides.{nat_tests}
-use Rattle.std.proofs.lemmas.List.{drop_more, drop_all, drop-drop, drop-take, length-take, take-take, get_or-take}
+use Rattle.std.proofs.lemmas.List.{drop_more, length-take, take-take, get_or-take}
 use Rattle.hac_disk.specs.Images.{Torn, overlaid}
 use Rattle.hac_disk.proofs.TornLemmas.{length-overlaid}
-use Rattle.hac_checkpoint.specs.Roots.{counting, named, placed, root_of, slots}
-use Rattle.hac_checkpoint.specs.declared.heads.Root.{Root}
+use Rattle.hac_checkpoint.specs.Roots.{counting, named, root_of, slots}
 use Rattle.hac_checkpoint.specs.declared.heads.Slot.TheVariants.{A}
 use Rattle.hac_checkpoint.specs.declared.heads.Stop.{Stop}
 use Rattle.hac_checkpoint.specs.declared.heads.Stop.TheVariants as stop
 use Rattle.hac_checkpoint.proofs.HeadLemmas.{roots-agree, roots-start-behind}
 use Rattle.hac_journal.specs.Appending.{ClosedAt}
-use Rattle.hac_journal.specs.Finding.{Closed, Short, found_in, found_at}
-use Rattle.hac_journal.proofs.CrashLemmas.{front-less, byte-same}
+use Rattle.hac_journal.specs.Finding.{Short, found_in}
+use Rattle.hac_journal.proofs.CrashLemmas.{byte-same}
 use Rattle.hac_journal.proofs.FoundLemmas.{behind-short, found-open, found-shut}
 use Rattle.hac_journal.proofs.LawLemmas.{closed-is-found}
 use Rattle.hac_model.specs.Play.{Setting, opening}
@@ -22,7 +21,7 @@ use Rattle.hac_store.specs.Creating.{IsReady}
 use Rattle.hac_store.specs.Held.{Log, held, log}
 use Rattle.hac_store.specs.Stores.{IsNewOrNone}
 use Rattle.hac_store.specs.declared.creating.TheConstants.{NEW}
-use Rattle.hac_store.proofs.HeldLemmas.{Parts, held-log, held-parts, held-stop}
+use Rattle.hac_store.proofs.HeldLemmas.{held-log, held-parts, held-stop}
 use Rattle.hac_store.proofs.LogLemmas.{log-closed, log-short}
 
 -- a file that holds no store
@@ -41,10 +40,6 @@ shut-root gate rest shut = grind (arith, nat_tests)
 pub shut-new : (c : List ℕ) → 0 < length c → slice_index c 0 ≢ 1 → IsNewOrNone c
 shut-new [] some shut = absurd (omega arith)
 shut-new (gate ∷ rest) some shut = stopped-new (gate ∷ rest) (stop.BadAt 0) (shut-root gate rest shut)
-
-shut-held : (c : List ℕ) → 0 < length c → slice_index c 0 ≢ 1 → IsErr (held c)
-shut-held [] some shut = absurd (omega arith)
-shut-held (gate ∷ rest) some shut = subst IsErr (sym (held-stop (gate ∷ rest) (stop.BadAt 0) (shut-root gate rest shut))) refl
 
 -- a log at the last byte of a file, or past it, is empty
 short-found : (at : ℕ) (c rest : List ℕ) (setting : Setting) → drop at c ≡ rest → length rest ≤ 1
@@ -68,7 +63,7 @@ few-new c few setting is =
     let behind = roots-start-behind c parts.root parts.root_is in
     short-found at c (drop at c) setting refl (omega (arith, length-drop at c, few, behind)) parts.log_is
 
--- the head of a new store tells its root
+-- the root of a new store, by its head
 new-root : root_of (1 ∷ take 42 (drop 1 NEW)) ≡ Ok (record { slot = A; generation = 1; start = 64 })
 unfolding root_of named slots counting
 new-root = refl

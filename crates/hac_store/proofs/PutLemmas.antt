@@ -48,7 +48,7 @@ pub put-state : (old ready new : Kept) (events : List Event) → ready ≡ recor
     → new ≡ record { state = apply_all ready.state ready.ready; ready = [] } → new.state ≡ apply_all old.state events
 put-state old ready new events made gone = ap (λ (m : Kept). m.state) gone ∙ ap (λ (m : Kept). apply_all m.state m.ready) made
 
--- what a store stands on
+-- what a store rests on
 stands-each : (seen : Option (List ℕ)) (image : List ℕ → Type 0) (z : Setting) → Stands seen image z → (c : List ℕ) → image c → held c ≡ Ok z
 stands-each None image z stands = absurd stands
 stands-each (Some file) image z stands = stands

@@ -1,10 +1,9 @@
--- A log that is read record by record, where its file is told.
-use Rattle.std.proofs.Common.{◌≡◌, ℕ, ◌+◌, ◌-◌, ◌≤◌, List, length, None, Some, IfOk, IfSome, Result, Ok, Err, refl, sym, ◌∙◌, ap, subst, arith, Vec}
+-- A log that is read record by record, of a disk that tells its bytes.
+use Rattle.std.proofs.Common.{◌≡◌, ℕ, ◌-◌, ◌≤◌, List, length, None, Some, IfOk, IfSome, Result, Ok, Err, sym, ◌∙◌, ap, subst, arith, Vec}
 use Rattle.std.specs.declared.alloc.Global.{Global}
 use Rattle.std.specs.declared.option.Option.{Option}
-use Rattle.hac_disk.specs.Images.{IsQuiet, Only}
-use Rattle.hac_disk.specs.Told.{HasByteAt, IsSettled}
-use Rattle.hac_disk.proofs.ToldLemmas.{if_told, told-settled}
+use Rattle.hac_disk.specs.Told.{IsSettled}
+use Rattle.hac_disk.proofs.ToldLemmas.{told-settled}
 use Rattle.hac_checkpoint.specs.Roots.{placed, root_of, IsRootSeen}
 use Rattle.hac_checkpoint.specs.declared.heads.Root.{Root}
 use Rattle.hac_checkpoint.specs.declared.heads.RootFault.{RootFault}
@@ -13,11 +12,9 @@ use Rattle.hac_checkpoint.specs.declared.heads.Stop.{Stop}
 use Rattle.hac_checkpoint.specs.declared.heads.Stop.TheVariants as stop
 use Rattle.hac_journal.specs.Finding.{TellsAt}
 use Rattle.hac_journal.specs.declared.finding.Next.TheVariants.{Entry, End, Bad}
-use Rattle.hac_journal.proofs.LawLemmas.{found-is-closed}
 use Rattle.hac_model.specs.Fields.{◌>>=◌}
 use Rattle.hac_model.specs.Payloads.{all_of, payload_field, spelled}
 use Rattle.hac_model.specs.Payloads.{placed as within_payload}
-use Rattle.hac_model.specs.Play.{Setting}
 use Rattle.hac_model.specs.Tree.{empty}
 use Rattle.hac_model.specs.declared.events.Event.{Event}
 use Rattle.hac_model.specs.declared.states.State.{State}
@@ -41,10 +38,6 @@ Reads result seen old start new = IfSome seen (λ file. ReadsLog result new file
 pub read-end : (seen : Option (List ℕ)) (old : State) (start : ℕ) (s : State) (at : ℕ) → IsRead seen old start s at → TellsAt End at seen → Reads (Ok at) seen old start s
 read-end None old start s at so_far tells = tt
 read-end (Some file) old start s at so_far tells = so_far ∙ log-closed s at file tells
-
-pub end-place : (seen : Option (List ℕ)) (at : ℕ) → TellsAt End at seen → HasByteAt seen at
-end-place None at tells = tt
-end-place (Some file) at tells = (found-is-closed at file tells).there
 
 -- the file ends too early
 pub read-short : (seen : Option (List ℕ)) (old : State) (start : ℕ) (s new : State) (at len : ℕ) → IsRead seen old start s at → TellsAt (Bad len) at seen → Reads (Err (fault.NotStore len)) seen old start new
@@ -120,7 +113,7 @@ opens-rootless None why is = tt
 opens-rootless (Some file) root.Disk is = tt
 opens-rootless (Some file) (root.Bad at) is = root-fault file at is
 
--- what a call opened that was settled before it stands
+-- what a call opened that was settled before stays so
 pub opened-stands : (result : Result Seen StoreFault) (seen mid new : Option (List ℕ)) (image now : List ℕ → Type 0) → mid ≡ seen → IsSettled mid image → new ≡ mid
     → ((c : List ℕ) → now c → image c) → IfSome mid (λ file. Opens result (held file)) → IfSome seen (λ _. IfOk result (λ store. Stands new now store.setting))
 opened-stands result None mid new image now same settled quiet images opens = tt

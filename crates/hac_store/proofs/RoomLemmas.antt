@@ -43,7 +43,7 @@ end-length (event ∷ events) end =
 pub room-below : (end : ℕ) (event : Event) (events : List Event) → IsTrue (have_room end (event ∷ events)) → end_after end (event ∷ events) < 2 ^ 32
 room-below end event events room = grind (arith, nat_tests)
 
--- so many bytes are the records of these events and the closed gate
+-- the size of the records of these events and the closed gate
 log-size : (vs : List (Vec ℕ Global)) (events : List Event) (end : ℕ) → contents_of vs ≡ map event_text events
     → end + length (log_of (contents_of vs)) ≡ end_after end events + 1
 log-size vs events end texts =

@@ -1,4 +1,4 @@
--- What stands where a new store is being made. Of a disk that tells nothing, nothing is said.
+-- What is on a disk while a new store is made. Of a disk that tells nothing, nothing is said.
 use Rattle.std.specs.Prelude.{◌≡◌, ℕ, List, drop, take, None, Some, ⊤, Result, Ok, Err, IsErr}
 use Rattle.std.specs.declared.option.Option.{Option}
 use Rattle.hac_store.specs.Held.{held}
@@ -17,7 +17,7 @@ abbrev pub IsUnheld : Option (List ℕ) → Type 0
 IsUnheld None = ⊤
 IsUnheld (Some file) = IsErr (held file)
 
--- a file that was told still is, and has this
+-- a disk that told its bytes still does, and has this
 abbrev pub Becomes : Option (List ℕ) → (List ℕ → Type 0) → Option (List ℕ) → Type 0
 Becomes None P new = new ≡ None
 Becomes (Some old) P None = ⊥

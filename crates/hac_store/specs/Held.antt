@@ -1,4 +1,5 @@
--- What an image of a store holds: the tree to which its log leads, or the place of the first byte that speaks against it.
+-- What an image of a store holds: the tree to which its log leads, or the place of the first byte that speaks against
+-- it.
 use Rattle.std.specs.Prelude.{ℕ, zero, suc, ◌+◌, if◌then◌else◌, List, length, Result, Ok, Err}
 use Rattle.hac_checkpoint.specs.Roots.{placed, root_of}
 use Rattle.hac_checkpoint.specs.declared.heads.Root.{Root}
@@ -12,8 +13,8 @@ use Rattle.hac_model.specs.Tree.{empty}
 use Rattle.hac_model.specs.declared.events.Event.{Event}
 use Rattle.hac_model.specs.declared.states.State.{State}
 
--- what a payload makes of the state so far, given the place of its gate. It is wrong where it breaks the grammar, and at its
--- first byte where its event can't happen.
+-- what a payload makes of the state so far, given the place of its gate. It is wrong where it breaks the grammar, and
+-- at its first byte where its event can't happen.
 abbrev pub after_payload : State → ℕ → Result Event ℕ → Result State Stop
 after_payload s at (Err offset) = Err (stop.BadAt (at + 5 + offset))
 after_payload s at (Ok event) = if accepted s event then Ok (apply s event) else Err (stop.BadAt (at + 5))
@@ -28,13 +29,13 @@ abbrev pub go_on : Result State Stop → (State → Result Log Stop) → Result 
 go_on (Err stop) next = Err stop
 go_on (Ok new) next = next new
 
--- what a log holds from a gate on, given what stands there and how it is read behind a record
+-- what a log holds from a gate on, given what is found there and how it is read behind a record
 abbrev pub after_found : State → ℕ → Found → (State → ℕ → Result Log Stop) → Result Log Stop
 after_found s at Short next = Err stop.Short
 after_found s at Closed next = Ok (record { state = s; end = at })
 after_found s at (Whole payload behind) next = go_on (after_payload s at (spelled payload)) (λ new. next new behind)
 
--- a log from a gate on, at most so many records
+-- a log from a gate on, at most this many records
 unfoldable pub log_from : ℕ → State → ℕ → List ℕ → Result Log Stop
 log_from zero s at file = Err stop.Short
 log_from (suc n) s at file = after_found s at (found_at at file) (λ new behind. log_from n new behind file)

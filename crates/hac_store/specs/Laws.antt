@@ -10,14 +10,14 @@ use Rattle.hac_model.specs.declared.events.Event.TheVariants.{Step}
 use Rattle.hac_store.specs.Held.{held}
 use Rattle.hac_store.specs.Stores.{fit_behind}
 
--- where a file holds a store, and the record of an event that can happen is put at its end, the file holds what the event
--- leads to
+-- where a file holds a store, and the record of an event that can happen is put at its end, the file holds what the
+-- event leads to
 abbrev pub AppendsExtend : Type 0
 AppendsExtend =
     (file : List ℕ) (setting : Setting) (event : Event) → held file ≡ Ok setting → IsTrue (accepted setting.state event) →
     IsTrue (is_spellable event) → IsTrue (have_room setting.end (event ∷ [])) →
     held (overlaid setting.end (log_of (event_text event ∷ [])) file) ≡ Ok (after_events setting (event ∷ []))
 
--- for index steps there is room just where so many records of two bytes fit
+-- for index steps there is room just where as many records of two bytes fit
 abbrev pub StepsHaveRoom : Type 0
 StepsHaveRoom = (end count : ℕ) → have_room end (replicate count Step) ≡ fit_behind end count 2

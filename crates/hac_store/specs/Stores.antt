@@ -23,7 +23,7 @@ seen_code =
     (λ parts. record { setting = record { state = parts.0; start = parts.1.0; end = parts.1.1.0; generation = parts.1.1.1.0 }; broken = parts.1.1.1.1 })
     (λ _. refl)
 
--- so many records with payloads of so many bytes, and the closed gate behind them, lie within the limit of a store
+-- this many records with payloads of this size, and the closed gate behind them, lie within the limit of a store
 abbrev pub fit_behind : ℕ → ℕ → ℕ → Bool
 fit_behind end records payload = records == 0 || nat_lt (end + records * (5 + payload)) STORE_LIMIT
 

@@ -45,11 +45,16 @@ impl Store {
         ensures later { D.faults disk.old ≤ D.faults disk.new }
         ensures cause { IsErrOf result StoreFault.Disk → Rose (D.faults disk.old) (D.faults disk.new) }
     {
-        let payload = write_event(self.alloc, &event)?;
-        self.put(disk, Settled::Change(event), &[payload])
+        match write_event(self.alloc, &event) {
+            Ok(payload) => self.put(disk, Settled::Change(event), &[payload]),
+            Err(_) => {
+                drop(event);
+                Err(StoreFault::Memory)
+            }
+        }
     }
 
-    /// Stores so many index steps by one append, and then applies them: after a crash all of them are there, or
+    /// Stores `count` index steps by one append, and then applies them: after a crash all of them are there, or
     /// none. It answers as `command` does.
     pub fn steps<D: Disk>(&mut self, disk: &mut D, count: u64) -> Result<(), StoreFault>
         requires intact { self.old.broken ≡ false }
@@ -125,7 +130,7 @@ impl Store {
     }
 }
 
-// The payloads of so many index steps.
+// The payloads of `count` index steps.
 fn step_payloads(alloc: Global, count: u64) -> Result<Vec<Vec<u8>>, Memory>
     ensures { IfOk result (λ payloads. contents_of payloads.items ≡ map event_text (replicate count event.Step)) }
 {

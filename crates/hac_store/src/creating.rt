@@ -71,15 +71,20 @@ fn new_store<D: Disk>(alloc: Global, disk: &mut D) -> Result<Store, StoreFault>
     ensures cause { IsErrOf result StoreFault.Disk → Rose (D.faults disk.old) (D.faults disk.new) }
 {
     let machine = Machine::new(alloc)?;
-    write_new(disk)?;
-    Ok(Store {
-        alloc,
-        machine,
-        start: 64,
-        end: 64,
-        generation: 1,
-        broken: false,
-    })
+    match write_new(disk) {
+        Ok(()) => Ok(Store {
+            alloc,
+            machine,
+            start: 64,
+            end: 64,
+            generation: 1,
+            broken: false,
+        }),
+        Err(_) => {
+            drop(machine);
+            Err(StoreFault::Disk)
+        }
+    }
 }
 
 // Writes the bytes of a new store over a file that holds none.

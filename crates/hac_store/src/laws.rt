@@ -6,7 +6,7 @@ pub fn appends_extend()
     ensures { AppendsExtend }
 {}
 
-/// There is room for index steps just where so many records of two bytes fit.
+/// There is room for index steps just where as many records of two bytes fit.
 pub fn steps_have_room()
     ensures { StepsHaveRoom }
 {}

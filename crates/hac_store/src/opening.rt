@@ -1,8 +1,9 @@
 //! Opening a store: its log is read, and its events happen one by one.
-ghost use Rattle.std.specs.Prelude.{◌≡◌, ◌+◌, ◌<◌, ◌≤◌, ◌^◌, false, length, Ok, Err, IfOk, IfSome, IsErrOf, OnOk};
+ghost use Rattle.std.specs.Prelude.{◌≡◌, ◌+◌, ◌<◌, ◌≤◌, ◌^◌, false, length, Ok, Err, IfOk, IfSome, IsErrOf, IsTrue, OnOk};
 ghost use Rattle.hac_outside.specs.Causes.{Rose};
 ghost use Rattle.hac_disk.specs.Images.{IsQuiet};
 ghost use Rattle.hac_disk.specs.Told.{HasByteAt, IsSettled};
+ghost use Rattle.hac_model.specs.Events.{accepted, apply};
 ghost use Rattle.hac_model.specs.Payloads.{spelled};
 ghost use Rattle.hac_model.specs.Valid.{IsValid};
 ghost use Rattle.hac_store.specs.Held.{held, after_payload, log};
@@ -16,11 +17,11 @@ use hac_checkpoint::roots;
 use hac_core::{Machine, Settled};
 use hac_disk::Disk;
 use hac_journal::{LogReader, Next};
-use hac_model::Event;
+use hac_model::{Event, Memory};
 use std::alloc::Global;
 
 impl Store {
-    /// Opens the store that stands on a disk: syncs, reads it and applies its events. It writes nothing.
+    /// Opens the store on a disk: syncs, reads it and applies its events. It writes nothing.
     pub fn load<D: Disk>(alloc: Global, disk: &mut D) -> Result<Store, StoreFault>
         ensures held { IfSome (D.seen disk.old) (λ file. Opens result (held file)) }
         ensures sound { IfOk result (λ store. (store.broken ≡ false) × IsValid store.setting.state) }
@@ -38,7 +39,7 @@ impl Store {
     }
 }
 
-/// Reads the store that stands on a disk. It writes nothing.
+/// Reads the store on a disk. It writes nothing.
 pub(crate) fn read_store<D: Disk>(alloc: Global, disk: &mut D) -> Result<Store, StoreFault>
     ensures held { IfSome (D.seen disk.old) (λ file. Opens result (held file)) }
     ensures sound { IfOk result (λ store. (store.broken ≡ false) × IsValid store.setting.state) }
@@ -51,15 +52,20 @@ pub(crate) fn read_store<D: Disk>(alloc: Global, disk: &mut D) -> Result<Store, 
 {
     let root = roots(disk)?;
     let mut machine = Machine::new(alloc)?;
-    let end = read_log(alloc, disk, &mut machine, root.start)?;
-    Ok(Store {
-        alloc,
-        machine,
-        start: root.start,
-        end,
-        generation: root.generation,
-        broken: false,
-    })
+    match read_log(alloc, disk, &mut machine, root.start) {
+        Ok(end) => Ok(Store {
+            alloc,
+            machine,
+            start: root.start,
+            end,
+            generation: root.generation,
+            broken: false,
+        }),
+        Err(fault) => {
+            drop(machine);
+            Err(fault)
+        }
+    }
 }
 
 // Applies the events of a log, and gives the place of the closed gate behind it.
@@ -122,9 +128,26 @@ fn happen(machine: &mut Machine, at: u64, event: Event) -> Result<(), StoreFault
     ensures judged { Judges result machine.new.state (after_payload machine.old.state at (Ok event)) }
     ensures valid { OnOk result (IsValid machine.new.state) }
 {
-    if !machine.fits(&event)? {
-        return Err(StoreFault::NotStore { at: at + 5 });
+    match machine.fits(&event) {
+        Ok(true) => Ok(apply(machine, event)?),
+        Ok(false) => {
+            drop(event);
+            Err(StoreFault::NotStore { at: at + 5 })
+        }
+        Err(Memory) => {
+            drop(event);
+            Err(StoreFault::Memory)
+        }
     }
+}
+
+// Applies an event that can happen.
+fn apply(machine: &mut Machine, event: Event) -> Result<(), Memory>
+    requires valid { IsValid machine.old.state }
+    requires happens { IsTrue (accepted machine.old.state event) }
+    ensures state { OnOk result (machine.new.state ≡ apply machine.old.state event) }
+    ensures valid { OnOk result (IsValid machine.new.state) }
+{
     machine.prepare(Settled::Change(event))?;
     machine.commit();
     Ok(())

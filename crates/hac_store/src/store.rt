@@ -1,4 +1,4 @@
-//! The store itself: what it is made of, and what it tells.
+//! The store itself: what it is made of, and what it says.
 ghost use Rattle.std.specs.Prelude.{◌≡◌};
 ghost use Rattle.hac_store.specs.Stores.{fit_behind};
 
@@ -42,14 +42,14 @@ impl Store {
         &self.machine
     }
 
-    /// A write of this store failed, so that what stands on the disk isn't known: it is to be loaded again.
+    /// A write of this store failed, so what is on the disk isn't known: it is to be loaded again.
     pub fn broken(&self) -> bool
         ensures { result ≡ self.now.broken }
     {
         self.broken
     }
 
-    /// So many records with payloads of so many bytes fit in the store.
+    /// Whether `records` records with payloads of `payload` bytes each fit in the store.
     pub fn room_for(&self, records: u64, payload: u64) -> bool
         ensures { result ≡ fit_behind self.now.setting.end records payload }
     {

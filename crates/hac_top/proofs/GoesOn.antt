@@ -1,4 +1,4 @@
--- What stays true of a run from line to line: so many turns were told, and the others are those of what is pending.
+-- What stays true of a run from line to line: some turns were answered, and the others are those of what is pending.
 use Rattle.std.proofs.Common.{◌≡◌, ℕ, true, false, Bool, List, [], ◌++◌, Option, Some, None}
 use Rattle.std.specs.Prelude.{⊤}
 use Rattle.std.specs.Io.KnownBytes.{Appends}
@@ -8,9 +8,9 @@ use Rattle.hac_model.specs.Play.{Setting, Turn, all_events, has_refusal, left_by
 use Rattle.hac_model.specs.Script.{after_item, whole}
 use Rattle.hac_top.specs.Told.{told_text}
 
--- Some turns of the script were told, and those of what is pending are to come. The script is whole lines that were played,
--- a last line where the source has ended with one, and what is pending. While it goes on, whatever were to follow the whole
--- lines would be played on.
+-- Some turns of the script were answered, and those of what is pending are to come. The script is whole lines that were
+-- played, a last line where the source has ended with one, and what is pending. While it goes on, whatever were to
+-- follow the whole lines would be played on.
 pub record Goes (first : Setting) (script pending : List ℕ) (ended : Bool) (setting : Setting) (refused : Bool) (before now : SinkSeen) : Type 0 where
   pub done : List Turn
   pub turns_are : play first script ≡ done ++ play setting pending

@@ -13,7 +13,7 @@ use Rattle.hac_top.proofs.GoesOn.{GoesOn}
 use Rattle.hac_top.proofs.RunLemmas.{tree-of-line}
 use Rattle.hac_top.proofs.StoringLemmas.{held-before, stands-held}
 
--- facts of what may not be told
+-- facts of bytes that a disk may not tell
 pub each : {X : Type 0} (told : Option X) (P Q : X → Type 0) → ((x : X) → P x → Q x) → IfSome told P → IfSome told Q
 each None P Q then_q p = search rules
 each (Some x) P Q then_q p = then_q x p

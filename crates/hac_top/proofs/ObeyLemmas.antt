@@ -1,4 +1,4 @@
--- What comes of a command in whose way nothing stands.
+-- What comes of a command that nothing refuses.
 use Rattle.std.proofs.Common.{◌≡◌, true, false, Bool, cond, List, [], ◌∷◌, refl, ap, sym, subst}
 use Rattle.std.specs.Prelude.{Option, None, Some, Ok}
 use Rattle.std.specs.Option.{option_map_or}
@@ -17,7 +17,7 @@ use Rattle.hac_model.specs.declared.resolved.Resolved.{Resolved}
 use Rattle.hac_model.specs.declared.resolved.Resolved.TheVariants.{Mkdir, Rmdir, Write, Cat, Ls, Mv, Rm, Smkdir, Setq, Unq, Query, Sls, Sln, Srm, Sforget, Find, Index, Counts}
 use Rattle.hac_model.specs.declared.states.State.{State}
 
--- a command that changes the tree tells no lines
+-- a command that changes the tree has no data lines
 no-lines : (s : State) (draft : Resolved) → reads draft ≡ false → data_lines s draft ≡ []
 no-lines s (Mkdir place) changes = refl
 no-lines s (Rmdir dir) changes = refl
@@ -38,7 +38,7 @@ no-lines s (Find query) changes = absurd cc
 no-lines s Index changes = refl
 no-lines s Counts changes = absurd cc
 
--- what a turn comes to, given whether there is room for its events
+-- a turn, given whether there is room for its events
 pub record IsTurn (turn : Turn) (setting : Setting) (made : List Event) (room : Bool) : Type 0 where
   pub reply : turn.reply ≡ cond room (Lines []) (Refused (Limit Store))
   pub events : turn.events ≡ cond room made []

@@ -479,7 +479,7 @@ module _ (first : Setting) where
       λ c. holds-weaker (IsTreeAfter setting.state (all_events now)) (IsTreeAfter first.state (all_events (play first s))) c
       (λ t tree. tree-of-all first.state setting.state t (play first s) goes.done now (play (left_by setting now) q) all_is goes.state_is tree)
 
-  -- nothing was told yet
+  -- no reply was written yet
   none-told-yet : (s : List ℕ) (sink : SinkSeen) → (goes : Goes first s s false first false sink sink) × (goes.done ≡ [])
   none-told-yet s sink = (
     record {

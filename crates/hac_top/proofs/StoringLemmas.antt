@@ -18,7 +18,7 @@ use Rattle.hac_top.specs.declared.stops.Stop.{Stop}
 use Rattle.hac_top.specs.declared.stops.Stop.TheVariants.{Memory}
 use Rattle.hac_top.specs.Crashes.{Holds, IsTreeAfter, Stores}
 
--- what stands on a disk is held by all that a crash may leave
+-- all that a crash may leave holds what is on a disk
 pub stands-held : (seen : Option (List ℕ)) (image : List ℕ → Type 0) (setting : Setting) → Stands seen image setting → (c : List ℕ) → image c → held c ≡ Ok setting
 stands-held None image setting stands = absurd stands
 stands-held (Some file) image setting stands = stands
@@ -49,7 +49,7 @@ module _ {D : Type 0} (seen : D → Option (List ℕ)) (image : D → List ℕ �
         cause = λ fails. absurd (let never : true ≡ false = sym fails ∙ none in cc);
       }
 
-  -- the same disk, told otherwise
+  -- the same disk, said in another way
   pub stores-same : (old new : D) (setting : Setting) (events others : List Event) (failed other : Bool) → others ≡ events → other ≡ failed →
       Stores seen image moment image_since attached faults old new setting events failed → Stores seen image moment image_since attached faults old new setting others other
   stores-same old new setting events others failed other is same stores =
@@ -79,7 +79,7 @@ module _ {D : Type 0} (seen : D → Option (List ℕ)) (image : D → List ℕ �
             subst (λ (disk : D). Stores seen image moment image_since attached faults old disk setting [] other) (sym same.0) (stores-nothing only_now old setting [] other (is ∙ same.1)))
       ] refl
 
--- a store that failed, told by the disk
+-- a store that failed, by its disk
 pub disk-cause : {T : Type 0} (result : Result T StoreFault) (R : Type 0) → ((at : ℕ) → result ≡ Err (fault.NotStore at) → ⊥) × (result ≡ Err fault.AlreadyStore → ⊥) → (IsErrOf result fault.Disk → R) → is_disk_fault result ≡ true → R
 disk-cause (Ok value) R kind cause fails = absurd cc
 disk-cause (Err fault.Disk) R kind cause fails = cause refl

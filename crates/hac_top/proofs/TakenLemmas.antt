@@ -111,7 +111,7 @@ taken-known piece taken was ended (Some p) (Some q) None no_end no_past gives ta
 taken-known piece taken was ended (Some p) (Some q) (Some r) no_end no_past gives takes stays last =
     taken-is piece taken was ended p q r (is_line piece was p q no_end no_past gives) takes stays last
 
--- what is told of a line, from what is told of its bytes
+-- what is known of a line, from what is known of its bytes
 pub taken-gives : (got : Result (Option Taken) Stop) (told : Result (Option TakenLine) Stop) (piece : Piece) (was : Bool) (new : Reading) (old mid left : Option (List ℕ)) →
     MatchResult got (λ taken. told ≡ Ok (Some (record { piece = piece; taken = taken }))) (λ stop. told ≡ Err stop) → (piece ≡ End → ⊥) → (piece ≡ PastLimit → ⊥) → line.GivesPiece piece was old mid →
     IfOk got (λ taken. TakesBehind (due_of_piece piece) taken new.ended mid (prepend_known new.held left)) → (was ≡ true → new.ended ≡ true) →
@@ -122,7 +122,7 @@ taken-gives (Ok taken) told piece was new old mid left is no_end no_past gives t
 taken-gives (Err stop) told piece was new old mid left is no_end no_past gives takes stays last end =
     subst (λ (r : Result (Option TakenLine) Stop). IfOk r (λ line. Gives line new.ended old (prepend_known new.held left))) (sym is) (search rules)
 
--- a stop of what is told is one of what was got
+-- a stop of what is known is one of what was taken
 pub stop-told : (got : Result (Option Taken) Stop) (told : Result (Option TakenLine) Stop) (piece : Piece) (stop : Stop) → MatchResult got (λ taken. told ≡ Ok (Some (record { piece = piece; taken = taken }))) (λ stop. told ≡ Err stop) →
     told ≡ Err stop → got ≡ Err stop
 stop-told (Ok taken) told piece stop is stopped = absurd cc
@@ -317,7 +317,7 @@ short-stop piece was (Some p) (Some q) None r no_end no_past gives falls = absur
 short-stop piece was (Some p) (Some q) (Some l) r no_end no_past gives falls =
     short-stops piece was p q r.held l (is_line piece was p q no_end no_past gives) falls
 
--- a stop of what is told is one of what was got
+-- a stop of what is known is one of what was taken
 pub stop-on : (got : Result (Option Taken) Stop) (told : Result (Option TakenLine) Stop) (piece : Piece) (P : Type 0) →
     MatchResult got (λ taken. told ≡ Ok (Some (record { piece = piece; taken = taken }))) (λ stop. told ≡ Err stop) → OnErr got P → OnErr told P
 stop-on (Ok taken) told piece P is holds = subst (λ (r : Result (Option TakenLine) Stop). OnErr r P) (sym is) (search rules)
@@ -329,7 +329,7 @@ pub read-on : (got : Result (Option Taken) Stop) (told : Result (Option TakenLin
 read-on (Ok taken) told piece is = ap is_read_stop is
 read-on (Err stop) told piece is = ap is_read_stop is
 
--- where all bytes came, or as many as there are
+-- if all bytes came, or all that there are
 came-enough : (count : ℕ) (bytes : List ℕ) (taken : Taken) → (taken ≡ took.Short → ⊥) → came count bytes ≡ taken → count ≤ length bytes
 came-enough count bytes taken long is =
     elim (nat_lt (length bytes) count) as (λ b. nat_lt (length bytes) count ≡ b → (let got : Taken = if b then took.Short else (if nat_le count TEXT_LIMIT then took.Whole (take count bytes) else took.Dropped) in got) ≡ taken → count ≤ length bytes) [

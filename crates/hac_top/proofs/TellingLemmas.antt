@@ -1,4 +1,4 @@
--- The replies that were told of some turns, whole and in part.
+-- The replies to some turns that were written, whole and in part.
 use Rattle.std.proofs.Common.{◌≡◌, ℕ, ◌-◌, ◌<◌, ◌≤◌, true, false, List, [], ◌∷◌, ◌++◌, length, take, drop, refl, ap, sym, ◌∙◌, arith, append_assoc, length-append, append-nil, length-drop, subst, inl, inr}
 use Rattle.std.specs.Prelude.{◌⊎◌, codes, nat_le}
 use Rattle.std.specs.List.{flat_map}
@@ -19,7 +19,7 @@ pub text-append : (xs ys : List Turn) → told_text (xs ++ ys) ≡ told_text xs 
 text-append [] ys = refl
 text-append (x ∷ xs) ys = ap (λ (more : List ℕ). reply_text x.reply ++ more) (text-append xs ys) ∙ sym (append_assoc (reply_text x.reply) (told_text xs) (told_text ys))
 
--- the first so many turns are those that were told
+-- the first `done` turns are those that were answered
 pub front-turns : (all done rest : List Turn) → all ≡ done ++ rest → take (length done) all ≡ done
 front-turns all done rest is = ap (λ (ts : List Turn). take (length done) ts) is ∙ take-append_seam done rest
 
@@ -32,7 +32,7 @@ pub begin-none : (turns : List Turn) → IsBeginning [] turns
 begin-none [] = refl
 begin-none (turn ∷ turns) = (reply_text turn.reply, text-some turn.reply, refl)
 
--- what was told whole, with nothing behind it
+-- replies that were written whole, with nothing behind them
 abbrev pub told-whole : (all done rest : List Turn) (before after : SinkSeen) → all ≡ done ++ rest → Appends before.written after.written (told_text done) →
     (before.held_back ≡ 0 → after.held_back ≤ length (last_written [] done)) → Told all before after
 told-whole all done rest before after is written held =
@@ -54,12 +54,12 @@ last-turn done turn =
     let count : length (done ++ turn ∷ []) - 1 ≡ length done = omega (arith, length-append done (turn ∷ [])) in
     ap (λ (n : ℕ). drop n (done ++ turn ∷ [])) count ∙ drop-append_seam done (turn ∷ [])
 
--- a run that stops while it tells what comes behind the turns that were told
+-- a run that stops while it writes what comes behind the answered turns
 pub record StopsTelling (all done now : List Turn) (before after : SinkSeen) (count : ℕ) : Type 0 where
   pub told : Told all before after
   pub front : (more : List Turn) × (take told.done all ≡ done ++ more)
   pub whole : count ≡ 0 → told.cut ≡ []
-  -- none of them was told whole, or all, which is one at most
+  -- none of them was written whole, or all, which is one at most
   pub place : (told.done ≡ length done) ⊎ (told.done ≡ length (done ++ now))
   pub none : count ≡ 0 → told.done ≡ length done
 

@@ -14,7 +14,8 @@ use Rattle.hac_store.specs.declared.fault.StoreFault.TheVariants as fault
 use Rattle.hac_top.specs.declared.status.Status.{Status}
 use Rattle.hac_top.specs.declared.status.Status.TheVariants.{DiskFault, NotStore, Memory, AlreadyStore}
 
--- what a run goes on from, given whether a new store is asked for and what the file holds; or the status with which it ends
+-- what a run goes on from, given whether a new store is asked for and what the file holds; or the status with which it
+-- ends
 abbrev pub opening_outcome : Bool → Result Setting ℕ → Result Setting Status
 opening_outcome false (Ok setting) = Ok setting
 opening_outcome false (Err at) = Err (NotStore at)
@@ -27,7 +28,7 @@ TellsFile (NotStore at) = ⊤
 TellsFile AlreadyStore = ⊤
 TellsFile other = ⊥
 
--- a store was opened, or it was told what the file holds instead, unless a call failed
+-- a store was opened, or the answer says what the file holds instead, unless a call failed
 abbrev pub IsOpened : Result Seen Status → Result Setting Status → Type 0
 IsOpened (Ok store) wanted = wanted ≡ Ok store.setting
 IsOpened (Err status) wanted = TellsFile status → wanted ≡ Err status
@@ -65,8 +66,8 @@ abbrev pub Reopens : Bool → (State → Type 0) → List ℕ → Type 0
 Reopens false P image = Holds P image
 Reopens true P image = (kept : Setting) → held image ≡ Ok kept → P kept.state
 
--- So many turns were answered. The state is the tree after a prefix of their events which holds the events of each answered
--- command, and of those behind them at most those of the command in hand.
+-- `done` turns were answered. The state is the tree after a prefix of their events which holds the events of each
+-- answered command, and of those behind them at most those of the command in hand.
 pub record IsTreeOfAnswered (s : State) (turns : List Turn) (done : ℕ) (now : State) : Type 0 where
   pub count : ℕ
   pub within : count ≤ length (all_events turns)
@@ -74,8 +75,8 @@ pub record IsTreeOfAnswered (s : State) (turns : List Turn) (done : ℕ) (now : 
   pub answered : events_before done turns ≤ count
   pub no_further : done < length turns → count ≤ events_before (suc done) turns
 
--- What became of the disk while a store went on by events: a crash at any moment leaves the tree after some of them, and
--- where a call of the disk failed, its count of faults rose.
+-- What became of the disk while a store went on by events: a crash at any moment leaves the tree after some of them,
+-- and where a call of the disk failed, its count of faults rose.
 pub record Stores {D : Type 0} (seen : D → Option (List ℕ)) (image : D → List ℕ → Type 0) (moment : D → ℕ) (image_since : D → ℕ → List ℕ → Type 0)
     (attached : D → Option (List (List ℕ × Bool))) (faults : D → ℕ) (old new : D) (setting : Setting) (events : List Event) (failed : Bool) : Type 0 where
   pub moments : Stands (seen old) (image old) setting → LeavesOnly moment image_since old new (Holds (IsTreeAfter setting.state events))

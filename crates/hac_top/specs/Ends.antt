@@ -38,12 +38,12 @@ end_status (Err why) = stopped_status why
 abbrev pub IsFinished : Status → Type 0
 IsFinished status = (status ≡ Done) ⊎ (status ≡ SomeRefused)
 
--- the run tells of a read that failed
+-- the run reports a read that failed
 abbrev pub is_read_fault : Status → Bool
 is_read_fault ReadFault = true
 is_read_fault other = false
 
--- the run tells of a write or a flush that failed
+-- the run reports a write or a flush that failed
 abbrev pub is_write_fault : Status → Bool
 is_write_fault WriteFault = true
 is_write_fault other = false

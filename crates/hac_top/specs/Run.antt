@@ -33,7 +33,7 @@ usage_line = ended (codes "usage: hac [--new] STORE")
 abbrev pub AppendsSome : Option (List ℕ) → Option (List ℕ) → List ℕ → Type 0
 AppendsSome old new bytes = (n : ℕ) × Appends old new (take n bytes)
 
--- words are refused: nothing is read, and the usage is told or the sink fails
+-- words are refused: nothing is read, and the usage is written or the sink fails
 pub record RefusesWords (status : Status) (before after : Outside) : Type 0 where
   pub status_is : (status ≡ Usage) ⊎ (status ≡ WriteFault)
   pub unread : after.source ≡ before.source
@@ -46,8 +46,8 @@ TakesWithin None new = ⊤
 TakesWithin (Some old) None = ⊥
 TakesWithin (Some old) (Some new) = length old ≤ length new + (SCRIPT_LIMIT + 1)
 
--- What any run says of its source and sink. A fault that happened is told, and no other is. Unless the sink failed, it has
--- passed on all that it was written, if it had before.
+-- What any run says of its source and sink. A fault that happened is reported, and no other is. Unless the sink failed,
+-- it has passed on all that it was written, if it had before.
 pub record Ends (status : Status) (before after : Outside) : Type 0 where
   pub reads : TellsFault (is_read_fault status) before.source.faults after.source.faults
   pub writes : TellsFault (is_write_fault status) before.sink.faults after.sink.faults
@@ -76,8 +76,8 @@ pub record AnswersWithin (setting : Setting) (script : List ℕ) (done : ℕ) (l
   pub left_is : left ≡ Some (drop (SCRIPT_LIMIT + 1) script)
   pub all : take done (play setting script) ≡ play setting (whole (take SCRIPT_LIMIT script))
 
--- Of what was taken, all was answered but one line with the bytes that belong to it, and less than one piece behind them.
--- So no read goes beyond the piece in which an unanswered line ends, with its bytes.
+-- Of what was taken, all was answered but one line with the bytes that belong to it, and less than one piece behind
+-- them. So no read goes beyond the piece in which an unanswered line ends, with its bytes.
 pub record AnswersPromptly (setting : Setting) (script : List ℕ) (done : ℕ) (left : Option (List ℕ)) : Type 0 where
   pub answered : List ℕ
   pub line : List ℕ
@@ -90,8 +90,8 @@ pub record AnswersPromptly (setting : Setting) (script : List ℕ) (done : ℕ) 
   pub near : length behind < PIECE
   pub all : (more : List Turn) × (take done (play setting script) ≡ play setting answered ++ more)
 
--- However the run ends, the replies are those of the plain tree, none ahead of time and none late. A reply is cut off only
--- where the sink failed.
+-- However the run ends, the replies are those of the plain tree, none ahead of time and none late. A reply is cut off
+-- only where the sink failed.
 pub record Plays (status : Status) (setting : Setting) (script : List ℕ) (before after : Outside) : Type 0 where
   pub told : Told (play setting script) before.sink after.sink
   pub whole : (status ≡ WriteFault → ⊥) → told.cut ≡ []
@@ -100,15 +100,15 @@ pub record Plays (status : Status) (setting : Setting) (script : List ℕ) (befo
   pub read_fault : status ≡ ReadFault → AnswersTaken setting script told.done after.source.left
   pub too_long : status ≡ TooLong → AnswersWithin setting script told.done after.source.left
 
--- What a run comes to that goes on from a store. Its replies are those of the plain tree. Where nothing was pending on the
--- disk as it began, a crash leaves the tree with the events of each answered command, and at most those of the command in
--- hand besides; and where the script has ended, it leaves what the last command left.
+-- The outcome of a run that goes on from a store. Its replies are those of the plain tree. Where nothing was pending on
+-- the disk as it began, a crash leaves the tree with the events of each answered command, and at most those of the
+-- command in hand besides; and where the script has ended, it leaves what the last command left.
 pub record Ran (fresh : Bool) (status : Status) (setting : Setting) (script : List ℕ) (before after : Outside) (stood : Type 0) (image : List ℕ → Type 0) : Type 0 where
   pub plays : Plays status setting script before after
   pub reopens : stood → (c : List ℕ) → image c → Reopens fresh (IsTreeOfAnswered setting.state (play setting script) plays.told.done) c
   pub kept : stood → IsFinished status → (c : List ℕ) → image c → held c ≡ Ok (left_by setting (play setting script))
 
--- the words, the file and the script, where they are told, and what the run then goes on from
+-- the words, the file and the script, if they are known, and what the run then goes on from
 abbrev pub IfOpens : Option Options → Option (List ℕ) → Option (List ℕ) → (Bool → Setting → List ℕ → Type 0) → Type 0
 IfOpens words seen left P = IfSome words (λ options. IfSome seen (λ file. IfSome left (λ script. IfOk (opening_outcome options.fresh (held file)) (λ setting. P options.fresh setting script))))
 
@@ -121,7 +121,8 @@ HasBegun status before after =
 abbrev pub EndsSo : Status → Status → Type 0
 EndsSo wanted status = (status ≡ wanted) ⊎ ((status ≡ DiskFault) ⊎ (status ≡ Memory))
 
--- without a fault a script within the limit is read to its end, and a longer one is told as such, unless memory runs out
+-- without a fault a script within the limit is read to its end, and a longer one is reported as such, unless memory
+-- runs out
 pub record Completes (status : Status) (script : List ℕ) : Type 0 where
   pub within : length script ≤ SCRIPT_LIMIT → IsFinished status ⊎ (status ≡ Memory)
   pub past : SCRIPT_LIMIT < length script → (status ≡ TooLong) ⊎ (status ≡ Memory)

@@ -50,7 +50,7 @@ StopsTelling stop = (stop ≡ WriteFault) ⊎ (stop ≡ Memory)
 abbrev pub StopsCommand : Stop → Type 0
 StopsCommand stop = (stop ≡ DiskFault) ⊎ (stop ≡ Memory)
 
--- the answer stopped when so many bytes of its text were written, and none where no write failed
+-- the answer stopped when `count` bytes of its text were written, none if no write failed
 pub record CutsAnswer (stop : Stop) (before after : SinkSeen) (text : List ℕ) : Type 0 where
   pub count : ℕ
   pub within : count ≤ length text

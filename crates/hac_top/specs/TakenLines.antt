@@ -47,18 +47,18 @@ abbrev pub GivesFrom : Option TakenLine → Bool → List ℕ → List ℕ → T
 GivesFrom None ended bytes rest = (bytes ≡ []) × (rest ≡ [])
 GivesFrom (Some line) ended bytes rest = GivesTaken line ended bytes rest
 
--- the same, where the source tells what it has left
+-- the same, if the source tells what it has left
 abbrev pub Gives : Option TakenLine → Bool → Option (List ℕ) → Option (List ℕ) → Type 0
 Gives line ended None new = ⊤
 Gives line ended (Some bytes) None = ⊥
 Gives line ended (Some bytes) (Some rest) = GivesFrom line ended bytes rest
 
--- where the reader stands against the limit of a script
+-- how the reader meets the limit of a script
 abbrev pub Advances : Option TakenLine → Reading → Reading → Type 0
 Advances None old new = new.taken ≤ SCRIPT_LIMIT
 Advances (Some line) old new = GoesOn old new
 
--- of what stands behind a piece, the bytes that it asks for were taken: all, or as many as there are at the end
+-- of what follows a piece, the bytes that it asks for were taken: all, or all that there are up to the end
 pub record TakesDue (due : Option ℕ) (taken : Option Taken) (ended : Bool) (bytes rest : List ℕ) : Type 0 where
   pub taken_is : taken ≡ option_map (λ count. came count bytes) due
   pub behind : rest ≡ drop (unwrap_or due 0) bytes
@@ -69,7 +69,7 @@ TakesBehind due taken ended None new = ⊤
 TakesBehind due taken ended (Some bytes) None = ⊥
 TakesBehind due taken ended (Some bytes) (Some rest) = TakesDue due taken ended bytes rest
 
--- not all bytes that a piece asks for came, and so many were taken beyond the limit of a script
+-- not all bytes that a piece asks for came, and `beyond` were taken beyond the limit of a script
 pub record LacksDue (due : Option ℕ) (beyond : ℕ) (bytes left : List ℕ) : Type 0 where
   pub front : List ℕ
   pub over : List ℕ
@@ -82,7 +82,7 @@ Lacks due beyond None left = ⊤
 Lacks due beyond (Some bytes) None = ⊥
 Lacks due beyond (Some bytes) (Some left) = LacksDue due beyond bytes left
 
--- what was taken holds no whole line, and so many bytes of it lie beyond the limit of a script
+-- what was taken holds no whole line, and `beyond` bytes of it lie beyond the limit of a script
 pub record CutsLine (beyond : ℕ) (bytes left : List ℕ) : Type 0 where
   pub front : List ℕ
   pub over : List ℕ

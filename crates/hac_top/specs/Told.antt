@@ -1,4 +1,4 @@
--- What a run has told of what it was to tell.
+-- What a run has written of its replies.
 use Rattle.std.specs.Prelude.{◌≡◌, ℕ, ◌-◌, ◌<◌, ◌≤◌, List, [], ◌∷◌, ◌++◌, length, take, drop}
 use Rattle.std.specs.Io.KnownBytes.{Appends}
 use Rattle.hac_outside.specs.Seen.{SinkSeen}
@@ -14,12 +14,12 @@ abbrev pub IsBeginning : List ℕ → List Turn → Type 0
 IsBeginning cut [] = cut ≡ []
 IsBeginning cut (turn ∷ turns) = (rest : List ℕ) × (0 < length rest) × (reply_text turn.reply ≡ cut ++ rest)
 
--- the reply that was written last: the beginning of one, or where there is none, the last whole one
+-- the reply that was written last: the beginning of one, or if there is none, the last whole one
 abbrev pub last_written : List ℕ → List Turn → List ℕ
 last_written [] told = told_text (drop (length told - 1) told)
 last_written (byte ∷ bytes) told = byte ∷ bytes
 
--- of these turns so many replies were written whole, and then a proper beginning of the next. All of them were passed on
+-- of these turns `done` replies were written whole, and then a proper beginning of the next. All of them were passed on
 -- but the last.
 pub record Told (turns : List Turn) (before after : SinkSeen) : Type 0 where
   pub done : ℕ

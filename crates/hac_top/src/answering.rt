@@ -35,7 +35,7 @@ pub struct Player {
 }
 
 impl Player {
-    /// Carries out what a line of the script asks for, and tells the reply, where there is one. What the line changes is
+    /// Carries out what a line of the script asks for, and gives the reply, if there is one. What the line changes is
     /// in the store before anything of its reply is written.
     pub fn answer<K: Sink, D: Disk>(
         &mut self,
@@ -104,9 +104,10 @@ impl Player {
         ensures stops { IfErr result StopsTelling }
         ensures faults { TellsFault (is_write_stop result) (K.seen output.old).faults (K.seen output.new).faults }
     {
-        let bytes = print_reply(self.alloc, &reply)?;
+        let bytes = print_reply(self.alloc, &reply);
         self.refused = self.refused | is_refused(&reply);
-        tell_bytes(output, &bytes)?;
+        drop(reply);
+        tell_bytes(output, &bytes?)?;
         Ok(())
     }
 }

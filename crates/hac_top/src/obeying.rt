@@ -158,7 +158,7 @@ fn happen<D: Disk>(
     }
 }
 
-/// Stores the events that a command comes to, and applies them. `Full` comes before any write.
+/// Stores the events of a command, and applies them. `Full` comes before any write.
 fn store_events<D: Disk>(
     store: &mut Store,
     disk: &mut D,

@@ -133,7 +133,9 @@ fn play_store<S: Source, K: Sink, D: Disk>(
         store,
         refused: false,
     };
-    play_script(alloc, &mut player, input, output, disk)
+    let played = play_script(alloc, &mut player, input, output, disk);
+    drop(player);
+    played
 }
 
 /// Plays the script to its end, and says whether some command was refused.

@@ -3,6 +3,7 @@ use hac_core::{Machine, Settled};
 use hac_model::{Event, Memory, Name, Number, Query, Seq, Term};
 use hac_words::{has_term, words_of};
 use std::alloc::{AllocError, Global};
+use std::process::Abort;
 use std::test::Fail;
 
 #[test]
@@ -20,13 +21,19 @@ fn lists_words(rt: HostRuntime) -> Result<(), Fail> {
         ),
         (b"\xff~\x00\xff", b"\xff "),
     ] {
-        let mut told = Vec::new(rt.alloc());
-        for word in words_of(rt.alloc(), text)?.as_slice() {
-            told.extend_from_slice(word.as_bytes())?;
-            told.push(b' ')?;
-        }
-        assert_eq!(rt; told.as_slice(), want, "in {text:?}");
+        expect_words(&rt, rt.alloc(), text, want)?;
     }
+    Ok(())
+}
+
+/// The words of a text, each with a space behind it.
+fn expect_words(rt: &impl Abort, alloc: Global, text: &[u8], want: &[u8]) -> Result<(), Fail> {
+    let mut found = Vec::new(alloc);
+    for word in words_of(alloc, text)?.as_slice() {
+        found.extend_from_slice(word.as_bytes())?;
+        found.push(b' ')?;
+    }
+    assert_eq!(rt; found.as_slice(), want, "in {text:?}");
     Ok(())
 }
 
@@ -45,20 +52,30 @@ fn finds_words_and_prefixes(rt: HostRuntime) -> Result<(), Fail> {
         (b"caf\xc3\xa9", true, true),
         (b"", false, true),
     ] {
-        let word = Term::Word(Name::new(Vec::from_slice(rt.alloc(), letters)?));
-        let prefix = Term::Prefix(Name::new(Vec::from_slice(rt.alloc(), letters)?));
-        assert_eq!(rt; has_term(text, &word), is_word, "{letters:?}");
-        assert_eq!(rt; has_term(text, &prefix), is_prefix, "{letters:?}*");
-        assert_eq!(rt; has_term(b", ;", &prefix), false, "{letters:?}*");
+        let word = Term::Word(name(rt.alloc(), letters)?);
+        expect_term(&rt, text, &word, is_word);
+        let prefix = Term::Prefix(name(rt.alloc(), letters)?);
+        expect_term(&rt, text, &prefix, is_prefix);
     }
     Ok(())
+}
+
+/// Whether a text has a term, which one without words doesn't have.
+fn expect_term(rt: &impl Abort, text: &[u8], term: &Term, wanted: bool) {
+    assert_eq!(rt; has_term(text, term), wanted, "{term:?}");
+    assert_eq!(rt; has_term(b", ;", term), false, "{term:?}");
+}
+
+fn name(alloc: Global, letters: &[u8]) -> Result<Name, AllocError> {
+    Ok(Name::new(Vec::from_slice(alloc, letters)?))
 }
 
 #[test]
 fn tells_which_events_fit(rt: HostRuntime) -> Result<(), Fail> {
     let mut machine = Machine::new(rt.alloc())?;
-    let told = which_happen(rt.alloc(), &mut machine)?;
-    assert_eq!(rt; told, [true, false, true, false, true, false]);
+    let told = which_happen(rt.alloc(), &mut machine);
+    drop(machine);
+    assert_eq!(rt; told?, [true, false, true, false, true, false]);
     Ok(())
 }
 
@@ -76,19 +93,24 @@ fn which_happen(alloc: Global, machine: &mut Machine) -> Result<[bool; 6], Memor
 
 /// Whether an event fits. If so, it happens.
 fn happens(machine: &mut Machine, event: Event) -> Result<bool, Memory> {
-    if !machine.fits(&event)? {
-        return Ok(false);
+    match machine.fits(&event) {
+        Ok(true) => {
+            machine.prepare(Settled::Change(event))?;
+            machine.commit();
+            Ok(true)
+        }
+        other => {
+            drop(event);
+            other
+        }
     }
-    machine.prepare(Settled::Change(event))?;
-    machine.commit();
-    Ok(true)
 }
 
 /// A directory is created in the root.
-fn mkdir(alloc: Global, name: &[u8]) -> Result<Event, AllocError> {
+fn mkdir(alloc: Global, letters: &[u8]) -> Result<Event, AllocError> {
     Ok(Event::Mkdir {
         dir: Number::ROOT,
-        name: Name::new(Vec::from_slice(alloc, name)?),
+        name: name(alloc, letters)?,
     })
 }
 

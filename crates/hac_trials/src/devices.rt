@@ -1,10 +1,11 @@
-//! Runs over sources and sinks in memory that give their bytes in pieces, fail at chosen calls, or hold more than a file
-//! can say.
-use crate::runs::{NEW, ROOM, Trial, failing_disk, play, run_with, trial_of};
+//! Runs over sources and sinks in memory that give their bytes in pieces, fail at chosen calls, or hold more than a
+//! file can say.
+use crate::runs::{NEW, ROOM, Trial, expect_play, failing_disk, run_with, trial_of};
 use hac_model::{SCRIPT_LIMIT, TEXT_LIMIT};
 use hac_outside::{Failed, MemorySink, MemorySource, Source};
 use hac_top::Status;
 use std::alloc::{AllocError, Global};
+use std::process::Abort;
 use std::test::Fail;
 
 #[test]
@@ -36,10 +37,8 @@ fn pieces_and_faults_leave_a_prefix(rt: HostRuntime) -> Result<(), Fail> {
         (script.failing_writes(&[3]), Status::WriteFault, b"ok\n"),
         (script.room(5), Status::WriteFault, b"ok\nno"),
     ];
-    for (row, (trial, status, text)) in rows.into_iter().enumerate() {
-        let (ended, written) = play(alloc, &trial)?;
-        assert_eq!(rt; ended, status, "in row {row}");
-        assert_eq!(rt; written.as_slice(), text, "in row {row}");
+    for (trial, status, text) in rows {
+        expect_play(&rt, alloc, &trial, status, text)?;
     }
     Ok(())
 }
@@ -56,20 +55,31 @@ fn words_are_refused(rt: HostRuntime) -> Result<(), Fail> {
         (ROOM, &[2], Status::WriteFault, usage),
     ];
     for (room, failing, status, text) in rows {
-        let mut input = MemorySource::new(alloc, b"fly\n", &[], &[])?;
-        let mut output = MemorySink::new(alloc, room, ROOM, failing)?;
-        let mut disk = failing_disk(alloc, &[])?;
-        let words = ["--new", "S", "T"];
-        assert_eq!(rt;
-            run_with(alloc, &words, &mut input, &mut output, &mut disk)?,
-            status
-        );
-        assert_eq!(rt; output.written(), text);
+        expect_usage(&rt, alloc, room, failing, status, text)?;
     }
     Ok(())
 }
 
-/// A source that makes the bytes of a script of so many: each read gives a comment, and one read near the
+/// A run with words that don't fit the usage, to a sink of some room of which some calls fail.
+fn expect_usage(
+    rt: &impl Abort,
+    alloc: Global,
+    room: u64,
+    failing: &[u64],
+    status: Status,
+    text: &[u8],
+) -> Result<(), Fail> {
+    let mut input = MemorySource::new(alloc, b"fly\n", &[], &[])?;
+    let mut output = MemorySink::new(alloc, room, ROOM, failing)?;
+    let mut disk = failing_disk(alloc, &[])?;
+    let words = ["--new", "S", "T"];
+    let ended = run_with(alloc, &words, &mut input, &mut output, &mut disk)?;
+    assert_eq!(rt; ended, status, "where {text:?} is wanted");
+    assert_eq!(rt; output.written(), text);
+    Ok(())
+}
+
+/// A source that makes the bytes of a script of a given length: each read gives a comment, and one read near the
 /// limit begins with a command.
 #[derive(Drop)]
 struct LongScript<'a> {
@@ -115,26 +125,36 @@ fn longest_script_is_played(rt: HostRuntime) -> Result<(), Fail> {
         (SCRIPT_LIMIT + 1, put, Status::TooLong, b""),
     ];
     for (end, command, status, text) in rows {
-        let mut input = LongScript {
-            command,
-            at: 0,
-            end,
-            commands: 0,
-            ended: false,
-        };
-        let mut output = MemorySink::new(alloc, ROOM, ROOM, &[])?;
-        let mut disk = failing_disk(alloc, &[])?;
-        assert_eq!(rt;
-            run_with(alloc, &NEW, &mut input, &mut output, &mut disk)?,
-            status,
-            "of {end} bytes"
-        );
-        assert_eq!(rt; output.written(), text, "of {end} bytes");
+        expect_long(&rt, alloc, end, command, status, text)?;
     }
     Ok(())
 }
 
-/// A `put` of so many bytes, of which the last are a word, and two lines behind them.
+/// A run of a script of `end` bytes with one command near its end.
+fn expect_long(
+    rt: &impl Abort,
+    alloc: Global,
+    end: u64,
+    command: &[u8],
+    status: Status,
+    text: &[u8],
+) -> Result<(), Fail> {
+    let mut input = LongScript {
+        command,
+        at: 0,
+        end,
+        commands: 0,
+        ended: false,
+    };
+    let mut output = MemorySink::new(alloc, ROOM, ROOM, &[])?;
+    let mut disk = failing_disk(alloc, &[])?;
+    let ended = run_with(alloc, &NEW, &mut input, &mut output, &mut disk)?;
+    assert_eq!(rt; ended, status, "of {end} bytes");
+    assert_eq!(rt; output.written(), text, "of {end} bytes");
+    Ok(())
+}
+
+/// A `put` of `count` bytes, of which the last are a word, and two lines behind them.
 fn long_put(alloc: Global, line: &[u8], count: u64) -> Result<Vec<u8>, AllocError> {
     let mut script = Vec::from_slice(alloc, b"smkdir /s end\n")?;
     script.extend_from_slice(line)?;
@@ -150,19 +170,22 @@ fn longest_text_is_put(rt: HostRuntime) -> Result<(), Fail> {
     let alloc = rt.alloc();
     let longest = long_put(alloc, b"put /a 1048576\n", TEXT_LIMIT)?;
     let bytes = vec![in alloc; 1u64; longest.len() + 1]?;
-    let (status, written) = play(alloc, &trial_of(&longest).pieces(&bytes))?;
-    assert_eq!(rt; status, Status::Done);
-    assert_eq!(rt; written.as_slice(), b"ok\nok\nok\nt /a\nok\n".as_slice());
+    let trial = trial_of(&longest).pieces(&bytes);
+    expect_play(&rt, alloc, &trial, Status::Done, b"ok\nok\nok\nt /a\nok\n")?;
     let rows: [(&[u8], &[u8]); 2] = [
         (b"put /a 1048577\n", b"ok\nno limit text\nok\nok\n"),
         (b"put \"\" 1048577\n", b"ok\nno bad-name\nok\nok\n"),
     ];
     for (line, text) in rows {
-        let script = long_put(alloc, line, TEXT_LIMIT + 1)?;
-        let (_, written) = play(alloc, &trial_of(&script))?;
-        assert_eq!(rt; written.as_slice(), text, "at {line:?}");
+        expect_too_long(&rt, alloc, line, text)?;
     }
     Ok(())
+}
+
+/// A `put` of one byte more than a text may have.
+fn expect_too_long(rt: &impl Abort, alloc: Global, line: &[u8], text: &[u8]) -> Result<(), Fail> {
+    let script = long_put(alloc, line, TEXT_LIMIT + 1)?;
+    expect_play(rt, alloc, &trial_of(&script), Status::SomeRefused, text)
 }
 
 #[test]
@@ -183,10 +206,8 @@ fn faults_inside_a_put_leave_it_unanswered(rt: HostRuntime) -> Result<(), Fail> 
             b"no bad-line\nok\n",
         ),
     ];
-    for (row, (trial, text)) in rows.into_iter().enumerate() {
-        let (status, written) = play(alloc, &trial)?;
-        assert_eq!(rt; status, Status::ReadFault, "in row {row}");
-        assert_eq!(rt; written.as_slice(), text, "in row {row}");
+    for (trial, text) in rows {
+        expect_play(&rt, alloc, &trial, Status::ReadFault, text)?;
     }
     Ok(())
 }

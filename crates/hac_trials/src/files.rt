@@ -19,6 +19,7 @@ fn disk_over_a_real_file(rt: HostRuntime) -> Result<(), Fail> {
     assert_eq!(rt; into, *b"bcd");
     assert_eq!(rt; disk.read_at(2, &mut into), Err(Failed));
     assert_eq!(rt; disk.write_at(5, b"e"), Err(Failed));
+    drop(disk);
     fs::remove_file(&rt, "hac_disk_test.store")?;
     Ok(())
 }

@@ -1,6 +1,7 @@
 //! Payloads whose bytes were written by hand from the table of events.
 use event_codec::{CodecFault, Payload, read_payload, write_event};
 use std::alloc::Global;
+use std::process::Abort;
 use std::test::Fail;
 
 #[test]
@@ -65,10 +66,19 @@ fn events_are_read_and_written(rt: HostRuntime) -> Result<(), Fail> {
         (b"\x01\x0f", "Step"),
     ];
     for (bytes, told) in rows {
-        let Payload::Event(event) = read_payload(alloc, bytes, false)?;
-        assert_eq!(rt; format!(in alloc; "{event:?}")?.as_str(), told);
-        assert_eq!(rt; write_event(alloc, &event)?.as_slice(), bytes);
+        expect_event(&rt, alloc, bytes, told)?;
     }
+    Ok(())
+}
+
+/// The payload is read as the event that is shown so, and that event is written as the payload.
+fn expect_event(rt: &impl Abort, alloc: Global, bytes: &[u8], shown: &str) -> Result<(), Fail> {
+    let Payload::Event(event) = read_payload(alloc, bytes, false)?;
+    let printed = format!(in alloc; "{event:?}");
+    let written = write_event(alloc, &event);
+    drop(event);
+    assert_eq!(rt; printed?.as_str(), shown);
+    assert_eq!(rt; written?.as_slice(), bytes);
     Ok(())
 }
 
@@ -139,54 +149,60 @@ fn faults_are_told_with_their_place(rt: HostRuntime) -> Result<(), Fail> {
 #[test]
 fn limits_of_queries(rt: HostRuntime) -> Result<(), Fail> {
     let alloc = rt.alloc();
-    // 64 terms, joined by 63 parts, and then 65.
-    let mut most = setq(alloc, 5, 63)?;
-    repeat(&mut most, b"\x03\0\0\0\0", 64)?;
-    most.extend_from_slice(b"\0\0\0\0")?;
-    assert_eq!(rt; fault(alloc, most.as_slice()), None);
-    let mut more = setq(alloc, 6, 64)?;
-    repeat(&mut more, b"\x03\0\0\0\0", 65)?;
-    assert_eq!(rt;
-        fault(alloc, more.as_slice()),
-        Some(CodecFault::Bad {
-            at: 6 + 64 + 64 * 5
-        })
-    );
-    // 32 `NOT`s, and then 33.
-    let mut most = setq(alloc, 4, 32)?;
-    most.extend_from_slice(b"\x01\x01\0a\0\0\0\0")?;
-    assert_eq!(rt; fault(alloc, most.as_slice()), None);
-    let more = setq(alloc, 4, 33)?;
-    assert_eq!(rt;
-        fault(alloc, more.as_slice()),
-        Some(CodecFault::Bad { at: 6 + 32 })
-    );
-    // 1,024 bytes of letters, and then one more.
-    let mut most = setq(alloc, 5, 1)?;
-    most.extend_from_slice(b"\x01\xff\x01")?;
-    repeat(&mut most, b"a", 511)?;
-    most.extend_from_slice(b"\x02\x01\x02")?;
-    repeat(&mut most, b"a", 513)?;
-    most.extend_from_slice(b"\0\0\0\0")?;
-    assert_eq!(rt; fault(alloc, most.as_slice()), None);
-    let mut more = setq(alloc, 5, 1)?;
-    more.extend_from_slice(b"\x01\xff\x01")?;
-    repeat(&mut more, b"a", 511)?;
-    more.extend_from_slice(b"\x02\x02\x02")?;
-    repeat(&mut more, b"a", 514)?;
-    assert_eq!(rt;
-        fault(alloc, more.as_slice()),
-        Some(CodecFault::Bad {
-            at: 6 + 1 + 3 + 511
-        })
-    );
-    // A million `AND`s are read, and nothing behind them.
-    let many = setq(alloc, 5, 1_000_000)?;
-    assert_eq!(rt;
-        fault(alloc, many.as_slice()),
-        Some(CodecFault::Bad { at: 1_000_006 })
-    );
+    let rows: [(&[(&[u8], usize)], Option<u64>); 7] = [
+        // 64 terms, joined by 63 parts, and then 65.
+        (
+            &[(b"\x05", 63), (b"\x03\0\0\0\0", 64), (b"\0\0\0\0", 1)],
+            None,
+        ),
+        (
+            &[(b"\x06", 64), (b"\x03\0\0\0\0", 65)],
+            Some(6 + 64 + 64 * 5),
+        ),
+        // 32 `NOT`s, and then 33.
+        (&[(b"\x04", 32), (b"\x01\x01\0a\0\0\0\0", 1)], None),
+        (&[(b"\x04", 33)], Some(6 + 32)),
+        // 1,024 bytes of letters, and then one more.
+        (
+            &[
+                (b"\x05\x01\xff\x01", 1),
+                (b"a", 511),
+                (b"\x02\x01\x02", 1),
+                (b"a", 513),
+                (b"\0\0\0\0", 1),
+            ],
+            None,
+        ),
+        (
+            &[
+                (b"\x05\x01\xff\x01", 1),
+                (b"a", 511),
+                (b"\x02\x02\x02", 1),
+                (b"a", 514),
+            ],
+            Some(6 + 1 + 3 + 511),
+        ),
+        // A million `AND`s are read, and nothing behind them.
+        (&[(b"\x05", 1_000_000)], Some(1_000_006)),
+    ];
+    for (parts, at) in rows {
+        let wanted = match at {
+            Some(at) => Some(CodecFault::Bad { at }),
+            None => None,
+        };
+        assert_eq!(rt; fault_of_query(alloc, parts)?, wanted);
+    }
     Ok(())
+}
+
+/// The fault of a payload that sets a query, given the parts behind the number of the directory, each with how often it
+/// comes.
+fn fault_of_query(alloc: Global, parts: &[(&[u8], usize)]) -> Result<Option<CodecFault>, Fail> {
+    let mut bytes = b"\x01\x09\0\0\0\0".to_vec(alloc)?;
+    for (part, count) in parts {
+        repeat(&mut bytes, part, *count)?;
+    }
+    Ok(fault(alloc, bytes.as_slice()))
 }
 
 /// The fault of a payload, where it has one.
@@ -197,13 +213,7 @@ fn fault(alloc: Global, bytes: &[u8]) -> Option<CodecFault> {
     }
 }
 
-/// A payload that sets a query, as far as so many parts of one kind.
-fn setq(alloc: Global, part: u8, count: usize) -> Result<Vec<u8>, Fail> {
-    let mut bytes = b"\x01\x09\0\0\0\0".to_vec(alloc)?;
-    repeat(&mut bytes, &[part], count)?;
-    Ok(bytes)
-}
-
+/// Adds bytes, `count` times.
 fn repeat(bytes: &mut Vec<u8>, more: &[u8], count: usize) -> Result<(), Fail> {
     for _ in 0..count {
         bytes.extend_from_slice(more)?;

@@ -5,6 +5,8 @@ use hac_disk::{Disk, MemoryDisk};
 use hac_outside::{MemorySink, MemorySource, Sink, Source};
 use hac_top::{Status, run};
 use std::alloc::{AllocError, Global};
+use std::process::Abort;
+use std::test::Fail;
 
 pub const ROOM: u64 = 1 << 20;
 
@@ -114,4 +116,34 @@ pub fn play_on(
     let mut output = MemorySink::new(alloc, trial.room, ROOM, trial.failing_writes)?;
     let status = run_with(alloc, &NEW, &mut input, &mut output, disk)?;
     Ok((status, Vec::from_slice(alloc, output.written())?))
+}
+
+/// Runs a script on a disk, with these words: it ends with the status, and the text is replied.
+pub fn expect_run<D: Disk>(
+    rt: &impl Abort,
+    alloc: Global,
+    words: &[&str],
+    script: &[u8],
+    disk: &mut D,
+    status: Status,
+    text: &[u8],
+) -> Result<(), Fail> {
+    let (ended, replied) = reply(alloc, words, script, disk)?;
+    assert_eq!(rt; ended, status, "of {script:?}");
+    assert_eq!(rt; replied.as_slice(), text, "of {script:?}");
+    Ok(())
+}
+
+/// Plays a trial on a new store: it ends with the status, and the text is written.
+pub fn expect_play(
+    rt: &impl Abort,
+    alloc: Global,
+    trial: &Trial<'_>,
+    status: Status,
+    text: &[u8],
+) -> Result<(), Fail> {
+    let (ended, written) = play(alloc, trial)?;
+    assert_eq!(rt; ended, status, "where {text:?} is wanted");
+    assert_eq!(rt; written.as_slice(), text);
+    Ok(())
 }

@@ -1,10 +1,11 @@
 //! Runs on one store after the other, and over disks that fail.
 ghost use Rattle.std.specs.Prelude.{◌≤◌, IfOk};
 
-use crate::runs::{NEW, OLD, Trial, failing_disk, play_on, reply, trial_of};
+use crate::runs::{NEW, OLD, Trial, expect_run, failing_disk, play_on, reply, trial_of};
 use hac_disk::FuseDisk;
 use hac_top::Status;
 use std::alloc::{AllocError, Global};
+use std::process::Abort;
 use std::test::Fail;
 
 #[test]
@@ -28,10 +29,8 @@ fn second_run_finds_what_the_first_made(rt: HostRuntime) -> Result<(), Fail> {
         ),
         (&NEW, b"mkdir /b\n", Status::AlreadyStore, b""),
     ];
-    for (row, (words, script, status, text)) in rows.into_iter().enumerate() {
-        let (ended, replied) = reply(alloc, words, script, &mut disk)?;
-        assert_eq!(rt; ended, status, "in row {row}");
-        assert_eq!(rt; replied.as_slice(), text, "in row {row}");
+    for (words, script, status, text) in rows {
+        expect_run(&rt, alloc, words, script, &mut disk, status, text)?;
     }
     Ok(())
 }
@@ -64,16 +63,25 @@ fn disk_that_stops_within_a_command(rt: HostRuntime) -> Result<(), Fail> {
         (made + 4, Status::Done, b"ok\n", b"d a\nok\n"),
     ];
     for (calls, status, text, found) in rows {
-        let mut fuse = FuseDisk::new(failing_disk(alloc, &[])?, calls);
-        let (ended, replied) = reply(alloc, &NEW, b"mkdir /a\n", &mut fuse)?;
-        assert_eq!(rt; ended, status, "after {calls} calls");
-        assert_eq!(rt; replied.as_slice(), text, "after {calls} calls");
-        let mut disk = fuse.into_disk();
-        let (ended, replied) = reply(alloc, &OLD, b"ls\n", &mut disk)?;
-        assert_eq!(rt; ended, Status::Done, "after {calls} calls");
-        assert_eq!(rt; replied.as_slice(), found, "after {calls} calls");
+        expect_stop(&rt, alloc, calls, status, text, found)?;
     }
     Ok(())
+}
+
+/// A command on a disk that stops after some calls ends with the status and replies the text, and the next run finds
+/// what is there.
+fn expect_stop(
+    rt: &impl Abort,
+    alloc: Global,
+    calls: u64,
+    status: Status,
+    text: &[u8],
+    found: &[u8],
+) -> Result<(), Fail> {
+    let mut fuse = FuseDisk::new(failing_disk(alloc, &[])?, calls);
+    expect_run(rt, alloc, &NEW, b"mkdir /a\n", &mut fuse, status, text)?;
+    let mut disk = fuse.into_disk();
+    expect_run(rt, alloc, &OLD, b"ls\n", &mut disk, Status::Done, found)
 }
 
 #[test]
@@ -81,20 +89,23 @@ fn failed_disk_call_is_not_tried_again(rt: HostRuntime) -> Result<(), Fail> {
     let alloc = rt.alloc();
     let last = calls_of_a_new_store(alloc)? + 4;
     for call in 1..last + 1 {
-        let mut disk = failing_disk(alloc, &[call])?;
-        let (ended, replied) = reply(alloc, &NEW, b"mkdir /a\nfly\n", &mut disk)?;
-        assert_eq!(rt; ended, Status::DiskFault, "where call {call} fails");
-        assert_eq!(rt;
-            replied.as_slice(),
-            b"".as_slice(),
-            "where call {call} fails"
-        );
+        expect_failure(&rt, alloc, call, Status::DiskFault, b"")?;
     }
-    let mut disk = failing_disk(alloc, &[last + 1])?;
-    let (ended, replied) = reply(alloc, &NEW, b"mkdir /a\nfly\n", &mut disk)?;
-    assert_eq!(rt; ended, Status::SomeRefused);
-    assert_eq!(rt; replied.as_slice(), b"ok\nno bad-line\n".as_slice());
-    Ok(())
+    let text = b"ok\nno bad-line\n";
+    expect_failure(&rt, alloc, last + 1, Status::SomeRefused, text)
+}
+
+/// A run on a new store, of whose calls of the disk one fails.
+fn expect_failure(
+    rt: &impl Abort,
+    alloc: Global,
+    call: u64,
+    status: Status,
+    text: &[u8],
+) -> Result<(), Fail> {
+    let mut disk = failing_disk(alloc, &[call])?;
+    let script = b"mkdir /a\nfly\n";
+    expect_run(rt, alloc, &NEW, script, &mut disk, status, text)
 }
 
 #[test]
@@ -107,12 +118,21 @@ fn record_is_on_the_disk_before_the_reply(rt: HostRuntime) -> Result<(), Fail> {
         (script.failing_writes(&[2]), b"d a\nok\n"),
         (script.failing_writes(&[3]), b"d a\nd b\nok\n"),
     ];
-    for (row, (trial, found)) in rows.into_iter().enumerate() {
-        let mut disk = failing_disk(alloc, &[])?;
-        let (ended, _) = play_on(alloc, &trial, &mut disk)?;
-        assert_eq!(rt; ended, Status::WriteFault, "in row {row}");
-        let (_, replied) = reply(alloc, &OLD, b"ls\n", &mut disk)?;
-        assert_eq!(rt; replied.as_slice(), found, "in row {row}");
+    for (trial, found) in rows {
+        expect_record(&rt, alloc, &trial, found)?;
     }
     Ok(())
+}
+
+/// After a run whose sink fails, the next run finds what was stored.
+fn expect_record(
+    rt: &impl Abort,
+    alloc: Global,
+    trial: &Trial<'_>,
+    found: &[u8],
+) -> Result<(), Fail> {
+    let mut disk = failing_disk(alloc, &[])?;
+    let (ended, _) = play_on(alloc, trial, &mut disk)?;
+    assert_eq!(rt; ended, Status::WriteFault, "where {found:?} is wanted");
+    expect_run(rt, alloc, &OLD, b"ls\n", &mut disk, Status::Done, found)
 }

@@ -60,7 +60,7 @@ impl Write for Stumbling {
     }
 }
 
-// An interrupted call is tried again, and one that failed isn't: it is told at once.
+// An interrupted call is tried again, and one that failed isn't: it is reported at once.
 #[test]
 fn failures_are_told_at_once(rt: HostRuntime) {
     let mut source = StdSource::new(Stumbling { calls: 0 });

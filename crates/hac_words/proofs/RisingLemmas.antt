@@ -59,7 +59,7 @@ module _ {K : Type 0} where
   unmarked [] = refl
   unmarked (k ∷ ks) = ap (λ l. k ∷ l) (unmarked ks)
 
-  -- what passes a test once `dedup` is done, where the test can't tell apart what `dedup` holds for the same
+  -- what passes a test once `dedup` is done, if the test sees no difference between what `dedup` holds for the same
   list_any-dedup_from : (E : K → K → Bool) (p : K → Bool) → ((x y : K) → E x y ≡ true → p x ≡ p y) → (k : K) (xs : List K) → list_any p (dedup_from E k xs) ≡ (p k || list_any p xs)
   list_any-dedup_from E p alike k [] = refl
   list_any-dedup_from E p alike k (x ∷ xs) =
@@ -133,7 +133,7 @@ module _ {K : Type 0} (R : K → K → Ordering) where
       ∙ ap (λ b. b || list_any p new) (list_any-insert_key same p ks k)
       ∙ or_between (p k) (list_any p ks) (list_any p new)
 
-  -- none is lost on the way to its place, and none comes
+  -- none is lost on the way to its place, and none comes in addition
   pub list_any-fold : IsAntisymmetric R → (p : K → Bool) (new : List K) → list_any p (fold (insert_key R) [] new) ≡ list_any p new
   list_any-fold same p new = list_any-fold_from same p [] new
 

@@ -1,4 +1,5 @@
--- The runs of a text: in lower case they are its words, and what one of them passes, one of the parts between other bytes passes.
+-- The runs of a text: in lower case they are its words, and what one of them passes, one of the parts between other
+-- bytes passes.
 use Rattle.std.proofs.Common.{◌≡◌, ◌&&◌, ◌||◌, ℕ, ◌≤◌, Bool, true, false, cond, not, List, [], ◌∷◌, map, filter, length, nat_eq, nat_le, refl, ap, ◌∙◌, arith}
 use Rattle.std.proofs.lemmas.List.{length-map}
 use Rattle.std.proofs.lemmas.List.Elements.{All-filter, All-from_recursion, All-map, filter_passes}

@@ -1,16 +1,14 @@
 -- What is known of the rising words of a text.
-use Rattle.std.proofs.Common.{◌≡◌, ◌↔◌, ◌∙◌, ℕ, Bool, true, List, sym}
+use Rattle.std.proofs.Common.{◌≡◌, ◌↔◌, ◌∙◌, ℕ, Bool, List, sym}
 use Rattle.std.specs.Cmp.{both_ways, eq_by_cmp_equiv}
 use Rattle.std.specs.Cmp.Lexicographic.{nat_list_cmp_total, slice_cmp}
-use Rattle.std.specs.List.{All, Contains, list_any}
+use Rattle.std.specs.List.{Contains, list_any}
 use Rattle.std.specs.List.Sorted.{IsStrictlySortedBy}
 use Rattle.std.specs.Ordering.{eq_by_cmp, nat_cmp}
-use Rattle.std.proofs.lemmas.List.Elements.{All-contains, Contains-get_or}
 use Rattle.std.proofs.lemmas.Map.Views.{Contains-from_any, list_any-from_Contains}
-use Rattle.hac_model.specs.Words.{has_term, is_asked, is_word, rising_words, words}
+use Rattle.hac_model.specs.Words.{has_term, is_asked, rising_words, words}
 use Rattle.hac_model.specs.declared.terms.Term.{Term}
 use Rattle.hac_words.proofs.RisingLemmas.{IsStrictlySortedBy-fold, list_any-fold, same_rising, word_tie, words_apart}
-use Rattle.hac_words.proofs.RunLemmas.{words-are_words}
 
 pub rising_words-rise : (text : List ℕ) → IsStrictlySortedBy (slice_cmp nat_cmp) (rising_words text)
 unfolding rising_words
@@ -46,8 +44,3 @@ pub rising_words-told : (text : List ℕ) (told : List (List ℕ)) → IsStrictl
 rising_words-told text told rises same =
     same_rising (slice_cmp nat_cmp) nat_list_cmp_total words_apart told (rising_words text) rises (rising_words-rise text)
     (λ word. list_any-from_same_members told (words text) same word ∙ sym (list_any-rising_words (eq_by_cmp (slice_cmp nat_cmp) word) text))
-
-pub rising_words-are_words : (text : List ℕ) → All (λ word. is_word word ≡ true) (rising_words text)
-rising_words-are_words text k d h =
-    All-contains (λ word. is_word word ≡ true) (words text) _ (words-are_words text)
-    ((Contains-rising_words text _).0 (Contains-get_or (rising_words text) k d h))

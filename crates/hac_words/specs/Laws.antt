@@ -27,6 +27,6 @@ WordsAreTold =
     ((word : List ℕ) → Contains told word ↔ Contains (words text) word) →
     told ≡ rising_words text
 
--- the words that rise tell each term that the text has
+-- the text has a term exactly where its rising words have it
 abbrev pub TermsAreTold : Type 0
 TermsAreTold = (text : List ℕ) (term : Term) → has_term text term ≡ list_any (is_asked term) (rising_words text)

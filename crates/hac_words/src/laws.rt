@@ -21,7 +21,7 @@ pub fn words_are_told()
     ensures { WordsAreTold }
 {}
 
-/// Which terms a text has is told by the list of its words.
+/// Which terms a text has is known from the list of its words.
 pub fn terms_are_told()
     ensures { TermsAreTold }
 {}

@@ -87,7 +87,7 @@ module _ (old new : Inside) (dir : ℕ) (sets : DirSets) (dirs : (d : ℕ) → g
         ]
         ∙ sym (lists-seen old (seen_of old) refl d)
 
-    -- where each set stands from then on
+    -- the place of each set from then on
     place : ℕ → ℕ × Kind
     place set = cond (eqb set sets.prohibited) (dir, Prohibited) (cond (eqb set sets.permanent) (dir, Permanent) (cond (eqb set sets.transient) (dir, Transient) (kept.place set)))
 

@@ -48,7 +48,7 @@ module _ (links : Known) where
   again-entries other [] = refl
   again-entries other (e ∷ es) = λ i. record e { body = again-body other e.number e.body i } ∷ again-entries other es i
 
-  -- the last links tell the marks
+  -- the last links give the marks
   pub marked-again : (other : Known) (s : State) → with_marks links (with_marks other s) ≡ with_marks links s
   marked-again other s = λ i. record s { entries = again-entries other s.entries i }
 

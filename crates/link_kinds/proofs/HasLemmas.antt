@@ -31,7 +31,7 @@ linked-told links dir item =
     linked-of (is_among item (transient_in links dir)) (is_among item (permanent_in links dir)) (is_among item (prohibited_in links dir))
     ∙ (λ i. sym (has-among (transient_in links dir) item) i || sym (has-among (permanent_in links dir) item) i)
 
--- the kind of an item tells in which list it is
+-- the kind of an item says in which list it is
 module _ (links : Known) (apart : AllApart links) (dir item : ℕ) where
   pub transient-told : column (transient_in links) item dir ≡ is_transient (kind_at links dir item)
   transient-told = has-among (transient_in links dir) item ∙ (apart dir).transient item

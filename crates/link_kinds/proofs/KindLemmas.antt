@@ -7,7 +7,8 @@ use Rattle.hac_model.specs.declared.marks.Kind.TheVariants.{Transient, Permanent
 use Rattle.hac_model.specs.Kinds.{is_permanent, is_prohibited, is_transient}
 use Rattle.link_kinds.specs.Kinds.{AreApart, Lists, kind_in, with_kind}
 
--- whether an item is in a list after a change of another or of the same: the list is that of the kind, the item was in it, it is the one that changes
+-- whether an item is in a list after a change of another or of the same: the list is that of the kind, the item was in
+-- it, it is the one that changes
 listed : Bool → Bool → Bool → Bool
 listed true was here = was || here
 listed false was here = was && not here
@@ -26,7 +27,7 @@ listed-other true false = refl
 listed-other false true = refl
 listed-other false false = refl
 
--- the kind, told in which lists an item is
+-- the kind, from the lists in which an item is
 kind-of : Bool → Bool → Bool → Kind
 kind-of a b c = cond a Transient (cond b Permanent (cond c Prohibited Unlinked))
 
@@ -69,7 +70,7 @@ kind-with kind item i lists =
     (λ k. kind-of (transient-with kind item i lists k) (permanent-with kind item i lists k) (prohibited-with kind item i lists k))
     ∙ kind-changed kind (eqb i item) (is_among i lists.transient) (is_among i lists.permanent) (is_among i lists.prohibited)
 
--- what tells of one kind
+-- the test of one kind
 told : (test : Kind → Bool) (kind old : Kind) (here was : Bool) → was ≡ test old → listed (test kind) was here ≡ test (cond here kind old)
 told test kind old true was same = listed-here (test kind) was
 told test kind old false was same = listed-other (test kind) was ∙ same

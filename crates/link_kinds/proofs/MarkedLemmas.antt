@@ -1,4 +1,4 @@
--- A state with the marks that links tell differs from the state in its marks alone.
+-- A state with the marks of links differs from the state in its marks alone.
 use Rattle.std.proofs.Common.{◌≡◌, ℕ, Bool, true, false, cond, List, [], ◌∷◌, refl, ap, sym, subst, ◌∙◌, Option, Some, None}
 use Rattle.std.specs.Prelude.{◌==◌, ◌&&◌, filter, map, is_some, option_and_then}
 use Rattle.std.specs.Option.{option_map, option_map_or}
@@ -128,7 +128,7 @@ module _ (links : Known) where
   permanent-body number (Some (Semantic query permanent prohibited)) = refl
   permanent-body number (Some (Mount space documents answers)) = refl
 
-  -- a semantic directory has the marks that the links tell, and no other has any
+  -- a semantic directory has the marks of its links, and no other has any
   pub permanent_at-marked : (s : State) (dir : ℕ) → permanent_at (with_marks links s) dir ≡ cond (is_semantic s dir) (permanent_in links dir) []
   permanent_at-marked s dir = ap (λ (o : Option Body). option_map_or tree.permanent_in o []) (body_at-marked s dir) ∙ permanent-body dir (body_at s.entries dir)
 

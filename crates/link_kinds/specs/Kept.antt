@@ -29,14 +29,14 @@ AreFresh pool sets = (is_live pool sets.transient ≡ false) × (is_live pool se
 abbrev pub OthersStay : Sets → Sets → DirSets → Type 0
 OthersStay old new sets = (set : ℕ) → set ≢ sets.transient → set ≢ sets.permanent → set ≢ sets.prohibited → list_of new set ≡ list_of old set
 
--- the three sets are told to stand in the directory, each for its kind
+-- `place` gives each of the three sets the directory, and its kind
 abbrev pub StandIn : (ℕ → ℕ × Kind) → ℕ → DirSets → Type 0
 StandIn place dir sets = (place sets.transient ≡ (dir, Transient)) × (place sets.permanent ≡ (dir, Permanent)) × (place sets.prohibited ≡ (dir, Prohibited))
 
 abbrev pub seen_of : Inside → Known
 seen_of links = record { dirs = map (λ entry. (entry.0, dir_lists links.pool entry.1)) links.dirs.entries; spare = links.pool.spare }
 
--- the sets of directories are live, and no set stands at two places, since each is told its place
+-- the sets of directories are live, and no set has two places, since each is given its place
 pub record AreLinksKept (links : Inside) : Type 0 where
   pub live : (dir : ℕ) (sets : DirSets) → get nat_eq links.dirs dir ≡ Some sets → AreLive links.pool sets
   pub place : ℕ → ℕ × Kind

@@ -22,7 +22,7 @@ kind_in lists item =
     if is_among item lists.transient then Transient
     else (if is_among item lists.permanent then Permanent else (if is_among item lists.prohibited then Prohibited else Unlinked))
 
--- the items of a kind. Those that aren't linked are never told.
+-- the items of a kind. Those that aren't linked are in no list.
 abbrev pub items_of : Kind → Lists → List ℕ
 items_of Transient lists = lists.transient
 items_of Permanent lists = lists.permanent

@@ -32,7 +32,7 @@ made-counted new s told numbers same layout all covers =
     subst (λ (t : Seen). IsCounted (record { tree = t; counts = told; dirty = numbers })) (sym same)
     (record { layout = layout; counts_are = all; covers = covers; awaits = λ n never. absurd cc })
 
--- what a new entry counts for, as the tree tells it
+-- what a new entry adds to the counts, as the tree gives it
 pub added-share : (s : State) (dir : ℕ) (name : List ℕ) (b : Body) (t : Seen) (n : ℕ) (share : Counts) → IsLayout s → t ≡ record { state = added s dir name b; ready = Nothing } → n ≡ s.next →
     ((e : Entry) → entry_at t.state.entries n ≡ Some e → share ≡ share_of e.body) → share ≡ share_of b
 added-share s dir name b t n share h same number each =
@@ -84,7 +84,7 @@ some-next s some none =
     let clean : nat_lt 0 (dirty s) ≡ false = sym (due s.entries) ∙ ap (λ (o : Option ℕ). is_some o) none in
     some (grind (arith, nat_tests, clean))
 
--- where none is dirty there is no next one
+-- where no file is dirty there is no next one
 pub no-next : (s : State) → dirty s ≡ 0 → next_dirty s.entries ≡ None
 no-next s clean = elim (next_dirty s.entries) as (λ o. is_some o ≡ nat_lt 0 (dirty s) → o ≡ None) [
   | None ↦ (λ h. refl)

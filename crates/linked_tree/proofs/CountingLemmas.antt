@@ -32,7 +32,7 @@ semantic-share es n e told found is each =
     in_body (body.Semantic query permanent prohibited) is = each query permanent prohibited
     in_body other is = absurd cc
 
--- the counts of entries, each told by a measure of bodies
+-- the counts of entries, each by a measure of bodies
 abbrev pub tally : List Entry → ℕ → ℕ → Counts
 tally es long next = record {
   bytes = measured weight es;
@@ -232,7 +232,7 @@ new-small share is_long h = record {
   next_is = omega arith;
 }
 
--- Counts that are told, and the part of an entry.
+-- Counts that are known, and the part of an entry.
 
 module _ (s : State) (h : IsLayout s) (n : ℕ) (e : Entry) (found : entry_at s.entries n ≡ Some e) (told part : Counts) (all : told ≡ counts s) (one : part ≡ share_of e.body) where
   pub part-told : (rest : Counts) × (told ≡ plus rest part)

@@ -134,7 +134,7 @@ module _ (kept : LinkedTree) (dir : ℕ) (name : List ℕ) (edges : NewEdges) (m
       depend : (d : ℕ) → depends new.tree.state d ≡ replaced (depends t) t.next (dir ∷ named_in asked) d
       depend d = ap (λ (s : State). depends s d) comes ∙ depends-added t dir name (Semantic asked [] []) layout d
 
--- What stands in a state with marks stands in the tree.
+-- What is in a state with marks is in the tree.
 
 made-body : (links : Known) (n : ℕ) (o : Option Body) → option_map_or is_directory (option_map (marked_body links n) o) false ≡ option_map_or is_directory o false
 made-body links n None = refl

@@ -1,4 +1,4 @@
--- What the search over a graph tells of the state.
+-- What the search over a graph says of the state.
 use Rattle.std.proofs.Common.{◌≡◌, ℕ, true, false, cond, List, [], ◌∷◌, subst, refl, ap, sym, ◌∙◌, inl, inr}
 use Rattle.std.specs.Prelude.{Bool, Option, Some, Result, Ok, Err, IfOk}
 use Rattle.hac_model.specs.Depends.{IsAcyclic, cycle_over, depends, first_reaching, named_in, reaches}
@@ -24,12 +24,12 @@ first-told s dir (other ∷ others) found acyclic (inr (apart, rest)) =
       | false ↦ (λ away. first-told s dir others found acyclic rest)
     ] refl
 
--- the same, told by a graph that has the dependencies
+-- the same, by a graph that has the dependencies
 pub first-by : (s : State) (edges : ℕ → List ℕ) (dir : ℕ) (others : List ℕ) (found : Option ℕ) → ((d : ℕ) → edges d ≡ depends s d) → IsAcyclic s → IsFirstToReach edges dir others found → first_reaching s dir others ≡ found
 first-by s edges dir others found same acyclic h =
     first-told s dir others found acyclic (subst (λ (e : ℕ → List ℕ). IsFirstToReach e dir others found) (λ i d. same d i) h)
 
--- what a linked tree's graph tells of the directory through which another would depend on itself
+-- what a linked tree's graph says of the directory through which another would depend on itself
 pub cycle-told : (kept : LinkedTree) (dir parent : ℕ) (q : Formula ℕ) (edges : List ℕ) (found : Option ℕ) → IsLinked kept → edges ≡ parent ∷ named_in q → IsFirstToReach (edges_of kept.graph) dir edges found → cycle_over (state_of kept) dir parent q ≡ found
 cycle-told kept dir parent q edges found h is reached =
     ap (first_reaching (state_of kept) dir) (sym is)

@@ -87,7 +87,7 @@ module _ (links : Known) (t : State) (e : Event) (ok : IsTrue (accepted (with_ma
       let possible = possible-of (with_marks links t) (event.Mv entry dir name) (subst (λ (e : Event). IsTrue (accepted (with_marks links t) e)) is ok) in
       free-directory links t dir name (move-parts (with_marks links t) entry dir name possible).1
 
-  -- no space tells anything yet
+  -- no space answers anything yet
   pub smkdir-event : (dir : ℕ) (name : List ℕ) (query : Formula ℕ) (told : List (List ℕ)) → e ≡ event.Smkdir dir name query told → event.Smkdir dir name query [] ≡ e
   smkdir-event dir name query told is =
       let s = with_marks links t in

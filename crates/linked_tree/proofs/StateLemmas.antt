@@ -1,4 +1,4 @@
--- What a linked tree tells of its state: all but marks stands in the tree alone.
+-- What a linked tree says of its state: all but marks is in the tree alone.
 use Rattle.std.proofs.Common.{◌≡◌, ℕ, List, [], map, ap, subst, sym, ◌∙◌}
 use Rattle.std.specs.Prelude.{Option, is_some}
 use Rattle.hac_model.specs.Bare.{bare}
@@ -18,7 +18,7 @@ use Rattle.link_kinds.proofs.MarkedLemmas.{bare-marked}
 use Rattle.linked_tree.specs.Linked.{IsLinked, state_of}
 use Rattle.linked_tree.specs.declared.linked.LinkedTree.{LinkedTree}
 
--- what two states tell alike that are one without their marks
+-- what two states that are the same without their marks agree on
 pub alike : {X : Type 0} (tell : State → X) → ((s : State) → tell (bare s) ≡ tell s) → (kept : LinkedTree) → tell (state_of kept) ≡ tell kept.tree.state
 alike tell bare-tell kept = sym (bare-tell (state_of kept)) ∙ ap tell (bare-marked kept.marks kept.tree.state) ∙ bare-tell kept.tree.state
 
@@ -64,7 +64,7 @@ same-counts kept = alike counts counts-bare kept
 pub same-dirty : (kept : LinkedTree) → dirty (state_of kept) ≡ dirty kept.tree.state
 same-dirty kept = alike dirty dirty-same kept
 
--- what a command comes to
+-- the outcome of a command
 pub same-resolved : (kept : LinkedTree) (session : List ℕ) (c : Command) → kept.tree.state.sessions ≡ [] → resolved (state_of kept) session c ≡ resolved kept.tree.state session c
 same-resolved kept session c h =
     sym (resolved-bare (state_of kept) h session c)

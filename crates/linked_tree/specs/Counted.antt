@@ -16,7 +16,8 @@ use Rattle.linked_tree.specs.declared.counted.CountedTree.TheInside.{Inside}
 abbrev pub is_dirty_at : List Entry → ℕ → Bool
 is_dirty_at entries number = option_map_or is_dirty (body_at entries number) false
 
--- the number of the file that will be dirty once the tree has made the change for which it is ready, given the next number
+-- the number of the file that will be dirty once the tree has made the change for which it is ready, given the next
+-- number
 abbrev pub awaited : ℕ → Ready → Option ℕ
 awaited next (Add dir body) = if is_dirty body then Some next else None
 awaited next (Edit entry body) = if is_dirty body then Some entry else None

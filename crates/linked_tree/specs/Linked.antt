@@ -38,7 +38,7 @@ pub record KeepsTree (old new : LinkedTree) : Type 0 where
   pub marks : new.marks ≡ old.marks
   pub edges : (dir : ℕ) → edges_of new.graph dir ≡ edges_of old.graph dir
 
--- the graph is ready for the edges of a directory that stands in another and has a query
+-- the graph is ready for the edges of a directory with this parent and this query
 pub record AreEdges (ready_for : graph.Seen) (dir parent : ℕ) (asked : Formula ℕ) (edges : NewEdges) : Type 0 where
   pub ready : ready_for.ready ≡ Some dir
   pub dir_is : edges.dir ≡ dir

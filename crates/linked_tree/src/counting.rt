@@ -55,7 +55,7 @@ pub fn of_semantic() -> Counts
     }
 }
 
-/// What a file counts for, of which so many bytes are kept.
+/// The counts of a file that keeps `bytes` bytes of text.
 pub fn of_file(bytes: u64, dirty: bool) -> Counts
     ensures { (body : Body) → IsTrue (is_file body) → weight body ≡ bytes → is_dirty body ≡ dirty → result ≡ share_of body }
 {
@@ -97,7 +97,7 @@ fn shown_len(tree: &Tree, file: Number) -> u64
     }
 }
 
-/// What a file will count for once a text of so many bytes is written to it.
+/// The counts of a file after a write of `bytes` bytes.
 pub fn written_share(tree: &Tree, file: Number, bytes: u64) -> Counts
     requires { IsTrue (is_file_at tree.now.state.entries file) }
     ensures { (e : Entry) (text : List ℕ) → entry_at tree.now.state.entries file ≡ Some e → length text ≡ bytes → result ≡ share_of (rewritten text e.body) }
@@ -116,7 +116,7 @@ pub fn as_new(share: Counts, is_long: bool) -> Counts
     }
 }
 
-/// The same where some path is too long, or none is.
+/// The same counts, given whether some path is too long.
 pub fn with_long_paths(counts: Counts, is_long: bool) -> Counts
     ensures { result ≡ record counts { long_paths = one_if is_long } }
 {

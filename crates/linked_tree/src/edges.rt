@@ -8,7 +8,7 @@ use crate::linked::LinkedTree;
 use hac_model::{Memory, Node, Number, Query};
 use std::alloc::Global;
 
-/// The edges of a directory that stands in another and has a query: to that one, then to those that the query names.
+/// The edges of a directory with a parent and a query: to the parent, then to those that the query names.
 pub fn edges_of(alloc: Global, parent: Number, query: &Query<Number>) -> Result<Vec<Number>, Memory>
     ensures { IfOk result (λ edges. edges.items ≡ parent ∷ named_in query.now) }
 {

@@ -36,7 +36,7 @@ impl LinkedTree {
         })
     }
 
-    /// Prepares the edges of a directory that stands in another and is to have a query.
+    /// Prepares the edges of a directory that has this parent and is to have this query.
     pub fn prepare_edges(
         &mut self,
         alloc: Global,
@@ -51,7 +51,7 @@ impl LinkedTree {
         self.graph.prepare_edges(dir, edges)
     }
 
-    /// Prepares the edges of an entry that is to stand in another directory, where it has a query.
+    /// Prepares the edges of an entry that moves to another directory, if it has a query.
     pub fn prepare_moved_edges(
         &mut self,
         alloc: Global,

@@ -73,7 +73,7 @@ pub enum Ready {
         /// The directory.
         dir: Number,
     },
-    /// So many files are to be indexed.
+    /// This many files are to be indexed.
     Steps(u64),
 }
 
@@ -315,7 +315,7 @@ fn drop_directory(kept: &mut LinkedTree, dir: Number)
     kept.marks.drop_dir(dir);
 }
 
-/// Indexes so many files, as far as there are dirty ones.
+/// Indexes `count` files, as far as there are dirty ones.
 fn put_steps(kept: &mut LinkedTree, count: u64)
     requires { MayPut (Ready.Steps count) kept.old }
     ensures { IsPut (Ready.Steps count) kept.old kept.new }
@@ -323,7 +323,7 @@ fn put_steps(kept: &mut LinkedTree, count: u64)
     step(&mut kept.tree, count);
 }
 
-/// Does so many steps, one after the other.
+/// Does `count` steps, one after the other.
 fn step(tree: &mut CountedTree, count: u64)
     ensures { tree.new.state ≡ apply_all tree.old.state (replicate count Event.Step) }
 {

@@ -1,9 +1,9 @@
-//! What tells which terms items have.
+//! Which terms items have, as a caller of queries knows it.
 ghost use Rattle.std.specs.Prelude.{◌≡◌, ℕ, Bool};
 
 use hac_model::{Number, Term};
 
-/// Tells of items whether they have terms.
+/// Knows which terms items have.
 pub trait Atoms {
     ghost use Rattle.hac_model.specs.declared.terms.Term.{Term};
 

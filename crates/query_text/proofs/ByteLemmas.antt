@@ -156,7 +156,7 @@ letter b is rest h next e = ap (λ (k : ByteKind). option_and_then (reads rest) 
 capital : (b : ℕ) → 65 ≤ b → b ≤ 90 → kind_of b ≡ kind.Word
 capital b low high = word_kind b (letter_word b low high)
 
--- a spelled token, where it may stand
+-- a spelled token, at a place where it may come
 token_reads : (t : Token) (s : Stack) (body rest : List ℕ) → Spells t body → EndsToken t rest
     → IfSome (feed t s) (λ next. reads (body ++ rest) (at s) ≡ reads rest (at next))
 token_reads Open (Wanting w) body rest is ends =

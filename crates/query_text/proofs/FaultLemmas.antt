@@ -135,7 +135,7 @@ reads-after (b ∷ bytes) more reader =
     ap (λ (f : Reader → Option Part). option_and_then f (step b reader)) (λ i r. reads-after bytes more r i)
     ∙ sym (and_then_again (reads more) (after bytes) (step b reader))
 
--- so many bytes were read, behind which none leads to a query
+-- this many bytes were read, and none after them leads to a query
 pub record Stops (place : ℕ) (bytes : List ℕ) (reader : Reader) (at : ℕ) : Type 0 where
   pub many : ℕ
   pub is : at ≡ place + many

@@ -51,15 +51,15 @@ opened [] = 0
 opened (Open ∷ ts) = 1 + opened ts
 opened (t ∷ ts) = opened ts
 
--- a query as it is printed has the fewest parentheses: none of its spellings has fewer. So where a printed pair is left out,
--- what is left is another query, or none.
+-- a query as it is printed has the fewest parentheses: none of its spellings has fewer. So where a printed pair is left
+-- out, what is left is another query, or none.
 abbrev pub ParenthesesAreNeeded : Type 0
 ParenthesesAreNeeded =
     (asked : Formula (List ℕ)) → are_terms asked ≡ true → ArePaths asked → (t : Tree query) × SpellAll (tokens t) (query_text asked) × ((meaning t).query ≡ asked)
     × ((other : Tree query) → (meaning other).query ≡ asked → opened (tokens t) ≤ opened (tokens other))
 
--- a query that is read holds no more than a query may: its words are in lower case, its terms, letters and `NOT`s are few
--- enough, and its directories begin at the root
+-- a query that is read holds no more than a query may: its words are in lower case, its terms, letters and `NOT`s are
+-- few enough, and its directories begin at the root
 abbrev pub ReadQueriesAreSpelled : Type 0
 ReadQueriesAreSpelled = (bytes : List ℕ) (asked : Formula PathWord) → read_query bytes ≡ Ok asked → is_spelled_query asked ≡ true
 
@@ -73,8 +73,8 @@ IsReadBack asked (Err other) = ⊥
 abbrev pub word_to : List Told → ℕ → PathWord
 word_to paths dir = record { absolute = true; ups = 0; names = option_map_or (λ path. path) (path_at paths dir) [] }
 
--- a query of a state as it is printed is read as that query, its directories named by the words that lead to them, but for
--- the limits of its text
+-- a query of a state as it is printed is read as that query, its directories named by the words that lead to them, but
+-- for the limits of its text
 abbrev pub PrintedQueryIsReadBack : Type 0
 PrintedQueryIsReadBack =
     (paths : List Told) (asked : Formula ℕ) → list_all (λ told. are_names told.path) paths ≡ true → are_known paths asked ≡ true → are_terms asked ≡ true

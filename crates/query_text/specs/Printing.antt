@@ -7,7 +7,7 @@ use Rattle.hac_model.specs.Paths.{path_text}
 use Rattle.hac_model.specs.QueryText.{query_text, named_by}
 use Rattle.query_text.specs.declared.paths.Told.{Told}
 
--- the path that was told of a directory, the first of it
+-- the path that a directory was given, the first of them
 abbrev pub path_at : List Told → ℕ → Option (List (List ℕ))
 path_at [] dir = None
 path_at (told ∷ paths) dir = if told.dir == dir then Some told.path else path_at paths dir

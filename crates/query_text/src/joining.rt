@@ -1,4 +1,4 @@
-//! Operands, and how what stands before them joins them.
+//! Operands, and how what comes before them joins them.
 ghost use Rattle.std.specs.Prelude.{◌≡◌, ◌+◌, IfOk};
 ghost use Rattle.hac_model.specs.Grammar as grammar;
 ghost use Rattle.hac_model.specs.QueryReading as reading;
@@ -7,7 +7,7 @@ use hac_model::reading::{Held, Level, Part, Pile, Wanted};
 use hac_model::{Memory, Query};
 use std::alloc::Global;
 
-/// A level on which nothing stands yet.
+/// A level with nothing on it yet.
 pub(crate) fn empty_level() -> Level
     ensures { result ≡ reading.empty_level }
 {
@@ -101,7 +101,7 @@ pub(crate) fn leave(alloc: Global, held: Held) -> Result<Option<Held>, Memory>
     grouped(alloc, whole, outer)
 }
 
-/// The part in parentheses, given what stands before each open one.
+/// The part in parentheses, given what comes before each open one.
 fn grouped(alloc: Global, part: Part, mut outer: Pile<Level>) -> Result<Option<Held>, Memory>
     ensures { IfOk result (λ held. held ≡ reading.grouped part outer) }
 {
@@ -169,7 +169,7 @@ fn or_part(alloc: Global, left: Part, right: Part) -> Result<Part, Memory>
     })
 }
 
-/// A part behind so many `NOT`s.
+/// A part behind this many `NOT`s.
 fn nots_part(alloc: Global, mut nots: u64, part: Part) -> Result<Part, Memory>
     ensures { IfOk result (λ all. all ≡ reading.nots_part nots part) }
 {

@@ -14,7 +14,7 @@ pub struct Told {
     pub path: Path,
 }
 
-/// The paths of directories: of each directory the first one that was told.
+/// The paths of directories: of each directory the first one that it was given.
 #[derive(Debug, Drop)]
 pub struct Paths(Vec<Told>);
 
@@ -35,7 +35,7 @@ impl Paths {
         Paths(Vec::new(alloc))
     }
 
-    /// Tells the path of a directory.
+    /// Gives a directory a path.
     pub fn add(&mut self, dir: Number, path: Path) -> Result<(), Memory>
         ensures ok { OnOk result (self.new ≡ self.old ++ record { dir = dir; path = path } ∷ []) }
         ensures err { OnErr result (self.new ≡ self.old) }
@@ -44,7 +44,7 @@ impl Paths {
         Ok(())
     }
 
-    /// What was told, in order.
+    /// What was given, in order.
     pub(crate) fn as_slice(&self) -> &[Told]
         ensures { result.now ≡ self.now }
     {

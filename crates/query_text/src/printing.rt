@@ -132,7 +132,7 @@ fn braced(alloc: Global, path: &Path) -> Result<Vec<u8>, Memory>
     joined(alloc, b"{".as_slice(), spelled.as_slice(), b"}".as_slice())
 }
 
-/// The path of a directory, where one was told.
+/// The path of a directory, if it was given one.
 fn find(paths: &[Told], dir: Number) -> Option<&Path>
     ensures { MatchOption result (path_at paths.now dir ≡ None) (λ path. path_at paths.now dir ≡ Some path.now) }
 {
@@ -144,7 +144,7 @@ fn find(paths: &[Told], dir: Number) -> Option<&Path>
     None
 }
 
-/// The bytes of a path as they stand between braces.
+/// The bytes of a path as they are written between braces.
 fn escaped(alloc: Global, path: &[u8]) -> Result<Vec<u8>, Memory>
     ensures { IfOk result (λ spelled. spelled.items ≡ escaped path.now) }
 {

@@ -102,14 +102,14 @@ fn limited(query: RawQuery, nesting: u64) -> Result<RawQuery, QueryFault>
     Ok(query)
 }
 
-/// Whether the query has more terms than so many.
+/// Whether the query has more terms than `most`.
 fn is_above(most: u64, query: &RawQuery) -> bool
     ensures { result ≡ nat_lt most (queries.term_count query.now) }
 {
     terms_left(most, query).is_none()
 }
 
-/// How many terms may follow those of a query, where so many may stand in all; None where it has more.
+/// How many terms may follow those of a query, if `most` may be there in all; None if it has more.
 pub fn terms_left<D>(most: u64, query: &Query<D>) -> Option<u64>
     ensures { result ≡ (if nat_lt most (queries.term_count query.now) then None else Some (most - queries.term_count query.now)) }
 {

@@ -1,7 +1,7 @@
 //! What one byte more makes of what was read of a query.
 ghost use Rattle.std.specs.Prelude.{◌≡◌, ◌==◌, ◌∷◌, ◌++◌, [], if◌then◌else◌, option_and_then, IfOk};
 ghost use Rattle.std.specs.Option.{option_map};
-ghost use Rattle.hac_model.specs.Queries as queries;
+ghost use Rattle.hac_model.specs.Grammar as grammar;
 ghost use Rattle.hac_model.specs.QueryReading as reading;
 ghost use Rattle.hac_model.specs.Words as words;
 
@@ -60,7 +60,10 @@ fn ended_holding(alloc: Global, operator: Operator, held: Held) -> Result<Option
 {
     match operator {
         Operator::Nothing => finish(alloc, held),
-        _ => Ok(None),
+        _ => {
+            drop(held);
+            Ok(None)
+        }
     }
 }
 
@@ -106,7 +109,10 @@ fn operand_begins(
         ByteKind::Space => Ok(Some(Reader::Wants(Operand::Nothing, wanted))),
         ByteKind::Open => Ok(Some(Reader::Wants(Operand::Nothing, enter(wanted)?))),
         ByteKind::Brace => Ok(Some(Reader::Wants(Operand::Brace, wanted))),
-        _ => Ok(None),
+        _ => {
+            drop(wanted);
+            Ok(None)
+        }
     }
 }
 
@@ -152,21 +158,27 @@ fn run_ends(
 fn after_run(alloc: Global, run: Text, wanted: Wanted) -> Result<Option<Stack>, Memory>
     ensures { IfOk result (λ stack. stack ≡ reading.after_run run wanted) }
 {
-    if run.as_slice() == b"NOT".as_slice() {
-        return Ok(Some(Stack::Wanting(negate(wanted)?)));
+    match run.as_slice() {
+        b"NOT" => Ok(Some(Stack::Wanting(negate(wanted)?))),
+        b"AND" | b"OR" => {
+            drop(wanted);
+            Ok(None)
+        }
+        word => Ok(Some(Stack::Holding(after_word(alloc, word, wanted)?))),
     }
-    if is_operator(run.as_slice()) {
-        return Ok(None);
-    }
-    let letters = lower_case(alloc, run.as_slice())?;
-    let held = receive(alloc, leaf_part(Query::term(Term::Word(letters))), wanted)?;
-    Ok(Some(Stack::Holding(held)))
 }
 
-fn is_operator(run: &[u8]) -> bool
-    ensures { result ≡ queries.is_operator run.now }
+/// Behind a word that is no operator.
+fn after_word(alloc: Global, word: &[u8], wanted: Wanted) -> Result<Held, Memory>
+    ensures { IfOk result (λ held. held ≡ reading.receive (grammar.leaf_part (grammar.Word (words.lower_case word.now))) wanted) }
 {
-    run == b"AND".as_slice() || run == b"OR".as_slice() || run == b"NOT".as_slice()
+    match lower_case(alloc, word) {
+        Ok(letters) => receive(alloc, leaf_part(Query::term(Term::Word(letters))), wanted),
+        Err(memory) => {
+            drop(wanted);
+            Err(memory)
+        }
+    }
 }
 
 /// A byte behind an opening brace.
@@ -180,7 +192,10 @@ fn brace_step(
 {
     match kind {
         ByteKind::Slash => Ok(Some(Reader::Wants(Operand::Path(first_byte(alloc, byte)?), wanted))),
-        _ => Ok(None),
+        _ => {
+            drop(wanted);
+            Ok(None)
+        }
     }
 }
 
@@ -246,6 +261,7 @@ fn letter(wanted: u8, byte: u8, next: Operator, held: Held) -> Option<Reader>
     if byte == wanted {
         Some(Reader::Holds(next, held))
     } else {
+        drop(held);
         None
     }
 }
@@ -263,7 +279,10 @@ fn operator_begins(
         ByteKind::Word => Ok(sign_begins(byte, held)),
         ByteKind::Space => Ok(Some(Reader::Holds(Operator::Nothing, held))),
         ByteKind::Close => closed(alloc, held),
-        _ => Ok(None),
+        _ => {
+            drop(held);
+            Ok(None)
+        }
     }
 }
 
@@ -274,7 +293,10 @@ fn sign_begins(byte: u8, held: Held) -> Option<Reader>
     match byte {
         b'A' => Some(Reader::Holds(Operator::A, held)),
         b'O' => Some(Reader::Holds(Operator::O, held)),
-        _ => None,
+        _ => {
+            drop(held);
+            None
+        }
     }
 }
 
@@ -297,7 +319,10 @@ fn sign_ends(
     ensures { IfOk result (λ next. next ≡ reading.sign_ends kind byte wanted) }
 {
     match kind {
-        ByteKind::Word | ByteKind::Star => Ok(None),
+        ByteKind::Word | ByteKind::Star => {
+            drop(wanted);
+            Ok(None)
+        }
         _ => operand_begins(alloc, kind, byte, wanted),
     }
 }

@@ -1,4 +1,4 @@
-//! What directories provide, told by the tree and by the links. It knows no text, and asks no query.
+//! What directories provide, by the tree and the links. It knows no text, and asks no query.
 #![tactic(auto)]
 
 mod providing;

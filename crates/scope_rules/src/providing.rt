@@ -10,7 +10,7 @@ use hac_model::Number;
 use link_kinds::Links;
 
 /// Whether a directory provides an item: it is stored below it, at any depth, or is a link of it, found or added.
-/// The links tell the marks.
+/// The links are those of the marks.
 pub fn provides(tree: &Tree, links: &Links, dir: Number, item: Number) -> bool
     ensures { result ≡ provide (with_marks links.now tree.now.state) (column (transient_in links.now) item) dir item }
 {

@@ -8,7 +8,7 @@ use Rattle.std.proofs.lemmas.Option.{slice_get-get_or, slice_get_within}
 use Rattle.set_pool.specs.Rising.{AllAbove, AllBelow, Rises, inserted, is_among, removed}
 use Rattle.set_pool.proofs.RisingLemmas.{all-weaker, all-join, apart, inserted-above, inserted-past, removed-above}
 
--- a list ends with what stands at its last place
+-- a list ends with the value at its last place
 pub ends : (f : ℕ) (rest : List ℕ) (v : ℕ) → Some v ≡ slice_get rest (length rest - 1) → (front : List ℕ) × (f ∷ rest ≡ front ++ v ∷ [])
 ends f rest v e =
     let n = length rest - 1 in
@@ -16,7 +16,7 @@ ends f rest v e =
     let same : get_or rest n v ≡ v = let at = slice_get-get_or rest n v w in cc in
     (f ∷ take n rest, ap (λ z. f ∷ z) (sym (take_all (n + 1) rest (omega arith)) ∙ take_more rest n v w ∙ ap (λ z. take n rest ++ z ∷ []) same))
 
--- where nothing stands at the last place, there is nothing
+-- where the last place is empty, the list is
 pub nothing_last : (rest : List ℕ) → None ≡ slice_get rest (length rest - 1) → rest ≡ []
 nothing_last [] e = refl
 nothing_last (y ∷ t) e = let w : length (y ∷ t) - 1 < length (y ∷ t) = omega arith in let at = slice_get-get_or (y ∷ t) (length (y ∷ t) - 1) 0 w in cc

@@ -1,9 +1,8 @@
 -- A number goes out of every slot, one slot after the other.
-use Rattle.std.proofs.Common.{◌≡◌, ℕ, zero, suc, ◌+◌, ◌<◌, ◌≤◌, cond, List, [], ◌∷◌, length, map, get_or, set, take, drop, ◌++◌, refl, sym, ap, ◌∙◌, subst, arith, inl, inr, Option, Some, None}
+use Rattle.std.proofs.Common.{◌≡◌, ℕ, zero, suc, ◌+◌, ◌<◌, ◌≤◌, cond, List, [], ◌∷◌, length, map, get_or, take, drop, ◌++◌, refl, sym, ap, ◌∙◌, subst, arith, Option, Some, None}
 use Rattle.std.specs.Option.{option_map, unwrap_or}
 use Rattle.std.specs.List.{count_by}
-use Rattle.std.proofs.lemmas.Bool.{cases_eq, eq-eqb, ne_eqb}
-use Rattle.std.proofs.lemmas.List.{ext_get_or, get_or_read, length-map, length-set}
+use Rattle.std.proofs.lemmas.List.{ext_get_or, get_or_read, length-map}
 use Rattle.std.proofs.lemmas.List.Sums.{sum_by-cons}
 use Rattle.set_pool.specs.Lists.{DropsAt, list_at, members_at}
 use Rattle.set_pool.specs.Rising.{Rises, removed}
@@ -11,35 +10,13 @@ use Rattle.set_pool.specs.Slots.{IsFreeAbove, IsStacked, is_free_slot, list_of_s
 use Rattle.set_pool.specs.declared.slots.Slot.{Slot}
 use Rattle.set_pool.specs.declared.slots.Slot.TheVariants.{Free, Live}
 use Rattle.set_pool.proofs.RisingLemmas.{rises-removed}
-use Rattle.set_pool.proofs.SlotLemmas.{get_or-set, list_at-slot}
+use Rattle.set_pool.proofs.SlotLemmas.{list_at-slot}
 
 -- the value is out of the slots below a place, and the others are as before
 pub record Thinned (value : ℕ) (old new : List Slot) (place : ℕ) : Type 0 where
   pub long : length new ≡ length old
   pub below : (q : ℕ) → q < place → slot_at new q ≡ slots_without value (slot_at old q)
   pub above : (q : ℕ) → place ≤ q → slot_at new q ≡ slot_at old q
-
-pub thinned-start : (value : ℕ) (xs : List Slot) → Thinned value xs xs 0
-thinned-start value xs = record { long = refl; below = λ q less. absurd (omega arith); above = λ q more. refl }
-
-pub thinned-step : (value place : ℕ) (old new : List Slot) (slot : Slot) → place < length new → slot ≡ slots_without value (slot_at new place) → Thinned value old new place → Thinned value old (set new place slot) (place + 1)
-thinned-step value place old new slot within is t =
-    record {
-      long = length-set new place slot ∙ t.long;
-      below = λ q less.
-          elim (cases_eq q place) [
-            | inl same ↦
-                let e = eq-eqb q place same in
-                get_or-set new place q slot (Live []) within ∙ (rw e (is ∙ ap (slots_without value) (ap (slot_at new) (sym same) ∙ t.above q (omega arith))))
-            | inr differ ↦
-                let e = ne_eqb q place differ in
-                get_or-set new place q slot (Live []) within ∙ (rw e (t.below q (omega arith)))
-          ];
-      above = λ q more.
-          let differ : q ≡ place → ⊥ = λ same. omega arith in
-          let e = ne_eqb q place differ in
-          get_or-set new place q slot (Live []) within ∙ (rw e (t.above q (omega arith)));
-    }
 
 slot-map : (value : ℕ) (xs : List Slot) (q : ℕ) → slot_at (map (slots_without value) xs) q ≡ slots_without value (slot_at xs q)
 slot-map value [] q = refl

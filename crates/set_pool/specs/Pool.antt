@@ -1,4 +1,4 @@
--- What stands behind the spare of a pool.
+-- What is behind the spare of a pool.
 use Rattle.std.specs.Prelude.{ℕ, ◌+◌, ◌^◌, ◌≤◌, length}
 use Rattle.set_pool.specs.Lists.{Names, members_at}
 

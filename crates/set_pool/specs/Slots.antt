@@ -37,11 +37,11 @@ link_of (Live tree) = (0, 0)
 abbrev pub slot_at : List Slot → ℕ → Slot
 slot_at slots name = slice_index_or slots name (Live [])
 
--- that name is free, and so many are below it on the stack
+-- that name is free, and the stack has this many below it
 abbrev pub IsFreeAbove : List Slot → ℕ → ℕ → Type 0
 IsFreeAbove slots name count = (below : ℕ) × (slot_at slots name ≡ Free below count)
 
--- the free names are a stack, of which the top is told, and each list rises
+-- the free names are a stack with the given top, and each list rises
 pub record IsStacked (slots : List Slot) (top free : ℕ) : Type 0 where
   pub counted : free ≡ count_by is_free_slot slots
   pub top_is_free : (count : ℕ) → free ≡ suc count → IsFreeAbove slots top count

@@ -26,7 +26,7 @@ impl Model for SetId {
 // How many calls a pool grants in its life. No run comes near it; it bounds what `len` counts.
 const MOST: u64 = 1 << 62;
 
-/// Sets of numbers, each told by its name. Room comes first: after `reserve(n)`, `n` calls of `make` and `insert`
+/// Sets of numbers, each known by its name. Room comes first: after `reserve(n)`, `n` calls of `make` and `insert`
 /// take no memory.
 #[derive(Drop)]
 pub struct SetPool {
@@ -123,7 +123,7 @@ impl SetPool {
         SetId(self.slots.make() as u64)
     }
 
-    /// Puts `value` into the set, and tells whether it is new there.
+    /// Puts `value` into the set, and answers whether it is new there.
     pub fn insert(&mut self, set: SetId, value: u64) -> bool
         requires live { IsTrue (is_live self.old set) }
         requires room { 0 < self.old.spare }
@@ -138,7 +138,7 @@ impl SetPool {
         self.slots.insert(set.0 as usize, value, &mut self.blocks)
     }
 
-    /// Takes `value` out of the set, and tells whether it was there.
+    /// Takes `value` out of the set, and answers whether it was there.
     pub fn remove(&mut self, set: SetId, value: u64) -> bool
         requires { IsTrue (is_live self.old set) }
         ensures list { Changes self.old self.new set (Some (removed value (members_of self.old set))) }
@@ -201,7 +201,7 @@ impl SetPool {
     }
 }
 
-// Ensures that there are so many blocks.
+// Ensures that there are at least `count` blocks.
 fn set_aside(alloc: Global, blocks: &mut Vec<Box<Block>>, count: usize) -> Result<(), AllocError>
     ensures room { OnOk result (count ≤ vec_len blocks.new) }
     ensures kept { vec_len blocks.old ≤ vec_len blocks.new }

@@ -1,4 +1,4 @@
-//! A row: one to seven numbers that rise, in 64 bytes. It knows nothing of what stands beside it.
+//! A row: one to seven numbers that rise, in 64 bytes. It knows nothing of the sides beside it.
 ghost use Rattle.std.specs.Prelude.{◌≡◌, ◌≢◌, ◌↔◌, [], ◌∷◌, ◌++◌, List, ℕ, IfOk, IsTrue, MatchBool, ◌≤◌, false, length, nat_lt};
 ghost use Rattle.arrayvec.specs.ArrayVec.{array_vec_len};
 ghost use Rattle.std.specs.List.{prefix_len};
@@ -159,7 +159,7 @@ impl Row {
         greatest
     }
 
-    /// Takes `value` out, and tells whether it was there.
+    /// Takes `value` out, and answers whether it was there.
     pub fn remove(&mut self, value: u64) -> bool
         requires rising { Rises (members self.old) }
         requires stays { members self.old ≢ value ∷ [] }

@@ -1,5 +1,5 @@
 //! A set as a search tree of rows. Each block owns its two sides, so no block is in two sets. A tree knows
-//! nothing of the pool that it stands in.
+//! nothing of its pool.
 ghost use Rattle.std.specs.Prelude.{◌≡◌, ◌+◌, ◌^◌, ◌<◌, ◌≤◌, [], ◌∷◌, ◌++◌, length, IfOk};
 ghost use Rattle.set_pool.specs.Rising.{Rises, first_from, is_among};
 ghost use Rattle.set_pool.specs.Rows.{members};

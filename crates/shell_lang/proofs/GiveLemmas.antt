@@ -29,7 +29,7 @@ from_line line ended bytes rest h =
 is_first_ended-ended : (held more : List ℕ) → position_or_len is_line_end held < length held → nat_lt (position_or_len is_line_end (held ++ more)) (length (held ++ more)) ≡ true
 is_first_ended-ended held more h = rw (position-ended held more h, length-append held more) (grind (arith, common_steps))
 
--- with more behind it, an ended first line is given as it stands
+-- with more behind it, an ended first line is given as it is
 ended_line_given : (held more : List ℕ) (ended : Bool) → ended ≡ false → position_or_len is_line_end held < length held →
     GivesLine (piece_of (take (position_or_len is_line_end held) held)) ended (held ++ more) (drop (position_or_len is_line_end held + 1) held ++ more)
 ended_line_given held more ended goes h =

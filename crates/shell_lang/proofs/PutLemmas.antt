@@ -13,7 +13,7 @@ use Rattle.hac_model.specs.declared.replies.Refusal.TheVariants.{BadLine}
 use Rattle.shell_lang.specs.RawWords.{IsRaw}
 use Rattle.shell_lang.proofs.RawLemmas.{raw-length, raw-number, raw-put}
 
--- a line is a `put` where its first word, as it stands, is the name of that command
+-- a line is a `put` where its first word, as it is written, is the name of that command
 pub named : (line raw word arguments : List ℕ) → IsRaw raw word → first_word line ≡ Ok (word, arguments) →
     put_length line ≡ asked (if is_put raw then put_words arguments else Err BadLine)
 named line raw word arguments stands first =
@@ -52,7 +52,7 @@ number-of path raw word stands =
       | false ↦ (λ other. ap (λ (t : Bool). asked (if t then Ok (path, word) else Err BadLine)) (sym (raw-length raw word stands) ∙ other))
     ] refl
 
--- the one word behind the path, as it stands, is the length
+-- the one word behind the path, as it is written, is the length
 pub one-length : (path rest raw word behind : List ℕ) → IsRaw raw word → first_word rest ≡ Ok (word, behind) → list_all is_space behind ≡ true →
     behind_path path (first_word rest) ≡ (if is_length raw then Some (digits_value 10 raw) else None)
 one-length path rest raw word behind stands second blank =

@@ -1,4 +1,4 @@
--- A word as it stands in a line: what is told of it is told of the word that it stands for.
+-- A word as it is written in a line: what is true of it is true of the word that it means.
 use Rattle.std.proofs.Common.{◌≡◌, ℕ, ◌+◌, ◌-◌, Bool, true, false, List, [], ◌∷◌, ◌++◌, length, take, drop, refl, ap, sym, ◌∙◌, append_assoc, inl, inr, arith, subst}
 use Rattle.std.specs.Prelude.{◌||◌, if◌then◌else◌, slice_index, codes, Option, Some, None, Ok, Err}
 use Rattle.std.specs.List.{flat_map, list_any}
@@ -61,7 +61,7 @@ raw-quoted bytes rest e ends =
 pub quoted-length : (bytes rest : List ℕ) (raw : RawQuoted bytes rest) → length bytes ≡ length (flat_map quoted_byte raw.word) + (length rest + 1)
 quoted-length bytes rest raw = omega (arith, ap length raw.stands, length-append (flat_map quoted_byte raw.word) (34 ∷ rest))
 
--- what stands between the quotes
+-- what is between the quotes
 pub quoted-bytes : (bytes rest : List ℕ) (raw : RawQuoted bytes rest) → take (length bytes - length rest - 1) bytes ≡ flat_map quoted_byte raw.word
 quoted-bytes bytes rest raw =
     let front : List ℕ = flat_map quoted_byte raw.word in
@@ -98,7 +98,7 @@ raw-mark : (raw word : List ℕ) → IsRaw raw word → has_mark raw ≡ has_mar
 raw-mark raw word (inl same) = ap has_mark same
 raw-mark raw word (inr same) = ap has_mark same ∙ quoted-mark word
 
--- bytes with neither a quote nor a backslash are the word that they stand for
+-- bytes with neither a quote nor a backslash are the word that they mean
 raw-plain : (raw word : List ℕ) → IsRaw raw word → has_mark raw ≡ false → raw ≡ word
 raw-plain raw word (inl same) plain = same
 raw-plain raw word (inr same) plain = same ∙ quoted-plain word (sym (raw-mark raw word (inr same)) ∙ plain)
@@ -110,7 +110,7 @@ fails test plain w marked =
       | false ↦ (λ _. refl)
     ] refl
 
--- a test that no quote and no backslash passes tells the same of the bytes as of the word
+-- a test that no quote and no backslash passes says the same of the bytes as of the word
 pub raw-test : (test : List ℕ → Bool) → ((w : List ℕ) → test w ≡ true → has_mark w ≡ false) → (raw word : List ℕ) → IsRaw raw word → test raw ≡ test word
 raw-test test plain raw word stands =
     elim (has_mark raw) as (λ m. has_mark raw ≡ m → test raw ≡ test word) [

@@ -1,5 +1,5 @@
 -- A reader that gives the bytes behind a line.
-use Rattle.std.proofs.Common.{◌≡◌, ℕ, ◌+◌, ◌-◌, ◌<◌, ◌≤◌, Bool, true, false, List, [], ◌∷◌, ◌++◌, length, take, drop, refl, ap, sym, ◌∙◌, arith, rules, append_assoc, append-nil, length-append, length-drop, drop-drop, zero-add, subst, inl, inr, Option, Some, None}
+use Rattle.std.proofs.Common.{◌≡◌, ℕ, ◌+◌, ◌-◌, ◌<◌, ◌≤◌, Bool, true, false, List, [], ◌∷◌, ◌++◌, length, take, drop, refl, ap, sym, ◌∙◌, arith, rules, append_assoc, append-nil, length-append, length-drop, drop-drop, subst, inl, inr, Option, Some, None}
 use Rattle.std.specs.Prelude.{◌⊎◌, nat_le, nat_lt, if◌then◌else◌, min, max, Result, Ok, Err, OnErr}
 use Rattle.std.specs.List.{position_or_len}
 use Rattle.std.specs.Io.KnownBytes.{prepend_known, Keeps, Consumes, IsAtEnd}
@@ -34,7 +34,7 @@ near-moved held count near inside =
 unended-moved : (held : List ℕ) (count : ℕ) → IsUnended held → count ≤ length held → IsUnended (drop count held)
 unended-moved held count unended inside = omega (arith, unended, length-drop count held, position-skip is_line_end count held (omega (arith, unended, inside)))
 
--- where scanning goes on, after so many bytes were given
+-- where scanning goes on, after this many bytes were given
 pub scanned-moved : (start scanned count : ℕ) (bytes : List ℕ) → start ≤ scanned → scanned ≤ start + position_or_len is_line_end (drop start bytes) → count ≤ length (drop start bytes) →
     max scanned (start + count) ≤ start + count + position_or_len is_line_end (drop (start + count) bytes)
 scanned-moved start scanned count bytes begun known inside =
@@ -61,7 +61,7 @@ reading-moved old count sound inside =
       last = λ e. unended-moved old.held count (sound.last e) (omega (arith, inside));
     }
 
--- bytes were taken of those that were pending, so many are still due, and what was kept is what was taken
+-- bytes were taken of those that were pending, this many are still due, and what was kept is what was taken
 pub record TakesSome (old now : Reading) (before after : SourceSeen) (asked due : ℕ) (keeps : Bool) (text : List ℕ) : Type 0 where
   pub front : List ℕ
   pub bytes : Consumes (prepend_known old.held before.left) (prepend_known now.held after.left) front
@@ -74,14 +74,6 @@ pub record TakesSome (old now : Reading) (before after : SourceSeen) (asked due 
   pub stays : old.ended ≡ true → now.ended ≡ true
   pub last : now.ended ≡ true → (old.ended ≡ true) ⊎ (now.held ≡ [])
   pub near : length now.held < PIECE + due
-
-consumes-nothing : (known : Option (List ℕ)) → Consumes known known []
-consumes-nothing None = search rules
-consumes-nothing (Some x) = refl
-
-total-nothing : (n : ℕ) (known : Option (List ℕ)) → SameTotal n known n known
-total-nothing n None = search rules
-total-nothing n (Some x) = refl
 
 consumes-moved : (all after : Option (List ℕ)) (front held : List ℕ) (count : ℕ) → Consumes all (prepend_known held after) front → Consumes all (prepend_known (drop count held) after) (front ++ take count held)
 consumes-moved None after front held count h = search rules

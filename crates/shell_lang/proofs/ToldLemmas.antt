@@ -34,7 +34,7 @@ kept-text count behind all few =
     let fits : nat_le (length (take count behind)) TEXT_LIMIT ≡ true = ap (λ (n : ℕ). nat_le n TEXT_LIMIT) count_is ∙ few in
     ap (λ (b : Bool). if b then Ok (take count behind) else Err (Limit limit.Text)) fits
 
--- a `put` of so many bytes
+-- a `put` of this many bytes
 put-told : (word : List ℕ) (count : ℕ) (behind : List ℕ) → put_at_taken word (Some (came count behind)) ≡ put_at word count behind
 put-told word count behind =
     elim (nat_lt (length behind) count) as (λ short. nat_lt (length behind) count ≡ short → put_at_taken word (Some (if short then Short else (if nat_le count TEXT_LIMIT then Whole (take count behind) else Dropped)))

@@ -33,7 +33,7 @@ GivesPieceFrom Blank ended bytes rest = GivesLine Blank ended bytes rest
 GivesPieceFrom (Bytes line) ended bytes rest = GivesLine (Bytes line) ended bytes rest
 GivesPieceFrom LongLine ended bytes rest = GivesLine LongLine ended bytes rest
 
--- the same, where the source tells what it has left
+-- the same, if the source tells what it has left
 abbrev pub GivesPiece : Piece → Bool → Option (List ℕ) → Option (List ℕ) → Type 0
 GivesPiece piece ended None new = ⊤
 GivesPiece piece ended (Some bytes) None = ⊥
@@ -52,7 +52,7 @@ pub record GoesOn (old new : Reading) : Type 0 where
   pub limit : given new ≤ SCRIPT_LIMIT
   pub near : length new.held < PIECE
 
--- where the piece stands against the limit of a script
+-- how the piece meets the limit of a script
 abbrev pub PieceAdvances : Piece → Reading → Reading → Type 0
 PieceAdvances End old new = new.taken ≤ SCRIPT_LIMIT
 PieceAdvances PastLimit old new = IsPastLimit new

@@ -10,8 +10,8 @@ use Rattle.shell_lang.specs.Reading.{Reading, IsReading}
 abbrev pub reading_of : Inside → Reading
 reading_of reader = record { held = drop reader.start reader.bytes.items; taken = reader.taken; ended = reader.ended }
 
--- What is held was scanned up to a place before which it has no line end. Behind that place there is at most one piece in
--- memory, and so it is behind the first line of all that is in memory.
+-- What is held was scanned up to a place before which it has no line end. Behind that place there is at most one piece
+-- in memory, and so it is behind the first line of all that is in memory.
 pub record IsReader (reader : Inside) : Type 0 where
   pub start : reader.start ≤ length reader.bytes.items
   pub begun : reader.start ≤ reader.scanned

@@ -36,7 +36,7 @@ pub record IsReading (reading : Reading) : Type 0 where
   pub near : length reading.held < position_or_len is_line_end reading.held + 1 + PIECE
   pub last : reading.ended ≡ true → IsUnended reading.held
 
--- the bytes of the script that were not given yet, where the source tells those that it has left
+-- the bytes of the script that were not given yet, if the source tells those that it has left
 abbrev pub pending : Reading → Option (List ℕ) → Option (List ℕ)
 pending reading left = prepend_known reading.held left
 
@@ -61,8 +61,9 @@ is_read_fault (Ok value) = false
 is_read_fault (Err Read) = true
 is_read_fault (Err Memory) = false
 
--- What each call of a reader leaves. What it took is what the source lost, at most one byte above the limit of a script.
--- Behind the first line that it holds, it holds less than one piece. A fault of the source is told as one, and nothing else is.
+-- What each call of a reader leaves. What it took is what the source lost, at most one byte above the limit of a
+-- script. Behind the first line that it holds, it holds less than one piece. A fault of the source is reported as one,
+-- and nothing else is.
 pub record LeavesReader {T : Type 0} (result : Result T LineFault) (old new : Reading) (before after : SourceSeen) : Type 0 where
   pub source : IsReaderOf new after
   pub sound : IsReading new
@@ -80,7 +81,7 @@ pub record ReadsOn (old new : Reading) (before after : SourceSeen) : Type 0 wher
   pub source : IsReaderOf new after
   pub stays : old.ended ≡ true → new.ended ≡ true
 
--- a piece of the source was put behind the bytes: at the end of the source none, else some, and at most so many
+-- a piece of the source was put behind the bytes: at the end of the source none, else some, and at most this many
 pub record ReadsPiece (old new : List ℕ) (before after : SourceSeen) (count most : ℕ) : Type 0 where
   pub piece : List ℕ
   pub bytes : new ≡ old ++ piece

@@ -13,35 +13,35 @@ pub record Misses (count : ℕ) (bytes rest : List ℕ) : Type 0 where
   pub bytes_are : bytes ≡ front ++ rest
   pub short : length front < count
 
--- of pending bytes as many as were asked for are taken, or as many as there are; or the limit of a script comes first
+-- of pending bytes those that were asked for are taken, or all that there are; or the limit of a script comes first
 abbrev pub TakesFrom : Taken → ℕ → List ℕ → List ℕ → Type 0
 TakesFrom (Whole text) count bytes rest = (came count bytes ≡ Whole text) × (rest ≡ drop count bytes)
 TakesFrom Dropped count bytes rest = (came count bytes ≡ Dropped) × (rest ≡ drop count bytes)
 TakesFrom Short count bytes rest = (came count bytes ≡ Short) × (rest ≡ drop count bytes)
 TakesFrom PastLimit count bytes rest = Misses count bytes rest
 
--- the same, where the source tells what it has left
+-- the same, if the source tells what it has left
 abbrev pub Takes : Taken → ℕ → Option (List ℕ) → Option (List ℕ) → Type 0
 Takes taken count None new = ⊤
 Takes taken count (Some bytes) None = ⊥
 Takes taken count (Some bytes) (Some rest) = TakesFrom taken count bytes rest
 
--- what may come of so many bytes, whatever the source tells: all are kept where they are no more than a text may have
+-- what may come of this many bytes, whatever the source tells: all are kept if they are no more than a text may have
 abbrev pub IsTakenOf : ℕ → Taken → Type 0
 IsTakenOf count (Whole text) = (length text ≡ count) × (count ≤ TEXT_LIMIT)
 IsTakenOf count Dropped = TEXT_LIMIT < count
 IsTakenOf count Short = 0 < count
 IsTakenOf count PastLimit = 0 < count
 
--- A failure came before all bytes did. Those that came are gone, and of what is held less than one piece lies behind those
--- that are still due.
+-- A failure came before all bytes did. Those that came are gone, and of what is held less than one piece lies behind
+-- those that are still due.
 pub record Loses (count held : ℕ) (bytes rest : List ℕ) : Type 0 where
   pub front : List ℕ
   pub bytes_are : bytes ≡ front ++ rest
   pub short : length front < count
   pub near : length front + held < count + PIECE
 
--- the same, where the source tells what it has left
+-- the same, if the source tells what it has left
 abbrev pub FallsShort : ℕ → Reading → Option (List ℕ) → Option (List ℕ) → Type 0
 FallsShort count reading None left = ⊤
 FallsShort count reading (Some bytes) None = ⊥
@@ -59,7 +59,7 @@ pub record IsCutOff (reading : Reading) : Type 0 where
   pub ended : reading.ended ≡ false
   pub held : length reading.held ≡ 1
 
--- where the reader stands against the limit of a script
+-- how the reader meets the limit of a script
 abbrev pub TakenAdvances : Taken → Reading → Reading → Type 0
 TakenAdvances (Whole text) old new = TakesOn old new
 TakenAdvances Dropped old new = TakesOn old new

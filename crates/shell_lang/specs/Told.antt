@@ -14,13 +14,13 @@ use Rattle.hac_model.specs.declared.replies.Refusal.TheVariants.{Limit, ShortPut
 use Rattle.shell_lang.specs.declared.taken.Taken.{Taken}
 use Rattle.shell_lang.specs.declared.taken.Taken.TheVariants.{Whole, Dropped, Short, PastLimit}
 
--- what comes of so many bytes, given what stands behind the line. No more are kept than a text may have.
+-- what comes of this many bytes, given what follows the line. No more are kept than a text may have.
 abbrev pub came : ℕ → List ℕ → Taken
 came count behind =
     if nat_lt (length behind) count then Short
     else (if nat_le count TEXT_LIMIT then Whole (take count behind) else Dropped)
 
--- what comes of the bytes that a line asks for, where it asks for any
+-- what comes of the bytes that a line asks for, if it asks for any
 abbrev pub taken_of : List ℕ → List ℕ → Option Taken
 taken_of line behind = option_map (λ count. came count behind) (put_length line)
 
@@ -37,13 +37,13 @@ put_at_taken word (Some Short) = Err ShortPut
 put_at_taken word (Some PastLimit) = Err ShortPut
 put_at_taken word None = Err ShortPut
 
--- `put PATH LENGTH`, from what stands behind `put`
+-- `put PATH LENGTH`, from the bytes behind `put`
 abbrev pub put_taken : List ℕ → Option Taken → Result Command Refusal
 put_taken arguments taken = do
   words ← put_words arguments
   put_at_taken words.0 taken
 
--- the command of a name, from what stands behind it
+-- the command of a name, from the bytes behind it
 abbrev pub called_taken : List ℕ → List ℕ → Option Taken → Result Command Refusal
 called_taken name arguments taken = if is_put name then put_taken arguments taken else named_command name arguments
 
@@ -53,6 +53,6 @@ command_taken line taken = do
   name ← first_word line
   called_taken name.0 name.1 taken
 
--- what the line is to the program
+-- what the line means to the program
 abbrev pub item_taken : List ℕ → Option Taken → Item
 item_taken line taken = if nat_le (length line) LINE_LIMIT then in_main (command_taken line taken) else Err (Limit limit.Line)

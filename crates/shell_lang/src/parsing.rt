@@ -30,8 +30,8 @@ pub fn parse_line(alloc: Global, line: &[u8], taken: Option<Taken>) -> Result<Li
     if line.len() > LINE_LIMIT {
         return Err(Deny::Refused(Refusal::Limit(LimitWord::Line)));
     }
-    let command = parse_with(alloc, line, taken)?;
     let session = Name::new(Vec::from_slice(alloc, b"main")?);
+    let command = parse_with(alloc, line, taken)?;
     Ok(Line { session, command })
 }
 

@@ -88,7 +88,7 @@ impl Model for Reader {
 /// Where the first line of what is held ends.
 #[derive(Clone, Copy, Debug)]
 enum Found {
-    /// At the line end that stands there.
+    /// At a line end.
     Ended(usize),
     /// Where the script ends.
     Last,
@@ -122,7 +122,7 @@ impl Reader {
         ensures advances { IfOk result (λ piece. PieceAdvances piece self.old self.new) }
         ensures err { OnErr result (Keeps (pending self.old (S.seen source.old).left) (pending self.new (S.seen source.new).left)) }
 
-        // A line that is held is given without a read, so a fault comes only where none is.
+        // A line that is held is given without a read, so a fault comes only if none is.
         ensures unread { is_first_ended self.old.held ≡ true → source.new ≡ source.old }
         ensures unended { IsErrOf result LineFault.Read → (self.new.ended ≡ false) × IsUnended self.new.held }
 
@@ -287,7 +287,7 @@ fn read_onto<S: Source>(
     Ok(count)
 }
 
-/// The place of the first line end, which stands at `from` or behind it.
+/// The place of the first line end, which is at `from` or behind it.
 fn line_end(bytes: &[u8], from: usize) -> Option<usize>
     requires { from ≤ position_or_len is_line_end bytes.now }
     ensures { result ≡ position is_line_end bytes.now }

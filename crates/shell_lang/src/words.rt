@@ -1,5 +1,5 @@
 //! A line's words: plain ones, which end at a space, and words in quotes, which may hold spaces. A raw word
-//! is a piece of the line: its escapes stand in it, and it wants no memory.
+//! is a piece of the line, with its escapes in it, and it wants no memory.
 ghost use Rattle.std.specs.Prelude.{◌≡◌, false, drop, slice_index};
 ghost use Rattle.std.specs.List.{prefix_len, position_or_len, list_all};
 ghost use Rattle.std.specs.Option.{ok_or, option_map};
@@ -33,7 +33,7 @@ pub fn only_word(alloc: Global, bytes: &[u8]) -> Result<Vec<u8>, Deny>
     Ok(word)
 }
 
-/// The first word as it stands in the line, between its quotes where it has them, and what follows it. None
+/// The first word as it is written in the line, between its quotes if it has them, and what follows it. None
 /// where the line is bad.
 pub fn raw_word(bytes: &[u8]) -> Option<(&[u8], &[u8])>
     ensures { GivesRaw result (first_word bytes.now) }
@@ -41,7 +41,7 @@ pub fn raw_word(bytes: &[u8]) -> Option<(&[u8], &[u8])>
     raw_at(skip_spaces(bytes))
 }
 
-/// The raw word at the front, before which no space stands.
+/// The raw word at the front, with no space before it.
 fn raw_at(bytes: &[u8]) -> Option<(&[u8], &[u8])>
     ensures { GivesRaw result (word_at bytes.now) }
 {
@@ -76,7 +76,7 @@ fn behind_quoted(bytes: &[u8]) -> Option<&[u8]>
     Some(skip_one(left))
 }
 
-/// The word at the front, before which no space stands.
+/// The word at the front, with no space before it.
 fn word_at(alloc: Global, bytes: &[u8]) -> Result<(Vec<u8>, &[u8]), Deny>
     ensures { AnswersSeen (λ word. (word.0.items, word.1.now)) result (word_at bytes.now) }
 {
@@ -118,7 +118,7 @@ fn unquote(alloc: Global, bytes: &[u8]) -> Result<(Vec<u8>, &[u8]), Deny>
 }
 
 /// The first byte of a word in quotes, where the word goes on, and what follows it: none where no closing
-/// quote comes, or where a backslash stands before anything but a quote or a backslash.
+/// quote comes, or where a backslash comes before anything but a quote or a backslash.
 fn quoted_byte(bytes: &[u8]) -> Option<(u8, &[u8])>
     requires { is_quote (slice_index bytes.now 0) ≡ false }
     ensures { QuotesFirst quoted bytes.now result }
@@ -195,7 +195,7 @@ fn space_count(bytes: &[u8]) -> usize
     bytes.iter().take_while(|byte| **byte == b' ').count()
 }
 
-/// How many bytes stand before the first space.
+/// How many bytes come before the first space.
 fn run_len(bytes: &[u8]) -> usize
     ensures { result ≡ position_or_len is_space bytes.now }
 {

@@ -32,7 +32,7 @@ judged-met links tree (query.Not q) item = ap not (judged-met links tree q item)
 judged-met links tree (query.And p q) item = λ i. judged-met links tree p item i && judged-met links tree q item i
 judged-met links tree (query.Or p q) item = λ i. judged-met links tree p item i || judged-met links tree q item i
 
--- Links that tell the same.
+-- Sets of links with the same members.
 
 transient-first : (t p x : Bool) → t ≡ is_transient (cond t Transient (cond p Permanent (cond x Prohibited Unlinked)))
 transient-first true p x = refl

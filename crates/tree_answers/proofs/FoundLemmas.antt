@@ -6,7 +6,7 @@ use Rattle.std.specs.Option.{option_map, option_map_or}
 use Rattle.std.proofs.lemmas.Bool.{cases_eq, cases_lt, eq-eqb, le-leb, lt-ltb, ne_eqb}
 use Rattle.hac_model.specs.Depends.{Among, IsAcyclic, NeverReturns, depends, named_in}
 use Rattle.hac_model.specs.Formula.{Formula}
-use Rattle.hac_model.specs.Links.{column, has, holds, is_below, is_item, is_permanent, is_prohibited, is_semantic, is_unmarked, items, kind, links, parent_of, passes, provide, query_at, shown_of}
+use Rattle.hac_model.specs.Links.{column, has, holds, is_item, is_permanent, is_prohibited, is_semantic, is_unmarked, items, kind, links, parent_of, passes, provide, query_at, shown_of}
 use Rattle.hac_model.specs.Limits.{counts}
 use Rattle.hac_model.specs.Tree.{is_file}
 use Rattle.hac_model.specs.Valid.{IsLayout}
@@ -15,7 +15,7 @@ use Rattle.hac_model.specs.declared.marks.Kind.{Kind}
 use Rattle.hac_model.specs.declared.marks.Kind.TheVariants.{Transient, Permanent, Prohibited, Unlinked}
 use Rattle.hac_model.specs.declared.states.State.{State}
 use Rattle.hac_model.proofs.GraphLemmas.{leads_more}
-use Rattle.hac_model.proofs.LinkLemmas.{holds-same, links-fixed}
+use Rattle.hac_model.proofs.LinkLemmas.{holds-same, links-fixed, provide-same}
 use Rattle.hac_model.proofs.ListedLemmas.{file-item, linked-item, links-listed}
 use Rattle.hac_model.proofs.MarkLemmas.{has-filter}
 use Rattle.hac_model.proofs.TreeLemmas.{entry_at-next}
@@ -35,9 +35,6 @@ use Rattle.linked_tree.specs.Counting.{AreSmall}
 use Rattle.linked_tree.proofs.CountingLemmas.{counts-small}
 use Rattle.tree_answers.proofs.FindingLemmas.{column-kind, marked-same}
 use Rattle.tree_answers.proofs.MarkingLemmas.{permanent-kept, prohibited-kept}
-
-provide-same : (s : State) (a b : ℕ → Bool) (dir item : ℕ) → a dir ≡ b dir → provide s a dir item ≡ provide s b dir item
-provide-same s a b dir item same = ap (λ (t : Bool). is_below s dir item || (is_semantic s dir && (t || is_permanent s dir item))) same
 
 -- The edges are those of the state.
 

@@ -1,4 +1,4 @@
--- Lines that tell links, given what was found.
+-- Lines of links, given what was found.
 use Rattle.std.proofs.Common.{◌≡◌, ℕ, ◌<◌, Bool, true, false, List, [], ◌∷◌, ◌++◌, map, refl, ap, sym, subst, ◌∙◌, arith}
 use Rattle.std.specs.Prelude.{◌&&◌, filter, is_some, codes}
 use Rattle.std.specs.List.{flat_map, range_with_len}

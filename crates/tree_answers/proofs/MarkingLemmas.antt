@@ -1,4 +1,4 @@
--- What a linked tree's marks tell of its state.
+-- What a linked tree's marks say of its state.
 use Rattle.std.proofs.Common.{◌≡◌, ℕ, true, false, cond, List, [], refl, ap, sym, ◌∙◌}
 use Rattle.hac_model.specs.Links.{has, is_semantic, permanent_at, prohibited_at}
 use Rattle.hac_model.specs.Links as links
@@ -27,7 +27,7 @@ prohibited-kept kept dir h =
       | false ↦ (λ other. sym (ap (λ (lists : Lists). lists.prohibited) (h.plain dir other)))
     ] refl)
 
--- the kind that is kept of an item tells its mark
+-- the kind that is kept of an item is its mark
 pub permanent-kind : (kept : LinkedTree) (dir item : ℕ) → IsLinked kept → AllApart kept.marks → links.is_permanent (state_of kept) dir item ≡ is_permanent (kind_at kept.marks dir item)
 permanent-kind kept dir item h apart = ap (λ (ns : List ℕ). has ns item) (permanent-kept kept dir h) ∙ permanent-told kept.marks apart dir item
 

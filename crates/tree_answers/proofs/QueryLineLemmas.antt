@@ -1,4 +1,4 @@
--- A query is told with the paths of its directories.
+-- A query is printed with the paths of its directories.
 use Rattle.std.proofs.Common.{◌≡◌, ℕ, Bool, true, false, cond, List, [], ◌∷◌, map, refl, ap, ◌∙◌, inl, inr}
 use Rattle.std.specs.Prelude.{◌&&◌, ◌==◌, Option, Some, is_some}
 use Rattle.std.specs.Option.{option_map_or}

@@ -1,4 +1,4 @@
--- Which directories name another in their queries, told by a graph and by the entries.
+-- Which directories name another in their queries, by a graph and by the entries.
 use Rattle.std.proofs.Common.{◌≡◌, ℕ, zero, suc, ◌+◌, ◌<◌, ◌≤◌, Bool, true, false, cond, List, [], ◌∷◌, length, map, filter, eqb, subst, refl, ap, sym, ◌∙◌, arith, inl, inr, eq-eqb, ne_eqb, eqb-true}
 use Rattle.std.specs.Prelude.{◌==◌, slice_index, ◌&&◌, ◌||◌, ◌↔◌, not, drop, Contains, Option, Some, None, IsPermutation, IsSorted, option_and_then}
 use Rattle.std.specs.List.{AllByRecursion, IsDistinct, list_all}
@@ -194,7 +194,7 @@ names-has dir e = by_query (query_in e.body)
     by_query (Some asked) = refl
 
 module _ (s : State) where
-  -- what an entry depends on, but for the directory in which it stands, is what its query names
+  -- what an entry depends on, but for its parent, is what its query names
   named-asked : (q : ℕ) → drop 1 (depends s q) ≡ asked_in (query_at s q)
   named-asked q = by_query (query_at s q)
     where
@@ -221,7 +221,7 @@ paths-numbers : (path : ℕ → List (List ℕ)) (es : List Entry) → map (λ (
 paths-numbers path [] = refl
 paths-numbers path (e ∷ es) = ap (λ (paths : List (List (List ℕ))). path e.number ∷ paths) (paths-numbers path es)
 
--- a graph tells whom a query names
+-- a graph knows whom a query names
 edges-same : (kept : LinkedTree) → IsLinked kept → (q : ℕ) → named_by kept.graph q ≡ drop 1 (depends (state_of kept) q)
 edges-same kept h q = ap (λ (ns : List ℕ). drop 1 ns) (h.edges q ∙ sym (same-depends kept q))
 
@@ -235,7 +235,7 @@ module _ (kept : LinkedTree) (h : IsLinked kept) (dir : ℕ) (found sorted : Lis
       (λ q among. sorted-among found sorted same q ((named q).1 (subst (λ (ns : List ℕ). Among ns dir) (sym (edges-same kept h q)) (referrer-names (state_of kept) dir q h.valid.layout.numbers among))))
       (λ q among. names-referrer (state_of kept) dir q (subst (λ (ns : List ℕ). Among ns dir) (edges-same kept h q) ((named q).0 (among-sorted found sorted same q among))))
 
-  -- so the least of their paths is what stands in the way
+  -- so the least of their paths is in the refusal
   pub referenced-told : (seen : Seen) (entries : List ℕ) (least : Option (List (List ℕ))) → seen ≡ kept.tree → entries ≡ sorted → least ≡ least_path (map (path_of seen.state) entries) → referenced_cause (state_of kept) dir ≡ option_map Referenced least
   referenced-told seen entries least tree is told =
       ap (λ (paths : List (List (List ℕ))). option_map Referenced (least_path paths)) (
@@ -250,7 +250,7 @@ module _ (kept : LinkedTree) (h : IsLinked kept) (dir : ℕ) (found sorted : Lis
 longer : (n : ℕ) → (suc n == 0) ≡ false
 longer n = ne_eqb (suc n) 0 (λ same. omega (arith, same))
 
--- none passes where none is left
+-- the filter of an empty list is empty
 none-left : (test : Entry → Bool) (es : List Entry) → list_all (λ e. not (test e)) es ≡ (length (numbers_of (filter test es)) == 0)
 none-left test [] = refl
 none-left test (e ∷ es) = elim (test e) as (λ b. (not b && list_all (λ e. not (test e)) es) ≡ (length (numbers_of (cond b (e ∷ filter test es) (filter test es))) == 0)) [ true ↦ sym (longer (length (numbers_of (filter test es)))) | false ↦ none-left test es ]

@@ -39,8 +39,8 @@ pub record GetsFound (tree : State) (dir first end : ℕ) (old new : Known) : Ty
   pub permanent : (d : ℕ) → permanent_in new d ≡ permanent_in old d
   pub prohibited : (d : ℕ) → prohibited_in new d ≡ prohibited_in old d
 
--- of each directory to which the given ones lead, and of each that is not semantic, those links are told that are among the
--- numbers from the first to below the end, and no other links. All marks are told.
+-- of each directory to which the given ones lead, and of each that is not semantic, just those links are there that are
+-- among the numbers from the first to below the end. All marks are there.
 pub record AreFound (s : State) (dirs : List ℕ) (first end : ℕ) (found : Known) : Type 0 where
   pub links : (dir item : ℕ) → (is_semantic s dir ≡ true → AnyReaches (depends s) dirs dir) → is_within first end item ≡ true → column (transient_in found) item dir ≡ column (links s) item dir
   pub others : (dir item : ℕ) → is_within first end item ≡ false → column (transient_in found) item dir ≡ false

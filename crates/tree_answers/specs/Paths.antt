@@ -1,4 +1,4 @@
--- The paths of directories, told one behind the other.
+-- The paths of directories, given one after the other.
 use Rattle.std.specs.Prelude.{◌≡◌, ℕ, List, ◌++◌, map}
 use Rattle.hac_model.specs.Depends.{named_in}
 use Rattle.hac_model.specs.Formula.{Formula}

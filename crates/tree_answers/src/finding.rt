@@ -74,8 +74,8 @@ fn find_in(tree: &Tree, found: &mut Links, dir: Number, first: u64, end: u64) ->
     Ok(())
 }
 
-/// Whether a directory finds an item: it was indexed, the user says nothing of it there, the directory above provides it,
-/// and it satisfies the query. What costs least comes first.
+/// Whether a directory finds an item: it was indexed, the user says nothing of it there, the directory above provides
+/// it, and it satisfies the query. What costs least comes first.
 fn passes(tree: &Tree, links: &Links, dir: Number, item: Number) -> bool
     ensures { result ≡ finds links.now tree.now.state dir item }
 {

@@ -89,7 +89,7 @@ fn is_level_set(pool: &SetPool, set: SetId) -> bool
     is_level(pool.slots.tree(set.0 as usize))
 }
 
-// The numbers below 1009, which is prime, in an order that `step` tells.
+// Puts in the numbers below 1009, which is prime, going on by `step`.
 fn grow(pool: &mut SetPool, set: SetId, step: u64) -> Result<(), AllocError>
     requires { IsTrue (is_live pool.old set) }
     ensures { IsTrue (is_live pool.new set) }

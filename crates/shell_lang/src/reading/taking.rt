@@ -10,8 +10,8 @@ use hac_model::{SCRIPT_LIMIT, TEXT_LIMIT, Text};
 use hac_outside::Source;
 
 impl Reader {
-    /// Takes the bytes that follow a line, as many as it asks for, or as many as the script has. They are
-    /// kept where they are no more than a text may have. It reads only where none is held.
+    /// Takes the bytes that follow a line, all that it asks for or all that the script has. They are
+    /// kept if they are no more than a text may have. It reads only if none is held.
     pub fn take_put<S: Source>(&mut self, source: &mut S, asked: u64) -> Result<Taken, LineFault>
         requires source { IsReaderOf self.old (S.seen source.old) }
 
@@ -56,7 +56,7 @@ impl Reader {
         }
     }
 
-    /// Takes bytes that are held, at most so many and none beyond the limit of a script, and says how many.
+    /// Takes bytes that are held, at most `most` and none beyond the limit of a script, and answers how many.
     fn take_held(&mut self, text: &mut Vec<u8>, most: u64, keeps: bool) -> Result<u64, LineFault>
         ensures count { IfOk result (λ count. count ≡ min most (within self.old)) }
         ensures held { IfOk result (λ count. self.new ≡ record self.old { held = drop count self.old.held }) }

@@ -13,17 +13,14 @@ returns-in_err-root-clause-held g c =
     let same : c.from_residual.result ≡ Err (of_root why) = search rules in
     subst (λ r. IfSome seen (λ file. Opens r (held file))) (sym same) (opens-rootless seen why c.in_err-root.ensures.root)
 
-pub returns-in_err-end-clause-held : goal.returns-in_err-end-clause-held
-returns-in_err-end-clause-held g c =
+pub returns-in-Err-clause-held : goal.returns-in-Err-clause-held
+returns-in-Err-clause-held g c =
     let seen = g.D.Disk.seen c.args.disk.now in
-    let why = c.in_err-end.field-0.0 in
-    let told = err_from_is_err_and c.from_residual-in_err-end.result c.from_residual-in_err-end.ensures.1 in
-    let same : c.from_residual-in_err-end.result ≡ Err why = told.1 ∙ ap (λ f. Err f) told.2 in
-    let reads = rw (c.in_ok-machine.ensures, c.roots.ensures.quiet.same) at c.in_err-end.ensures.log in
-    subst (λ r. IfSome seen (λ file. Opens r (held file))) (sym same) (opens-stop seen c.in_ok-root.root c.read_log.new.machine.state why c.in_ok-root.ensures.root reads)
+    let reads = rw (c.in_ok-machine.ensures, c.roots.ensures.quiet.same) at c.in-Err.ensures.log in
+    opens-stop seen c.in_ok-root.root c.read_log.new.machine.state c.in-Err.fault c.in_ok-root.ensures.root reads
 
-pub returns-clause-held : goal.returns-clause-held
-returns-clause-held g c =
+pub returns-in-Ok-clause-held : goal.returns-in-Ok-clause-held
+returns-in-Ok-clause-held g c =
     let seen = g.D.Disk.seen c.args.disk.now in
-    let reads = rw (c.in_ok-machine.ensures, c.roots.ensures.quiet.same) at c.in_ok-end.ensures.log in
-    opens-ok seen c.in_ok-root.root c.read_log.new.machine.state c.in_ok-end.end c.in_ok-root.ensures.root reads
+    let reads = rw (c.in_ok-machine.ensures, c.roots.ensures.quiet.same) at c.in-Ok.ensures.log in
+    opens-ok seen c.in_ok-root.root c.read_log.new.machine.state c.in-Ok.end c.in_ok-root.ensures.root reads

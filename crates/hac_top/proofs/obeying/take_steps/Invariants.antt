@@ -7,7 +7,7 @@ use Rattle.hac_top.specs.Crashes.{Holds, IsTreeAfter}
 use Rattle.hac_top.proofs.StepLemmas.{steps}
 use Rattle.hac_top.proofs.obeying.take_steps.Given as goal
 
--- all but so many steps happened, and a crash since the call began leaves some of them
+-- all but `left` steps happened, and a crash since the call began leaves some of them
 abbrev pub invariant-loop-left : goal.invariant-loop-left
 invariant-loop-left g l =
     let disk = g.D.Disk.seen in

@@ -10,8 +10,8 @@ use Rattle.hac_top.specs.Crashes.{Holds, IsTreeAfter}
 use Rattle.hac_top.proofs.GoesOn.{GoesOn}
 use Rattle.hac_top.proofs.running.play_script.Given as goal
 
--- so many turns were told, no call failed, and all was passed on; the disk stands for what they left, and a crash since the
--- run began leaves the tree after some of its events
+-- this many turns were answered, no call failed, and all was passed on; the disk holds what they left, and a crash
+-- since the run began leaves the tree after some of its events
 abbrev pub invariant-lines : goal.invariant-lines
 invariant-lines g l =
     let input = g.S.Source.seen in

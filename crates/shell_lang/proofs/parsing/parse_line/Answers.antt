@@ -13,7 +13,7 @@ returns-clause-spelled c =
 
 pub returns-in_err-command-clause-item : goal.returns-in_err-command-clause-item
 returns-in_err-command-clause-item c = λ behind same.
-    told-right (λ (item : Item). Answers c.from_residual.result item) c.args.line.now c.args.taken behind same (search rules)
+    told-right (λ (item : Item). Answers c.from_residual-in_err-command.result item) c.args.line.now c.args.taken behind same (search rules)
 
 pub returns-clause-item : goal.returns-clause-item
 returns-clause-item c = λ behind same.

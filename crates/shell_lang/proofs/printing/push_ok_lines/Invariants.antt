@@ -1,4 +1,4 @@
--- the lines that the loop has passed stand behind what was there
+-- the lines that the loop has passed come behind what was there
 use Rattle.std.proofs.Common.{◌≡◌, ◌++◌, take}
 use Rattle.std.specs.List.{flat_map}
 use Rattle.hac_model.specs.Printed.{ended}

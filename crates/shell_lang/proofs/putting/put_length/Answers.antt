@@ -1,4 +1,4 @@
--- The name as it stands tells whether the line is a `put`.
+-- The name as it is written says whether the line is a `put`.
 use Rattle.std.proofs.Common.{Bool, ap, sym, ◌∙◌}
 use Rattle.std.specs.Prelude.{if◌then◌else◌, Err}
 use Rattle.hac_model.specs.Lines.{asked, put_words}

@@ -1,4 +1,4 @@
--- A quote or a backslash stands there, or anything else.
+-- A quote or a backslash comes next, or anything else.
 use Rattle.std.proofs.Common.{◌≡◌, true, arith, rules}
 use Rattle.std.specs.Prelude.{◌||◌, slice_index}
 use Rattle.std.proofs.lemmas.Bool.Decides.{nat_tests}

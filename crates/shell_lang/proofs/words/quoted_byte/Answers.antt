@@ -1,4 +1,4 @@
--- An escape, or a byte that is itself, where no closing quote stands.
+-- An escape, or a byte that is itself, if no closing quote comes.
 use Rattle.std.proofs.Common.{◌≡◌, Bool, true, false, drop, ap, ◌∙◌, arith, rules}
 use Rattle.std.specs.Prelude.{if◌then◌else◌, slice_index}
 use Rattle.std.proofs.lemmas.List.{length-drop, take_rest}

@@ -1,4 +1,4 @@
--- A plain word stands as it is.
+-- A plain word is written as it is.
 use Rattle.std.proofs.Common.{◌≡◌, inl, refl, rules}
 use Rattle.std.specs.Prelude.{Ok}
 use Rattle.hac_model.specs.LineWords.{word_at}

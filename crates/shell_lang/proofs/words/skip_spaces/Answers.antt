@@ -1,4 +1,4 @@
--- No more spaces stand at the front than there are bytes.
+-- The front has no more spaces than there are bytes.
 use Rattle.std.proofs.Common.{rules, arith}
 use Rattle.std.proofs.lemmas.List.Sums.{prefix_len-le-length}
 use Rattle.hac_model.specs.Bytes.{is_space}

@@ -37,8 +37,8 @@ module _ (c : goal.After-self-1) where
   spare : (c.self.inside.spare.items ≡ kids_of c.self.inside.nodes c.args.dir ++ c.self.inside.next ∷ []) × IsTrue (has_node c.self.inside.nodes c.self.inside.next) × IsTrue (has_node c.self.inside.nodes c.args.dir) × (c.args.dir < c.self.inside.next)
   spare = spare-add c.self.inside.nodes c.self.inside.next c.self.inside.spare.items c.self.inside.ready c.args.dir room-here c.self.invariant.spare
 
-  body-here : c.in-Add.body ≡ body_in c.args.self.now.ready
-  body-here = ap body_in (sym c.in-Add.is ∙ c.replace.ensures.value ∙ same-ready)
+  body-here : c.take_body-body.result ≡ body_in c.args.self.now.ready
+  body-here = c.take_body-body.ensures.body ∙ ap body_in same-ready
 
   listed : c.order_last.new.numbers.items ≡ insert (kids_of c.self.inside.nodes c.args.dir) (rank_in (name_of c.self.inside.nodes) c.args.name (kids_of c.self.inside.nodes c.args.dir)) c.self.inside.next
   listed = c.order_last.ensures (kids_of c.self.inside.nodes c.args.dir) c.self.inside.next spare.0 (c.self.invariant.lists.rises c.args.dir)
@@ -60,9 +60,9 @@ pub invariant_of-self : goal.invariant_of-self
 invariant_of-self c =
     shaped-added c.self.inside c.args.self.now c.self.view_is c.self.invariant _ c.args.dir c.args.name (body_in c.args.self.now.ready) (next c) (entries c) (λ n. c.put_children.ensures.names n ∙ c.put.ensures.names n) (kids c)
     (λ n. c.put_children.ensures.numbers n ∙ c.put.ensures.numbers n) (spare c).3 c.requires.layout
-    (subst (λ (r : Ready). HasSpare r c.put_children.new.nodes c.new-self-inside.result c.put_children.new.children.items) (sym c.replace.ensures.after) tt)
+    (subst (λ (r : Ready). HasSpare r c.put_children.new.nodes c.new-self-inside.result c.put_children.new.children.items) (sym c.take_body-body.ensures.after) tt)
 
 pub returns-clause-added : goal.returns-clause-added
 returns-clause-added c =
-    ap (λ (x : State). record { state = x; ready = c.replace.new.dest }) (state-added c.self.inside c.args.self.now c.self.view_is c.self.invariant (record { alloc = c.self.inside.alloc; next = c.new-self-inside.result; nodes = c.put_children.new.nodes; spare = c.put_children.new.children; ready = c.replace.new.dest }) c.args.dir c.args.name (body_in c.args.self.now.ready) (next c) (entries c))
-    ∙ ap (λ (r : Ready). record { state = added c.args.self.now.state c.args.dir c.args.name (body_in c.args.self.now.ready); ready = r }) c.replace.ensures.after
+    ap (λ (x : State). record { state = x; ready = c.take_body-body.new.self }) (state-added c.self.inside c.args.self.now c.self.view_is c.self.invariant (record { alloc = c.self.inside.alloc; next = c.new-self-inside.result; nodes = c.put_children.new.nodes; spare = c.put_children.new.children; ready = c.take_body-body.new.self }) c.args.dir c.args.name (body_in c.args.self.now.ready) (next c) (entries c))
+    ∙ ap (λ (r : Ready). record { state = added c.args.self.now.state c.args.dir c.args.name (body_in c.args.self.now.ready); ready = r }) c.take_body-body.ensures.after

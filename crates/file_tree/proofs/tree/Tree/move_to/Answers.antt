@@ -6,7 +6,7 @@ use Rattle.hac_model.specs.Events.{changed_at, reseated}
 use Rattle.hac_model.specs.declared.states.Entry.{Entry}
 use Rattle.hac_model.specs.declared.states.State.{State}
 use Rattle.file_tree.specs.Nodes.{entry_of, has_node, kids_of, name_of}
-use Rattle.file_tree.specs.Ready.{name_in, room_in}
+use Rattle.file_tree.specs.Ready.{IsMove, name_in, room_in}
 use Rattle.file_tree.specs.Search.{rank_in}
 use Rattle.file_tree.specs.Seen.{Seen}
 use Rattle.file_tree.specs.Shape.{HasSpare, NamesRise}
@@ -14,10 +14,13 @@ use Rattle.file_tree.specs.declared.ready.Ready.{Ready}
 use Rattle.file_tree.specs.declared.ready.Room.{Room}
 use Rattle.file_tree.specs.declared.ready.Room.TheVariants as room
 use Rattle.file_tree.proofs.ListLemmas.{rank-same, rises-same}
-use Rattle.file_tree.proofs.ReadyLemmas.{spare-move}
+use Rattle.file_tree.proofs.ReadyLemmas.{ready-move, spare-move}
 use Rattle.file_tree.proofs.ShapeLemmas.{told_at, tree-unlinked}
 use Rattle.file_tree.proofs.StateLemmas.{entry-listed, entry-there, shaped-moved, state-changed, touched_at}
 use Rattle.file_tree.proofs.tree.Tree.move_to.Goals as goal
+
+pub take_name-name-requires : goal.take_name-name-requires
+take_name-name-requires c = subst IsMove (sym (ready-move c.self.inside.ready c.args.dir (ap (λ (x : Seen). room_in x.ready) c.self.view_is ∙ c.requires.room ∙ ap (λ (r : Room). Some r) c.requires.place))) tt
 
 pub parent_at-parent-requires : goal.parent_at-parent-requires
 parent_at-parent-requires c = entry-there c.self.inside c.args.self.now c.self.view_is c.self.invariant c.args.entry c.requires.there
@@ -49,8 +52,8 @@ module _ (c : goal.After-put_children) where
   spare : (c.self.inside.spare.items ≡ kids_of c.self.inside.nodes c.args.dir ++ 0 ∷ []) × IsTrue (has_node c.self.inside.nodes c.args.dir) × (c.args.dir < c.self.inside.next)
   spare = spare-move c.self.inside.nodes c.self.inside.next c.self.inside.spare.items c.self.inside.ready c.args.dir room-here c.self.invariant.spare
 
-  name-here : c.in-Move.name ≡ name_in c.args.self.now.ready
-  name-here = ap name_in (sym c.in-Move.is ∙ c.replace.ensures.value ∙ same-ready)
+  name-here : c.take_name-name.result ≡ name_in c.args.self.now.ready
+  name-here = c.take_name-name.ensures.name ∙ ap name_in same-ready
 
   -- the lists without the entry
   left : (d : ℕ) → kids_of c.drop_child.new.nodes d ≡ told_at c.parent_at-parent.result (remove (kids_of c.self.inside.nodes c.parent_at-parent.result) (rank_in (name_of c.self.inside.nodes) (name_of c.self.inside.nodes c.args.entry) (kids_of c.self.inside.nodes c.parent_at-parent.result))) (kids_of c.self.inside.nodes) d
@@ -82,12 +85,12 @@ module _ (c : goal.After-put_children) where
 
   entries : (q : ℕ) → entry_of c.put_children.new.nodes q ≡ touched_at c.args.entry (reseated c.args.dir (name_in c.args.self.now.ready)) (entry_of c.self.inside.nodes) q
   entries q = c.put_children.ensures.entries q ∙ c.reseat.ensures.entries q
-      ∙ ap (λ (o : Option Entry). cond (nat_eq c.args.entry q) (option_map (reseated c.args.dir c.in-Move.name) o) o) (c.drop_child.ensures.entries q)
+      ∙ ap (λ (o : Option Entry). cond (nat_eq c.args.entry q) (option_map (reseated c.args.dir c.take_name-name.result) o) o) (c.drop_child.ensures.entries q)
       ∙ ap (λ (x : List ℕ). touched_at c.args.entry (reseated c.args.dir x) (entry_of c.self.inside.nodes) q) name-here
 
   names : (q : ℕ) → name_of c.put_children.new.nodes q ≡ told_at c.args.entry (name_in c.args.self.now.ready) (name_of c.self.inside.nodes) q
   names q = c.put_children.ensures.names q ∙ c.reseat.ensures.names q
-      ∙ ap (λ (x : List ℕ). cond (nat_eq c.args.entry q) c.in-Move.name x) (c.drop_child.ensures.names q)
+      ∙ ap (λ (x : List ℕ). cond (nat_eq c.args.entry q) c.take_name-name.result x) (c.drop_child.ensures.names q)
       ∙ ap (λ (x : List ℕ). told_at c.args.entry x (name_of c.self.inside.nodes) q) name-here
 
   kids : (d : ℕ) → kids_of c.put_children.new.nodes d ≡ told_at c.args.dir (insert (kids_of c.drop_child.new.nodes c.args.dir) (rank_in (name_of c.self.inside.nodes) (name_in c.args.self.now.ready) (kids_of c.drop_child.new.nodes c.args.dir)) c.args.entry) (kids_of c.drop_child.new.nodes) d
@@ -99,9 +102,9 @@ pub invariant_of-self : goal.invariant_of-self
 invariant_of-self c =
     shaped-moved c.self.inside c.args.self.now c.self.view_is c.self.invariant _ c.args.entry c.args.dir c.parent_at-parent.result (name_in c.args.self.now.ready) refl c.parent_at-parent.ensures (entries c) (names c) (kids_of c.drop_child.new.nodes) (left c) (kids c)
     (λ q. c.put_children.ensures.numbers q ∙ c.reseat.ensures.numbers q ∙ c.drop_child.ensures.numbers q) (spare c).2 c.requires.layout
-    (subst (λ (r : Ready). HasSpare r c.put_children.new.nodes c.self.inside.next c.put_children.new.children.items) (sym c.replace.ensures.after) tt)
+    (subst (λ (r : Ready). HasSpare r c.put_children.new.nodes c.self.inside.next c.put_children.new.children.items) (sym c.take_name-name.ensures.after) tt)
 
 pub returns : goal.returns
 returns c =
-    ap (λ (x : State). record { state = x; ready = c.replace.new.dest }) (state-changed c.self.inside c.args.self.now c.self.view_is c.self.invariant (record { alloc = c.self.inside.alloc; next = c.self.inside.next; nodes = c.put_children.new.nodes; spare = c.put_children.new.children; ready = c.replace.new.dest }) c.args.entry (reseated c.args.dir (name_in c.args.self.now.ready)) refl (entries c))
-    ∙ ap (λ (r : Ready). record { state = changed_at c.args.self.now.state c.args.entry (reseated c.args.dir (name_in c.args.self.now.ready)); ready = r }) c.replace.ensures.after
+    ap (λ (x : State). record { state = x; ready = c.take_name-name.new.self }) (state-changed c.self.inside c.args.self.now c.self.view_is c.self.invariant (record { alloc = c.self.inside.alloc; next = c.self.inside.next; nodes = c.put_children.new.nodes; spare = c.put_children.new.children; ready = c.take_name-name.new.self }) c.args.entry (reseated c.args.dir (name_in c.args.self.now.ready)) refl (entries c))
+    ∙ ap (λ (r : Ready). record { state = changed_at c.args.self.now.state c.args.entry (reseated c.args.dir (name_in c.args.self.now.ready)); ready = r }) c.take_name-name.ensures.after

@@ -8,8 +8,8 @@ use Rattle.hac_core.proofs.StandingLemmas.{line-stands}
 use Rattle.hac_core.proofs.StandsLemmas.{stands-kept}
 use Rattle.hac_core.proofs.machine.Machine.ask.Goals as goal
 
-pub data_lines-requires-clause-stands : goal.data_lines-requires-clause-stands
-data_lines-requires-clause-stands c =
+pub data_lines-lines-requires-clause-stands : goal.data_lines-lines-requires-clause-stands
+data_lines-lines-requires-clause-stands c =
     let kept = c.self.inside.kept in
     let made = kept-draft (state_of kept) c.args.self.now.state c.command.result.now c.args.draft (ap (λ (x : Seen). x.state) c.self.view_is) c.command.ensures c.requires.made in
     stands-kept kept c.command.result.now (line-stands (state_of kept) made.0 c.command.result.now c.self.invariant.linked.valid made.1.spelled made.1.resolved).0

@@ -21,12 +21,12 @@ answerable-requires-clause-texts c =
     let made = kept-draft (state_of kept) c.args.self.now.state c.into_command-command.result c.args.draft (ap (λ (x : Seen). x.state) c.self.view_is) c.into_command-command.ensures c.requires.made in
     (line-stands (state_of kept) made.0 c.into_command-command.result c.self.invariant.linked.valid made.1.spelled made.1.resolved).1
 
-pub returns-clause-settled : goal.returns-clause-settled
-returns-clause-settled c =
+pub returns-in-Ok-clause-settled : goal.returns-in-Ok-clause-settled
+returns-in-Ok-clause-settled c =
     let kept = c.self.inside.kept in
     let s = state_of kept in
     let command = c.into_command-command.result in
     let made = kept-draft s c.args.self.now.state command c.args.draft (ap (λ (x : Seen). x.state) c.self.view_is) c.into_command-command.ensures c.requires.made in
     subst (λ (x : State). Settles x c.args.draft c.events_of.result) (ap (λ (x : Seen). x.state) c.self.view_is)
     (subst (λ (r : Resolved). Settles s r c.events_of.result) c.into_command-command.ensures
-    (draft-settles s command c.events_of.result c.self.invariant.linked.valid made c.in_ok-answerable.ensures c.events_of.ensures))
+    (draft-settles s command c.events_of.result c.self.invariant.linked.valid made c.in-Ok.ensures c.events_of.ensures))

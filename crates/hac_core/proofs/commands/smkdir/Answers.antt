@@ -8,7 +8,7 @@ use Rattle.hac_model.specs.declared.replies.Refusal.{Refusal}
 use Rattle.hac_model.specs.declared.resolved.Resolved.{Resolved}
 use Rattle.hac_model.specs.declared.resolved.Resolved.TheVariants.{Smkdir}
 use Rattle.hac_core.proofs.StandingLemmas.{denies-then}
-use Rattle.hac_core.proofs.resolving.semantic.Goals as goal
+use Rattle.hac_core.proofs.commands.smkdir.Goals as goal
 
 pub returns-in-Ok : goal.returns-in-Ok
 returns-in-Ok c =
