@@ -52,13 +52,21 @@ pub(crate) fn receive(alloc: Global, part: Part, wanted: Wanted) -> Result<Held,
 {
     let Wanted { level, outer } = wanted;
     let Level { ors, ands, nots } = level;
-    let negated = nots_part(alloc, nots, part)?;
-    let joined = join_and(alloc, ands, negated)?;
-    Ok(Held {
-        ors,
-        part: joined,
-        outer,
-    })
+    let part = and_nots(alloc, ands, nots, part)?;
+    Ok(Held { ors, part, outer })
+}
+
+/// A part behind `nots` `NOT`s, joined with what comes before its `AND`.
+fn and_nots(alloc: Global, ands: Option<Part>, nots: u64, part: Part) -> Result<Part, Memory>
+    ensures { IfOk result (λ joined. joined ≡ reading.join_and ands (reading.nots_part nots part)) }
+{
+    match nots_part(alloc, nots, part) {
+        Ok(negated) => join_and(alloc, ands, negated),
+        Err(memory) => {
+            drop(ands);
+            Err(memory)
+        }
+    }
 }
 
 /// Behind `AND`.
@@ -108,9 +116,14 @@ fn grouped(alloc: Global, part: Part, mut outer: Pile<Level>) -> Result<Option<H
     match outer.pop() {
         None => Ok(None),
         Some(level) => {
-            let group = group_part(part)?;
-            let held = receive(alloc, group, Wanted { level, outer })?;
-            Ok(Some(held))
+            let wanted = Wanted { level, outer };
+            match group_part(part) {
+                Ok(group) => Ok(Some(receive(alloc, group, wanted)?)),
+                Err(memory) => {
+                    drop(wanted);
+                    Err(memory)
+                }
+            }
         }
     }
 }
@@ -129,7 +142,11 @@ fn ungrouped(part: Part, mut outer: Pile<Level>) -> Option<Part>
 {
     match outer.pop() {
         None => Some(part),
-        Some(_level) => None,
+        Some(level) => {
+            drop(level);
+            drop(part);
+            None
+        }
     }
 }
 

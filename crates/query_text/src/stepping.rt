@@ -1,5 +1,5 @@
 //! What one byte more makes of what was read of a query.
-ghost use Rattle.std.specs.Prelude.{◌≡◌, ◌==◌, ◌∷◌, ◌++◌, [], if◌then◌else◌, option_and_then, IfOk};
+ghost use Rattle.std.specs.Prelude.{◌≡◌, ◌==◌, ◌∷◌, ◌++◌, [], if◌then◌else◌, option_and_then, Ok, Err, Some, IfOk, MatchResult};
 ghost use Rattle.std.specs.Option.{option_map};
 ghost use Rattle.hac_model.specs.Grammar as grammar;
 ghost use Rattle.hac_model.specs.QueryReading as reading;
@@ -105,7 +105,7 @@ fn operand_begins(
     ensures { IfOk result (λ next. next ≡ reading.operand_begins kind byte wanted) }
 {
     match kind {
-        ByteKind::Word => Ok(Some(Reader::Wants(Operand::Run(first_byte(alloc, byte)?), wanted))),
+        ByteKind::Word => wants(first_of_run(alloc, byte), wanted),
         ByteKind::Space => Ok(Some(Reader::Wants(Operand::Nothing, wanted))),
         ByteKind::Open => Ok(Some(Reader::Wants(Operand::Nothing, enter(wanted)?))),
         ByteKind::Brace => Ok(Some(Reader::Wants(Operand::Brace, wanted))),
@@ -127,7 +127,7 @@ fn run_step(
     ensures { IfOk result (λ next. next ≡ reading.run_step kind byte run wanted) }
 {
     match kind {
-        ByteKind::Word => Ok(Some(Reader::Wants(Operand::Run(with_byte(run, byte)?), wanted))),
+        ByteKind::Word => wants(longer_run(run, byte), wanted),
         ByteKind::Star => {
             let letters = lower_case(alloc, run.as_slice())?;
             received(alloc, Query::term(Term::Prefix(letters)), wanted)
@@ -191,7 +191,7 @@ fn brace_step(
     ensures { IfOk result (λ next. next ≡ reading.brace_step kind byte wanted) }
 {
     match kind {
-        ByteKind::Slash => Ok(Some(Reader::Wants(Operand::Path(first_byte(alloc, byte)?), wanted))),
+        ByteKind::Slash => wants(first_of_path(alloc, byte), wanted),
         _ => {
             drop(wanted);
             Ok(None)
@@ -212,8 +212,11 @@ fn path_step(
     match kind {
         ByteKind::EndBrace => received(alloc, Query::dir(Name::new(path.into_vec())), wanted),
         ByteKind::Backslash => Ok(Some(Reader::Wants(Operand::Escape(path), wanted))),
-        ByteKind::Control => Ok(None),
-        _ => Ok(Some(Reader::Wants(Operand::Path(with_byte(path, byte)?), wanted))),
+        ByteKind::Control => {
+            drop(wanted);
+            Ok(None)
+        }
+        _ => wants(longer_path(path, byte), wanted),
     }
 }
 
@@ -227,10 +230,11 @@ fn escape_step(
     ensures { IfOk result (λ next. next ≡ reading.escape_step kind byte path wanted) }
 {
     match kind {
-        ByteKind::EndBrace | ByteKind::Backslash => {
-            Ok(Some(Reader::Wants(Operand::Path(with_byte(path, byte)?), wanted)))
+        ByteKind::EndBrace | ByteKind::Backslash => wants(longer_path(path, byte), wanted),
+        _ => {
+            drop(wanted);
+            Ok(None)
         }
-        _ => Ok(None),
     }
 }
 
@@ -339,6 +343,43 @@ fn leaf_part(query: Query<Name>) -> Part
     ensures { result ≡ record { query = query; nesting = 0 } }
 {
     Part { query, nesting: 0 }
+}
+
+/// The reader that goes on with an operand, unless memory ran out over it.
+fn wants(operand: Result<Operand, Memory>, wanted: Wanted) -> Result<Option<Reader>, Memory>
+    ensures { MatchResult operand (λ operand. result ≡ Ok (Some (Reader.Wants operand wanted))) (λ memory. result ≡ Err memory) }
+{
+    match operand {
+        Ok(operand) => Ok(Some(Reader::Wants(operand, wanted))),
+        Err(memory) => {
+            drop(wanted);
+            Err(memory)
+        }
+    }
+}
+
+fn first_of_run(alloc: Global, byte: u8) -> Result<Operand, Memory>
+    ensures { IfOk result (λ operand. operand ≡ Operand.Run (byte ∷ [])) }
+{
+    Ok(Operand::Run(first_byte(alloc, byte)?))
+}
+
+fn longer_run(run: Text, byte: u8) -> Result<Operand, Memory>
+    ensures { IfOk result (λ operand. operand ≡ Operand.Run (run ++ byte ∷ [])) }
+{
+    Ok(Operand::Run(with_byte(run, byte)?))
+}
+
+fn first_of_path(alloc: Global, byte: u8) -> Result<Operand, Memory>
+    ensures { IfOk result (λ operand. operand ≡ Operand.Path (byte ∷ [])) }
+{
+    Ok(Operand::Path(first_byte(alloc, byte)?))
+}
+
+fn longer_path(path: Text, byte: u8) -> Result<Operand, Memory>
+    ensures { IfOk result (λ operand. operand ≡ Operand.Path (path ++ byte ∷ [])) }
+{
+    Ok(Operand::Path(with_byte(path, byte)?))
 }
 
 fn first_byte(alloc: Global, byte: u8) -> Result<Text, Memory>
