@@ -2,18 +2,30 @@
 //! ends with the number of the run's status.
 #![tactic(auto)]
 
+mod streams;
+
 use hac_disk::FileDisk;
 use hac_outside::{StdSink, StdSource};
 use hac_top::{Status, run};
 use std::process::ExitCode;
 use std::rt::Env;
-use std::{env, io};
+use std::env;
+use std::io::{self, ErrorKind};
+use streams::StandIns;
 
 fn main(rt: HostRuntime) -> ExitCode {
+    // Before anything else is opened: a store must not get the number of a closed standard stream.
+    let _stand_ins = StandIns::open(&rt);
+    let status = run_program(&rt);
+    tell_fault(&rt, status);
+    ExitCode::from(status.number())
+}
+
+fn run_program(rt: &HostRuntime) -> Status {
     let mut input = StdSource::new(rt.stdin());
     let mut output = StdSink::new(rt.stdout());
-    let mut disk = FileDisk::new(&rt);
-    let status = match program_words(&rt) {
+    let mut disk = FileDisk::new(rt);
+    match program_words(rt) {
         Ok(words) => run(
             rt.alloc(),
             words.as_slice(),
@@ -21,11 +33,10 @@ fn main(rt: HostRuntime) -> ExitCode {
             &mut output,
             &mut disk,
         ),
-        // Words that are no text, or for which memory ran out, are answered as no words are: by the usage.
+        Err(error) if error.kind() == ErrorKind::OutOfMemory => Status::Memory,
+        // Words that are no text are answered as no words are: by the usage.
         Err(_) => run(rt.alloc(), &[], &mut input, &mut output, &mut disk),
-    };
-    tell_fault(&rt, status);
-    ExitCode::from(status.number())
+    }
 }
 
 /// The words behind the program's own name.

@@ -3,18 +3,17 @@ ghost use Rattle.std.specs.Prelude.{◌≡◌};
 ghost use Rattle.hac_outside.specs.Causes.{HasCause};
 
 use super::disks::Disk;
+use super::locked::LockedFile;
 use hac_outside::Failed;
-use std::fs::{File, OpenFile, OpenOptions};
 use std::io::{self, ErrorKind};
-use std::os::unix::fs::FileExt;
-use std::path::Path;
 
-/// A disk over the file that `attach` opens. Each error of the system is a fault, and so is a call before a file
-/// is attached, and one on a range outside the file. `sync` is `fsync`.
+/// A disk over the file that `attach` opens and locks. A file that another run has open can't be attached, and one
+/// that is attached is let go of first. Each error of the system is a fault, and so is a call before a file is
+/// attached, and one on a range outside the file. `sync` is `fsync`.
 #[derive(Drop)]
 pub struct FileDisk<'a> {
     rt: &'a HostRuntime,
-    file: Option<File>,
+    file: Option<LockedFile>,
     faults: u64,
 }
 
@@ -67,80 +66,53 @@ impl Disk for FileDisk<'_> {
     ghost only_now = { λ disk c left. tt };
 
     fn attach(&mut self, name: &str, make: bool) -> Result<(), Failed> {
-        let opened = open(self.rt, name, make);
+        self.file = None;
+        let opened = LockedFile::open(self.rt, name, make);
         self.file = Some(self.answer(opened)?);
         Ok(())
     }
 
     fn len(&mut self) -> Result<u64, Failed> {
-        let outcome = file_len(&self.file);
+        let outcome = file_len(&mut self.file);
         self.answer(outcome)
     }
 
     fn read_at(&mut self, at: u64, into: &mut [u8]) -> Result<(), Failed> {
-        let outcome = read_range(&self.file, at, into);
+        let outcome = read_range(&mut self.file, at, into);
         self.answer(outcome)
     }
 
     fn write_at(&mut self, at: u64, bytes: &[u8]) -> Result<(), Failed> {
-        let outcome = write_range(&self.file, at, bytes);
+        let outcome = write_range(&mut self.file, at, bytes);
         self.answer(outcome)
     }
 
     fn sync(&mut self) -> Result<(), Failed> {
-        let outcome = sync_file(&self.file);
+        let outcome = sync_file(&mut self.file);
         self.answer(outcome)
     }
 }
 
 // The file, or an error where none is attached.
-fn attached(file: &Option<File>) -> io::Result<&File> {
+fn attached(file: &mut Option<LockedFile>) -> io::Result<&mut LockedFile> {
     match file {
         Some(file) => Ok(file),
         None => Err(io::Error::from(ErrorKind::NotFound)),
     }
 }
 
-fn file_len(file: &Option<File>) -> io::Result<u64> {
-    Ok(attached(file)?.metadata()?.len())
+fn file_len(file: &mut Option<LockedFile>) -> io::Result<u64> {
+    attached(file)?.len()
 }
 
-// A range that passes the end is an error.
-fn read_range(file: &Option<File>, at: u64, into: &mut [u8]) -> io::Result<()> {
-    attached(file)?.read_exact_at(into, at)
+fn read_range(file: &mut Option<LockedFile>, at: u64, into: &mut [u8]) -> io::Result<()> {
+    attached(file)?.read_at(at, into)
 }
 
-// So is a place behind the end, where the system would write and leave a hole.
-fn write_range(file: &Option<File>, at: u64, bytes: &[u8]) -> io::Result<()> {
-    let file = attached(file)?;
-    if at > file.metadata()?.len() {
-        return Err(io::Error::from(ErrorKind::InvalidInput));
-    }
-    file.write_all_at(bytes, at)
+fn write_range(file: &mut Option<LockedFile>, at: u64, bytes: &[u8]) -> io::Result<()> {
+    attached(file)?.write_at(at, bytes)
 }
 
-fn sync_file(file: &Option<File>) -> io::Result<()> {
-    attached(file)?.sync_all()
-}
-
-// Opens a file to read and write. One that may be made is made durable in its folder too, so that a crash
-// doesn't take its name away.
-fn open(rt: &HostRuntime, name: &str, make: bool) -> io::Result<File> {
-    let mut how = OpenOptions::new();
-    how.read(true).write(true).create(make);
-    let file = how.open(rt, name)?;
-    if make {
-        sync_folder(rt, name)?;
-    }
-    Ok(file)
-}
-
-// Syncs the folder of that name.
-fn sync_folder(rt: &HostRuntime, name: &str) -> io::Result<()> {
-    let here = Path::new(".");
-    let folder = match Path::new(name).parent() {
-        Some(folder) if !folder.as_str().is_empty() => folder,
-        _ => here,
-    };
-    File::open(rt, folder)?.sync_all()
+fn sync_file(file: &mut Option<LockedFile>) -> io::Result<()> {
+    attached(file)?.sync()
 }

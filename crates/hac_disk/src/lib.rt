@@ -6,6 +6,7 @@ mod calls;
 mod disks;
 mod files;
 mod fuse;
+mod locked;
 mod memory;
 mod parts;
 mod stable;
