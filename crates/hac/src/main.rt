@@ -7,10 +7,10 @@ mod streams;
 use hac_disk::FileDisk;
 use hac_outside::{StdSink, StdSource};
 use hac_top::{Status, run};
-use std::process::ExitCode;
-use std::rt::Env;
 use std::env;
 use std::io::{self, ErrorKind};
+use std::process::ExitCode;
+use std::rt::Env;
 use streams::StandIns;
 
 fn main(rt: HostRuntime) -> ExitCode {
