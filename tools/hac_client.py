@@ -461,12 +461,13 @@ class Progress:
         self._next = time.monotonic() + 1
         self._width = 0
 
-    def tell(self, doing: str, done: int, total: int) -> None:
+    def tell(self, doing: str, done: int, total: Optional[int] = None) -> None:
         now = time.monotonic()
         if not self._seen or now < self._next:
             return
         self._next = now + 0.1
-        self._write(f"{self._tool}: {doing}: {done:,} of {total:,}")
+        of = "" if total is None else f" of {total:,}"
+        self._write(f"{self._tool}: {doing}: {done:,}{of}")
 
     def end(self) -> None:
         if self._width:
