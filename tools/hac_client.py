@@ -173,6 +173,8 @@ class Hac:
         if is_silent(line) or b"\n" in line:
             raise ValueError(f"not a command: {line!r}")
         script = line + b"\n" + (body or b"")
+        if self._process.returncode is not None:
+            raise self._stopped()
         if self._sent + len(script) > MAX_SCRIPT:
             self._end()
             self._process = self._start()
