@@ -9,6 +9,7 @@ from __future__ import annotations
 
 import hashlib
 import json
+import os
 from dataclasses import dataclass, field
 from pathlib import Path
 from typing import Any, Dict, Optional, Tuple
@@ -45,6 +46,23 @@ class Directory:
     made: bool  # hac-sync made it, and removes it when it is empty.
 
 
+@dataclass(frozen=True)
+class Stamp:
+    """By what a store is known that nobody wrote to since."""
+
+    length: int
+    time: int
+    inode: int
+
+    @staticmethod
+    def of(store: Path) -> Optional[Stamp]:
+        try:
+            status = os.stat(store)
+        except FileNotFoundError:
+            return None
+        return Stamp(status.st_size, status.st_mtime_ns, status.st_ino)
+
+
 @dataclass
 class Folder:
     """What came from one folder. Paths are below the folder, and so below the place in the store."""
@@ -53,6 +71,7 @@ class Folder:
     files: Dict[bytes, Brought] = field(default_factory=dict)
     directories: Dict[bytes, Directory] = field(default_factory=dict)
     left_out: Dict[bytes, LeftOut] = field(default_factory=dict)
+    stamp: Optional[Stamp] = None  # The store's, where a run ended with all of this in it.
 
 
 @dataclass(frozen=True)
@@ -131,6 +150,7 @@ def _parsed(plain: Any) -> Record:
                 files={_bytes(path): Brought(*brought) for path, brought in folder["files"].items()},
                 directories={_bytes(path): Directory(*known) for path, known in folder["directories"].items()},
                 left_out={_bytes(path): LeftOut(*known) for path, known in folder["left_out"].items()},
+                stamp=Stamp(*folder["stamp"]) if folder["stamp"] else None,
             )
             for place, folder in plain["folders"].items()
         },
@@ -149,6 +169,7 @@ def _plain(record: Record) -> Any:
                 "left_out": {
                     _str(path): [known.reason, known.size, known.time] for path, known in folder.left_out.items()
                 },
+                "stamp": [folder.stamp.length, folder.stamp.time, folder.stamp.inode] if folder.stamp else None,
             }
             for place, folder in record.folders.items()
         },

@@ -5,18 +5,20 @@ from __future__ import annotations
 import importlib.machinery
 import importlib.util
 import os
+import signal
 import subprocess
 import sys
 import tempfile
+import traceback
 import unittest
 from pathlib import Path
 from types import ModuleType
-from typing import Dict, List, Optional
+from typing import Dict, List, NoReturn, Optional
 
 TOOLS = Path(__file__).resolve().parent.parent
 sys.path.insert(0, str(TOOLS))
 
-from hac_client import find_program  # noqa: E402
+from hac_client import find_program, run_tool  # noqa: E402
 
 HAC = find_program()
 
@@ -34,6 +36,52 @@ def load(tool: str) -> ModuleType:
     return sys.modules[name]
 
 
+class Run:
+    """A run of a tool in a process of its own, which is forked: to start Python takes longer than most runs."""
+
+    def __init__(self, tool: str, *words: object, hac: Optional[Path] = None) -> None:
+        module = load(tool)
+        self._words = [tool, *map(str, words)]
+        self._out, self._said = tempfile.TemporaryFile(), tempfile.TemporaryFile()
+        sys.stdout.flush()
+        sys.stderr.flush()
+        self.process = os.fork()
+        if self.process == 0:
+            self._become(module, hac or HAC)
+
+    def kill(self) -> None:
+        os.kill(self.process, signal.SIGKILL)
+
+    def ended(self) -> "subprocess.CompletedProcess[bytes]":
+        """Waits for its end."""
+        _, ended = os.waitpid(self.process, 0)
+        status = -os.WTERMSIG(ended) if os.WIFSIGNALED(ended) else os.WEXITSTATUS(ended)
+        with self._out, self._said:
+            self._out.seek(0)
+            self._said.seek(0)
+            return subprocess.CompletedProcess(self._words, status, self._out.read(), self._said.read())
+
+    def _become(self, module: ModuleType, hac: Path) -> NoReturn:
+        status = 1
+        try:
+            with open(os.devnull) as nothing:
+                os.dup2(nothing.fileno(), 0)
+            os.dup2(self._out.fileno(), 1)
+            os.dup2(self._said.fileno(), 2)
+            sys.stdout, sys.stderr = open(1, "w", encoding="utf-8"), open(2, "w", encoding="utf-8")
+            os.environ["HAC"] = str(hac)
+            sys.argv = self._words
+            run_tool(self._words[0], module.main)
+        except SystemExit as ended:
+            status = ended.code if isinstance(ended.code, int) else 1
+        except BaseException:
+            traceback.print_exc()
+        finally:
+            sys.stdout.flush()
+            sys.stderr.flush()
+            os._exit(status)
+
+
 class ToolTest(unittest.TestCase):
     """A test with an empty folder, in which its store lies."""
 
@@ -48,13 +96,7 @@ class ToolTest(unittest.TestCase):
     def run_tool(
         self, tool: str, *words: object, status: int = 0, hac: Optional[Path] = None
     ) -> "subprocess.CompletedProcess[bytes]":
-        ran = subprocess.run(
-            [sys.executable, TOOLS / tool, *map(str, words)],
-            stdin=subprocess.DEVNULL,
-            capture_output=True,
-            env={**os.environ, "HAC": str(hac or HAC)},
-            timeout=100,
-        )
+        ran = Run(tool, *words, hac=hac).ended()
         self.assertEqual(ran.returncode, status, (words, ran.stdout, ran.stderr))
         return ran
 
@@ -71,16 +113,28 @@ class ToolTest(unittest.TestCase):
     def tree(self, place: str = "/") -> Dict[str, str]:
         """What is below a place of the store: a directory's letter or a file's text as `cat` shows it, by path."""
         found: Dict[str, str] = {}
-        directories = [place]
-        for directory in directories:
-            for line in self.ask(f'ls "{directory}"')[:-1]:
-                path = f"{directory.rstrip('/')}/{line[2:]}"
-                found[path] = line[0]
-                if line[0] != "f":
-                    directories.append(path)
-        files = [path for path, letter in found.items() if letter == "f"]
-        replies = self.ask(*(f'cat "{path}"' for path in files))
-        found.update(zip(files, (reply[2:] for reply in replies[::2])))
+        with subprocess.Popen([HAC, self.store], stdin=subprocess.PIPE, stdout=subprocess.PIPE) as run:
+            assert run.stdin is not None and run.stdout is not None
+
+            def ask(line: str) -> List[str]:
+                run.stdin.write(line.encode("utf-8", "surrogateescape") + b"\n")
+                run.stdin.flush()
+                lines = []
+                while lines[-1:] != ["ok"]:
+                    line = run.stdout.readline().decode("utf-8", "surrogateescape")
+                    self.assertFalse(line == "" or line.startswith("no "), line)
+                    lines.append(line.rstrip("\n"))
+                return lines[:-1]
+
+            directories = [place]
+            for directory in directories:
+                for line in ask(f'ls "{directory}"'):
+                    path = f"{directory.rstrip('/')}/{line[2:]}"
+                    found[path] = line[0]
+                    if line[0] == "f":
+                        found[path] = ask(f'cat "{path}"')[0][2:]
+                    else:
+                        directories.append(path)
         return found
 
     def numbers(self) -> Dict[str, int]:

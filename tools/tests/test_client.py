@@ -108,8 +108,8 @@ class Replies(ToolTest):
                 for count in range(9):
                     self.assertTrue(run.put(b"/d/%d" % count, b"x" * 300).ok)
                 self.assertEqual(len(run.ls(b"/d").lines), 9)
-        # Three puts of 300 bytes and their lines are a script of less than 1,000.
-        self.assertEqual((self.made / "runs").read_text(), "run\n" * 4)
+        # Three puts of 300 bytes and their lines are a script of less than 1,000, four are more.
+        self.assertEqual((self.made / "runs").read_text(), "run\n" * 3)
 
     def test_a_store_is_made_whole(self) -> None:
         with Hac(self.store, make=True):

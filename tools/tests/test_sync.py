@@ -6,7 +6,6 @@ import json
 import os
 import random
 import shutil
-import signal
 import subprocess
 import sys
 import time
@@ -15,7 +14,7 @@ from pathlib import Path
 from typing import Dict, List
 from unittest.mock import patch
 
-from tests.support import HAC, TOOLS, ToolTest, load
+from tests.support import HAC, Run, ToolTest, load
 
 sync = load("hac-sync")
 
@@ -96,6 +95,22 @@ class WhatComes(SyncTest):
         self.write("f3", b"12345")
         self.sync()
         self.assertEqual(self.store.stat().st_size, before + 15 + 5 + 7)
+
+    def test_the_store_is_opened_only_where_something_changed(self) -> None:
+        self.write("a")
+        self.write("b\x01")
+        self.write("c", b"\0")
+        told = self.sync("/x")
+        no_hac = self.script("no-hac", "exit 5")
+        words = (self.folder, self.store, "/x")
+        ran = self.run_tool("hac-sync", *words, hac=no_hac)
+        self.assertEqual(ran.stdout.decode().splitlines()[:-1], told[:-1])
+        self.assertIn(b"1 files in the store: 0 new, 0 changed, 0 renamed, 0 removed; 2 left out", ran.stdout)
+        self.run_tool("hac-sync", *words, "--check", hac=no_hac, status=5)
+        self.ask("rm /x/a")
+        self.run_tool("hac-sync", *words, hac=no_hac, status=5)
+        self.sync("/x")
+        self.assertEqual(self.tree(), {"/x": "d", "/x/a": "an apple\\n"})
 
     def test_changed_within_the_same_time(self) -> None:
         file = self.folder / "a"
@@ -221,15 +236,21 @@ class WhatCannotCome(SyncTest):
         self.assertEqual(self.tree()["/good"], "an apple\\n")
 
     def test_more_texts_than_a_store_may_have(self) -> None:
-        for count in range(65):
-            self.write(f"f{count:02}", b"%02d" % count + b"x" * 1_048_574)
-        self.write("z", b"")
-        lines = self.sync(status=1)
+        """A stand-in for hac has room for texts of ten bytes alone. What is as long as a refused one isn't sent."""
+        for count, length in enumerate((5, 20, 30, 15, 10)):
+            self.write(f"f{count}", b"x" * length)
+        self.store.touch()
+        hac = self.made / "small-hac"
+        hac.write_text(_SMALL.format(python=sys.executable, sent=str(self.made / "sent")))
+        hac.chmod(0o755)
+        ran = self.run_tool("hac-sync", self.folder, self.store, status=1, hac=hac)
         reason = "limit texts (all texts of the store together have at most 67,108,864 bytes)"
-        self.assertEqual(lines[0], f"refused: f64: {reason}")
-        self.assertIn("65 files in the store: 65 new", lines[-1])
-        (self.folder / "f00").unlink()
-        self.assertIn("65 files in the store: 1 new, 0 changed, 0 renamed, 1 removed", self.sync()[-1])
+        self.assertEqual(
+            ran.stdout.decode().splitlines(),
+            [f"refused: f{count}: {reason}" for count in (1, 2, 3)]
+            + ["2 files in the store: 2 new, 0 changed, 0 renamed, 0 removed; 0 left out, 3 refused"],
+        )
+        self.assertEqual((self.made / "sent").read_text(), "5\n20\n15\n10\n")
 
     def test_what_cannot_be_read_stays(self) -> None:
         self.write("a", b"one")
@@ -469,16 +490,10 @@ class Stops(SyncTest):
             before = self.wanted()
             self.change(chance, 10)
             after = self.wanted()
-            started = subprocess.Popen(
-                [sys.executable, TOOLS / "hac-sync", self.folder, self.store],
-                stdin=subprocess.DEVNULL,
-                stdout=subprocess.DEVNULL,
-                env={**os.environ, "HAC": str(HAC)},
-            )
-            # The first tenths of the time go by before a command is sent.
-            time.sleep(took * (0.2 + 1.0 * moment / MOMENTS))
-            started.send_signal(signal.SIGKILL)
-            cut_short += started.wait() != 0
+            started = Run("hac-sync", self.folder, self.store)
+            time.sleep(took * (0.1 + moment / MOMENTS))
+            started.kill()
+            cut_short += started.ended().returncode != 0
             self.sync()
             tree = self.tree()
             self.assertEqual(tree.pop("/mine"), "x")
@@ -492,12 +507,7 @@ class Stops(SyncTest):
         for replies in range(0, 60, 3):
             status, said = ((5, "hac: disk fault"), (7, "hac: out of memory"), (3, "hac: read fault"))[replies % 9 // 3]
             self.change(chance, 10)
-            ran = subprocess.run(
-                [sys.executable, TOOLS / "hac-sync", self.folder, self.store],
-                stdin=subprocess.DEVNULL,
-                capture_output=True,
-                env={**os.environ, "HAC": str(self.ends_after(replies, status, said))},
-            )
+            ran = Run("hac-sync", self.folder, self.store, hac=self.ends_after(replies, status, said)).ended()
             if ran.returncode != 0:
                 self.assertEqual(ran.returncode, status)
                 self.assertIn(f"hac ended with status {status} ({said}): ".encode(), ran.stderr)
@@ -542,3 +552,19 @@ class TheRecord(SyncTest):
         self.write("b", b"pear")
         self.sync()
         self.assertEqual(self.tree(), {"/b": "pear"})
+
+
+_SMALL = """\
+#!{python}
+import sys
+
+for line in sys.stdin.buffer:
+    words = line.split()
+    if words[0] == b"put":
+        sys.stdin.buffer.read(int(words[2]))
+        with open({sent!r}, "a") as sent:
+            print(int(words[2]), file=sent)
+        print("ok" if int(words[2]) <= 10 else "no limit texts", flush=True)
+    else:
+        print("ok", flush=True)
+"""
