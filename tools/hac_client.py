@@ -1,0 +1,506 @@
+"""Speaks with a running hac: a command and its bytes go in, its reply up to `ok` or `no` comes back.
+
+The tools beside this file do everything through it, so what hac promises holds of what they store. It knows how hac
+is found, how words and texts are spelled, and what a refusal and an ending mean in words. It knows no folder, no
+mail and no terminal.
+"""
+
+from __future__ import annotations
+
+import argparse
+import fcntl
+import os
+import re
+import signal
+import subprocess
+import sys
+import time
+from dataclasses import dataclass
+from pathlib import Path
+from types import TracebackType
+from typing import Callable, Dict, List, NoReturn, Optional, Tuple, Type
+
+TOP = Path(__file__).resolve().parent.parent
+
+MAX_NAME = 255
+MAX_TEXT = 1_048_576
+MAX_SCRIPT = 268_435_456
+
+# What each cause of a refusal means. The key is its first word or, behind `limit`, two.
+CAUSES: Dict[str, str] = {
+    "bad-line": "the line isn't a command, or its words are spelled wrongly",
+    "short-put": "the script ended before the bytes of a put",
+    "bad-name": "a path is empty, or has a byte that no name may have",
+    "bad-query": "the query isn't one; the number is the place of its first wrong byte",
+    "no-path": "nothing is at this path",
+    "not-dir": "a file is at this path, where a directory is wanted",
+    "root": "the root can't be removed or moved, and gets no query",
+    "not-file": "a directory is at this path, where a file is wanted",
+    "not-semantic": "the directory at this path has no query",
+    "exists": "something is already at this path",
+    "under": "a directory can't be moved into itself",
+    "not-empty": "the directory at this path isn't empty",
+    "referenced": "the query of this directory names the one that was to be removed",
+    "not-linked": "the file isn't a link of that directory",
+    "already": "the file is already a permanent link of that directory",
+    "no-mark": "the file has no mark in that directory",
+    "cycle": "the directory would depend on itself through this one",
+    "limit line": "a line has at most 65,536 bytes",
+    "limit name": "a name has at most 255 bytes",
+    "limit text": "a text has at most 1,048,576 bytes",
+    "limit query": "a query has at most 1,024 bytes",
+    "limit terms": "a query has at most 64 words and directories",
+    "limit nesting": "a query has at most 32 parentheses and NOTs around a word",
+    "limit texts": "all texts of the store together have at most 67,108,864 bytes",
+    "limit dirs": "a store has at most 10,000 directories",
+    "limit semantics": "a store has at most 1,000 semantic directories",
+    "limit path": "a path has at most 64 names",
+    "limit items": "a store has at most 65,536 files",
+    "limit numbers": "a store has used up its numbers for new entries",
+    "limit store": "the store file has its greatest length",
+}
+
+_STORED = "Every command that was answered is in the store, and at most one more."
+
+# How hac ends, other than well: what happened, and what that means.
+_ENDINGS: Dict[int, str] = {
+    2: "it doesn't take the store's name, which must be UTF-8",
+    3: f"its commands couldn't be read any further. {_STORED}",
+    4: f"its replies couldn't be written any further. {_STORED}",
+    5: "the store can't be opened, read, written or synced: the disk may be full or failing, the file may not be "
+    f"yours to write, or another run may have it open. {_STORED}",
+    6: "the file isn't a store. Nothing was written to it.",
+    7: f"memory ran out. {_STORED}",
+    9: f"it got more than a script may have. {_STORED}",
+    10: "the file is a store already. Nothing was written to it.",
+}
+
+
+class ToolError(Exception):
+    """Why a tool can't go on, in words for its user."""
+
+    status = 1
+
+
+class Stopped(ToolError):
+    """hac ended before its commands were answered."""
+
+    def __init__(self, store: Path, status: int, said: str) -> None:
+        super().__init__(store, status, said)
+        self.store = store
+        self.ended = status
+        self.said = said
+        self.status = status if status > 0 else 128 - status
+
+    def __str__(self) -> str:
+        store = shown(os.fsencode(self.store))
+        if self.ended < 0:
+            return f"{store}: hac was ended by {_signal_name(-self.ended)}. {_STORED}"
+        if self.ended == 5 and not self.store.exists():
+            return f"{store}: hac ended with status 5: there is no such file"
+        words = _ENDINGS.get(self.ended, f"it doesn't say why. {_STORED}")
+        said = f" ({self.said})" if self.said else ""
+        return f"{store}: hac ended with status {self.ended}{said}: {words}"
+
+
+class InUse(ToolError):
+    """Another tool has the store open. The status is hac's for a store that can't be opened."""
+
+    status = 5
+
+    def __init__(self, store: Path) -> None:
+        super().__init__(f"{shown(os.fsencode(store))}: another tool has this store open; nothing was changed")
+
+
+@dataclass(frozen=True)
+class Reply:
+    """The reply to a command: its data lines, or what follows `no `."""
+
+    lines: Tuple[bytes, ...] = ()
+    refusal: Optional[bytes] = None
+
+    @property
+    def ok(self) -> bool:
+        return self.refusal is None
+
+    @property
+    def reason(self) -> str:
+        """The refusal and what it means."""
+        return "" if self.refusal is None else f"{shown(self.refusal)} ({meaning(self.refusal)})"
+
+    @property
+    def text(self) -> bytes:
+        """The text that `cat` shows."""
+        return unspelled(self.lines[0][2:])
+
+
+class Hac:
+    """A run of hac on a store. While it lasts no other tool has the store.
+
+    The lock lies in a file beside the store. The program holds it too, so that after a tool was killed the next one
+    waits until that program has ended.
+    """
+
+    def __init__(self, store: Path, *, make: bool = False, wait: float = 10.0) -> None:
+        """Opens a store. Where `make` is given and there is no file, makes it."""
+        self.store = store
+        self._program = find_program()
+        self._lock = _locked(store, wait)
+        try:
+            if make and not store.exists():
+                _make_store(self._program, store)
+            self._process = self._start()
+        except BaseException:
+            self._unlock()
+            raise
+
+    def __enter__(self) -> Hac:
+        return self
+
+    def __exit__(
+        self, kind: Optional[Type[BaseException]], error: Optional[BaseException], trace: Optional[TracebackType]
+    ) -> None:
+        try:
+            self._end()
+        except Stopped:
+            if kind is None:
+                raise
+        finally:
+            self._unlock()
+
+    def ask(self, line: bytes, body: Optional[bytes] = None) -> Reply:
+        """The reply to a command. A body's bytes go behind the line, whose last word is their number."""
+        if is_silent(line) or b"\n" in line:
+            raise ValueError(f"not a command: {line!r}")
+        script = line + b"\n" + (body or b"")
+        if self._process.returncode is not None:
+            raise self._stopped()
+        if self._sent + len(script) > MAX_SCRIPT:
+            self._end()
+            self._process = self._start()
+        self._sent += len(script)
+        assert self._process.stdin is not None
+        try:
+            self._process.stdin.write(script)
+            self._process.stdin.flush()
+        except BrokenPipeError:
+            pass  # The replies end too, and then its status tells why.
+        return self._reply()
+
+    def put(self, path: bytes, text: bytes) -> Reply:
+        return self.ask(b"put %s %d" % (word(path), len(text)), text)
+
+    def cat(self, path: bytes) -> Reply:
+        return self.ask(b"cat " + word(path))
+
+    def ls(self, path: bytes) -> Reply:
+        return self.ask(b"ls " + word(path))
+
+    def sls(self, path: bytes) -> Reply:
+        return self.ask(b"sls " + word(path))
+
+    def mkdir(self, path: bytes) -> Reply:
+        return self.ask(b"mkdir " + word(path))
+
+    def rmdir(self, path: bytes) -> Reply:
+        return self.ask(b"rmdir " + word(path))
+
+    def rm(self, path: bytes) -> Reply:
+        return self.ask(b"rm " + word(path))
+
+    def mv(self, path: bytes, to: bytes) -> Reply:
+        return self.ask(b"mv %s %s" % (word(path), word(to)))
+
+    def index(self) -> Reply:
+        return self.ask(b"index")
+
+    def make_directories(self, path: bytes) -> Reply:
+        """Makes each directory on a path that isn't there yet. The reply is that to the last one."""
+        reply = self.ls(path)
+        if reply.ok or not (reply.refusal or b"").startswith(b"no-path"):
+            return reply
+        made = b""
+        for name in names_of(path):
+            made += b"/" + name
+            reply = self.mkdir(made)
+            if not reply.ok and reply.refusal != b"exists " + made:
+                return reply
+        return self.ls(path)
+
+    def _start(self) -> subprocess.Popen:
+        self._sent = 0
+        return subprocess.Popen(
+            [os.fsencode(self._program), b"--", os.fsencode(self.store)],
+            stdin=subprocess.PIPE,
+            stdout=subprocess.PIPE,
+            stderr=subprocess.PIPE,
+            pass_fds=() if self._lock is None else (self._lock,),
+            start_new_session=True,  # A Control-C at the terminal is the tool's, which ends the program in its own way.
+        )
+
+    def _reply(self) -> Reply:
+        assert self._process.stdout is not None
+        lines: List[bytes] = []
+        while True:
+            line = self._process.stdout.readline()
+            if not line.endswith(b"\n"):
+                raise self._stopped()
+            if line == b"ok\n":
+                return Reply(tuple(lines))
+            if line.startswith(b"no ") and not lines:
+                return Reply(refusal=line[3:-1])
+            lines.append(line[:-1])
+
+    def _stopped(self) -> Stopped:
+        status, said = self._wait()
+        return Stopped(self.store, status, said)
+
+    def _end(self) -> None:
+        """Ends the run. Its status says whether all went well."""
+        status, said = self._wait()
+        if status not in (0, 1):
+            raise Stopped(self.store, status, said)
+
+    def _wait(self) -> Tuple[int, str]:
+        process = self._process
+        assert process.stdin is not None and process.stdout is not None and process.stderr is not None
+        try:
+            process.stdin.close()
+        except BrokenPipeError:
+            pass
+        if process.returncode is None:
+            process.stdout.read()
+            self._said = process.stderr.read().decode("utf-8", "replace").strip()
+            process.stdout.close()
+            process.stderr.close()
+        return process.wait(), self._said
+
+    def _unlock(self) -> None:
+        if self._lock is not None:
+            os.close(self._lock)
+            self._lock = None
+
+
+# How the program is found, and a store locked and made.
+
+
+def find_program() -> Path:
+    """The program that HAC names, or the one that ./hac at the top of the repository proves and builds."""
+    given = os.environ.get("HAC")
+    if given:
+        if not os.access(given, os.X_OK) or os.path.isdir(given):
+            raise ToolError(f"HAC names no program: {given}")
+        return Path(given).absolute()
+    try:
+        ended = subprocess.run([TOP / "hac"], stdin=subprocess.DEVNULL, stdout=subprocess.DEVNULL)
+    except OSError as error:
+        raise ToolError(f"{TOP / 'hac'} can't be run: {error.strerror}") from error
+    if ended.returncode != 2:
+        raise ToolError(f"{TOP / 'hac'} didn't build the program: it ended with status {ended.returncode}")
+    return TOP / "crates/hac/out/hac"
+
+
+def store_at(name: str) -> Path:
+    """Where the store of this name lies, behind any symbolic links. What belongs to it lies beside it."""
+    return Path(os.path.realpath(name))
+
+
+def _locked(store: Path, wait: float) -> Optional[int]:
+    """A lock on the store, or none where no file can be made beside it."""
+    try:
+        lock = os.open(f"{os.fspath(store)}.lock", os.O_RDWR | os.O_CREAT | os.O_CLOEXEC, 0o666)
+    except OSError:
+        return None
+    until = time.monotonic() + wait
+    while True:
+        try:
+            fcntl.flock(lock, fcntl.LOCK_EX | fcntl.LOCK_NB)
+            return lock
+        except OSError:
+            if time.monotonic() >= until:
+                os.close(lock)
+                raise InUse(store) from None
+            time.sleep(0.02)
+
+
+def _make_store(program: Path, store: Path) -> None:
+    """Makes a store where there is no file: whole or not at all, and never over another file."""
+    new = store.with_name(f".{store.name}.new")
+    try:
+        if new.exists():
+            new.unlink()
+        ended = subprocess.run(
+            [os.fsencode(program), b"--new", b"--", os.fsencode(new)], stdin=subprocess.DEVNULL, capture_output=True
+        )
+        if ended.returncode != 0:
+            raise Stopped(store, ended.returncode, ended.stderr.decode("utf-8", "replace").strip())
+        os.link(new, store)
+        new.unlink()
+        sync_folder(store.parent)
+    except OSError as error:
+        raise ToolError(f"no store can be made at {shown(os.fsencode(store))}: {error.strerror}") from error
+
+
+def sync_folder(folder: Path) -> None:
+    """Brings the names in a folder to the disk."""
+    descriptor = os.open(folder, os.O_RDONLY)
+    try:
+        os.fsync(descriptor)
+    finally:
+        os.close(descriptor)
+
+
+def write_whole(path: Path, content: bytes) -> None:
+    """Writes a file so that at any moment it has its old content or the new one."""
+    new = path.with_name(path.name + ".new")
+    with open(new, "wb") as file:
+        file.write(content)
+        file.flush()
+        os.fsync(file.fileno())
+    os.replace(new, path)
+    sync_folder(path.parent)
+
+
+# How words, paths and texts are spelled.
+
+
+def word(path: bytes) -> bytes:
+    """A path as one word of a line."""
+    return b'"' + path.replace(b"\\", b"\\\\").replace(b'"', b'\\"') + b'"'
+
+
+def is_silent(line: bytes) -> bool:
+    """The line is blank or a comment, and has no reply."""
+    return not line.strip(b" ") or line.startswith(b"#")
+
+
+def names_of(path: bytes) -> List[bytes]:
+    """The names on a path, as hac reads it: empty parts and `.` are dropped, `..` removes the name before it."""
+    names: List[bytes] = []
+    for part in path.split(b"/"):
+        if part == b"..":
+            del names[-1:]
+        elif part not in (b"", b"."):
+            names.append(part)
+    return names
+
+
+def joined(directory: bytes, name: bytes) -> bytes:
+    """The path of an entry of a directory."""
+    return directory.rstrip(b"/") + b"/" + name
+
+
+def cut(name: bytes, length: int) -> bytes:
+    """The beginning of a name with at most so many bytes, which doesn't end within a sign of UTF-8."""
+    if len(name) <= length:
+        return name
+    while length > 0 and name[length] & 0xC0 == 0x80:
+        length -= 1
+    return name[:length]
+
+
+def name_fault(name: bytes) -> Optional[str]:
+    """Why a name can't stand in a store, if it can't."""
+    if len(name) > MAX_NAME:
+        return "its name has more than 255 bytes"
+    if any(byte < 32 or byte in (47, 127) for byte in name) or name in (b"", b".", b".."):
+        return "its name has a byte that no name in a store may have"
+    return None
+
+
+_ESCAPE = re.compile(rb"\\(?:x([0-9a-fA-F]{2})|(.))", re.DOTALL)
+_ESCAPED = {b"n": b"\n", b"t": b"\t", b"\\": b"\\"}
+
+
+def unspelled(spelled: bytes) -> bytes:
+    """The text that is spelled so, as `cat` shows it and `write` takes it."""
+    if b"\\\\" not in spelled and b"\\x" not in spelled:
+        return spelled.replace(b"\\n", b"\n").replace(b"\\t", b"\t")
+    return _ESCAPE.sub(lambda found: bytes([int(found[1], 16)]) if found[1] else _ESCAPED[found[2]], spelled)
+
+
+def shown(name: bytes) -> str:
+    """A name as a person may see it: bytes and signs that a terminal might obey are spelled out."""
+    text = name.decode("utf-8", "backslashreplace")
+    return "".join(sign if sign.isprintable() else sign.encode("unicode_escape").decode("ascii") for sign in text)
+
+
+def meaning(refusal: bytes) -> str:
+    """What a refusal means, in words."""
+    parts = refusal.decode("ascii", "replace").split(" ")
+    key = " ".join(parts[:2]) if parts[0] == "limit" else parts[0]
+    return CAUSES.get(key, "no page of the manual has this refusal")
+
+
+def _signal_name(number: int) -> str:
+    try:
+        return f"the signal {signal.Signals(number).name}"
+    except ValueError:
+        return f"the signal {number}"
+
+
+# How a tool runs and tells.
+
+
+class Words(argparse.ArgumentParser):
+    """Reads a tool's words. Its help is the tool's page in docs/tools.md, whose first line is the usage."""
+
+    def __init__(self, page: str) -> None:
+        usage = page.splitlines()[0]
+        super().__init__(prog=usage.split(" ")[1], usage=usage[len("usage: ") :], allow_abbrev=False)
+        self._page = page
+
+    def format_help(self) -> str:
+        return self._page
+
+
+class Progress:
+    """A line at a terminal that says how far long work is. It stays away for the first second."""
+
+    def __init__(self, tool: str) -> None:
+        self._tool = tool
+        self._seen = sys.stderr.isatty()
+        self._next = time.monotonic() + 1
+        self._width = 0
+
+    def tell(self, doing: str, done: int, total: Optional[int] = None) -> None:
+        now = time.monotonic()
+        if not self._seen or now < self._next:
+            return
+        self._next = now + 0.1
+        of = "" if total is None else f" of {total:,}"
+        self._write(f"{self._tool}: {doing}: {done:,}{of}")
+
+    def end(self) -> None:
+        if self._width:
+            self._write("")
+            self._width = 0
+
+    def _write(self, line: str) -> None:
+        sys.stderr.write("\r" + line.ljust(self._width) + ("" if line else "\r"))
+        sys.stderr.flush()
+        self._width = len(line)
+
+
+def run_tool(tool: str, main: Callable[[], int]) -> NoReturn:
+    """Runs a tool and ends with its status: 0 well, 1 with something refused, as hac did where that ended."""
+    for stream in (sys.stdout, sys.stderr):
+        stream.reconfigure(errors="backslashreplace")
+    try:
+        status = main()
+        sys.stdout.flush()
+    except ToolError as error:
+        print(f"{tool}: {error}", file=sys.stderr)
+        status = error.status
+    except KeyboardInterrupt:
+        print(f"\n{tool}: stopped; what was done is in the store, and the next run goes on", file=sys.stderr)
+        status = 128 + signal.SIGINT
+    except BrokenPipeError:
+        # Nobody reads on. What is left in the buffer must not raise this again at the end.
+        os.dup2(os.open(os.devnull, os.O_WRONLY), sys.stdout.fileno())
+        status = 128 + signal.SIGPIPE
+    except OSError as error:
+        name = f"{shown(os.fsencode(error.filename))}: " if isinstance(error.filename, (str, bytes)) else ""
+        print(f"{tool}: {name}{error.strerror or error}", file=sys.stderr)
+        status = 1
+    sys.exit(status)

@@ -1,0 +1,53 @@
+"""Each tool's --help is its page in docs/tools.md, and each tool runs as it stands in the folder."""
+
+from __future__ import annotations
+
+import ast
+import subprocess
+import sys
+import textwrap
+import unittest
+from pathlib import Path
+
+from tests.support import TOOLS
+
+NAMES = ("hac-shell", "hac-sync", "hac-mail", "hac-view")
+
+
+class Pages(unittest.TestCase):
+    def test_help_is_the_page(self) -> None:
+        pages = (TOOLS.parent / "docs/tools.md").read_text()
+        for tool in NAMES:
+            with self.subTest(tool=tool):
+                ran = subprocess.run([TOOLS / tool, "--help"], stdin=subprocess.DEVNULL, capture_output=True)
+                self.assertEqual((ran.returncode, ran.stderr), (0, b""))
+                page = textwrap.indent(ran.stdout.decode(), "    ", lambda line: line.strip() != "")
+                self.assertIn(f"## {tool}: ", pages)
+                self.assertIn(f"\n\n{page}\n", pages)
+
+    def test_wrong_words(self) -> None:
+        for tool in NAMES:
+            with self.subTest(tool=tool):
+                ran = subprocess.run([TOOLS / tool, "--nonsense"], stdin=subprocess.DEVNULL, capture_output=True)
+                self.assertEqual((ran.returncode, ran.stdout), (2, b""))
+                self.assertTrue(ran.stderr.startswith(f"usage: {tool} ".encode()))
+
+    def test_python_3_8_reads_them(self) -> None:
+        files = [TOOLS / tool for tool in NAMES] + sorted(TOOLS.glob("*.py")) + sorted((TOOLS / "tests").glob("*.py"))
+        for file in files:
+            with self.subTest(file=file.name):
+                ast.parse(file.read_text(), feature_version=(3, 8))
+
+    def test_nothing_but_the_standard_library(self) -> None:
+        if sys.version_info < (3, 10):
+            self.skipTest("this Python doesn't list its library")
+        own = {path.stem for path in TOOLS.glob("*.py")}
+        for file in [TOOLS / tool for tool in NAMES] + sorted(TOOLS.glob("*.py")):
+            for node in ast.walk(ast.parse(file.read_text())):
+                names = []
+                if isinstance(node, ast.Import):
+                    names = [alias.name for alias in node.names]
+                elif isinstance(node, ast.ImportFrom):
+                    names = [node.module or ""]
+                for name in names:
+                    self.assertIn(name.partition(".")[0], own | set(sys.stdlib_module_names), f"{file.name}: {name}")

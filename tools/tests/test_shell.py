@@ -1,0 +1,294 @@
+"""hac-shell at a terminal: typed keys, completed lines, and the caret under the byte of a bad query."""
+
+from __future__ import annotations
+
+import fcntl
+import os
+import pty
+import re
+import select
+import struct
+import subprocess
+import sys
+import termios
+import time
+import unittest
+from pathlib import Path
+from typing import Dict, List, Optional
+
+from tests.support import HAC, TOOLS, ToolTest, load
+
+from hac_client import Hac, Reply
+
+shell = load("hac-shell")
+
+PROMPT = "store:/> "
+COLUMNS = 80
+
+
+class Terminal:
+    """A session at a terminal, whose keys are typed here."""
+
+    def __init__(self, words: List[str], environment: Dict[str, str]) -> None:
+        self.process, self.keys = pty.fork()
+        if self.process == 0:
+            os.execve(sys.executable, [sys.executable, str(TOOLS / "hac-shell"), *words], environment)
+        fcntl.ioctl(self.keys, termios.TIOCSWINSZ, struct.pack("HHHH", 24, COLUMNS, 0, 0))
+
+    def until(self, ending: str, seconds: float = 30) -> str:
+        """What is shown up to this ending."""
+        seen = b""
+        until = time.monotonic() + seconds
+        while not seen.endswith(ending.encode()):
+            if not select.select([self.keys], [], [], max(0, until - time.monotonic()))[0]:
+                raise AssertionError(f"{ending!r} doesn't come, but {seen!r}")
+            try:
+                piece = os.read(self.keys, 65536)
+            except OSError:
+                piece = b""
+            if not piece:
+                raise AssertionError(f"the session ended with {seen!r}")
+            seen += piece
+        return seen.decode("utf-8", "replace").replace("\r\n", "\n")
+
+    def typed(self, keys: str) -> str:
+        """What is shown when a line was typed, from its echo to the next prompt."""
+        os.write(self.keys, keys.encode("utf-8", "surrogateescape") + b"\n")
+        return self.until(PROMPT)[: -len(PROMPT)]
+
+    def end(self, keys: str = "\x04") -> int:
+        """The status with which the session ends behind these keys."""
+        os.write(self.keys, keys.encode())
+        while True:
+            try:
+                if not os.read(self.keys, 65536):
+                    break
+            except OSError:
+                break
+        _, ended = os.waitpid(self.process, 0)
+        os.close(self.keys)
+        self.process = 0
+        return os.WEXITSTATUS(ended)
+
+
+class Session(ToolTest):
+    def begin(self, *words: str, hac: Optional[Path] = None, **environment: str) -> Terminal:
+        home = self.made / "home"
+        home.mkdir(exist_ok=True)
+        given = {
+            **{name: value for name, value in os.environ.items() if name not in ("VISUAL", "EDITOR", "PAGER", "COLUMNS")},
+            "HAC": str(hac or HAC),
+            "HOME": str(home),
+            "TERM": "dumb",
+            "INPUTRC": "/dev/null",
+            "PYTHONIOENCODING": "utf-8",
+            "LC_ALL": "C.UTF-8",
+            **environment,
+        }
+        terminal = Terminal([*words, str(self.store)], given)
+        self.addCleanup(lambda: terminal.process and terminal.end("\x03\x15\x04"))
+        return terminal
+
+    def begun(self, *lines: str, **environment: str) -> Terminal:
+        """A session on a new store, in which these commands were done."""
+        self.make_store(*lines)
+        terminal = self.begin(**environment)
+        terminal.until(PROMPT)
+        return terminal
+
+    def test_commands(self) -> None:
+        terminal = self.begun("mkdir /a", "write /a/x apple\\nx\\x1b[31m")
+        self.assertEqual(terminal.typed("ls /a"), "ls /a\nf x\nok\n")
+        self.assertEqual(terminal.typed("cat /a/x"), "cat /a/x\n= apple\\nx\\x1b[31m\nok\n")
+        self.assertEqual(terminal.typed("rm /a"), "rm /a\nno not-file /a\n")
+        self.assertEqual(terminal.typed("fly"), "fly\nno bad-line\n")
+        self.assertEqual(terminal.typed(""), "\n")
+        self.assertEqual(terminal.typed("# note"), "# note\n")
+        self.assertEqual(terminal.typed("index"), "index\nok\n")
+        self.assertIn("use `edit PATH`", terminal.typed('"put" /x 3'))
+        self.assertEqual(terminal.typed("ls"), "ls\nd a\nok\n")
+        self.assertEqual(terminal.end(), 0)
+
+    def test_line_editing_and_history(self) -> None:
+        terminal = self.begun("mkdir /a")
+        self.assertTrue(terminal.typed("l /\x01\x06s").endswith("\nd a\nok\n"))
+        self.assertTrue(terminal.typed("lx\x7fs /a").endswith("\nok\n"))
+        self.assertTrue(terminal.typed("write /h apple").endswith("\nok\n"))
+        self.assertEqual(terminal.end("exit\n"), 0)
+        terminal = self.begin()
+        terminal.until(PROMPT)
+        terminal.typed("rm /h")
+        self.assertEqual(terminal.typed("\x10\x10\x10").splitlines()[-1], "ok")  # exit, write: two above `rm /h`
+        self.assertEqual(self.home_history()[-1], "write /h apple")
+        self.assertEqual(terminal.end("quit\n"), 0)
+        self.assertEqual(self.ask("cat /h"), ["= apple", "ok"])
+
+    def home_history(self) -> List[str]:
+        return (self.made / "home/.hac_history").read_text().splitlines()[:-1]
+
+    def test_completion(self) -> None:
+        terminal = self.begun("mkdir /notes", 'mkdir "/notes/to do"', 'write "/notes/to do/x" apple', "write /notes/monday pear")
+        self.assertTrue(terminal.typed("sforg\t/a /b").splitlines()[0].startswith("sforget /a /b"))
+        self.assertTrue(terminal.typed("cat /no\tmo\t").endswith("= pear\nok\n"))
+        self.assertTrue(terminal.typed('ls "/notes/t\t"').endswith("f x\nok\n"))
+        self.assertTrue(terminal.typed("ls /notes/t\t\"").endswith("f x\nok\n"))
+        self.assertTrue(terminal.typed('cat "/no\tto\tx\t').endswith("= apple\nok\n"))
+        self.assertTrue(terminal.typed("find {/no\t} AND pear").endswith("\nok\n"))
+
+    def test_the_caret(self) -> None:
+        """Each mistake of the page on queries, and the same line with a caret under the byte that is named."""
+        terminal = self.begun()
+        page = (Path(__file__).parents[2] / "docs/queries.md").read_text().partition("## When a query is refused")[2]
+        examples = re.findall(r"^    (\w.*)\n    ( *\^ no bad-query \d+)$", page, re.MULTILINE)
+        self.assertGreater(len(examples), 10)
+        for line, marked in examples:
+            with self.subTest(line=line):
+                self.assertEqual(terminal.typed(line), f"{line}\n{' ' * len(PROMPT)}{marked}\n")
+
+    def test_the_caret_under_wide_signs(self) -> None:
+        terminal = self.begun()
+        self.assertEqual(terminal.typed("find äö中 !"), f"find äö中 !\n{' ' * (len(PROMPT) + 10)}^ no bad-query 9\n")
+        self.assertEqual(
+            terminal.typed('  setq  "/a \\" b"  a b'), f"  setq  \"/a \\\" b\"  a b\n{' ' * (len(PROMPT) + 21)}^ no bad-query 4\n"
+        )
+
+    def test_help(self) -> None:
+        terminal = self.begun()
+        self.assertEqual(terminal.typed("help no-path"), "help no-path\nno-path: nothing is at this path\n")
+        self.assertEqual(terminal.typed("help mv"), "help mv\nmv PATH PATH: move an entry to a path where nothing is\n")
+        self.assertIn("limit texts: all texts", terminal.typed("help limit"))
+        self.assertIn("no such command or cause", terminal.typed("help fly"))
+        self.assertIn("\nsmkdir PATH QUERY", terminal.typed("help"))
+
+    def test_edit(self) -> None:
+        editor = self.script("editor", 'cat "$1" >>"$SEEN"', 'printf "more\\n" >>"$1"')
+        seen = self.made / "seen"
+        terminal = self.begun("write /a one\\n", EDITOR=str(editor), SEEN=str(seen), TMPDIR=str(self.made))
+        self.assertEqual(terminal.typed("edit /a"), "edit /a\nok\n")
+        self.assertEqual(terminal.typed("edit /new"), "edit /new\nok\n")
+        self.assertEqual(terminal.typed("edit /x/y"), "edit /x/y\nno no-path /x\n")
+        self.assertEqual(terminal.typed("edit /"), "edit /\nno not-file /\n")
+        self.assertIn("one path is wanted", terminal.typed("edit"))
+        terminal.end()
+        self.assertEqual(self.tree(), {"/a": "one\\nmore\\n", "/new": "more\\n"})
+        self.assertEqual(seen.read_text(), "one\n")
+        self.assertEqual(list(self.made.glob("hac-*")), [])
+
+    def test_an_edited_text_is_not_lost(self) -> None:
+        large = self.script("large", 'head -c 1048577 /dev/zero | tr "\\0" x >"$1"')
+        terminal = self.begun("write /a one", EDITOR=str(large), TMPDIR=str(self.made))
+        said = terminal.typed("edit /a")
+        self.assertIn("no limit text\nyour text is kept in ", said)
+        self.assertEqual(Path(said.split(" ")[-1].strip()).stat().st_size, 1_048_577)
+        terminal.end()
+        self.assertEqual(self.tree(), {"/a": "one"})
+
+    def test_an_edited_text_is_not_lost_where_hac_ends(self) -> None:
+        self.make_store("write /a one")
+        editor = self.script("editor", 'echo two >"$1"')
+        terminal = self.begin(hac=self.ends_after(2, 5, "hac: disk fault"), EDITOR=str(editor), TMPDIR=str(self.made))
+        terminal.until(PROMPT)
+        os.write(terminal.keys, b"edit /a\n")
+        said = terminal.until("have it open. Every command that was answered is in the store, and at most one more.\n".replace("\n", "\r\n"))
+        kept = re.search(r"your text is kept in (\S+)", said)
+        assert kept is not None
+        self.assertEqual(Path(kept[1]).read_text(), "two\n")
+        self.assertEqual(terminal.end(""), 5)
+
+    def test_an_editor_that_fails(self) -> None:
+        terminal = self.begun("write /a one", EDITOR="false", VISUAL="", TMPDIR=str(self.made))
+        self.assertIn("the editor ended with status 1", terminal.typed("edit /a"))
+        terminal.end()
+        terminal = self.begin(EDITOR="/no/editor")
+        terminal.until(PROMPT)
+        self.assertIn("can't be run", terminal.typed("edit /a"))
+
+    def test_open(self) -> None:
+        terminal = self.begun("write /a one\\ntwo", PAGER="sed s/^/>/")
+        self.assertEqual(terminal.typed("open /a"), "open /a\n>one\n>two")
+        self.assertEqual(terminal.typed("open /"), "open /\nno not-file /\n")
+        terminal.end()
+        terminal = self.begin(PAGER="/no/pager")
+        terminal.until(PROMPT)
+        self.assertEqual(terminal.typed("open /a"), "open /a\n= one\\ntwo\n")
+
+    def test_control_c_ends_a_line_alone(self) -> None:
+        terminal = self.begun()
+        os.write(terminal.keys, b"ls /none")
+        terminal.until("ls /none")
+        os.write(terminal.keys, b"\x03")
+        terminal.until(PROMPT)
+        self.assertEqual(terminal.typed("ls"), "ls\nok\n")
+
+    def test_stores_that_cannot_be_opened(self) -> None:
+        terminal = self.begin()
+        self.assertIn("there is no such file", terminal.until("file\r\n"))
+        self.assertEqual(terminal.end(""), 5)
+        self.store.write_bytes(b"x")
+        terminal = self.begin()
+        self.assertIn("not a store at byte 0", terminal.until("to it.\r\n"))
+        self.assertEqual(terminal.end(""), 6)
+        terminal = self.begin("--new")
+        self.assertIn("there is a file already", terminal.until("to it\r\n"))
+        self.assertEqual(terminal.end(""), 1)
+        self.store.unlink()
+        terminal = self.begin("--new")
+        terminal.until(PROMPT)
+        self.assertEqual(terminal.typed("ls"), "ls\nok\n")
+
+    def test_without_a_terminal_it_is_hac(self) -> None:
+        words = [sys.executable, str(TOOLS / "hac-shell")]
+        given = {**os.environ, "HAC": str(HAC)}
+        ran = subprocess.run([*words, "--new", self.store], input=b"mkdir /a\nput /b 3\nx\nyls\nfind a AND\n", capture_output=True, env=given)
+        self.assertEqual((ran.returncode, ran.stdout), (1, b"ok\nok\nd a\nf b\nok\nno bad-query 6\n"))
+        ran = subprocess.run([*words, self.store], stdin=subprocess.DEVNULL, capture_output=True, env=given)
+        self.assertEqual((ran.returncode, ran.stdout, ran.stderr), (0, b"", b""))
+        ran = subprocess.run([*words, "--new", self.store], stdin=subprocess.DEVNULL, capture_output=True, env=given)
+        self.assertEqual((ran.returncode, ran.stderr), (10, b"hac: already a store\n"))
+
+
+class Lines(unittest.TestCase):
+    def test_a_folded_line_is_shown_around_the_byte(self) -> None:
+        line = b"find " + b"a OR " * 30 + b"! OR b"
+        lines = shell.marked(PROMPT, line, Reply(refusal=b"bad-query 151"), COLUMNS).splitlines()
+        self.assertEqual(lines[0][lines[1].index("^")], "!")
+        self.assertEqual(lines[1].strip(), "^ no bad-query 151")
+        self.assertTrue(all(len(shown) < COLUMNS for shown in lines))
+
+    def test_words(self) -> None:
+        self.assertEqual(shell.next_word(b'  "a \\" b" c', 0), (b'a " b', 10))
+        self.assertEqual(shell.next_word(b'a"b c', 0), (b'a"b', 3))
+        self.assertEqual(shell.next_word(b'"open', 0), (None, 5))
+        self.assertEqual(shell.next_word(b"  ", 0), (None, 2))
+
+
+class Completion(ToolTest):
+    def test_lines(self) -> None:
+        self.make_store(
+            "mkdir /notes", 'mkdir "/notes/to do"', 'write "/notes/to do/x" a', "write /notes/mon a", "smkdir /notes/s}\\ a", 'write "/q\\"" a'
+        )  # fmt: skip
+        for typed, wanted in {
+            b"sm": [b"smkdir "],
+            b"coun": [b"counts"],
+            b"s": [b"setq ", b"sforget ", b"sln ", b"sls ", b"smkdir ", b"srm "],
+            b"fly ": [],
+            b"cat /n": [b"cat /notes/"],
+            b"cat n": [b"cat notes/"],
+            b"cat /notes/m": [b"cat /notes/mon "],
+            b"cat /notes/t": [b'cat "/notes/to do/'],
+            b'cat "/notes/t': [b'cat "/notes/to do/'],
+            b'cat "/notes/to do/': [b'cat "/notes/to do/x" '],
+            b"cat /q": [b'cat /q" '],
+            b'cat "/q': [b'cat "/q\\"" '],
+            b"cat /notes/mon /": [],
+            b"mv /notes/mon /n": [b"mv /notes/mon /notes/"],
+            b"ls /none/": [],
+            b"find {/n": [b"find {/notes/"],
+            b"find a AND {/notes/s": [b"find a AND {/notes/s\\}\\\\/"],
+            b"find {/notes} AND ": [],
+            b"smkdir /x {/notes/t": [b"smkdir /x {/notes/to do/"],
+            b"write /x {/n": [],
+            b"help no-p": [b"help no-path"],
+        }.items():
+            with self.subTest(typed=typed), Hac(self.store) as hac:
+                self.assertEqual(shell.Completer(hac).lines(typed), wanted)
