@@ -1,7 +1,6 @@
 -- A search by steps, each number left behind all to which it leads.
 use Rattle.std.proofs.Common.{◌≡◌, ◌≢◌, ℕ, zero, suc, ◌+◌, ◌≤◌, Bool, true, false, List, [], ◌∷◌, ◌++◌, length, subst, refl, ap, sym, ◌∙◌, arith, inl, inr}
-use Rattle.std.specs.Prelude.{◌⊎◌, reverse}
-use Rattle.std.proofs.lemmas.List.{reverse-append}
+use Rattle.std.specs.Prelude.{◌⊎◌}
 use Rattle.hac_model.specs.Depends.{Among, Leads, NeverReturns}
 use Rattle.hac_model.proofs.AmongLemmas.{among-append, among-left, among-right}
 use Rattle.dep_graph.specs.Graphs.{edges_at}
@@ -274,7 +273,3 @@ visits-less nodes old new n before after (inr opened) =
       | inl none ↦ absurd (opened.0 none)
       | inr less ↦ omega (arith, less, ap (λ (s : List Step). length s) opened.3, length-entering (edges_at nodes n) (Leave n ∷ before))
     ]
-
--- the last one of a stack is in front
-pub popped : (items left : List Step) (step : Step) → items ≡ left ++ step ∷ [] → reverse items ≡ step ∷ reverse left
-popped items left step is = ap (λ (s : List Step). reverse s) is ∙ reverse-append left (step ∷ [])

@@ -15,7 +15,7 @@ use std::marker::Model;
 #[derive(Drop)]
 pub struct Graph {
     pub(crate) alloc: Global,
-    // The directory that was prepared has a node, which may have no edges yet.
+    // A node has edges, but for that of the directory that is ready, which may have none yet.
     pub(crate) nodes: Nodes,
     pub(crate) ready: Option<Number>,
 }
@@ -27,11 +27,11 @@ impl Model for Graph {
 
     ghost coded = { seen_code };
 
-    ghost use Rattle.dep_graph.specs.Inner.{seen_of, HasPlace};
+    ghost use Rattle.dep_graph.specs.Inner.{seen_of, AreNodesKept};
 
     ghost view = { seen_of };
 
-    ghost invariant = { HasPlace };
+    ghost invariant = { AreNodesKept };
 }
 
 /// The edges that a directory is to have, while the graph is ready for them.

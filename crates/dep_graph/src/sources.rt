@@ -1,5 +1,5 @@
 //! What directories depend on, in an order in which each can be looked at once.
-ghost use Rattle.std.specs.Prelude.{◌≡◌, nat_eq, reverse, IfOk, OnOk};
+ghost use Rattle.std.specs.Prelude.{◌≡◌, nat_eq, IfOk, OnOk};
 ghost use Rattle.hac_model.specs.Depends.{NeverReturns};
 ghost use Rattle.indexmap.specs.IndexSet.{contains};
 ghost use Rattle.dep_graph.specs.Graphs.{edges_of};
@@ -7,9 +7,8 @@ ghost use Rattle.dep_graph.specs.Searches.{AreSources};
 ghost use Rattle.dep_graph.specs.Steps.{Visits, entering};
 
 use crate::graph::Graph;
-use hac_model::{Memory, Number};
+use hac_model::{Memory, Number, Pile};
 use indexmap::IndexSet;
-use std::alloc::Global;
 
 /// What is still to be done for a number.
 #[derive(Clone, Copy, Debug)]
@@ -29,7 +28,7 @@ impl Graph {
     {
         let mut done = Vec::new(self.alloc);
         let mut seen = IndexSet::new(self.alloc);
-        let mut stack = Vec::new(self.alloc);
+        let mut stack = Pile::new(self.alloc);
         enter(&mut stack, dirs)?;
         'stack: while let Some(step) = stack.pop() {
             match step {
@@ -44,10 +43,11 @@ impl Graph {
     fn visit(
         &self,
         seen: &mut IndexSet<u64>,
-        stack: &mut Vec<Step>,
+        stack: &mut Pile<Step>,
         number: Number,
     ) -> Result<(), Memory>
-        ensures { OnOk result (Visits (edges_of self.now) number (contains nat_eq seen.old) (contains nat_eq seen.new) (reverse stack.old.items) (reverse stack.new.items)) }
+        ensures { OnOk result (Visits (edges_of self.now) number (contains nat_eq seen.old)
+            (contains nat_eq seen.new) stack.old stack.new) }
     {
         let edges = self.edges_at(number);
         if !edges.is_empty() && seen.insert(number.get())? {
@@ -59,8 +59,8 @@ impl Graph {
 }
 
 /// Puts numbers onto a stack that are to be entered.
-fn enter(stack: &mut Vec<Step>, numbers: &[Number]) -> Result<(), Memory>
-    ensures { OnOk result (reverse stack.new.items ≡ entering numbers.now (reverse stack.old.items)) }
+fn enter(stack: &mut Pile<Step>, numbers: &[Number]) -> Result<(), Memory>
+    ensures { OnOk result (stack.new ≡ entering numbers.now stack.old) }
 {
     for number in numbers {
         stack.push(Step::Enter(*number))?;

@@ -1,6 +1,6 @@
 pub mod FieldLemmas
 pub mod LoopLemmas
-pub mod PileLemmas
+pub mod PartLemmas
 pub mod PutLemmas
 pub mod QueryLemmas
 pub mod PayloadLemmas

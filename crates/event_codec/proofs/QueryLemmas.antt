@@ -4,13 +4,15 @@ use Rattle.std.specs.Int.{w16, w32}
 use Rattle.std.specs.Option.{ok_or}
 use Rattle.std.proofs.lemmas.Bool.{leb-true, le-leb, and_parts, and_from}
 use Rattle.std.proofs.lemmas.List.{append-nil, length-append}
-use Rattle.hac_model.specs.Fields.{◌>>=◌, num, nothing, way_at, choice_at}
+use Rattle.hac_model.specs.Answers.{◌>>=◌}
+use Rattle.hac_model.specs.Fields.{num, nothing, way_at, choice_at}
 use Rattle.hac_model.specs.Formula.{Formula}
 use Rattle.hac_model.specs.Formula as query
-use Rattle.hac_model.specs.Queries.{term_size, term_count, letter_count, not_count}
-use Rattle.hac_model.specs.QueryFields.{Token, word_field, token_part, token_ways, token_field, terms_fit, query_bytes, Room, room_after, is_barred, token_at, tokens_at, joined, put, built, first_built, query_read, query_fits, query_field}
+use Rattle.hac_model.specs.Queries.{all_leaves, are_terms, is_query, term_size, term_count, letter_count, not_count}
+use Rattle.hac_model.specs.QueryFields.{Token, word_field, token_part, token_ways, token_field, are_nums, query_bytes, Room, room_after, is_barred, token_at, tokens_at, joined, put, built, first_built, query_read, query_fits, query_field}
 use Rattle.hac_model.specs.QueryFields as token
 use Rattle.hac_model.specs.Words.{is_word}
+use Rattle.hac_model.specs.declared.limits.TheConstants.{NESTING_LIMIT, QUERY_LIMIT, TERMS_LIMIT}
 use Rattle.hac_model.specs.declared.terms.Term as asked
 use Rattle.hac_model.specs.declared.terms.Term.TheVariants.{Word, Prefix}
 use Rattle.event_codec.specs.Laws.{AreBytes}
@@ -20,7 +22,7 @@ pub num_lawful : Lawful num
 num_lawful = number_lawful w32 wide32
 
 pub word_lawful : Lawful word_field
-word_lawful = run_lawful w16 1024 is_word wide16 (lit< tt)
+word_lawful = run_lawful w16 QUERY_LIMIT is_word wide16 (lit< tt)
 
 token_takes : (bytes : List ℕ) (x : Token × List ℕ) → AreBytes bytes → token_field.read bytes ≡ Ok x → Took token_field bytes x
 token_takes bytes x fits e = choice_takes token_part token_ways (
@@ -48,6 +50,10 @@ token_again (token.Dir dir) rest fits = way_again num (λ dir. token.Dir dir) nu
 token_again token.Not rest fits = refl
 token_again token.And rest fits = refl
 token_again token.Or rest fits = refl
+
+-- each leaf of a query has bytes
+abbrev terms_fit : Formula ℕ → Bool
+terms_fit q = all_leaves (λ term. token_field.fits (token.Term term)) (λ dir. token_field.fits (token.Dir dir)) q
 
 -- ---- what is read is what it spells
 
@@ -201,26 +207,58 @@ tokens_take (suc k) (nots ∷ wanted) terms letters bytes x fits e =
     let took = put_takes nots wanted terms letters a.0.0 b.0 bytes a.0.1 (built d.0.0 []) d.0.1 first.parts first.fits (ok_or-ok _ _ _ b.1) others in
     subst (λ (y : List Token × List ℕ). TookQueries (room_of (nots ∷ wanted) terms letters) bytes (built y.0 []) y.1) (ok_is (a.0.0 ∷ d.0.0, d.0.1) x d.2) took
 
-one_taken : (tokens : List Token) (qs : List (Formula ℕ)) (bytes behind : List ℕ) (x : Formula ℕ × List ℕ) → TookQueries (room_of (32 ∷ []) 64 1024) bytes qs behind → first_built qs behind ≡ Ok x → Took query_field bytes x
+-- leaves that have bytes are words, and numbers of four bytes
+terms-hold : (q : Formula ℕ) → terms_fit q ≡ true → (are_terms q ≡ true) × (are_nums q ≡ true)
+terms-hold (query.Term (Word letters)) fits = ((and_parts (leb (length letters) QUERY_LIMIT) (is_word letters) fits).1, refl)
+terms-hold (query.Term (Prefix letters)) fits = ((and_parts (leb (length letters) QUERY_LIMIT) (is_word letters) fits).1, refl)
+terms-hold (query.Dir dir) fits = (refl, fits)
+terms-hold (query.Not q) fits = terms-hold q fits
+terms-hold (query.And left right) fits =
+    let parts = and_parts (terms_fit left) (terms_fit right) fits in
+    let one = terms-hold left parts.0 in
+    let other = terms-hold right parts.1 in
+    (and_from (are_terms left) (are_terms right) one.0 other.0, and_from (are_nums left) (are_nums right) one.1 other.1)
+terms-hold (query.Or left right) fits =
+    let parts = and_parts (terms_fit left) (terms_fit right) fits in
+    let one = terms-hold left parts.0 in
+    let other = terms-hold right parts.1 in
+    (and_from (are_terms left) (are_terms right) one.0 other.0, and_from (are_nums left) (are_nums right) one.1 other.1)
+
+-- and words that are short enough have bytes, as such numbers have
+terms-fit : (q : Formula ℕ) → are_terms q ≡ true → letter_count q ≤ QUERY_LIMIT → are_nums q ≡ true → terms_fit q ≡ true
+terms-fit (query.Term (Word letters)) words few nums = and_from (leb (length letters) QUERY_LIMIT) (is_word letters) (le-leb _ _ few) words
+terms-fit (query.Term (Prefix letters)) words few nums = and_from (leb (length letters) QUERY_LIMIT) (is_word letters) (le-leb _ _ few) words
+terms-fit (query.Dir dir) words few nums = nums
+terms-fit (query.Not q) words few nums = terms-fit q words few nums
+terms-fit (query.And left right) words few nums =
+    let word = and_parts (are_terms left) (are_terms right) words in
+    let num = and_parts (are_nums left) (are_nums right) nums in
+    and_from (terms_fit left) (terms_fit right) (terms-fit left word.0 (omega (arith, few)) num.0) (terms-fit right word.1 (omega (arith, few)) num.1)
+terms-fit (query.Or left right) words few nums =
+    let word = and_parts (are_terms left) (are_terms right) words in
+    let num = and_parts (are_nums left) (are_nums right) nums in
+    and_from (terms_fit left) (terms_fit right) (terms-fit left word.0 (omega (arith, few)) num.0) (terms-fit right word.1 (omega (arith, few)) num.1)
+
+one_taken : (tokens : List Token) (qs : List (Formula ℕ)) (bytes behind : List ℕ) (x : Formula ℕ × List ℕ) → TookQueries (room_of (NESTING_LIMIT ∷ []) TERMS_LIMIT QUERY_LIMIT) bytes qs behind → first_built qs behind ≡ Ok x → Took query_field bytes x
 one_taken tokens [] bytes behind x took e = absurd took.wanted
 one_taken tokens (q ∷ []) bytes behind x took e =
     subst (λ (y : Formula ℕ × List ℕ). Took query_field bytes y) (ok_is (q, behind) x e) (record {
       parts = took.parts ∙ ap (λ (t : List ℕ). t ++ behind) (append-nil (query_bytes q));
       rest = took.rest;
       fits =
-          let terms : leb (term_count q) 64 ≡ true = le-leb (term_count q) 64 (omega (arith, took.terms)) in
-          let letters : leb (letter_count q) 1024 ≡ true = le-leb (letter_count q) 1024 (omega (arith, took.letters)) in
-          let nots : leb (not_count q) 32 ≡ true = le-leb (not_count q) 32 took.wanted.0 in
-          let all : terms_fit q ≡ true = (and_parts (terms_fit q) true took.fits).0 in
-          rw (terms, letters, nots, all) refl;
+          let terms : leb (term_count q) TERMS_LIMIT ≡ true = le-leb (term_count q) TERMS_LIMIT (omega (arith, took.terms)) in
+          let letters : leb (letter_count q) QUERY_LIMIT ≡ true = le-leb (letter_count q) QUERY_LIMIT (omega (arith, took.letters)) in
+          let nots : leb (not_count q) NESTING_LIMIT ≡ true = le-leb (not_count q) NESTING_LIMIT took.wanted.0 in
+          let all = terms-hold q (and_parts (terms_fit q) true took.fits).0 in
+          and_from (is_query q) (are_nums q) (and_from _ _ (and_from _ _ (and_from (are_terms q) _ all.0 terms) letters) nots) all.1;
     })
 one_taken tokens (q ∷ r ∷ qs) bytes behind x took e = absurd took.wanted.1
 
 query_takes : (bytes : List ℕ) (x : Formula ℕ × List ℕ) → AreBytes bytes → query_read bytes ≡ Ok x → Took query_field bytes x
 unfolding query_read
 query_takes bytes x fits e =
-    let a = bind_ok (tokens_at (length bytes) (32 ∷ []) 64 1024 bytes) (λ tokens. first_built (built tokens.0 []) tokens.1) x e in
-    one_taken a.0.0 (built a.0.0 []) bytes a.0.1 x (tokens_take (length bytes) (32 ∷ []) 64 1024 bytes a.0 fits a.1) a.2
+    let a = bind_ok (tokens_at (length bytes) (NESTING_LIMIT ∷ []) TERMS_LIMIT QUERY_LIMIT bytes) (λ tokens. first_built (built tokens.0 []) tokens.1) x e in
+    one_taken a.0.0 (built a.0.0 []) bytes a.0.1 x (tokens_take (length bytes) (NESTING_LIMIT ∷ []) TERMS_LIMIT QUERY_LIMIT bytes a.0 fits a.1) a.2
 
 -- ---- what is spelled is read again
 
@@ -351,23 +389,25 @@ tokens_done (suc k) terms letters bytes = refl
 query_again : (q : Formula ℕ) (rest : List ℕ) → query_fits q ≡ true → query_read (query_bytes q ++ rest) ≡ Ok (q, rest)
 unfolding query_read built
 query_again q rest fits =
-    let a = and_parts _ _ fits in
-    let b = and_parts _ _ a.0 in
-    let d = and_parts _ _ b.0 in
-    let terms : term_count q ≤ 64 = leb-true _ _ d.0 in
-    let letters : letter_count q ≤ 1024 = leb-true _ _ d.1 in
-    let nots : not_count q ≤ 32 = leb-true _ _ b.1 in
+    let a = and_parts (is_query q) (are_nums q) fits in
+    let b = and_parts _ (leb (not_count q) NESTING_LIMIT) a.0 in
+    let d = and_parts _ (leb (letter_count q) QUERY_LIMIT) b.0 in
+    let e = and_parts (are_terms q) (leb (term_count q) TERMS_LIMIT) d.0 in
+    let terms : term_count q ≤ TERMS_LIMIT = leb-true _ _ e.1 in
+    let letters : letter_count q ≤ QUERY_LIMIT = leb-true _ _ d.1 in
+    let nots : not_count q ≤ NESTING_LIMIT = leb-true _ _ b.1 in
+    let fit = terms-fit q e.0 letters a.1 in
     let size = size_of-text q in
     let n = length (query_bytes q ++ rest) - query.size_of q in
     let fuel : length (query_bytes q ++ rest) ≡ query.size_of q + n = omega (arith, length-append (query_bytes q) rest) in
-    let all : 64 ≡ term_count q + (64 - term_count q) = omega arith in
-    let bytes : 1024 ≡ letter_count q + (1024 - letter_count q) = omega arith in
-    let read : tokens_at (query.size_of q + n) (32 ∷ []) (term_count q + (64 - term_count q)) (letter_count q + (1024 - letter_count q)) (query_bytes q ++ rest) ≡ Ok (flat q ++ [], rest) =
-    tokens_again q n 32 [] (64 - term_count q) (1024 - letter_count q) rest nots a.1 ∙ ap (λ r. with_parts (flat q) r) (tokens_done n (64 - term_count q) (1024 - letter_count q) rest) in
-    let read2 : tokens_at (length (query_bytes q ++ rest)) (32 ∷ []) 64 1024 (query_bytes q ++ rest) ≡ Ok (flat q ++ [], rest) =
-    ap (λ (k : ℕ). tokens_at k (32 ∷ []) 64 1024 (query_bytes q ++ rest)) fuel
-    ∙ ap (λ (k : ℕ). tokens_at (query.size_of q + n) (32 ∷ []) k 1024 (query_bytes q ++ rest)) all
-    ∙ ap (λ (k : ℕ). tokens_at (query.size_of q + n) (32 ∷ []) (term_count q + (64 - term_count q)) k (query_bytes q ++ rest)) bytes
+    let all : TERMS_LIMIT ≡ term_count q + (TERMS_LIMIT - term_count q) = omega arith in
+    let bytes : QUERY_LIMIT ≡ letter_count q + (QUERY_LIMIT - letter_count q) = omega arith in
+    let read : tokens_at (query.size_of q + n) (NESTING_LIMIT ∷ []) (term_count q + (TERMS_LIMIT - term_count q)) (letter_count q + (QUERY_LIMIT - letter_count q)) (query_bytes q ++ rest) ≡ Ok (flat q ++ [], rest) =
+    tokens_again q n NESTING_LIMIT [] (TERMS_LIMIT - term_count q) (QUERY_LIMIT - letter_count q) rest nots fit ∙ ap (λ r. with_parts (flat q) r) (tokens_done n (TERMS_LIMIT - term_count q) (QUERY_LIMIT - letter_count q) rest) in
+    let read2 : tokens_at (length (query_bytes q ++ rest)) (NESTING_LIMIT ∷ []) TERMS_LIMIT QUERY_LIMIT (query_bytes q ++ rest) ≡ Ok (flat q ++ [], rest) =
+    ap (λ (k : ℕ). tokens_at k (NESTING_LIMIT ∷ []) TERMS_LIMIT QUERY_LIMIT (query_bytes q ++ rest)) fuel
+    ∙ ap (λ (k : ℕ). tokens_at (query.size_of q + n) (NESTING_LIMIT ∷ []) k QUERY_LIMIT (query_bytes q ++ rest)) all
+    ∙ ap (λ (k : ℕ). tokens_at (query.size_of q + n) (NESTING_LIMIT ∷ []) (term_count q + (TERMS_LIMIT - term_count q)) k (query_bytes q ++ rest)) bytes
     ∙ read in
     rw (read2, built-flat q []) refl
 

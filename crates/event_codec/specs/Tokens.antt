@@ -1,5 +1,5 @@
 -- Parts of queries and room for them, as the code holds them.
-use Rattle.std.specs.Prelude.{◌≡◌, ℕ, Bool, if◌then◌else◌, List, ◌∷◌, map, reverse, Option, Some, None}
+use Rattle.std.specs.Prelude.{◌≡◌, ℕ, Bool, if◌then◌else◌, List, ◌∷◌, map, Option, Some, None}
 use Rattle.hac_model.specs.Formula.{Formula}
 use Rattle.hac_model.specs.QueryFields as query
 use Rattle.hac_model.specs.QueryFields.{room_after}
@@ -18,14 +18,14 @@ token_of Or = query.Or
 abbrev pub tokens_of : List Token → List query.Token
 tokens_of tokens = map token_of tokens
 
--- the room that the code holds: it has what is wanted next at the end
+-- the room that the code holds
 abbrev pub room_of : Room → query.Room
-room_of room = record { wanted = reverse room.wanted.items; terms = room.terms; letters = room.letters }
+room_of room = record { wanted = room.wanted; terms = room.terms; letters = room.letters }
 
 -- a part was taken, and the room behind it is left; or there is no room for it
 abbrev pub TakesPart : ℕ → query.Token → Room → Room → Bool → Type 0
 TakesPart nots token old new taken =
-    room_after nots (reverse old.wanted.items) old.terms old.letters token ≡ if taken then Some (room_of new) else None
+    room_after nots old.wanted old.terms old.letters token ≡ if taken then Some (room_of new) else None
 
 -- the first two queries of a pile are taken, where it has two; else it is cleared
 abbrev pub TakesTwo : List (Formula ℕ) → List (Formula ℕ) → Option (Formula ℕ × Formula ℕ) → Type 0

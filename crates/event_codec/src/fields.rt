@@ -12,7 +12,7 @@ ghost use Rattle.event_codec.specs.Reading.{GivesField, run_in};
 use crate::bytes::Bytes;
 use crate::faults::Fault;
 use byteorder::{ByteOrder, LittleEndian};
-use hac_model::{NAME_LIMIT, Name, Number, TEXT_LIMIT, Text};
+use hac_model::{NAME_LIMIT, Name, Number, QUERY_LIMIT, TEXT_LIMIT, Text};
 use hac_names::{has_long_part, is_bad, is_name};
 use hac_words::is_word;
 use std::alloc::Global;
@@ -20,8 +20,8 @@ use std::alloc::Global;
 /// The most bytes of the name of a space.
 pub(crate) const SPACE_LIMIT: usize = 32;
 
-/// The most bytes of a symbolic link's target, and of the letters of a term.
-pub(crate) const WORD_LIMIT: usize = 1_024;
+/// The most bytes of a symbolic link's target.
+pub(crate) const TARGET_LIMIT: usize = 1_024;
 
 /// The number at the front.
 #[tactic(auto, unfolding(hac_model::specs::Fields::number_at))]
@@ -144,7 +144,7 @@ pub(crate) fn text(alloc: Global, bytes: &mut Bytes) -> Result<Text, Fault>
 pub(crate) fn target(alloc: Global, bytes: &mut Bytes) -> Result<Text, Fault>
     ensures { GivesField result bytes.new (target_field.read bytes.old) }
 {
-    match middle_run(bytes.rest(), WORD_LIMIT) {
+    match middle_run(bytes.rest(), TARGET_LIMIT) {
         Some(run) if is_path_word(run) => {
             bytes.skip(2 + run.len());
             Ok(Text::new(run.to_vec(alloc)?))
@@ -164,7 +164,7 @@ fn is_path_word(bytes: &[u8]) -> bool
 pub(crate) fn word(alloc: Global, bytes: &mut Bytes) -> Result<Name, Fault>
     ensures { GivesField result bytes.new (word_field.read bytes.old) }
 {
-    match middle_run(bytes.rest(), WORD_LIMIT) {
+    match middle_run(bytes.rest(), QUERY_LIMIT) {
         Some(run) if is_word(run) => {
             bytes.skip(2 + run.len());
             Ok(Name::new(run.to_vec(alloc)?))

@@ -1,9 +1,11 @@
 //! The fields of events as bytes, each added to those before it.
-ghost use Rattle.std.specs.Prelude.{◌≡◌, ◌++◌, ◌∷◌, ◌<◌, ◌^◌, [], IsTrue, OnOk, length};
+ghost use Rattle.std.specs.Prelude.{◌≡◌, ◌++◌, ◌∷◌, ◌<◌, ◌≤◌, ◌^◌, [], IsTrue, OnOk, length};
 ghost use Rattle.std.specs.Int.{w8, w16, w32, to_le_bytes};
 ghost use Rattle.hac_model.specs.Fields.{num};
 ghost use Rattle.hac_model.specs.Payloads.{mark_field, name_field};
-ghost use Rattle.hac_model.specs.QueryFields.{query_bytes, terms_fit, token_field};
+ghost use Rattle.hac_model.specs.Queries.{are_terms, letter_count};
+ghost use Rattle.hac_model.specs.QueryFields.{are_nums, query_bytes, token_field};
+ghost use Rattle.hac_model.specs.declared.limits.TheConstants.{QUERY_LIMIT};
 ghost use Rattle.hac_model.specs.QueryFields as token;
 
 use byteorder::{ByteOrder, LittleEndian};
@@ -92,7 +94,9 @@ pub(crate) fn put_mark(out: &mut Vec<u8>, kind: Kind) -> Result<(), Memory>
 /// Adds a query: each `NOT`, `AND` and `OR` before what it joins.
 #[tactic(auto, using(crate::proofs::PutLemmas::puts))]
 pub(crate) fn put_query(out: &mut Vec<u8>, query: &Query<Number>) -> Result<(), Memory>
-    requires { IsTrue (terms_fit query.now) }
+    requires terms { IsTrue (are_terms query.now) }
+    requires letters { letter_count query.now ≤ QUERY_LIMIT }
+    requires numbers { IsTrue (are_nums query.now) }
     ensures { OnOk result (out.new.items ≡ out.old.items ++ query_bytes query.now) }
 {
     match &query.node {
@@ -121,15 +125,9 @@ fn put_term(out: &mut Vec<u8>, term: &Term) -> Result<(), Memory>
     requires { IsTrue (token_field.fits (token.Term term.now)) }
     ensures { OnOk result (out.new.items ≡ out.old.items ++ token_field.text (token.Term term.now)) }
 {
-    let letters = match term {
-        Term::Word(letters) => {
-            out.push(1)?;
-            letters
-        }
-        Term::Prefix(letters) => {
-            out.push(2)?;
-            letters
-        }
-    };
-    put_middle(out, letters.as_bytes())
+    match term {
+        Term::Word(_) => out.push(1)?,
+        Term::Prefix(_) => out.push(2)?,
+    }
+    put_middle(out, term.letters())
 }

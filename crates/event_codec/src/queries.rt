@@ -1,8 +1,8 @@
 //! Queries. Their parts are read one by one, and then joined, so that no bytes make this go deep.
-ghost use Rattle.std.specs.Prelude.{◌≡◌, ◌∷◌, [], IfOk, OnOk, length, reverse};
+ghost use Rattle.std.specs.Prelude.{◌≡◌, ◌∷◌, [], IfOk, OnOk, length};
 ghost use Rattle.hac_model.specs.Fields.{failing_at};
-ghost use Rattle.hac_model.specs.Queries.{term_size};
 ghost use Rattle.hac_model.specs.QueryFields.{built, put, query_field, token_at, tokens_at, word_field};
+ghost use Rattle.hac_model.specs.declared.limits.TheConstants.{NESTING_LIMIT, QUERY_LIMIT, TERMS_LIMIT};
 ghost use Rattle.event_codec.specs.Reading.{GivesField, GivesSeen};
 ghost use Rattle.event_codec.specs.Tokens.{TakesTwo, token_of, tokens_of};
 
@@ -10,7 +10,7 @@ use crate::bytes::Bytes;
 use crate::faults::Fault;
 use crate::fields::{num, word};
 use crate::rooms::Room;
-use hac_model::{Memory, Name, Node, Number, Query, Term};
+use hac_model::{Memory, Name, Node, Number, Pile, Query, Term};
 use std::alloc::Global;
 
 /// A part of a query without what it joins.
@@ -43,7 +43,8 @@ pub(crate) fn query(alloc: Global, bytes: &mut Bytes) -> Result<Query<Number>, F
 
 /// The parts of a query, as long as one is wanted.
 fn tokens(alloc: Global, bytes: &mut Bytes) -> Result<Vec<Token>, Fault>
-    ensures { GivesSeen (λ tokens. tokens_of tokens.items) result bytes.new (tokens_at (length bytes.old) (32 ∷ []) 64 1024 bytes.old) }
+    ensures { GivesSeen (λ tokens. tokens_of tokens.items) result bytes.new
+        (tokens_at (length bytes.old) (NESTING_LIMIT ∷ []) TERMS_LIMIT QUERY_LIMIT bytes.old) }
 {
     let mut room = Room::new(alloc)?;
     let mut tokens = Vec::new(alloc);
@@ -96,13 +97,12 @@ fn whole_word(alloc: Global, bytes: &mut Bytes, left: usize) -> Result<Name, Fau
     }
 }
 
-/// The queries that parts make, one behind the other, the first one last.
-#[tactic(auto, using(crate::proofs::PileLemmas::piles))]
-fn build(alloc: Global, tokens: Vec<Token>) -> Result<Vec<Query<Number>>, Memory>
-    ensures { IfOk result (λ pile. reverse pile.items ≡ built (tokens_of tokens.items) []) }
+/// The queries that parts make, the first one topmost.
+fn build(alloc: Global, tokens: Vec<Token>) -> Result<Pile<Query<Number>>, Memory>
+    ensures { IfOk result (λ pile. pile ≡ built (tokens_of tokens.items) []) }
 {
     let mut tokens = tokens;
-    let mut pile = Vec::new(alloc);
+    let mut pile = Pile::new(alloc);
     'parts: while let Some(token) = tokens.pop() {
         put(alloc, &mut pile, token)?;
     }
@@ -110,9 +110,8 @@ fn build(alloc: Global, tokens: Vec<Token>) -> Result<Vec<Query<Number>>, Memory
 }
 
 /// Puts a part in front of queries, of which it takes those that it joins.
-#[tactic(auto, using(crate::proofs::PileLemmas::piles))]
-fn put(alloc: Global, pile: &mut Vec<Query<Number>>, token: Token) -> Result<(), Memory>
-    ensures { OnOk result (reverse pile.new.items ≡ put (token_of token) (reverse pile.old.items)) }
+fn put(alloc: Global, pile: &mut Pile<Query<Number>>, token: Token) -> Result<(), Memory>
+    ensures { OnOk result (pile.new ≡ put (token_of token) pile.old) }
 {
     let node = match token {
         Token::Term(term) => Node::Term(term),
@@ -141,9 +140,8 @@ fn put(alloc: Global, pile: &mut Vec<Query<Number>>, token: Token) -> Result<(),
 }
 
 /// The first two queries of a pile.
-#[tactic(auto, using(crate::proofs::PileLemmas::piles))]
-fn two(pile: &mut Vec<Query<Number>>) -> Option<(Query<Number>, Query<Number>)>
-    ensures { TakesTwo (reverse pile.old.items) (reverse pile.new.items) result }
+fn two(pile: &mut Pile<Query<Number>>) -> Option<(Query<Number>, Query<Number>)>
+    ensures { TakesTwo pile.old pile.new result }
 {
     let left = pile.pop()?;
     let right = pile.pop()?;

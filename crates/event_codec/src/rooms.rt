@@ -1,23 +1,17 @@
 //! What may still come of a query.
-ghost use Rattle.std.specs.Prelude.{◌≡◌, ◌∷◌, [], ◌&&◌, ◌-◌, nat_le, if◌then◌else◌, IfOk, length};
-ghost use Rattle.hac_model.specs.Queries.{term_size};
+ghost use Rattle.std.specs.Prelude.{◌≡◌, ◌∷◌, [], ◌&&◌, ◌-◌, nat_le, if◌then◌else◌, IfOk};
+ghost use Rattle.hac_model.specs.declared.limits.TheConstants as limits;
 ghost use Rattle.event_codec.specs.Tokens.{TakesPart, room_of, token_of};
 
 use crate::queries::Token;
-use hac_model::{Memory, TERMS_LIMIT, Term};
+use hac_model::{Memory, NESTING_LIMIT, Pile, QUERY_LIMIT, TERMS_LIMIT};
 use std::alloc::Global;
-
-/// The most bytes of the letters of a query's terms.
-const LETTERS_LIMIT: u64 = 1_024;
-
-/// The most `NOT`s on any way down to a term.
-const NOTS_LIMIT: u64 = 32;
 
 /// What may still come of a query whose parts are read one by one.
 #[derive(Debug, Drop)]
 pub(crate) struct Room {
-    /// For each query that is still wanted, how many `NOT`s it may have. The next one is last.
-    pub wanted: Vec<u64>,
+    /// For each query that is still wanted, how many `NOT`s it may have, that of the next one on top.
+    pub wanted: Pile<u64>,
     /// How many terms.
     pub terms: u64,
     /// How many bytes of letters.
@@ -27,22 +21,27 @@ pub(crate) struct Room {
 impl Room {
     /// One query is wanted.
     pub(crate) fn new(alloc: Global) -> Result<Room, Memory>
-        ensures { IfOk result (λ room. room_of room ≡ record { wanted = 32 ∷ []; terms = 64; letters = 1024 }) }
+        ensures { IfOk result (λ room. room_of room ≡ record {
+          wanted = limits.NESTING_LIMIT ∷ [];
+          terms = limits.TERMS_LIMIT;
+          letters = limits.QUERY_LIMIT;
+        }) }
     {
+        let mut wanted = Pile::new(alloc);
+        wanted.push(NESTING_LIMIT)?;
         Ok(Room {
-            wanted: vec![in alloc; NOTS_LIMIT]?,
+            wanted,
             terms: TERMS_LIMIT,
-            letters: LETTERS_LIMIT,
+            letters: QUERY_LIMIT as u64,
         })
     }
 
     /// Whether a part that may have `nots` `NOT`s may come. It makes room for what the part joins.
-    #[tactic(auto, using(crate::proofs::PileLemmas::piles))]
     pub(crate) fn take(&mut self, nots: u64, token: &Token) -> Result<bool, Memory>
         ensures { IfOk result (λ taken. TakesPart nots (token_of token.now) self.old self.new taken) }
     {
         match token {
-            Token::Term(term) => Ok(self.take_term(letters_of(term))),
+            Token::Term(term) => Ok(self.take_term(term.letters().len() as u64)),
             Token::Dir(_) => Ok(self.take_term(0)),
             Token::Not => {
                 if nots == 0 {
@@ -70,14 +69,5 @@ impl Room {
         self.terms -= 1;
         self.letters -= size;
         true
-    }
-}
-
-/// How many letters a term has.
-fn letters_of(term: &Term) -> u64
-    ensures { result ≡ term_size term.now }
-{
-    match term {
-        Term::Word(letters) | Term::Prefix(letters) => letters.as_bytes().len() as u64,
     }
 }

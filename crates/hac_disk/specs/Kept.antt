@@ -27,7 +27,7 @@ disk_of disk = record {
   gap_at = vec_len disk.head;
   gap = disk.gap;
   room = disk.room;
-  last_call = disk.calls.last;
+  last_call = disk.last_call;
   failing = disk.calls.failing.items;
   calls = disk.calls.made;
   faults = disk.calls.faults;
@@ -39,5 +39,5 @@ pub record IsDisk (disk : Inside) : Type 0 where
   pub tail_room : vec_len disk.tail + disk.room ≤ vec_capacity disk.tail
   pub kept_room : vec_len disk.kept + disk.room ≤ vec_capacity disk.kept
   pub log_made : vec_len disk.log ≤ disk.calls.made
-  pub log_room : disk.calls.last ≤ vec_capacity disk.log
+  pub log_room : disk.last_call ≤ vec_capacity disk.log
   pub size : vec_len disk.head + disk.gap + vec_len disk.tail + disk.room < 2 ^ 64

@@ -1,3 +1,4 @@
+pub mod Fuse
 pub mod Images
 pub mod Kept
 pub mod Memory

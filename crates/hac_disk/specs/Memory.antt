@@ -1,6 +1,7 @@
 -- What a disk in memory is seen as: the file as it was at first, and the calls since.
-use Rattle.std.specs.Prelude.{◌≡◌, ◌⊎◌, ℕ, ◌+◌, ◌-◌, ◌^◌, ◌<◌, ◌≤◌, min, Bool, List, [], ◌∷◌, ◌++◌, length, Contains, Some, Result, Ok, Err, is_ok, if◌then◌else◌}
+use Rattle.std.specs.Prelude.{◌≡◌, ◌⊎◌, ℕ, ◌+◌, ◌<◌, ◌≤◌, Bool, List, [], ◌∷◌, ◌++◌, length, Some, Result, Ok, Err, is_ok, if◌then◌else◌}
 use Rattle.std.specs.declared.option.Option.{Option}
+use Rattle.hac_outside.specs.Calls.{IsFailingCall, next_number}
 use Rattle.hac_disk.specs.Images.{overlaid, Torn}
 
 -- a call that went well and changed something: a write, a sync, a name that was attached
@@ -67,14 +68,6 @@ left_since disk t c = ImageSince disk.first disk.done t c
 -- the names that were attached
 abbrev pub attached_to : DiskState → Option (List (List ℕ × Bool))
 attached_to disk = Some (attached_by disk.done)
-
--- the number after this one, or the last number of its type
-abbrev pub next_number : ℕ → ℕ
-next_number n = min (n + 1) (2 ^ 64 - 1)
-
--- after this many calls the next one fails: the room for calls is used up, or the next one is to fail
-abbrev pub IsFailingCall : ℕ → List ℕ → ℕ → Type 0
-IsFailingCall last_call failing calls = (last_call ≤ calls) ⊎ Contains failing (calls + 1)
 
 -- the disk's next call fails, whatever it is asked
 abbrev pub IsFailing : DiskState → Type 0

@@ -1,7 +1,10 @@
 //! A disk that stops after a number of calls.
-ghost use Rattle.std.specs.Prelude.{◌≡◌, ◌+◌, ◌-◌, ◌↔◌, IsErr, if◌then◌else◌, is_ok};
+ghost use Rattle.std.specs.Prelude.{◌≡◌, ◌+◌, ◌-◌, ◌↔◌, IfOk, IsErr, OnErr, OnOk, if◌then◌else◌, is_ok, length};
+ghost use Rattle.hac_outside.specs.Calls.{next_number};
 ghost use Rattle.hac_outside.specs.Causes.{HasCause};
-ghost use Rattle.hac_disk.specs.Memory.{next_number};
+ghost use Rattle.hac_disk.specs.Fuse.{Burns};
+ghost use Rattle.hac_disk.specs.Images.{Elapses, Follows, IsQuiet, Torn};
+ghost use Rattle.hac_disk.specs.Told.{Attaches, HasLength, IsSettled, RangeWithin, StandAt, StartsWithin, Written, WrittenInPart};
 
 use super::disks::Disk;
 use hac_outside::Failed;
@@ -42,7 +45,8 @@ impl<D: Disk> FuseDisk<D> {
         ensures calls { self.new.calls ≡ self.old.calls - 1 }
         ensures blown { self.new.blown ≡ (if is_ok result then self.old.blown else next_number self.old.blown) }
         ensures disk { self.new.disk ≡ self.old.disk }
-        ensures cause { HasCause (D.faults self.old.disk + self.old.blown) (D.faults self.new.disk + self.new.blown) result }
+        ensures cause { HasCause (D.faults self.old.disk + self.old.blown)
+            (D.faults self.new.disk + self.new.blown) result }
     {
         if self.calls == 0 {
             self.blown = self.blown.saturating_add(1);
@@ -72,27 +76,83 @@ impl<D: Disk> Disk for FuseDisk<D> {
 
     ghost only_now = { λ fuse c left. D.only_now fuse.disk c left };
 
-    fn attach(&mut self, name: &str, make: bool) -> Result<(), Failed> {
+    fn attach(&mut self, name: &str, make: bool) -> Result<(), Failed>
+        ensures attached { Attaches (D.attached self.old.disk) name.now make result
+            (D.attached self.new.disk) }
+        ensures quiet { IsQuiet (λ fuse. D.seen fuse.disk) (λ fuse c. D.image fuse.disk c)
+            (λ fuse. D.moment fuse.disk) (λ fuse t c. D.image_since fuse.disk t c)
+            self.old self.new }
+        ensures cause { HasCause (D.faults self.old.disk + self.old.blown)
+            (D.faults self.new.disk + self.new.blown) result }
+        ensures passes { Burns D.faults self.old.calls self.old.disk self.new.disk result }
+        ensures calls { self.new.calls ≡ self.old.calls - 1 }
+    {
         self.burn()?;
         self.disk.attach(name, make)
     }
 
-    fn len(&mut self) -> Result<u64, Failed> {
+    fn len(&mut self) -> Result<u64, Failed>
+        ensures len { IfOk result (λ len. HasLength (D.seen self.old.disk) len) }
+        ensures attached { D.attached self.new.disk ≡ D.attached self.old.disk }
+        ensures quiet { IsQuiet (λ fuse. D.seen fuse.disk) (λ fuse c. D.image fuse.disk c)
+            (λ fuse. D.moment fuse.disk) (λ fuse t c. D.image_since fuse.disk t c)
+            self.old self.new }
+        ensures cause { HasCause (D.faults self.old.disk + self.old.blown)
+            (D.faults self.new.disk + self.new.blown) result }
+        ensures passes { Burns D.faults self.old.calls self.old.disk self.new.disk result }
+        ensures calls { self.new.calls ≡ self.old.calls - 1 }
+    {
         self.burn()?;
         self.disk.len()
     }
 
-    fn read_at(&mut self, at: u64, into: &mut [u8]) -> Result<(), Failed> {
+    fn read_at(&mut self, at: u64, into: &mut [u8]) -> Result<(), Failed>
+        requires { RangeWithin (D.seen self.old.disk) at (length into.old) }
+        ensures read { OnOk result (StandAt (D.seen self.old.disk) at into.new) }
+        ensures attached { D.attached self.new.disk ≡ D.attached self.old.disk }
+        ensures quiet { IsQuiet (λ fuse. D.seen fuse.disk) (λ fuse c. D.image fuse.disk c)
+            (λ fuse. D.moment fuse.disk) (λ fuse t c. D.image_since fuse.disk t c)
+            self.old self.new }
+        ensures cause { HasCause (D.faults self.old.disk + self.old.blown)
+            (D.faults self.new.disk + self.new.blown) result }
+        ensures passes { Burns D.faults self.old.calls self.old.disk self.new.disk result }
+        ensures calls { self.new.calls ≡ self.old.calls - 1 }
+    {
         self.burn()?;
         self.disk.read_at(at, into)
     }
 
-    fn write_at(&mut self, at: u64, bytes: &[u8]) -> Result<(), Failed> {
+    fn write_at(&mut self, at: u64, bytes: &[u8]) -> Result<(), Failed>
+        requires { StartsWithin (D.seen self.old.disk) at }
+        ensures written { OnOk result (Written (D.seen self.old.disk) at bytes.now
+            (D.seen self.new.disk)) }
+        ensures in_part { OnErr result (WrittenInPart (D.seen self.old.disk) at (length bytes.now)
+            (D.seen self.new.disk)) }
+        ensures images { Follows (Torn at (length bytes.now)) (D.image self.old.disk)
+            (D.image self.new.disk) }
+        ensures time { Elapses (D.moment self.old.disk) (D.moment self.new.disk)
+            (D.image_since self.old.disk) (D.image_since self.new.disk) (D.image self.new.disk) }
+        ensures attached { D.attached self.new.disk ≡ D.attached self.old.disk }
+        ensures cause { HasCause (D.faults self.old.disk + self.old.blown)
+            (D.faults self.new.disk + self.new.blown) result }
+        ensures passes { Burns D.faults self.old.calls self.old.disk self.new.disk result }
+        ensures calls { self.new.calls ≡ self.old.calls - 1 }
+    {
         self.burn()?;
         self.disk.write_at(at, bytes)
     }
 
-    fn sync(&mut self) -> Result<(), Failed> {
+    fn sync(&mut self) -> Result<(), Failed>
+        ensures settled { OnOk result (IsSettled (D.seen self.new.disk) (D.image self.new.disk)) }
+        ensures attached { D.attached self.new.disk ≡ D.attached self.old.disk }
+        ensures quiet { IsQuiet (λ fuse. D.seen fuse.disk) (λ fuse c. D.image fuse.disk c)
+            (λ fuse. D.moment fuse.disk) (λ fuse t c. D.image_since fuse.disk t c)
+            self.old self.new }
+        ensures cause { HasCause (D.faults self.old.disk + self.old.blown)
+            (D.faults self.new.disk + self.new.blown) result }
+        ensures passes { Burns D.faults self.old.calls self.old.disk self.new.disk result }
+        ensures calls { self.new.calls ≡ self.old.calls - 1 }
+    {
         self.burn()?;
         self.disk.sync()
     }

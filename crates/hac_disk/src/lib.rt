@@ -2,7 +2,6 @@
 //! and knows nothing of what the bytes mean.
 #![tactic(auto)]
 
-mod calls;
 mod disks;
 mod files;
 mod fuse;

@@ -7,10 +7,9 @@ ghost use Rattle.hac_disk.specs.Memory.{Attached, IsFailing, IsNextCall, Synced,
 ghost use Rattle.hac_disk.specs.Parts.{contents};
 ghost use Rattle.hac_disk.specs.Told.{Attaches, HasLength, IsSettled, RangeWithin, StandAt, StartsWithin, Written, WrittenInPart};
 
-use super::calls::Calls;
 use super::disks::Disk;
 use super::parts::{joined, read_parts, write_parts};
-use hac_outside::Failed;
+use hac_outside::{Calls, Failed};
 use std::alloc::{AllocError, Global};
 use std::marker::Model;
 
@@ -26,6 +25,7 @@ pub struct MemoryDisk {
     log: Vec<Step>,
     kept: Vec<u8>,
     room: usize,
+    last_call: u64,
     calls: Calls,
 }
 
@@ -97,7 +97,8 @@ impl MemoryDisk {
             log: Vec::with_capacity(alloc, calls as usize)?,
             kept: Vec::with_capacity(alloc, room)?,
             room,
-            calls: Calls::new(alloc, calls, failing)?,
+            last_call: calls,
+            calls: Calls::new(alloc, failing)?,
         })
     }
 }
@@ -134,7 +135,7 @@ impl Disk for MemoryDisk {
         ensures room { self.new.room ≡ (if is_ok result then self.old.room - length name.now else self.old.room) }
         ensures plan { IsNextCall self.old self.new result }
     {
-        self.calls.begin()?;
+        self.calls.begin_within(self.last_call)?;
         let name = name.as_bytes();
         if name.len() > self.room {
             return Err(self.calls.fail());
@@ -157,7 +158,7 @@ impl Disk for MemoryDisk {
         ensures room { self.new.room ≡ self.old.room }
         ensures plan { IsNextCall self.old self.new result }
     {
-        self.calls.begin()?;
+        self.calls.begin_within(self.last_call)?;
         Ok((self.head.len() + self.gap + self.tail.len()) as u64)
     }
 
@@ -172,7 +173,7 @@ impl Disk for MemoryDisk {
         ensures room { self.new.room ≡ self.old.room }
         ensures plan { IsNextCall self.old self.new result }
     {
-        self.calls.begin()?;
+        self.calls.begin_within(self.last_call)?;
         read_parts(&self.head, self.gap, &self.tail, at as usize, into);
         Ok(())
     }
@@ -190,7 +191,7 @@ impl Disk for MemoryDisk {
         ensures room { self.new.room ≡ (if is_ok result then self.old.room - length bytes.now else self.old.room) }
         ensures plan { IsNextCall self.old self.new result }
     {
-        self.calls.begin()?;
+        self.calls.begin_within(self.last_call)?;
         if bytes.len() > self.room {
             return Err(self.calls.fail());
         }
@@ -213,7 +214,7 @@ impl Disk for MemoryDisk {
         ensures room { self.new.room ≡ self.old.room }
         ensures plan { IsNextCall self.old self.new result }
     {
-        self.calls.begin()?;
+        self.calls.begin_within(self.last_call)?;
         self.log.push(Step::Sync).unwrap();
         Ok(())
     }

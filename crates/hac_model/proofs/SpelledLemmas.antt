@@ -1,6 +1,6 @@
 -- Each event that can happen to a valid state has a spelling: its numbers have four bytes, and its names, texts and
 -- queries are no longer than such may be.
-use Rattle.std.proofs.Common.{inl, inr, ◌≡◌, ℕ, ◌<◌, ◌≤◌, Bool, true, false, List, [], ◌∷◌, length, refl, ap, sym, ◌∙◌, arith}
+use Rattle.std.proofs.Common.{inl, inr, ◌≡◌, ℕ, ◌<◌, ◌≤◌, Bool, true, false, List, [], ◌∷◌, ◌++◌, length, refl, ap, sym, ◌∙◌, arith}
 use Rattle.std.specs.Prelude.{codes, not, option_and_then, ◌&&◌, ◌==◌, nat_le, Option, Some, None, IsTrue, is_none, is_some}
 use Rattle.std.proofs.lemmas.Bool.{and_from, and_parts, eqb-true}
 use Rattle.std.proofs.lemmas.Bool.Decides.{nat_tests}
@@ -17,22 +17,21 @@ use Rattle.hac_model.specs.Limits.{is_text, passed}
 use Rattle.hac_model.specs.Links.{is_item, is_semantic, parent_of}
 use Rattle.hac_model.specs.Names.{is_name, is_name_byte}
 use Rattle.hac_model.specs.Payloads.{is_spellable, mark_field, name_field, text_field, told_field}
-use Rattle.hac_model.specs.Queries.{are_terms, is_query, letter_count, not_count, term_count}
-use Rattle.hac_model.specs.QueryFields.{query_field, terms_fit, word_field}
+use Rattle.hac_model.specs.Queries.{is_query}
+use Rattle.hac_model.specs.QueryFields.{are_nums, query_field}
 use Rattle.hac_model.specs.Sessions.{stored}
 use Rattle.hac_model.specs.Tree.{body_at, entry_at, is_directory, is_directory_at, is_file, is_file_at, is_made_directory, query_in}
 use Rattle.hac_model.specs.Valid.{IsValid}
 use Rattle.hac_model.specs.Words.{is_word}
 use Rattle.hac_model.specs.declared.events.Event.{Event}
 use Rattle.hac_model.specs.declared.events.Event.TheVariants.{Mkdir, NewFile, Rewrite, Ln, Mv, Rm, Rmdir, Smkdir, Setq, Unq, Mark, Smount, Ssync, Sumount, Step, Cd}
-use Rattle.hac_model.specs.declared.limits.TheConstants.{NAME_LIMIT, NESTING_LIMIT, NUMBERS_LIMIT, QUERY_LIMIT, TERMS_LIMIT, TEXT_LIMIT}
+use Rattle.hac_model.specs.declared.limits.TheConstants.{NAME_LIMIT, NUMBERS_LIMIT, TEXT_LIMIT}
 use Rattle.hac_model.specs.declared.marks.Kind.{Kind}
 use Rattle.hac_model.specs.declared.marks.Kind.TheVariants.{Transient, Permanent, Prohibited, Unlinked}
 use Rattle.hac_model.specs.declared.states.Body.{Body}
 use Rattle.hac_model.specs.declared.states.Entry.{Entry}
 use Rattle.hac_model.specs.declared.states.Session.{Session}
 use Rattle.hac_model.specs.declared.states.State.{State}
-use Rattle.hac_model.specs.declared.terms.Term.TheVariants.{Word, Prefix}
 use Rattle.hac_model.proofs.AcyclicLemmas.{apply-valid}
 use Rattle.hac_model.proofs.LimitLemmas.{IsWithinLimits, limits-within}
 use Rattle.hac_model.proofs.TreeLemmas.{Lives, directory-lives, entry_at-below}
@@ -64,29 +63,20 @@ module _ (s : State) (h : IsValid s) where
   query-fits : (q : Formula ℕ) → may_ask s q ≡ true → query_field.fits q ≡ true
   query-fits q may =
       let asks = and_parts (is_query q) (are_directories s (named_in q)) may in
-      let nots = and_parts (are_terms q && nat_le (term_count q) TERMS_LIMIT && nat_le (letter_count q) QUERY_LIMIT) (nat_le (not_count q) NESTING_LIMIT) asks.0 in
-      let letters = and_parts (are_terms q && nat_le (term_count q) TERMS_LIMIT) (nat_le (letter_count q) QUERY_LIMIT) nots.0 in
-      let terms = and_parts (are_terms q) (nat_le (term_count q) TERMS_LIMIT) letters.0 in
-      let few : letter_count q ≤ 1024 = grind (arith, nat_tests, letters.1) in
-      and_from _ (terms_fit q) (and_from _ (nat_le (not_count q) 32) (and_from (nat_le (term_count q) 64) (nat_le (letter_count q) 1024) terms.1 letters.1) nots.1)
-      (terms-fit q terms.0 few asks.1)
+      and_from (is_query q) (are_nums q) asks.0 (nums-fit q asks.1)
     where
-      word-fits : (letters : List ℕ) → is_word letters ≡ true → length letters ≤ 1024 → word_field.fits letters ≡ true
-      word-fits letters word few = and_from (nat_le (length letters) 1024) (is_word letters) (grind (arith, nat_tests, few)) word
+      both-fit : (left right : Formula ℕ) → (are_directories s (named_in left) ≡ true → are_nums left ≡ true) → (are_directories s (named_in right) ≡ true → are_nums right ≡ true)
+          → are_directories s (named_in left ++ named_in right) ≡ true → (are_nums left && are_nums right) ≡ true
+      both-fit left right one other named =
+          let dirs = and_parts (are_directories s (named_in left)) (are_directories s (named_in right)) (sym (list_all-append (λ d. is_directory_at s.entries d) (named_in left) (named_in right)) ∙ named) in
+          and_from (are_nums left) (are_nums right) (one dirs.0) (other dirs.1)
 
-      terms-fit : (q : Formula ℕ) → are_terms q ≡ true → letter_count q ≤ 1024 → are_directories s (named_in q) ≡ true → terms_fit q ≡ true
-      terms-fit (formula.Term (Word letters)) terms few named = word-fits letters terms few
-      terms-fit (formula.Term (Prefix letters)) terms few named = word-fits letters terms few
-      terms-fit (formula.Dir dir) terms few named = directory-fits dir (and_parts (is_directory_at s.entries dir) true named).0
-      terms-fit (formula.Not q) terms few named = terms-fit q terms few named
-      terms-fit (formula.And left right) terms few named =
-          let words = and_parts (are_terms left) (are_terms right) terms in
-          let dirs = and_parts (are_directories s (named_in left)) (are_directories s (named_in right)) (sym (list_all-append (λ d. is_directory_at s.entries d) (named_in left) (named_in right)) ∙ named) in
-          and_from (terms_fit left) (terms_fit right) (terms-fit left words.0 (omega (arith, few)) dirs.0) (terms-fit right words.1 (omega (arith, few)) dirs.1)
-      terms-fit (formula.Or left right) terms few named =
-          let words = and_parts (are_terms left) (are_terms right) terms in
-          let dirs = and_parts (are_directories s (named_in left)) (are_directories s (named_in right)) (sym (list_all-append (λ d. is_directory_at s.entries d) (named_in left) (named_in right)) ∙ named) in
-          and_from (terms_fit left) (terms_fit right) (terms-fit left words.0 (omega (arith, few)) dirs.0) (terms-fit right words.1 (omega (arith, few)) dirs.1)
+      nums-fit : (q : Formula ℕ) → are_directories s (named_in q) ≡ true → are_nums q ≡ true
+      nums-fit (formula.Term term) named = refl
+      nums-fit (formula.Dir dir) named = directory-fits dir (and_parts (is_directory_at s.entries dir) true named).0
+      nums-fit (formula.Not q) named = nums-fit q named
+      nums-fit (formula.And left right) named = both-fit left right (nums-fit left) (nums-fit right) named
+      nums-fit (formula.Or left right) named = both-fit left right (nums-fit left) (nums-fit right) named
 
   name-fits : (name : List ℕ) → is_name name ≡ true → name_field.fits name ≡ true
   name-fits name is =

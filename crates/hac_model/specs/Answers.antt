@@ -1,6 +1,5 @@
 -- Values and refusals.
 use Rattle.std.specs.Prelude.{◌≡◌, ⊤, List, [], ◌∷◌, Option, None, Some, Result, Ok, Err}
-use Rattle.std.specs.Option.{option_map_or}
 use Rattle.hac_model.specs.declared.replies.Deny.{Deny}
 use Rattle.hac_model.specs.declared.replies.Deny.TheVariants.{Refused, Memory}
 use Rattle.hac_model.specs.declared.replies.Refusal.{Refusal}
@@ -30,17 +29,18 @@ abbrev pub Passes : {A : Type 0} → Result A Deny → Option Refusal → Type 0
 Passes (Ok value) cause = cause ≡ None
 Passes (Err deny) cause = Refuses deny cause
 
--- what the value leads to, or the refusal
-abbrev pub and_then : {A B : Type 0} → (A → Result B Refusal) → Result A Refusal → Result B Refusal
+-- what the value leads to, or the error
+abbrev pub and_then : {A B E : Type 0} → (A → Result B E) → Result A E → Result B E
 and_then next (Ok value) = next value
-and_then next (Err refusal) = Err refusal
+and_then next (Err error) = Err error
 
 -- the same, where steps are written one below the other
 infixl 10 ◌>>=◌
-abbrev pub ◌>>=◌ : {A B : Type 0} → Result A Refusal → (A → Result B Refusal) → Result B Refusal
+abbrev pub ◌>>=◌ : {A B E : Type 0} → Result A E → (A → Result B E) → Result B E
 value >>= next = and_then next value
 
 -- the first cause of a list in which each place may be empty
 abbrev pub first_cause : List (Option Refusal) → Option Refusal
 first_cause [] = None
-first_cause (cause ∷ causes) = option_map_or Some cause (first_cause causes)
+first_cause (None ∷ causes) = first_cause causes
+first_cause (Some cause ∷ causes) = Some cause

@@ -1,21 +1,14 @@
 -- Which directories depend on which.
-use Rattle.std.specs.Prelude.{◌≡◌, ◌⊎◌, ℕ, zero, suc, ◌==◌, ◌||◌, Bool, if◌then◌else◌, List, [], ◌∷◌, ◌++◌, false, filter, Option, None, Some, option_and_then}
+use Rattle.std.specs.Prelude.{◌≡◌, ◌⊎◌, ℕ, zero, suc, ◌==◌, ◌||◌, Bool, if◌then◌else◌, List, [], ◌∷◌, false, filter, Option, None, Some, option_and_then}
 use Rattle.std.specs.List.{list_any}
 use Rattle.std.specs.Option.{option_map_or}
-use Rattle.hac_model.specs.Formula.{Formula, Term, Dir, Not, And, Or}
+use Rattle.hac_model.specs.Formula.{Formula}
 use Rattle.hac_model.specs.Limits.{semantic_count}
 use Rattle.hac_model.specs.Links.{has, parent_of, query_at}
+pub use Rattle.hac_model.specs.Queries.{named_in}
 use Rattle.hac_model.specs.Tree.{query_in}
 use Rattle.hac_model.specs.declared.states.Entry.{Entry}
 use Rattle.hac_model.specs.declared.states.State.{State}
-
--- the directories that a query names, in its order
-abbrev pub named_in : Formula ℕ → List ℕ
-named_in (Term term) = []
-named_in (Dir dir) = dir ∷ []
-named_in (Not query) = named_in query
-named_in (And left right) = named_in left ++ named_in right
-named_in (Or left right) = named_in left ++ named_in right
 
 -- the directories that a directory depends on: a semantic one on its parent, and on those that its query
 -- names

@@ -3,6 +3,7 @@ pub mod Answers
 pub mod Names
 pub mod Paths
 pub mod PathWords
+pub mod Terms
 pub mod Words
 pub mod Formula
 pub mod FormulaOf

@@ -4,7 +4,7 @@ use Rattle.std.specs.List.{list_any, range_with_len}
 use Rattle.std.specs.Option.{option_map_or}
 use Rattle.hac_model.specs.Limits.{semantic_count}
 use Rattle.hac_model.specs.Formula.{Formula}
-use Rattle.hac_model.specs.Formula as query
+use Rattle.hac_model.specs.Queries.{judged}
 use Rattle.hac_model.specs.Tree.{body_at, entry_at, extends, is_directory_at, is_file_at, path_of, permanent_in, prohibited_in, query_in, shown_text}
 use Rattle.hac_model.specs.Words.{has_term}
 use Rattle.hac_model.specs.declared.marks.Kind.{Kind}
@@ -71,11 +71,7 @@ provide s linked dir item = is_below s dir item || (is_semantic s dir && (linked
 
 -- the item satisfies the query
 abbrev pub holds : State → (ℕ → Bool) → Formula ℕ → ℕ → Bool
-holds s linked (query.Term term) item = atom s term item
-holds s linked (query.Dir dir) item = provide s linked dir item
-holds s linked (query.Not query) item = not (holds s linked query item)
-holds s linked (query.And left right) item = holds s linked left item && holds s linked right item
-holds s linked (query.Or left right) item = holds s linked left item || holds s linked right item
+holds s linked query item = judged (atom s) (provide s linked) query item
 
 -- the item satisfies the directory's query
 abbrev pub satisfies : State → (ℕ → Bool) → ℕ → ℕ → Bool

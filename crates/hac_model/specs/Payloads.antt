@@ -2,7 +2,8 @@
 use Rattle.std.specs.Prelude.{ℕ, Bool, true, false, ◌-◌, ◌==◌, ◌&&◌, not, if◌then◌else◌, nat_lt, nat_le, List, [], ◌∷◌, length, Option, Result, Ok, Err}
 use Rattle.std.specs.Int.{w8, w16, w32}
 use Rattle.std.specs.Option.{option_map_or}
-use Rattle.hac_model.specs.Fields.{Field, Part, Way, ◌>>=◌, num, run, nothing, ◌&◌, checked, list, part, way, choice}
+use Rattle.hac_model.specs.Answers.{◌>>=◌}
+use Rattle.hac_model.specs.Fields.{Field, Part, Way, num, run, nothing, ◌&◌, checked, list, part, way, choice}
 use Rattle.hac_model.specs.Listing.{is_before}
 use Rattle.hac_model.specs.Names.{is_name}
 use Rattle.hac_model.specs.PathWords.{has_long_part, is_bad}

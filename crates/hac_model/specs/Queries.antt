@@ -1,50 +1,72 @@
--- Queries: the words of which they are made, and how much one may hold.
-use Rattle.std.specs.Prelude.{ℕ, Bool, true, ◌+◌, ◌&&◌, ◌||◌, nat_le, max, length, List, codes}
+-- Queries: what they say of an item, what they name, and how much one may hold.
+use Rattle.std.specs.Prelude.{ℕ, Bool, true, ◌+◌, ◌&&◌, ◌||◌, not, nat_le, max, List, [], ◌∷◌, ◌++◌, length, codes}
 use Rattle.std.specs.Str.{bytes_eq}
+use Rattle.hac_model.specs.Terms.{letters_in}
 use Rattle.hac_model.specs.Words.{is_word}
 use Rattle.hac_model.specs.Formula.{Formula}
 use Rattle.hac_model.specs.Formula as query
 use Rattle.hac_model.specs.declared.limits.TheConstants.{QUERY_LIMIT, TERMS_LIMIT, NESTING_LIMIT}
 use Rattle.hac_model.specs.declared.terms.Term.{Term}
-use Rattle.hac_model.specs.declared.terms.Term.TheVariants.{Word, Prefix}
 
 -- the bytes join queries, and are no word of one
 abbrev pub is_operator : List ℕ → Bool
 is_operator run = bytes_eq run (codes "AND") || bytes_eq run (codes "OR") || bytes_eq run (codes "NOT")
 
+-- ---- walks over a query, whose leaves are its terms and its directories
+
+-- each leaf passes the test of its kind
+abbrev pub all_leaves : {D : Type 0} → (Term → Bool) → (D → Bool) → Formula D → Bool
+all_leaves is_good is_there (query.Term term) = is_good term
+all_leaves is_good is_there (query.Dir dir) = is_there dir
+all_leaves is_good is_there (query.Not query) = all_leaves is_good is_there query
+all_leaves is_good is_there (query.And left right) = all_leaves is_good is_there left && all_leaves is_good is_there right
+all_leaves is_good is_there (query.Or left right) = all_leaves is_good is_there left && all_leaves is_good is_there right
+
+-- the sum of what each leaf counts for
+abbrev pub sum_leaves : {D : Type 0} → (Term → ℕ) → (D → ℕ) → Formula D → ℕ
+sum_leaves of_term of_dir (query.Term term) = of_term term
+sum_leaves of_term of_dir (query.Dir dir) = of_dir dir
+sum_leaves of_term of_dir (query.Not query) = sum_leaves of_term of_dir query
+sum_leaves of_term of_dir (query.And left right) = sum_leaves of_term of_dir left + sum_leaves of_term of_dir right
+sum_leaves of_term of_dir (query.Or left right) = sum_leaves of_term of_dir left + sum_leaves of_term of_dir right
+
+-- the directories that a query names, in its order
+abbrev pub named_in : {D : Type 0} → Formula D → List D
+named_in (query.Term term) = []
+named_in (query.Dir dir) = dir ∷ []
+named_in (query.Not query) = named_in query
+named_in (query.And left right) = named_in left ++ named_in right
+named_in (query.Or left right) = named_in left ++ named_in right
+
+-- the item satisfies the query, given which items have a term and which a directory provides
+abbrev pub judged : (Term → ℕ → Bool) → (ℕ → ℕ → Bool) → Formula ℕ → ℕ → Bool
+judged has provides (query.Term term) item = has term item
+judged has provides (query.Dir dir) item = provides dir item
+judged has provides (query.Not query) item = not (judged has provides query item)
+judged has provides (query.And left right) item = judged has provides left item && judged has provides right item
+judged has provides (query.Or left right) item = judged has provides left item || judged has provides right item
+
+-- ---- how much a query may hold
+
 -- the letters are those of a word as texts have them
 abbrev pub is_term : Term → Bool
-is_term (Word letters) = is_word letters
-is_term (Prefix letters) = is_word letters
+is_term term = is_word (letters_in term)
 
 -- the words and beginnings of words of a query are as texts have them
 abbrev pub are_terms : {D : Type 0} → Formula D → Bool
-are_terms (query.Term term) = is_term term
-are_terms (query.Dir dir) = true
-are_terms (query.Not query) = are_terms query
-are_terms (query.And left right) = are_terms left && are_terms right
-are_terms (query.Or left right) = are_terms left && are_terms right
+are_terms query = all_leaves is_term (λ dir. true) query
 
 -- how many terms a query has: words, beginnings of words, and directories
 abbrev pub term_count : {D : Type 0} → Formula D → ℕ
-term_count (query.Term term) = 1
-term_count (query.Dir dir) = 1
-term_count (query.Not query) = term_count query
-term_count (query.And left right) = term_count left + term_count right
-term_count (query.Or left right) = term_count left + term_count right
+term_count query = sum_leaves (λ term. 1) (λ dir. 1) query
 
 -- how many bytes the letters of a term are
 abbrev pub term_size : Term → ℕ
-term_size (Word letters) = length letters
-term_size (Prefix letters) = length letters
+term_size term = length (letters_in term)
 
 -- how many bytes the letters of a query's terms are, all together
 abbrev pub letter_count : {D : Type 0} → Formula D → ℕ
-letter_count (query.Term term) = term_size term
-letter_count (query.Dir dir) = 0
-letter_count (query.Not query) = letter_count query
-letter_count (query.And left right) = letter_count left + letter_count right
-letter_count (query.Or left right) = letter_count left + letter_count right
+letter_count query = sum_leaves term_size (λ dir. 0) query
 
 -- the most `NOT`s on any way down to a term
 abbrev pub not_count : {D : Type 0} → Formula D → ℕ

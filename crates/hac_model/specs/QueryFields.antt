@@ -1,18 +1,20 @@
 -- How queries are spelled: each `AND`, `OR` and `NOT` in front of what it joins.
-use Rattle.std.specs.Prelude.{ℕ, zero, suc, Bool, false, ◌-◌, ◌==◌, ◌&&◌, if◌then◌else◌, nat_le, List, [], ◌∷◌, ◌++◌, length, Option, Some, None, Result, Ok, Err}
+use Rattle.std.specs.Prelude.{ℕ, zero, suc, Bool, true, false, ◌-◌, ◌==◌, ◌&&◌, if◌then◌else◌, nat_le, List, [], ◌∷◌, ◌++◌, length, Option, Some, None, Result, Ok, Err}
 use Rattle.std.specs.Int.{w16}
 use Rattle.std.specs.Option.{ok_or}
-use Rattle.hac_model.specs.Fields.{Field, Part, Way, ◌>>=◌, num, run, nothing, part, way, whole_way, choice}
+use Rattle.hac_model.specs.Answers.{◌>>=◌}
+use Rattle.hac_model.specs.Fields.{Field, Part, Way, num, run, nothing, part, way, whole_way, choice}
 use Rattle.hac_model.specs.Formula.{Formula}
 use Rattle.hac_model.specs.Formula as query
-use Rattle.hac_model.specs.Queries.{term_size, term_count, letter_count, not_count}
+use Rattle.hac_model.specs.Queries.{all_leaves, is_query, term_size}
 use Rattle.hac_model.specs.Words.{is_word}
+use Rattle.hac_model.specs.declared.limits.TheConstants.{NESTING_LIMIT, QUERY_LIMIT, TERMS_LIMIT}
 use Rattle.hac_model.specs.declared.terms.Term as asked
 use Rattle.hac_model.specs.declared.terms.Term.TheVariants.{Word, Prefix}
 
 -- the letters of a term
 abbrev pub word_field : Field (List ℕ)
-word_field = run w16 1024 is_word
+word_field = run w16 QUERY_LIMIT is_word
 
 -- a part of a query without what it joins
 pub data Token : Type 0 where
@@ -43,16 +45,6 @@ token_ways =
 
 abbrev pub token_field : Field Token
 token_field = choice token_part token_ways
-
--- ---- what a query may hold
-
--- each of its terms has bytes
-abbrev pub terms_fit : Formula ℕ → Bool
-terms_fit (query.Term term) = token_field.fits (Term term)
-terms_fit (query.Dir dir) = token_field.fits (Dir dir)
-terms_fit (query.Not q) = terms_fit q
-terms_fit (query.And left right) = terms_fit left && terms_fit right
-terms_fit (query.Or left right) = terms_fit left && terms_fit right
 
 -- the bytes of a query
 abbrev pub query_bytes : Formula ℕ → List ℕ
@@ -123,12 +115,17 @@ abbrev pub first_built : List (Formula ℕ) → List ℕ → Result (Formula ℕ
 first_built [] bytes = Err (length bytes)
 first_built (q ∷ queries) bytes = Ok (q, bytes)
 
--- one query: at most 64 terms, 1,024 bytes of letters, and 32 `NOT`s on any way down
+-- one query, which holds no more than a query may
 unfoldable pub query_read : List ℕ → Result (Formula ℕ × List ℕ) ℕ
-query_read bytes = tokens_at (length bytes) (32 ∷ []) 64 1024 bytes >>= λ tokens. first_built (built tokens.0 []) tokens.1
+query_read bytes = tokens_at (length bytes) (NESTING_LIMIT ∷ []) TERMS_LIMIT QUERY_LIMIT bytes >>= λ tokens. first_built (built tokens.0 []) tokens.1
 
+-- the directories of a query are numbers of four bytes
+abbrev pub are_nums : Formula ℕ → Bool
+are_nums q = all_leaves (λ term. true) (λ dir. num.fits dir) q
+
+-- the query holds no more than a query may, and its numbers have bytes
 abbrev pub query_fits : Formula ℕ → Bool
-query_fits q = nat_le (term_count q) 64 && nat_le (letter_count q) 1024 && nat_le (not_count q) 32 && terms_fit q
+query_fits q = is_query q && are_nums q
 
 -- a query
 abbrev pub query_field : Field (Formula ℕ)

@@ -10,7 +10,7 @@ use Rattle.hac_model.specs.Grammar.{Leaf, leaf_part, not_part, and_part, or_part
 use Rattle.hac_model.specs.Grammar as leaf
 use Rattle.hac_model.specs.PathWords.{word_of}
 use Rattle.hac_model.specs.Paths.{are_names}
-use Rattle.hac_model.specs.Queries.{is_operator, is_query, term_count}
+use Rattle.hac_model.specs.Queries.{all_leaves, is_operator, is_query, term_count}
 use Rattle.hac_model.specs.Words.{is_word_byte, lower_case}
 use Rattle.hac_model.specs.declared.limits.LimitWord.TheVariants as limit
 use Rattle.hac_model.specs.declared.limits.TheConstants.{QUERY_LIMIT, TERMS_LIMIT, NESTING_LIMIT}
@@ -288,11 +288,7 @@ read_query bytes = if nat_lt QUERY_LIMIT (length bytes) then Err (Limit limit.Qu
 
 -- the directories of a query are words that begin at the root, and their names are names
 abbrev pub are_rooted : Formula PathWord → Bool
-are_rooted (formula.Term asked) = true
-are_rooted (formula.Dir word) = word.absolute && are_names word.names
-are_rooted (formula.Not query) = are_rooted query
-are_rooted (formula.And left right) = are_rooted left && are_rooted right
-are_rooted (formula.Or left right) = are_rooted left && are_rooted right
+are_rooted query = all_leaves (λ asked. true) (λ word. word.absolute && are_names word.names) query
 
 -- the query is as a line spells it: it holds no more than a query may, and its directories begin at the root
 abbrev pub is_spelled_query : Formula PathWord → Bool

@@ -1,11 +1,12 @@
 //! Lists and names as contracts see them: by their elements, and not by where these lie in memory.
-ghost use Rattle.std.specs.Prelude.{◌≡◌, List, ℕ, Some, nat_eq, refl};
+ghost use Rattle.std.specs.Prelude.{◌≡◌, ◌==◌, ◌∷◌, [], List, ℕ, MatchOption, OnErr, OnOk, Some, length, nat_eq, refl};
 ghost use Rattle.std.specs.Ordering.{nat_cmp};
 ghost use Rattle.std.specs.Cmp.Lexicographic.{pointwise, slice_cmp, lists_per, lists_equiv, nat_list_eq_equiv, nat_list_cmp_total, texts_ties, texts_po};
 ghost use Rattle.std.specs.Cmp.{partial_equiv_from_equiv};
 ghost use Rattle.std.specs.List.{AllZip};
 
-use std::alloc::AllocError;
+use crate::memory::Memory;
+use std::alloc::{AllocError, Global};
 use std::cmp::Ordering;
 use std::marker::Model;
 
@@ -64,6 +65,52 @@ impl<T: PartialEq> PartialEq for Seq<T> {
 
 impl<T: Eq> Eq for Seq<T> {
     ghost laws = { lists_equiv T.Eq.laws };
+}
+
+/// Values one on the other, seen as a list with the topmost first.
+#[derive(Debug, Drop)]
+pub struct Pile<T>(Vec<T>);
+
+impl<T> Model for Pile<T> {
+    ghost use Rattle.std.specs.Prelude.{List, reverse};
+
+    ghost Value = { List T };
+
+    ghost view = { λ pile. reverse pile.0.items };
+}
+
+impl<T> Pile<T> {
+    /// No values.
+    pub fn new(alloc: Global) -> Pile<T>
+        ensures { result ≡ [] }
+    {
+        Pile(Vec::new(alloc))
+    }
+
+    /// Puts a value on the others.
+    pub fn push(&mut self, value: T) -> Result<(), Memory>
+    where
+        T: Drop,
+        ensures ok { OnOk result (self.new ≡ value ∷ self.old) }
+        ensures err { OnErr result (self.new ≡ self.old) }
+    {
+        self.0.push(value)?;
+        Ok(())
+    }
+
+    /// Takes the topmost value.
+    pub fn pop(&mut self) -> Option<T>
+        ensures { MatchOption result ((self.old ≡ []) × (self.new ≡ [])) (λ value. self.old ≡ value ∷ self.new) }
+    {
+        self.0.pop()
+    }
+
+    /// Whether there are no values.
+    pub fn is_empty(&self) -> bool
+        ensures { result ≡ (length self.now == 0) }
+    {
+        self.0.is_empty()
+    }
 }
 
 /// The bytes of a file or of an argument, of any values.

@@ -22,7 +22,7 @@ mod spaces;
 mod states;
 mod terms;
 
-pub use bytes::{Name, Seq, Text};
+pub use bytes::{Name, Pile, Seq, Text};
 pub use commands::{Command, Line};
 pub use counts::Counts;
 pub use events::Event;

@@ -1,51 +1,7 @@
 //! How far a query was read, byte by byte: what comes before the next byte. `step` of the specs says what a byte makes
 //! of it.
-ghost use Rattle.std.specs.Prelude.{◌≡◌, ◌∷◌, [], MatchOption, OnOk, OnErr};
-
-use crate::bytes::{Name, Text};
-use crate::memory::Memory;
+use crate::bytes::{Name, Pile, Text};
 use crate::queries::Query;
-use std::alloc::Global;
-use std::marker::Model;
-
-/// Values one on the other, seen as a list with the topmost first.
-#[derive(Debug, Drop)]
-pub struct Pile<T>(Vec<T>);
-
-impl<T> Model for Pile<T> {
-    ghost use Rattle.std.specs.Prelude.{List, reverse};
-
-    ghost Value = { List T };
-
-    ghost view = { λ pile. reverse pile.0.items };
-}
-
-impl<T> Pile<T> {
-    /// No values.
-    pub fn new(alloc: Global) -> Pile<T>
-        ensures { result ≡ [] }
-    {
-        Pile(Vec::new(alloc))
-    }
-
-    /// Puts a value on the others.
-    pub fn push(&mut self, value: T) -> Result<(), Memory>
-    where
-        T: Drop,
-        ensures ok { OnOk result (self.new ≡ value ∷ self.old) }
-        ensures err { OnErr result (self.new ≡ self.old) }
-    {
-        self.0.push(value)?;
-        Ok(())
-    }
-
-    /// Takes the topmost value.
-    pub fn pop(&mut self) -> Option<T>
-        ensures { MatchOption result (self.old ≡ []) (λ value. self.old ≡ value ∷ self.new) }
-    {
-        self.0.pop()
-    }
-}
 
 /// A query as its bytes spell it, which names each directory by the bytes of its path.
 #[derive(Debug, Drop)]

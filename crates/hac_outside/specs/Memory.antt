@@ -1,10 +1,7 @@
 -- What a source and a sink in memory are seen as.
-use Rattle.std.specs.Prelude.{◌≡◌, ℕ, Bool, ◌+◌, ◌-◌, ◌^◌, ◌<◌, ◌⊎◌, min, max, List, length, Contains, None, Some}
+use Rattle.std.specs.Prelude.{◌≡◌, ℕ, Bool, ◌+◌, min, max, List, length, None, Some}
 use Rattle.std.specs.declared.option.Option.{Option}
-
--- the number after this one, or the last number of its type
-abbrev pub next_number : ℕ → ℕ
-next_number n = min (n + 1) (2 ^ 64 - 1)
+use Rattle.hac_outside.specs.Calls.{IsFailingCall, next_number}
 
 -- a count of bytes, cut to a piece where there is one: a piece of 0 counts as 1
 abbrev pub cut_to : Option ℕ → ℕ → ℕ
@@ -32,13 +29,9 @@ pub record SinkState : Type 0 where
   pub calls : ℕ
   pub faults : ℕ
 
--- a call fails where it comes after the last one, or is to fail
-abbrev pub IsFailingCall : ℕ → List ℕ → ℕ → Type 0
-IsFailingCall last failing call = (last < call) ⊎ Contains failing call
-
 -- the sink's next call fails, whatever it is asked
 abbrev pub IsFailing : SinkState → Type 0
-IsFailing sink = IsFailingCall sink.last_call sink.failing (next_number sink.calls)
+IsFailing sink = IsFailingCall sink.last_call sink.failing sink.calls
 
 -- a read has been counted, and the plan of the source stays
 pub record IsNextRead (old new : SourceState) : Type 0 where

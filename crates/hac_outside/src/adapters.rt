@@ -87,10 +87,24 @@ impl<W: Write> StdSink<W> {
 }
 
 impl<W: Write> Sink for StdSink<W> {
-    // Whatever the writer is, each byte counts as held back until it is flushed, up to the end of the type.
+    ghost use Rattle.std.specs.Prelude.{◌+◌, ◌-◌, ◌^◌, ◌≤◌, min, IfOk, OnErr, OnOk};
+    ghost use Rattle.hac_outside.specs.Causes.{HasCause};
+    ghost use Rattle.hac_outside.specs.Seen.{HoldsMore};
+
     ghost seen = { λ sink. record { written = W.contents sink.inner; held_back = sink.held_back; faults = sink.faults } };
 
-    fn write(&mut self, bytes: &[u8]) -> Result<usize, Failed> {
+    fn write(&mut self, bytes: &[u8]) -> Result<usize, Failed>
+        ensures bound { WritesAtMost result bytes.now }
+        ensures some { 0 < length bytes.now → result ≢ Ok 0 }
+        ensures bytes { WriteAppends (W.contents self.old.inner) (W.contents self.new.inner) result bytes.now }
+        ensures held { HoldsMore self.old.held_back self.new.held_back result }
+        ensures cause { HasCause self.old.faults self.new.faults result }
+
+        // Whatever the writer is, each byte counts as held back until it is flushed, up to the end of the type.
+        ensures counted { IfOk result (λ count. self.new.held_back ≡
+            min (self.old.held_back + count) (2 ^ 64 - 1)) }
+        ensures failed { OnErr result (self.new.held_back ≡ self.old.held_back) }
+    {
         let result = write_again(&mut self.inner, bytes);
         match result {
             Ok(count) => self.held_back = self.held_back.saturating_add(count as u64),
@@ -99,7 +113,13 @@ impl<W: Write> Sink for StdSink<W> {
         result
     }
 
-    fn flush(&mut self) -> Result<(), Failed> {
+    fn flush(&mut self) -> Result<(), Failed>
+        ensures bytes { Keeps (W.contents self.old.inner) (W.contents self.new.inner) }
+        ensures passed { OnOk result (self.new.held_back ≡ 0) }
+        ensures held { self.new.held_back ≤ self.old.held_back }
+        ensures cause { HasCause self.old.faults self.new.faults result }
+        ensures failed { OnErr result (self.new.held_back ≡ self.old.held_back) }
+    {
         let result = flush_again(&mut self.inner);
         match result {
             Ok(()) => self.held_back = 0,

@@ -10,6 +10,7 @@ mod sinks;
 mod sources;
 
 pub use adapters::{StdSink, StdSource};
+pub use calls::Calls;
 pub use fault::Failed;
 pub use memory::{MemorySink, MemorySource};
 pub use sinks::{Sink, write_all};

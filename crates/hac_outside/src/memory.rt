@@ -3,7 +3,8 @@ ghost use Rattle.std.specs.Prelude.{◌≡◌, ◌≢◌, ◌<◌, ◌≤◌, �
 ghost use Rattle.std.specs.Io.{ReadsAtMost, WritesAtMost};
 ghost use Rattle.std.specs.Io.KnownBytes.{Keeps, ReadConsumes, WriteAppends};
 ghost use Rattle.hac_outside.specs.Causes.{HasCause};
-ghost use Rattle.hac_outside.specs.Memory.{IsFailing, IsNextCall, IsNextRead, cut_to, next_number};
+ghost use Rattle.hac_outside.specs.Calls.{next_number};
+ghost use Rattle.hac_outside.specs.Memory.{IsFailing, IsNextCall, IsNextRead, cut_to};
 ghost use Rattle.hac_outside.specs.Seen.{HoldsMore, gives_end};
 
 use super::calls::Calls;

@@ -12,7 +12,7 @@ use Rattle.hac_checkpoint.specs.declared.heads.Stop.{Stop}
 use Rattle.hac_checkpoint.specs.declared.heads.Stop.TheVariants as stop
 use Rattle.hac_journal.specs.Finding.{TellsAt}
 use Rattle.hac_journal.specs.declared.finding.Next.TheVariants.{Entry, End, Bad}
-use Rattle.hac_model.specs.Fields.{◌>>=◌}
+use Rattle.hac_model.specs.Answers.{◌>>=◌}
 use Rattle.hac_model.specs.Payloads.{all_of, payload_field, spelled}
 use Rattle.hac_model.specs.Payloads.{placed as within_payload}
 use Rattle.hac_model.specs.Tree.{empty}

@@ -1,6 +1,6 @@
 //! The judging of one item by a query.
 ghost use Rattle.std.specs.Prelude.{◌≡◌};
-ghost use Rattle.query_eval.specs.Judging.{judged};
+ghost use Rattle.hac_model.specs.Queries.{judged};
 
 use crate::atoms::Atoms;
 use hac_model::{Member, Node, Number, Query};

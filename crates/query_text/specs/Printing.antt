@@ -1,9 +1,9 @@
 -- Queries as they are printed, given the paths of their directories.
-use Rattle.std.specs.Prelude.{ℕ, Bool, true, ◌==◌, ◌&&◌, if◌then◌else◌, List, [], ◌∷◌, Option, Some, None, is_some}
+use Rattle.std.specs.Prelude.{ℕ, Bool, true, ◌==◌, if◌then◌else◌, List, [], ◌∷◌, Option, Some, None, is_some}
 use Rattle.std.specs.Option.{option_map_or}
 use Rattle.hac_model.specs.Formula.{Formula}
-use Rattle.hac_model.specs.Formula as query
 use Rattle.hac_model.specs.Paths.{path_text}
+use Rattle.hac_model.specs.Queries.{all_leaves}
 use Rattle.hac_model.specs.QueryText.{query_text, named_by}
 use Rattle.query_text.specs.declared.paths.Told.{Told}
 
@@ -14,11 +14,7 @@ path_at (told ∷ paths) dir = if told.dir == dir then Some told.path else path_
 
 -- each directory of the query has a path
 abbrev pub are_known : List Told → Formula ℕ → Bool
-are_known paths (query.Term asked) = true
-are_known paths (query.Dir dir) = is_some (path_at paths dir)
-are_known paths (query.Not query) = are_known paths query
-are_known paths (query.And left right) = are_known paths left && are_known paths right
-are_known paths (query.Or left right) = are_known paths left && are_known paths right
+are_known paths query = all_leaves (λ asked. true) (λ dir. is_some (path_at paths dir)) query
 
 -- the path of a directory as it is printed
 abbrev pub dir_path : List Told → ℕ → List ℕ

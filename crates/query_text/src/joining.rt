@@ -3,8 +3,8 @@ ghost use Rattle.std.specs.Prelude.{◌≡◌, ◌+◌, IfOk};
 ghost use Rattle.hac_model.specs.Grammar as grammar;
 ghost use Rattle.hac_model.specs.QueryReading as reading;
 
-use hac_model::reading::{Held, Level, Part, Pile, Wanted};
-use hac_model::{Memory, Query};
+use hac_model::reading::{Held, Level, Part, Wanted};
+use hac_model::{Memory, Pile, Query};
 use std::alloc::Global;
 
 /// A level with nothing on it yet.

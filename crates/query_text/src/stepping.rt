@@ -7,8 +7,8 @@ ghost use Rattle.hac_model.specs.Words as words;
 
 use crate::joining::{after_and, after_or, empty_level, enter, finish, leave, negate, receive};
 use crate::kinds::kind_of;
-use hac_model::reading::{ByteKind, Held, Operand, Operator, Part, Pile, Reader, Stack, Wanted};
-use hac_model::{Memory, Name, Query, Term, Text};
+use hac_model::reading::{ByteKind, Held, Operand, Operator, Part, Reader, Stack, Wanted};
+use hac_model::{Memory, Name, Pile, Query, Term, Text};
 use std::alloc::Global;
 
 /// Before the first byte.

@@ -13,7 +13,7 @@ use Rattle.hac_model.specs.declared.states.Entry.{Entry}
 use Rattle.hac_model.specs.declared.states.Body.{Body}
 use Rattle.hac_model.specs.declared.states.Body.TheVariants.{File, Dir, Symlink, Semantic, Mount}
 use Rattle.hac_model.specs.declared.states.State.{State}
-use Rattle.query_eval.specs.Judging.{judged}
+use Rattle.hac_model.specs.Queries.{judged}
 use Rattle.set_pool.specs.Rising.{is_among, removed}
 use Rattle.hac_model.specs.Kinds.{is_transient, is_unlinked}
 use Rattle.link_kinds.specs.Kinds.{Lists, kind_in, with_kind}

@@ -1,15 +1,14 @@
 use Rattle.std.proofs.Common.{◌≡◌, [], ◌∷◌, ◌++◌, sym, ◌∙◌}
-use Rattle.std.specs.Prelude.{reverse}
 use Rattle.std.proofs.lemmas.List.{append-nil}
 use Rattle.hac_model.specs.QueryFields.{built}
 use Rattle.event_codec.specs.Tokens.{token_of, tokens_of}
-use Rattle.event_codec.proofs.PileLemmas.{built-last, built-none}
+use Rattle.event_codec.proofs.PartLemmas.{built-last, built-none}
 use Rattle.event_codec.proofs.queries.build.Goals as goal
 
 pub parts-preserved : goal.parts-preserved
 parts-preserved c =
     let left = c.pop.new.self.items in
-    let pile = reverse c.parts.pile.items in
+    let pile = c.parts.pile in
     let tokens : c.parts.tokens.items ≡ left ++ c.in-Some.token ∷ [] = c.in-Some.ensures.items in
     let so_far : built (tokens_of (left ++ c.in-Some.token ∷ [])) pile ≡ built (tokens_of c.args.tokens.items) [] = rw tokens at c.parts.invariant in
     rw c.in_ok-put.ensures (sym (built-last token_of left c.in-Some.token pile) ∙ so_far)
@@ -18,5 +17,5 @@ pub returns : goal.returns
 returns c =
     let none : c.pop.new.self.items ≡ [] = rw c.in_default.ensures.cases.0 at c.in_default.ensures.rest in
     let empty : c.parts.tokens.items ≡ [] = c.in_default.ensures.items ∙ append-nil c.pop.new.self.items ∙ none in
-    let so_far : built (tokens_of []) (reverse c.parts.pile.items) ≡ built (tokens_of c.args.tokens.items) [] = rw empty at c.parts.invariant in
-    sym (built-none (reverse c.parts.pile.items)) ∙ so_far
+    let so_far : built (tokens_of []) c.parts.pile ≡ built (tokens_of c.args.tokens.items) [] = rw empty at c.parts.invariant in
+    sym (built-none c.parts.pile) ∙ so_far

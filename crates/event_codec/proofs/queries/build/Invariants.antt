@@ -1,11 +1,10 @@
 use Rattle.std.proofs.Common.{◌≡◌, [], vec_len}
-use Rattle.std.specs.Prelude.{reverse}
 use Rattle.hac_model.specs.QueryFields.{built}
 use Rattle.event_codec.specs.Tokens.{tokens_of}
 use Rattle.event_codec.proofs.queries.build.Given as goal
 
 abbrev pub invariant-parts : goal.invariant-parts
-invariant-parts l = built (tokens_of l.tokens.items) (reverse l.pile.items) ≡ built (tokens_of l.fn.tokens.items) []
+invariant-parts l = built (tokens_of l.tokens.items) l.pile ≡ built (tokens_of l.fn.tokens.items) []
 
 abbrev pub decreases-parts : goal.decreases-parts
 decreases-parts l = vec_len l.tokens

@@ -1,8 +1,9 @@
 use Rattle.std.proofs.Common.{◌-◌, [], ◌∷◌, length}
 use Rattle.hac_model.specs.QueryFields.{tokens_at}
+use Rattle.hac_model.specs.declared.limits.TheConstants.{NESTING_LIMIT, QUERY_LIMIT, TERMS_LIMIT}
 use Rattle.event_codec.specs.Tokens.{tokens_of, room_of}
-use Rattle.event_codec.proofs.PileLemmas.{PartsGoOn}
+use Rattle.event_codec.proofs.PartLemmas.{PartsGoOn}
 use Rattle.event_codec.proofs.queries.tokens.Given as goal
 
 abbrev pub invariant-parts : goal.invariant-parts
-invariant-parts l = PartsGoOn (tokens_of l.tokens.items) (room_of l.room) (length l.fn.bytes - l.counter) l.bytes (tokens_at (length l.fn.bytes) (32 ∷ []) 64 1024 l.fn.bytes)
+invariant-parts l = PartsGoOn (tokens_of l.tokens.items) (room_of l.room) (length l.fn.bytes - l.counter) l.bytes (tokens_at (length l.fn.bytes) (NESTING_LIMIT ∷ []) TERMS_LIMIT QUERY_LIMIT l.fn.bytes)

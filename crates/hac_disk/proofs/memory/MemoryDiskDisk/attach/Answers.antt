@@ -11,7 +11,7 @@ returns-clause-quiet c =
       log = c.push.new.self;
       kept = c.extend_from_slice.new.self;
       room = c.self.inside.room - length c.as_bytes-name.result.now;
-      calls = c.begin.new.self;
+      calls = c.begin_within.new.self;
     }) in
     let pushed = calls-attach c.self.inside.log.items c.push.new.self.items c.self.inside.kept.items c.extend_from_slice.new.self.items name (length c.as_bytes-name.result.now) c.args.make (search rules) (search rules) (search rules) in
     quiet-attach c.args.self.now new name c.args.make (ap (λ (d : DiskState). d.first) c.self.view_is) (pushed ∙ ap (λ (d : DiskState). Attached name c.args.make ∷ d.done) c.self.view_is)

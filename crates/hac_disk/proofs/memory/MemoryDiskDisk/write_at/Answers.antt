@@ -13,7 +13,7 @@ returns-clause-images c =
       log = c.push.new.self;
       kept = c.extend_from_slice.new.self;
       room = c.self.inside.room - length bytes;
-      calls = c.begin.new.self;
+      calls = c.begin_within.new.self;
     }) in
     let pushed = calls-write c.self.inside.log.items c.push.new.self.items c.self.inside.kept.items c.extend_from_slice.new.self.items bytes c.args.at (length bytes) (search rules) (search rules) (search rules) in
     write-images c.args.self.now new c.args.at bytes c.requires (ap (λ (d : DiskState). d.first) c.self.view_is) (pushed ∙ ap (λ (d : DiskState). Wrote c.args.at bytes ∷ d.done) c.self.view_is)
@@ -27,7 +27,7 @@ returns-clause-time c =
       log = c.push.new.self;
       kept = c.extend_from_slice.new.self;
       room = c.self.inside.room - length bytes;
-      calls = c.begin.new.self;
+      calls = c.begin_within.new.self;
     }) in
     let pushed = calls-write c.self.inside.log.items c.push.new.self.items c.self.inside.kept.items c.extend_from_slice.new.self.items bytes c.args.at (length bytes) (search rules) (search rules) (search rules) in
     write-time c.args.self.now new (Wrote c.args.at bytes) (ap (λ (d : DiskState). d.first) c.self.view_is) (pushed ∙ ap (λ (d : DiskState). Wrote c.args.at bytes ∷ d.done) c.self.view_is)

@@ -1,19 +1,13 @@
--- Lists that are kept with the first one last.
+-- The parts of a query, as they are read and joined.
 use Rattle.std.proofs.Common.{◌≡◌, ℕ, zero, suc, ◌+◌, ◌-◌, ◌<◌, ◌≤◌, List, [], ◌∷◌, ◌++◌, length, Some, None, Result, Ok, Err, refl, sym, ap, ◌∙◌, append_assoc, arith}
-use Rattle.std.specs.Prelude.{map, reverse}
-use Rattle.std.proofs.lemmas.List.{reverse-append, append-nil}
-use Rattle.hac_model.specs.Fields.{◌>>=◌}
+use Rattle.std.specs.Prelude.{map}
+use Rattle.std.proofs.lemmas.List.{append-nil}
+use Rattle.hac_model.specs.Answers.{◌>>=◌}
 use Rattle.hac_model.specs.Formula.{Formula}
 use Rattle.hac_model.specs.QueryFields.{Room, Token, built, put, room_after, token_at, tokens_at}
 use Rattle.event_codec.specs.declared.faults.Fault.{Fault}
 use Rattle.event_codec.specs.declared.faults.Fault.TheVariants as fault
 use Rattle.event_codec.specs.Reading.{Fails}
-
--- with one more in front
-pub reverse-push : {A : Type 0} (xs : List A) (x : A) → reverse (xs ++ x ∷ []) ≡ x ∷ reverse xs
-reverse-push xs x = reverse-append xs (x ∷ [])
-
-pub ruleset piles = (reverse-push, append-nil)
 
 -- ---- parts of queries are joined from the last one on
 
