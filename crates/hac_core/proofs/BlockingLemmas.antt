@@ -3,40 +3,40 @@ use Rattle.std.proofs.Common.{◌≡◌, ℕ, true, false, cond, List, [], ◌�
 use Rattle.std.specs.Prelude.{Some, None}
 use Rattle.std.specs.Option.{option_map}
 use Rattle.hac_model.specs.Answers.{first_cause}
+use Rattle.hac_model.specs.Bare.{bare}
 use Rattle.hac_model.specs.Refusals.{blocked, directory_cause, filled_cause, least_path, plain_cause, referenced_cause, root_cause, taken_cause, under_cause, written_cause}
 use Rattle.hac_model.specs.declared.places.Place.{Place}
 use Rattle.hac_model.specs.declared.places.Place.TheVariants.{There, Free}
 use Rattle.hac_model.specs.declared.replies.Refusal.TheVariants as refusal
 use Rattle.hac_model.specs.declared.resolved.Resolved.{Resolved}
 use Rattle.hac_model.specs.declared.resolved.Resolved.TheVariants.{Mkdir, Rmdir, Write, Cat, Ls, Mv, Rm, Smkdir, Setq, Unq, Query, Sls, Sln, Srm, Sforget, Find, Index, Counts}
+use Rattle.hac_model.specs.declared.states.State.{State}
 use Rattle.hac_core.specs.Blocking.{is_alone, is_linking}
-use Rattle.linked_tree.specs.Linked.{state_of}
-use Rattle.linked_tree.specs.declared.linked.LinkedTree.{LinkedTree}
-use Rattle.linked_tree.proofs.StateLemmas.{same-bare, same-directory, same-inside, same-path, same-referrers, same-semantic}
+use Rattle.kept_state.proofs.StateLemmas.{same-bare, same-directory, same-inside, same-path, same-referrers, same-semantic}
 
-module _ (kept : LinkedTree) where
-  pub same-directory_cause : (n : ℕ) → directory_cause (state_of kept) n ≡ directory_cause kept.tree.state n
-  same-directory_cause n = λ i. cond (same-directory kept n i) (Some (refusal.NotFile (same-path kept n i))) None
+module _ (s t : State) (bares : bare s ≡ bare t) where
+  pub same-directory_cause : (n : ℕ) → directory_cause s n ≡ directory_cause t n
+  same-directory_cause n = λ i. cond (same-directory s t bares n i) (Some (refusal.NotFile (same-path s t bares n i))) None
 
-  pub same-plain_cause : (dir : ℕ) → plain_cause (state_of kept) dir ≡ plain_cause kept.tree.state dir
-  same-plain_cause dir = λ i. cond (same-semantic kept dir i) None (Some (refusal.NotSemantic (same-path kept dir i)))
+  pub same-plain_cause : (dir : ℕ) → plain_cause s dir ≡ plain_cause t dir
+  same-plain_cause dir = λ i. cond (same-semantic s t bares dir i) None (Some (refusal.NotSemantic (same-path s t bares dir i)))
 
-  pub same-full_cause : (dir : ℕ) → filled_cause (state_of kept) dir ≡ filled_cause kept.tree.state dir
-  same-full_cause dir = λ i. cond (same-bare kept dir i) None (Some (refusal.NotEmpty (same-path kept dir i)))
+  pub same-full_cause : (dir : ℕ) → filled_cause s dir ≡ filled_cause t dir
+  same-full_cause dir = λ i. cond (same-bare s t bares dir i) None (Some (refusal.NotEmpty (same-path s t bares dir i)))
 
-  same-written : (place : Place) → written_cause (state_of kept) place ≡ written_cause kept.tree.state place
+  same-written : (place : Place) → written_cause s place ≡ written_cause t place
   same-written (There number) = same-directory_cause number
   same-written (Free dir name) = refl
 
-  same-taken : (place : Place) → taken_cause (state_of kept) place ≡ taken_cause kept.tree.state place
-  same-taken (There number) = ap (λ (path : List (List ℕ)). Some (refusal.Exists path)) (same-path kept number)
+  same-taken : (place : Place) → taken_cause s place ≡ taken_cause t place
+  same-taken (There number) = ap (λ (path : List (List ℕ)). Some (refusal.Exists path)) (same-path s t bares number)
   same-taken (Free dir name) = refl
 
-  same-under : (entry : ℕ) (place : Place) → under_cause (state_of kept) entry place ≡ under_cause kept.tree.state entry place
+  same-under : (entry : ℕ) (place : Place) → under_cause s entry place ≡ under_cause t entry place
   same-under entry (There number) = refl
-  same-under entry (Free dir name) = λ i. cond (same-inside kept dir entry i) (Some (refusal.Under (same-path kept entry i))) None
+  same-under entry (Free dir name) = λ i. cond (same-inside s t bares dir entry i) (Some (refusal.Under (same-path s t bares entry i))) None
 
-  pub same-blocked : (r : Resolved) → is_alone r ≡ true → blocked (state_of kept) r ≡ blocked kept.tree.state r
+  pub same-blocked : (r : Resolved) → is_alone r ≡ true → blocked s r ≡ blocked t r
   same-blocked (Mkdir place) alone = same-taken place
   same-blocked (Rmdir dir) alone = absurd cc
   same-blocked (Write place text) alone = same-written place
@@ -56,11 +56,11 @@ module _ (kept : LinkedTree) where
   same-blocked Index alone = refl
   same-blocked Counts alone = refl
 
-  same-referenced : (dir : ℕ) → referenced_cause (state_of kept) dir ≡ referenced_cause kept.tree.state dir
-  same-referenced dir = ap (λ (paths : List (List (List ℕ))). option_map refusal.Referenced (least_path paths)) (same-referrers kept dir)
+  same-referenced : (dir : ℕ) → referenced_cause s dir ≡ referenced_cause t dir
+  same-referenced dir = ap (λ (paths : List (List (List ℕ))). option_map refusal.Referenced (least_path paths)) (same-referrers s t bares dir)
 
   -- so is what blocks any command that speaks of no link
-  pub same-unlinked : (r : Resolved) → is_linking r ≡ false → blocked (state_of kept) r ≡ blocked kept.tree.state r
+  pub same-unlinked : (r : Resolved) → is_linking r ≡ false → blocked s r ≡ blocked t r
   same-unlinked (Rmdir dir) other = λ i. first_cause (root_cause dir ∷ same-full_cause dir i ∷ same-referenced dir i ∷ [])
   same-unlinked (Mkdir place) other = same-blocked (Mkdir place) refl
   same-unlinked (Write place text) other = same-blocked (Write place text) refl

@@ -2,7 +2,9 @@
 use Rattle.std.proofs.Common.{◌≡◌, ℕ, Bool, true, false, cond, refl, List, [], ◌∷◌, ◌++◌, map, ap, sym, ◌∙◌}
 use Rattle.std.specs.Prelude.{codes, Option, Some, None, option_and_then}
 use Rattle.std.specs.Option.{option_map_or}
+use Rattle.hac_model.specs.Bare.{bare}
 use Rattle.hac_model.specs.Formula.{Formula}
+use Rattle.hac_model.specs.Links.{query_at}
 use Rattle.hac_model.specs.Listing.{children, entry_line}
 use Rattle.hac_model.specs.Paths.{path_text}
 use Rattle.hac_model.specs.Play.{query_lines, text_line, text_lines}
@@ -16,29 +18,23 @@ use Rattle.hac_model.specs.declared.states.State.{State}
 use Rattle.hac_model.proofs.AlikeLemmas.{children-bare, text_at-bare}
 use Rattle.hac_model.proofs.LookLemmas.{file-or_directory}
 use Rattle.file_tree.specs.Answers.{is_live}
-use Rattle.link_kinds.specs.Marked.{with_marks}
-use Rattle.link_kinds.specs.Seen.{Known}
-use Rattle.link_kinds.proofs.MarkedLemmas.{bare-marked, directory-marked, path_of-marked, query_at-marked}
+use Rattle.kept_state.proofs.StateLemmas.{alike, same-path, same-query}
 use Rattle.hac_core.proofs.StandingLemmas.{is-live}
 
-module _ (links : Known) (tree : State) where
-  pub text-marked : (file : ℕ) → text_lines tree file ≡ text_lines (with_marks links tree) file
-  text-marked file =
-      ap (λ (o : Option (List ℕ)). option_map_or (λ text. text_line text ∷ []) o [])
-      (sym (text_at-bare tree file) ∙ ap (λ (s : State). option_and_then text_in (body_at s.entries file)) (sym (bare-marked links tree)) ∙ text_at-bare (with_marks links tree) file)
+module _ (s t : State) (bares : bare s ≡ bare t) where
+  pub text-same : (file : ℕ) → text_lines t file ≡ text_lines s file
+  text-same file = sym (alike s t bares (λ s. text_lines s file) (λ s. ap (λ (o : Option (List ℕ)). option_map_or (λ text. text_line text ∷ []) o []) (text_at-bare s file)))
 
-  pub children-marked : (dir : ℕ) → map entry_line (children tree dir) ≡ map entry_line (children (with_marks links tree) dir)
-  children-marked dir = sym (children-bare tree dir) ∙ ap (λ (s : State). map entry_line (children s dir)) (sym (bare-marked links tree)) ∙ children-bare (with_marks links tree) dir
+  pub children-same : (dir : ℕ) → map entry_line (children t dir) ≡ map entry_line (children s dir)
+  children-same dir = sym (alike s t bares (λ s. map entry_line (children s dir)) (λ s. children-bare s dir))
 
-  pub query-marked : (dir : ℕ) → query_lines tree dir ≡ query_lines (with_marks links tree) dir
-  query-marked dir = λ i. option_map_or (λ (asked : Formula ℕ). (codes "= " ++ query_text (named_by (λ d. path_text (sym (path_of-marked links tree d) i)) asked)) ∷ []) (sym (query_at-marked links tree dir) i) []
+  pub query-same : (dir : ℕ) → query_lines t dir ≡ query_lines s dir
+  query-same dir = λ i. option_map_or (λ (asked : Formula ℕ). (codes "= " ++ query_text (named_by (λ d. path_text (sym (same-path s t bares d) i)) asked)) ∷ []) (sym (same-query s t bares dir) i) []
 
 no_cause : (b : Bool) (refusal : Refusal) → cond b (Some refusal) None ≡ None → b ≡ false
 no_cause true refusal h = absurd cc
 no_cause false refusal h = refl
 
 -- what can be read is a file
-pub read-file : (links : Known) (tree : State) (n : ℕ) → IsLayout tree → is_live tree.entries n ≡ true → directory_cause (with_marks links tree) n ≡ None → is_file_at tree.entries n ≡ true
-read-file links tree n h lives free =
-    file-or_directory tree n h (is-live tree.entries n lives)
-    (sym (directory-marked links tree n) ∙ no_cause (is_directory_at (with_marks links tree).entries n) (NotFile (path_of (with_marks links tree) n)) free)
+pub read-file : (s : State) (n : ℕ) → IsLayout s → is_live s.entries n ≡ true → directory_cause s n ≡ None → is_file_at s.entries n ≡ true
+read-file s n h lives free = file-or_directory s n h (is-live s.entries n lives) (no_cause (is_directory_at s.entries n) (NotFile (path_of s n)) free)

@@ -4,7 +4,7 @@ use Rattle.std.specs.Prelude.{◌==◌, ◌&&◌, ◌||◌, not, length, nat_lt,
 use Rattle.std.specs.Option.{option_map, option_map_or}
 use Rattle.std.proofs.Math.Bool.{and-false, and-true}
 use Rattle.std.proofs.lemmas.Bool.{and_parts, leb-true}
-use Rattle.hac_model.specs.Bare.{bare_body}
+use Rattle.hac_model.specs.Bare.{bare}
 use Rattle.hac_model.specs.Depends.{cycle_over}
 use Rattle.hac_model.specs.Events.{accepted, apply, edited, is_bare, is_free, is_possible, may_ask}
 use Rattle.hac_model.specs.Formula.{Formula}
@@ -21,18 +21,15 @@ use Rattle.hac_model.specs.declared.states.Body.{Body}
 use Rattle.hac_model.specs.declared.states.Body.TheVariants as body
 use Rattle.hac_model.specs.declared.states.Entry.{Entry}
 use Rattle.hac_model.specs.declared.states.State.{State}
-use Rattle.hac_model.proofs.AlikeLemmas.{bare-kind, entry_at-bare, is_free-bare, passed-bare}
+use Rattle.hac_model.proofs.AlikeLemmas.{is_free-bare, passed-bare}
 use Rattle.hac_model.proofs.EventLemmas.{due}
 use Rattle.hac_model.proofs.PassedLemmas.{bare-passes, file-passes, step-passes}
 use Rattle.hac_model.proofs.PathLemmas.{root-none}
 use Rattle.hac_model.proofs.TreeLemmas.{entry_at-all}
-use Rattle.link_kinds.proofs.MarkedLemmas.{bare-marked}
 use Rattle.hac_core.specs.Fitting.{is_clear, is_placed, may_come, passes_none}
-use Rattle.linked_tree.specs.Linked.{state_of}
-use Rattle.linked_tree.specs.declared.linked.LinkedTree.{LinkedTree}
 use Rattle.hac_core.proofs.LedLemmas.{all-alike}
 use Rattle.hac_core.proofs.LimitingLemmas.{mark-passes, unq-passes}
-use Rattle.linked_tree.proofs.StateLemmas.{alike, same-asks, same-bare, same-dirty, same-file, same-inside, same-semantic, same-some}
+use Rattle.kept_state.proofs.StateLemmas.{alike, same-asks, same-bare, same-dirty, same-file, same-inside, same-made, same-semantic, same-some}
 
 -- What blocks an event, part by part.
 
@@ -67,42 +64,35 @@ accepted-is s e = ap (λ (b : Bool). b && is_none (passed (apply s e))) (possibl
 
 -- The tree knows what is placed, and which limits are exceeded.
 
-module _ (kept : LinkedTree) where
-  same-made : (n : ℕ) → is_made_directory (state_of kept).entries n ≡ is_made_directory kept.tree.state.entries n
-  same-made n = alike (λ s. is_made_directory s.entries n) (λ s. ap (λ (o : Option Entry). option_map_or is_directory (option_map (λ (e : Entry). e.body) o) false) (entry_at-bare s n) ∙ by (entry_at s.entries n)) kept
-    where
-      by : (o : Option Entry) → option_map_or is_directory (option_map (λ (e : Entry). e.body) (option_map (edited bare_body) o)) false ≡ option_map_or is_directory (option_map (λ (e : Entry). e.body) o) false
-      by None = refl
-      by (Some e) = bare-kind e.body
+module _ (s t : State) (bares : bare s ≡ bare t) where
+  same-free : (dir : ℕ) (name : List ℕ) → is_free s dir name ≡ is_free t dir name
+  same-free dir name = alike s t bares (λ s. is_free s dir name) (λ s. is_free-bare s dir name)
 
-  same-free : (dir : ℕ) (name : List ℕ) → is_free (state_of kept) dir name ≡ is_free kept.tree.state dir name
-  same-free dir name = alike (λ s. is_free s dir name) (λ s. is_free-bare s dir name) kept
-
-  same-placed : (e : Event) → is_placed (state_of kept) e ≡ is_placed kept.tree.state e
+  same-placed : (e : Event) → is_placed s e ≡ is_placed t e
   same-placed (Mkdir dir name) = same-free dir name
   same-placed (NewFile dir name text) = λ i. same-free dir name i && is_text text
-  same-placed (Rewrite file text) = λ i. same-file kept file i && is_text text
-  same-placed (Smkdir dir name query told) = λ i. same-free dir name i && (same-asks kept query i && length told == 0)
-  same-placed (Setq dir query told) = λ i. same-made dir i && (same-asks kept query i && length told == 0)
-  same-placed (Unq dir) = same-semantic kept dir
-  same-placed (Mark mark) = λ i. same-file kept mark.item i && same-semantic kept mark.dir i
-  same-placed (Mv entry dir name) = λ i. same-some kept entry i && same-free dir name i && not (same-inside kept dir entry i)
-  same-placed (Rm entry) = same-file kept entry
-  same-placed (Rmdir dir) = λ i. same-made dir i && same-bare kept dir i
-  same-placed Step = due (state_of kept).entries ∙ ap (λ (k : ℕ). nat_lt 0 k) (same-dirty kept) ∙ sym (due kept.tree.state.entries)
+  same-placed (Rewrite file text) = λ i. same-file s t bares file i && is_text text
+  same-placed (Smkdir dir name query told) = λ i. same-free dir name i && (same-asks s t bares query i && length told == 0)
+  same-placed (Setq dir query told) = λ i. same-made s t bares dir i && (same-asks s t bares query i && length told == 0)
+  same-placed (Unq dir) = same-semantic s t bares dir
+  same-placed (Mark mark) = λ i. same-file s t bares mark.item i && same-semantic s t bares mark.dir i
+  same-placed (Mv entry dir name) = λ i. same-some s t bares entry i && same-free dir name i && not (same-inside s t bares dir entry i)
+  same-placed (Rm entry) = same-file s t bares entry
+  same-placed (Rmdir dir) = λ i. same-made s t bares dir i && same-bare s t bares dir i
+  same-placed Step = due s.entries ∙ ap (λ (k : ℕ). nat_lt 0 k) (same-dirty s t bares) ∙ sym (due t.entries)
   same-placed other = refl
 
-  same-passed : (e : Event) → passed (apply (state_of kept) e) ≡ passed (apply kept.tree.state e)
+  same-passed : (e : Event) → passed (apply s e) ≡ passed (apply t e)
   same-passed e =
-      sym (passed-bare (apply (state_of kept) e))
-      ∙ ap passed (all-alike (e ∷ []) (state_of kept) kept.tree.state (bare-marked kept.marks kept.tree.state))
-      ∙ passed-bare (apply kept.tree.state e)
+      sym (passed-bare (apply s e))
+      ∙ ap passed (all-alike (e ∷ []) s t bares)
+      ∙ passed-bare (apply t e)
 
-  pub accepted-told : (e : Event) → accepted (state_of kept) e ≡ (may_come kept.tree.state e && is_clear (state_of kept) e)
-  accepted-told e = accepted-is (state_of kept) e ∙ (λ i. (same-placed e i && is_none (same-passed e i)) && is_clear (state_of kept) e)
+  pub accepted-told : (e : Event) → accepted s e ≡ (may_come t e && is_clear s e)
+  accepted-told e = accepted-is s e ∙ (λ i. (same-placed e i && is_none (same-passed e i)) && is_clear s e)
 
-pub come-placed : (s : State) (e : Event) → may_come s e ≡ true → is_placed s e ≡ true
-come-placed s e may = (and_parts (is_placed s e) (is_none (passed (apply s e))) may).0
+  pub come-placed : (e : Event) → may_come t e ≡ true → is_placed s e ≡ true
+  come-placed e may = same-placed e ∙ (and_parts (is_placed t e) (is_none (passed (apply t e))) may).0
 
 -- Limits.
 

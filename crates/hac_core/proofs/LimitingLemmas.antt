@@ -37,12 +37,12 @@ use Rattle.hac_model.proofs.PathLemmas.{ancestors-none, length-path, parent-live
 use Rattle.hac_model.proofs.TreeLemmas.{directory-lives}
 use Rattle.hac_model.proofs.ValidLemmas.{marked-kind, plain-kind}
 use Rattle.hac_core.specs.Blocking.{is_linking}
-use Rattle.linked_tree.specs.Counting as counting
-use Rattle.linked_tree.specs.Counting.{AreSmall, plus, share_of}
+use Rattle.kept_state.specs.Counting as counting
+use Rattle.kept_state.specs.Counting.{AreSmall, plus, share_of}
 use Rattle.hac_core.specs.Limiting.{PassAs, with_new}
 use Rattle.hac_core.specs.Standing.{AllStand}
-use Rattle.linked_tree.proofs.CountingLemmas.{body-small, counts-reseated, rewritten-small, told-added}
-use Rattle.linked_tree.proofs.DirtyLemmas.{step-layout}
+use Rattle.kept_state.proofs.CountingLemmas.{body-small, counts-reseated, rewritten-small, told-added}
+use Rattle.kept_state.proofs.DirtyLemmas.{step-layout}
 use Rattle.hac_core.proofs.StandingLemmas.{is-live, live-is}
 use Rattle.file_tree.specs.Answers.{is_live}
 

@@ -5,21 +5,19 @@ ghost use Rattle.hac_model.specs.Events.{is_inside};
 ghost use Rattle.hac_model.specs.Refusals.{blocked, directory_cause, filled_cause, plain_cause, root_cause, taken_cause, under_cause, written_cause};
 ghost use Rattle.file_tree.specs.Answers.{is_live};
 ghost use Rattle.hac_core.specs.Blocking.{is_alone};
-ghost use Rattle.linked_tree.specs.Linked.{IsLinked, state_of};
 ghost use Rattle.hac_core.specs.Standing.{AllStand, StandsAt};
 
+use crate::marking::{linked, marked, not_permanent, unreferenced};
 use crate::resolving::is_directory;
 use file_tree::Tree;
 use hac_model::{Deny, Number, Place, Refusal, Resolved};
-use linked_tree::LinkedTree;
+use kept_state::KeptState;
 use std::alloc::Global;
-use tree_answers::{linked, marked, not_permanent, unreferenced};
 
 /// Denies a command that something blocks, for the first such cause.
-pub fn unblocked(alloc: Global, kept: &LinkedTree, command: &Resolved) -> Result<(), Deny>
-    requires linked { IsLinked kept.now }
-    requires stands { AllStand kept.now.tree.state command.now }
-    ensures { Passes result (blocked (state_of kept.now) command.now) }
+pub fn unblocked(alloc: Global, kept: &KeptState, command: &Resolved) -> Result<(), Deny>
+    requires { AllStand kept.now.state command.now }
+    ensures { Passes result (blocked kept.now.state command.now) }
 {
     match command {
         Resolved::Rmdir { dir } => removable(alloc, kept, *dir),
@@ -31,12 +29,12 @@ pub fn unblocked(alloc: Global, kept: &LinkedTree, command: &Resolved) -> Result
 }
 
 /// The same for a command that depends on no link and on no other query, by the state.
-fn unblocked_alone(kept: &LinkedTree, command: &Resolved) -> Result<(), Deny>
-    requires stands { AllStand kept.now.tree.state command.now }
+fn unblocked_alone(kept: &KeptState, command: &Resolved) -> Result<(), Deny>
+    requires stands { AllStand kept.now.state command.now }
     requires alone { IsTrue (is_alone command.now) }
-    ensures { Passes result (blocked (state_of kept.now) command.now) }
+    ensures { Passes result (blocked kept.now.state command.now) }
 {
-    unblocked_in(kept.tree.tree(), command)
+    unblocked_in(kept.tree(), command)
 }
 
 /// The same of a command that depends on no link and no other query.
@@ -67,9 +65,8 @@ fn unblocked_in(tree: &Tree, command: &Resolved) -> Result<(), Deny>
 }
 
 /// The directory to be removed is empty, and no query names it.
-fn removable(alloc: Global, kept: &LinkedTree, dir: Number) -> Result<(), Deny>
-    requires { IsLinked kept.now }
-    ensures { Passes result (blocked (state_of kept.now) (Resolved.Rmdir dir)) }
+fn removable(alloc: Global, kept: &KeptState, dir: Number) -> Result<(), Deny>
+    ensures { Passes result (blocked kept.now.state (Resolved.Rmdir dir)) }
 {
     not_root(dir)?;
     empty(kept, dir)?;
@@ -77,10 +74,9 @@ fn removable(alloc: Global, kept: &LinkedTree, dir: Number) -> Result<(), Deny>
 }
 
 /// An item is added to a semantic directory.
-fn addable(kept: &LinkedTree, item: Number, dir: Number) -> Result<(), Deny>
-    requires linked { IsLinked kept.now }
-    requires item { IsTrue (is_live kept.now.tree.state.entries item) }
-    ensures { Passes result (blocked (state_of kept.now) (Resolved.Sln item dir)) }
+fn addable(kept: &KeptState, item: Number, dir: Number) -> Result<(), Deny>
+    requires { IsTrue (is_live kept.now.state.entries item) }
+    ensures { Passes result (blocked kept.now.state (Resolved.Sln item dir)) }
 {
     no_directory(kept, item)?;
     asking(kept, dir)?;
@@ -88,21 +84,20 @@ fn addable(kept: &LinkedTree, item: Number, dir: Number) -> Result<(), Deny>
 }
 
 /// A link of a semantic directory is removed there.
-fn droppable(alloc: Global, kept: &LinkedTree, item: Number, dir: Number) -> Result<(), Deny>
-    requires linked { IsLinked kept.now }
-    requires item { IsTrue (is_live kept.now.tree.state.entries item) }
-    ensures { Passes result (blocked (state_of kept.now) (Resolved.Srm item dir)) }
+fn droppable(alloc: Global, kept: &KeptState, item: Number, dir: Number) -> Result<(), Deny>
+    requires { IsTrue (is_live kept.now.state.entries item) }
+    ensures { Passes result (blocked kept.now.state (Resolved.Srm item dir)) }
 {
+    kept.know_valid();
     no_directory(kept, item)?;
     asking(kept, dir)?;
     linked(alloc, kept, item, dir)
 }
 
 /// A mark in a semantic directory is removed.
-fn forgettable(kept: &LinkedTree, item: Number, dir: Number) -> Result<(), Deny>
-    requires linked { IsLinked kept.now }
-    requires item { IsTrue (is_live kept.now.tree.state.entries item) }
-    ensures { Passes result (blocked (state_of kept.now) (Resolved.Sforget item dir)) }
+fn forgettable(kept: &KeptState, item: Number, dir: Number) -> Result<(), Deny>
+    requires { IsTrue (is_live kept.now.state.entries item) }
+    ensures { Passes result (blocked kept.now.state (Resolved.Sforget item dir)) }
 {
     no_directory(kept, item)?;
     asking(kept, dir)?;
@@ -110,25 +105,25 @@ fn forgettable(kept: &LinkedTree, item: Number, dir: Number) -> Result<(), Deny>
 }
 
 /// No directory is where an item is wanted.
-fn no_directory(kept: &LinkedTree, item: Number) -> Result<(), Deny>
-    requires { IsTrue (is_live kept.now.tree.state.entries item) }
-    ensures { Passes result (directory_cause (state_of kept.now) item) }
+fn no_directory(kept: &KeptState, item: Number) -> Result<(), Deny>
+    requires { IsTrue (is_live kept.now.state.entries item) }
+    ensures { Passes result (directory_cause kept.now.state item) }
 {
-    file(kept.tree.tree(), item)
+    file(kept.tree(), item)
 }
 
 /// A directory has a query.
-fn asking(kept: &LinkedTree, dir: Number) -> Result<(), Deny>
-    ensures { Passes result (plain_cause (state_of kept.now) dir) }
+fn asking(kept: &KeptState, dir: Number) -> Result<(), Deny>
+    ensures { Passes result (plain_cause kept.now.state dir) }
 {
-    semantic(kept.tree.tree(), dir)
+    semantic(kept.tree(), dir)
 }
 
 /// A directory to be removed is empty.
-fn empty(kept: &LinkedTree, dir: Number) -> Result<(), Deny>
-    ensures { Passes result (filled_cause (state_of kept.now) dir) }
+fn empty(kept: &KeptState, dir: Number) -> Result<(), Deny>
+    ensures { Passes result (filled_cause kept.now.state dir) }
 {
-    bare(kept.tree.tree(), dir)
+    bare(kept.tree(), dir)
 }
 
 /// The root can't be removed or moved.

@@ -2,16 +2,14 @@
 ghost use Rattle.std.specs.Prelude.{◌≡◌};
 ghost use Rattle.hac_model.specs.Answers.{Passes};
 ghost use Rattle.hac_model.specs.Refusals.{cycle_by, cycle_cause};
-ghost use Rattle.linked_tree.specs.Linked.{IsLinked, state_of};
 
 use hac_model::{Deny, Number, Place, Query, Refusal, Resolved};
-use linked_tree::{LinkedTree, cycle_of_move, cycle_of_query};
+use kept_state::KeptState;
 use std::alloc::Global;
 
 /// Denies a command after which a directory would depend on itself.
-pub fn acyclic(alloc: Global, kept: &LinkedTree, command: &Resolved) -> Result<(), Deny>
-    requires linked { IsLinked kept.now }
-    ensures { Passes result (cycle_cause (state_of kept.now) command.now) }
+pub fn acyclic(alloc: Global, kept: &KeptState, command: &Resolved) -> Result<(), Deny>
+    ensures { Passes result (cycle_cause kept.now.state command.now) }
 {
     match command {
         Resolved::Setq { dir, query } => unreached(alloc, kept, *dir, query),
@@ -23,40 +21,38 @@ pub fn acyclic(alloc: Global, kept: &LinkedTree, command: &Resolved) -> Result<(
 /// The same of a directory that gets a query.
 fn unreached(
     alloc: Global,
-    kept: &LinkedTree,
+    kept: &KeptState,
     dir: Number,
     query: &Query<Number>,
 ) -> Result<(), Deny>
-    requires { IsLinked kept.now }
-    ensures { Passes result (cycle_cause (state_of kept.now) (Resolved.Setq dir query.now)) }
+    ensures { Passes result (cycle_cause kept.now.state (Resolved.Setq dir query.now)) }
 {
-    let way = cycle_of_query(alloc, kept, dir, query)?;
+    let way = kept.cycle_of_query(alloc, dir, query)?;
     no_way(kept, way)
 }
 
 /// The same of an entry that goes to a place.
 fn unreached_there(
     alloc: Global,
-    kept: &LinkedTree,
+    kept: &KeptState,
     entry: Number,
     place: &Place,
 ) -> Result<(), Deny>
-    requires { IsLinked kept.now }
-    ensures { Passes result (cycle_cause (state_of kept.now) (Resolved.Mv entry place.now)) }
+    ensures { Passes result (cycle_cause kept.now.state (Resolved.Mv entry place.now)) }
 {
     let Place::Free { dir, .. } = place else {
         return Ok(());
     };
-    let way = cycle_of_move(alloc, kept, entry, *dir)?;
+    let way = kept.cycle_of_move(alloc, entry, *dir)?;
     no_way(kept, way)
 }
 
 /// There is no directory through which one would depend on itself.
-fn no_way(kept: &LinkedTree, way: Option<Number>) -> Result<(), Deny>
-    ensures { Passes result (cycle_by (state_of kept.now) way) }
+fn no_way(kept: &KeptState, way: Option<Number>) -> Result<(), Deny>
+    ensures { Passes result (cycle_by kept.now.state way) }
 {
     match way {
-        Some(on) => Err(Deny::Refused(Refusal::Cycle(kept.tree.tree().path_of(on)?))),
+        Some(on) => Err(Deny::Refused(Refusal::Cycle(kept.path_of(on)?))),
         None => Ok(()),
     }
 }

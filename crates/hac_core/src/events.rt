@@ -3,20 +3,19 @@ ghost use Rattle.std.specs.Prelude.{◌≡◌, ◌∷◌, [], None, false};
 ghost use Rattle.hac_model.specs.Events.{dirty};
 ghost use Rattle.hac_model.specs.Refusals.{blocked, events_of, marks, writes};
 ghost use Rattle.hac_core.specs.Drafts.{reads};
-ghost use Rattle.linked_tree.specs.Linked.{state_of};
 ghost use Rattle.hac_core.specs.Settling.{settled_events};
 ghost use Rattle.hac_core.specs.Standing.{IsFree};
 
 use crate::drafts::Settled;
 use hac_model::{Event, Kind, Mark, Name, Number, Place, Resolved, Seq, Text};
-use linked_tree::LinkedTree;
+use kept_state::KeptState;
 use std::alloc::Global;
 
 /// The outcome of a command that nothing blocks.
-pub fn events_of(alloc: Global, kept: &LinkedTree, command: Resolved) -> Settled
-    requires free { blocked (state_of kept.now) command ≡ None }
+pub fn events_of(alloc: Global, kept: &KeptState, command: Resolved) -> Settled
+    requires free { blocked kept.now.state command ≡ None }
     requires changes { reads command ≡ false }
-    ensures { settled_events result ≡ events_of (state_of kept.now) command }
+    ensures { settled_events result ≡ events_of kept.now.state command }
 {
     match command {
         Resolved::Mkdir { place } => {
@@ -54,10 +53,10 @@ pub fn events_of(alloc: Global, kept: &LinkedTree, command: Resolved) -> Settled
 }
 
 /// How many files are dirty.
-fn dirty(kept: &LinkedTree) -> u64
-    ensures { result ≡ dirty (state_of kept.now) }
+fn dirty(kept: &KeptState) -> u64
+    ensures { result ≡ dirty kept.now.state }
 {
-    kept.tree.counts().dirty
+    kept.counts().dirty
 }
 
 /// An item gets a mark in a directory, or loses it.

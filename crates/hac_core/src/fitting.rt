@@ -5,7 +5,6 @@ ghost use Rattle.hac_model.specs.Events.{accepted, apply, is_free, may_ask};
 ghost use Rattle.hac_model.specs.Limits.{is_text, passed};
 ghost use Rattle.hac_model.specs.Tree.{entry_at, is_made_directory};
 ghost use Rattle.hac_core.specs.Fitting.{is_clear, is_placed, may_come, passes_none};
-ghost use Rattle.linked_tree.specs.Linked.{IsLinked, state_of};
 
 use crate::asking::may_ask;
 use crate::blocking::is_inside;
@@ -13,17 +12,16 @@ use crate::limiting::{with_entry, with_query, with_reseated, with_rewritten};
 use file_tree::Tree;
 use hac_model::{Counts, Event, Memory, Name, Number, Query, Seq, TEXT_LIMIT, Text, first_passed};
 use hac_names::is_name;
-use linked_tree::counting::{of_directory, of_file, of_semantic};
-use linked_tree::{CountedTree, LinkedTree, cycle_of_move, cycle_of_query, know_layout};
+use kept_state::counting::{of_directory, of_file, of_semantic};
+use kept_state::{CountedTree, KeptState, know_layout};
 use std::alloc::Global;
 use tree_answers::{is_unreferenced, may_mark};
 
 /// Whether an event can happen to the state.
-pub fn fits(alloc: Global, kept: &LinkedTree, event: &Event) -> Result<bool, Memory>
-    requires { IsLinked kept.now }
-    ensures { IfOk result (λ fits. fits ≡ accepted (state_of kept.now) event.now) }
+pub fn fits(alloc: Global, kept: &KeptState, event: &Event) -> Result<bool, Memory>
+    ensures { IfOk result (λ fits. fits ≡ accepted kept.now.state event.now) }
 {
-    if !may_come(&kept.tree, event) {
+    if !may_come(kept.counted(), event) {
         return Ok(false);
     }
     is_clear(alloc, kept, event)
@@ -89,18 +87,17 @@ fn is_within(tree: &CountedTree, event: &Event) -> bool
 }
 
 /// Whether no mark, no link and no query of another directory blocks an event.
-fn is_clear(alloc: Global, kept: &LinkedTree, event: &Event) -> Result<bool, Memory>
-    requires linked { IsLinked kept.now }
-    requires placed { IsTrue (is_placed kept.now.tree.state event.now) }
-    ensures { IfOk result (λ is. is ≡ is_clear (state_of kept.now) event.now) }
+fn is_clear(alloc: Global, kept: &KeptState, event: &Event) -> Result<bool, Memory>
+    requires { IsTrue (is_placed kept.now.state event.now) }
+    ensures { IfOk result (λ is. is ≡ is_clear kept.now.state event.now) }
 {
     match event {
         Event::Setq { dir, query, .. } => {
-            let way = cycle_of_query(alloc, kept, *dir, query)?;
+            let way = kept.cycle_of_query(alloc, *dir, query)?;
             Ok(way.is_none())
         }
         Event::Mv { entry, dir, .. } => {
-            let way = cycle_of_move(alloc, kept, *entry, *dir)?;
+            let way = kept.cycle_of_move(alloc, *entry, *dir)?;
             Ok(way.is_none())
         }
         Event::Rmdir { dir } => is_unreferenced(kept, *dir),

@@ -1,5 +1,5 @@
 //! The machine: commands against a state that is kept so that they are quick. It is seen as that state and as the
-//! events for which memory was taken. It knows no line's bytes, no outside, and of a kept state only what `linked_tree`
+//! events for which memory was taken. It knows no line's bytes, no outside, and of a kept state only what `kept_state`
 //! and `tree_answers` promise.
 #![tactic(auto)]
 
@@ -13,6 +13,7 @@ mod fitting;
 mod limiting;
 mod listing;
 mod machine;
+mod marking;
 mod resolving;
 
 pub use drafts::{Draft, Settled};

@@ -8,17 +8,17 @@ ghost use Rattle.hac_model.specs.Tree.{ancestors, is_directory_at, is_file_at, i
 ghost use Rattle.hac_model.specs.declared.states.Body.{Body};
 ghost use Rattle.file_tree.specs.Answers.{is_live};
 ghost use Rattle.hac_core.specs.Blocking.{is_linking};
-ghost use Rattle.linked_tree.specs.Counting.{AreSmall, share_of};
+ghost use Rattle.kept_state.specs.Counting.{AreSmall, share_of};
 ghost use Rattle.hac_core.specs.Limiting.{GoesTo, PassAs, are_texts, is_shallow, with_moved, with_new};
 ghost use Rattle.hac_core.specs.Standing.{AllStand, StandsAt};
 
 use file_tree::Tree;
 use hac_model::{Counts, Number, PATH_LIMIT, Place, Resolved};
-use linked_tree::counting::{
+use kept_state::counting::{
     as_new, of_directory, of_file, of_semantic, plus, replaced, share_at, with_long_paths,
     written_share,
 };
-use linked_tree::{CountedTree, know_layout};
+use kept_state::{CountedTree, know_layout};
 
 /// How much the state would hold after a command that nothing blocks. One that can exceed no limit counts as nothing.
 pub fn counts_after(tree: &CountedTree, command: &Resolved) -> Counts

@@ -7,24 +7,22 @@ ghost use Rattle.hac_model.specs.Refusals.{blocked};
 ghost use Rattle.hac_model.specs.Tree.{entry_at, is_file_at};
 ghost use Rattle.hac_model.specs.declared.states.Body.{Body};
 ghost use Rattle.file_tree.specs.Answers.{entry_kind};
-ghost use Rattle.linked_tree.specs.Linked.{IsLinked, state_of};
 ghost use Rattle.hac_core.specs.Standing.{AllStand};
 
 use file_tree::{EntryKind, Tree};
 use hac_model::{Memory, Name, Number, Resolved};
 use hac_names::print_text;
-use linked_tree::{LinkedTree, know_layout};
+use kept_state::{KeptState, know_layout};
 use std::alloc::Global;
 use tree_answers::{counts_lines, found_lines, link_lines, query_lines};
 
 /// The data lines of a command that nothing blocks. One that changes the state has none.
-pub fn data_lines(alloc: Global, kept: &LinkedTree, command: &Resolved) -> Result<Vec<Name>, Memory>
-    requires linked { IsLinked kept.now }
-    requires stands { AllStand kept.now.tree.state command.now }
-    requires free { blocked (state_of kept.now) command.now ≡ None }
-    ensures { IfOk result (λ lines. lines.items ≡ data_lines (state_of kept.now) command.now) }
+pub fn data_lines(alloc: Global, kept: &KeptState, command: &Resolved) -> Result<Vec<Name>, Memory>
+    requires stands { AllStand kept.now.state command.now }
+    requires free { blocked kept.now.state command.now ≡ None }
+    ensures { IfOk result (λ lines. lines.items ≡ data_lines kept.now.state command.now) }
 {
-    let tree = kept.tree.tree();
+    let tree = kept.tree();
     match command {
         Resolved::Cat { entry } => text_lines(alloc, tree, *entry),
         Resolved::Ls { dir } => child_lines(alloc, tree, *dir),

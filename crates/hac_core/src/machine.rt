@@ -13,7 +13,6 @@ ghost use Rattle.hac_model.specs.Tree.{empty};
 ghost use Rattle.hac_model.specs.Valid.{IsValid};
 ghost use Rattle.hac_core.specs.Drafts.{IsDraft, IsDraftOf, reads};
 ghost use Rattle.hac_core.specs.Limiting.{are_texts};
-ghost use Rattle.linked_tree.specs.Linked.{IsLinked, state_of};
 ghost use Rattle.hac_core.specs.Settling.{Settles, settled_events};
 ghost use Rattle.hac_core.specs.Standing.{AllStand};
 
@@ -26,17 +25,15 @@ use crate::fitting::fits;
 use crate::limiting::counts_after;
 use crate::listing::data_lines;
 use hac_model::{Deny, Event, Limit, Line, Memory, Refusal, Reply, Resolved, Seq, first_passed};
-use linked_tree::{LinkedTree, Ready};
+use kept_state::KeptState;
 use std::alloc::Global;
 use std::marker::Model;
-use std::mem;
 
-/// A state that is kept so that commands are quick, and the events for which memory was taken.
+/// A state that is kept so that commands are quick, with the events for which memory was taken.
 #[derive(Drop)]
 pub struct Machine {
     alloc: Global,
-    kept: LinkedTree,
-    ready: Ready,
+    kept: KeptState,
 }
 
 impl Model for Machine {
@@ -46,11 +43,9 @@ impl Model for Machine {
 
     ghost coded = { seen_code };
 
-    ghost use Rattle.hac_core.specs.Shape.{seen_of, IsMachine};
+    ghost use Rattle.hac_core.specs.Shape.{seen_of};
 
     ghost view = { seen_of };
-
-    ghost invariant = { IsMachine };
 }
 
 impl Machine {
@@ -60,8 +55,7 @@ impl Machine {
     {
         Ok(Machine {
             alloc,
-            kept: LinkedTree::new(alloc)?,
-            ready: Ready::Nothing,
+            kept: KeptState::new(alloc)?,
         })
     }
 
@@ -70,7 +64,7 @@ impl Machine {
         ensures dirty { result ≡ dirty self.now.state }
         ensures valid { IsValid self.now.state }
     {
-        self.kept.tree.counts().dirty
+        self.kept.counts().dirty
     }
 
     /// Follows the paths of a line that spells a command, and says whether the state refuses it: for what the paths
@@ -81,6 +75,7 @@ impl Machine {
         ensures draft { IfOk result (IsDraftOf self.now.state line) }
         ensures refused { IfErr result (λ deny. Refuses deny (refusal self.now.state line)) }
     {
+        self.kept.know_valid();
         let command = followed(self.alloc, &self.kept, line)?;
         match allowed(self.alloc, &self.kept, &command) {
             Ok(()) => Ok(Draft::new(command)),
@@ -98,6 +93,7 @@ impl Machine {
         ensures reply { IfOk result (λ reply. reply ≡ Reply.Lines (data_lines self.now.state draft)) }
         ensures cause { cause self.now.state draft ≡ None }
     {
+        self.kept.know_valid();
         let lines = data_lines(self.alloc, &self.kept, draft.command());
         drop(draft);
         Ok(Reply::Lines(Seq::new(lines?)))
@@ -110,6 +106,7 @@ impl Machine {
         ensures settled { IfOk result (Settles self.now.state draft) }
         ensures refused { IfErr result (λ deny. Refuses deny (cause self.now.state draft)) }
     {
+        self.kept.know_valid();
         let command = draft.into_command();
         match answerable(&self.kept, &command) {
             Ok(()) => Ok(events_of(self.alloc, &self.kept, command)),
@@ -134,49 +131,46 @@ impl Machine {
         ensures ok { OnOk result (self.new ≡ record { state = self.old.state; ready = settled_events settled }) }
         ensures err { OnErr result (self.new ≡ record { state = self.old.state; ready = [] }) }
     {
-        self.ready = Ready::Nothing;
-        self.ready = match settled {
-            Settled::Change(event) => linked_tree::prepare(self.alloc, &mut self.kept, event)?,
-            Settled::Steps(count) => Ready::Steps(count),
-        };
-        Ok(())
+        match settled {
+            Settled::Change(event) => self.kept.prepare(self.alloc, event),
+            Settled::Steps(count) => {
+                self.kept.prepare_steps(count);
+                Ok(())
+            }
+        }
     }
 
     /// Applies the prepared events. This takes no memory, and can't fail.
     pub fn commit(&mut self)
         ensures { self.new ≡ record { state = apply_all self.old.state self.old.ready; ready = [] } }
     {
-        let ready = mem::replace(&mut self.ready, Ready::Nothing);
-        linked_tree::put(&mut self.kept, ready);
+        self.kept.commit();
     }
 }
 
 /// The command of a line with what its paths lead to, or the first cause against it that lies in them.
-fn followed(alloc: Global, kept: &LinkedTree, line: Line) -> Result<Resolved, Deny>
-    requires { IsLinked kept.now }
-    ensures { Answers result (resolve (state_of kept.now) line) }
+fn followed(alloc: Global, kept: &KeptState, line: Line) -> Result<Resolved, Deny>
+    ensures { Answers result (resolve kept.now.state line) }
 {
-    resolve(alloc, kept.tree.tree(), line)
+    resolve(alloc, kept.tree(), line)
 }
 
 /// Denies a command that nothing blocks, if it would exceed a limit on what spaces answer: for the first such limit.
-fn answerable(kept: &LinkedTree, command: &Resolved) -> Result<(), Deny>
-    requires linked { IsLinked kept.now }
-    requires stands { AllStand kept.now.tree.state command.now }
+fn answerable(kept: &KeptState, command: &Resolved) -> Result<(), Deny>
+    requires stands { AllStand kept.now.state command.now }
     requires texts { IsTrue (are_texts command.now) }
-    requires free { blocked (state_of kept.now) command.now ≡ None }
-    ensures { Passes result (answer_cause (state_of kept.now) command.now) }
+    requires free { blocked kept.now.state command.now ≡ None }
+    ensures { Passes result (answer_cause kept.now.state command.now) }
 {
-    within(&counts_after(&kept.tree, command).answer_limits())
+    within(&counts_after(kept.counted(), command).answer_limits())
 }
 
 /// Denies a command for what blocks it, for the first limit on the tree itself that it would exceed, or because
 /// a directory would depend on itself.
-fn allowed(alloc: Global, kept: &LinkedTree, command: &Resolved) -> Result<(), Deny>
-    requires linked { IsLinked kept.now }
-    requires stands { AllStand kept.now.tree.state command.now }
+fn allowed(alloc: Global, kept: &KeptState, command: &Resolved) -> Result<(), Deny>
+    requires stands { AllStand kept.now.state command.now }
     requires texts { IsTrue (are_texts command.now) }
-    ensures { Passes result (early_cause (state_of kept.now) command.now) }
+    ensures { Passes result (early_cause kept.now.state command.now) }
 {
     unblocked(alloc, kept, command)?;
     limited(kept, command)?;
@@ -184,14 +178,13 @@ fn allowed(alloc: Global, kept: &LinkedTree, command: &Resolved) -> Result<(), D
 }
 
 /// Denies a command that nothing blocks, if it would exceed a limit on the tree itself: for the first such limit.
-fn limited(kept: &LinkedTree, command: &Resolved) -> Result<(), Deny>
-    requires linked { IsLinked kept.now }
-    requires stands { AllStand kept.now.tree.state command.now }
+fn limited(kept: &KeptState, command: &Resolved) -> Result<(), Deny>
+    requires stands { AllStand kept.now.state command.now }
     requires texts { IsTrue (are_texts command.now) }
-    requires free { blocked (state_of kept.now) command.now ≡ None }
-    ensures { Passes result (layout_cause (state_of kept.now) command.now) }
+    requires free { blocked kept.now.state command.now ≡ None }
+    ensures { Passes result (layout_cause kept.now.state command.now) }
 {
-    within(&counts_after(&kept.tree, command).layout_limits())
+    within(&counts_after(kept.counted(), command).layout_limits())
 }
 
 /// Denies a command for the first limit that is exceeded.

@@ -10,7 +10,7 @@ use file_tree::{EntryKind, Stop, Tree};
 use hac_model::{
     Deny, Memory, Name, Node, Number, Path, PathWord, Place, Query, RawQuery, Refusal,
 };
-use linked_tree::know_layout;
+use kept_state::know_layout;
 use std::alloc::Global;
 
 /// Where a path word leads. A relative word goes on from the root, where all sessions stand so far.

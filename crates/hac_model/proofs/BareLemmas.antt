@@ -1,5 +1,5 @@
 -- Events change the tree alone as they change the state whose tree it is.
-use Rattle.std.proofs.Common.{◌≡◌, ℕ, ◌+◌, true, false, cond, List, [], ◌∷◌, ◌++◌, refl, ap, sym, ◌∙◌}
+use Rattle.std.proofs.Common.{◌≡◌, ℕ, ◌+◌, Bool, true, false, cond, List, [], ◌∷◌, ◌++◌, refl, ap, sym, ◌∙◌}
 use Rattle.std.specs.Prelude.{◌==◌, not, filter, map, Option, Some, None}
 use Rattle.std.specs.Option.{option_map_or}
 use Rattle.std.proofs.lemmas.List.{map-append}
@@ -40,6 +40,15 @@ changed-bare n change (e ∷ es) passes = λ i. one i ∷ changed-bare n change 
       | true ↦ passes e
       | false ↦ sym (ap (λ (body : Body). record e { body = body }) (bare-again e.body))
     ]
+
+-- an edit of what isn't bare changes nothing
+pub changed-kept : (n : ℕ) (edit : Body → Body) (es : List Entry) → ((body : Body) → bare_body (edit body) ≡ bare_body body) → map (edited bare_body) (changed n (edited edit) es) ≡ map (edited bare_body) es
+changed-kept n edit [] same = refl
+changed-kept n edit (e ∷ es) same = λ i. one (e.number == n) i ∷ changed-kept n edit es same i
+  where
+    one : (b : Bool) → edited bare_body (cond b (edited edit e) e) ≡ edited bare_body e
+    one true = ap (λ (body : Body). record e { body = body }) (same e.body)
+    one false = refl
 
 kept-bare : (n : ℕ) (es : List Entry) → map (edited bare_body) (filter (is_kept n) es) ≡ map (edited bare_body) (filter (is_kept n) (map (edited bare_body) es))
 kept-bare n [] = refl
@@ -101,7 +110,7 @@ forgetting-bare : (n : ℕ) (body : Body) → bare_body (forgetting n body) ≡ 
 forgetting-bare n (Semantic query permanent prohibited) = refl
 forgetting-bare n other = refl
 
-marked-bare : (n : ℕ) (kind : Kind) (body : Body) → bare_body (marked n kind body) ≡ bare_body body
+pub marked-bare : (n : ℕ) (kind : Kind) (body : Body) → bare_body (marked n kind body) ≡ bare_body body
 marked-bare n Permanent (Semantic query permanent prohibited) = refl
 marked-bare n Prohibited (Semantic query permanent prohibited) = refl
 marked-bare n Transient (Semantic query permanent prohibited) = refl
@@ -115,7 +124,7 @@ marked-passes : (n : ℕ) (kind : Kind) → Passes (edited (marked n kind))
 marked-passes n kind e = ap (λ (body : Body). record e { body = body }) (marked-bare n kind e.body ∙ sym (bare-again e.body) ∙ sym (marked-bare n kind (bare_body e.body)))
 
 -- the bodies of a state without an item's marks are bare as they were
-forgotten-entries : (n : ℕ) (es : List Entry) → map (edited bare_body) (map (edited (forgetting n)) es) ≡ map (edited bare_body) es
+pub forgotten-entries : (n : ℕ) (es : List Entry) → map (edited bare_body) (map (edited (forgetting n)) es) ≡ map (edited bare_body) es
 forgotten-entries n [] = refl
 forgotten-entries n (e ∷ es) = λ i. record e { body = forgetting-bare n e.body i } ∷ forgotten-entries n es i
 

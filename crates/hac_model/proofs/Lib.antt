@@ -34,3 +34,7 @@ pub mod MarkLemmas
 pub mod AskLemmas
 pub mod AcyclicLemmas
 pub mod AlikeLemmas
+pub mod ViewLemmas
+pub mod FillLemmas
+pub mod FactLemmas
+pub mod NextLemmas

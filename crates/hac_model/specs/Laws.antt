@@ -6,6 +6,7 @@ use Rattle.hac_model.specs.Bytes.{is_backslash, is_line_end, is_quote}
 use Rattle.hac_model.specs.CommandLine.{options}
 use Rattle.hac_model.specs.Depends.{IsAcyclic}
 use Rattle.hac_model.specs.Events.{accepted, apply, apply_all, dirty, renamed}
+use Rattle.hac_model.specs.Facts.{facts_after, facts_of}
 use Rattle.hac_model.specs.LineWords.{first_word, is_word_end, quoted_word}
 use Rattle.hac_model.specs.Lines.{Item, is_spelled, item_of}
 use Rattle.hac_model.specs.Links.{links, round}
@@ -64,6 +65,17 @@ EventsKeepValid = (s : State) (event : Event) → IsValid s → IsTrue (accepted
 -- what an event does to the tree depends on the tree alone: not on marks, kept answers or sessions
 abbrev pub BareCommutes : Type 0
 BareCommutes = (s : State) (event : Event) → bare (apply s event) ≡ bare (apply (bare s) event)
+
+-- what it does to the facts of each number depends on them and on the tree
+abbrev pub FactsFollow : Type 0
+FactsFollow =
+    (s : State) (event : Event) → IsValid s → IsTrue (accepted s event) →
+    (number : ℕ) → facts_of (apply s event) number ≡ facts_after event (bare s) (facts_of s) number
+
+-- valid states of one tree are equal, if all numbers have the same facts
+abbrev pub PartsTellState : Type 0
+PartsTellState =
+    (s t : State) → IsValid s → IsValid t → bare s ≡ bare t → ((number : ℕ) → facts_of s number ≡ facts_of t number) → s ≡ t
 
 -- a line spells a command only with words that the command may have
 abbrev pub LinesSpell : Type 0

@@ -27,6 +27,7 @@ pub mod Depends
 pub mod Valid
 pub mod Events
 pub mod Bare
+pub mod Facts
 pub mod Resolving
 pub mod Refusals
 pub mod Play

@@ -1,5 +1,5 @@
 //! Theorems over the definitions alone. Each is the contract of a function that does nothing.
-ghost use Rattle.hac_model.specs.Laws.{ScriptsJoin, WholeIsLines, WholeIsFront, WholeIsLongest, EmptyIsValid, EventsKeepValid, BareCommutes, LinesSpell, CommandsHappen, StepsAreDue, StepsClean, IndexCleans, ScriptsKeepValid, EventsLead, EventsEnd, AcceptedAreSpelled, SessionsAreNotStored, FullStore, FirstEnd, FirstCommandLines, NoCommandLines, LinksStay, LinksAreOnly, ValidIsAcyclic, PlainTellsState, LooksFind, LooksTell, MovesRename, PrintedTextIsRead, PrintedTextIsOneLine, QuotedWordIsRead, QuotesAreOneSpelling, FirstListings, MovedListings};
+ghost use Rattle.hac_model.specs.Laws.{ScriptsJoin, WholeIsLines, WholeIsFront, WholeIsLongest, EmptyIsValid, EventsKeepValid, BareCommutes, FactsFollow, PartsTellState, LinesSpell, CommandsHappen, StepsAreDue, StepsClean, IndexCleans, ScriptsKeepValid, EventsLead, EventsEnd, AcceptedAreSpelled, SessionsAreNotStored, FullStore, FirstEnd, FirstCommandLines, NoCommandLines, LinksStay, LinksAreOnly, ValidIsAcyclic, PlainTellsState, LooksFind, LooksTell, MovesRename, PrintedTextIsRead, PrintedTextIsOneLine, QuotedWordIsRead, QuotesAreOneSpelling, FirstListings, MovedListings};
 
 /// Two joined scripts are played one after the other, where the first one consists of whole lines, each with its end
 /// and the bytes that belong to it. No line looks further ahead, and none looks back except at the state that the lines
@@ -28,6 +28,12 @@ pub fn events_keep_valid()
 /// What an event does to the tree depends on the tree alone.
 pub fn bare_commutes()
     ensures { BareCommutes }
+{}
+
+/// What an event does to the facts of each number depends on these facts and on the tree. So a state is known by both.
+pub fn facts_follow()
+    ensures follow { FactsFollow }
+    ensures tell { PartsTellState }
 {}
 
 /// A command that a line spells has only words that it may have.

@@ -5,5 +5,3 @@ pub mod AddedLemmas
 pub mod MarkedLemmas
 pub mod HasLemmas
 pub mod PutLemmas
-pub mod ChangeLemmas
-pub mod DirLemmas

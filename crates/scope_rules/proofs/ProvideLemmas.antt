@@ -1,11 +1,9 @@
--- What a directory provides, by the kind of an item's link.
-use Rattle.std.proofs.Common.{◌≡◌, ℕ, Bool, true, false, cond, List, [], ◌||◌, ◌&&◌, refl, ap, sym, ◌∙◌}
-use Rattle.hac_model.specs.Kinds.{is_linked}
+-- What a directory provides, by the links that were found and the marks.
+use Rattle.std.proofs.Common.{◌≡◌, ℕ, Bool, true, false, cond, List, [], ◌||◌, ◌&&◌, refl, ap, ◌∙◌}
 use Rattle.hac_model.specs.Links.{column, has, is_below, is_semantic, provide}
 use Rattle.hac_model.specs.declared.states.State.{State}
 use Rattle.link_kinds.specs.Marked.{with_marks}
-use Rattle.link_kinds.specs.Seen.{Known, kind_at, permanent_in, transient_in}
-use Rattle.link_kinds.proofs.HasLemmas.{linked-told}
+use Rattle.link_kinds.specs.Seen.{Known, permanent_in, transient_in}
 use Rattle.link_kinds.proofs.MarkedLemmas.{below-marked, permanent_at-marked, semantic-marked}
 
 -- what isn't semantic has no links
@@ -13,14 +11,18 @@ of-semantic : (semantic t : Bool) (numbers : List ℕ) (item : ℕ) → (semanti
 of-semantic true t numbers item = refl
 of-semantic false t numbers item = refl
 
-pub provided : (links : Known) (s : State) (dir item : ℕ) → provide (with_marks links s) (column (transient_in links) item) dir item ≡ (is_below s dir item || (is_semantic s dir && is_linked (kind_at links dir item)))
-provided links s dir item =
-    (λ i. below-marked links s dir item i || (semantic-marked links s dir i && (column (transient_in links) item dir || has (permanent_at-marked links s dir i) item)))
-    ∙ ap (λ b. is_below s dir item || b) (of-semantic (is_semantic s dir) (column (transient_in links) item dir) (permanent_in links dir) item ∙ ap (λ b. is_semantic s dir && b) (sym (linked-told links dir item)))
+module _ (marks found : Known) (s : State) (dir item : ℕ) where
+  abbrev linked : Bool
+  linked = is_semantic s dir && (column (transient_in found) item dir || has (permanent_in marks dir) item)
 
--- what is stored below it, and what isn't
-pub provided-below : (links : Known) (s : State) (dir item : ℕ) → is_below s dir item ≡ true → provide (with_marks links s) (column (transient_in links) item) dir item ≡ true
-provided-below links s dir item below = provided links s dir item ∙ ap (λ b. b || (is_semantic s dir && is_linked (kind_at links dir item))) below
+  provided : provide (with_marks marks s) (column (transient_in found) item) dir item ≡ (is_below s dir item || linked)
+  provided =
+      (λ i. below-marked marks s dir item i || (semantic-marked marks s dir i && (column (transient_in found) item dir || has (permanent_at-marked marks s dir i) item)))
+      ∙ ap (λ b. is_below s dir item || b) (of-semantic (is_semantic s dir) (column (transient_in found) item dir) (permanent_in marks dir) item)
 
-pub provided-link : (links : Known) (s : State) (dir item : ℕ) → is_below s dir item ≡ false → provide (with_marks links s) (column (transient_in links) item) dir item ≡ (is_semantic s dir && is_linked (kind_at links dir item))
-provided-link links s dir item below = provided links s dir item ∙ ap (λ b. b || (is_semantic s dir && is_linked (kind_at links dir item))) below
+  -- what is stored below it, and what isn't
+  pub provided-below : is_below s dir item ≡ true → provide (with_marks marks s) (column (transient_in found) item) dir item ≡ true
+  provided-below below = provided ∙ ap (λ b. b || linked) below
+
+  pub provided-link : is_below s dir item ≡ false → provide (with_marks marks s) (column (transient_in found) item) dir item ≡ linked
+  provided-link below = provided ∙ ap (λ b. b || linked) below

@@ -3,4 +3,4 @@
 
 mod providing;
 
-pub use providing::provides;
+pub use providing::{has_found, provides};

@@ -1,20 +1,18 @@
 //! Whether a directory provides an item.
-ghost use Rattle.std.specs.Prelude.{◌≡◌, ◌&&◌};
-ghost use Rattle.hac_model.specs.Kinds.{is_linked};
-ghost use Rattle.hac_model.specs.Links.{column, is_below, is_semantic, provide};
+ghost use Rattle.std.specs.Prelude.{◌≡◌, ◌&&◌, ◌||◌};
+ghost use Rattle.hac_model.specs.Links.{column, has, is_below, is_semantic, provide};
 ghost use Rattle.link_kinds.specs.Marked.{with_marks};
-ghost use Rattle.link_kinds.specs.Seen.{kind_at, transient_in};
+ghost use Rattle.link_kinds.specs.Seen.{permanent_in, transient_in};
 
 use file_tree::Tree;
 use hac_model::Number;
 use link_kinds::Links;
 
 /// Whether a directory provides an item: it is stored below it, at any depth, or is a link of it, found or added.
-/// The links are those of the marks.
-pub fn provides(tree: &Tree, links: &Links, dir: Number, item: Number) -> bool
-    ensures { result ≡ provide (with_marks links.now tree.now.state) (column (transient_in links.now) item) dir item }
+pub fn provides(tree: &Tree, marks: &Links, found: &Links, dir: Number, item: Number) -> bool
+    ensures { result ≡ provide (with_marks marks.now tree.now.state) (column (transient_in found.now) item) dir item }
 {
-    is_stored_below(tree, dir, item) || is_link(tree, links, dir, item)
+    is_stored_below(tree, dir, item) || is_link(tree, marks, found, dir, item)
 }
 
 /// Whether an item is stored below a directory, at any depth.
@@ -25,8 +23,22 @@ fn is_stored_below(tree: &Tree, dir: Number, item: Number) -> bool
 }
 
 /// Whether an item is a link of a semantic directory.
-fn is_link(tree: &Tree, links: &Links, dir: Number, item: Number) -> bool
-    ensures { result ≡ (is_semantic tree.now.state dir && is_linked (kind_at links.now dir item)) }
+fn is_link(tree: &Tree, marks: &Links, found: &Links, dir: Number, item: Number) -> bool
+    ensures { result ≡ (is_semantic tree.now.state dir && (column (transient_in found.now) item dir || has (permanent_in marks.now dir) item)) }
 {
-    tree.query(dir).is_some() && links.kind(dir, item).is_linked()
+    tree.query(dir).is_some() && (has_found(found, dir, item) || is_added(marks, dir, item))
+}
+
+/// Whether a directory found an item.
+pub fn has_found(found: &Links, dir: Number, item: Number) -> bool
+    ensures { result ≡ column (transient_in found.now) item dir }
+{
+    found.kind(dir, item).is_transient()
+}
+
+/// Whether the user added an item to a directory.
+fn is_added(marks: &Links, dir: Number, item: Number) -> bool
+    ensures { result ≡ has (permanent_in marks.now dir) item }
+{
+    marks.kind(dir, item).is_permanent()
 }

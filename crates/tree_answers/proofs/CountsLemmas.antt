@@ -25,16 +25,13 @@ use Rattle.hac_model.proofs.TreeLemmas.{entry_at-all, entry_at-next}
 use Rattle.dep_graph.specs.Searches.{AnyReaches}
 use Rattle.link_kinds.specs.Kinds.{items_of}
 use Rattle.link_kinds.specs.Seen.{LinkListsRise, Known, lists_in, transient_in}
-use Rattle.link_kinds.proofs.MarkedLemmas.{semantic-marked}
 use Rattle.tree_answers.specs.Finding.{AreFound, is_within}
-use Rattle.linked_tree.specs.Linked.{IsLinked, state_of}
-use Rattle.tree_answers.specs.Telling.{HasAllLinks, link_count, told_line}
-use Rattle.linked_tree.specs.declared.linked.LinkedTree.{LinkedTree}
+use Rattle.tree_answers.specs.Telling.{CanCount, HasAllLinks, link_count, told_line}
+use Rattle.kept_state.specs.Readers.{AreMarksOf}
 use Rattle.tree_answers.proofs.FoundLemmas.{alone-reaches, file-below, links-items, within-below}
 use Rattle.tree_answers.proofs.PlainLemmas.{plain-counted}
 use Rattle.tree_answers.proofs.RangeLemmas.{filter-both}
 use Rattle.tree_answers.proofs.ReferringLemmas.{among-has, has-among, rising-one, steps-rise}
-use Rattle.linked_tree.proofs.StateLemmas.{same-counts}
 
 -- Numbers that rise.
 
@@ -126,12 +123,10 @@ module _ (s : State) (h : IsValid s) where
   few-marks : (ns : List ℕ) → AreMarks s ns → length ns ≤ NUMBERS_LIMIT
   few-marks ns marks = few-numbers ns marks.rise (λ n among. marks-below ns n marks.items among)
 
--- the line, given the counts of a tree
-pub line-told : (kept : LinkedTree) → told_line (counts kept.tree.state) (transient_count (state_of kept)) (permanent_count (state_of kept)) (prohibited_count (state_of kept)) ≡ counts_line (state_of kept)
-line-told kept =
-    let s : State = state_of kept in
-    ap (λ (k : Counts). told_line k (transient_count s) (permanent_count s) (prohibited_count s)) (sym (same-counts kept))
-    ∙ ap (λ (plain : ℕ).
+-- the line of a state
+pub line-told : (s : State) → told_line (counts s) (transient_count s) (permanent_count s) (prohibited_count s) ≡ counts_line s
+line-told s =
+    ap (λ (plain : ℕ).
     codes "="
     ++ counted (codes "files") (counts s).files
     ++ counted (codes "documents") 0
@@ -145,62 +140,67 @@ line-told kept =
     ++ counted (codes "dirty") (counts s).dirty
     ++ counted (codes "next") (counts s).next) (sym (plain-counted s).1)
 
-module _ (kept : LinkedTree) (linked : IsLinked kept) (dirs : List ℕ) (end : ℕ) (are : dirs ≡ filter (is_semantic kept.tree.state) (range_with_len 0 kept.tree.state.next)) (whole : end ≡ kept.tree.state.next) (found : Known) (all : AreFound (state_of kept) dirs 0 end found) (rise : LinkListsRise found) where
+-- The marks of a state can be counted.
+
+module _ (s : State) (valid : IsValid s) (marks : Known) (are : AreMarksOf s marks) where
+  sound : (dir : ℕ) → AreMarks s (permanent_at s dir) × AreMarks s (prohibited_at s dir)
+  sound dir = marks-sound s valid (entry_at s.entries dir) (λ e there. entry-asks s valid dir e there)
+
+  pub permanent-few : CanCount s Permanent marks
+  permanent-few = record { few = λ dir. subst (λ (ns : List ℕ). length ns ≤ NUMBERS_LIMIT) (sym (are.permanent dir)) (few-marks s valid (permanent_at s dir) (sound dir).0); next_few = next-few s valid }
+
+  pub prohibited-few : CanCount s Prohibited marks
+  prohibited-few = record { few = λ dir. subst (λ (ns : List ℕ). length ns ≤ NUMBERS_LIMIT) (sym (are.prohibited dir)) (few-marks s valid (prohibited_at s dir) (sound dir).1); next_few = next-few s valid }
+
+  pub permanent-sum : link_count Permanent s marks ≡ permanent_count s
+  unfolding permanent_count
+  permanent-sum = λ i. sum_by (λ dir. length (are.permanent dir i)) (range_with_len 0 s.next)
+
+  pub prohibited-sum : link_count Prohibited s marks ≡ prohibited_count s
+  unfolding prohibited_count
+  prohibited-sum = λ i. sum_by (λ dir. length (are.prohibited dir i)) (range_with_len 0 s.next)
+
+module _ (s : State) (valid : IsValid s) (dirs : List ℕ) (end : ℕ) (are : dirs ≡ filter (is_semantic s) (range_with_len 0 s.next)) (whole : end ≡ s.next) (found : Known) (all : AreFound s dirs 0 end found) (rise : LinkListsRise found) where
   -- the links that were found are all links
-  transient-same : (dir : ℕ) → transient_in found dir ≡ links (state_of kept) dir
+  transient-same : (dir : ℕ) → transient_in found dir ≡ links s dir
   transient-same dir =
-      rising-one 0 0 (transient_in found dir) (links (state_of kept) dir)
+      rising-one 0 0 (transient_in found dir) (links s dir)
       (steps-rise 0 (transient_in found dir) (λ n more is. omega arith) (rise dir).transient)
-      (links-rise (state_of kept) linked.valid dir)
-      (λ n among. has-among (links (state_of kept) dir) n (sym (same n) ∙ among-has (transient_in found dir) n among))
-      (λ n among. has-among (transient_in found dir) n (same n ∙ among-has (links (state_of kept) dir) n among))
+      (links-rise s valid dir)
+      (λ n among. has-among (links s dir) n (sym (same n) ∙ among-has (transient_in found dir) n among))
+      (λ n among. has-among (transient_in found dir) n (same n ∙ among-has (links s dir) n among))
     where
-      below : dir < kept.tree.state.next → dir < 0 + kept.tree.state.next
+      below : dir < s.next → dir < 0 + s.next
       below less = omega (arith, less)
 
-      reach : is_semantic (state_of kept) dir ≡ true → AnyReaches (depends (state_of kept)) dirs dir
+      reach : is_semantic s dir ≡ true → AnyReaches (depends s) dirs dir
       reach is =
-          alone-reaches (depends (state_of kept)) dirs dir (subst (λ (ds : List ℕ). Among ds dir) (sym are)
-          (among-filter (is_semantic kept.tree.state) (range_with_len 0 kept.tree.state.next) dir (sym (semantic-marked kept.marks kept.tree.state dir) ∙ is)
-          (among-range 0 kept.tree.state.next dir (omega arith) (below (semantic-below (state_of kept) linked.valid dir is)))))
+          alone-reaches (depends s) dirs dir (subst (λ (ds : List ℕ). Among ds dir) (sym are)
+          (among-filter (is_semantic s) (range_with_len 0 s.next) dir is (among-range 0 s.next dir (omega arith) (below (semantic-below s valid dir is)))))
 
-      none : (n : ℕ) → is_within 0 end n ≡ false → (b : Bool) → is_item (state_of kept) n ≡ b → column (links (state_of kept)) n dir ≡ false
+      none : (n : ℕ) → is_within 0 end n ≡ false → (b : Bool) → is_item s n ≡ b → column (links s) n dir ≡ false
       none n out true is =
-          let below : n < end = subst (λ (k : ℕ). n < k) (sym whole) (file-below (state_of kept) n linked.valid.layout is) in
+          let below : n < end = subst (λ (k : ℕ). n < k) (sym whole) (file-below s n valid.layout is) in
           let never : true ≡ false = sym (within-below end n below) ∙ out in
           absurd cc
-      none n out false other = links-items (state_of kept) linked.valid.acyclic dir n other
+      none n out false other = links-items s valid.acyclic dir n other
 
-      same : (n : ℕ) → column (transient_in found) n dir ≡ column (links (state_of kept)) n dir
+      same : (n : ℕ) → column (transient_in found) n dir ≡ column (links s) n dir
       same n = by_within (is_within 0 end n) refl
         where
-          by_within : (b : Bool) → is_within 0 end n ≡ b → column (transient_in found) n dir ≡ column (links (state_of kept)) n dir
+          by_within : (b : Bool) → is_within 0 end n ≡ b → column (transient_in found) n dir ≡ column (links s) n dir
           by_within true within = all.links dir n reach within
-          by_within false out = all.others dir n out ∙ sym (none n out (is_item (state_of kept) n) refl)
+          by_within false out = all.others dir n out ∙ sym (none n out (is_item s n) refl)
 
-  few : (k : Kind) (dir : ℕ) → length (items_of k (lists_in found dir)) ≤ NUMBERS_LIMIT
-  few Transient dir = subst (λ (ns : List ℕ). length ns ≤ NUMBERS_LIMIT) (sym (transient-same dir)) (few-numbers (state_of kept) linked.valid (links (state_of kept) dir) (links-rise (state_of kept) linked.valid dir) (λ n among. links-below (state_of kept) linked.valid dir n among))
-  few Permanent dir = subst (λ (ns : List ℕ). length ns ≤ NUMBERS_LIMIT) (sym (all.permanent dir)) (few-marks (state_of kept) linked.valid (permanent_at (state_of kept) dir) (marks-sound (state_of kept) linked.valid (entry_at (state_of kept).entries dir) (λ e there. entry-asks (state_of kept) linked.valid dir e there)).0)
-  few Prohibited dir = subst (λ (ns : List ℕ). length ns ≤ NUMBERS_LIMIT) (sym (all.prohibited dir)) (few-marks (state_of kept) linked.valid (prohibited_at (state_of kept) dir) (marks-sound (state_of kept) linked.valid (entry_at (state_of kept).entries dir) (λ e there. entry-asks (state_of kept) linked.valid dir e there)).1)
-  few Unlinked dir = omega arith
-
-  transient-sum : link_count Transient kept.tree.state found ≡ transient_count (state_of kept)
-  unfolding transient_count
-  transient-sum = λ i. sum_by (λ dir. length (transient-same dir i)) (range_with_len 0 kept.tree.state.next)
-
-  permanent-sum : link_count Permanent kept.tree.state found ≡ permanent_count (state_of kept)
-  unfolding permanent_count
-  permanent-sum = λ i. sum_by (λ dir. length (all.permanent dir i)) (range_with_len 0 kept.tree.state.next)
-
-  prohibited-sum : link_count Prohibited kept.tree.state found ≡ prohibited_count (state_of kept)
-  unfolding prohibited_count
-  prohibited-sum = λ i. sum_by (λ dir. length (all.prohibited dir i)) (range_with_len 0 kept.tree.state.next)
-
-  pub all-links : HasAllLinks kept found
-  all-links = record {
-    few = few;
-    next_few = next-few (state_of kept) linked.valid;
-    transient = transient-sum;
-    permanent = permanent-sum;
-    prohibited = prohibited-sum;
+  transient-few : CanCount s Transient found
+  transient-few = record {
+    few = λ dir. subst (λ (ns : List ℕ). length ns ≤ NUMBERS_LIMIT) (sym (transient-same dir)) (few-numbers s valid (links s dir) (links-rise s valid dir) (λ n among. links-below s valid dir n among));
+    next_few = next-few s valid;
   }
+
+  transient-sum : link_count Transient s found ≡ transient_count s
+  unfolding transient_count
+  transient-sum = λ i. sum_by (λ dir. length (transient-same dir i)) (range_with_len 0 s.next)
+
+  pub all-links : HasAllLinks s found
+  all-links = record { can = transient-few; all = transient-sum }

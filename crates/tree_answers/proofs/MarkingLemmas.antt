@@ -1,35 +1,33 @@
--- What a linked tree's marks say of its state.
-use Rattle.std.proofs.Common.{◌≡◌, ℕ, true, false, cond, List, [], refl, ap, sym, ◌∙◌}
-use Rattle.hac_model.specs.Links.{has, is_semantic, permanent_at, prohibited_at}
-use Rattle.hac_model.specs.Links as links
-use Rattle.hac_model.specs.Kinds.{is_permanent, is_prohibited}
-use Rattle.link_kinds.specs.Kinds.{Lists}
-use Rattle.link_kinds.specs.Seen.{AllApart, kind_at, permanent_in, prohibited_in}
-use Rattle.link_kinds.proofs.HasLemmas.{permanent-told, prohibited-told}
-use Rattle.link_kinds.proofs.MarkedLemmas.{permanent_at-marked, prohibited_at-marked}
-use Rattle.linked_tree.specs.Linked.{IsLinked, state_of}
-use Rattle.linked_tree.specs.declared.linked.LinkedTree.{LinkedTree}
+-- What the mark of an item tells.
+use Rattle.std.proofs.Common.{◌≡◌, ℕ, Bool, true, false, cond, refl}
+use Rattle.std.specs.Prelude.{◌||◌, not}
+use Rattle.hac_model.specs.Links.{is_permanent, is_prohibited, is_unmarked}
+use Rattle.hac_model.specs.Kinds.{is_permanent as is_permanent_kind, is_unlinked}
+use Rattle.hac_model.specs.declared.marks.Kind.TheVariants.{Permanent, Prohibited, Unlinked}
+use Rattle.hac_model.specs.declared.states.State.{State}
+use Rattle.kept_state.specs.Readers.{mark_at}
 
--- a directory's marks are those that are kept of it
-pub permanent-kept : (kept : LinkedTree) (dir : ℕ) → IsLinked kept → permanent_at (state_of kept) dir ≡ permanent_in kept.marks dir
-permanent-kept kept dir h =
-    permanent_at-marked kept.marks kept.tree.state dir
-    ∙ (elim (is_semantic kept.tree.state dir) as (λ b. is_semantic kept.tree.state dir ≡ b → cond b (permanent_in kept.marks dir) [] ≡ permanent_in kept.marks dir) [
-      | true ↦ (λ is. refl)
-      | false ↦ (λ other. sym (ap (λ (lists : Lists). lists.permanent) (h.plain dir other)))
-    ] refl)
+permanent-first : (p x : Bool) → is_permanent_kind (cond p Permanent (cond x Prohibited Unlinked)) ≡ p
+permanent-first true x = refl
+permanent-first false true = refl
+permanent-first false false = refl
 
-pub prohibited-kept : (kept : LinkedTree) (dir : ℕ) → IsLinked kept → prohibited_at (state_of kept) dir ≡ prohibited_in kept.marks dir
-prohibited-kept kept dir h =
-    prohibited_at-marked kept.marks kept.tree.state dir
-    ∙ (elim (is_semantic kept.tree.state dir) as (λ b. is_semantic kept.tree.state dir ≡ b → cond b (prohibited_in kept.marks dir) [] ≡ prohibited_in kept.marks dir) [
-      | true ↦ (λ is. refl)
-      | false ↦ (λ other. sym (ap (λ (lists : Lists). lists.prohibited) (h.plain dir other)))
-    ] refl)
+neither : (p x : Bool) → is_unlinked (cond p Permanent (cond x Prohibited Unlinked)) ≡ not (p || x)
+neither true x = refl
+neither false true = refl
+neither false false = refl
 
--- the kind that is kept of an item is its mark
-pub permanent-kind : (kept : LinkedTree) (dir item : ℕ) → IsLinked kept → AllApart kept.marks → links.is_permanent (state_of kept) dir item ≡ is_permanent (kind_at kept.marks dir item)
-permanent-kind kept dir item h apart = ap (λ (ns : List ℕ). has ns item) (permanent-kept kept dir h) ∙ permanent-told kept.marks apart dir item
+either : (p x : Bool) → not (is_unlinked (cond p Permanent (cond x Prohibited Unlinked))) ≡ (p || x)
+either true x = refl
+either false true = refl
+either false false = refl
 
-pub prohibited-kind : (kept : LinkedTree) (dir item : ℕ) → IsLinked kept → AllApart kept.marks → links.is_prohibited (state_of kept) dir item ≡ is_prohibited (kind_at kept.marks dir item)
-prohibited-kind kept dir item h apart = ap (λ (ns : List ℕ). has ns item) (prohibited-kept kept dir h) ∙ prohibited-told kept.marks apart dir item
+module _ (s : State) (dir item : ℕ) where
+  pub permanent-mark : is_permanent_kind (mark_at s dir item) ≡ is_permanent s dir item
+  permanent-mark = permanent-first (is_permanent s dir item) (is_prohibited s dir item)
+
+  pub no-mark : is_unlinked (mark_at s dir item) ≡ is_unmarked s dir item
+  no-mark = neither (is_permanent s dir item) (is_prohibited s dir item)
+
+  pub some-mark : not (is_unlinked (mark_at s dir item)) ≡ (is_permanent s dir item || is_prohibited s dir item)
+  some-mark = either (is_permanent s dir item) (is_prohibited s dir item)

@@ -1,6 +1,6 @@
 -- Which directories name another in their queries, by a graph and by the entries.
 use Rattle.std.proofs.Common.{◌≡◌, ℕ, zero, suc, ◌+◌, ◌<◌, ◌≤◌, Bool, true, false, cond, List, [], ◌∷◌, length, map, filter, eqb, subst, refl, ap, sym, ◌∙◌, arith, inl, inr, eq-eqb, ne_eqb, eqb-true}
-use Rattle.std.specs.Prelude.{◌==◌, slice_index, ◌&&◌, ◌||◌, ◌↔◌, not, drop, Contains, Option, Some, None, IsPermutation, IsSorted, option_and_then}
+use Rattle.std.specs.Prelude.{◌==◌, slice_index, ◌&&◌, ◌||◌, ◌↔◌, not, drop, Contains, IfOk, Result, Ok, Err, Option, Some, None, IsPermutation, IsSorted, option_and_then}
 use Rattle.std.specs.List.{AllByRecursion, IsDistinct, list_all}
 use Rattle.std.specs.List.Sorted.{IsStrictlyIncreasing}
 use Rattle.std.specs.Option.{option_map, option_map_or}
@@ -11,19 +11,18 @@ use Rattle.hac_model.specs.Depends.{Among, depends, named_in, names_directory, r
 use Rattle.hac_model.specs.Events.{is_unreferenced}
 use Rattle.hac_model.specs.Formula.{Formula}
 use Rattle.hac_model.specs.Links.{has, parent_of, query_at}
-use Rattle.hac_model.specs.Refusals.{least_path, referenced_cause}
+use Rattle.hac_model.specs.Refusals.{least_path}
 use Rattle.hac_model.specs.Tree.{entry_at, path_of, query_in}
-use Rattle.hac_model.specs.Valid.{NumbersRise, RiseFrom}
-use Rattle.hac_model.specs.declared.replies.Refusal.TheVariants.{Referenced}
+use Rattle.hac_model.specs.Valid.{IsValid, NumbersRise, RiseFrom}
+use Rattle.hac_model.specs.declared.memory.Memory.{Memory}
 use Rattle.hac_model.specs.declared.states.Entry.{Entry}
 use Rattle.hac_model.specs.declared.states.State.{State}
 use Rattle.hac_model.proofs.TreeLemmas.{entry_at-above, entry_at-behind}
+use Rattle.dep_graph.specs.Graphs as graph
 use Rattle.dep_graph.specs.Graphs.{named_by}
 use Rattle.dep_graph.specs.Searches.{EachOnce}
-use Rattle.file_tree.specs.Seen.{Seen}
-use Rattle.linked_tree.specs.Linked.{IsLinked, state_of}
-use Rattle.linked_tree.specs.declared.linked.LinkedTree.{LinkedTree}
-use Rattle.linked_tree.proofs.StateLemmas.{same-depends, same-path}
+use Rattle.kept_state.specs.Readers.{AreEdgesOf, IsTreeOf}
+use Rattle.kept_state.proofs.StateLemmas.{same-path}
 
 -- Numbers that rise.
 
@@ -221,29 +220,34 @@ paths-numbers : (path : ℕ → List (List ℕ)) (es : List Entry) → map (λ (
 paths-numbers path [] = refl
 paths-numbers path (e ∷ es) = ap (λ (paths : List (List (List ℕ))). path e.number ∷ paths) (paths-numbers path es)
 
--- a graph knows whom a query names
-edges-same : (kept : LinkedTree) → IsLinked kept → (q : ℕ) → named_by kept.graph q ≡ drop 1 (depends (state_of kept) q)
-edges-same kept h q = ap (λ (ns : List ℕ). drop 1 ns) (h.edges q ∙ sym (same-depends kept q))
+module _ (s : State) (valid : IsValid s) (edges : graph.Seen) (are : AreEdgesOf s edges) where
+  -- a graph knows whom a query names
+  edges-same : (q : ℕ) → named_by edges q ≡ drop 1 (depends s q)
+  edges-same q = ap (λ (ns : List ℕ). drop 1 ns) (are q)
 
-module _ (kept : LinkedTree) (h : IsLinked kept) (dir : ℕ) (found sorted : List ℕ) (named : (q : ℕ) → Among found q ↔ Among (named_by kept.graph q) dir) (once : EachOnce found) (same : IsPermutation found sorted) (order : IsSorted nat_cmp sorted) where
-  -- the numbers that the graph gave are those of the entries, once they are sorted
-  referrers-sorted : numbers_of (referrers (state_of kept) dir) ≡ sorted
-  referrers-sorted =
-      rising-one 0 0 (numbers_of (referrers (state_of kept) dir)) sorted
-      (some-rise (names_directory dir) 0 0 (state_of kept).entries (state_of kept).next h.valid.layout.numbers (omega arith))
-      (sorted-rise found sorted same once order)
-      (λ q among. sorted-among found sorted same q ((named q).1 (subst (λ (ns : List ℕ). Among ns dir) (sym (edges-same kept h q)) (referrer-names (state_of kept) dir q h.valid.layout.numbers among))))
-      (λ q among. names-referrer (state_of kept) dir q (subst (λ (ns : List ℕ). Among ns dir) (edges-same kept h q) ((named q).0 (among-sorted found sorted same q among))))
+  module _ (dir : ℕ) (found sorted : List ℕ) (named : (q : ℕ) → Among found q ↔ Among (named_by edges q) dir) (once : EachOnce found) (same : IsPermutation found sorted) (order : IsSorted nat_cmp sorted) where
+    -- the numbers that the graph gave are those of the entries, once they are sorted
+    referrers-sorted : numbers_of (referrers s dir) ≡ sorted
+    referrers-sorted =
+        rising-one 0 0 (numbers_of (referrers s dir)) sorted
+        (some-rise (names_directory dir) 0 0 s.entries s.next valid.layout.numbers (omega arith))
+        (sorted-rise found sorted same once order)
+        (λ q among. sorted-among found sorted same q ((named q).1 (subst (λ (ns : List ℕ). Among ns dir) (sym (edges-same q)) (referrer-names s dir q valid.layout.numbers among))))
+        (λ q among. names-referrer s dir q (subst (λ (ns : List ℕ). Among ns dir) (edges-same q) ((named q).0 (among-sorted found sorted same q among))))
 
-  -- so the least of their paths is in the refusal
-  pub referenced-told : (seen : Seen) (entries : List ℕ) (least : Option (List (List ℕ))) → seen ≡ kept.tree → entries ≡ sorted → least ≡ least_path (map (path_of seen.state) entries) → referenced_cause (state_of kept) dir ≡ option_map Referenced least
-  referenced-told seen entries least tree is told =
-      ap (λ (paths : List (List (List ℕ))). option_map Referenced (least_path paths)) (
-      paths-numbers (path_of (state_of kept)) (referrers (state_of kept) dir)
-      ∙ ap (λ (ns : List ℕ). map (path_of (state_of kept)) ns) (referrers-sorted ∙ sym is)
-      ∙ (λ i. map (λ (n : ℕ). same-path kept n i) entries)
-      ∙ ap (λ (t : Seen). map (path_of t.state) entries) (sym tree))
-      ∙ ap (λ (o : Option (List (List ℕ))). option_map Referenced o) (sym told)
+    -- so the least of their paths is that of the least referrer
+    pub referrer-told : (t : State) (entries : List ℕ) (least : Option (List (List ℕ))) → IsTreeOf s t → entries ≡ sorted → least ≡ least_path (map (path_of t) entries) → least ≡ least_path (map (λ (e : Entry). path_of s e.number) (referrers s dir))
+    referrer-told t entries least one is told =
+        told
+        ∙ ap (λ (paths : List (List (List ℕ))). least_path paths) (
+        (λ i. map (λ (n : ℕ). sym (same-path s t one.bares n) i) entries)
+        ∙ ap (λ (ns : List ℕ). map (path_of s) ns) (is ∙ sym referrers-sorted)
+        ∙ sym (paths-numbers (path_of s) (referrers s dir)))
+
+    pub referrer-within : (t : State) (entries : List ℕ) → IsTreeOf s t → entries ≡ sorted → (result : Result (Option (List (List ℕ))) Memory) → IfOk result (λ least. least ≡ least_path (map (path_of t) entries)) →
+        IfOk result (λ least. least ≡ least_path (map (λ (e : Entry). path_of s e.number) (referrers s dir)))
+    referrer-within t entries one is (Ok least) told = referrer-told t entries least one is told
+    referrer-within t entries one is (Err memory) told = tt
 
 -- Whether any names it.
 
@@ -262,9 +266,9 @@ both-empty (m ∷ ms) [] there back = absurd (there m (inl refl))
 both-empty [] (n ∷ ns) there back = absurd (back n (inl refl))
 both-empty (m ∷ ms) (n ∷ ns) there back = longer (length ms) ∙ sym (longer (length ns))
 
-pub unreferenced-told : (kept : LinkedTree) (h : IsLinked kept) (dir : ℕ) (found : List ℕ) → ((q : ℕ) → Among found q ↔ Among (named_by kept.graph q) dir) → is_unreferenced (state_of kept) dir ≡ (length found == 0)
-unreferenced-told kept h dir found named =
-    none-left (names_directory dir) (state_of kept).entries
-    ∙ both-empty (numbers_of (referrers (state_of kept) dir)) found
-    (λ q among. (named q).1 (subst (λ (ns : List ℕ). Among ns dir) (sym (edges-same kept h q)) (referrer-names (state_of kept) dir q h.valid.layout.numbers among)))
-    (λ q among. names-referrer (state_of kept) dir q (subst (λ (ns : List ℕ). Among ns dir) (edges-same kept h q) ((named q).0 among)))
+pub unreferenced-told : (s : State) (valid : IsValid s) (edges : graph.Seen) (are : AreEdgesOf s edges) (dir : ℕ) (found : List ℕ) → ((q : ℕ) → Among found q ↔ Among (named_by edges q) dir) → is_unreferenced s dir ≡ (length found == 0)
+unreferenced-told s valid edges are dir found named =
+    none-left (names_directory dir) s.entries
+    ∙ both-empty (numbers_of (referrers s dir)) found
+    (λ q among. (named q).1 (subst (λ (ns : List ℕ). Among ns dir) (sym (edges-same s valid edges are q)) (referrer-names s dir q valid.layout.numbers among)))
+    (λ q among. names-referrer s dir q (subst (λ (ns : List ℕ). Among ns dir) (edges-same s valid edges are q) ((named q).0 among)))

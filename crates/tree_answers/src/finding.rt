@@ -1,32 +1,33 @@
 //! The links that queries give to directories, found anew where a command asks for them.
-ghost use Rattle.std.specs.Prelude.{◌≡◌, ◌≤◌, IfOk, IsTrue, OnOk};
-ghost use Rattle.hac_model.specs.Links.{atom, column, has, holds, links, provide};
+ghost use Rattle.std.specs.Prelude.{◌≡◌, ◌≤◌, is_some, IfOk, IsTrue, OnOk};
+ghost use Rattle.hac_model.specs.Links.{atom, column, has, holds, is_item, is_unmarked, links, parent_of, provide, satisfies, shown_of};
 ghost use Rattle.hac_model.specs.Tree.{is_file_at};
 ghost use Rattle.link_kinds.specs.Marked.{with_marks};
-ghost use Rattle.link_kinds.specs.Seen.{AllApart, LinkListsRise, transient_in};
-ghost use Rattle.tree_answers.specs.Finding.{AreFound, GetsFound, answers, finds, is_indexed};
-ghost use Rattle.linked_tree.specs.Linked.{IsLinked, state_of};
+ghost use Rattle.link_kinds.specs.Seen.{LinkListsRise, transient_in};
+ghost use Rattle.tree_answers.specs.Finding.{AreFound, GetsFound, finds, is_indexed};
 
 use file_tree::Tree;
 use hac_model::{Kind, Member, Memory, Number, Query, Term};
 use hac_words::has_term;
+use kept_state::KeptState;
 use link_kinds::Links;
-use linked_tree::LinkedTree;
 use query_eval::{Atoms, judge};
 use scope_rules::provides;
 use std::alloc::Global;
 
 /// What queries are judged by: the texts of files as they were last indexed, and what directories provide.
 #[derive(Clone, Copy)]
-pub struct Scope<'a> {
+pub struct Sight<'a> {
     /// The tree.
     pub tree: &'a Tree,
-    /// The links, those that were found so far among them.
-    pub links: &'a Links,
+    /// The marks.
+    pub marks: &'a Links,
+    /// The links that were found so far.
+    pub found: &'a Links,
 }
 
-impl<'a> Atoms for Scope<'a> {
-    ghost atoms = { λ scope. atom scope.tree.now.state };
+impl<'a> Atoms for Sight<'a> {
+    ghost atoms = { λ sight. atom sight.tree.now.state };
 
     fn has(&self, term: &Term, item: Number) -> bool {
         match self.tree.shown(item) {
@@ -36,37 +37,48 @@ impl<'a> Atoms for Scope<'a> {
     }
 }
 
-impl<'a> Member for Scope<'a> {
-    ghost provides = { λ scope dir item. provide (with_marks scope.links.now scope.tree.now.state) (column (transient_in scope.links.now) item) dir item };
+impl<'a> Member for Sight<'a> {
+    ghost provides = { λ sight dir item. provide (with_marks sight.marks.now sight.tree.now.state) (column (transient_in sight.found.now) item) dir item };
 
     fn within(&self, dir: Number, item: Number) -> bool {
-        provides(self.tree, self.links, dir, item)
+        provides(self.tree, self.marks, self.found, dir, item)
     }
 }
 
-/// The links of directories and of all that they depend on: of the items whose numbers are from `first` to below `end`
-/// those that each finds, and all marks. Each directory is looked at once, behind all on which it depends.
-pub fn find_links(kept: &LinkedTree, dirs: &[Number], first: u64, end: u64) -> Result<Links, Memory>
-    requires linked { IsLinked kept.now }
-    requires range { first ≤ end }
-    ensures { IfOk result (λ found. AreFound (state_of kept.now) dirs.now first end found) }
+/// The links that directories find, and all on which they depend: those of the items whose numbers are from `first` to
+/// below `end`. Each directory is looked at once, behind all on which it depends.
+pub fn find_links(
+    alloc: Global,
+    kept: &KeptState,
+    dirs: &[Number],
+    first: u64,
+    end: u64,
+) -> Result<Links, Memory>
+    requires { first ≤ end }
+    ensures { IfOk result (λ found. AreFound kept.now.state dirs.now first end found) }
 {
-    let order = kept.graph.sources(dirs)?;
-    let mut found = kept.marks.copy()?;
+    let order = kept.graph().sources(dirs)?;
+    let mut found = Links::new(alloc)?;
     for dir in order.iter() {
-        find_in(kept.tree.tree(), &mut found, *dir, first, end)?;
+        find_in(kept, &mut found, *dir, first, end)?;
     }
     Ok(found)
 }
 
 /// Adds the links that a directory finds.
-fn find_in(tree: &Tree, found: &mut Links, dir: Number, first: u64, end: u64) -> Result<(), Memory>
+fn find_in(
+    kept: &KeptState,
+    found: &mut Links,
+    dir: Number,
+    first: u64,
+    end: u64,
+) -> Result<(), Memory>
     requires { first ≤ end }
-    ensures { OnOk result (GetsFound tree.now.state dir first end found.old found.new) }
+    ensures { OnOk result (GetsFound kept.now.state dir first end found.old found.new) }
 {
     for number in first..end {
         let item = Number::new(number);
-        if passes(tree, found, dir, item) {
+        if passes(kept, found, dir, item) {
             found.prepare(dir, 1)?;
             found.set_kind(dir, item, Kind::Transient);
         }
@@ -76,56 +88,88 @@ fn find_in(tree: &Tree, found: &mut Links, dir: Number, first: u64, end: u64) ->
 
 /// Whether a directory finds an item: it was indexed, the user says nothing of it there, the directory above provides
 /// it, and it satisfies the query. What costs least comes first.
-fn passes(tree: &Tree, links: &Links, dir: Number, item: Number) -> bool
-    ensures { result ≡ finds links.now tree.now.state dir item }
+fn passes(kept: &KeptState, found: &Links, dir: Number, item: Number) -> bool
+    ensures { result ≡ finds kept.now.state found.now dir item }
 {
-    is_indexed(tree, item)
-        && links.kind(dir, item).is_unlinked()
-        && provides(tree, links, tree.parent(dir), item)
-        && satisfies(tree, links, dir, item)
+    is_indexed(kept, item)
+        && is_unmarked(kept, dir, item)
+        && is_provided_above(kept, found, dir, item)
+        && satisfies(kept, found, dir, item)
 }
 
-/// Whether a number is that of a file that was indexed.
-pub fn is_indexed(tree: &Tree, number: Number) -> bool
-    ensures { result ≡ is_indexed tree.now.state number }
+/// Whether a number is that of an item.
+pub fn is_item(kept: &KeptState, number: Number) -> bool
+    ensures { result ≡ is_item kept.now.state number }
 {
-    tree.is_file(number) && tree.shown(number).is_some()
+    kept.tree().is_file(number)
+}
+
+/// Whether a number is that of an item that was indexed.
+pub fn is_indexed(kept: &KeptState, number: Number) -> bool
+    ensures { result ≡ is_indexed kept.now.state number }
+{
+    is_item(kept, number) && is_shown(kept, number)
+}
+
+/// Whether a text is shown of an item.
+fn is_shown(kept: &KeptState, number: Number) -> bool
+    ensures { result ≡ is_some (shown_of kept.now.state number) }
+{
+    kept.tree().shown(number).is_some()
+}
+
+/// Whether the user says nothing of an item in a directory.
+fn is_unmarked(kept: &KeptState, dir: Number, item: Number) -> bool
+    ensures { result ≡ is_unmarked kept.now.state dir item }
+{
+    kept.mark(dir, item).is_unlinked()
+}
+
+/// Whether the directory above a directory provides an item.
+fn is_provided_above(kept: &KeptState, found: &Links, dir: Number, item: Number) -> bool
+    ensures { result ≡ provide kept.now.state (column (transient_in found.now) item) (parent_of kept.now.state dir) item }
+{
+    let tree = kept.tree();
+    provides(tree, kept.marks(), found, tree.parent(dir), item)
 }
 
 /// Whether an item satisfies the query of a directory.
-fn satisfies(tree: &Tree, links: &Links, dir: Number, item: Number) -> bool
-    ensures { result ≡ answers links.now tree.now.state dir item }
+fn satisfies(kept: &KeptState, found: &Links, dir: Number, item: Number) -> bool
+    ensures { result ≡ satisfies kept.now.state (column (transient_in found.now) item) dir item }
 {
-    match tree.query(dir) {
-        Some(query) => meets(tree, links, query, item),
+    match kept.tree().query(dir) {
+        Some(query) => meets(kept, found, query, item),
         None => false,
     }
 }
 
 /// Whether an item satisfies a query.
-pub fn meets(tree: &Tree, links: &Links, query: &Query<Number>, item: Number) -> bool
-    ensures { result ≡ holds (with_marks links.now tree.now.state) (column (transient_in links.now) item) query.now item }
+pub fn meets(kept: &KeptState, found: &Links, query: &Query<Number>, item: Number) -> bool
+    ensures { result ≡ holds kept.now.state (column (transient_in found.now) item) query.now item }
 {
-    let scope = Scope { tree, links };
-    judge(query, &scope, &scope, item)
+    let sight = Sight {
+        tree: kept.tree(),
+        marks: kept.marks(),
+        found,
+    };
+    judge(query, &sight, &sight, item)
 }
 
 /// Whether an item is found by a directory. No other item is looked at.
-pub fn is_found(alloc: Global, kept: &LinkedTree, dir: Number, item: Number) -> Result<bool, Memory>
-    requires linked { IsLinked kept.now }
-    requires file { IsTrue (is_file_at kept.now.tree.state.entries item) }
-    ensures { IfOk result (λ is_found. is_found ≡ has (links (state_of kept.now) dir) item) }
+pub fn is_found(alloc: Global, kept: &KeptState, dir: Number, item: Number) -> Result<bool, Memory>
+    requires { IsTrue (is_file_at kept.now.state.entries item) }
+    ensures { IfOk result (λ is_found. is_found ≡ has (links kept.now.state dir) item) }
 {
+    kept.know_valid();
     let mut dirs = Vec::new(alloc);
     dirs.push(dir)?;
-    let found = find_links(kept, dirs.as_slice(), item.get(), item.get() + 1)?;
+    let found = find_links(alloc, kept, dirs.as_slice(), item.get(), item.get() + 1)?;
     Ok(found.kind(dir, item).is_transient())
 }
 
-/// An item has one kind in a directory, and lists rise. This does nothing: it is called where a proof has to know so.
-pub fn know_kinds(links: &Links)
-    ensures apart { AllApart links.now }
-    ensures rise { LinkListsRise links.now }
+/// Lists rise. This does nothing: it is called where a proof has to know so.
+pub fn know_lists(links: &Links)
+    ensures { LinkListsRise links.now }
 {
     let _kind = links.kind(Number::ROOT, Number::ROOT);
 }

@@ -12,5 +12,5 @@ mod referring;
 pub use lines_of_counts::counts_lines;
 pub use lines_of_links::{found_lines, link_lines};
 pub use lines_of_queries::query_lines;
-pub use marking::{linked, marked, may_mark, not_permanent};
-pub use referring::{is_unreferenced, unreferenced};
+pub use marking::{is_linked, is_marked, is_permanent, may_mark};
+pub use referring::{is_unreferenced, least_referrer};

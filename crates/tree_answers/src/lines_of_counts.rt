@@ -1,41 +1,51 @@
 //! The line of counts.
 ghost use Rattle.std.specs.Prelude.{◌≡◌, ◌≤◌, ◌∷◌, ◌++◌, ◌+◌, [], filter, IfOk, OnOk};
 ghost use Rattle.std.specs.List.{range_with_len};
-ghost use Rattle.hac_model.specs.Links.{is_semantic};
+ghost use Rattle.hac_model.specs.Links.{is_semantic, permanent_count, prohibited_count};
 ghost use Rattle.hac_model.specs.Play.{counted, counts_line};
-ghost use Rattle.linked_tree.specs.Linked.{IsLinked, state_of};
-ghost use Rattle.tree_answers.specs.Telling.{HasAllLinks, link_count, told_line};
+ghost use Rattle.tree_answers.specs.Telling.{CanCount, HasAllLinks, link_count, told_line};
 
-use crate::finding::{find_links, know_kinds};
-use file_tree::Tree;
+use crate::finding::{find_links, know_lists};
 use hac_model::{Counts, Kind, Memory, Name, Number};
+use kept_state::KeptState;
 use link_kinds::Links;
-use linked_tree::LinkedTree;
 use std::alloc::Global;
 
 /// How much there is of each kind, on one line.
-pub fn counts_lines(alloc: Global, kept: &LinkedTree) -> Result<Vec<Name>, Memory>
-    requires { IsLinked kept.now }
-    ensures { IfOk result (λ lines. lines.items ≡ counts_line (state_of kept.now) ∷ []) }
+pub fn counts_lines(alloc: Global, kept: &KeptState) -> Result<Vec<Name>, Memory>
+    ensures { IfOk result (λ lines. lines.items ≡ counts_line kept.now.state ∷ []) }
 {
-    let links = all_links(alloc, kept)?;
-    let transient = link_count(kept, &links, Kind::Transient);
-    let permanent = link_count(kept, &links, Kind::Permanent);
-    let prohibited = link_count(kept, &links, Kind::Prohibited);
+    let found = all_links(alloc, kept)?;
+    let transient = link_count(kept, &found, Kind::Transient);
+    let permanent = permanent_count(kept);
+    let prohibited = prohibited_count(kept);
     let mut lines = Vec::new(alloc);
-    lines.push(told_line(alloc, kept.tree.counts(), transient, permanent, prohibited)?)?;
+    lines.push(told_line(alloc, kept.counts(), transient, permanent, prohibited)?)?;
     Ok(lines)
 }
 
-/// The links of all semantic directories.
-fn all_links(alloc: Global, kept: &LinkedTree) -> Result<Links, Memory>
-    requires { IsLinked kept.now }
-    ensures { IfOk result (HasAllLinks kept.now) }
+/// How many items users added to directories.
+fn permanent_count(kept: &KeptState) -> u64
+    ensures { result ≡ permanent_count kept.now.state }
 {
-    let tree = kept.tree.tree();
-    let dirs = semantic_dirs(alloc, tree)?;
-    let found = find_links(kept, dirs.as_slice(), 0, tree.next_number().get())?;
-    know_kinds(&found);
+    link_count(kept, kept.marks(), Kind::Permanent)
+}
+
+/// How many items they removed from directories.
+fn prohibited_count(kept: &KeptState) -> u64
+    ensures { result ≡ prohibited_count kept.now.state }
+{
+    link_count(kept, kept.marks(), Kind::Prohibited)
+}
+
+/// The links of all semantic directories.
+fn all_links(alloc: Global, kept: &KeptState) -> Result<Links, Memory>
+    ensures { IfOk result (HasAllLinks kept.now.state) }
+{
+    let end = kept.tree().next_number().get();
+    let dirs = semantic_dirs(alloc, kept)?;
+    let found = find_links(alloc, kept, dirs.as_slice(), 0, end)?;
+    know_lists(&found);
     Ok(found)
 }
 
@@ -67,13 +77,13 @@ fn told_line(
 }
 
 /// The semantic directories, in order of number.
-fn semantic_dirs(alloc: Global, tree: &Tree) -> Result<Vec<Number>, Memory>
-    ensures { IfOk result (λ dirs. dirs.items ≡ filter (is_semantic tree.now.state) (range_with_len 0 tree.now.state.next)) }
+fn semantic_dirs(alloc: Global, kept: &KeptState) -> Result<Vec<Number>, Memory>
+    ensures { IfOk result (λ dirs. dirs.items ≡ filter (is_semantic kept.now.state) (range_with_len 0 kept.now.state.next)) }
 {
     let mut dirs = Vec::new(alloc);
-    for number in 0..tree.next_number().get() {
+    for number in 0..kept.tree().next_number().get() {
         let dir = Number::new(number);
-        if is_semantic(tree, dir) {
+        if is_semantic(kept, dir) {
             dirs.push(dir)?;
         }
     }
@@ -81,19 +91,19 @@ fn semantic_dirs(alloc: Global, tree: &Tree) -> Result<Vec<Number>, Memory>
 }
 
 /// Whether a directory has a query.
-fn is_semantic(tree: &Tree, dir: Number) -> bool
-    ensures { result ≡ is_semantic tree.now.state dir }
+fn is_semantic(kept: &KeptState, dir: Number) -> bool
+    ensures { result ≡ is_semantic kept.now.state dir }
 {
-    tree.query(dir).is_some()
+    kept.tree().query(dir).is_some()
 }
 
 /// How many links of a kind there are.
-fn link_count(kept: &LinkedTree, links: &Links, kind: Kind) -> u64
-    requires { HasAllLinks kept.now links.now }
-    ensures { result ≡ link_count kind kept.now.tree.state links.now }
+fn link_count(kept: &KeptState, links: &Links, kind: Kind) -> u64
+    requires { CanCount kept.now.state kind links.now }
+    ensures { result ≡ link_count kind kept.now.state links.now }
 {
     let mut sum: u64 = 0;
-    for number in 0..kept.tree.tree().next_number().get() {
+    for number in 0..kept.tree().next_number().get() {
         sum += links.count(Number::new(number), kind);
     }
     sum

@@ -1,68 +1,92 @@
 //! The lines of links: those of a semantic directory, and what a query finds anywhere.
-ghost use Rattle.std.specs.Prelude.{◌≡◌, ◌++◌, filter, map, IfOk, OnOk};
+ghost use Rattle.std.specs.Prelude.{◌≡◌, ◌++◌, filter, map, if◌then◌else◌, IfOk, OnOk};
 ghost use Rattle.std.specs.List.{flat_map, range_with_len};
-ghost use Rattle.hac_model.specs.Links.{found_by, items};
+ghost use Rattle.hac_model.specs.Links.{column, found_by, items};
 ghost use Rattle.hac_model.specs.Paths.{path_text};
 ghost use Rattle.hac_model.specs.Play.{found_line, kind_lines, link_lines};
 ghost use Rattle.hac_model.specs.Tree.{path_of};
-ghost use Rattle.link_kinds.specs.Seen.{kind_at};
-ghost use Rattle.tree_answers.specs.Finding.{is_met};
-ghost use Rattle.linked_tree.specs.Linked.{IsLinked, state_of};
+ghost use Rattle.link_kinds.specs.Seen.{transient_in};
+ghost use Rattle.tree_answers.specs.Finding.{is_met, kind_given};
 
-use crate::finding::{find_links, is_indexed, know_kinds, meets};
-use file_tree::Tree;
+use crate::finding::{find_links, is_indexed, is_item, meets};
 use hac_model::{Kind, Memory, Name, Number, Query};
 use hac_names::print_path;
+use kept_state::{KeptState, push_named};
 use link_kinds::Links;
-use linked_tree::{LinkedTree, push_named};
+use scope_rules::has_found;
 use std::alloc::Global;
 
 /// The items of a semantic directory, each with the letter of its kind, in order of number.
-pub fn link_lines(alloc: Global, kept: &LinkedTree, dir: Number) -> Result<Vec<Name>, Memory>
-    requires { IsLinked kept.now }
-    ensures { IfOk result (λ lines. lines.items ≡ link_lines (state_of kept.now) dir) }
+pub fn link_lines(alloc: Global, kept: &KeptState, dir: Number) -> Result<Vec<Name>, Memory>
+    ensures { IfOk result (λ lines. lines.items ≡ link_lines kept.now.state dir) }
 {
-    let tree = kept.tree.tree();
+    let end = kept.tree().next_number().get();
     let mut dirs = Vec::new(alloc);
     dirs.push(dir)?;
-    let found = find_links(kept, dirs.as_slice(), 0, tree.next_number().get())?;
-    know_kinds(&found);
-    lines_by_kind(alloc, tree, &found, dir)
+    let found = find_links(alloc, kept, dirs.as_slice(), 0, end)?;
+    lines_by_kind(alloc, kept, &found, dir)
 }
 
 /// The lines of a directory's items.
 fn lines_by_kind(
     alloc: Global,
-    tree: &Tree,
-    links: &Links,
+    kept: &KeptState,
+    found: &Links,
     dir: Number,
 ) -> Result<Vec<Name>, Memory>
-    ensures { IfOk result (λ lines. lines.items ≡ flat_map (λ item. kind_lines (path_of tree.now.state item) (kind_at links.now dir item)) (items tree.now.state)) }
+    ensures { IfOk result (λ lines. lines.items ≡ flat_map (λ item. kind_lines (path_of kept.now.state item) (kind_given kept.now.state found.now dir item)) (items kept.now.state)) }
 {
     let mut lines = Vec::new(alloc);
-    for number in 0..tree.next_number().get() {
+    for number in 0..kept.tree().next_number().get() {
         let item = Number::new(number);
-        if tree.is_file(item) {
-            push_link(alloc, &mut lines, tree, item, links.kind(dir, item))?;
+        if is_item(kept, item) {
+            push_link(
+                alloc,
+                &mut lines,
+                kept,
+                item,
+                kind_given(kept, found, dir, item),
+            )?;
         }
     }
     Ok(lines)
+}
+
+/// How an item is linked in a directory, given the links that it finds.
+fn kind_given(kept: &KeptState, found: &Links, dir: Number, item: Number) -> Kind
+    ensures { result ≡ kind_given kept.now.state found.now dir item }
+{
+    match kept.mark(dir, item) {
+        Kind::Unlinked => found_kind(found, dir, item),
+        mark => mark,
+    }
+}
+
+/// The kind of a link that was found, or that of what isn't linked.
+fn found_kind(found: &Links, dir: Number, item: Number) -> Kind
+    ensures { result ≡ (if column (transient_in found.now) item dir then Kind.Transient else Kind.Unlinked) }
+{
+    if has_found(found, dir, item) {
+        Kind::Transient
+    } else {
+        Kind::Unlinked
+    }
 }
 
 /// Adds the line of an item of a kind, where it has one.
 fn push_link(
     alloc: Global,
     lines: &mut Vec<Name>,
-    tree: &Tree,
+    kept: &KeptState,
     item: Number,
     kind: Kind,
 ) -> Result<(), Memory>
-    ensures { OnOk result (lines.new.items ≡ lines.old.items ++ kind_lines (path_of tree.now.state item) kind) }
+    ensures { OnOk result (lines.new.items ≡ lines.old.items ++ kind_lines (path_of kept.now.state item) kind) }
 {
     match kind {
-        Kind::Transient => lines.push(path_line(alloc, b"t ", tree, item)?)?,
-        Kind::Permanent => lines.push(path_line(alloc, b"p ", tree, item)?)?,
-        Kind::Prohibited => lines.push(path_line(alloc, b"x ", tree, item)?)?,
+        Kind::Transient => lines.push(path_line(alloc, b"t ", kept, item)?)?,
+        Kind::Permanent => lines.push(path_line(alloc, b"p ", kept, item)?)?,
+        Kind::Prohibited => lines.push(path_line(alloc, b"x ", kept, item)?)?,
         Kind::Unlinked => {}
     }
     Ok(())
@@ -71,50 +95,50 @@ fn push_link(
 /// The files that a query finds anywhere, in order of number.
 pub fn found_lines(
     alloc: Global,
-    kept: &LinkedTree,
+    kept: &KeptState,
     query: &Query<Number>,
 ) -> Result<Vec<Name>, Memory>
-    requires { IsLinked kept.now }
-    ensures { IfOk result (λ lines. lines.items ≡ map (found_line (state_of kept.now)) (found_by (state_of kept.now) query.now)) }
+    ensures { IfOk result (λ lines. lines.items ≡ map (found_line kept.now.state) (found_by kept.now.state query.now)) }
 {
-    let tree = kept.tree.tree();
+    let end = kept.tree().next_number().get();
     let mut dirs = Vec::new(alloc);
     push_named(&mut dirs, query)?;
-    let found = find_links(kept, dirs.as_slice(), 0, tree.next_number().get())?;
-    lines_of_met(alloc, tree, &found, query)
+    let found = find_links(alloc, kept, dirs.as_slice(), 0, end)?;
+    lines_of_met(alloc, kept, &found, query)
 }
 
 /// The files that satisfy a query, given the links.
 fn lines_of_met(
     alloc: Global,
-    tree: &Tree,
-    links: &Links,
+    kept: &KeptState,
+    found: &Links,
     query: &Query<Number>,
 ) -> Result<Vec<Name>, Memory>
-    ensures { IfOk result (λ lines. lines.items ≡ map (found_line tree.now.state) (filter (is_met links.now tree.now.state query.now) (range_with_len 0 tree.now.state.next))) }
+    ensures { IfOk result (λ lines. lines.items ≡ map (found_line kept.now.state) (filter (is_met kept.now.state found.now query.now) (range_with_len 0 kept.now.state.next))) }
 {
     let mut lines = Vec::new(alloc);
-    for number in 0..tree.next_number().get() {
+    for number in 0..kept.tree().next_number().get() {
         let item = Number::new(number);
-        if is_met(tree, links, query, item) {
-            lines.push(path_line(alloc, b"f ", tree, item)?)?;
+        if is_met(kept, found, query, item) {
+            lines.push(path_line(alloc, b"f ", kept, item)?)?;
         }
     }
     Ok(lines)
 }
 
 /// Whether an item was indexed and satisfies a query.
-fn is_met(tree: &Tree, links: &Links, query: &Query<Number>, item: Number) -> bool
-    ensures { result ≡ is_met links.now tree.now.state query.now item }
+fn is_met(kept: &KeptState, found: &Links, query: &Query<Number>, item: Number) -> bool
+    ensures { result ≡ is_met kept.now.state found.now query.now item }
 {
-    is_indexed(tree, item) && meets(tree, links, query, item)
+    is_indexed(kept, item) && meets(kept, found, query, item)
 }
 
 /// A line of a letter and the path of an entry.
-fn path_line(alloc: Global, letter: &[u8], tree: &Tree, entry: Number) -> Result<Name, Memory>
-    ensures { IfOk result (λ line. line ≡ letter.now ++ path_text (path_of tree.now.state entry)) }
+fn path_line(alloc: Global, letter: &[u8], kept: &KeptState, entry: Number) -> Result<Name, Memory>
+    ensures { IfOk result (λ line. line ≡ letter.now ++ path_text (path_of kept.now.state entry)) }
 {
+    let path = kept.path_of(entry)?;
     let mut line = Vec::from_slice(alloc, letter)?;
-    line.extend_from_slice(print_path(alloc, &tree.path_of(entry)?)?.as_bytes())?;
+    line.extend_from_slice(print_path(alloc, &path)?.as_bytes())?;
     Ok(Name::new(line))
 }

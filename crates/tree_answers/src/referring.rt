@@ -1,38 +1,32 @@
 //! Which directories name another one in their queries.
 ghost use Rattle.std.specs.Prelude.{◌≡◌, map, IfOk};
+ghost use Rattle.hac_model.specs.Depends.{referrers};
 ghost use Rattle.hac_model.specs.Events.{is_unreferenced};
 ghost use Rattle.hac_model.specs.Listing.{is_before};
-ghost use Rattle.hac_model.specs.Refusals.{least_path, lesser_path, referenced_cause};
+ghost use Rattle.hac_model.specs.Refusals.{least_path, lesser_path};
 ghost use Rattle.hac_model.specs.Tree.{path_of};
-ghost use Rattle.hac_model.specs.Answers.{Passes};
-ghost use Rattle.linked_tree.specs.Linked.{IsLinked, state_of};
 
 use file_tree::Tree;
-use hac_model::{Deny, Memory, Number, Path, Refusal};
+use hac_model::{Memory, Number, Path};
 use hac_names::print_path;
-use linked_tree::LinkedTree;
+use kept_state::KeptState;
 use std::alloc::Global;
 use std::cmp::Ordering;
 
-/// No query names a directory to be removed. Where some do, the answer is the least path of such a directory.
-pub fn unreferenced(alloc: Global, kept: &LinkedTree, dir: Number) -> Result<(), Deny>
-    requires { IsLinked kept.now }
-    ensures { Passes result (referenced_cause (state_of kept.now) dir) }
+/// The least of the paths of directories whose queries name a directory, if there are any.
+pub fn least_referrer(alloc: Global, kept: &KeptState, dir: Number) -> Result<Option<Path>, Memory>
+    ensures { IfOk result (λ least. least ≡ least_path (map (λ entry. path_of kept.now.state entry.number) (referrers kept.now.state dir))) }
 {
-    let mut referrers = kept.graph.referrers(dir)?;
+    let mut referrers = kept.graph().referrers(dir)?;
     referrers.sort_unstable();
-    match least_path(alloc, kept.tree.tree(), referrers.as_slice())? {
-        Some(path) => Err(Deny::Refused(Refusal::Referenced(path))),
-        None => Ok(()),
-    }
+    least_path(alloc, kept.tree(), referrers.as_slice())
 }
 
 /// Whether no query names a directory.
-pub fn is_unreferenced(kept: &LinkedTree, dir: Number) -> Result<bool, Memory>
-    requires { IsLinked kept.now }
-    ensures { IfOk result (λ is. is ≡ is_unreferenced (state_of kept.now) dir) }
+pub fn is_unreferenced(kept: &KeptState, dir: Number) -> Result<bool, Memory>
+    ensures { IfOk result (λ is. is ≡ is_unreferenced kept.now.state dir) }
 {
-    let referrers = kept.graph.referrers(dir)?;
+    let referrers = kept.graph().referrers(dir)?;
     Ok(referrers.is_empty())
 }
 

@@ -1,16 +1,5 @@
-use Rattle.std.proofs.Common.{◌≡◌, false, sym, ◌∙◌}
-use Rattle.hac_model.specs.Tree.{is_directory_at, path_of}
-use Rattle.hac_model.specs.declared.replies.Refusal.TheVariants as refusal
-use Rattle.hac_core.proofs.LimitingLemmas.{no_refusal}
-use Rattle.hac_model.proofs.LookLemmas.{file-or_directory}
-use Rattle.linked_tree.specs.Linked.{state_of}
-use Rattle.hac_core.proofs.StandingLemmas.{is-live}
-use Rattle.linked_tree.proofs.StateLemmas.{same-directory, tree-layout}
+use Rattle.hac_core.proofs.DataLemmas.{read-file}
 use Rattle.hac_core.proofs.blocking.droppable.Goals as goal
 
-pub linked-requires-clause-file : goal.linked-requires-clause-file
-linked-requires-clause-file c =
-    let kept = c.args.kept.now in
-    let t = kept.tree.state in
-    let other : is_directory_at (state_of kept).entries c.args.item ≡ false = no_refusal (is_directory_at (state_of kept).entries c.args.item) (refusal.NotFile (path_of (state_of kept) c.args.item)) c.in_ok-no_directory.ensures in
-    file-or_directory t c.args.item (tree-layout kept c.requires.linked) (is-live t.entries c.args.item c.requires.item) (sym (same-directory kept c.args.item) ∙ other)
+pub linked-requires : goal.linked-requires
+linked-requires c = read-file c.args.kept.now.state c.args.item c.know_valid.ensures.layout c.requires c.in_ok-no_directory.ensures

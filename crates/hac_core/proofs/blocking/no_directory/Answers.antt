@@ -1,11 +1,13 @@
-use Rattle.std.proofs.Common.{ap, subst, sym, ◌∙◌}
+use Rattle.std.proofs.Common.{subst, sym}
 use Rattle.std.specs.Prelude.{Option}
-use Rattle.hac_model.specs.Refusals.{directory_cause}
 use Rattle.hac_model.specs.declared.replies.Refusal.{Refusal}
-use Rattle.file_tree.specs.Seen.{Seen}
 use Rattle.hac_model.specs.Answers.{Passes}
 use Rattle.hac_core.proofs.BlockingLemmas.{same-directory_cause}
+use Rattle.hac_core.proofs.StandsLemmas.{live}
 use Rattle.hac_core.proofs.blocking.no_directory.Goals as goal
 
+pub file-requires : goal.file-requires
+file-requires c = live c.args.kept.now.state c.tree.result.now.state c.tree.ensures.tree.bares c.args.item c.requires
+
 pub returns : goal.returns
-returns c = subst (λ (cause : Option Refusal). Passes c.file.result cause) (ap (λ (seen : Seen). directory_cause seen.state c.args.item) c.tree.ensures.same ∙ sym (same-directory_cause c.args.kept.now c.args.item)) c.file.ensures
+returns c = subst (λ (cause : Option Refusal). Passes c.file.result cause) (sym (same-directory_cause c.args.kept.now.state c.tree.result.now.state c.tree.ensures.tree.bares c.args.item)) c.file.ensures

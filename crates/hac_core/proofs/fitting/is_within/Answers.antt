@@ -4,8 +4,8 @@ use Rattle.hac_model.specs.Formula as query
 use Rattle.hac_model.specs.declared.counts.Counts.{Counts}
 use Rattle.hac_model.specs.declared.events.Event.TheVariants.{Mkdir, NewFile, Rewrite, Smkdir, Setq, Mv}
 use Rattle.hac_model.specs.declared.states.Body.TheVariants.{Dir, File, Semantic}
-use Rattle.linked_tree.specs.Counting.{AreSmall}
-use Rattle.linked_tree.proofs.CountingLemmas.{body-small}
+use Rattle.kept_state.specs.Counting.{AreSmall}
+use Rattle.kept_state.proofs.CountingLemmas.{body-small}
 use Rattle.hac_core.proofs.FittingLemmas.{by-counts, others-none, text-fits}
 use Rattle.hac_core.proofs.LimitingLemmas.{file-small, file-told}
 use Rattle.hac_core.proofs.fitting.is_within.Goals as goal

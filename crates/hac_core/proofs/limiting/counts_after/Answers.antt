@@ -9,8 +9,8 @@ use Rattle.hac_core.specs.Blocking.{is_linking}
 use Rattle.hac_core.specs.Standing.{AllStand}
 use Rattle.hac_model.specs.declared.counts.Counts.{Counts}
 use Rattle.hac_model.specs.declared.states.Body.TheVariants.{Dir, Semantic}
-use Rattle.linked_tree.specs.Counting.{AreSmall}
-use Rattle.linked_tree.proofs.CountingLemmas.{body-small}
+use Rattle.kept_state.specs.Counting.{AreSmall}
+use Rattle.kept_state.proofs.CountingLemmas.{body-small}
 use Rattle.hac_core.proofs.LimitingLemmas.{mkdir-pass, no_refusal, others-pass, setq-pass, smkdir-pass}
 use Rattle.hac_core.proofs.limiting.counts_after.Goals as goal
 

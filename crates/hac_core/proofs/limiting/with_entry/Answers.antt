@@ -1,7 +1,7 @@
 use Rattle.std.proofs.Common.{◌≡◌, ◌∙◌, ap, length}
 use Rattle.hac_model.specs.Tree.{path_of}
 use Rattle.file_tree.specs.Seen.{Seen}
-use Rattle.linked_tree.proofs.CountingLemmas.{told-small}
+use Rattle.kept_state.proofs.CountingLemmas.{told-small}
 use Rattle.hac_core.proofs.LimitingLemmas.{new-told}
 use Rattle.hac_core.proofs.limiting.with_entry.Goals as goal
 

@@ -8,9 +8,9 @@ use Rattle.hac_model.specs.declared.counts.Counts.{Counts}
 use Rattle.hac_model.specs.declared.states.Body.TheVariants.{Semantic}
 use Rattle.hac_model.specs.declared.states.Entry.{Entry}
 use Rattle.file_tree.specs.Seen.{Seen}
-use Rattle.linked_tree.specs.Counting.{AreSmall}
-use Rattle.linked_tree.proofs.CountedLemmas.{tested-entry}
-use Rattle.linked_tree.proofs.CountingLemmas.{body-small, part-told, told-edited, told-small}
+use Rattle.kept_state.specs.Counting.{AreSmall}
+use Rattle.kept_state.proofs.CountedLemmas.{tested-entry}
+use Rattle.kept_state.proofs.CountingLemmas.{body-small, part-told, told-edited, told-small}
 use Rattle.hac_core.proofs.LimitingLemmas.{asking-share}
 use Rattle.hac_core.proofs.limiting.with_query.Goals as goal
 

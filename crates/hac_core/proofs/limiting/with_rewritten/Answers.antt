@@ -2,8 +2,8 @@ use Rattle.std.proofs.Common.{◌∙◌, ap}
 use Rattle.hac_model.specs.Events.{rewritten}
 use Rattle.hac_model.specs.Tree.{entry_at, is_file}
 use Rattle.file_tree.specs.Seen.{Seen}
-use Rattle.linked_tree.proofs.CountedLemmas.{tested-entry}
-use Rattle.linked_tree.proofs.CountingLemmas.{part-told, told-edited, told-small}
+use Rattle.kept_state.proofs.CountedLemmas.{tested-entry}
+use Rattle.kept_state.proofs.CountingLemmas.{part-told, told-edited, told-small}
 use Rattle.hac_core.proofs.LimitingLemmas.{rewritten-told-small}
 use Rattle.hac_core.proofs.limiting.with_rewritten.Goals as goal
 

@@ -10,15 +10,19 @@ use Rattle.hac_model.specs.declared.replies.Refusal.TheVariants as refusal
 use Rattle.hac_model.specs.Answers.{Passes}
 use Rattle.hac_core.proofs.BlockingLemmas.{same-unlinked}
 use Rattle.hac_core.proofs.LedLemmas.{same-led}
+use Rattle.hac_core.proofs.StandsLemmas.{stands-kept}
 use Rattle.hac_core.proofs.machine.answerable.Goals as goal
 
+pub counts_after-requires-clause-stands : goal.counts_after-requires-clause-stands
+counts_after-requires-clause-stands c = stands-kept c.args.kept.now.state c.counted.result.now.state c.counted.ensures.tree.bares c.args.command.now c.requires.stands
+
 pub counts_after-requires-clause-free : goal.counts_after-requires-clause-free
-counts_after-requires-clause-free c = λ other. sym (same-unlinked c.args.kept.now c.args.command.now other) ∙ c.requires.free
+counts_after-requires-clause-free c = λ other. sym (same-unlinked c.args.kept.now.state c.counted.result.now.state c.counted.ensures.tree.bares c.args.command.now other) ∙ c.requires.free
 
 pub returns : goal.returns
 returns c =
     subst (λ (cause : Option Refusal). Passes c.within.result cause)
     (ap (λ (limits : List Limit). option_map refusal.Limit (first_passed limits)) c.answer_limits.ensures
     ∙ ap (λ (o : Option LimitWord). option_map refusal.Limit o) c.counts_after.ensures.answers
-    ∙ ap (λ (k : Counts). option_map refusal.Limit (first_passed (answer_limits k))) (sym (same-led c.args.kept.now c.args.command.now)))
+    ∙ ap (λ (k : Counts). option_map refusal.Limit (first_passed (answer_limits k))) (sym (same-led c.args.kept.now.state c.counted.result.now.state c.counted.ensures.tree.bares c.args.command.now)))
     c.within.ensures

@@ -6,13 +6,10 @@ use Rattle.tree_answers.proofs.PlainLemmas.{plain-counted}
 use Rattle.tree_answers.proofs.lines_of_counts.counts_lines.Goals as goal
 
 pub told_line-requires : goal.told_line-requires
-told_line-requires c = subst (λ (k : Counts). 1 + k.semantics ≤ k.directories) (sym c.counts.ensures.counts) (plain-counted c.args.kept.now.tree.state).0
+told_line-requires c = subst (λ (k : Counts). 1 + k.semantics ≤ k.directories) (sym c.counts.ensures.counts) (plain-counted c.args.kept.now.state).0
 
 pub returns : goal.returns
 returns c =
-    let all = c.in_ok-links.ensures in
-    let transient = c.link_count-transient.ensures ∙ all.transient in
-    let permanent = c.link_count-permanent.ensures ∙ all.permanent in
-    let prohibited = c.link_count-prohibited.ensures ∙ all.prohibited in
+    let transient = c.link_count-transient.ensures ∙ c.in_ok-found.ensures.all in
     c.in_ok-push.ensures.items
-    ∙ (λ i. c.new-lines.ensures.items i ++ (c.in_ok-told_line.ensures ∙ (λ j. told_line (c.counts.ensures.counts j) (transient j) (permanent j) (prohibited j)) ∙ line-told c.args.kept.now) i ∷ [])
+    ∙ (λ i. c.new-lines.ensures.items i ++ (c.in_ok-told_line.ensures ∙ (λ j. told_line (c.counts.ensures.counts j) (transient j) (c.permanent_count-permanent.ensures j) (c.prohibited_count-prohibited.ensures j)) ∙ line-told c.args.kept.now.state) i ∷ [])

@@ -6,4 +6,4 @@ use Rattle.tree_answers.proofs.lines_of_counts.semantic_dirs.Given as goal
 
 -- those so far
 abbrev pub invariant-loop-number : goal.invariant-loop-number
-invariant-loop-number l = l.dirs.items ≡ filter (is_semantic l.tree.state) (range_with_len 0 l.number)
+invariant-loop-number l = l.dirs.items ≡ filter (is_semantic l.kept.state) (range_with_len 0 l.number)

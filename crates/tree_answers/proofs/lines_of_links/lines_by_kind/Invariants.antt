@@ -4,9 +4,9 @@ use Rattle.std.specs.List.{flat_map, range_with_len}
 use Rattle.hac_model.specs.Links.{is_item}
 use Rattle.hac_model.specs.Play.{kind_lines}
 use Rattle.hac_model.specs.Tree.{path_of}
-use Rattle.link_kinds.specs.Seen.{kind_at}
+use Rattle.tree_answers.specs.Finding.{kind_given}
 use Rattle.tree_answers.proofs.lines_of_links.lines_by_kind.Given as goal
 
 -- the lines of the items so far
 abbrev pub invariant-loop-number : goal.invariant-loop-number
-invariant-loop-number l = l.lines.items ≡ flat_map (λ item. kind_lines (path_of l.tree.state item) (kind_at l.links l.dir item)) (filter (is_item l.tree.state) (range_with_len 0 l.number))
+invariant-loop-number l = l.lines.items ≡ flat_map (λ item. kind_lines (path_of l.kept.state item) (kind_given l.kept.state l.found l.dir item)) (filter (is_item l.kept.state) (range_with_len 0 l.number))

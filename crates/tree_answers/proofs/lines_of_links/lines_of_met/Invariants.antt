@@ -7,4 +7,4 @@ use Rattle.tree_answers.proofs.lines_of_links.lines_of_met.Given as goal
 
 -- the lines of those that satisfy the query so far
 abbrev pub invariant-loop-number : goal.invariant-loop-number
-invariant-loop-number l = l.lines.items ≡ map (found_line l.tree.state) (filter (is_met l.links l.tree.state l.query) (range_with_len 0 l.number))
+invariant-loop-number l = l.lines.items ≡ map (found_line l.kept.state) (filter (is_met l.kept.state l.found l.query) (range_with_len 0 l.number))

@@ -1,21 +1,17 @@
 use Rattle.std.proofs.Common.{subst}
 use Rattle.hac_model.specs.Refusals.{refusal}
 use Rattle.hac_model.specs.Answers.{Refuses}
-use Rattle.linked_tree.specs.Linked.{state_of}
 use Rattle.hac_core.specs.Seen.{Seen}
 use Rattle.hac_core.proofs.MachineLemmas.{refused-early}
 use Rattle.hac_core.proofs.StandingLemmas.{line-stands}
-use Rattle.hac_core.proofs.StandsLemmas.{stands-kept}
 use Rattle.hac_core.proofs.machine.Machine.check.Goals as goal
 
 pub allowed-requires-clause-stands : goal.allowed-requires-clause-stands
-allowed-requires-clause-stands c =
-    let kept = c.self.inside.kept in
-    stands-kept kept c.in_ok-command.command (line-stands (state_of kept) c.args.line c.in_ok-command.command c.self.invariant.linked.valid c.requires c.in_ok-command.ensures).0
+allowed-requires-clause-stands c = (line-stands c.self.inside.kept.state c.args.line c.in_ok-command.command c.know_valid.ensures c.requires c.in_ok-command.ensures).0
 
 pub allowed-requires-clause-texts : goal.allowed-requires-clause-texts
-allowed-requires-clause-texts c = (line-stands (state_of c.self.inside.kept) c.args.line c.in_ok-command.command c.self.invariant.linked.valid c.requires c.in_ok-command.ensures).1
+allowed-requires-clause-texts c = (line-stands c.self.inside.kept.state c.args.line c.in_ok-command.command c.know_valid.ensures c.requires c.in_ok-command.ensures).1
 
 pub returns-in-Err-clause-refused : goal.returns-in-Err-clause-refused
 returns-in-Err-clause-refused c =
-    subst (λ (x : Seen). Refuses c.in-Err.deny (refusal x.state c.args.line)) c.self.view_is (refused-early (state_of c.self.inside.kept) c.args.line c.in-Err.deny c.in_ok-command.command c.in_ok-command.ensures c.in-Err.ensures)
+    subst (λ (x : Seen). Refuses c.in-Err.deny (refusal x.state c.args.line)) c.self.view_is (refused-early c.self.inside.kept.state c.args.line c.in-Err.deny c.in_ok-command.command c.in_ok-command.ensures c.in-Err.ensures)

@@ -1,0 +1,51 @@
+//! What blocks a mark, and the removal of a directory that a query names.
+ghost use Rattle.std.specs.Prelude.{IsTrue};
+ghost use Rattle.hac_model.specs.Answers.{Passes};
+ghost use Rattle.hac_model.specs.Refusals.{already_cause, referenced_cause, unlinked_cause, unmarked_cause};
+ghost use Rattle.hac_model.specs.Tree.{is_file_at};
+
+use hac_model::{Deny, Number, Refusal};
+use kept_state::KeptState;
+use std::alloc::Global;
+use tree_answers::{is_linked, is_marked, is_permanent, least_referrer};
+
+/// The item isn't a permanent link yet.
+pub fn not_permanent(kept: &KeptState, item: Number, dir: Number) -> Result<(), Deny>
+    ensures { Passes result (already_cause kept.now.state item dir) }
+{
+    if is_permanent(kept, dir, item) {
+        return Err(Deny::Refused(Refusal::Already(kept.path_of(item)?)));
+    }
+    Ok(())
+}
+
+/// The item is a link, added or found.
+pub fn linked(alloc: Global, kept: &KeptState, item: Number, dir: Number) -> Result<(), Deny>
+    requires { IsTrue (is_file_at kept.now.state.entries item) }
+    ensures { Passes result (unlinked_cause kept.now.state item dir) }
+{
+    if is_linked(alloc, kept, dir, item)? {
+        return Ok(());
+    }
+    Err(Deny::Refused(Refusal::NotLinked(kept.path_of(item)?)))
+}
+
+/// The item has a mark.
+pub fn marked(kept: &KeptState, item: Number, dir: Number) -> Result<(), Deny>
+    ensures { Passes result (unmarked_cause kept.now.state item dir) }
+{
+    if is_marked(kept, dir, item) {
+        return Ok(());
+    }
+    Err(Deny::Refused(Refusal::NoMark(kept.path_of(item)?)))
+}
+
+/// No query names a directory to be removed. Where some do, the refusal has the least path of such a directory.
+pub fn unreferenced(alloc: Global, kept: &KeptState, dir: Number) -> Result<(), Deny>
+    ensures { Passes result (referenced_cause kept.now.state dir) }
+{
+    match least_referrer(alloc, kept, dir)? {
+        Some(path) => Err(Deny::Refused(Refusal::Referenced(path))),
+        None => Ok(()),
+    }
+}

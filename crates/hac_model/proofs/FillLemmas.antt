@@ -1,0 +1,85 @@
+-- A state is its bare tree joined with its facts.
+use Rattle.std.proofs.Common.{◌≡◌, ℕ, List, [], ◌∷◌, map, refl, ap, sym, ◌∙◌}
+use Rattle.std.specs.Prelude.{Some, filter}
+use Rattle.std.specs.List.{AllByRecursion}
+use Rattle.hac_model.specs.Bare.{bare, bare_body}
+use Rattle.hac_model.specs.Events.{apply, edited, marked}
+use Rattle.hac_model.specs.Facts.{Facts, bare_after, facts_at, facts_in, facts_of, filled, filled_entry, joined}
+use Rattle.hac_model.specs.Tree.{entry_at}
+use Rattle.hac_model.specs.Valid.{NumbersRise}
+use Rattle.hac_model.specs.declared.events.Event.{Event}
+use Rattle.hac_model.specs.declared.events.Event.TheVariants.{Mark, Rm}
+use Rattle.hac_model.specs.declared.states.Body.{Body}
+use Rattle.hac_model.specs.declared.states.Body.TheVariants.{File, Dir, Symlink, Semantic, Mount}
+use Rattle.hac_model.specs.declared.states.Entry.{Entry}
+use Rattle.hac_model.specs.declared.states.State.{State}
+use Rattle.hac_model.proofs.AcyclicLemmas.{apply-sessions}
+use Rattle.hac_model.proofs.BareLemmas.{changed-kept, forgotten-entries, marked-bare}
+use Rattle.hac_model.proofs.ChangeLemmas.{is_kept}
+use Rattle.hac_model.proofs.TreeLemmas.{all-entries}
+
+-- what was taken from a body is in its facts
+filled-again : (dir : ℕ) (body : Body) → filled (facts_in dir body) (bare_body body) ≡ body
+filled-again dir (File text dirty shown) = refl
+filled-again dir Dir = refl
+filled-again dir (Symlink target) = refl
+filled-again dir (Semantic query permanent prohibited) = refl
+filled-again dir (Mount space documents answers) = refl
+
+filled-bare : (facts : Facts) (body : Body) → filled facts (bare_body body) ≡ filled facts body
+filled-bare facts (File text dirty shown) = refl
+filled-bare facts Dir = refl
+filled-bare facts (Symlink target) = refl
+filled-bare facts (Semantic query permanent prohibited) = refl
+filled-bare facts (Mount space documents answers) = refl
+
+bare-filled : (facts : Facts) (body : Body) → bare_body (filled facts body) ≡ bare_body body
+bare-filled facts (File text dirty shown) = refl
+bare-filled facts Dir = refl
+bare-filled facts (Symlink target) = refl
+bare-filled facts (Semantic query permanent prohibited) = refl
+bare-filled facts (Mount space documents answers) = refl
+
+abbrev IsFilled : State → Entry → Type 0
+IsFilled s e = filled_entry (facts_of s) (edited bare_body e) ≡ e
+
+pub rejoined : (s : State) → NumbersRise 0 s.entries s.next → s.sessions ≡ [] → joined (facts_of s) (bare s) ≡ s
+rejoined s rise none = λ i. record { next = s.next; entries = all s.entries (all-entries (IsFilled s) 0 s.entries s.next rise again) i; sessions = sym none i }
+  where
+    again : (e : Entry) → entry_at s.entries e.number ≡ Some e → IsFilled s e
+    again e found =
+        (λ i. record e { body = filled (facts_at (found i)) (bare_body e.body) })
+        ∙ ap (λ (body : Body). record e { body = body }) (filled-again e.parent e.body)
+
+    all : (es : List Entry) → AllByRecursion (IsFilled s) es → map (filled_entry (facts_of s)) (map (edited bare_body) es) ≡ es
+    all [] h = refl
+    all (e ∷ es) h = λ i. h.0 i ∷ all es h.1 i
+
+pub joined-bare : (facts : ℕ → Facts) (t : State) → joined facts (bare t) ≡ joined facts t
+joined-bare facts t = λ i. record { next = t.next; entries = each t.entries i; sessions = [] }
+  where
+    each : (es : List Entry) → map (filled_entry facts) (map (edited bare_body) es) ≡ map (filled_entry facts) es
+    each [] = refl
+    each (e ∷ es) = λ i. record e { body = filled-bare (facts e.number) e.body i } ∷ each es i
+
+pub bare-joined : (facts : ℕ → Facts) (t : State) → bare (joined facts t) ≡ bare t
+bare-joined facts t = λ i. record { next = t.next; entries = each t.entries i; sessions = [] }
+  where
+    each : (es : List Entry) → map (edited bare_body) (map (filled_entry facts) es) ≡ map (edited bare_body) es
+    each [] = refl
+    each (e ∷ es) = λ i. record e { body = bare-filled (facts e.number) e.body i } ∷ each es i
+
+-- states of one tree and equal facts are equal
+pub same-state : (s t : State) → NumbersRise 0 s.entries s.next → NumbersRise 0 t.entries t.next → s.sessions ≡ [] → t.sessions ≡ [] → bare s ≡ bare t → ((n : ℕ) → facts_of s n ≡ facts_of t n) → s ≡ t
+same-state s t rise grow none also bares facts = sym (rejoined s rise none) ∙ (λ i. joined (λ n. facts n i) (bares i)) ∙ rejoined t grow also
+
+-- the tree after an event is that of the state after it
+pub tree-law : (e : Event) (t : State) → bare (bare_after e t) ≡ bare (apply t e)
+tree-law (Mark mark) t = λ i. record { next = t.next; entries = sym (changed-kept mark.dir (marked mark.item mark.kind) t.entries (marked-bare mark.item mark.kind)) i; sessions = [] }
+tree-law (Rm entry) t = λ i. record { next = t.next; entries = sym (forgotten-entries entry (filter (is_kept entry) t.entries)) i; sessions = [] }
+tree-law other t = refl
+
+pub tree-sessions : (e : Event) (t : State) → (bare_after e t).sessions ≡ t.sessions
+tree-sessions (Mark mark) t = refl
+tree-sessions (Rm entry) t = refl
+tree-sessions other t = apply-sessions t other

@@ -1,0 +1,106 @@
+-- A state as its bare tree and the facts of each number: what is kept of it beside the tree, and what it depends on.
+use Rattle.std.specs.Prelude.{ℕ, ◌==◌, List, [], ◌∷◌, map, Option, Some, None, if◌then◌else◌}
+use Rattle.std.specs.Option.{option_map_or}
+use Rattle.hac_model.specs.Depends.{named_in}
+use Rattle.hac_model.specs.Events.{apply, edited, put_in, removed, without}
+use Rattle.hac_model.specs.Formula.{Formula}
+use Rattle.hac_model.specs.Links.{parent_of, query_at}
+use Rattle.hac_model.specs.Tree.{entry_at, permanent_in, prohibited_in, query_in}
+use Rattle.hac_model.specs.declared.events.Event.{Event}
+use Rattle.hac_model.specs.declared.events.Event.TheVariants.{Smkdir, Setq, Unq, Mark, Mv, Rm, Rmdir}
+use Rattle.hac_model.specs.declared.marks.Kind.{Kind}
+use Rattle.hac_model.specs.declared.marks.Kind.TheVariants.{Permanent, Prohibited}
+use Rattle.hac_model.specs.declared.states.Answer.{Answer}
+use Rattle.hac_model.specs.declared.states.Body.{Body}
+use Rattle.hac_model.specs.declared.states.Body.TheVariants.{Semantic, Mount}
+use Rattle.hac_model.specs.declared.states.Entry.{Entry}
+use Rattle.hac_model.specs.declared.states.State.{State}
+
+-- the items that users added to a directory, and those that they removed from it
+pub record Marks : Type 0 where
+  pub permanent : List ℕ
+  pub prohibited : List ℕ
+
+-- what is known of a number: its marks, the kept answers of a mount, and the directories that it depends on
+pub record Facts : Type 0 where
+  pub marks : Marks
+  pub answers : List Answer
+  pub edges : List ℕ
+
+abbrev pub no_marks : Marks
+no_marks = record { permanent = []; prohibited = [] }
+
+-- nothing is known
+abbrev pub no_facts : Facts
+no_facts = record { marks = no_marks; answers = []; edges = [] }
+
+abbrev pub marks_in : Body → Marks
+marks_in body = record { permanent = permanent_in body; prohibited = prohibited_in body }
+
+-- the kept answers of a mount
+abbrev pub answers_in : Body → List Answer
+answers_in (Mount space documents answers) = answers
+answers_in other = []
+
+-- what depends on a directory and on those that its query names, if it has one
+abbrev pub edges_to : ℕ → Option (Formula ℕ) → List ℕ
+edges_to dir query = option_map_or (λ asked. dir ∷ named_in asked) query []
+
+-- what an entry in this directory tells by its body
+abbrev pub facts_in : ℕ → Body → Facts
+facts_in dir body = record { marks = marks_in body; answers = answers_in body; edges = edges_to dir (query_in body) }
+
+abbrev pub facts_at : Option Entry → Facts
+facts_at None = no_facts
+facts_at (Some entry) = facts_in entry.parent entry.body
+
+-- the facts of each number
+abbrev pub facts_of : State → ℕ → Facts
+facts_of s number = facts_at (entry_at s.entries number)
+
+-- a body with the marks and answers of these facts
+abbrev pub filled : Facts → Body → Body
+filled facts (Semantic query permanent prohibited) = Semantic query facts.marks.permanent facts.marks.prohibited
+filled facts (Mount space documents answers) = Mount space documents facts.answers
+filled facts other = other
+
+abbrev pub filled_entry : (ℕ → Facts) → Entry → Entry
+filled_entry facts entry = edited (filled (facts entry.number)) entry
+
+-- the state that has this tree and these facts
+abbrev pub joined : (ℕ → Facts) → State → State
+joined facts tree = record { next = tree.next; entries = map (filled_entry facts) tree.entries; sessions = [] }
+
+-- one number has another value
+abbrev pub put_at : {X : Type 0} → (ℕ → X) → ℕ → X → ℕ → X
+put_at values number value other = if other == number then value else values other
+
+-- the marks without those of an item
+abbrev pub without_item : ℕ → Marks → Marks
+without_item item marks = record { permanent = without item marks.permanent; prohibited = without item marks.prohibited }
+
+-- the item has this mark, and no other
+abbrev pub with_mark : Kind → ℕ → Marks → Marks
+with_mark Permanent item marks = record (without_item item marks) { permanent = put_in item (without item marks.permanent) }
+with_mark Prohibited item marks = record (without_item item marks) { prohibited = put_in item (without item marks.prohibited) }
+with_mark other item marks = without_item item marks
+
+-- the facts after an event, of which only the tree is asked what else it needs
+abbrev pub facts_after : Event → State → (ℕ → Facts) → ℕ → Facts
+facts_after (Smkdir dir name query told) tree facts = put_at facts tree.next (record no_facts { edges = dir ∷ named_in query })
+facts_after (Setq dir query told) tree facts =
+    put_at facts dir (record (facts dir) { edges = parent_of tree dir ∷ named_in query })
+facts_after (Unq dir) tree facts = put_at facts dir no_facts
+facts_after (Mark mark) tree facts =
+    put_at facts mark.dir (record (facts mark.dir) { marks = with_mark mark.kind mark.item (facts mark.dir).marks })
+facts_after (Mv entry dir name) tree facts =
+    put_at facts entry (record (facts entry) { edges = edges_to dir (query_at tree entry) })
+facts_after (Rm item) tree facts = λ number. record (facts number) { marks = without_item item (facts number).marks }
+facts_after (Rmdir dir) tree facts = put_at facts dir no_facts
+facts_after other tree facts = facts
+
+-- the tree after an event. It has no marks to lose.
+abbrev pub bare_after : Event → State → State
+bare_after (Mark mark) tree = tree
+bare_after (Rm entry) tree = removed tree entry
+bare_after other tree = apply tree other

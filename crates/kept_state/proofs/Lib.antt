@@ -1,0 +1,9 @@
+pub mod CountingLemmas
+pub mod DirtyLemmas
+pub mod CountedLemmas
+pub mod KeptLemmas
+pub mod ReadyLemmas
+pub mod PutLemmas
+pub mod StateLemmas
+pub mod ReachLemmas
+pub mod ReaderLemmas

@@ -1,0 +1,106 @@
+-- What a linked tree says of its state: all but marks is in the tree alone.
+use Rattle.std.proofs.Common.{◌≡◌, ℕ, List, [], map, refl, ap, subst, sym, ◌∙◌}
+use Rattle.std.specs.Prelude.{Option, Some, None, is_some, option_and_then}
+use Rattle.std.specs.Option.{option_map}
+use Rattle.hac_model.specs.Bare.{bare, bare_body}
+use Rattle.hac_model.specs.Depends.{depends, referrers}
+use Rattle.hac_model.specs.Events.{dirty, edited, is_bare, is_inside, may_ask}
+use Rattle.hac_model.specs.Formula.{Formula}
+use Rattle.hac_model.specs.Limits.{counts}
+use Rattle.hac_model.specs.Links.{is_semantic, parent_of, query_at, shown_of}
+use Rattle.hac_model.specs.Resolving.{resolved}
+use Rattle.hac_model.specs.Tree.{entry_at, is_directory, is_directory_at, is_file_at, is_made_directory, path_of, shown_text}
+use Rattle.hac_model.specs.Valid.{IsLayout}
+use Rattle.hac_model.specs.declared.commands.Command.{Command}
+use Rattle.hac_model.specs.declared.states.Body.{Body}
+use Rattle.hac_model.specs.declared.states.Body.TheVariants.{File, Dir, Symlink, Semantic, Mount}
+use Rattle.hac_model.specs.declared.states.Entry.{Entry}
+use Rattle.hac_model.specs.declared.states.State.{State}
+use Rattle.hac_model.proofs.AlikeLemmas.{bare-kind, counts-bare, depends-bare, directory-bare, dirty-same, entry_at-bare, file-bare, layout-bare, layout-unbare, is_bare-bare, is_inside-bare, may_ask-bare, parent_of-bare, path_of-bare, query_at-bare, referrers-bare, resolved-bare, some-bare}
+use Rattle.hac_model.proofs.FillLemmas.{bare-joined}
+use Rattle.hac_model.proofs.MapLemmas.{test-mapped}
+use Rattle.kept_state.specs.Parts.{IsLinked, facts_kept, state_of}
+use Rattle.kept_state.specs.declared.parts.Parts.{Parts}
+
+-- a text is shown of the same items, and there are the same ones
+shown-bare : (s : State) (n : ℕ) → shown_of (bare s) n ≡ shown_of s n
+shown-bare s n = ap (λ (o : Option Entry). option_and_then shown_text (option_map (λ (e : Entry). e.body) o)) (entry_at-bare s n) ∙ at (entry_at s.entries n)
+  where
+    at : (o : Option Entry) → option_and_then shown_text (option_map (λ (e : Entry). e.body) (option_map (edited bare_body) o)) ≡ option_and_then shown_text (option_map (λ (e : Entry). e.body) o)
+    at None = refl
+    at (Some e) = body e.body
+      where
+        body : (b : Body) → shown_text (bare_body b) ≡ shown_text b
+        body (File text dirty shown) = refl
+        body Dir = refl
+        body (Symlink target) = refl
+        body (Semantic query permanent prohibited) = refl
+        body (Mount space documents answers) = refl
+
+module _ (s t : State) (bares : bare s ≡ bare t) where
+  -- what two states that are the same without their facts agree on
+  pub alike : {X : Type 0} (tell : State → X) → ((s : State) → tell (bare s) ≡ tell s) → tell s ≡ tell t
+  alike tell bare-tell = sym (bare-tell s) ∙ ap tell bares ∙ bare-tell t
+
+  pub same-path : (n : ℕ) → path_of s n ≡ path_of t n
+  same-path n = alike (λ s. path_of s n) (λ s. path_of-bare s n)
+
+  pub same-directory : (n : ℕ) → is_directory_at s.entries n ≡ is_directory_at t.entries n
+  same-directory n = alike (λ s. is_directory_at s.entries n) (λ s. directory-bare s n)
+
+  pub same-file : (n : ℕ) → is_file_at s.entries n ≡ is_file_at t.entries n
+  same-file n = alike (λ s. is_file_at s.entries n) (λ s. file-bare s n)
+
+  pub same-made : (n : ℕ) → is_made_directory s.entries n ≡ is_made_directory t.entries n
+  same-made n = alike (λ s. is_made_directory s.entries n) (λ s. test-mapped is_directory bare_body s.entries n bare-kind)
+
+  pub same-some : (n : ℕ) → is_some (entry_at s.entries n) ≡ is_some (entry_at t.entries n)
+  same-some n = alike (λ s. is_some (entry_at s.entries n)) (λ s. some-bare s n)
+
+  pub same-parent : (n : ℕ) → parent_of s n ≡ parent_of t n
+  same-parent n = alike (λ s. parent_of s n) (λ s. parent_of-bare s n)
+
+  pub same-query : (n : ℕ) → query_at s n ≡ query_at t n
+  same-query n = alike (λ s. query_at s n) (λ s. query_at-bare s n)
+
+  pub same-semantic : (n : ℕ) → is_semantic s n ≡ is_semantic t n
+  same-semantic n = ap (λ (o : Option (Formula ℕ)). is_some o) (same-query n)
+
+  pub same-depends : (n : ℕ) → depends s n ≡ depends t n
+  same-depends n = alike (λ s. depends s n) (λ s. depends-bare s n)
+
+  pub same-bare : (n : ℕ) → is_bare s.entries n ≡ is_bare t.entries n
+  same-bare n = alike (λ s. is_bare s.entries n) (λ s. is_bare-bare s n)
+
+  pub same-inside : (dir e : ℕ) → is_inside s dir e ≡ is_inside t dir e
+  same-inside dir e = alike (λ s. is_inside s dir e) (λ s. is_inside-bare s dir e)
+
+  pub same-asks : (q : Formula ℕ) → may_ask s q ≡ may_ask t q
+  same-asks q = alike (λ s. may_ask s q) (λ s. may_ask-bare s q)
+
+  pub same-referrers : (dir : ℕ) → map (λ (e : Entry). path_of s e.number) (referrers s dir) ≡ map (λ (e : Entry). path_of t e.number) (referrers t dir)
+  same-referrers dir = alike (λ s. map (λ (e : Entry). path_of s e.number) (referrers s dir)) (λ s. referrers-bare s dir)
+
+  pub same-counts : counts s ≡ counts t
+  same-counts = alike counts counts-bare
+
+  pub same-dirty : dirty s ≡ dirty t
+  same-dirty = alike dirty dirty-same
+
+  pub same-shown : (n : ℕ) → shown_of s n ≡ shown_of t n
+  same-shown n = alike (λ s. shown_of s n) (λ s. shown-bare s n)
+
+  pub same-next : s.next ≡ t.next
+  same-next = ap (λ (x : State). x.next) bares
+
+  -- the outcome of a command
+  pub same-resolved : (session : List ℕ) (c : Command) → s.sessions ≡ [] → t.sessions ≡ [] → resolved s session c ≡ resolved t session c
+  same-resolved session c none also = sym (resolved-bare s none session c) ∙ ap (λ (x : State). resolved x session c) bares ∙ resolved-bare t also session c
+
+-- the tree that is kept has no facts
+pub kept-bares : (kept : Parts) → bare (state_of kept) ≡ bare kept.tree.state
+kept-bares kept = bare-joined (facts_kept kept) kept.tree.state
+
+-- the tree itself is one
+pub tree-layout : (kept : Parts) → IsLinked kept → IsLayout kept.tree.state
+tree-layout kept h = layout-unbare kept.tree.state (subst IsLayout (bare-joined (facts_kept kept) kept.tree.state) (layout-bare (state_of kept) h.valid.layout))

@@ -1,0 +1,7 @@
+pub mod Counting
+pub mod Ready
+pub mod Counted
+pub mod Parts
+pub mod Readers
+pub mod Seen
+pub mod Kept

@@ -1,0 +1,57 @@
+-- A tree with the marks of its semantic directories, and with what depends on what.
+use Rattle.std.specs.Prelude.{◌≡◌, ℕ, [], ◌∷◌, Option, Some, None}
+use Rattle.hac_model.specs.Depends.{named_in}
+use Rattle.hac_model.specs.Facts.{Facts, Marks, facts_of, joined}
+use Rattle.hac_model.specs.Formula.{Formula}
+use Rattle.hac_model.specs.Links.{query_at}
+use Rattle.hac_model.specs.Valid.{IsValid}
+use Rattle.hac_model.specs.declared.states.State.{State}
+use Rattle.dep_graph.specs.Graphs.{edges_of}
+use Rattle.dep_graph.specs.Graphs as graph
+use Rattle.dep_graph.specs.declared.graph.NewEdges.{NewEdges}
+use Rattle.link_kinds.specs.Seen.{Known, SameKinds, permanent_in, prohibited_in, transient_in}
+use Rattle.kept_state.specs.declared.parts.Parts.{Parts}
+
+-- the marks of a directory
+abbrev pub marks_kept : Known → ℕ → Marks
+marks_kept links dir = record { permanent = permanent_in links dir; prohibited = prohibited_in links dir }
+
+-- what is kept of each number beside the tree. No space answers anything yet.
+abbrev pub facts_kept : Parts → ℕ → Facts
+facts_kept kept number = record { marks = marks_kept kept.marks number; answers = []; edges = edges_of kept.graph number }
+
+-- the state: the tree, in which each semantic directory has its marks
+abbrev pub state_of : Parts → State
+state_of kept = joined (facts_kept kept) kept.tree.state
+
+-- the tree, the marks and the graph are those of one valid state
+pub record IsLinked (kept : Parts) : Type 0 where
+  pub valid : IsValid (state_of kept)
+  -- nothing else is kept of any number
+  pub own : (number : ℕ) → facts_of (state_of kept) number ≡ facts_kept kept number
+  -- found links aren't kept
+  pub found : (dir : ℕ) → transient_in kept.marks dir ≡ []
+  pub sessions : kept.tree.state.sessions ≡ []
+
+-- the one has what the other has, and may be ready for something else
+pub record AreAlike (old new : Parts) : Type 0 where
+  pub state : new.tree.state ≡ old.tree.state
+  pub kinds : SameKinds old.marks new.marks
+  pub edges : (dir : ℕ) → edges_of new.graph dir ≡ edges_of old.graph dir
+
+-- the same, and the tree and the marks are ready for what they were ready for
+pub record KeepsTree (old new : Parts) : Type 0 where
+  pub tree : new.tree ≡ old.tree
+  pub marks : new.marks ≡ old.marks
+  pub edges : (dir : ℕ) → edges_of new.graph dir ≡ edges_of old.graph dir
+
+-- the graph is ready for the edges of a directory with this parent and this query
+pub record AreEdges (ready_for : graph.Seen) (dir parent : ℕ) (asked : Formula ℕ) (edges : NewEdges) : Type 0 where
+  pub ready : ready_for.ready ≡ Some dir
+  pub dir_is : edges.dir ≡ dir
+  pub edges_are : edges.edges.items ≡ parent ∷ named_in asked
+
+-- the edges of an entry that moves, which is semantic just where there are some
+abbrev pub AreMovedEdges : State → graph.Seen → ℕ → ℕ → Option NewEdges → Type 0
+AreMovedEdges s ready_for entry dir None = query_at s entry ≡ None
+AreMovedEdges s ready_for entry dir (Some edges) = (asked : Formula ℕ) × (query_at s entry ≡ Some asked) × AreEdges ready_for entry dir asked edges

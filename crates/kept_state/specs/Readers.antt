@@ -1,0 +1,32 @@
+-- What the parts of a kept state tell of it.
+use Rattle.std.specs.Prelude.{◌≡◌, ℕ, [], if◌then◌else◌}
+use Rattle.hac_model.specs.Bare.{bare}
+use Rattle.hac_model.specs.Depends.{depends}
+use Rattle.hac_model.specs.Links.{is_permanent, is_prohibited, permanent_at, prohibited_at}
+use Rattle.hac_model.specs.Valid.{IsLayout}
+use Rattle.hac_model.specs.declared.marks.Kind.{Kind}
+use Rattle.hac_model.specs.declared.marks.Kind.TheVariants.{Permanent, Prohibited, Unlinked}
+use Rattle.hac_model.specs.declared.states.State.{State}
+use Rattle.dep_graph.specs.Graphs.{edges_of}
+use Rattle.dep_graph.specs.Graphs as graph
+use Rattle.link_kinds.specs.Seen.{Known, permanent_in, prohibited_in, transient_in}
+
+-- it is the tree of the state, without marks
+pub record IsTreeOf (s tree : State) : Type 0 where
+  pub bares : bare s ≡ bare tree
+  pub layout : IsLayout tree
+  pub sessions : tree.sessions ≡ []
+
+-- the marks are those of the state. No link that was found is among them.
+pub record AreMarksOf (s : State) (marks : Known) : Type 0 where
+  pub permanent : (dir : ℕ) → permanent_in marks dir ≡ permanent_at s dir
+  pub prohibited : (dir : ℕ) → prohibited_in marks dir ≡ prohibited_at s dir
+  pub found : (dir : ℕ) → transient_in marks dir ≡ []
+
+-- the graph has what each directory depends on
+abbrev pub AreEdgesOf : State → graph.Seen → Type 0
+AreEdgesOf s edges = (dir : ℕ) → edges_of edges dir ≡ depends s dir
+
+-- the mark of an item in a directory
+abbrev pub mark_at : State → ℕ → ℕ → Kind
+mark_at s dir item = if is_permanent s dir item then Permanent else (if is_prohibited s dir item then Prohibited else Unlinked)

@@ -1,0 +1,168 @@
+//! The state as it is kept, and the events that it is ready for.
+ghost use Rattle.std.specs.Prelude.{◌≡◌, ◌∷◌, [], IfOk, IsTrue, OnOk, OnErr, replicate};
+ghost use Rattle.hac_model.specs.Depends.{cycle_of_move, cycle_over};
+ghost use Rattle.hac_model.specs.Events.{accepted, apply_all};
+ghost use Rattle.hac_model.specs.Laws.{AllHappen};
+ghost use Rattle.hac_model.specs.Limits.{counts};
+ghost use Rattle.hac_model.specs.Links.{parent_of};
+ghost use Rattle.hac_model.specs.Tree.{empty, path_of};
+ghost use Rattle.hac_model.specs.Valid.{IsValid};
+ghost use Rattle.kept_state.specs.Readers.{AreEdgesOf, AreMarksOf, IsTreeOf, mark_at};
+
+use crate::counted::CountedTree;
+use crate::edges;
+use crate::parts::Parts;
+use crate::ready::{Ready, prepare, put};
+use dep_graph::Graph;
+use file_tree::Tree;
+use hac_model::{Counts, Event, Kind, Memory, Number, Path, Query};
+use link_kinds::Links;
+use std::alloc::Global;
+use std::marker::Model;
+use std::mem;
+
+/// A state, seen as that state and as the events for which memory was taken.
+#[derive(Drop)]
+pub struct KeptState {
+    parts: Parts,
+    ready: Ready,
+}
+
+impl Model for KeptState {
+    ghost use Rattle.kept_state.specs.Seen.{Seen, seen_code};
+
+    ghost Value = { Seen };
+
+    ghost coded = { seen_code };
+
+    ghost use Rattle.kept_state.specs.Kept.{seen_of, IsKept};
+
+    ghost view = { seen_of };
+
+    ghost invariant = { IsKept };
+}
+
+impl KeptState {
+    /// The root alone.
+    pub fn new(alloc: Global) -> Result<KeptState, Memory>
+        ensures { IfOk result (λ kept. kept ≡ record { state = empty; ready = [] }) }
+    {
+        Ok(KeptState {
+            parts: Parts::new(alloc)?,
+            ready: Ready::Nothing,
+        })
+    }
+
+    /// The tree, without marks.
+    pub fn tree(&self) -> &Tree
+        ensures tree { IsTreeOf self.now.state result.now.state }
+        ensures valid { IsValid self.now.state }
+    {
+        self.parts.tree.tree()
+    }
+
+    /// The tree, with its counts.
+    pub fn counted(&self) -> &CountedTree
+        ensures tree { IsTreeOf self.now.state result.now.state }
+        ensures valid { IsValid self.now.state }
+    {
+        &self.parts.tree
+    }
+
+    /// The path of an entry.
+    pub fn path_of(&self, entry: Number) -> Result<Path, Memory>
+        ensures { IfOk result (λ path. path ≡ path_of self.now.state entry) }
+    {
+        self.tree().path_of(entry)
+    }
+
+    /// The state is valid. This does nothing: it is called where a proof has to know so.
+    pub fn know_valid(&self)
+        ensures { IsValid self.now.state }
+    {
+        let _parts = &self.parts;
+    }
+
+    /// How much the state holds.
+    pub fn counts(&self) -> Counts
+        ensures counts { result ≡ counts self.now.state }
+        ensures valid { IsValid self.now.state }
+    {
+        self.parts.tree.counts()
+    }
+
+    /// The marks of all directories.
+    pub fn marks(&self) -> &Links
+        ensures marks { AreMarksOf self.now.state result.now }
+        ensures valid { IsValid self.now.state }
+    {
+        &self.parts.marks
+    }
+
+    /// The mark of an item in a directory.
+    pub fn mark(&self, dir: Number, item: Number) -> Kind
+        ensures { result ≡ mark_at self.now.state dir item }
+    {
+        self.parts.marks.kind(dir, item)
+    }
+
+    /// What depends on what.
+    pub fn graph(&self) -> &Graph
+        ensures edges { AreEdgesOf self.now.state result.now }
+        ensures valid { IsValid self.now.state }
+    {
+        &self.parts.graph
+    }
+
+    /// The directory through which one would depend on itself that gets a query, if there is any.
+    pub fn cycle_of_query(
+        &self,
+        alloc: Global,
+        dir: Number,
+        query: &Query<Number>,
+    ) -> Result<Option<Number>, Memory>
+        ensures { IfOk result (λ way. way ≡ cycle_over self.now.state dir (parent_of self.now.state dir) query.now) }
+    {
+        edges::cycle_of_query(alloc, &self.parts, dir, query)
+    }
+
+    /// The same of an entry that goes to a directory.
+    pub fn cycle_of_move(
+        &self,
+        alloc: Global,
+        entry: Number,
+        dir: Number,
+    ) -> Result<Option<Number>, Memory>
+        ensures { IfOk result (λ way. way ≡ cycle_of_move self.now.state entry dir) }
+    {
+        edges::cycle_of_move(alloc, &self.parts, entry, dir)
+    }
+
+    /// Takes the memory that an event wants, so that `commit` can apply it. The state doesn't change, whatever the
+    /// answer, and what was prepared before is dropped.
+    pub fn prepare(&mut self, alloc: Global, event: Event) -> Result<(), Memory>
+        requires { IsTrue (accepted self.old.state event) }
+        ensures ok { OnOk result (self.new ≡ record { state = self.old.state; ready = event ∷ [] }) }
+        ensures err { OnErr result (self.new ≡ record { state = self.old.state; ready = [] }) }
+    {
+        self.ready = Ready::Nothing;
+        self.ready = prepare(alloc, &mut self.parts, event)?;
+        Ok(())
+    }
+
+    /// Gets ready for steps, which want no memory.
+    pub fn prepare_steps(&mut self, count: u64)
+        requires { AllHappen self.old.state (replicate count Event.Step) }
+        ensures { self.new ≡ record { state = self.old.state; ready = replicate count Event.Step } }
+    {
+        self.ready = Ready::Steps(count);
+    }
+
+    /// Applies the prepared events. This takes no memory, and can't fail.
+    pub fn commit(&mut self)
+        ensures { self.new ≡ record { state = apply_all self.old.state self.old.ready; ready = [] } }
+    {
+        let ready = mem::replace(&mut self.ready, Ready::Nothing);
+        put(&mut self.parts, ready);
+    }
+}

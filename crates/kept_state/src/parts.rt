@@ -1,0 +1,70 @@
+//! A tree with the marks of its semantic directories, and with what depends on what.
+ghost use Rattle.std.specs.Prelude.{◌≡◌, IfOk};
+ghost use Rattle.hac_model.specs.Tree.{empty};
+ghost use Rattle.kept_state.specs.Parts.{AreEdges, AreMovedEdges, IsLinked, KeepsTree, state_of};
+
+use crate::counted::CountedTree;
+use crate::edges::edges_of;
+use dep_graph::{Graph, NewEdges};
+use hac_model::{Memory, Number, Query};
+use link_kinds::Links;
+use std::alloc::Global;
+
+/// A tree, its marks and its graph. That they fit one another is said by `IsLinked` of the specs.
+#[derive(Drop)]
+pub struct Parts {
+    /// The tree, its counts and its dirty files.
+    pub tree: CountedTree,
+    /// The items that users added to semantic directories, or removed there.
+    pub marks: Links,
+    /// What each semantic directory depends on: its own directory, then those that its query names.
+    pub graph: Graph,
+}
+
+impl Parts {
+    /// The root alone.
+    pub fn new(alloc: Global) -> Result<Parts, Memory>
+        ensures empty { IfOk result (λ kept. state_of kept ≡ empty) }
+        ensures linked { IfOk result (λ kept. IsLinked kept) }
+    {
+        let tree = CountedTree::new(alloc)?;
+        let marks = Links::new(alloc)?;
+        Ok(Parts {
+            tree,
+            marks,
+            graph: Graph::new(alloc),
+        })
+    }
+
+    /// Prepares the edges of a directory that has this parent and is to have this query.
+    pub fn prepare_edges(
+        &mut self,
+        alloc: Global,
+        dir: Number,
+        parent: Number,
+        query: &Query<Number>,
+    ) -> Result<NewEdges, Memory>
+        ensures same { KeepsTree self.old self.new }
+        ensures edges { IfOk result (AreEdges self.new.graph dir parent query.now) }
+    {
+        let edges = edges_of(alloc, parent, query)?;
+        self.graph.prepare_edges(dir, edges)
+    }
+
+    /// Prepares the edges of an entry that moves to another directory, if it has a query.
+    pub fn prepare_moved_edges(
+        &mut self,
+        alloc: Global,
+        entry: Number,
+        dir: Number,
+    ) -> Result<Option<NewEdges>, Memory>
+        ensures same { KeepsTree self.old self.new }
+        ensures edges { IfOk result (AreMovedEdges self.old.tree.state self.new.graph entry dir) }
+    {
+        let Some(query) = self.tree.tree().query(entry) else {
+            return Ok(None);
+        };
+        let edges = edges_of(alloc, dir, query)?;
+        Ok(Some(self.graph.prepare_edges(entry, edges)?))
+    }
+}

@@ -1,9 +1,0 @@
-pub mod CountingLemmas
-pub mod DirtyLemmas
-pub mod CountedLemmas
-pub mod EdgeLemmas
-pub mod KeptLemmas
-pub mod ReadyLemmas
-pub mod PutLemmas
-pub mod StateLemmas
-pub mod ReachLemmas

@@ -1,6 +1,0 @@
-use Rattle.std.proofs.Common.{◌∙◌}
-use Rattle.linked_tree.proofs.ReachLemmas.{way-told}
-use Rattle.linked_tree.proofs.edges.cycle_over.Goals as goal
-
-pub returns : goal.returns
-returns c = way-told c.args.kept.now c.args.dir c.args.parent c.args.query.now c.as_slice.result.now c.would_cycle.result c.requires.linked (c.as_slice.ensures.value ∙ c.in_ok-edges.ensures) c.would_cycle.ensures

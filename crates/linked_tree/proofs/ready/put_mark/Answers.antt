@@ -1,5 +1,0 @@
-use Rattle.linked_tree.proofs.PutLemmas.{mark-put}
-use Rattle.linked_tree.proofs.ready.put_mark.Goals as goal
-
-pub returns : goal.returns
-returns c = mark-put c.args.kept.now c.args.mark c.requires c.set_kind.new.self c.know_lists.ensures c.set_kind.ensures.lists

@@ -1,5 +1,0 @@
-use Rattle.linked_tree.proofs.PutLemmas.{steps-put}
-use Rattle.linked_tree.proofs.ready.put_steps.Goals as goal
-
-pub returns : goal.returns
-returns c = steps-put c.args.kept.now c.args.count c.step.new.tree c.requires c.step.ensures

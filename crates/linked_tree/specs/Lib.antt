@@ -1,4 +1,0 @@
-pub mod Counting
-pub mod Ready
-pub mod Counted
-pub mod Linked
