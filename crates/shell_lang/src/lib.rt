@@ -2,12 +2,12 @@
 //! It knows nothing of what a command does.
 #![tactic(auto)]
 
-mod link_lines;
 mod parsing;
 mod paths;
 mod printing;
 mod putting;
 mod reading;
+mod shapes;
 mod tree_lines;
 mod words;
 
