@@ -1,17 +1,15 @@
 -- Lines spell commands with words that the commands may have.
 use Rattle.std.proofs.Common.{◌≡◌, ℕ, ◌≤◌, Bool, true, false, List, length, refl, ap, sym, ◌∙◌, arith}
-use Rattle.std.specs.Prelude.{◌&&◌, ◌||◌, if◌then◌else◌, nat_le, nat_lt, take, codes, Some, None, Result, Ok, Err, IsTrue, ⊤}
+use Rattle.std.specs.Prelude.{◌&&◌, ◌||◌, if◌then◌else◌, nat_le, codes, Option, Some, None, Result, Ok, Err, IsTrue, ⊤}
 use Rattle.std.specs.List.{list_all}
 use Rattle.std.specs.Option.{ok_or}
-use Rattle.std.specs.Str.Parse.{digits_value}
 use Rattle.std.specs.Str.{bytes_eq}
-use Rattle.std.proofs.lemmas.Bool.{and_from, cond_both, le-leb, leb-true}
-use Rattle.std.proofs.lemmas.List.{length-take}
+use Rattle.std.proofs.lemmas.Bool.{and_from, cond_both}
 use Rattle.hac_model.specs.Answers.{◌>>=◌}
 use Rattle.hac_model.specs.Bytes.{is_space}
 use Rattle.hac_model.specs.Limits.{is_text}
 use Rattle.hac_model.specs.LineWords.{first_word, after_space}
-use Rattle.hac_model.specs.Lines.{Item, alone, called_with, command_with, each_path, find_of, in_main, is_put, is_spelled, item_of, limited_put, limited_text, ls_of, named_command, of_two_paths, one_path, only_path, only_word, path_and_query, put_at, put_of, put_words, two_paths, write_of}
+use Rattle.hac_model.specs.Lines.{Item, alone, called_with, command_with, each_path, find_of, in_main, is_put, is_spelled, item_of, item_taken, limited_text, ls_of, named_command, of_two_paths, one_path, only_path, only_word, path_and_query, put_at, put_of, put_words, taken_of, two_paths, write_of}
 use Rattle.hac_model.specs.PathWords.{is_bad, word_of}
 use Rattle.hac_model.specs.Paths.{are_names}
 use Rattle.hac_model.specs.Formula.{Formula}
@@ -21,10 +19,12 @@ use Rattle.hac_model.specs.declared.commands.Command.{Command}
 use Rattle.hac_model.specs.declared.commands.Command.TheVariants.{Mkdir, Rmdir, Write, Cat, Ls, Mv, Rm, Smkdir, Setq, Unq, Query, Sls, Sln, Srm, Sforget, Find, Index, Counts}
 use Rattle.hac_model.specs.declared.commands.Line.{Line}
 use Rattle.hac_model.specs.declared.limits.LimitWord.TheVariants as limit
-use Rattle.hac_model.specs.declared.limits.TheConstants.{LINE_LIMIT, TEXT_LIMIT}
+use Rattle.hac_model.specs.declared.limits.TheConstants.{LINE_LIMIT}
 use Rattle.hac_model.specs.declared.paths.PathWord.{PathWord}
 use Rattle.hac_model.specs.declared.replies.Refusal.{Refusal}
 use Rattle.hac_model.specs.declared.replies.Refusal.TheVariants.{BadLine, BadName, Limit}
+use Rattle.hac_model.specs.declared.taken.Taken.{Taken}
+use Rattle.hac_model.specs.declared.taken.Taken.TheVariants.{Whole, Dropped, Short}
 use Rattle.hac_model.proofs.QueryLemmas.{read_spelled}
 use Rattle.hac_model.proofs.WordLemmas.{word_of-names}
 
@@ -167,32 +167,24 @@ spells_named name arguments =
     (λ _. cond_both (bytes_eq name (codes "counts")) _ _ P (λ _. spells_alone Counts arguments refl)
     (λ _. spells_bad_line))))))))))))))))))
 
-limited_put-is : (count : ℕ) (behind text : List ℕ) → limited_put count behind ≡ Ok text → is_text text ≡ true
-limited_put-is count behind text given =
-    elim (nat_le count TEXT_LIMIT) as (λ b. nat_le count TEXT_LIMIT ≡ b → (let read : Result (List ℕ) Refusal = if b then Ok (take count behind) else Err (Limit limit.Text) in read) ≡ Ok text → is_text text ≡ true) [
-      | true ↦ (λ few same.
-          let even : take count behind ≡ text = cc in
-          let less : count ≤ TEXT_LIMIT = leb-true count TEXT_LIMIT few in
-          ap is_text (sym even) ∙ le-leb (length (take count behind)) TEXT_LIMIT (grind (arith, less, length-take count behind)))
-      | false ↦ (λ many same. absurd cc)
-    ] refl given
-
-spells_put_at : (word : List ℕ) (count : ℕ) (behind : List ℕ) → Spells (put_at word count behind)
+spells_put_at : (word : List ℕ) (taken : Option Taken) → Spells (put_at word taken)
 unfolding Spells
-spells_put_at word count behind =
-    cond_both (nat_lt (length behind) count) _ _ Spells (λ _. tt) (λ enough.
+spells_put_at word (Some (Whole bytes)) =
     spells-then (word_of word) _ (λ path named.
-    spells-then (limited_put count behind) _ (λ text fits.
-    command-spelled (Write path text) (and_from (are_names path.names) (is_text text) (path-spelled word path named) (limited_put-is count behind text fits)))))
+    spells-then (limited_text bytes) _ (λ text fits.
+    command-spelled (Write path text) (and_from (are_names path.names) (is_text text) (path-spelled word path named) (limited_text-is bytes text fits))))
+spells_put_at word (Some Dropped) = spells-then (word_of word) _ (λ path named. tt)
+spells_put_at word (Some Short) = tt
+spells_put_at word None = tt
 
-spells_put : (arguments behind : List ℕ) → Spells (put_of arguments behind)
-spells_put arguments behind = spells-then (put_words arguments) _ (λ words _. spells_put_at words.0 (digits_value 10 words.1) behind)
+spells_put : (arguments : List ℕ) (taken : Option Taken) → Spells (put_of arguments taken)
+spells_put arguments taken = spells-then (put_words arguments) _ (λ words _. spells_put_at words.0 taken)
 
-spells_called : (name arguments behind : List ℕ) → Spells (called_with name arguments behind)
-spells_called name arguments behind = cond_both (is_put name) _ _ Spells (λ _. spells_put arguments behind) (λ _. spells_named name arguments)
+spells_called : (name arguments : List ℕ) (taken : Option Taken) → Spells (called_with name arguments taken)
+spells_called name arguments taken = cond_both (is_put name) _ _ Spells (λ _. spells_put arguments taken) (λ _. spells_named name arguments)
 
-spells_with : (line behind : List ℕ) → Spells (command_with line behind)
-spells_with line behind = spells-then (first_word line) _ (λ name _. spells_called name.0 name.1 behind)
+spells_with : (line : List ℕ) (taken : Option Taken) → Spells (command_with line taken)
+spells_with line taken = spells-then (first_word line) _ (λ name _. spells_called name.0 name.1 taken)
 
 -- an item is a line whose command has words that it may have, or a refusal
 abbrev pub IsItem : Item → Type 0
@@ -204,16 +196,23 @@ unfolding Spells
 in_main-item (Ok command) h = h
 in_main-item (Err refusal) h = tt
 
-pub item_of-item : (bytes behind : List ℕ) → IsItem (item_of bytes behind)
-item_of-item bytes behind =
-    elim (nat_le (length bytes) LINE_LIMIT) as (λ b. IsItem (if b then in_main (command_with bytes behind) else Err (Limit limit.Line))) [
-      | true ↦ in_main-item (command_with bytes behind) (spells_with bytes behind)
+item_taken-item : (line : List ℕ) (taken : Option Taken) → IsItem (item_taken line taken)
+item_taken-item line taken =
+    elim (nat_le (length line) LINE_LIMIT) as (λ b. IsItem (if b then in_main (command_with line taken) else Err (Limit limit.Line))) [
+      | true ↦ in_main-item (command_with line taken) (spells_with line taken)
       | false ↦ tt
     ]
+
+pub item_of-item : (bytes behind : List ℕ) → IsItem (item_of bytes behind)
+item_of-item bytes behind = item_taken-item bytes (taken_of bytes behind)
 
 line-spelled : (item : Item) (line : Line) → IsItem item → item ≡ Ok line → IsTrue (is_spelled line.command)
 line-spelled (Ok given) line h same = let even : given ≡ line = cc in ap (λ (l : Line). is_spelled l.command) (sym even) ∙ h
 line-spelled (Err refusal) line h same = absurd cc
 
+-- whatever came of the bytes that a line asks for
+pub taken-spells : (line : List ℕ) (taken : Option Taken) (given : Line) → item_taken line taken ≡ Ok given → IsTrue (is_spelled given.command)
+taken-spells line taken given same = line-spelled (item_taken line taken) given (item_taken-item line taken) same
+
 pub lines-spell : (bytes behind : List ℕ) (line : Line) → item_of bytes behind ≡ Ok line → IsTrue (is_spelled line.command)
-lines-spell bytes behind line same = line-spelled (item_of bytes behind) line (item_of-item bytes behind) same
+lines-spell bytes behind line same = taken-spells bytes (taken_of bytes behind) line same

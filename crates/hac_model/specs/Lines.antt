@@ -1,7 +1,7 @@
 -- What one line of a script says.
-use Rattle.std.specs.Prelude.{ℕ, Bool, true, false, ◌==◌, ◌&&◌, ◌||◌, if◌then◌else◌, nat_le, nat_lt, List, [], ◌∷◌, length, take, slice_index, codes, Option, None, Some, Result, Ok, Err}
+use Rattle.std.specs.Prelude.{ℕ, Bool, true, false, ◌==◌, ◌&&◌, ◌||◌, if◌then◌else◌, nat_le, List, [], ◌∷◌, length, slice_index, codes, Option, None, Some, Result, Ok, Err}
 use Rattle.std.specs.List.{list_all}
-use Rattle.std.specs.Option.{ok_or, option_map_or}
+use Rattle.std.specs.Option.{ok_or, option_map, option_map_or}
 use Rattle.std.specs.Str.{bytes_eq}
 use Rattle.std.specs.Str.Parse.{digits_value}
 use Rattle.hac_model.specs.Answers.{◌>>=◌}
@@ -11,17 +11,19 @@ use Rattle.hac_model.specs.Limits.{is_text}
 use Rattle.hac_model.specs.LineWords.{first_word, after_space}
 use Rattle.hac_model.specs.PathWords.{is_bad, word_of}
 use Rattle.hac_model.specs.Paths.{are_names}
-use Rattle.hac_model.specs.Puts.{is_length}
+use Rattle.hac_model.specs.Puts.{came, is_length}
 use Rattle.hac_model.specs.QueryReading.{is_spelled_query, read_query}
 use Rattle.hac_model.specs.Texts.{text_of}
 use Rattle.hac_model.specs.declared.commands.Command.{Command}
 use Rattle.hac_model.specs.declared.commands.Command.TheVariants.{Mkdir, Rmdir, Write, Cat, Ls, Mv, Rm, Smkdir, Setq, Unq, Query, Sls, Sln, Srm, Sforget, Find, Index, Counts}
 use Rattle.hac_model.specs.declared.commands.Line.{Line}
 use Rattle.hac_model.specs.declared.limits.LimitWord.TheVariants as limit
-use Rattle.hac_model.specs.declared.limits.TheConstants.{LINE_LIMIT, TEXT_LIMIT}
+use Rattle.hac_model.specs.declared.limits.TheConstants.{LINE_LIMIT}
 use Rattle.hac_model.specs.declared.paths.PathWord.{PathWord}
 use Rattle.hac_model.specs.declared.replies.Refusal.{Refusal}
 use Rattle.hac_model.specs.declared.replies.Refusal.TheVariants.{BadLine, BadName, Limit, ShortPut}
+use Rattle.hac_model.specs.declared.taken.Taken.{Taken}
+use Rattle.hac_model.specs.declared.taken.Taken.TheVariants.{Whole, Dropped, Short}
 
 -- the one word of the bytes, with only spaces behind it
 abbrev pub only_word : List ℕ → Result (List ℕ) Refusal
@@ -125,39 +127,37 @@ put_words arguments = do
   length ← only_word path.1
   if is_length length then Ok (path.0, length) else Err BadLine
 
--- the length of a text, if a file may have one that long
-abbrev pub limited_put : ℕ → List ℕ → Result (List ℕ) Refusal
-limited_put count behind = if nat_le count TEXT_LIMIT then Ok (take count behind) else Err (Limit limit.Text)
+-- the file of a path word gets the bytes that came, or the first refusal: not all came, then the path, then their count
+abbrev pub put_at : List ℕ → Option Taken → Result Command Refusal
+put_at word (Some (Whole bytes)) = do
+  path ← word_of word
+  text ← limited_text bytes
+  Ok (Write path text)
+put_at word (Some Dropped) = do
+  path ← word_of word
+  Err (Limit limit.Text)
+put_at word (Some Short) = Err ShortPut
+put_at word None = Err ShortPut
 
--- the file of a path word gets the first of the bytes that follow the line, or the first refusal: not all came, then the
--- path, then their count
-abbrev pub put_at : List ℕ → ℕ → List ℕ → Result Command Refusal
-put_at word count behind =
-    if nat_lt (length behind) count then Err ShortPut
-    else (do
-      path ← word_of word
-      text ← limited_put count behind
-      Ok (Write path text))
-
--- `put PATH LENGTH`, from the bytes behind `put`, given what follows the line
-abbrev pub put_of : List ℕ → List ℕ → Result Command Refusal
-put_of arguments behind = do
+-- `put PATH LENGTH`, from the bytes behind `put`, given what came of the bytes behind the line
+abbrev pub put_of : List ℕ → Option Taken → Result Command Refusal
+put_of arguments taken = do
   words ← put_words arguments
-  put_at words.0 (digits_value 10 words.1) behind
+  put_at words.0 taken
 
 -- the line's first word is `put`
 abbrev pub is_put : List ℕ → Bool
 is_put name = bytes_eq name (codes "put")
 
--- the command of a name, from the bytes behind it, given what follows the line
-abbrev pub called_with : List ℕ → List ℕ → List ℕ → Result Command Refusal
-called_with name arguments behind = if is_put name then put_of arguments behind else named_command name arguments
+-- the command of a name, from the bytes behind it, given what came of the bytes behind the line
+abbrev pub called_with : List ℕ → List ℕ → Option Taken → Result Command Refusal
+called_with name arguments taken = if is_put name then put_of arguments taken else named_command name arguments
 
--- the command that a line spells, or why it is refused, given what follows it
-abbrev pub command_with : List ℕ → List ℕ → Result Command Refusal
-command_with line behind = do
+-- the command that a line spells, or why it is refused, given what came of the bytes that it asks for
+abbrev pub command_with : List ℕ → Option Taken → Result Command Refusal
+command_with line taken = do
   name ← first_word line
-  called_with name.0 name.1 behind
+  called_with name.0 name.1 taken
 
 -- the words of a line that is a `put` of the right form
 abbrev pub put_line : List ℕ → Result (List ℕ × List ℕ) Refusal
@@ -209,9 +209,17 @@ in_main (Err refusal) = Err refusal
 abbrev pub Item : Type 0
 Item = Result Line Refusal
 
+-- the item of a line, given what came of the bytes that it asks for
+abbrev pub item_taken : List ℕ → Option Taken → Item
+item_taken line taken = if nat_le (length line) LINE_LIMIT then in_main (command_with line taken) else Err (Limit limit.Line)
+
+-- what comes of the bytes that a line asks for, if it asks for any, given all that follow its end
+abbrev pub taken_of : List ℕ → List ℕ → Option Taken
+taken_of line behind = option_map (λ count. came count behind) (put_length line)
+
 -- the item of a line, given all bytes that follow its end
 abbrev pub item_of : List ℕ → List ℕ → Item
-item_of line behind = if nat_le (length line) LINE_LIMIT then in_main (command_with line behind) else Err (Limit limit.Line)
+item_of line behind = item_taken line (taken_of line behind)
 
 -- a blank line or a comment, which has no reply at any length
 abbrev pub is_quiet : List ℕ → Bool

@@ -20,6 +20,7 @@ mod replies;
 mod resolved;
 mod spaces;
 mod states;
+mod taken;
 mod terms;
 
 pub use bytes::{Name, Pile, Seq, Text};
@@ -42,4 +43,5 @@ pub use replies::{Deny, Refusal, Reply};
 pub use resolved::Resolved;
 pub use spaces::{Answers, Asks, Fetch, Search};
 pub use states::{Answer, Body, Document, Entry, Session, State};
+pub use taken::Taken;
 pub use terms::{Term, Words};

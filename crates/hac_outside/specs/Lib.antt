@@ -1,4 +1,5 @@
 pub mod Calls
 pub mod Causes
+pub mod Known
 pub mod Memory
 pub mod Seen

@@ -14,11 +14,10 @@ use Rattle.hac_model.specs.declared.states.State.{State}
 use Rattle.hac_model.proofs.JoinLemmas.{first_line-is_unended, bytes-whole, first_items-line, after_item-line, left_by-append, whole-line, whole-unended, play-line, play-of_line}
 use Rattle.hac_model.proofs.PlayLemmas.{apply_all-append, events-lead}
 use Rattle.hac_model.proofs.ScriptLemmas.{script-nothing}
-use Rattle.shell_lang.specs.Reading.{Reading, IsReaderOf, SameTotal}
-use Rattle.shell_lang.specs.declared.taken.Taken.{Taken}
+use Rattle.shell_lang.specs.Reading.{Reading, IsReaderOf, SameTotal, piece_size}
+use Rattle.hac_model.specs.declared.taken.Taken.{Taken}
 use Rattle.shell_lang.specs.declared.reading.Piece.{Piece}
-use Rattle.shell_lang.specs.declared.reading.Piece.TheVariants.{Blank, Bytes, LongLine, End, PastLimit}
-use Rattle.shell_lang.specs.declared.reading.TheConstants.{PIECE}
+use Rattle.shell_lang.specs.declared.reading.Piece.TheVariants.{Blank, Bytes, LongLine, End}
 use Rattle.hac_top.specs.Ends.{IsFinished, finished_status, stopped_status, end_status}
 use Rattle.hac_top.specs.Crashes.{Holds, IsTreeAfter, IsTreeOfAnswered}
 use Rattle.hac_top.specs.Run.{AnswersTaken, AnswersWithin, AnswersPromptly, Outside, Plays, Ran}
@@ -55,7 +54,7 @@ played-whole played whole_is =
 
 pub reader-begin : (r : Reading) (source : SourceSeen) → r ≡ record { held = []; taken = 0; ended = false } → source.ended ≡ false → IsReaderOf r source
 reader-begin r source r_is fresh =
-    subst (λ (q : Reading). IsReaderOf q source) (sym r_is) (record { ended = fresh; nothing = λ e. absurd cc })
+    subst (λ (q : Reading). IsReaderOf q source) (sym r_is) (record { ended = fresh; nothing = λ e. absurd cc; last = λ e. absurd cc; near = omega arith })
 
 total-first : (script : Option (List ℕ)) → SameTotal 0 script 0 script
 total-first None = search rules
@@ -282,7 +281,6 @@ module _ (first : Setting) where
   few-items (Bytes line) taken setting = omega arith
   few-items LongLine taken setting = omega arith
   few-items End taken setting = omega arith
-  few-items PastLimit taken setting = omega arith
 
   -- what is pending is the turns of the line, and then those of the rest
   turns-next : (line : TakenLine) (is_ended : Bool) (bytes rest : List ℕ) (setting : Setting) → GivesTaken line is_ended bytes rest →
@@ -343,7 +341,7 @@ module _ (first : Setting) where
   -- a run stops while it answers a line
   pub stops-within : (stood : Type 0) (image : List ℕ → Type 0) (stop : Stop) (script pending left : Option (List ℕ)) (line : TakenLine) (r : Reading) (is_ended : Bool) (setting : Setting) (refused : Bool) (mid : SinkSeen) (before after : Outside) →
       left ≡ after.source.left → GoesOn first script pending is_ended setting refused before.sink mid → (before.sink.held_back ≡ 0 → mid.held_back ≡ 0) → Gives (Some line) r.ended pending (prepend_known r.held left) →
-      length r.held < PIECE → CutsAnswer stop mid after.sink (told_text (turns setting (items_of_taken line))) → StopsAnswer stop →
+      length r.held < piece_size → CutsAnswer stop mid after.sink (told_text (turns setting (items_of_taken line))) → StopsAnswer stop →
       (stood → (c : List ℕ) → image c → Holds (IsTreeAfter setting.state (all_events (turns setting (items_of_taken line)))) c) →
       (stop ≡ WriteFault → stood → (c : List ℕ) → image c → held c ≡ Ok (left_by setting (turns setting (items_of_taken line)))) →
       IfSome script (λ s. Ran false (stopped_status stop) first s before after stood image)

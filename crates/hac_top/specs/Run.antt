@@ -15,7 +15,7 @@ use Rattle.hac_top.specs.Ends.{IsFinished, finished_status, is_read_fault, is_wr
 use Rattle.hac_top.specs.Told.{Told}
 use Rattle.hac_top.specs.declared.status.Status.{Status}
 use Rattle.hac_top.specs.declared.status.Status.TheVariants.{Usage, ReadFault, WriteFault, DiskFault, Memory, TooLong}
-use Rattle.shell_lang.specs.declared.reading.TheConstants.{PIECE}
+use Rattle.shell_lang.specs.Reading.{piece_size}
 
 -- what a run works on, as it is seen
 pub record Outside : Type 0 where
@@ -87,7 +87,7 @@ pub record AnswersPromptly (setting : Setting) (script : List ℕ) (done : ℕ) 
   pub left_is : left ≡ Some rest
   pub whole_is : whole answered ≡ answered
   pub one : after_item line ≡ []
-  pub near : length behind < PIECE
+  pub near : length behind < piece_size
   pub all : (more : List Turn) × (take done (play setting script) ≡ play setting answered ++ more)
 
 -- However the run ends, the replies are those of the plain tree, none ahead of time and none late. A reply is cut off

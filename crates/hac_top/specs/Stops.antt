@@ -14,6 +14,7 @@ use Rattle.hac_top.specs.declared.stops.Stop.TheVariants.{ReadFault, WriteFault,
 abbrev pub stop_of : LineFault → Stop
 stop_of line.Read = ReadFault
 stop_of line.Memory = Memory
+stop_of line.TooLong = TooLong
 
 -- a read failed
 abbrev pub is_read_stop : {T : Type 0} → Result T Stop → Bool

@@ -1,18 +1,19 @@
 -- What a run takes up at a time: a line, and what came of the bytes that belong to it.
-use Rattle.std.specs.Prelude.{◌≡◌, ℕ, ◌<◌, ◌≤◌, Bool, true, false, ⊤, List, [], ◌∷◌, ◌++◌, length, drop, Option, None, Some, Err}
+use Rattle.std.specs.Prelude.{◌≡◌, ℕ, ◌<◌, ◌≤◌, Bool, true, false, List, [], ◌∷◌, ◌++◌, length, drop, Option, None, Some, Err}
 use Rattle.std.specs.Option.{option_map, unwrap_or}
-use Rattle.hac_model.specs.Lines.{Item, put_length}
+use Rattle.hac_model.specs.Lines.{Item, item_taken, put_length}
+use Rattle.hac_model.specs.Puts.{came}
 use Rattle.hac_model.specs.Script.{first_items, after_item, is_first_whole, whole}
 use Rattle.hac_model.specs.declared.limits.LimitWord.TheVariants as limit
 use Rattle.hac_model.specs.declared.limits.TheConstants.{SCRIPT_LIMIT}
-use Rattle.shell_lang.specs.Told.{came, item_taken}
-use Rattle.shell_lang.specs.declared.taken.Taken.{Taken}
 use Rattle.hac_model.specs.declared.replies.Refusal.TheVariants.{Limit}
+use Rattle.hac_model.specs.declared.taken.Taken.{Taken}
+use Rattle.hac_outside.specs.Known.{Known}
+use Rattle.hac_outside.specs.Seen.{SourceSeen}
 use Rattle.shell_lang.specs.Pieces.{GoesOn}
-use Rattle.shell_lang.specs.Reading.{Reading}
-use Rattle.shell_lang.specs.declared.reading.TheConstants.{PIECE}
+use Rattle.shell_lang.specs.Reading.{Reading, given, pending, piece_size, IsReaderBehind}
 use Rattle.shell_lang.specs.declared.reading.Piece.{Piece}
-use Rattle.shell_lang.specs.declared.reading.Piece.TheVariants.{Blank, Bytes, LongLine, End, PastLimit}
+use Rattle.shell_lang.specs.declared.reading.Piece.TheVariants.{Blank, Bytes, LongLine, End}
 use Rattle.hac_top.specs.declared.taking.TakenLine.{TakenLine}
 
 -- the items of a piece of the script, given what came of the bytes that it asks for
@@ -21,7 +22,6 @@ items_of_piece Blank taken = []
 items_of_piece (Bytes line) taken = item_taken line taken ∷ []
 items_of_piece LongLine taken = Err (Limit limit.Line) ∷ []
 items_of_piece End taken = []
-items_of_piece PastLimit taken = []
 
 abbrev pub items_of_taken : TakenLine → List Item
 items_of_taken line = items_of_piece line.piece line.taken
@@ -32,7 +32,6 @@ due_of_piece Blank = None
 due_of_piece (Bytes line) = put_length line
 due_of_piece LongLine = None
 due_of_piece End = None
-due_of_piece PastLimit = None
 
 -- it is the first line of these bytes, which is whole where the stream goes on; then the rest is pending, and there
 -- is none where the stream has ended
@@ -49,9 +48,7 @@ GivesFrom (Some line) ended bytes rest = GivesTaken line ended bytes rest
 
 -- the same, if the source tells what it has left
 abbrev pub Gives : Option TakenLine → Bool → Option (List ℕ) → Option (List ℕ) → Type 0
-Gives line ended None new = ⊤
-Gives line ended (Some bytes) None = ⊥
-Gives line ended (Some bytes) (Some rest) = GivesFrom line ended bytes rest
+Gives line ended old new = Known (GivesFrom line ended) old new
 
 -- how the reader meets the limit of a script
 abbrev pub Advances : Option TakenLine → Reading → Reading → Type 0
@@ -63,24 +60,14 @@ pub record TakesDue (due : Option ℕ) (taken : Option Taken) (ended : Bool) (by
   pub taken_is : taken ≡ option_map (λ count. came count bytes) due
   pub behind : rest ≡ drop (unwrap_or due 0) bytes
   pub all : ended ≡ false → unwrap_or due 0 ≤ length bytes
+  pub last : ended ≡ true → rest ≡ []
 
-abbrev pub TakesBehind : Option ℕ → Option Taken → Bool → Option (List ℕ) → Option (List ℕ) → Type 0
-TakesBehind due taken ended None new = ⊤
-TakesBehind due taken ended (Some bytes) None = ⊥
-TakesBehind due taken ended (Some bytes) (Some rest) = TakesDue due taken ended bytes rest
-
--- not all bytes that a piece asks for came, and `beyond` were taken beyond the limit of a script
-pub record LacksDue (due : Option ℕ) (beyond : ℕ) (bytes left : List ℕ) : Type 0 where
-  pub front : List ℕ
-  pub over : List ℕ
-  pub bytes_are : bytes ≡ front ++ (over ++ left)
-  pub over_is : length over ≡ beyond
-  pub short : length front < unwrap_or due 0
-
-abbrev pub Lacks : Option ℕ → ℕ → Option (List ℕ) → Option (List ℕ) → Type 0
-Lacks due beyond None left = ⊤
-Lacks due beyond (Some bytes) None = ⊥
-Lacks due beyond (Some bytes) (Some left) = LacksDue due beyond bytes left
+-- the same of a reader and its source: the bytes lie within the limit of a script, and less than one piece is held then
+pub record GivesDue (due : Option ℕ) (taken : Option Taken) (old new : Reading) (before after : SourceSeen) : Type 0 where
+  pub bytes : Known (TakesDue due taken new.ended) (pending old before.left) (pending new after.left)
+  pub further : given old ≤ given new
+  pub limit : given new ≤ SCRIPT_LIMIT
+  pub source : IsReaderBehind 0 new after
 
 -- what was taken holds no whole line, and `beyond` bytes of it lie beyond the limit of a script
 pub record CutsLine (beyond : ℕ) (bytes left : List ℕ) : Type 0 where
@@ -91,9 +78,7 @@ pub record CutsLine (beyond : ℕ) (bytes left : List ℕ) : Type 0 where
   pub none : whole front ≡ []
 
 abbrev pub Cuts : ℕ → Option (List ℕ) → Option (List ℕ) → Type 0
-Cuts beyond None left = ⊤
-Cuts beyond (Some bytes) None = ⊥
-Cuts beyond (Some bytes) (Some left) = CutsLine beyond bytes left
+Cuts beyond bytes left = Known (CutsLine beyond) bytes left
 
 -- of what was pending one line was taken, with those of its bytes that came, and less than one piece behind them
 pub record StopsIn (bytes left : List ℕ) : Type 0 where
@@ -101,9 +86,7 @@ pub record StopsIn (bytes left : List ℕ) : Type 0 where
   pub behind : List ℕ
   pub bytes_are : bytes ≡ line ++ (behind ++ left)
   pub one : after_item line ≡ []
-  pub near : length behind < PIECE
+  pub near : length behind < piece_size
 
 abbrev pub StopsAt : Option (List ℕ) → Option (List ℕ) → Type 0
-StopsAt None left = ⊤
-StopsAt (Some bytes) None = ⊥
-StopsAt (Some bytes) (Some left) = StopsIn bytes left
+StopsAt bytes left = Known StopsIn bytes left

@@ -12,16 +12,16 @@ ghost use Rattle.hac_top.specs.Crashes.{Stores};
 ghost use Rattle.hac_top.specs.Stops.{CutsAnswer, StopsAnswer, StopsTelling, is_disk_stop, is_write_stop};
 ghost use Rattle.hac_top.specs.TakenLines.{items_of_taken};
 ghost use Rattle.hac_top.specs.Told.{told_text};
-ghost use Rattle.shell_lang.specs.Told.{item_taken};
+ghost use Rattle.hac_model.specs.Lines.{item_taken};
 
 use crate::obeying::carry_out;
 use crate::stops::Stop;
 use crate::taking::TakenLine;
 use hac_disk::Disk;
-use hac_model::{LimitWord, Refusal, Reply, Text};
+use hac_model::{LimitWord, Refusal, Reply, Taken, Text};
 use hac_outside::{Failed, Sink, write_all};
 use hac_store::Store;
-use shell_lang::{Piece, Taken, print_reply};
+use shell_lang::{Piece, print_reply};
 use std::alloc::Global;
 
 /// What a run knows between two lines.
@@ -63,7 +63,7 @@ impl Player {
         match piece {
             Piece::Bytes(line) => self.answer_line(output, disk, line, taken),
             Piece::LongLine => self.tell(output, Reply::Refused(Refusal::Limit(LimitWord::Line))),
-            Piece::Blank | Piece::End | Piece::PastLimit => Ok(()),
+            Piece::Blank | Piece::End => Ok(()),
         }
     }
 

@@ -4,21 +4,20 @@ ghost use Rattle.hac_core.specs.Drafts.{IsDraft, reads};
 ghost use Rattle.hac_core.specs.Settling.{settled_events};
 ghost use Rattle.hac_disk.specs.Told.{HasByteAt};
 ghost use Rattle.hac_model.specs.Laws.{AllHappen};
-ghost use Rattle.hac_model.specs.Lines.{is_spelled};
+ghost use Rattle.hac_model.specs.Lines.{is_spelled, item_taken};
 ghost use Rattle.hac_model.specs.Play.{after_events, have_room, turn, turn_of};
 ghost use Rattle.hac_model.specs.declared.events.Event.TheVariants as event;
 ghost use Rattle.hac_store.specs.Stores.{Stands, intact};
 ghost use Rattle.hac_top.specs.Crashes.{Stores};
 ghost use Rattle.hac_top.specs.Obeying.{is_disk_fault, kept_events, kept_reply};
 ghost use Rattle.hac_top.specs.Stops.{IsDenial, StopsCommand, is_disk_stop};
-ghost use Rattle.shell_lang.specs.Told.{item_taken};
 
 use crate::stops::Stop;
 use hac_core::{Draft, Settled};
 use hac_disk::Disk;
-use hac_model::{Deny, Limit, LimitWord, Line, Memory, Refusal, Reply, Seq, Text};
+use hac_model::{Deny, Limit, LimitWord, Line, Memory, Refusal, Reply, Seq, Taken, Text};
 use hac_store::{Store, StoreFault};
-use shell_lang::{Taken, parse_line};
+use shell_lang::parse_line;
 use std::alloc::Global;
 
 // The most index steps that one append takes.

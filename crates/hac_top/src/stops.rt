@@ -28,6 +28,7 @@ impl From<LineFault> for Stop {
         match fault {
             LineFault::Read => Stop::ReadFault,
             LineFault::Memory => Stop::Memory,
+            LineFault::TooLong => Stop::TooLong,
         }
     }
 }

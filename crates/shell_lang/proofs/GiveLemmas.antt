@@ -1,8 +1,9 @@
 -- A line that is given is the first line of what is pending.
-use Rattle.std.proofs.Common.{◌≡◌, ℕ, ◌+◌, ◌<◌, Bool, true, false, List, ◌++◌, length, take, drop, ap, sym, ◌∙◌, arith, rules, length-append, subst, refl, Option, Some, None, Result, Ok, Err, IfOk, OnOk}
-use Rattle.std.specs.Prelude.{nat_le, nat_lt, if◌then◌else◌}
+use Rattle.std.proofs.Common.{◌≡◌, ℕ, ◌+◌, ◌<◌, Bool, true, false, List, [], ◌++◌, length, take, drop, ap, sym, arith, length-append, length-drop, subst, refl, Option, Some, None, Result, Ok, Err, IfOk, OnOk}
+use Rattle.std.specs.Prelude.{nat_le, nat_lt, if◌then◌else◌, MatchResult, OnErr}
 use Rattle.std.specs.List.{position_or_len}
 use Rattle.std.specs.Io.KnownBytes.{Keeps, prepend_known}
+use Rattle.hac_outside.specs.Known.{Known}
 use Rattle.hac_outside.specs.Seen.{SourceSeen}
 use Rattle.std.proofs.lemmas.Grind.{common_steps}
 use Rattle.hac_model.specs.Bytes.{is_line_end}
@@ -13,16 +14,16 @@ use Rattle.shell_lang.specs.declared.reading.Piece.{Piece}
 use Rattle.shell_lang.specs.declared.reading.Piece.TheVariants.{Blank, Bytes, LongLine}
 use Rattle.shell_lang.specs.declared.reading.LineFault.{LineFault}
 use Rattle.shell_lang.specs.declared.reading.Found.TheVariants.{Ended}
-use Rattle.shell_lang.specs.Reading.{Reading, IsReading, IsUnended, ReadsOn}
-use Rattle.shell_lang.specs.Pieces.{piece_of, GivesLine, GivesPieceFrom, GivesPiece, IsLineFound}
+use Rattle.shell_lang.specs.Reading.{Reading, IsReaderBehind, IsReaderOf, IsUnended, ReadsOn}
+use Rattle.shell_lang.specs.Pieces.{piece_of, GivesLine, GivesPiece, IsLineFound}
 
 -- a line is given as a piece that has a line's clauses
-from_line : (line : List ℕ) (ended : Bool) (bytes rest : List ℕ) → GivesLine (piece_of line) ended bytes rest → GivesPieceFrom (piece_of line) ended bytes rest
+from_line : (line : List ℕ) (ended : Bool) (bytes rest : List ℕ) → GivesLine (piece_of line) ended bytes rest → GivesPiece (piece_of line) ended bytes rest
 from_line line ended bytes rest h =
-    elim (is_quiet line) as (λ q. GivesLine (if q then Blank else (if nat_le (length line) LINE_LIMIT then Bytes line else LongLine)) ended bytes rest → GivesPieceFrom (if q then Blank else (if nat_le (length line) LINE_LIMIT then Bytes line else LongLine)) ended bytes rest) [
+    elim (is_quiet line) as (λ q. GivesLine (if q then Blank else (if nat_le (length line) LINE_LIMIT then Bytes line else LongLine)) ended bytes rest → GivesPiece (if q then Blank else (if nat_le (length line) LINE_LIMIT then Bytes line else LongLine)) ended bytes rest) [
       | true ↦ (λ h. h)
       | false ↦
-          elim (nat_le (length line) LINE_LIMIT) as (λ s. GivesLine (if s then Bytes line else LongLine) ended bytes rest → GivesPieceFrom (if s then Bytes line else LongLine) ended bytes rest) [ true ↦ (λ h. h) | false ↦ (λ h. h) ]
+          elim (nat_le (length line) LINE_LIMIT) as (λ s. GivesLine (if s then Bytes line else LongLine) ended bytes rest → GivesPiece (if s then Bytes line else LongLine) ended bytes rest) [ true ↦ (λ h. h) | false ↦ (λ h. h) ]
     ] h
 
 -- more behind it doesn't take a line's end away
@@ -42,35 +43,52 @@ ended_line_given held more ended goes h =
     }
 
 -- where a line with its end is held, the source has not ended
-goes_on : (reading : Reading) → IsReading reading → position_or_len is_line_end reading.held < length reading.held → reading.ended ≡ false
-goes_on reading sound inside =
+goes_on : (reading : Reading) → (reading.ended ≡ true → IsUnended reading.held) → position_or_len is_line_end reading.held < length reading.held → reading.ended ≡ false
+goes_on reading last inside =
     elim reading.ended as (λ b. (b ≡ true → IsUnended reading.held) → b ≡ false) [
       | true ↦ (λ last. let unended : IsUnended reading.held = last refl in absurd (omega (arith, unended, inside)))
       | false ↦ (λ last. refl)
-    ] sound.last
+    ] last
 
 -- an ended line is given of what is pending
-pub gives-ended : (old mid new : Reading) (before after : Option (List ℕ)) (piece : Piece) (end : ℕ) → IsReading mid → Keeps (prepend_known old.held before) (prepend_known mid.held after) →
-    end ≡ position_or_len is_line_end mid.held → end < length mid.held → piece ≡ piece_of (take end mid.held) → new ≡ record mid { held = drop (end + 1) mid.held } →
-    GivesPiece piece new.ended (prepend_known old.held before) (prepend_known new.held after)
-gives-ended old mid new None after piece end sound keeps place inside piece_is new_is = search rules
-gives-ended old mid new (Some x) None piece end sound keeps place inside piece_is new_is = absurd keeps
-gives-ended old mid new (Some x) (Some y) piece end sound keeps place inside piece_is new_is =
-    let inside_is : position_or_len is_line_end mid.held < length mid.held = rw (sym place) inside in
-    let goes : new.ended ≡ false = ap (λ (r : Reading). r.ended) new_is ∙ goes_on mid sound inside_is in
+gives-ended : (old left : Option (List ℕ)) (mid : Reading) → Keeps old (prepend_known mid.held left) → position_or_len is_line_end mid.held < length mid.held → mid.ended ≡ false →
+    Known (GivesPiece (piece_of (take (position_or_len is_line_end mid.held) mid.held)) mid.ended) old (prepend_known (drop (position_or_len is_line_end mid.held + 1) mid.held) left)
+gives-ended None left mid keeps inside goes = tt
+gives-ended (Some x) None mid keeps inside goes = absurd keeps
+gives-ended (Some x) (Some y) mid keeps inside goes =
     let line = take (position_or_len is_line_end mid.held) mid.held in
-    let as_line : piece ≡ piece_of line = piece_is ∙ ap (λ (n : ℕ). piece_of (take n mid.held)) place in
-    let rest : drop (position_or_len is_line_end mid.held + 1) mid.held ≡ new.held = ap (λ (n : ℕ). drop (n + 1) mid.held) (sym place) ∙ sym (ap (λ (r : Reading). r.held) new_is) in
-    let given : GivesPieceFrom (piece_of line) new.ended (mid.held ++ y) (drop (position_or_len is_line_end mid.held + 1) mid.held ++ y) =
-    from_line line new.ended (mid.held ++ y) (drop (position_or_len is_line_end mid.held + 1) mid.held ++ y) (ended_line_given mid.held y new.ended goes inside_is) in
-    subst (λ (p : Piece). GivesPieceFrom p new.ended (old.held ++ x) (new.held ++ y)) (sym as_line)
-    (subst (λ (bytes : List ℕ). GivesPieceFrom (piece_of line) new.ended bytes (new.held ++ y)) keeps
-    (subst (λ (held : List ℕ). GivesPieceFrom (piece_of line) new.ended (mid.held ++ y) (held ++ y)) rest given))
+    let rest = drop (position_or_len is_line_end mid.held + 1) mid.held ++ y in
+    subst (λ (bytes : List ℕ). GivesPiece (piece_of (take (position_or_len is_line_end mid.held) mid.held)) mid.ended bytes (drop (position_or_len is_line_end mid.held + 1) mid.held ++ y)) keeps
+    (from_line line mid.ended (mid.held ++ y) rest (ended_line_given mid.held y mid.ended goes inside))
 
 -- the same of what the call that gives an ended line answers
-pub gives-ended-told : (result : Result Piece LineFault) (old mid new : Reading) (before after : SourceSeen) (end : ℕ) → IsReading mid → ReadsOn old mid before after →
+pub gives-ended-told : (result : Result Piece LineFault) (old mid new : Reading) (before after : SourceSeen) (end : ℕ) → IsReaderOf mid after → ReadsOn old mid before after →
     IsLineFound (Ended end) mid → IfOk result (λ piece. piece ≡ piece_of (take end mid.held)) → OnOk result (new ≡ record mid { held = drop (end + 1) mid.held }) →
-    IfOk result (λ piece. GivesPiece piece new.ended (prepend_known old.held before.left) (prepend_known new.held after.left))
-gives-ended-told (Ok piece) old mid new before after end sound reads found piece_is new_is =
-    gives-ended old mid new before.left after.left piece end sound reads.pending found.0 found.1 piece_is new_is
-gives-ended-told (Err fault) old mid new before after end sound reads found piece_is new_is = search rules
+    IfOk result (λ piece. Known (GivesPiece piece new.ended) (prepend_known old.held before.left) (prepend_known new.held after.left))
+gives-ended-told (Ok piece) old mid new before after end source reads found piece_is new_is =
+    let inside : position_or_len is_line_end mid.held < length mid.held = rw (sym found.0) found.1 in
+    let given = gives-ended (prepend_known old.held before.left) after.left mid reads.pending inside (goes_on mid source.last inside) in
+    let here : Known (GivesPiece (piece_of (take end mid.held)) mid.ended) (prepend_known old.held before.left) (prepend_known (drop (end + 1) mid.held) after.left) =
+    subst (λ (n : ℕ). Known (GivesPiece (piece_of (take n mid.held)) mid.ended) (prepend_known old.held before.left) (prepend_known (drop (n + 1) mid.held) after.left)) (sym found.0) given in
+    subst (λ (p : Piece). Known (GivesPiece p new.ended) (prepend_known old.held before.left) (prepend_known new.held after.left)) (sym piece_is)
+    (subst (λ (r : Reading). Known (GivesPiece (piece_of (take end mid.held)) r.ended) (prepend_known old.held before.left) (prepend_known r.held after.left)) (sym new_is) here)
+gives-ended-told (Err fault) old mid new before after end source reads found piece_is new_is = tt
+
+-- a reader is behind a line that was given
+pub line-ended : (result : Result Piece LineFault) (mid new : Reading) (after : SourceSeen) (end : ℕ) → IsReaderOf mid after → IsLineFound (Ended end) mid →
+    OnOk result (new ≡ record mid { held = drop (end + 1) mid.held }) → OnErr result (new ≡ mid) → MatchResult result (λ _. IsReaderBehind 0 new after) (λ _. IsReaderOf new after)
+line-ended (Ok piece) mid new after end source found new_is same =
+    subst (λ (r : Reading). IsReaderBehind 0 r after) (sym new_is) (record {
+      ended = source.ended;
+      nothing = source.nothing;
+      last = λ e. let unended : IsUnended mid.held = source.last e in absurd (omega (arith, unended, found.0, found.1));
+      near = omega (arith, source.near, found.0, found.1, length-drop (end + 1) mid.held);
+    })
+line-ended (Err fault) mid new after end source found new_is same = subst (λ (r : Reading). IsReaderOf r after) (sym same) source
+
+-- and where all that is held was given
+pub line-last : (result : Result Piece LineFault) (mid new : Reading) (after : SourceSeen) → IsReaderOf mid after → OnOk result (new ≡ record mid { held = [] }) → OnErr result (new ≡ mid) →
+    MatchResult result (λ _. IsReaderBehind 0 new after) (λ _. IsReaderOf new after)
+line-last (Ok piece) mid new after source new_is same =
+    subst (λ (r : Reading). IsReaderBehind 0 r after) (sym new_is) (record { ended = source.ended; nothing = source.nothing; last = λ e. refl; near = omega arith })
+line-last (Err fault) mid new after source new_is same = subst (λ (r : Reading). IsReaderOf r after) (sym same) source

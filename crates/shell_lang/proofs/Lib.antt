@@ -5,4 +5,3 @@ pub mod QuoteLemmas
 pub mod TakeLemmas
 pub mod RawLemmas
 pub mod PutLemmas
-pub mod ToldLemmas

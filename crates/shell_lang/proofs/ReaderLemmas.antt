@@ -1,17 +1,16 @@
 -- A reader at the limit of a script, and a reader that has taken one more piece.
-use Rattle.std.proofs.Common.{◌≡◌, ℕ, ◌+◌, ◌-◌, ◌<◌, ◌≤◌, Bool, true, false, List, [], ◌∷◌, ◌++◌, length, refl, ap, sym, ◌∙◌, arith, rules, append_assoc, length-append, append-nil, subst, Option, Some, None}
+use Rattle.std.proofs.Common.{◌≡◌, ℕ, ◌+◌, ◌-◌, ◌<◌, ◌≤◌, Bool, true, false, List, ◌++◌, length, refl, ap, sym, ◌∙◌, arith, rules, append_assoc, length-append, subst, Option, Some, None}
 use Rattle.std.proofs.lemmas.Bool.{eqb-true}
-use Rattle.std.specs.Prelude.{nat_eq, position, not}
+use Rattle.std.specs.Prelude.{max, nat_eq, position, not}
 use Rattle.std.proofs.lemmas.List.Folds.{prefix_len-append}
 use Rattle.std.specs.List.{position_or_len}
 use Rattle.std.specs.Io.KnownBytes.{prepend_known, Keeps, Consumes}
 use Rattle.std.proofs.lemmas.Grind.{common_steps}
 use Rattle.hac_model.specs.Bytes.{is_line_end}
 use Rattle.hac_model.specs.Script.{is_first_ended}
-use Rattle.hac_model.specs.declared.limits.TheConstants.{SCRIPT_LIMIT}
+use Rattle.hac_model.specs.declared.limits.TheConstants.{SCRIPT_LIMIT, TEXT_LIMIT}
 use Rattle.hac_outside.specs.Seen.{SourceSeen}
-use Rattle.shell_lang.specs.Reading.{Reading, IsReading, IsUnended, IsReaderOf, SameTotal, ReadsOn, ReadsPiece}
-use Rattle.shell_lang.specs.declared.reading.TheConstants.{PIECE}
+use Rattle.shell_lang.specs.Reading.{Reading, IsReading, IsUnended, IsReaderOf, SameTotal, ReadsOn, ReadsPiece, piece_size}
 use Rattle.shell_lang.specs.Pieces.{IsPastLimit}
 use Rattle.hac_model.proofs.JoinLemmas.{position-ended}
 use Rattle.hac_model.proofs.PrefixLemmas.{unended-take, position-none}
@@ -62,11 +61,12 @@ reads-piece old bytes count most before after unended kept read =
       taken = omega arith;
       given = omega (arith, ap length read.bytes, length-append old.held read.piece, read.length_is);
       total = subst (λ (n : ℕ). SameTotal old.taken before.left (old.taken + n) after.left) read.length_is (total_piece old.taken read.piece before.left after.left read.source);
-      source = record { ended = read.ended; nothing = λ e. read.end (eqb-true count 0 e) };
+      ended = read.ended;
+      nothing = λ e. read.end (eqb-true count 0 e);
       stays = λ e. cc;
     }
 
-keeps_on : (a b c : Option (List ℕ)) → Keeps a b → Keeps b c → Keeps a c
+pub keeps_on : (a b c : Option (List ℕ)) → Keeps a b → Keeps b c → Keeps a c
 keeps_on None b c first second = search rules
 keeps_on (Some x) None c first second = absurd first
 keeps_on (Some x) (Some y) None first second = absurd second
@@ -87,7 +87,8 @@ reads-on r s t a b c first second =
       taken = omega (arith, first.taken, second.taken);
       given = second.given ∙ first.given;
       total = total_on r.taken s.taken t.taken a.left b.left c.left first.total second.total;
-      source = second.source;
+      ended = second.ended;
+      nothing = second.nothing;
       stays = λ e. second.stays (first.stays e);
     }
 
@@ -95,9 +96,9 @@ reads-on r s t a b c first second =
 pub unended-told : (bytes held : List ℕ) → bytes ≡ held → None ≡ position is_line_end bytes → IsUnended held
 unended-told bytes held same none = subst (λ (xs : List ℕ). IsUnended xs) same (position-none is_line_end bytes (sym none))
 
--- what has no line end has none after more was read
-pub scanned-piece : (held more : List ℕ) → IsUnended held → length held ≤ position_or_len is_line_end (held ++ more)
-scanned-piece held more unended = grind (arith, common_steps, prefix_len-append (λ b. not (is_line_end b)) held more)
+-- more behind it doesn't bring a line end nearer
+position-more : (held more : List ℕ) → position_or_len is_line_end held ≤ position_or_len is_line_end (held ++ more)
+position-more held more = grind (arith, common_steps, prefix_len-append (λ b. not (is_line_end b)) held more)
 
 -- a line end that was held is held after more was read
 pub ended-unended : (held more piece : List ℕ) → is_first_ended held ≡ true → more ≡ held ++ piece → IsUnended more → ⊥
@@ -106,32 +107,38 @@ ended-unended held more piece ended grown unended =
     let place : position_or_len is_line_end more ≡ position_or_len is_line_end held = ap (λ (xs : List ℕ). position_or_len is_line_end xs) grown ∙ position-ended held piece inside in
     omega (arith, place, unended, ap length grown, length-append held piece)
 
-no_bytes : (bytes : List ℕ) → length bytes ≡ 0 → bytes ≡ []
-no_bytes [] none = refl
-no_bytes (byte ∷ bytes) none = absurd (omega arith)
-
--- a piece that was put behind a line that has no end leaves a reader sound
-pub reading-piece : (old : Reading) (bytes : List ℕ) (count most : ℕ) (before after : SourceSeen) → IsReading old → old.taken ≤ SCRIPT_LIMIT → IsUnended old.held →
-    most ≤ PIECE → most + old.taken ≤ SCRIPT_LIMIT + 1 → ReadsPiece old.held bytes before after count most →
-    IsReading (record { held = bytes; taken = old.taken + count; ended = nat_eq count 0 })
-reading-piece old bytes count most before after sound more_may unended small room read =
+-- a piece that was put behind what is held leaves a reader sound
+pub reading-piece : (old : Reading) (bytes : List ℕ) (count most : ℕ) (before after : SourceSeen) → IsReading old → old.taken ≤ SCRIPT_LIMIT →
+    most + old.taken ≤ SCRIPT_LIMIT + 1 → ReadsPiece old.held bytes before after count most → IsReading (record { held = bytes; taken = old.taken + count; ended = nat_eq count 0 })
+reading-piece old bytes count most before after sound more_may room read =
     let more : length bytes ≡ length old.held + count = omega (arith, ap length read.bytes, length-append old.held read.piece, read.length_is) in
-    let scanned : length old.held ≤ position_or_len is_line_end bytes = subst (λ (xs : List ℕ). length old.held ≤ position_or_len is_line_end xs) (sym read.bytes) (scanned-piece old.held read.piece unended) in
     record {
       kept = omega (arith, sound.kept, more);
       limit = omega (arith, room, read.within);
       ended = λ e. let none : count ≡ 0 = eqb-true count 0 e in omega (arith, none, more_may);
       given = omega (arith, sound.given, more);
-      near = omega (arith, more, scanned, small, read.within);
-      last = λ e.
-          let none : read.piece ≡ [] = no_bytes read.piece (read.length_is ∙ eqb-true count 0 e) in
-          subst (λ (xs : List ℕ). IsUnended xs) (sym (read.bytes ∙ ap (λ (xs : List ℕ). old.held ++ xs) none ∙ append-nil old.held)) unended;
     }
 
--- what was scanned is still so, and what is behind it is one piece at most
-pub scanned-on : (old bytes : List ℕ) (count most : ℕ) (before after : SourceSeen) → IsUnended old → most ≤ PIECE → ReadsPiece old bytes before after count most →
-    (length old ≤ position_or_len is_line_end bytes) × (length bytes ≤ length old + PIECE)
-scanned-on old bytes count most before after unended small read = (
-  subst (λ (xs : List ℕ). length old ≤ position_or_len is_line_end xs) (sym read.bytes) (scanned-piece old read.piece unended),
-  omega (arith, ap length read.bytes, length-append old read.piece, read.length_is, read.within, small),
-)
+-- what was scanned has no line end after more was read
+pub scanned-on : (old bytes : List ℕ) (scanned count most : ℕ) (before after : SourceSeen) → scanned ≤ position_or_len is_line_end old → ReadsPiece old bytes before after count most →
+    scanned ≤ position_or_len is_line_end bytes
+scanned-on old bytes scanned count most before after known read =
+    omega (arith, known, position-more old read.piece, ap (λ (xs : List ℕ). position_or_len is_line_end xs) read.bytes)
+
+-- what is in memory after a piece was put behind what is held
+pub filled-kept : (old bytes : List ℕ) (count most : ℕ) (before after : SourceSeen) → length old ≤ max (position_or_len is_line_end old) TEXT_LIMIT → most ≤ piece_size → ReadsPiece old bytes before after count most →
+    length bytes ≤ max (position_or_len is_line_end bytes) TEXT_LIMIT + piece_size
+filled-kept old bytes count most before after few small read =
+    omega (arith, few, small, read.within, ap length read.bytes, length-append old read.piece, read.length_is, position-more old read.piece, ap (λ (xs : List ℕ). position_or_len is_line_end xs) read.bytes)
+
+-- a reader that held no line end is at a line after it was filled
+pub line-filled : (now new : Reading) (mid after : SourceSeen) → IsUnended now.held → ReadsOn now new mid after → length new.held ≤ length now.held + piece_size → (new.ended ≡ true → new.held ≡ now.held) → IsReaderOf new after
+line-filled now new mid after unended reads near end =
+    let longer = position-more now.held reads.held.0 in
+    let same = ap (λ (xs : List ℕ). position_or_len is_line_end xs) reads.held.1 in
+    record {
+      ended = reads.ended;
+      nothing = reads.nothing;
+      last = λ e. subst (λ (xs : List ℕ). IsUnended xs) (sym (end e)) unended;
+      near = omega (arith, near, unended, longer, same);
+    }

@@ -1,6 +1,6 @@
 -- A reader that gives the bytes behind a line.
 use Rattle.std.proofs.Common.{◌≡◌, ℕ, ◌+◌, ◌-◌, ◌<◌, ◌≤◌, Bool, true, false, List, [], ◌∷◌, ◌++◌, length, take, drop, refl, ap, sym, ◌∙◌, arith, rules, append_assoc, append-nil, length-append, length-drop, drop-drop, subst, inl, inr, Option, Some, None}
-use Rattle.std.specs.Prelude.{◌⊎◌, nat_le, nat_lt, if◌then◌else◌, min, max, Result, Ok, Err, OnErr}
+use Rattle.std.specs.Prelude.{◌⊎◌, nat_le, nat_lt, if◌then◌else◌, min, max, Result, Ok, Err, IfErr, OnErr}
 use Rattle.std.specs.List.{position_or_len}
 use Rattle.std.specs.Io.KnownBytes.{prepend_known, Keeps, Consumes, IsAtEnd}
 use Rattle.std.proofs.Math.ListN.{drop_of_length-le}
@@ -8,31 +8,18 @@ use Rattle.std.proofs.Math.Seq.{take-append_seam, drop-append_seam, drop-nil}
 use Rattle.std.proofs.lemmas.Grind.{common_steps}
 use Rattle.std.proofs.lemmas.List.{length-take-le, take-append-drop}
 use Rattle.hac_model.specs.Bytes.{is_line_end}
-use Rattle.shell_lang.specs.Told.{came}
+use Rattle.hac_model.specs.Puts.{came}
 use Rattle.hac_model.specs.declared.limits.TheConstants.{SCRIPT_LIMIT, TEXT_LIMIT}
-use Rattle.shell_lang.specs.declared.taken.Taken.{Taken}
-use Rattle.shell_lang.specs.declared.taken.Taken.TheVariants.{Whole, Dropped, Short, PastLimit}
+use Rattle.hac_model.specs.declared.taken.Taken.{Taken}
+use Rattle.hac_model.specs.declared.taken.Taken.TheVariants.{Whole, Dropped, Short}
 use Rattle.hac_model.proofs.PrefixLemmas.{position-skip}
+use Rattle.hac_outside.specs.Known.{Known}
 use Rattle.hac_outside.specs.Seen.{SourceSeen}
-use Rattle.shell_lang.specs.Reading.{Reading, IsReading, IsReaderOf, IsUnended, SameTotal, ReadsOn, given}
-use Rattle.shell_lang.specs.Takes.{Takes, TakesFrom, FallsShort, IsCut, within}
-use Rattle.shell_lang.specs.declared.reading.TheConstants.{PIECE}
-use Rattle.shell_lang.proofs.ReaderLemmas.{total_on}
-
-near-moved : (held : List ℕ) (count : ℕ) → length held < position_or_len is_line_end held + 1 + PIECE → count ≤ length held →
-    length (drop count held) < position_or_len is_line_end (drop count held) + 1 + PIECE
-near-moved held count near inside =
-    elim (nat_le count (position_or_len is_line_end held)) as (λ b. nat_le count (position_or_len is_line_end held) ≡ b → length (drop count held) < position_or_len is_line_end (drop count held) + 1 + PIECE) [
-      | true ↦ (λ test.
-          let before : count ≤ position_or_len is_line_end held = grind (arith, common_steps, test) in
-          omega (arith, near, length-drop count held, position-skip is_line_end count held before))
-      | false ↦ (λ test.
-          let behind : position_or_len is_line_end held < count = grind (arith, common_steps, test) in
-          omega (arith, near, length-drop count held, behind))
-    ] refl
-
-unended-moved : (held : List ℕ) (count : ℕ) → IsUnended held → count ≤ length held → IsUnended (drop count held)
-unended-moved held count unended inside = omega (arith, unended, length-drop count held, position-skip is_line_end count held (omega (arith, unended, inside)))
+use Rattle.shell_lang.specs.Reading.{Reading, IsReading, IsReaderBehind, SameTotal, ReadsOn, given, piece_size}
+use Rattle.shell_lang.specs.Takes.{Takes, Misses, GivesPut, FallsShort, within}
+use Rattle.shell_lang.specs.declared.reading.LineFault.{LineFault}
+use Rattle.shell_lang.specs.declared.reading.LineFault.TheVariants as why
+use Rattle.shell_lang.proofs.ReaderLemmas.{total_on, reads-on}
 
 -- where scanning goes on, after this many bytes were given
 pub scanned-moved : (start scanned count : ℕ) (bytes : List ℕ) → start ≤ scanned → scanned ≤ start + position_or_len is_line_end (drop start bytes) → count ≤ length (drop start bytes) →
@@ -57,24 +44,9 @@ reading-moved old count sound inside =
       limit = sound.limit;
       ended = sound.ended;
       given = omega (arith, sound.given, sound.limit, inside, length-drop count old.held);
-      near = near-moved old.held count sound.near (omega (arith, inside));
-      last = λ e. unended-moved old.held count (sound.last e) (omega (arith, inside));
     }
 
--- bytes were taken of those that were pending, this many are still due, and what was kept is what was taken
-pub record TakesSome (old now : Reading) (before after : SourceSeen) (asked due : ℕ) (keeps : Bool) (text : List ℕ) : Type 0 where
-  pub front : List ℕ
-  pub bytes : Consumes (prepend_known old.held before.left) (prepend_known now.held after.left) front
-  pub counted : length front + due ≡ asked
-  pub kept : keeps ≡ true → text ≡ front
-  pub dropped : keeps ≡ false → text ≡ []
-  pub given : given now ≡ given old + length front
-  pub total : SameTotal old.taken before.left now.taken after.left
-  pub source : IsReaderOf now after
-  pub stays : old.ended ≡ true → now.ended ≡ true
-  pub last : now.ended ≡ true → (old.ended ≡ true) ⊎ (now.held ≡ [])
-  pub near : length now.held < PIECE + due
-
+-- bytes that came, of which the first were given
 consumes-moved : (all after : Option (List ℕ)) (front held : List ℕ) (count : ℕ) → Consumes all (prepend_known held after) front → Consumes all (prepend_known (drop count held) after) (front ++ take count held)
 consumes-moved None after front held count h = search rules
 consumes-moved (Some x) None front held count h = absurd h
@@ -82,30 +54,10 @@ consumes-moved (Some x) (Some y) front held count h =
     h ∙ ap (λ (xs : List ℕ). front ++ (xs ++ y)) (sym (take-append-drop count held)) ∙ ap (λ (xs : List ℕ). front ++ xs) (append_assoc (take count held) (drop count held) y)
     ∙ sym (append_assoc front (take count held) (drop count held ++ y))
 
-moved-last : (held : List ℕ) (count : ℕ) (P : Type 0) → P ⊎ (held ≡ []) → P ⊎ (drop count held ≡ [])
-moved-last held count P (inl p) = inl p
-moved-last held count P (inr none) = inr (ap (λ (xs : List ℕ). drop count xs) none ∙ drop-nil count)
-
--- bytes that are held are taken
-pub takes-moved : (old now new : Reading) (before after : SourceSeen) (asked due count : ℕ) (keeps : Bool) (text more : List ℕ) → TakesSome old now before after asked due keeps text →
-    IsReading now → count ≡ min due (within now) → new ≡ record now { held = drop count now.held } → (keeps ≡ true → more ≡ text ++ take count now.held) → (keeps ≡ false → more ≡ text) →
-    TakesSome old new before after asked (due - count) keeps more
-takes-moved old now new before after asked due count keeps text more was sound count_is new_is more_is same =
-    let inside : count ≤ length now.held = omega (arith, count_is) in
-    let part : length (take count now.held) ≡ count = length-take-le count now.held inside in
-    subst (λ (r : Reading). TakesSome old r before after asked (due - count) keeps more) (sym new_is) (record {
-      front = was.front ++ take count now.held;
-      bytes = consumes-moved (prepend_known old.held before.left) after.left was.front now.held count was.bytes;
-      counted = omega (arith, was.counted, count_is, part, length-append was.front (take count now.held));
-      kept = λ k. more_is k ∙ ap (λ (xs : List ℕ). xs ++ take count now.held) (was.kept k);
-      dropped = λ k. same k ∙ was.dropped k;
-      given = omega (arith, was.given, sound.kept, inside, part, length-drop count now.held, length-append was.front (take count now.held));
-      total = was.total;
-      source = record { ended = was.source.ended; nothing = was.source.nothing };
-      stays = was.stays;
-      last = λ e. moved-last now.held count (old.ended ≡ true) (was.last e);
-      near = omega (arith, was.near, count_is, inside, length-drop count now.held);
-    })
+consumes-none : (all after : Option (List ℕ)) → Keeps all after → Consumes all after []
+consumes-none None after keeps = search rules
+consumes-none (Some x) None keeps = absurd keeps
+consumes-none (Some x) (Some y) keeps = sym keeps
 
 consumes-kept : (all mid new : Option (List ℕ)) (front : List ℕ) → Consumes all mid front → Keeps mid new → Consumes all new front
 consumes-kept None mid new front h keeps = search rules
@@ -113,35 +65,9 @@ consumes-kept (Some x) None new front h keeps = absurd h
 consumes-kept (Some x) (Some y) None front h keeps = absurd keeps
 consumes-kept (Some x) (Some y) (Some z) front h keeps = h ∙ ap (λ (xs : List ℕ). front ++ xs) (sym keeps)
 
--- nothing was held, and more was read
-pub takes-filled : (old now new : Reading) (before mid after : SourceSeen) (asked due : ℕ) (keeps : Bool) (text : List ℕ) → TakesSome old now before mid asked due keeps text →
-    0 < due → now.held ≡ [] → ReadsOn now new mid after → length new.held ≤ length now.held + PIECE → (new.ended ≡ true → new.held ≡ now.held) →
-    TakesSome old new before after asked due keeps text
-takes-filled old now new before mid after asked due keeps text was more none reads near end =
-    record {
-      front = was.front;
-      bytes = consumes-kept (prepend_known old.held before.left) (prepend_known now.held mid.left) (prepend_known new.held after.left) was.front was.bytes reads.pending;
-      counted = was.counted;
-      kept = was.kept;
-      dropped = was.dropped;
-      given = reads.given ∙ was.given;
-      total = total_on old.taken now.taken new.taken before.left mid.left after.left was.total reads.total;
-      source = reads.source;
-      stays = λ e. reads.stays (was.stays e);
-      last = λ e. inr (end e ∙ none);
-      near = omega (arith, near, more, ap length none);
-    }
-
 no_bytes : (bytes : List ℕ) → length bytes ≡ 0 → bytes ≡ []
 no_bytes [] none = refl
 no_bytes (byte ∷ bytes) none = absurd (omega arith)
-
--- where bytes are still due, all that is held within the limit was taken
-pub nothing-held : (now new : Reading) (due count : ℕ) → count ≡ min due (within now) → new ≡ record now { held = drop count now.held } → 0 < due - count → new.taken ≤ SCRIPT_LIMIT → new.held ≡ []
-nothing-held now new due count count_is new_is more within_limit =
-    let held : new.held ≡ drop count now.held = ap (λ (r : Reading). r.held) new_is in
-    let taken : new.taken ≡ now.taken = ap (λ (r : Reading). r.taken) new_is in
-    no_bytes new.held (omega (arith, ap length held, taken, length-drop count now.held, count_is, more, within_limit))
 
 -- all bytes came
 came-whole : (count : ℕ) (front rest : List ℕ) → length front ≡ count → came count (front ++ rest) ≡ (if nat_le count TEXT_LIMIT then Whole front else Dropped)
@@ -157,73 +83,267 @@ came-short count bytes fewer =
     let short : nat_lt (length bytes) count ≡ true = grind (arith, common_steps, fewer) in
     ap (λ (b : Bool). if b then Short else (if nat_le count TEXT_LIMIT then Whole (take count bytes) else Dropped)) short
 
-takes-told : (taken : Taken) (count : ℕ) (bytes rest : List ℕ) → (taken ≡ PastLimit → ⊥) → came count bytes ≡ taken → rest ≡ drop count bytes → TakesFrom taken count bytes rest
-takes-told (Whole text) count bytes rest no_past came_is rest_is = (came_is, rest_is)
-takes-told Dropped count bytes rest no_past came_is rest_is = (came_is, rest_is)
-takes-told Short count bytes rest no_past came_is rest_is = (came_is, rest_is)
-takes-told PastLimit count bytes rest no_past came_is rest_is = absurd (no_past refl)
+at-end : (held : List ℕ) (left : Option (List ℕ)) → held ≡ [] → IsAtEnd left → IsAtEnd (prepend_known held left)
+at-end held None none end = tt
+at-end held (Some l) none end = ap (λ (xs : List ℕ). xs ++ l) none ∙ end
 
-whole_or_dropped : (keeps : Bool) (text : List ℕ) → (if keeps then Whole text else Dropped) ≡ PastLimit → ⊥
-whole_or_dropped true text e = cc
-whole_or_dropped false text e = cc
+-- where the source has ended, nothing is pending behind what was given
+last-moved : (count : ℕ) (now : Reading) → count ≤ within now → (now.held ≡ []) ⊎ (within now < count) → drop count now.held ≡ []
+last-moved count now enough (inl none) = ap (λ (xs : List ℕ). drop count xs) none ∙ drop-nil count
+last-moved count now enough (inr fewer) = absurd (omega (arith, enough, fewer))
 
-kept-front : (keeps : Bool) (text front : List ℕ) → (keeps ≡ true → text ≡ front) → (if keeps then Whole front else Dropped) ≡ (if keeps then Whole text else Dropped)
-kept-front true text front kept = ap Whole (sym (kept refl))
-kept-front false text front kept = refl
+keeps-all : (all : Option (List ℕ)) → Keeps all all
+keeps-all None = search rules
+keeps-all (Some x) = refl
 
-all-taken : (old_known new_known : Option (List ℕ)) (asked : ℕ) (keeps : Bool) (text front : List ℕ) → Consumes old_known new_known front → length front ≡ asked → keeps ≡ nat_le asked TEXT_LIMIT → (keeps ≡ true → text ≡ front) →
-    Takes (if keeps then Whole text else Dropped) asked old_known new_known
-all-taken None new asked keeps text front h counted keeps_is kept = search rules
-all-taken (Some x) None asked keeps text front h counted keeps_is kept = absurd h
-all-taken (Some x) (Some y) asked keeps text front h counted keeps_is kept =
-    takes-told (if keeps then Whole text else Dropped) asked x y (whole_or_dropped keeps text)
-    (ap (λ (xs : List ℕ). came asked xs) h ∙ came-whole asked front y counted ∙ ap (λ (b : Bool). if b then Whole front else Dropped) (sym keeps_is) ∙ kept-front keeps text front kept)
-    (sym (ap (λ (xs : List ℕ). drop asked xs) h ∙ ap (λ (n : ℕ). drop n (front ++ y)) (sym counted) ∙ drop-append_seam front y))
+kept-all : (all : Option (List ℕ)) → Consumes all all []
+kept-all None = search rules
+kept-all (Some x) = refl
 
-pub takes-all : (taken : Taken) (old now : Reading) (before after : SourceSeen) (asked due : ℕ) (keeps : Bool) (text : List ℕ) → TakesSome old now before after asked due keeps text → due ≡ 0 →
-    keeps ≡ nat_le asked TEXT_LIMIT → taken ≡ (if keeps then Whole text else Dropped) → Takes taken asked (prepend_known old.held before.left) (prepend_known now.held after.left)
-takes-all taken old now before after asked due keeps text takes none keeps_is taken_is =
-    subst (λ (t : Taken). Takes t asked (prepend_known old.held before.left) (prepend_known now.held after.left)) (sym taken_is)
-    (all-taken (prepend_known old.held before.left) (prepend_known now.held after.left) asked keeps text takes.front takes.bytes (omega (arith, takes.counted, none)) keeps_is takes.kept)
+same-total : (taken : ℕ) (left : Option (List ℕ)) → SameTotal taken left taken left
+same-total taken None = tt
+same-total taken (Some x) = refl
 
-misses : (known left : Option (List ℕ)) (now : Reading) (asked : ℕ) (front : List ℕ) → Consumes known (prepend_known now.held left) front → length front < asked →
-    length front + length now.held < asked + PIECE → FallsShort asked now known left
-misses None left now asked front h short near = search rules
-misses (Some x) None now asked front h short near = absurd h
-misses (Some x) (Some y) now asked front h short near = record { front = front; bytes_are = h; short = short; near = near }
+-- all bytes that were asked for are taken
+takes-all : (ended : Bool) (old new : Option (List ℕ)) (asked : ℕ) (front : List ℕ) → Consumes old new front → length front ≡ asked → (ended ≡ true → IsAtEnd new) →
+    Known (Takes (if nat_le asked TEXT_LIMIT then Whole front else Dropped) asked ended) old new
+takes-all ended None new asked front h counted last = tt
+takes-all ended (Some x) None asked front h counted last = absurd h
+takes-all ended (Some x) (Some y) asked front h counted last =
+    record {
+      taken_is = sym (ap (λ (xs : List ℕ). came asked xs) h ∙ came-whole asked front y counted);
+      behind = sym (ap (λ (xs : List ℕ). drop asked xs) h ∙ ap (λ (n : ℕ). drop n (front ++ y)) (sym counted) ∙ drop-append_seam front y);
+      whole = λ _. omega (arith, ap length h, length-append front y, counted);
+      last = last;
+    }
 
--- where bytes are still due, fewer came than were asked for
-pub falls-short : (old now : Reading) (before after : SourceSeen) (asked due : ℕ) (keeps : Bool) (text : List ℕ) → TakesSome old now before after asked due keeps text → 0 < due →
-    FallsShort asked now (prepend_known old.held before.left) after.left
-falls-short old now before after asked due keeps text takes more =
-    misses (prepend_known old.held before.left) after.left now asked takes.front takes.bytes (omega (arith, takes.counted, more)) (omega (arith, takes.counted, takes.near))
-
--- and where nothing is pending, all bytes that there are came
-short-taken : (old_known after : Option (List ℕ)) (asked : ℕ) (front held : List ℕ) → Consumes old_known (prepend_known held after) front → length front < asked → held ≡ [] → IsAtEnd after → Takes Short asked old_known (prepend_known held after)
-short-taken None after asked front held h short none end = search rules
-short-taken (Some x) None asked front held h short none end = absurd h
-short-taken (Some x) (Some y) asked front held h short none end =
-    let nothing : held ++ y ≡ [] = ap (λ (xs : List ℕ). xs ++ y) none ∙ end in
-    let all : x ≡ front = h ∙ ap (λ (xs : List ℕ). front ++ xs) nothing ∙ append-nil front in
+-- and where nothing is left, all bytes that there are
+takes-short : (ended : Bool) (old new : Option (List ℕ)) (asked : ℕ) (front : List ℕ) → Consumes old new front → length front < asked → ended ≡ true → IsAtEnd new → Known (Takes Short asked ended) old new
+takes-short ended None new asked front h short over end = tt
+takes-short ended (Some x) None asked front h short over end = absurd h
+takes-short ended (Some x) (Some y) asked front h short over end =
+    let all : x ≡ front = h ∙ ap (λ (xs : List ℕ). front ++ xs) end ∙ append-nil front in
     let fewer : length x < asked = omega (arith, ap length all, short) in
-    (came-short asked x fewer, nothing ∙ sym (drop_of_length-le x (omega (arith, fewer))))
+    record {
+      taken_is = sym (came-short asked x fewer);
+      behind = end ∙ sym (drop_of_length-le x (omega (arith, fewer)));
+      whole = λ goes. absurd cc;
+      last = λ _. end;
+    }
 
-past-taken : (old_known new_known : Option (List ℕ)) (asked : ℕ) (front : List ℕ) → Consumes old_known new_known front → length front < asked → Takes PastLimit asked old_known new_known
-past-taken None new asked front h short = search rules
-past-taken (Some x) None asked front h short = absurd h
-past-taken (Some x) (Some y) asked front h short = record { front = front; bytes_are = h; short = short }
+misses : (fault : LineFault) (asked : ℕ) (now : Reading) (old left : Option (List ℕ)) (gone : List ℕ) → Consumes old (prepend_known now.held left) gone → (asked ≤ TEXT_LIMIT → gone ≡ []) → length gone ≤ asked →
+    length gone + length now.held < asked + piece_size → ((fault ≡ why.Memory → ⊥) → length gone + within now < asked) → Known (Misses fault asked now) old left
+misses fault asked now None left gone h kept few near missing = tt
+misses fault asked now (Some x) None gone h kept few near missing = absurd h
+misses fault asked now (Some x) (Some y) gone h kept few near missing = record { gone = gone; bytes_are = h; kept = kept; few = few; near = near; missing = missing }
 
--- why no more bytes come, given what was taken
-pub takes-cut : (taken : Taken) (old now new : Reading) (before after : SourceSeen) (asked due count : ℕ) (keeps : Bool) (text : List ℕ) → TakesSome old new before after asked (due - count) keeps text →
-    count ≡ min due (within now) → new ≡ record now { held = drop count now.held } → 0 < due - count → IsReading new → IsCut taken new → Takes taken asked (prepend_known old.held before.left) (prepend_known new.held after.left)
-takes-cut (Whole kept) old now new before after asked due count keeps text takes count_is new_is more sound cut = absurd cut
-takes-cut Dropped old now new before after asked due count keeps text takes count_is new_is more sound cut = absurd cut
-takes-cut Short old now new before after asked due count keeps text takes count_is new_is more sound cut =
-    short-taken (prepend_known old.held before.left) after.left asked takes.front new.held takes.bytes (omega (arith, takes.counted, more)) (nothing-held now new due count count_is new_is more (sound.ended cut)) (takes.source.nothing cut)
-takes-cut PastLimit old now new before after asked due count keeps text takes count_is new_is more sound cut =
-    past-taken (prepend_known old.held before.left) (prepend_known new.held after.left) asked takes.front takes.bytes (omega (arith, takes.counted, more))
+-- bytes that a text may have were read, and all that came are held
+pub record KeepsOn (asked : ℕ) (old now : Reading) (before after : SourceSeen) : Type 0 where
+  pub reads : ReadsOn old now before after
+  pub last : now.ended ≡ true → (now.held ≡ []) ⊎ (within now < asked)
+  pub near : length now.held < asked + piece_size
+
+-- none was read yet
+pub keeps-first : (asked : ℕ) (old : Reading) (before : SourceSeen) → IsReaderBehind asked old before → KeepsOn asked old old before before
+keeps-first asked old before source =
+    record {
+      reads = record {
+        pending = keeps-all (prepend_known old.held before.left);
+        held = ([], sym (append-nil old.held));
+        taken = omega arith;
+        given = refl;
+        total = same-total old.taken before.left;
+        ended = source.ended;
+        nothing = source.nothing;
+        stays = λ e. e;
+      };
+      last = λ e. inl (source.last e);
+      near = source.near;
+    }
+
+-- more was read
+pub keeps-filled : (asked : ℕ) (old now new : Reading) (before mid after : SourceSeen) → KeepsOn asked old now before mid → within now < asked → now.taken ≤ SCRIPT_LIMIT → IsReading now → IsReading new →
+    ReadsOn now new mid after → length new.held ≤ length now.held + piece_size → (new.ended ≡ true → new.held ≡ now.held) → KeepsOn asked old new before after
+keeps-filled asked old now new before mid after was fewer room sound new_sound reads near end =
+    record {
+      reads = reads-on old now new before mid after was.reads reads;
+      last = λ e.
+          let same : length new.held ≡ length now.held = ap length (end e) in
+          inr (omega (arith, fewer, room, same, reads.given, new_sound.kept, sound.kept));
+      near = omega (arith, near, fewer, room);
+    }
+
+-- all that is asked for is held, and given
+pub keeps-gives : (asked : ℕ) (old now new : Reading) (before after : SourceSeen) (taken : Taken) → KeepsOn asked old now before after → IsReading now → asked ≤ within now → asked ≤ TEXT_LIMIT →
+    taken ≡ Whole (take asked now.held) → new ≡ record now { held = drop asked now.held } → GivesPut taken asked old new before after
+keeps-gives asked old now new before after taken was sound enough few taken_is new_is =
+    let all = prepend_known old.held before.left in
+    let rest = prepend_known (drop asked now.held) after.left in
+    let count : length (take asked now.held) ≡ asked = length-take-le asked now.held (omega (arith, enough)) in
+    let fits : nat_le asked TEXT_LIMIT ≡ true = grind (arith, common_steps, few) in
+    let none : now.ended ≡ true → drop asked now.held ≡ [] = λ e. last-moved asked now enough (was.last e) in
+    let consumed : Consumes (prepend_known old.held before.left) (prepend_known (drop asked now.held) after.left) (take asked now.held) =
+    consumes-moved all after.left [] now.held asked (consumes-none all (prepend_known now.held after.left) was.reads.pending) in
+    let takes : Known (Takes (Whole (take asked now.held)) asked now.ended) (prepend_known old.held before.left) (prepend_known (drop asked now.held) after.left) =
+    subst (λ (b : Bool). Known (Takes (if b then Whole (take asked now.held) else Dropped) asked now.ended) (prepend_known old.held before.left) (prepend_known (drop asked now.held) after.left)) fits
+    (takes-all now.ended all rest asked (take asked now.held) consumed count (λ e. at-end (drop asked now.held) after.left (none e) (was.reads.nothing e))) in
+    subst (λ (t : Taken). GivesPut t asked old new before after) (sym taken_is)
+    (subst (λ (r : Reading). GivesPut (Whole (take asked now.held)) asked old r before after) (sym new_is) (record {
+      bytes = takes;
+      kept = (count, few);
+      short = λ e. cc;
+      further = omega (arith, was.reads.given, sound.kept, length-drop asked now.held);
+      limit = omega (arith, enough, sound.kept, sound.given, length-drop asked now.held);
+      source = record { ended = was.reads.ended; nothing = was.reads.nothing; last = none; near = omega (arith, was.near, enough, length-drop asked now.held) };
+    }))
+
+-- the source has ended, and all that there is was given
+pub keeps-short : (asked : ℕ) (old now new : Reading) (before after : SourceSeen) → KeepsOn asked old now before after → IsReading now → within now < asked → now.taken ≤ SCRIPT_LIMIT → now.ended ≡ true →
+    new ≡ record now { held = drop (within now) now.held } → GivesPut Short asked old new before after
+keeps-short asked old now new before after was sound fewer room ended new_is =
+    let all = prepend_known old.held before.left in
+    let rest = prepend_known (drop (within now) now.held) after.left in
+    let none : drop (within now) now.held ≡ [] = drop_of_length-le now.held (omega (arith, room)) in
+    let consumed : Consumes (prepend_known old.held before.left) (prepend_known (drop (within now) now.held) after.left) (take (within now) now.held) =
+    consumes-moved all after.left [] now.held (within now) (consumes-none all (prepend_known now.held after.left) was.reads.pending) in
+    let part : length (take (within now) now.held) ≡ within now = length-take-le (within now) now.held (omega arith) in
+    subst (λ (r : Reading). GivesPut Short asked old r before after) (sym new_is) (record {
+      bytes = takes-short now.ended all rest asked (take (within now) now.held) consumed (omega (arith, part, fewer)) ended (at-end (drop (within now) now.held) after.left none (was.reads.nothing ended));
+      kept = omega (arith, fewer);
+      short = λ _. ended;
+      further = omega (arith, was.reads.given, sound.kept, length-drop (within now) now.held);
+      limit = omega (arith, room);
+      source = record { ended = was.reads.ended; nothing = was.reads.nothing; last = λ _. none; near = omega (arith, ap length none) };
+    })
+
+-- a fault came, and nothing is lost
+pub keeps-falls : (fault : LineFault) (asked : ℕ) (old now : Reading) (before after : SourceSeen) → KeepsOn asked old now before after → (now.ended ≡ true → now.held ≡ []) →
+    ((fault ≡ why.Memory → ⊥) → within now < asked) → FallsShort fault asked old now before after
+keeps-falls fault asked old now before after was last missing =
+    record {
+      bytes = misses fault asked now (prepend_known old.held before.left) after.left [] (consumes-none (prepend_known old.held before.left) (prepend_known now.held after.left) was.reads.pending) (λ _. refl) (omega arith) (omega (arith, was.near)) (λ m. omega (arith, missing m));
+      source = record { ended = was.reads.ended; nothing = was.reads.nothing; last = last; near = was.near };
+    }
+
+-- of bytes that a text may not have some came, which are gone, and so many are still due
+pub record DropsOn (asked due : ℕ) (old now : Reading) (before after : SourceSeen) : Type 0 where
+  pub gone : List ℕ
+  pub bytes : Consumes (prepend_known old.held before.left) (prepend_known now.held after.left) gone
+  pub counted : length gone + due ≡ asked
+  pub given : given now ≡ given old + length gone
+  pub total : SameTotal old.taken before.left now.taken after.left
+  pub stays : old.ended ≡ true → now.ended ≡ true
+  pub source : IsReaderBehind due now after
+
+-- none came yet
+pub drops-first : (asked : ℕ) (old : Reading) (before : SourceSeen) → IsReaderBehind asked old before → DropsOn asked asked old old before before
+drops-first asked old before source =
+    record {
+      gone = [];
+      bytes = kept-all (prepend_known old.held before.left);
+      counted = omega arith;
+      given = omega arith;
+      total = same-total old.taken before.left;
+      stays = λ e. e;
+      source = source;
+    }
+
+-- bytes that are held are dropped
+pub drops-moved : (asked due count : ℕ) (old now new : Reading) (before after : SourceSeen) → DropsOn asked due old now before after → IsReading now → count ≡ min due (within now) →
+    new ≡ record now { held = drop count now.held } → DropsOn asked (due - count) old new before after
+drops-moved asked due count old now new before after was sound count_is new_is =
+    let inside : count ≤ length now.held = omega (arith, count_is) in
+    let part : length (take count now.held) ≡ count = length-take-le count now.held inside in
+    subst (λ (r : Reading). DropsOn asked (due - count) old r before after) (sym new_is) (record {
+      gone = was.gone ++ take count now.held;
+      bytes = consumes-moved (prepend_known old.held before.left) after.left was.gone now.held count was.bytes;
+      counted = omega (arith, was.counted, count_is, part, length-append was.gone (take count now.held));
+      given = omega (arith, was.given, sound.kept, inside, part, length-drop count now.held, length-append was.gone (take count now.held));
+      total = was.total;
+      stays = was.stays;
+      source = record {
+        ended = was.source.ended;
+        nothing = was.source.nothing;
+        last = λ e. ap (λ (xs : List ℕ). drop count xs) (was.source.last e) ∙ drop-nil count;
+        near = omega (arith, was.source.near, count_is, inside, length-drop count now.held);
+      };
+    })
+
+-- where bytes are still due, all that is held within the limit was dropped
+pub nothing-held : (now new : Reading) (due count : ℕ) → count ≡ min due (within now) → new ≡ record now { held = drop count now.held } → 0 < due - count → new.taken ≤ SCRIPT_LIMIT → new.held ≡ []
+nothing-held now new due count count_is new_is more within_limit =
+    let held : new.held ≡ drop count now.held = ap (λ (r : Reading). r.held) new_is in
+    let taken : new.taken ≡ now.taken = ap (λ (r : Reading). r.taken) new_is in
+    no_bytes new.held (omega (arith, ap length held, taken, length-drop count now.held, count_is, more, within_limit))
+
+pub within-dropped : (now new : Reading) (due count : ℕ) → count ≡ min due (within now) → new ≡ record now { held = drop count now.held } → 0 < due - count → within new < due - count
+within-dropped now new due count count_is new_is more =
+    let held : new.held ≡ drop count now.held = ap (λ (r : Reading). r.held) new_is in
+    let taken : new.taken ≡ now.taken = ap (λ (r : Reading). r.taken) new_is in
+    omega (arith, ap length held, taken, length-drop count now.held, count_is, more)
+
+-- nothing was held, and more was read
+pub drops-filled : (asked due : ℕ) (old now new : Reading) (before mid after : SourceSeen) → DropsOn asked due old now before mid → 0 < due → now.held ≡ [] → ReadsOn now new mid after →
+    length new.held ≤ length now.held + piece_size → (new.ended ≡ true → new.held ≡ now.held) → DropsOn asked due old new before after
+drops-filled asked due old now new before mid after was more none reads near end =
+    record {
+      gone = was.gone;
+      bytes = consumes-kept (prepend_known old.held before.left) (prepend_known now.held mid.left) (prepend_known new.held after.left) was.gone was.bytes reads.pending;
+      counted = was.counted;
+      given = reads.given ∙ was.given;
+      total = total_on old.taken now.taken new.taken before.left mid.left after.left was.total reads.total;
+      stays = λ e. reads.stays (was.stays e);
+      source = record {
+        ended = reads.ended;
+        nothing = reads.nothing;
+        last = λ e. end e ∙ none;
+        near = omega (arith, near, more, ap length none);
+      };
+    }
+
+-- all bytes came
+pub drops-all : (asked due : ℕ) (old now : Reading) (before after : SourceSeen) → DropsOn asked due old now before after → IsReading now → due ≡ 0 → TEXT_LIMIT < asked → GivesPut Dropped asked old now before after
+drops-all asked due old now before after was sound none many =
+    let over : nat_le asked TEXT_LIMIT ≡ false = grind (arith, common_steps, many) in
+    record {
+      bytes =
+          subst (λ (b : Bool). Known (Takes (if b then Whole was.gone else Dropped) asked now.ended) (prepend_known old.held before.left) (prepend_known now.held after.left)) over
+          (takes-all now.ended (prepend_known old.held before.left) (prepend_known now.held after.left) asked was.gone was.bytes (omega (arith, was.counted, none)) (λ e. at-end now.held after.left (was.source.last e) (was.source.nothing e)));
+      kept = many;
+      short = λ e. cc;
+      further = omega (arith, was.given);
+      limit = omega (arith, sound.kept, sound.given);
+      source = record { ended = was.source.ended; nothing = was.source.nothing; last = was.source.last; near = omega (arith, was.source.near, none) };
+    }
+
+-- the source has ended before
+pub drops-short : (asked due : ℕ) (old now : Reading) (before after : SourceSeen) → DropsOn asked due old now before after → IsReading now → 0 < due → now.held ≡ [] → now.ended ≡ true → GivesPut Short asked old now before after
+drops-short asked due old now before after was sound more none ended =
+    record {
+      bytes = takes-short now.ended (prepend_known old.held before.left) (prepend_known now.held after.left) asked was.gone was.bytes (omega (arith, was.counted, more)) ended (at-end now.held after.left none (was.source.nothing ended));
+      kept = omega (arith, was.counted, more);
+      short = λ _. ended;
+      further = omega (arith, was.given);
+      limit = omega (arith, sound.ended ended, ap length none);
+      source = record { ended = was.source.ended; nothing = was.source.nothing; last = was.source.last; near = omega (arith, ap length none) };
+    }
+
+-- a fault came, and what came is gone
+pub drops-falls : (fault : LineFault) (asked due : ℕ) (old now : Reading) (before after : SourceSeen) → DropsOn asked due old now before after → TEXT_LIMIT < asked → within now < due → FallsShort fault asked old now before after
+drops-falls fault asked due old now before after was many more =
+    record {
+      bytes =
+          misses fault asked now (prepend_known old.held before.left) after.left was.gone was.bytes (λ few. absurd (omega (arith, few, many))) (omega (arith, was.counted))
+          (omega (arith, was.counted, was.source.near)) (λ _. omega (arith, was.counted, more));
+      source = record { ended = was.source.ended; nothing = was.source.nothing; last = was.source.last; near = omega (arith, was.source.near, was.counted) };
+    }
 
 -- what holds in any case holds where the answer is a failure
 pub on-err : {T E P : Type 0} (result : Result T E) → P → OnErr result P
 on-err (Ok value) holds = tt
 on-err (Err fault) holds = holds
+
+-- the same of what holds of any fault
+pub if-err : {T E : Type 0} (result : Result T E) (P : E → Type 0) → ((fault : E) → P fault) → IfErr result P
+if-err (Ok value) P holds = tt
+if-err (Err fault) P holds = holds fault

@@ -2,6 +2,5 @@ pub mod Reading
 pub mod ReaderShape
 pub mod Pieces
 pub mod Quotes
-pub mod Told
 pub mod Takes
 pub mod RawWords

@@ -1,16 +1,15 @@
 -- What a reader gives of the bytes that are pending.
-use Rattle.std.specs.Prelude.{◌≡◌, ℕ, ◌+◌, ◌-◌, ◌<◌, ◌≤◌, Bool, true, false, if◌then◌else◌, nat_le, ⊤, List, [], length, take, Option, None, Some}
+use Rattle.std.specs.Prelude.{◌≡◌, ℕ, ◌+◌, ◌-◌, ◌<◌, ◌≤◌, Bool, true, false, if◌then◌else◌, nat_le, List, [], length, take}
 use Rattle.hac_model.specs.Lines.{is_quiet}
 use Rattle.hac_model.specs.Script.{first_line, after_line, is_first_ended}
 use Rattle.hac_model.specs.declared.limits.TheConstants.{LINE_LIMIT, SCRIPT_LIMIT}
-use Rattle.shell_lang.specs.declared.reading.TheConstants.{PIECE}
 use Rattle.shell_lang.specs.declared.reading.Piece.{Piece}
-use Rattle.shell_lang.specs.declared.reading.Piece.TheVariants.{Blank, Bytes, LongLine, End, PastLimit}
+use Rattle.shell_lang.specs.declared.reading.Piece.TheVariants.{Blank, Bytes, LongLine, End}
 use Rattle.std.specs.List.{position_or_len}
 use Rattle.hac_model.specs.Bytes.{is_line_end}
 use Rattle.shell_lang.specs.declared.reading.Found.{Found}
 use Rattle.shell_lang.specs.declared.reading.Found.TheVariants.{Ended, Last, Past}
-use Rattle.shell_lang.specs.Reading.{Reading, given, IsUnended}
+use Rattle.shell_lang.specs.Reading.{Reading, given, piece_size, IsUnended}
 
 -- the piece that a line is given as
 abbrev pub piece_of : List ℕ → Piece
@@ -26,18 +25,11 @@ pub record GivesLine (piece : Piece) (ended : Bool) (bytes rest : List ℕ) : Ty
   pub last : ended ≡ true → rest ≡ []
 
 -- of pending bytes the piece is given, and the rest is pending then
-abbrev pub GivesPieceFrom : Piece → Bool → List ℕ → List ℕ → Type 0
-GivesPieceFrom End ended bytes rest = (bytes ≡ []) × (rest ≡ [])
-GivesPieceFrom PastLimit ended bytes rest = rest ≡ bytes
-GivesPieceFrom Blank ended bytes rest = GivesLine Blank ended bytes rest
-GivesPieceFrom (Bytes line) ended bytes rest = GivesLine (Bytes line) ended bytes rest
-GivesPieceFrom LongLine ended bytes rest = GivesLine LongLine ended bytes rest
-
--- the same, if the source tells what it has left
-abbrev pub GivesPiece : Piece → Bool → Option (List ℕ) → Option (List ℕ) → Type 0
-GivesPiece piece ended None new = ⊤
-GivesPiece piece ended (Some bytes) None = ⊥
-GivesPiece piece ended (Some bytes) (Some rest) = GivesPieceFrom piece ended bytes rest
+abbrev pub GivesPiece : Piece → Bool → List ℕ → List ℕ → Type 0
+GivesPiece End ended bytes rest = (bytes ≡ []) × (rest ≡ [])
+GivesPiece Blank ended bytes rest = GivesLine Blank ended bytes rest
+GivesPiece (Bytes line) ended bytes rest = GivesLine (Bytes line) ended bytes rest
+GivesPiece LongLine ended bytes rest = GivesLine LongLine ended bytes rest
 
 -- one byte more than the limit of a script was taken, and no line that ends within the limit is held
 pub record IsPastLimit (reading : Reading) : Type 0 where
@@ -50,12 +42,11 @@ pub record IsPastLimit (reading : Reading) : Type 0 where
 pub record GoesOn (old new : Reading) : Type 0 where
   pub further : given old < given new
   pub limit : given new ≤ SCRIPT_LIMIT
-  pub near : length new.held < PIECE
+  pub near : length new.held < piece_size
 
 -- how the piece meets the limit of a script
 abbrev pub PieceAdvances : Piece → Reading → Reading → Type 0
 PieceAdvances End old new = new.taken ≤ SCRIPT_LIMIT
-PieceAdvances PastLimit old new = IsPastLimit new
 PieceAdvances Blank old new = GoesOn old new
 PieceAdvances (Bytes line) old new = GoesOn old new
 PieceAdvances LongLine old new = GoesOn old new

@@ -1,15 +1,15 @@
 -- What a reader of lines holds.
-use Rattle.std.specs.Prelude.{◌≡◌, ℕ, ◌+◌, ◌-◌, ◌≤◌, ◌<◌, ◌==◌, Bool, true, ⊤, List, ◌++◌, length, Option, None, Some, Result, Ok, Err, false, refl}
+use Rattle.std.specs.Prelude.{◌≡◌, ℕ, ◌+◌, ◌-◌, ◌≤◌, ◌<◌, ◌==◌, Bool, true, List, [], ◌++◌, length, Option, Result, Ok, Err, IsErrOf, false, refl}
 use Rattle.std.specs.List.{position_or_len}
 use Rattle.std.specs.Coded.{Coded, code_by, coded×, coded_ℕ, coded_bool, coded_list}
 use Rattle.std.specs.Io.KnownBytes.{prepend_known, Keeps, Consumes, IsAtEnd}
 use Rattle.hac_outside.specs.Causes.{TellsFault}
+use Rattle.hac_outside.specs.Known.{Known}
 use Rattle.hac_outside.specs.Seen.{SourceSeen}
 use Rattle.hac_model.specs.Bytes.{is_line_end}
 use Rattle.hac_model.specs.declared.limits.TheConstants.{SCRIPT_LIMIT}
 use Rattle.shell_lang.specs.declared.reading.LineFault.{LineFault}
-use Rattle.shell_lang.specs.declared.reading.LineFault.TheVariants.{Read, Memory}
-use Rattle.shell_lang.specs.declared.reading.TheConstants.{PIECE}
+use Rattle.shell_lang.specs.declared.reading.LineFault.TheVariants.{Read, Memory, TooLong}
 
 -- the bytes that were read and not given yet, how many were read in all, and whether the source has ended
 pub record Reading : Type 0 where
@@ -25,16 +25,17 @@ reading_code =
 abbrev pub IsUnended : List ℕ → Type 0
 IsUnended bytes = position_or_len is_line_end bytes ≡ length bytes
 
+-- how many bytes one read takes at most
+abbrev pub piece_size : ℕ
+piece_size = 4096
+
 -- What is held was taken. At most one byte above the limit of a script is taken, none where the source has ended, and
--- none above it is given. Behind the first line that is held, less than one piece is. A source is found to have ended
--- only where no line with its end is held.
+-- none above it is given.
 pub record IsReading (reading : Reading) : Type 0 where
   pub kept : length reading.held ≤ reading.taken
   pub limit : reading.taken ≤ SCRIPT_LIMIT + 1
   pub ended : reading.ended ≡ true → reading.taken ≤ SCRIPT_LIMIT
   pub given : reading.taken ≤ SCRIPT_LIMIT + length reading.held
-  pub near : length reading.held < position_or_len is_line_end reading.held + 1 + PIECE
-  pub last : reading.ended ≡ true → IsUnended reading.held
 
 -- the bytes of the script that were not given yet, if the source tells those that it has left
 abbrev pub pending : Reading → Option (List ℕ) → Option (List ℕ)
@@ -46,30 +47,39 @@ given reading = reading.taken - length reading.held
 
 -- what was taken and what is left are as many bytes as before
 abbrev pub SameTotal : ℕ → Option (List ℕ) → ℕ → Option (List ℕ) → Type 0
-SameTotal old_taken None new_taken new = ⊤
-SameTotal old_taken (Some old) new_taken None = ⊥
-SameTotal old_taken (Some old) new_taken (Some new) = new_taken + length new ≡ old_taken + length old
+SameTotal old_taken old new_taken new = Known (λ old new. new_taken + length new ≡ old_taken + length old) old new
 
--- the reader is one of this source: it knows whether the source has given its end, and then nothing is left
+-- The reader is one of this source: it knows whether the source has given its end, and then nothing is left, nor held
+-- but for the last line. Behind the first line it holds less than one piece.
 pub record IsReaderOf (reading : Reading) (source : SourceSeen) : Type 0 where
   pub ended : source.ended ≡ reading.ended
   pub nothing : reading.ended ≡ true → IsAtEnd source.left
+  pub last : reading.ended ≡ true → IsUnended reading.held
+  pub near : length reading.held < position_or_len is_line_end reading.held + 1 + piece_size
+
+-- the same of a reader behind a line that was given, of whose bytes so many are still due
+pub record IsReaderBehind (due : ℕ) (reading : Reading) (source : SourceSeen) : Type 0 where
+  pub ended : source.ended ≡ reading.ended
+  pub nothing : reading.ended ≡ true → IsAtEnd source.left
+  pub last : reading.ended ≡ true → reading.held ≡ []
+  pub near : length reading.held < due + piece_size
 
 -- a read failed
 abbrev pub is_read_fault : {T : Type 0} → Result T LineFault → Bool
 is_read_fault (Ok value) = false
 is_read_fault (Err Read) = true
 is_read_fault (Err Memory) = false
+is_read_fault (Err TooLong) = false
 
 -- What each call of a reader leaves. What it took is what the source lost, at most one byte above the limit of a
--- script. Behind the first line that it holds, it holds less than one piece. A fault of the source is reported as one,
--- and nothing else is.
+-- script, and then the script is too long. A fault of the source is reported as one, and nothing else is.
 pub record LeavesReader {T : Type 0} (result : Result T LineFault) (old new : Reading) (before after : SourceSeen) : Type 0 where
-  pub source : IsReaderOf new after
   pub sound : IsReading new
   pub stays : old.ended ≡ true → new.ended ≡ true
   pub total : SameTotal old.taken before.left new.taken after.left
   pub faults : TellsFault (is_read_fault result) before.faults after.faults
+  pub unended : IsErrOf result Read → (new.ended ≡ false) × (new.taken ≤ SCRIPT_LIMIT)
+  pub past : IsErrOf result TooLong → (new.ended ≡ false) × (new.taken ≡ SCRIPT_LIMIT + 1)
 
 -- the reader took bytes of the source, none or more, and gave none
 pub record ReadsOn (old new : Reading) (before after : SourceSeen) : Type 0 where
@@ -78,7 +88,8 @@ pub record ReadsOn (old new : Reading) (before after : SourceSeen) : Type 0 wher
   pub taken : old.taken ≤ new.taken
   pub given : given new ≡ given old
   pub total : SameTotal old.taken before.left new.taken after.left
-  pub source : IsReaderOf new after
+  pub ended : after.ended ≡ new.ended
+  pub nothing : new.ended ≡ true → IsAtEnd after.left
   pub stays : old.ended ≡ true → new.ended ≡ true
 
 -- a piece of the source was put behind the bytes: at the end of the source none, else some, and at most this many

@@ -1,78 +1,53 @@
 -- What a reader gives of the bytes that follow a line.
-use Rattle.std.specs.Prelude.{◌≡◌, ℕ, ◌+◌, ◌-◌, ◌<◌, ◌≤◌, true, false, ⊤, List, ◌++◌, length, drop, Option, None, Some}
-use Rattle.shell_lang.specs.Told.{came}
+use Rattle.std.specs.Prelude.{◌≡◌, ℕ, ◌+◌, ◌-◌, ◌<◌, ◌≤◌, Bool, true, false, List, [], ◌++◌, length, drop}
+use Rattle.hac_model.specs.Puts.{came}
 use Rattle.hac_model.specs.declared.limits.TheConstants.{SCRIPT_LIMIT, TEXT_LIMIT}
-use Rattle.shell_lang.specs.declared.taken.Taken.{Taken}
-use Rattle.shell_lang.specs.declared.taken.Taken.TheVariants.{Whole, Dropped, Short, PastLimit}
-use Rattle.shell_lang.specs.Reading.{Reading, given}
-use Rattle.shell_lang.specs.declared.reading.TheConstants.{PIECE}
+use Rattle.hac_model.specs.declared.taken.Taken.{Taken}
+use Rattle.hac_model.specs.declared.taken.Taken.TheVariants.{Whole, Dropped, Short}
+use Rattle.hac_outside.specs.Known.{Known}
+use Rattle.hac_outside.specs.Seen.{SourceSeen}
+use Rattle.shell_lang.specs.Reading.{Reading, given, pending, piece_size, IsReaderBehind}
+use Rattle.shell_lang.specs.declared.reading.LineFault.{LineFault}
+use Rattle.shell_lang.specs.declared.reading.LineFault.TheVariants.{Memory}
 
--- fewer bytes were taken than were asked for
-pub record Misses (count : ℕ) (bytes rest : List ℕ) : Type 0 where
-  pub front : List ℕ
-  pub bytes_are : bytes ≡ front ++ rest
-  pub short : length front < count
-
--- of pending bytes those that were asked for are taken, or all that there are; or the limit of a script comes first
-abbrev pub TakesFrom : Taken → ℕ → List ℕ → List ℕ → Type 0
-TakesFrom (Whole text) count bytes rest = (came count bytes ≡ Whole text) × (rest ≡ drop count bytes)
-TakesFrom Dropped count bytes rest = (came count bytes ≡ Dropped) × (rest ≡ drop count bytes)
-TakesFrom Short count bytes rest = (came count bytes ≡ Short) × (rest ≡ drop count bytes)
-TakesFrom PastLimit count bytes rest = Misses count bytes rest
-
--- the same, if the source tells what it has left
-abbrev pub Takes : Taken → ℕ → Option (List ℕ) → Option (List ℕ) → Type 0
-Takes taken count None new = ⊤
-Takes taken count (Some bytes) None = ⊥
-Takes taken count (Some bytes) (Some rest) = TakesFrom taken count bytes rest
+-- of pending bytes those that were asked for are taken, or all that there are where the source has ended
+pub record Takes (taken : Taken) (count : ℕ) (ended : Bool) (bytes rest : List ℕ) : Type 0 where
+  pub taken_is : taken ≡ came count bytes
+  pub behind : rest ≡ drop count bytes
+  pub whole : ended ≡ false → count ≤ length bytes
+  pub last : ended ≡ true → rest ≡ []
 
 -- what may come of this many bytes, whatever the source tells: all are kept if they are no more than a text may have
 abbrev pub IsTakenOf : ℕ → Taken → Type 0
 IsTakenOf count (Whole text) = (length text ≡ count) × (count ≤ TEXT_LIMIT)
 IsTakenOf count Dropped = TEXT_LIMIT < count
 IsTakenOf count Short = 0 < count
-IsTakenOf count PastLimit = 0 < count
 
--- A failure came before all bytes did. Those that came are gone, and of what is held less than one piece lies behind
--- those that are still due.
-pub record Loses (count held : ℕ) (bytes rest : List ℕ) : Type 0 where
-  pub front : List ℕ
-  pub bytes_are : bytes ≡ front ++ rest
-  pub short : length front < count
-  pub near : length front + held < count + PIECE
-
--- the same, if the source tells what it has left
-abbrev pub FallsShort : ℕ → Reading → Option (List ℕ) → Option (List ℕ) → Type 0
-FallsShort count reading None left = ⊤
-FallsShort count reading (Some bytes) None = ⊥
-FallsShort count reading (Some bytes) (Some left) = Loses count (length reading.held) bytes (reading.held ++ left)
-
--- the bytes lie within the limit of a script, and less than one piece is held then
-pub record TakesOn (old new : Reading) : Type 0 where
+-- The bytes that were asked for are taken, and lie within the limit of a script. Too few are there only where the source
+-- has ended. Less than one piece is held then.
+pub record GivesPut (taken : Taken) (count : ℕ) (old new : Reading) (before after : SourceSeen) : Type 0 where
+  pub bytes : Known (Takes taken count new.ended) (pending old before.left) (pending new after.left)
+  pub kept : IsTakenOf count taken
+  pub short : taken ≡ Short → new.ended ≡ true
   pub further : given old ≤ given new
   pub limit : given new ≤ SCRIPT_LIMIT
-  pub near : length new.held < PIECE
-
--- one byte more than the limit of a script was taken, and no more is held
-pub record IsCutOff (reading : Reading) : Type 0 where
-  pub taken : reading.taken ≡ SCRIPT_LIMIT + 1
-  pub ended : reading.ended ≡ false
-  pub held : length reading.held ≡ 1
-
--- how the reader meets the limit of a script
-abbrev pub TakenAdvances : Taken → Reading → Reading → Type 0
-TakenAdvances (Whole text) old new = TakesOn old new
-TakenAdvances Dropped old new = TakesOn old new
-TakenAdvances Short old new = TakesOn old new
-TakenAdvances PastLimit old new = IsCutOff new
-
--- why no more bytes come
-abbrev pub IsCut : Taken → Reading → Type 0
-IsCut (Whole text) reading = ⊥
-IsCut Dropped reading = ⊥
-IsCut Short reading = reading.ended ≡ true
-IsCut PastLimit reading = (reading.ended ≡ false) × (reading.taken ≡ SCRIPT_LIMIT + 1)
+  pub source : IsReaderBehind 0 new after
 
 -- how many of the bytes that are held lie within the limit of a script
 abbrev pub within : Reading → ℕ
 within reading = length reading.held - (reading.taken - SCRIPT_LIMIT)
+
+-- Not all bytes were given: those that came are held, or where a text may not have as many, they are gone. Behind those
+-- that are due less than one piece is held, and unless memory ran out, some are missing.
+pub record Misses (fault : LineFault) (count : ℕ) (new : Reading) (bytes left : List ℕ) : Type 0 where
+  pub gone : List ℕ
+  pub bytes_are : bytes ≡ gone ++ (new.held ++ left)
+  pub kept : count ≤ TEXT_LIMIT → gone ≡ []
+  pub few : length gone ≤ count
+  pub near : length gone + length new.held < count + piece_size
+  pub missing : (fault ≡ Memory → ⊥) → length gone + within new < count
+
+-- a fault came before the bytes were given, and they may be asked for again
+pub record FallsShort (fault : LineFault) (count : ℕ) (old new : Reading) (before after : SourceSeen) : Type 0 where
+  pub bytes : Known (Misses fault count new) (pending old before.left) after.left
+  pub source : IsReaderBehind count new after

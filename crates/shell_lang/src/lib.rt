@@ -2,13 +2,12 @@
 //! It knows nothing of what a command does.
 #![tactic(auto)]
 
-mod link_lines;
 mod parsing;
 mod paths;
 mod printing;
 mod putting;
 mod reading;
-mod taken;
+mod shapes;
 mod tree_lines;
 mod words;
 
@@ -16,4 +15,3 @@ pub use parsing::parse_line;
 pub use printing::print_reply;
 pub use putting::put_length;
 pub use reading::{LineFault, PIECE, Piece, Reader};
-pub use taken::Taken;

@@ -1,30 +1,20 @@
 //! A line's command. What a command does is not known here.
-ghost use Rattle.std.specs.Prelude.{◌≡◌, ℕ, List, IfOk, IsTrue};
+ghost use Rattle.std.specs.Prelude.{IfOk, IsTrue};
 ghost use Rattle.hac_model.specs.Answers.{Answers};
-ghost use Rattle.hac_model.specs.Lines.{item_of, alone, named_command, is_spelled};
-ghost use Rattle.shell_lang.specs.Told.{called_taken, command_taken, item_taken, taken_of};
+ghost use Rattle.hac_model.specs.Lines.{alone, called_with, command_with, is_spelled, item_taken, named_command};
 ghost use Rattle.hac_model.specs.declared.commands.Command.TheVariants.{Index, Counts};
 
-use crate::link_lines::{
-    parse_find, parse_query, parse_setq, parse_sforget, parse_sln, parse_sls, parse_smkdir,
-    parse_srm, parse_unq,
-};
 use crate::putting::{is_put, parse_put};
-use crate::taken::Taken;
-use crate::tree_lines::{
-    parse_cat, parse_ls, parse_mkdir, parse_mv, parse_rm, parse_rmdir, parse_write,
-};
+use crate::shapes::{of_two_paths, one_path, parse_find, path_and_query};
+use crate::tree_lines::{parse_ls, parse_write};
 use crate::words::{is_blank, split_word};
-use hac_model::{Command, Deny, LINE_LIMIT, LimitWord, Line, Name, Refusal};
+use hac_model::{Command, Deny, LINE_LIMIT, LimitWord, Line, Name, Refusal, Taken};
 use std::alloc::Global;
 
-/// The command that a line spells, or the first refusal of its spelling. `taken` is what the reader took
-/// of the bytes behind the line, where it is one that takes bytes.
+/// The command that a line spells, or the first refusal of its spelling. `taken` is what came of the bytes behind
+/// the line, where it asks for any.
 pub fn parse_line(alloc: Global, line: &[u8], taken: Option<Taken>) -> Result<Line, Deny>
     ensures told { Answers result (item_taken line.now taken) }
-
-    // So the answer is right for all bytes behind the line of which this is what is taken.
-    ensures item { (behind : List ℕ) → taken ≡ taken_of line.now behind → Answers result (item_of line.now behind) }
     ensures spelled { IfOk result (λ line. IsTrue (is_spelled line.command)) }
 {
     if line.len() > LINE_LIMIT {
@@ -37,7 +27,7 @@ pub fn parse_line(alloc: Global, line: &[u8], taken: Option<Taken>) -> Result<Li
 
 /// The command that a line of any length spells, given what came of the bytes behind it.
 fn parse_with(alloc: Global, line: &[u8], taken: Option<Taken>) -> Result<Command, Deny>
-    ensures { Answers result (command_taken line.now taken) }
+    ensures { Answers result (command_with line.now taken) }
 {
     let (name, arguments) = split_word(alloc, line)?;
     parse_called(alloc, &name, arguments, taken)
@@ -50,7 +40,7 @@ fn parse_called(
     arguments: &[u8],
     taken: Option<Taken>,
 ) -> Result<Command, Deny>
-    ensures { Answers result (called_taken name.now arguments.now taken) }
+    ensures { Answers result (called_with name.now arguments.now taken) }
 {
     if is_put(name) {
         parse_put(alloc, arguments, taken)
@@ -64,35 +54,43 @@ fn parse_named(alloc: Global, name: &[u8], arguments: &[u8]) -> Result<Command, 
     ensures { Answers result (named_command name.now arguments.now) }
 {
     if name == b"mkdir".as_slice() {
-        parse_mkdir(alloc, arguments)
+        one_path(alloc, arguments, |path| Command::Mkdir { path })
     } else if name == b"rmdir".as_slice() {
-        parse_rmdir(alloc, arguments)
+        one_path(alloc, arguments, |path| Command::Rmdir { path })
     } else if name == b"write".as_slice() {
         parse_write(alloc, arguments)
     } else if name == b"cat".as_slice() {
-        parse_cat(alloc, arguments)
+        one_path(alloc, arguments, |path| Command::Cat { path })
     } else if name == b"ls".as_slice() {
         parse_ls(alloc, arguments)
     } else if name == b"mv".as_slice() {
-        parse_mv(alloc, arguments)
+        of_two_paths(alloc, arguments, |from, to| Command::Mv { from, to })
     } else if name == b"rm".as_slice() {
-        parse_rm(alloc, arguments)
+        one_path(alloc, arguments, |path| Command::Rm { path })
     } else if name == b"smkdir".as_slice() {
-        parse_smkdir(alloc, arguments)
+        path_and_query(
+            alloc,
+            arguments,
+            |path, query| Command::Smkdir { path, query },
+        )
     } else if name == b"setq".as_slice() {
-        parse_setq(alloc, arguments)
+        path_and_query(
+            alloc,
+            arguments,
+            |path, query| Command::Setq { path, query },
+        )
     } else if name == b"unq".as_slice() {
-        parse_unq(alloc, arguments)
+        one_path(alloc, arguments, |path| Command::Unq { path })
     } else if name == b"query".as_slice() {
-        parse_query(alloc, arguments)
+        one_path(alloc, arguments, |path| Command::Query { path })
     } else if name == b"sls".as_slice() {
-        parse_sls(alloc, arguments)
+        one_path(alloc, arguments, |path| Command::Sls { path: Some(path) })
     } else if name == b"sln".as_slice() {
-        parse_sln(alloc, arguments)
+        of_two_paths(alloc, arguments, |item, dir| Command::Sln { item, dir })
     } else if name == b"srm".as_slice() {
-        parse_srm(alloc, arguments)
+        of_two_paths(alloc, arguments, |item, dir| Command::Srm { item, dir })
     } else if name == b"sforget".as_slice() {
-        parse_sforget(alloc, arguments)
+        of_two_paths(alloc, arguments, |item, dir| Command::Sforget { item, dir })
     } else if name == b"find".as_slice() {
         parse_find(alloc, arguments)
     } else if name == b"index".as_slice() {

@@ -5,15 +5,13 @@ ghost use Rattle.std.specs.List.{list_all};
 ghost use Rattle.std.specs.Str.{bytes_eq};
 ghost use Rattle.std.specs.Str.Parse.{digits_value};
 ghost use Rattle.hac_model.specs.Answers.{Answers, AnswersSeen};
-ghost use Rattle.hac_model.specs.Lines.{asked, is_put, put_length, put_words};
+ghost use Rattle.hac_model.specs.Lines.{asked, is_put, put_at, put_length, put_of, put_words};
 ghost use Rattle.hac_model.specs.Puts.{is_length};
-ghost use Rattle.shell_lang.specs.Told.{put_at_taken, put_taken};
 
 use crate::paths::parse_path;
-use crate::taken::Taken;
 use crate::tree_lines::limited_text;
 use crate::words::{is_blank, only_word, raw_word, split_word};
-use hac_model::{Command, Deny, LimitWord, Refusal};
+use hac_model::{Command, Deny, LimitWord, Refusal, Taken};
 use std::alloc::Global;
 
 /// How many bytes a `put` asks for behind its line. None where the line is no `put`, or is one that is
@@ -73,14 +71,14 @@ fn put_words(alloc: Global, arguments: &[u8]) -> Result<(Vec<u8>, Vec<u8>), Deny
 
 /// `put PATH LENGTH`, from what follows `put`: a file with the bytes that came as its text.
 pub fn parse_put(alloc: Global, arguments: &[u8], taken: Option<Taken>) -> Result<Command, Deny>
-    ensures { Answers result (put_taken arguments.now taken) }
+    ensures { Answers result (put_of arguments.now taken) }
 {
     let (path, _) = put_words(alloc, arguments)?;
     put_at(alloc, &path, taken)
 }
 
 fn put_at(alloc: Global, word: &[u8], taken: Option<Taken>) -> Result<Command, Deny>
-    ensures { Answers result (put_at_taken word.now taken) }
+    ensures { Answers result (put_at word.now taken) }
 {
     match taken {
         Some(Taken::Whole(bytes)) => {
@@ -92,9 +90,7 @@ fn put_at(alloc: Global, word: &[u8], taken: Option<Taken>) -> Result<Command, D
             parse_path(alloc, word)?;
             Err(Deny::Refused(Refusal::Limit(LimitWord::Text)))
         }
-        Some(Taken::Short) | Some(Taken::PastLimit) | None => {
-            Err(Deny::Refused(Refusal::ShortPut))
-        }
+        Some(Taken::Short) | None => Err(Deny::Refused(Refusal::ShortPut)),
     }
 }
 

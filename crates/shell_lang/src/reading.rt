@@ -1,13 +1,15 @@
 //! Lines out of a stream of bytes, in whatever pieces the stream comes.
-ghost use Rattle.std.specs.Prelude.{◌≡◌, ℕ, ◌+◌, ◌-◌, ◌<◌, ◌≤◌, ◌⊎◌, ◌++◌, true, false, [], length, vec_len, take, drop, IfOk, OnOk, OnErr, IsErrOf, IfSome, IfNone, MatchOption, Ok, slice_index, ◌==◌, position};
+ghost use Rattle.std.specs.Prelude.{◌≡◌, ℕ, ◌+◌, ◌-◌, ◌<◌, ◌≤◌, ◌⊎◌, ◌++◌, true, false, [], length, vec_len, take, drop, max, IfOk, OnOk, OnErr, IsErrOf, IfSome, IfNone, MatchOption, MatchResult, slice_index, ◌==◌, position};
 ghost use Rattle.std.specs.List.{position_or_len};
 ghost use Rattle.std.specs.Io.KnownBytes.{Keeps};
 ghost use Rattle.hac_outside.specs.Causes.{TellsFault};
 ghost use Rattle.hac_model.specs.Bytes.{is_line_end};
 ghost use Rattle.hac_model.specs.Lines.{is_quiet};
+ghost use Rattle.hac_model.specs.declared.limits.TheConstants.{TEXT_LIMIT};
 ghost use Rattle.hac_model.specs.Script.{is_first_ended};
-ghost use Rattle.shell_lang.specs.Reading.{pending, given, is_read_fault, IsUnended, IsReading, IsReaderOf, LeavesReader, ReadsOn, ReadsPiece};
-ghost use Rattle.shell_lang.specs.Pieces.{piece_of, GivesPiece, PieceAdvances, IsLineFound};
+ghost use Rattle.hac_outside.specs.Known.{Known};
+ghost use Rattle.shell_lang.specs.Reading.{pending, given, is_read_fault, piece_size, IsUnended, IsReading, IsReaderBehind, IsReaderOf, LeavesReader, ReadsOn, ReadsPiece};
+ghost use Rattle.shell_lang.specs.Pieces.{piece_of, GivesPiece, PieceAdvances, IsLineFound, IsPastLimit};
 
 mod taking;
 
@@ -32,18 +34,19 @@ pub enum Piece {
     LongLine,
     /// The script has ended.
     End,
-    /// The script is longer than a script may be, and every line within the limit was given.
-    PastLimit,
 }
 
-/// Why a reader gives nothing. After a line that can't be read it still holds all that it took; of bytes
-/// that can't be read, those that came are lost.
+/// Why a reader gives nothing. It still holds all that it took, but for bytes of a `put` that are more than a
+/// text may have.
 #[derive(Clone, Copy, Debug, PartialEq, Eq, Error)]
 pub enum LineFault {
     #[error("the script can't be read")]
     Read,
     #[error("out of memory")]
     Memory,
+    /// The script is longer than a script may be, and all that lies within the limit was given but the last line.
+    #[error("the script is too long")]
+    TooLong,
 }
 
 impl From<AllocError> for LineFault {
@@ -57,8 +60,7 @@ impl From<AllocError> for LineFault {
     }
 }
 
-/// Takes lines from a source. It scans no byte twice for a line's end, and behind the first line that it
-/// holds it holds less than one piece.
+/// Takes lines from a source. It scans no byte twice for a line's end.
 #[derive(Debug, Drop)]
 pub struct Reader {
     alloc: Global,
@@ -112,26 +114,28 @@ impl Reader {
         })
     }
 
-    /// The next line of the script, or how the script ends. It reads only where no line is held, and never
-    /// behind the end.
+    /// The next line of the script, or its end. It reads only where no line is held, and never behind the end.
     pub fn next_line<S: Source>(&mut self, source: &mut S) -> Result<Piece, LineFault>
         // A reader is given the source that it began with.
         requires { IsReaderOf self.old (S.seen source.old) }
 
-        ensures piece { IfOk result (λ piece. GivesPiece piece self.new.ended (pending self.old (S.seen source.old).left) (pending self.new (S.seen source.new).left)) }
+        ensures piece { IfOk result (λ piece. Known (GivesPiece piece self.new.ended) (pending self.old (S.seen source.old).left) (pending self.new (S.seen source.new).left)) }
         ensures advances { IfOk result (λ piece. PieceAdvances piece self.old self.new) }
+
+        // After a fault the reader still holds what it took.
         ensures err { OnErr result (Keeps (pending self.old (S.seen source.old).left) (pending self.new (S.seen source.new).left)) }
+        ensures past { IsErrOf result LineFault.TooLong → IsPastLimit self.new }
 
-        // A line that is held is given without a read, so a fault comes only if none is.
+        // A line that is held is given without a read, so a fault of reading comes only if none is.
+        ensures unended { IsErrOf result LineFault.Read → IsUnended self.new.held }
         ensures unread { is_first_ended self.old.held ≡ true → source.new ≡ source.old }
-        ensures unended { IsErrOf result LineFault.Read → (self.new.ended ≡ false) × IsUnended self.new.held }
-
-        ensures reads { LeavesReader result self.old self.new (S.seen source.old) (S.seen source.new) }
+        ensures source { MatchResult result (λ _. IsReaderBehind 0 self.new (S.seen source.new)) (λ _. IsReaderOf self.new (S.seen source.new)) }
+        ensures leaves { LeavesReader result self.old self.new (S.seen source.old) (S.seen source.new) }
     {
         match self.find_line(source)? {
             Found::Ended(end) => self.give(end, end + 1),
             Found::Last => self.give_last(),
-            Found::Past => Ok(Piece::PastLimit),
+            Found::Past => Err(LineFault::TooLong),
         }
     }
 
@@ -141,16 +145,27 @@ impl Reader {
         ensures found { IfOk result (λ found. IsLineFound found self.new) }
         ensures sound { IsReading self.new }
         ensures reads { ReadsOn self.old self.new (S.seen source.old) (S.seen source.new) }
+        ensures source { IsReaderOf self.new (S.seen source.new) }
         ensures unread { is_first_ended self.old.held ≡ true → source.new ≡ source.old }
-        ensures unended { OnErr result ((self.new.ended ≡ false) × IsUnended self.new.held) }
+        ensures unended { OnErr result ((self.new.ended ≡ false) × (self.new.taken ≤ SCRIPT_LIMIT) × IsUnended self.new.held) }
+        ensures not_long { IsErrOf result LineFault.TooLong → ⊥ }
         ensures faults { TellsFault (is_read_fault result) (S.seen source.old).faults (S.seen source.new).faults }
     {
         loop {
             if let Some(found) = self.look() {
                 return Ok(found);
             }
+            self.mark_scanned();
             self.fill(source)?;
         }
+    }
+
+    /// Remembers that what is held has no line end.
+    fn mark_scanned(&mut self)
+        requires { IsUnended self.old.held }
+        ensures { self.new ≡ self.old }
+    {
+        self.scanned = self.bytes.len();
     }
 
     /// Where the first line ends by what is held. None where more is to be read.
@@ -188,23 +203,24 @@ impl Reader {
         &self.bytes[self.start..]
     }
 
-    /// Takes one more piece of the source, where what is held has no line end.
+    /// Takes one more piece of the source.
     fn fill<S: Source>(&mut self, source: &mut S) -> Result<(), LineFault>
-        requires source { IsReaderOf self.old (S.seen source.old) }
+        requires source { (S.seen source.old).ended ≡ false }
         requires open { self.old.ended ≡ false }
         requires room { self.old.taken ≤ SCRIPT_LIMIT }
-        requires unended { IsUnended self.old.held }
+        requires few { length self.old.held ≤ max (position_or_len is_line_end self.old.held) TEXT_LIMIT }
         ensures reads { ReadsOn self.old self.new (S.seen source.old) (S.seen source.new) }
         ensures ok { OnOk result ((self.new.ended ≡ true) ⊎ (self.old.taken < self.new.taken)) }
         ensures err { OnErr result (self.new ≡ self.old) }
+        ensures not_long { IsErrOf result LineFault.TooLong → ⊥ }
         ensures sound { IsReading self.new }
-        ensures near { length self.new.held ≤ length self.old.held + PIECE }
+        ensures near { length self.new.held ≤ length self.old.held + piece_size }
         ensures end { self.new.ended ≡ true → self.new.held ≡ self.old.held }
         ensures faults { TellsFault (is_read_fault result) (S.seen source.old).faults (S.seen source.new).faults }
     {
         drop_front(&mut self.bytes, self.start);
+        self.scanned -= self.start;
         self.start = 0;
-        self.scanned = self.bytes.len();
         let room = SCRIPT_LIMIT + 1 - self.taken;
         let most = if room < PIECE as u64 {
             room as usize
@@ -222,8 +238,6 @@ impl Reader {
         requires order { count ≤ end }
         requires inside { end ≤ length self.old.held }
         requires limit { given self.old + end ≤ SCRIPT_LIMIT }
-        requires near { length self.old.held < end + PIECE }
-        requires last { self.old.ended ≡ true → end ≡ length self.old.held }
         ensures piece { IfOk result (λ piece. piece ≡ piece_of (take count self.old.held)) }
         ensures ok { OnOk result (self.new ≡ record self.old { held = drop end self.old.held }) }
         ensures err { OnErr result (self.new ≡ self.old) }
@@ -272,10 +286,11 @@ fn read_onto<S: Source>(
 ) -> Result<usize, LineFault>
     requires open { (S.seen source.old).ended ≡ false }
     requires some { 0 < most }
-    requires most { most ≤ PIECE }
+    requires most { most ≤ piece_size }
     ensures ok { IfOk result (λ count. ReadsPiece bytes.old.items bytes.new.items (S.seen source.old) (S.seen source.new) count most) }
     ensures err { OnErr result ((bytes.new.items ≡ bytes.old.items) × Keeps (S.seen source.old).left (S.seen source.new).left) }
     ensures open { OnErr result ((S.seen source.new).ended ≡ false) }
+    ensures not_long { IsErrOf result LineFault.TooLong → ⊥ }
     ensures faults { TellsFault (is_read_fault result) (S.seen source.old).faults (S.seen source.new).faults }
 {
     bytes.reserve(PIECE)?;

@@ -1,35 +1,16 @@
-//! Lines of commands on files and directories, from what follows the command's name.
+//! The lines of `write` and `ls`, from what follows the command's name.
 ghost use Rattle.std.specs.Prelude.{◌≡◌, Some, None};
 ghost use Rattle.std.specs.Option.{ok_or};
 ghost use Rattle.hac_model.specs.Answers.{Answers, AnswersSeen};
-ghost use Rattle.hac_model.specs.Lines.{one_path, of_two_paths, write_of, ls_of, limited_text};
+ghost use Rattle.hac_model.specs.Lines.{write_of, ls_of, limited_text};
 ghost use Rattle.hac_model.specs.Texts.{text_of};
-ghost use Rattle.hac_model.specs.declared.commands.Command.TheVariants.{Mkdir, Rmdir, Cat, Mv, Rm};
 ghost use Rattle.hac_model.specs.declared.replies.Refusal.TheVariants.{BadLine};
 
-use crate::paths::{only_path, parse_path, two_paths};
-use crate::words::{is_blank, only_word, skip_one, split_word};
+use crate::paths::{only_path, parse_path};
+use crate::words::{is_blank, skip_one, split_word};
 use hac_model::{Command, Deny, LimitWord, Refusal, TEXT_LIMIT, Text};
 use hac_names::parse_text;
 use std::alloc::Global;
-
-/// `mkdir PATH`, from what follows `mkdir`.
-#[tactic(auto, unfolding(hac_model::specs::Lines::one_path))]
-pub fn parse_mkdir(alloc: Global, arguments: &[u8]) -> Result<Command, Deny>
-    ensures { Answers result (one_path Mkdir arguments.now) }
-{
-    let path = only_path(alloc, arguments)?;
-    Ok(Command::Mkdir { path })
-}
-
-/// `rmdir PATH`, from what follows `rmdir`.
-#[tactic(auto, unfolding(hac_model::specs::Lines::one_path))]
-pub fn parse_rmdir(alloc: Global, arguments: &[u8]) -> Result<Command, Deny>
-    ensures { Answers result (one_path Rmdir arguments.now) }
-{
-    let path = only_path(alloc, arguments)?;
-    Ok(Command::Rmdir { path })
-}
 
 /// `write PATH TEXT`, from what follows `write`.
 #[tactic(auto, unfolding(hac_model::specs::Lines::write_of))]
@@ -63,15 +44,6 @@ pub fn limited_text(bytes: Text) -> Result<Text, Deny>
     Ok(bytes)
 }
 
-/// `cat PATH`, from what follows `cat`.
-#[tactic(auto, unfolding(hac_model::specs::Lines::one_path))]
-pub fn parse_cat(alloc: Global, arguments: &[u8]) -> Result<Command, Deny>
-    ensures { Answers result (one_path Cat arguments.now) }
-{
-    let path = only_path(alloc, arguments)?;
-    Ok(Command::Cat { path })
-}
-
 /// `ls` with a path or without, from what follows `ls`.
 #[tactic(auto, unfolding(hac_model::specs::Lines::ls_of, hac_model::specs::Lines::one_path))]
 pub fn parse_ls(alloc: Global, arguments: &[u8]) -> Result<Command, Deny>
@@ -82,24 +54,4 @@ pub fn parse_ls(alloc: Global, arguments: &[u8]) -> Result<Command, Deny>
     }
     let path = only_path(alloc, arguments)?;
     Ok(Command::Ls { path: Some(path) })
-}
-
-/// `mv PATH PATH`, from what follows `mv`.
-#[tactic(auto, unfolding(hac_model::specs::Lines::of_two_paths))]
-pub fn parse_mv(alloc: Global, arguments: &[u8]) -> Result<Command, Deny>
-    ensures { Answers result (of_two_paths Mv arguments.now) }
-{
-    let (first, rest) = split_word(alloc, arguments)?;
-    let second = only_word(alloc, rest)?;
-    let (from, to) = two_paths(alloc, &first, &second)?;
-    Ok(Command::Mv { from, to })
-}
-
-/// `rm PATH`, from what follows `rm`.
-#[tactic(auto, unfolding(hac_model::specs::Lines::one_path))]
-pub fn parse_rm(alloc: Global, arguments: &[u8]) -> Result<Command, Deny>
-    ensures { Answers result (one_path Rm arguments.now) }
-{
-    let path = only_path(alloc, arguments)?;
-    Ok(Command::Rm { path })
 }

@@ -1,109 +1,136 @@
 //! The bytes that follow a line, in whatever pieces the stream comes.
-ghost use Rattle.std.specs.Prelude.{◌≡◌, ◌+◌, ◌-◌, ◌<◌, ◌≤◌, ◌⊎◌, ◌++◌, true, false, [], length, min, take, drop, if◌then◌else◌, Ok, IfOk, OnErr, IsErrOf, IfSome, IfNone};
-ghost use Rattle.shell_lang.specs.declared.taken.Taken.TheVariants.{Whole, Dropped};
-ghost use Rattle.shell_lang.specs.Reading.{pending, IsReading, IsReaderOf, LeavesReader};
-ghost use Rattle.shell_lang.specs.Takes.{Takes, IsTakenOf, FallsShort, TakenAdvances, IsCut, within};
+ghost use Rattle.std.specs.Prelude.{◌≡◌, ◌+◌, ◌<◌, ◌≤◌, false, length, min, take, drop, IfOk, IfErr, OnOk, OnErr, IsErrOf};
+ghost use Rattle.hac_model.specs.declared.taken.Taken.TheVariants.{Whole};
+ghost use Rattle.shell_lang.specs.Reading.{IsReading, IsReaderBehind, LeavesReader};
+ghost use Rattle.shell_lang.specs.Takes.{GivesPut, FallsShort, within};
 
-use super::{LineFault, PIECE, Reader};
-use crate::taken::Taken;
-use hac_model::{SCRIPT_LIMIT, TEXT_LIMIT, Text};
+use super::{LineFault, Reader};
+use hac_model::{SCRIPT_LIMIT, TEXT_LIMIT, Taken, Text};
 use hac_outside::Source;
 
 impl Reader {
-    /// Takes the bytes that follow a line, all that it asks for or all that the script has. They are
-    /// kept if they are no more than a text may have. It reads only if none is held.
+    /// Takes the bytes that follow a line, all that it asks for or all that the script has. If they are no more than
+    /// a text may have, they stay in the reader until all came; more are dropped as they come.
     pub fn take_put<S: Source>(&mut self, source: &mut S, asked: u64) -> Result<Taken, LineFault>
-        requires source { IsReaderOf self.old (S.seen source.old) }
+        // The line that asks for the bytes was given, or a fault came and they are asked for again.
+        requires { IsReaderBehind asked self.old (S.seen source.old) }
 
-        // The line that asks for the bytes was given.
-        requires near { length self.old.held < PIECE }
+        ensures given { IfOk result (λ taken. GivesPut taken asked self.old self.new (S.seen source.old) (S.seen source.new)) }
 
-        ensures taken { IfOk result (λ taken. Takes taken asked (pending self.old (S.seen source.old).left) (pending self.new (S.seen source.new).left)) }
-        ensures kept { IfOk result (IsTakenOf asked) }
-        ensures follows { IfOk result (λ taken. TakenAdvances taken self.old self.new) }
+        // A fault loses no byte that a text may have.
+        ensures fault { IfErr result (λ fault. FallsShort fault asked self.old self.new (S.seen source.old) (S.seen source.new)) }
 
         // Bytes that are held are given without a read, so a fault comes only where some are missing.
         ensures unread { asked ≤ within self.old → source.new ≡ source.old }
-
-        // Too few bytes are there only where the source has ended.
-        ensures short { result ≡ Ok Taken.Short → self.new.ended ≡ true }
-
-        // After a failure all that was taken of the bytes is gone; where it is one of reading, nothing is held.
-        ensures err { OnErr result (FallsShort asked self.new (pending self.old (S.seen source.old).left) (S.seen source.new).left) }
-        ensures read { IsErrOf result LineFault.Read → (self.new.ended ≡ false) × (self.new.held ≡ []) }
-
-        // Where the source is found to have ended here, nothing is held.
-        ensures last { self.new.ended ≡ true → (self.old.ended ≡ true) ⊎ (self.new.held ≡ []) }
-
-        ensures reads { LeavesReader result self.old self.new (S.seen source.old) (S.seen source.new) }
+        ensures leaves { LeavesReader result self.old self.new (S.seen source.old) (S.seen source.new) }
     {
-        let keeps = asked <= TEXT_LIMIT;
-        let mut text = Vec::new(self.alloc);
-        let mut due = asked;
-        if asked == 0 {
-            return Ok(all_of(text, keeps));
+        if asked > TEXT_LIMIT {
+            self.drop_put(source, asked)
+        } else {
+            self.keep_put(source, asked)
         }
+    }
+
+    /// Takes bytes that a text may have.
+    fn keep_put<S: Source>(&mut self, source: &mut S, asked: u64) -> Result<Taken, LineFault>
+        requires source { IsReaderBehind asked self.old (S.seen source.old) }
+        requires few { asked ≤ TEXT_LIMIT }
+        ensures given { IfOk result (λ taken. GivesPut taken asked self.old self.new (S.seen source.old) (S.seen source.new)) }
+        ensures fault { IfErr result (λ fault. FallsShort fault asked self.old self.new (S.seen source.old) (S.seen source.new)) }
+        ensures unread { asked ≤ within self.old → source.new ≡ source.old }
+        ensures leaves { LeavesReader result self.old self.new (S.seen source.old) (S.seen source.new) }
+    {
         'bytes: loop {
-            let count = self.take_held(&mut text, due, keeps)?;
-            due -= count;
-            if due == 0 {
-                return Ok(all_of(text, keeps));
+            if asked <= self.within() as u64 {
+                return self.give_text(asked as usize);
             }
-            if let Some(taken) = self.cut() {
-                return Ok(taken);
+            if self.has_ended()? {
+                self.skip(self.within());
+                return Ok(Taken::Short);
             }
             self.fill(source)?;
         }
     }
 
-    /// Takes bytes that are held, at most `most` and none beyond the limit of a script, and answers how many.
-    fn take_held(&mut self, text: &mut Vec<u8>, most: u64, keeps: bool) -> Result<u64, LineFault>
-        ensures count { IfOk result (λ count. count ≡ min most (within self.old)) }
-        ensures held { IfOk result (λ count. self.new ≡ record self.old { held = drop count self.old.held }) }
-        ensures kept { IfOk result (λ count. keeps ≡ true → text.new.items ≡ text.old.items ++ take count self.old.held) }
-        ensures dropped { keeps ≡ false → text.new.items ≡ text.old.items }
+    /// Takes more bytes than a text may have, and keeps none.
+    fn drop_put<S: Source>(&mut self, source: &mut S, asked: u64) -> Result<Taken, LineFault>
+        requires source { IsReaderBehind asked self.old (S.seen source.old) }
+        requires many { TEXT_LIMIT < asked }
+        ensures given { IfOk result (λ taken. GivesPut taken asked self.old self.new (S.seen source.old) (S.seen source.new)) }
+        ensures fault { IfErr result (λ fault. FallsShort fault asked self.old self.new (S.seen source.old) (S.seen source.new)) }
+        ensures unread { asked ≤ within self.old → source.new ≡ source.old }
+        ensures leaves { LeavesReader result self.old self.new (S.seen source.old) (S.seen source.new) }
+    {
+        let mut due = asked;
+        'bytes: loop {
+            due -= self.drop_held(due);
+            if due == 0 {
+                return Ok(Taken::Dropped);
+            }
+            if self.has_ended()? {
+                return Ok(Taken::Short);
+            }
+            self.fill(source)?;
+        }
+    }
+
+    /// How many of the bytes that are held lie within the limit of a script.
+    fn within(&self) -> usize
+        ensures count { result ≡ within self.now }
+        ensures sound { IsReading self.now }
+    {
+        self.held().len() - self.taken.saturating_sub(SCRIPT_LIMIT) as usize
+    }
+
+    /// Whether the source has ended. A script of which a byte beyond the limit was taken is too long.
+    fn has_ended(&self) -> Result<bool, LineFault>
+        ensures ended { IfOk result (λ ended. ended ≡ self.now.ended) }
+        ensures room { OnOk result (self.now.taken ≤ SCRIPT_LIMIT) }
+        ensures past { OnErr result (IsErrOf result LineFault.TooLong × (self.now.ended ≡ false) × (self.now.taken ≡ SCRIPT_LIMIT + 1)) }
+    {
+        if self.taken > SCRIPT_LIMIT {
+            return Err(LineFault::TooLong);
+        }
+        Ok(self.ended)
+    }
+
+    /// Gives the first `count` bytes as a text.
+    fn give_text(&mut self, count: usize) -> Result<Taken, LineFault>
+        requires inside { count ≤ within self.old }
+        ensures text { IfOk result (λ taken. taken ≡ Whole (take count self.old.held)) }
+        ensures ok { OnOk result (self.new ≡ record self.old { held = drop count self.old.held }) }
         ensures err { OnErr result (self.new ≡ self.old) }
         ensures memory { OnErr result (IsErrOf result LineFault.Memory) }
+    {
+        let text = Vec::from_slice(self.alloc, &self.held()[..count])?;
+        self.skip(count);
+        Ok(Taken::Whole(Text::new(text)))
+    }
+
+    /// Leaves out at most `most` of the bytes that are held, none beyond the limit of a script, and answers how many.
+    fn drop_held(&mut self, most: u64) -> u64
+        ensures count { result ≡ min most (within self.old) }
+        ensures held { self.new ≡ record self.old { held = drop result self.old.held } }
         ensures was { IsReading self.old }
         ensures sound { IsReading self.new }
     {
-        let within = self.held().len() - self.taken.saturating_sub(SCRIPT_LIMIT) as usize;
+        let within = self.within();
         let count = if most < within as u64 {
             most as usize
         } else {
             within
         };
-        if keeps {
-            text.extend_from_slice(&self.held()[..count])?;
-        }
+        self.skip(count);
+        count as u64
+    }
+
+    /// Leaves out the first `count` bytes.
+    fn skip(&mut self, count: usize)
+        requires inside { count ≤ within self.old }
+        ensures held { self.new ≡ record self.old { held = drop count self.old.held } }
+        ensures sound { IsReading self.new }
+    {
         self.start += count;
         self.scanned = self.scanned.max(self.start);
-        Ok(count as u64)
-    }
-
-    /// Why no more bytes come. None where more are to be read.
-    fn cut(&self) -> Option<Taken>
-        ensures found { IfSome result (λ taken. IsCut taken self.now) }
-        ensures none { IfNone result ((self.now.ended ≡ false) × (self.now.taken ≤ SCRIPT_LIMIT)) }
-    {
-        if self.ended {
-            Some(Taken::Short)
-        } else if self.taken > SCRIPT_LIMIT {
-            Some(Taken::PastLimit)
-        } else {
-            None
-        }
-    }
-}
-
-/// What came where all bytes came. Of bytes that aren't kept none were.
-fn all_of(text: Vec<u8>, keeps: bool) -> Taken
-    requires { keeps ≡ false → text.items ≡ [] }
-    ensures { result ≡ (if keeps then Whole text.items else Dropped) }
-{
-    if keeps {
-        Taken::Whole(Text::new(text))
-    } else {
-        Taken::Dropped
     }
 }

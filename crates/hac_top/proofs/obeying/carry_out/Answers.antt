@@ -1,5 +1,5 @@
 use Rattle.std.proofs.lemmas.Result.{err_from_is_err_and}
-use Rattle.shell_lang.specs.Told.{item_taken}
+use Rattle.hac_model.specs.Lines.{item_taken}
 use Rattle.hac_model.specs.Play.{turn}
 use Rattle.hac_top.specs.Stops.{is_disk_stop}
 use Rattle.hac_top.proofs.StoringLemmas.{no-disk-stop, stores-nothing}

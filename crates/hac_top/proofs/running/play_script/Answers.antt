@@ -203,7 +203,7 @@ lines-preserved g c =
           (goes-on first script (pending c.lines.reader (seen c.lines.input).left) behind line c.lines.reader.ended reader.ended setting c.lines.player.refused before (sink c.lines.output) now was.goes
           (rw c.in-Some.is at c.in_ok-line.ensures.line) answer.written));
       passed = λ none. answer.passed (was.passed none);
-      source = took.source;
+      source = c.in_ok-line.ensures.source;
       total = total_on 0 c.lines.reader.taken reader.taken script (seen c.lines.input).left (seen c.take_line.new.input).left was.total took.total;
       limit = took.limit;
       read = read ∙ was.read;

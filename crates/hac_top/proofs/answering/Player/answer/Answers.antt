@@ -1,6 +1,6 @@
 use Rattle.std.proofs.Common.{ap, refl, ◌∙◌}
 use Rattle.hac_model.specs.Play.{all_events, turn, turns}
-use Rattle.shell_lang.specs.Told.{item_taken}
+use Rattle.hac_model.specs.Lines.{item_taken}
 use Rattle.shell_lang.specs.declared.reading.Piece.{Piece}
 use Rattle.hac_top.specs.Stops.{is_disk_stop}
 use Rattle.hac_top.specs.TakenLines.{items_of_piece, items_of_taken}

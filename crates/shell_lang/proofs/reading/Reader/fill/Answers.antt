@@ -1,9 +1,10 @@
-use Rattle.std.proofs.Common.{arith, ◌≡◌, ◌≤◌, ◌+◌, length, drop, ap, sym, ◌∙◌, subst}
-use Rattle.std.specs.Prelude.{ℕ, List, nat_eq}
-use Rattle.hac_model.specs.declared.limits.TheConstants.{SCRIPT_LIMIT}
-use Rattle.shell_lang.specs.declared.reading.TheConstants.{PIECE}
-use Rattle.shell_lang.specs.Reading.{Reading, IsUnended, ReadsOn, ReadsPiece}
-use Rattle.shell_lang.proofs.ReaderLemmas.{reads-piece, reading-piece, scanned-on}
+use Rattle.std.proofs.Common.{arith, ◌≡◌, ◌≤◌, ◌+◌, ◌-◌, length, drop, ap, sym, ◌∙◌, subst}
+use Rattle.std.specs.Prelude.{ℕ, List, max, nat_eq}
+use Rattle.std.specs.List.{position_or_len}
+use Rattle.hac_model.specs.Bytes.{is_line_end}
+use Rattle.hac_model.specs.declared.limits.TheConstants.{SCRIPT_LIMIT, TEXT_LIMIT}
+use Rattle.shell_lang.specs.Reading.{Reading, ReadsOn, ReadsPiece, piece_size}
+use Rattle.shell_lang.proofs.ReaderLemmas.{filled-kept, reads-piece, reading-piece, scanned-on}
 use Rattle.shell_lang.proofs.reading.Reader.fill.Goals as goal
 use Rattle.shell_lang.proofs.reading.Reader.fill.Goals.{then-room, else-room}
 
@@ -21,24 +22,22 @@ returns-clause-reads g c =
 
 pub invariant_of-self-2 : goal.invariant_of-self-2
 invariant_of-self-2 g c =
-    let old : Reading = record { held = drop c.self.inside.start c.self.inside.bytes.items; taken = c.self.inside.taken; ended = c.self.inside.ended } in
-    let unended : IsUnended old.held = subst (λ (r : Reading). IsUnended r.held) (sym c.self.view_is) c.requires.unended in
+    let inside = c.self.inside in
+    let old : Reading = record { held = drop inside.start inside.bytes.items; taken = inside.taken; ended = inside.ended } in
     let more_may : old.taken ≤ SCRIPT_LIMIT = subst (λ (r : Reading). r.taken ≤ SCRIPT_LIMIT) (sym c.self.view_is) c.requires.room in
     let before = g.S.Source.seen c.args.source.now in
     let after = g.S.Source.seen c.read_onto.new.source in
     let all = c.read_onto.new.bytes.items in
     let read : ReadsPiece old.held c.read_onto.new.bytes.items before after c.in_ok-count.count c.if-room.most =
     subst (λ (xs : List ℕ). ReadsPiece xs c.read_onto.new.bytes.items before after c.in_ok-count.count c.if-room.most) c.drop_front.ensures c.in_ok-count.ensures.ok in
-    let bound : (c.if-room.most ≤ PIECE) × (c.if-room.most + old.taken ≤ SCRIPT_LIMIT + 1) = elim c.if-room.branch [ then-room w ↦ (omega (arith, w.most-is, w.if-room.true), omega (arith, w.most-is, more_may)) | else-room w ↦ (omega (arith, w.most-is), omega (arith, w.most-is, w.if-room.false, more_may)) ] in
-    let scanned = scanned-on old.held all c.in_ok-count.count c.if-room.most before after unended bound.0 read in
-    let count : length c.drop_front.new.bytes.items ≡ length old.held = ap length c.drop_front.ensures in
+    let few = subst (λ (r : Reading). length r.held ≤ max (position_or_len is_line_end r.held) TEXT_LIMIT) (sym c.self.view_is) c.requires.few in
+    let bound : (c.if-room.most + old.taken ≤ SCRIPT_LIMIT + 1) × (c.if-room.most ≤ piece_size) = elim c.if-room.branch [ then-room w ↦ (omega (arith, w.most-is, more_may), omega (arith, w.most-is, w.if-room.true)) | else-room w ↦ (omega (arith, w.most-is, w.if-room.false, more_may), omega (arith, w.most-is)) ] in
     record {
       start = omega arith;
       begun = omega arith;
-      scanned = omega (arith, count, scanned.0);
-      near = omega (arith, count, scanned.1);
-      kept = omega (arith, scanned.0, scanned.1);
-      reading = reading-piece old all c.in_ok-count.count c.if-room.most before after c.self.invariant.reading more_may unended bound.0 bound.1 read;
+      scanned = omega (arith, scanned-on old.held all (inside.scanned - inside.start) c.in_ok-count.count c.if-room.most before after (omega (arith, c.self.invariant.scanned, c.self.invariant.begun)) read);
+      kept = filled-kept old.held all c.in_ok-count.count c.if-room.most before after few bound.1 read;
+      reading = reading-piece old all c.in_ok-count.count c.if-room.most before after c.self.invariant.reading more_may bound.0 read;
     }
 
 pub returns-clause-sound : goal.returns-clause-sound

@@ -1,7 +1,7 @@
 use Rattle.std.proofs.Common.{◌≡◌, true, ◌+◌, ◌-◌, cond}
 use Rattle.hac_model.specs.declared.limits.TheConstants.{SCRIPT_LIMIT}
 use Rattle.hac_model.specs.Script.{is_first_ended}
-use Rattle.shell_lang.specs.Reading.{ReadsOn}
+use Rattle.shell_lang.specs.Reading.{IsReaderOf, ReadsOn}
 use Rattle.shell_lang.proofs.reading.Reader.find_line.Given as goal
 
 -- only reading was done, and no read failed
@@ -10,6 +10,7 @@ invariant-loop-found g l =
     let seen = g.S.Source.seen in
     record {
       reads : ReadsOn l.fn.self l.self (seen l.fn.source) (seen l.source);
+      source : IsReaderOf l.self (seen l.source);
       unread : is_first_ended l.fn.self.held ≡ true → l.source ≡ l.fn.source;
       faults : (seen l.source).faults ≡ (seen l.fn.source).faults;
     }

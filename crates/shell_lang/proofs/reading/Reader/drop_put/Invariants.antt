@@ -1,15 +1,15 @@
 use Rattle.std.proofs.Common.{◌≡◌, ◌<◌, ◌≤◌, ◌+◌, ◌-◌, cond}
 use Rattle.hac_model.specs.declared.limits.TheConstants.{SCRIPT_LIMIT}
 use Rattle.shell_lang.specs.Takes.{within}
-use Rattle.shell_lang.proofs.TakeLemmas.{TakesSome}
-use Rattle.shell_lang.proofs.reading.Reader.take_put.Given as goal
+use Rattle.shell_lang.proofs.TakeLemmas.{DropsOn}
+use Rattle.shell_lang.proofs.reading.Reader.drop_put.Given as goal
 
--- what was taken so far, and what is still due, are the bytes that were asked for, and no read failed
+-- some of the bytes that are asked for are gone, the others are still due, and no read failed
 abbrev pub invariant-bytes : goal.invariant-bytes
 invariant-bytes g l =
     let seen = g.S.Source.seen in
     record {
-      takes : TakesSome l.fn.self l.self (seen l.fn.source) (seen l.source) l.asked l.due l.keeps l.text.items;
+      drops : DropsOn l.asked l.due l.fn.self l.self (seen l.fn.source) (seen l.source);
       more : 0 < l.due;
       unread : l.asked ≤ within l.fn.self → (l.source ≡ l.fn.source) × (l.due ≤ within l.self);
       faults : (seen l.source).faults ≡ (seen l.fn.source).faults;

@@ -1,5 +1,5 @@
-//! What the reader took of the bytes that a line asks for.
-use hac_model::Text;
+//! What is taken of the bytes that a line asks for.
+use crate::bytes::Text;
 
 /// What came of the bytes that a line asks for behind its end.
 #[derive(Debug, Drop)]
@@ -10,6 +10,4 @@ pub enum Taken {
     Dropped,
     /// The script ended before they did.
     Short,
-    /// The script's limit came before their end.
-    PastLimit,
 }

@@ -1,0 +1,84 @@
+//! Commands from what follows their names, by its shape.
+ghost use Rattle.std.specs.Prelude.{◌≡◌};
+ghost use Rattle.hac_model.specs.Answers.{Answers};
+ghost use Rattle.hac_model.specs.Formula.{Formula};
+ghost use Rattle.hac_model.specs.Lines.{find_of, of_two_paths, one_path, path_and_query};
+ghost use Rattle.hac_model.specs.QueryReading.{read_query};
+ghost use Rattle.hac_model.specs.declared.commands.Command.{Command};
+ghost use Rattle.hac_model.specs.declared.paths.PathWord.{PathWord};
+
+use crate::paths::{only_path, parse_path, two_paths};
+use crate::words::{only_word, skip_one, split_word};
+use hac_model::{Command, Deny, PathWord, RawQuery, Refusal};
+use query_text::{QueryFault, parse};
+use std::alloc::Global;
+
+/// The command of one path word.
+#[tactic(auto, unfolding(hac_model::specs::Lines::one_path))]
+pub fn one_path<F: FnOnce(PathWord) -> Command>(
+    alloc: Global,
+    arguments: &[u8],
+    command: F,
+) -> Result<Command, Deny>
+    requires { F.IsAlwaysCallable command }
+    ensures { (spelled : PathWord → Command) → ((path : PathWord) (made : Command) → F.post command path made → made ≡ spelled path)
+        → Answers result (one_path spelled arguments.now) }
+{
+    let path = only_path(alloc, arguments)?;
+    Ok(command(path))
+}
+
+/// The command of two path words, of which a bad one counts before one with a long name.
+#[tactic(auto, unfolding(hac_model::specs::Lines::of_two_paths))]
+pub fn of_two_paths<F: FnOnce(PathWord, PathWord) -> Command>(
+    alloc: Global,
+    arguments: &[u8],
+    command: F,
+) -> Result<Command, Deny>
+    requires { F.IsAlwaysCallable command }
+    ensures { (spelled : PathWord → PathWord → Command) → ((first second : PathWord) (made : Command) → F.post command first second made → made ≡ spelled first second)
+        → Answers result (of_two_paths spelled arguments.now) }
+{
+    let (first, rest) = split_word(alloc, arguments)?;
+    let second = only_word(alloc, rest)?;
+    let (first, second) = two_paths(alloc, &first, &second)?;
+    Ok(command(first, second))
+}
+
+/// The command of a path word and a query, which is all that follows one space.
+#[tactic(auto, unfolding(hac_model::specs::Lines::path_and_query))]
+pub fn path_and_query<F: FnOnce(PathWord, RawQuery) -> Command>(
+    alloc: Global,
+    arguments: &[u8],
+    command: F,
+) -> Result<Command, Deny>
+    requires { F.IsAlwaysCallable command }
+    ensures { (spelled : PathWord → Formula PathWord → Command) → ((path : PathWord) (query : Formula PathWord) (made : Command) → F.post command path query made → made ≡ spelled path query)
+        → Answers result (path_and_query spelled arguments.now) }
+{
+    let (word, rest) = split_word(alloc, arguments)?;
+    let path = parse_path(alloc, &word)?;
+    let query = spelled_query(alloc, skip_one(rest))?;
+    Ok(command(path, query))
+}
+
+/// `find QUERY`, from what follows `find`.
+#[tactic(auto, unfolding(hac_model::specs::Lines::find_of))]
+pub fn parse_find(alloc: Global, arguments: &[u8]) -> Result<Command, Deny>
+    ensures { Answers result (find_of arguments.now) }
+{
+    let query = spelled_query(alloc, skip_one(arguments))?;
+    Ok(Command::Find { query })
+}
+
+/// The query that the bytes spell, or the refusal of its bytes.
+fn spelled_query(alloc: Global, bytes: &[u8]) -> Result<RawQuery, Deny>
+    ensures { Answers result (read_query bytes.now) }
+{
+    match parse(alloc, bytes) {
+        Ok(query) => Ok(query),
+        Err(QueryFault::BadAt(place)) => Err(Deny::Refused(Refusal::BadQuery(place))),
+        Err(QueryFault::Limit(word)) => Err(Deny::Refused(Refusal::Limit(word))),
+        Err(QueryFault::Memory) => Err(Deny::Memory),
+    }
+}
