@@ -6,9 +6,10 @@ ghost use Rattle.hac_disk.specs.Told.{HasByteAt, IsSettled};
 ghost use Rattle.hac_model.specs.Events.{accepted, apply};
 ghost use Rattle.hac_model.specs.Payloads.{spelled};
 ghost use Rattle.hac_model.specs.Valid.{IsValid};
+ghost use Rattle.hac_checkpoint.specs.Roots.{root_of};
 ghost use Rattle.hac_store.specs.Held.{held, after_payload, log};
 ghost use Rattle.hac_store.specs.Reading.{Judges, ReadsLog};
-ghost use Rattle.hac_store.specs.Stores.{Opens, Stands};
+ghost use Rattle.hac_store.specs.Stores.{Bears, Opens, Stands, root_by};
 
 use crate::fault::StoreFault;
 use crate::store::Store;
@@ -24,9 +25,10 @@ impl Store {
     /// Opens the store on a disk: syncs, reads it and applies its events. It writes nothing.
     pub fn load<D: Disk>(alloc: Global, disk: &mut D) -> Result<Store, StoreFault>
         ensures held { IfSome (D.seen disk.old) (λ file. Opens result (held file)) }
+        ensures root { IfSome (D.seen disk.old) (λ file. IfOk result (λ store. root_of file ≡ Ok (root_by store))) }
         ensures sound { IfOk result (λ store. (store.broken ≡ false) × IsValid store.setting.state) }
         ensures stands { IfSome (D.seen disk.old) (λ _. IfOk result (λ store. Stands (D.seen disk.new) (D.image disk.new) store.setting)) }
-        ensures place { IfOk result (λ store. HasByteAt (D.seen disk.new) store.setting.end) }
+        ensures place { IfOk result (λ store. Bears (D.seen disk.new) store) }
         ensures settled { OnOk result (IsSettled (D.seen disk.new) (D.image disk.new)) }
         ensures quiet { IsQuiet D.seen D.image D.moment D.image_since disk.old disk.new }
         ensures kind { (result ≡ Err StoreFault.AlreadyStore → ⊥) × (result ≡ Err StoreFault.Full → ⊥) }
@@ -42,8 +44,9 @@ impl Store {
 /// Reads the store on a disk. It writes nothing.
 pub(crate) fn read_store<D: Disk>(alloc: Global, disk: &mut D) -> Result<Store, StoreFault>
     ensures held { IfSome (D.seen disk.old) (λ file. Opens result (held file)) }
+    ensures root { IfSome (D.seen disk.old) (λ file. IfOk result (λ store. root_of file ≡ Ok (root_by store))) }
     ensures sound { IfOk result (λ store. (store.broken ≡ false) × IsValid store.setting.state) }
-    ensures place { IfOk result (λ store. HasByteAt (D.seen disk.new) store.setting.end) }
+    ensures place { IfOk result (λ store. Bears (D.seen disk.new) store) }
     ensures quiet { IsQuiet D.seen D.image D.moment D.image_since disk.old disk.new }
     ensures kind { (result ≡ Err StoreFault.AlreadyStore → ⊥) × (result ≡ Err StoreFault.Full → ⊥) }
     ensures attached { D.attached disk.new ≡ D.attached disk.old }
@@ -56,6 +59,7 @@ pub(crate) fn read_store<D: Disk>(alloc: Global, disk: &mut D) -> Result<Store, 
         Ok(end) => Ok(Store {
             alloc,
             machine,
+            slot: root.slot,
             start: root.start,
             end,
             generation: root.generation,

@@ -6,7 +6,7 @@ use Rattle.hac_core.specs.Drafts.{reads}
 use Rattle.hac_core.specs.Settling.{Settles, settled_events}
 use Rattle.hac_core.specs.declared.drafts.Settled.{Settled}
 use Rattle.hac_model.specs.Answers.{first_cause}
-use Rattle.hac_model.specs.Play.{Setting, Turn, answered, after_events, data_lines, have_room, refused, turn_of}
+use Rattle.hac_model.specs.Play.{Setting, Turn, answered, after_events, data_lines, have_room, refused, command_turn}
 use Rattle.hac_model.specs.Refusals.{cause, events_of}
 use Rattle.hac_model.specs.declared.events.Event.{Event}
 use Rattle.hac_model.specs.declared.limits.LimitWord.TheVariants.{Store}
@@ -51,7 +51,7 @@ module _ (setting : Setting) (draft : Resolved) (changes : reads draft ≡ false
   turn-by None false free = record { reply = refl; events = refl; after = refl }
   turn-by (Some refusal) room free = absurd cc
 
-  pub settled-turn : (settled : Settled) → Settles setting.state draft settled → IsTurn (turn_of setting (Ok draft)) setting (settled_events settled) (have_room setting.end (settled_events settled))
+  pub settled-turn : (settled : Settled) → Settles setting.state draft settled → IsTurn (command_turn setting (Ok draft)) setting (settled_events settled) (have_room setting (settled_events settled))
   settled-turn settled settles =
-      subst (λ (es : List Event). IsTurn (turn_of setting (Ok draft)) setting es (have_room setting.end es)) (sym settles.events)
-      (turn-by (cause setting.state draft) (have_room setting.end (events_of setting.state draft)) settles.cause)
+      subst (λ (es : List Event). IsTurn (command_turn setting (Ok draft)) setting es (have_room setting es)) (sym settles.events)
+      (turn-by (cause setting.state draft) (have_room setting (events_of setting.state draft)) settles.cause)

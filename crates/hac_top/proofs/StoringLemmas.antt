@@ -69,10 +69,10 @@ module _ {D : Type 0} (seen : D → Option (List ℕ)) (image : D → List ℕ �
 
   -- the events that are kept: all, or none where the store is full and nothing was written
   pub stores-kept : ((disk : D) (c : List ℕ) → image_since disk (moment disk) c → image disk c) → (old new : D) (setting : Setting) (events : List Event) (failed other : Bool) → other ≡ failed →
-      (have_room setting.end events ≡ false → (new ≡ old) × (failed ≡ false)) → Stores seen image moment image_since attached faults old new setting events failed →
+      (have_room setting events ≡ false → (new ≡ old) × (failed ≡ false)) → Stores seen image moment image_since attached faults old new setting events failed →
       Stores seen image moment image_since attached faults old new setting (kept_events setting events) other
   stores-kept only_now old new setting events failed other is none stores =
-      elim (have_room setting.end events) as (λ b. have_room setting.end events ≡ b → Stores seen image moment image_since attached faults old new setting (cond b events []) other) [
+      elim (have_room setting events) as (λ b. have_room setting events ≡ b → Stores seen image moment image_since attached faults old new setting (cond b events []) other) [
         | true ↦ (λ _. stores-same old new setting events events failed other refl is stores)
         | false ↦ (λ full.
             let same = none full in

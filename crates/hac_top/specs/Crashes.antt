@@ -4,7 +4,7 @@ use Rattle.std.specs.declared.option.Option.{Option}
 use Rattle.hac_disk.specs.Images.{LeavesOnly}
 use Rattle.hac_outside.specs.Causes.{Rose}
 use Rattle.hac_model.specs.Events.{apply_all}
-use Rattle.hac_model.specs.Play.{Setting, Turn, all_events, events_before, opening, tree_after}
+use Rattle.hac_model.specs.Play.{Setting, Turn, all_events, events_before, new_setting, tree_after}
 use Rattle.hac_model.specs.declared.events.Event.{Event}
 use Rattle.hac_model.specs.declared.states.State.{State}
 use Rattle.hac_store.specs.Held.{held}
@@ -20,7 +20,7 @@ abbrev pub opening_outcome : Bool → Result Setting ℕ → Result Setting Stat
 opening_outcome false (Ok setting) = Ok setting
 opening_outcome false (Err at) = Err (NotStore at)
 opening_outcome true (Ok setting) = Err AlreadyStore
-opening_outcome true (Err at) = Ok opening
+opening_outcome true (Err at) = Ok new_setting
 
 -- the status says what the file holds
 abbrev pub TellsFile : Status → Type 0

@@ -10,6 +10,7 @@ use Rattle.hac_model.specs.Printed.{ended}
 use Rattle.hac_model.specs.Script.{after_item, whole}
 use Rattle.hac_model.specs.declared.limits.TheConstants.{SCRIPT_LIMIT}
 use Rattle.hac_store.specs.Held.{held}
+use Rattle.hac_store.specs.Stores.{IsHeldAs}
 use Rattle.hac_top.specs.Crashes.{IsTreeOfAnswered, Reopens, opening_outcome}
 use Rattle.hac_top.specs.Ends.{IsFinished, finished_status, is_read_fault, is_write_fault}
 use Rattle.hac_top.specs.Told.{Told}
@@ -106,7 +107,7 @@ pub record Plays (status : Status) (setting : Setting) (script : List ℕ) (befo
 pub record Ran (fresh : Bool) (status : Status) (setting : Setting) (script : List ℕ) (before after : Outside) (stood : Type 0) (image : List ℕ → Type 0) : Type 0 where
   pub plays : Plays status setting script before after
   pub reopens : stood → (c : List ℕ) → image c → Reopens fresh (IsTreeOfAnswered setting.state (play setting script) plays.told.done) c
-  pub kept : stood → IsFinished status → (c : List ℕ) → image c → held c ≡ Ok (left_by setting (play setting script))
+  pub kept : stood → IsFinished status → (c : List ℕ) → image c → IsHeldAs c (left_by setting (play setting script))
 
 -- the words, the file and the script, if they are known, and what the run then goes on from
 abbrev pub IfOpens : Option Options → Option (List ℕ) → Option (List ℕ) → (Bool → Setting → List ℕ → Type 0) → Type 0

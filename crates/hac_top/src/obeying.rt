@@ -2,12 +2,11 @@
 ghost use Rattle.std.specs.Prelude.{◌≡◌, ◌⊎◌, ◌≤◌, ◌<◌, ◌∷◌, [], length, replicate, if◌then◌else◌, IfOk, IfErr, IsErrOf, OnOk, IsTrue, Ok, true, false};
 ghost use Rattle.hac_core.specs.Drafts.{IsDraft, reads};
 ghost use Rattle.hac_core.specs.Settling.{settled_events};
-ghost use Rattle.hac_disk.specs.Told.{HasByteAt};
 ghost use Rattle.hac_model.specs.Laws.{AllHappen};
 ghost use Rattle.hac_model.specs.Lines.{is_spelled};
-ghost use Rattle.hac_model.specs.Play.{after_events, have_room, turn, turn_of};
+ghost use Rattle.hac_model.specs.Play.{have_room, item_turn, command_turn};
 ghost use Rattle.hac_model.specs.declared.events.Event.TheVariants as event;
-ghost use Rattle.hac_store.specs.Stores.{Stands, intact};
+ghost use Rattle.hac_store.specs.Stores.{Bears, Stands, store_after};
 ghost use Rattle.hac_top.specs.Crashes.{Stores};
 ghost use Rattle.hac_top.specs.Obeying.{is_disk_fault, kept_events, kept_reply};
 ghost use Rattle.hac_top.specs.Stops.{IsDenial, StopsCommand, is_disk_stop};
@@ -37,13 +36,13 @@ pub fn carry_out<D: Disk>(
     taken: Option<Taken>,
 ) -> Result<Reply, Stop>
     requires intact { store.old.broken ≡ false }
-    requires place { HasByteAt (D.seen disk.old) store.old.setting.end }
-    ensures reply { IfOk result (λ reply. reply ≡ (turn store.old.setting (item_taken line taken)).reply) }
-    ensures store { OnOk result (store.new ≡ intact (turn store.old.setting (item_taken line taken)).after) }
-    ensures place { OnOk result (HasByteAt (D.seen disk.new) store.new.setting.end) }
+    requires place { Bears (D.seen disk.old) store.old }
+    ensures reply { IfOk result (λ reply. reply ≡ (item_turn store.old.setting (item_taken line taken)).reply) }
+    ensures store { OnOk result (store.new ≡ record store.old { setting = (item_turn store.old.setting (item_taken line taken)).after }) }
+    ensures place { OnOk result (Bears (D.seen disk.new) store.new) }
     ensures stands { Stands (D.seen disk.old) (D.image disk.old) store.old.setting → OnOk result (Stands (D.seen disk.new) (D.image disk.new) store.new.setting) }
     ensures stores { Stores D.seen D.image D.moment D.image_since D.attached D.faults disk.old disk.new store.old.setting
-        (turn store.old.setting (item_taken line taken)).events (is_disk_stop result) }
+        (item_turn store.old.setting (item_taken line taken)).events (is_disk_stop result) }
     ensures stops { IfErr result StopsCommand }
 {
     match parse_line(alloc, line.as_slice(), taken) {
@@ -55,14 +54,14 @@ pub fn carry_out<D: Disk>(
 /// Carries out a command, or refuses it because of the tree.
 fn obey<D: Disk>(alloc: Global, store: &mut Store, disk: &mut D, line: Line) -> Result<Reply, Stop>
     requires intact { store.old.broken ≡ false }
-    requires place { HasByteAt (D.seen disk.old) store.old.setting.end }
+    requires place { Bears (D.seen disk.old) store.old }
     requires spelled { IsTrue (is_spelled line.command) }
-    ensures reply { IfOk result (λ reply. reply ≡ (turn store.old.setting (Ok line)).reply) }
-    ensures store { OnOk result (store.new ≡ intact (turn store.old.setting (Ok line)).after) }
-    ensures place { OnOk result (HasByteAt (D.seen disk.new) store.new.setting.end) }
+    ensures reply { IfOk result (λ reply. reply ≡ (item_turn store.old.setting (Ok line)).reply) }
+    ensures store { OnOk result (store.new ≡ record store.old { setting = (item_turn store.old.setting (Ok line)).after }) }
+    ensures place { OnOk result (Bears (D.seen disk.new) store.new) }
     ensures stands { Stands (D.seen disk.old) (D.image disk.old) store.old.setting → OnOk result (Stands (D.seen disk.new) (D.image disk.new) store.new.setting) }
     ensures stores { Stores D.seen D.image D.moment D.image_since D.attached D.faults disk.old disk.new store.old.setting
-        (turn store.old.setting (Ok line)).events (is_disk_stop result) }
+        (item_turn store.old.setting (Ok line)).events (is_disk_stop result) }
     ensures stops { IfErr result StopsCommand }
 {
     match store.machine().check(line) {
@@ -89,14 +88,14 @@ fn follow<D: Disk>(
     draft: Draft,
 ) -> Result<Reply, Stop>
     requires intact { store.old.broken ≡ false }
-    requires place { HasByteAt (D.seen disk.old) store.old.setting.end }
+    requires place { Bears (D.seen disk.old) store.old }
     requires made { IsDraft store.old.setting.state draft }
-    ensures reply { IfOk result (λ reply. reply ≡ (turn_of store.old.setting (Ok draft)).reply) }
-    ensures store { OnOk result (store.new ≡ intact (turn_of store.old.setting (Ok draft)).after) }
-    ensures place { OnOk result (HasByteAt (D.seen disk.new) store.new.setting.end) }
+    ensures reply { IfOk result (λ reply. reply ≡ (command_turn store.old.setting (Ok draft)).reply) }
+    ensures store { OnOk result (store.new ≡ record store.old { setting = (command_turn store.old.setting (Ok draft)).after }) }
+    ensures place { OnOk result (Bears (D.seen disk.new) store.new) }
     ensures stands { Stands (D.seen disk.old) (D.image disk.old) store.old.setting → OnOk result (Stands (D.seen disk.new) (D.image disk.new) store.new.setting) }
     ensures stores { Stores D.seen D.image D.moment D.image_since D.attached D.faults disk.old disk.new store.old.setting
-        (turn_of store.old.setting (Ok draft)).events (is_disk_stop result) }
+        (command_turn store.old.setting (Ok draft)).events (is_disk_stop result) }
     ensures stops { IfErr result StopsCommand }
 {
     if draft.reads() {
@@ -113,15 +112,15 @@ fn change<D: Disk>(
     draft: Draft,
 ) -> Result<Reply, Stop>
     requires intact { store.old.broken ≡ false }
-    requires place { HasByteAt (D.seen disk.old) store.old.setting.end }
+    requires place { Bears (D.seen disk.old) store.old }
     requires made { IsDraft store.old.setting.state draft }
     requires changes { reads draft ≡ false }
-    ensures reply { IfOk result (λ reply. reply ≡ (turn_of store.old.setting (Ok draft)).reply) }
-    ensures store { OnOk result (store.new ≡ intact (turn_of store.old.setting (Ok draft)).after) }
-    ensures place { OnOk result (HasByteAt (D.seen disk.new) store.new.setting.end) }
+    ensures reply { IfOk result (λ reply. reply ≡ (command_turn store.old.setting (Ok draft)).reply) }
+    ensures store { OnOk result (store.new ≡ record store.old { setting = (command_turn store.old.setting (Ok draft)).after }) }
+    ensures place { OnOk result (Bears (D.seen disk.new) store.new) }
     ensures stands { Stands (D.seen disk.old) (D.image disk.old) store.old.setting → OnOk result (Stands (D.seen disk.new) (D.image disk.new) store.new.setting) }
     ensures stores { Stores D.seen D.image D.moment D.image_since D.attached D.faults disk.old disk.new store.old.setting
-        (turn_of store.old.setting (Ok draft)).events (is_disk_stop result) }
+        (command_turn store.old.setting (Ok draft)).events (is_disk_stop result) }
     ensures stops { IfErr result StopsCommand }
 {
     match store.machine().settle(draft) {
@@ -138,11 +137,11 @@ fn happen<D: Disk>(
     settled: Settled,
 ) -> Result<Reply, Stop>
     requires intact { store.old.broken ≡ false }
-    requires place { HasByteAt (D.seen disk.old) store.old.setting.end }
+    requires place { Bears (D.seen disk.old) store.old }
     requires happen { AllHappen store.old.setting.state (settled_events settled) }
     ensures reply { IfOk result (λ reply. reply ≡ kept_reply store.old.setting (settled_events settled)) }
-    ensures store { OnOk result (store.new ≡ intact (after_events store.old.setting (kept_events store.old.setting (settled_events settled)))) }
-    ensures place { OnOk result (HasByteAt (D.seen disk.new) store.new.setting.end) }
+    ensures store { OnOk result (store.new ≡ store_after store.old (kept_events store.old.setting (settled_events settled))) }
+    ensures place { OnOk result (Bears (D.seen disk.new) store.new) }
     ensures stands { Stands (D.seen disk.old) (D.image disk.old) store.old.setting → OnOk result (Stands (D.seen disk.new) (D.image disk.new) store.new.setting) }
     ensures stores { Stores D.seen D.image D.moment D.image_since D.attached D.faults disk.old disk.new store.old.setting
         (kept_events store.old.setting (settled_events settled)) (is_disk_stop result) }
@@ -165,12 +164,12 @@ fn store_events<D: Disk>(
     settled: Settled,
 ) -> Result<(), StoreFault>
     requires intact { store.old.broken ≡ false }
-    requires place { HasByteAt (D.seen disk.old) store.old.setting.end }
+    requires place { Bears (D.seen disk.old) store.old }
     requires happen { AllHappen store.old.setting.state (settled_events settled) }
-    ensures ok { OnOk result (store.new ≡ intact (after_events store.old.setting (settled_events settled))) }
-    ensures full { IsErrOf result StoreFault.Full → (have_room store.old.setting.end (settled_events settled) ≡ false) × (store.new ≡ store.old) }
-    ensures room { have_room store.old.setting.end (settled_events settled) ≡ false → (IsErrOf result StoreFault.Full ⊎ IsErrOf result StoreFault.Memory) × (disk.new ≡ disk.old) }
-    ensures place { OnOk result (HasByteAt (D.seen disk.new) store.new.setting.end) }
+    ensures ok { OnOk result (store.new ≡ store_after store.old (settled_events settled)) }
+    ensures full { IsErrOf result StoreFault.Full → (have_room store.old.setting (settled_events settled) ≡ false) × (store.new ≡ store.old) }
+    ensures room { have_room store.old.setting (settled_events settled) ≡ false → (IsErrOf result StoreFault.Full ⊎ IsErrOf result StoreFault.Memory) × (disk.new ≡ disk.old) }
+    ensures place { OnOk result (Bears (D.seen disk.new) store.new) }
     ensures stands { Stands (D.seen disk.old) (D.image disk.old) store.old.setting → OnOk result (Stands (D.seen disk.new) (D.image disk.new) store.new.setting) }
     ensures stores { Stores D.seen D.image D.moment D.image_since D.attached D.faults disk.old disk.new store.old.setting
         (settled_events settled) (is_disk_fault result) }
@@ -184,12 +183,12 @@ fn store_events<D: Disk>(
 /// Stores index steps and applies them, some thousands by one append. `Full` comes before any write.
 fn take_steps<D: Disk>(store: &mut Store, disk: &mut D, count: u64) -> Result<(), StoreFault>
     requires intact { store.old.broken ≡ false }
-    requires place { HasByteAt (D.seen disk.old) store.old.setting.end }
+    requires place { Bears (D.seen disk.old) store.old }
     requires happen { AllHappen store.old.setting.state (replicate count event.Step) }
-    ensures ok { OnOk result (store.new ≡ intact (after_events store.old.setting (replicate count event.Step))) }
-    ensures full { IsErrOf result StoreFault.Full → (have_room store.old.setting.end (replicate count event.Step) ≡ false) × (store.new ≡ store.old) }
-    ensures room { have_room store.old.setting.end (replicate count event.Step) ≡ false → (IsErrOf result StoreFault.Full ⊎ IsErrOf result StoreFault.Memory) × (disk.new ≡ disk.old) }
-    ensures place { OnOk result (HasByteAt (D.seen disk.new) store.new.setting.end) }
+    ensures ok { OnOk result (store.new ≡ store_after store.old (replicate count event.Step)) }
+    ensures full { IsErrOf result StoreFault.Full → (have_room store.old.setting (replicate count event.Step) ≡ false) × (store.new ≡ store.old) }
+    ensures room { have_room store.old.setting (replicate count event.Step) ≡ false → (IsErrOf result StoreFault.Full ⊎ IsErrOf result StoreFault.Memory) × (disk.new ≡ disk.old) }
+    ensures place { OnOk result (Bears (D.seen disk.new) store.new) }
     ensures stands { Stands (D.seen disk.old) (D.image disk.old) store.old.setting → OnOk result (Stands (D.seen disk.new) (D.image disk.new) store.new.setting) }
     ensures stores { Stores D.seen D.image D.moment D.image_since D.attached D.faults disk.old disk.new store.old.setting
         (replicate count event.Step) (is_disk_fault result) }

@@ -1,10 +1,10 @@
 //! Opening: the file of the store is attached, and the store that it holds is loaded, or a new one is made.
 ghost use Rattle.std.specs.Prelude.{◌≡◌, ◌≤◌, false, Err, IfOk, IfErr, IfSome, IsErrOf};
 ghost use Rattle.hac_disk.specs.Images.{IsQuiet, LeavesOnly};
-ghost use Rattle.hac_disk.specs.Told.{HasByteAt, IsSettled};
+ghost use Rattle.hac_disk.specs.Told.{IsSettled};
 ghost use Rattle.hac_outside.specs.Causes.{Rose};
 ghost use Rattle.hac_store.specs.Held.{held};
-ghost use Rattle.hac_store.specs.Stores.{Stands};
+ghost use Rattle.hac_store.specs.Stores.{Bears, Stands};
 ghost use Rattle.hac_top.specs.Attaching.{AttachesStore, MayAttach};
 ghost use Rattle.hac_top.specs.Crashes.{IsOpened, Reopens, StopsOpening, opening_outcome, opening_result, opening_status};
 ghost use Rattle.hac_top.specs.Words.{asked_of};
@@ -23,7 +23,7 @@ pub fn open_store<D: Disk>(
 ) -> Result<Store, Status>
     ensures opened { IfSome (D.seen disk.old) (λ file. IsOpened result (opening_outcome options.entry.fresh (held file))) }
     ensures intact { IfOk result (λ store. store.broken ≡ false) }
-    ensures place { IfOk result (λ store. HasByteAt (D.seen disk.new) store.setting.end) }
+    ensures place { IfOk result (λ store. Bears (D.seen disk.new) store) }
     ensures stands { IfSome (D.seen disk.old) (λ _. IfOk result (λ store. Stands (D.seen disk.new) (D.image disk.new) store.setting)) }
     ensures stops { IfErr result StopsOpening }
 
@@ -52,7 +52,7 @@ pub fn open_store<D: Disk>(
 fn load_or_create<D: Disk>(alloc: Global, fresh: bool, disk: &mut D) -> Result<Store, StoreFault>
     ensures opened { IfSome (D.seen disk.old) (λ file. IsOpened (opening_result result) (opening_outcome fresh (held file))) }
     ensures intact { IfOk result (λ store. store.broken ≡ false) }
-    ensures place { IfOk result (λ store. HasByteAt (D.seen disk.new) store.setting.end) }
+    ensures place { IfOk result (λ store. Bears (D.seen disk.new) store) }
     ensures stands { IfSome (D.seen disk.old) (λ _. IfOk result (λ store. Stands (D.seen disk.new) (D.image disk.new) store.setting)) }
     ensures any_moment { IfSome (D.seen disk.old) (λ file. IfOk (opening_outcome fresh (held file)) (λ setting. IsSettled (D.seen disk.old) (D.image disk.old) →
         LeavesOnly D.moment D.image_since disk.old disk.new (Reopens fresh (λ s. s ≡ setting.state)))) }

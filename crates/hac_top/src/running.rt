@@ -2,12 +2,12 @@
 ghost use Rattle.std.specs.Prelude.{◌≡◌, ◌⊎◌, ℕ, ◌≤◌, ◌<◌, false, IfErr, IfSome, List, None, Ok, map, string_bytes};
 ghost use Rattle.std.specs.Io.KnownBytes.{Appends};
 ghost use Rattle.hac_disk.specs.Images.{IsQuiet, LeavesOnly};
-ghost use Rattle.hac_disk.specs.Told.{HasByteAt, IsSettled};
+ghost use Rattle.hac_disk.specs.Told.{IsSettled};
 ghost use Rattle.hac_model.specs.CommandLine.{options};
 ghost use Rattle.hac_model.specs.Play.{all_events, play};
 ghost use Rattle.hac_outside.specs.Causes.{Rose, TellsFault};
 ghost use Rattle.hac_store.specs.Held.{held};
-ghost use Rattle.hac_store.specs.Stores.{Stands};
+ghost use Rattle.hac_store.specs.Stores.{Bears, Stands};
 ghost use Rattle.hac_top.specs.Attaching.{AttachesStore, MayAttach};
 ghost use Rattle.hac_top.specs.Crashes.{Holds, IsTreeAfter, Reopens, TellsFile, opening_outcome};
 ghost use Rattle.hac_top.specs.Ends.{end_status, is_write_fault};
@@ -117,7 +117,7 @@ fn play_store<S: Source, K: Sink, D: Disk>(
 ) -> Result<bool, Stop>
     requires source { (S.seen input.old).ended ≡ false }
     requires intact { store.broken ≡ false }
-    requires place { HasByteAt (D.seen disk.old) store.setting.end }
+    requires place { Bears (D.seen disk.old) store }
     ensures ran { IfSome (S.seen input.old).left (λ script.
         Ran false (end_status result) store.setting script (outside (S.seen input.old) (K.seen output.old)) (outside (S.seen input.new) (K.seen output.new))
         (Stands (D.seen disk.old) (D.image disk.old) store.setting) (D.image disk.new)) }
@@ -149,7 +149,7 @@ fn play_script<S: Source, K: Sink, D: Disk>(
     requires source { (S.seen input.old).ended ≡ false }
     requires begun { player.old.refused ≡ false }
     requires intact { player.old.store.broken ≡ false }
-    requires place { HasByteAt (D.seen disk.old) player.old.store.setting.end }
+    requires place { Bears (D.seen disk.old) player.old.store }
     ensures ran { IfSome (S.seen input.old).left (λ script.
         Ran false (end_status result) player.old.store.setting script (outside (S.seen input.old) (K.seen output.old)) (outside (S.seen input.new) (K.seen output.new))
         (Stands (D.seen disk.old) (D.image disk.old) player.old.store.setting) (D.image disk.new)) }
