@@ -7,7 +7,7 @@ use Rattle.shell_lang.specs.Reading.{Reading, pending}
 use Rattle.shell_lang.proofs.ReaderLemmas.{total_on}
 use Rattle.hac_top.specs.Ends.{end_status}
 use Rattle.hac_store.specs.Stores.{Seen, Stands}
-use Rattle.hac_top.specs.Run.{outside, Ran}
+use Rattle.hac_top.specs.Run.{outside, Played}
 use Rattle.hac_top.specs.Stops.{CutsAnswer, StopsAnswer, is_disk_stop, is_read_stop, is_write_stop}
 use Rattle.hac_top.specs.TakenLines.{items_of_taken}
 use Rattle.hac_top.specs.Told.{told_text}
@@ -72,7 +72,7 @@ returns-in_err-line-clause-ran g c =
     let after = outside (seen c.take_line.new.input) (g.K.Sink.seen c.lines.output) in
     let left = (seen c.take_line.new.input).left in
     let got : (want : Stop) → stop.0 ≡ want → c.take_line.result ≡ Err want = λ want is. c.in_err-line.was ∙ ap Err (sym stop.2 ∙ is) in
-    subst (λ (r : Result Bool Stop). IfSome (g.S.Source.seen c.args.input.now).left (λ s. Ran false (end_status r) c.args.player.now.store.setting s before after (Stands (g.D.Disk.seen c.args.disk.now) (g.D.Disk.image c.args.disk.now) c.args.player.now.store.setting) (g.D.Disk.image c.lines.disk))) (sym stop.1)
+    subst (λ (r : Result Bool Stop). IfSome (g.S.Source.seen c.args.input.now).left (λ s. Played false (end_status r) c.args.player.now.store.setting s before after (Stands (g.D.Disk.seen c.args.disk.now) (g.D.Disk.image c.args.disk.now) c.args.player.now.store.setting) (g.D.Disk.image c.lines.disk))) (sym stop.1)
     (stops-before c.args.player.now.store.setting (Stands (g.D.Disk.seen c.args.disk.now) (g.D.Disk.image c.args.disk.now) c.args.player.now.store.setting) (g.D.Disk.image c.lines.disk) stop.0 script (pending c.lines.reader (seen c.lines.input).left) left reader.taken c.lines.reader.ended c.lines.player.store.setting c.lines.player.refused before after refl was.goes was.passed c.in_err-line.ensures.stops
     (λ read. let cut = took.read_fault (got ReadFault read) in (still_open c.lines.reader.ended reader.ended took.stays cut.0, cut.1))
     (λ long. let cut = took.too_long (got TooLong long) in (still_open c.lines.reader.ended reader.ended took.stays cut.0, cut.1, cut.2))
@@ -108,7 +108,7 @@ returns-in_err-answer-in-Some-clause-ran g c =
     let after = outside (seen c.take_line.new.input) (g.K.Sink.seen c.answer.new.output) in
     let goes = rw c.in-Some.is at c.in_ok-line.ensures.advances in
     let text = told_text (turns setting (items_of_taken line)) in
-    subst (λ (r : Result Bool Stop). IfSome (g.S.Source.seen c.args.input.now).left (λ s. Ran false (end_status r) c.args.player.now.store.setting s before after (Stands (g.D.Disk.seen c.args.disk.now) (g.D.Disk.image c.args.disk.now) c.args.player.now.store.setting) (g.D.Disk.image c.answer.new.disk))) (sym stop.1)
+    subst (λ (r : Result Bool Stop). IfSome (g.S.Source.seen c.args.input.now).left (λ s. Played false (end_status r) c.args.player.now.store.setting s before after (Stands (g.D.Disk.seen c.args.disk.now) (g.D.Disk.image c.args.disk.now) c.args.player.now.store.setting) (g.D.Disk.image c.answer.new.disk))) (sym stop.1)
     (stops-within c.args.player.now.store.setting (Stands (g.D.Disk.seen c.args.disk.now) (g.D.Disk.image c.args.disk.now) c.args.player.now.store.setting) (g.D.Disk.image c.answer.new.disk) stop.0 script (pending c.lines.reader (seen c.lines.input).left) (seen c.take_line.new.input).left line reader c.lines.reader.ended setting c.lines.player.refused mid before after refl was.goes was.passed
     (rw c.in-Some.is at c.in_ok-line.ensures.line) goes.near
     (subst (λ (s : Stop). CutsAnswer s mid after_sink text) (sym stop.2) c.in_err-answer-in-Some.ensures.cut)
