@@ -39,6 +39,7 @@ pub fn append<D: Disk>(
     ensures attached { D.attached disk.new ≡ D.attached disk.old }
     ensures later { D.faults disk.old ≤ D.faults disk.new }
     ensures cause { IsErrOf result JournalFault.Disk → Rose (D.faults disk.old) (D.faults disk.new) }
+    ensures none { (IsErrOf result JournalFault.Disk → ⊥) → D.faults disk.new ≡ D.faults disk.old }
 {
     let Some(new_end) = log_end(limit, end, payloads) else {
         return Err(JournalFault::Full);

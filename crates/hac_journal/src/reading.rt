@@ -57,6 +57,7 @@ impl LogReader {
         ensures not_full { IsErrOf result JournalFault.Full → ⊥ }
         ensures later { D.faults disk.old ≤ D.faults disk.new }
         ensures cause { IsErrOf result JournalFault.Disk → Rose (D.faults disk.old) (D.faults disk.new) }
+        ensures none { (IsErrOf result JournalFault.Disk → ⊥) → D.faults disk.new ≡ D.faults disk.old }
     {
         loop {
             match look_at(self.from(at)) {
@@ -120,6 +121,7 @@ impl LogReader {
         ensures not_full { IsErrOf result JournalFault.Full → ⊥ }
         ensures later { D.faults disk.old ≤ D.faults disk.new }
         ensures cause { IsErrOf result JournalFault.Disk → Rose (D.faults disk.old) (D.faults disk.new) }
+        ensures none { (IsErrOf result JournalFault.Disk → ⊥) → D.faults disk.new ≡ D.faults disk.old }
     {
         let len = disk.len()?;
         if len < at || len - at < need as u64 {
@@ -148,6 +150,7 @@ pub fn next<D: Disk>(alloc: Global, disk: &mut D, at: u64) -> Result<Next, Journ
     ensures not_full { IsErrOf result JournalFault.Full → ⊥ }
     ensures later { D.faults disk.old ≤ D.faults disk.new }
     ensures cause { IsErrOf result JournalFault.Disk → Rose (D.faults disk.old) (D.faults disk.new) }
+    ensures none { (IsErrOf result JournalFault.Disk → ⊥) → D.faults disk.new ≡ D.faults disk.old }
 {
     LogReader::new(alloc).next(disk, at)
 }

@@ -44,6 +44,7 @@ impl Store {
         ensures attached { D.attached disk.new ≡ D.attached disk.old }
         ensures later { D.faults disk.old ≤ D.faults disk.new }
         ensures cause { IsErrOf result StoreFault.Disk → Rose (D.faults disk.old) (D.faults disk.new) }
+        ensures none { (IsErrOf result StoreFault.Disk → ⊥) → D.faults disk.new ≡ D.faults disk.old }
     {
         match write_event(self.alloc, &event) {
             Ok(payload) => self.put(disk, Settled::Change(event), &[payload]),
@@ -77,6 +78,7 @@ impl Store {
         ensures attached { D.attached disk.new ≡ D.attached disk.old }
         ensures later { D.faults disk.old ≤ D.faults disk.new }
         ensures cause { IsErrOf result StoreFault.Disk → Rose (D.faults disk.old) (D.faults disk.new) }
+        ensures none { (IsErrOf result StoreFault.Disk → ⊥) → D.faults disk.new ≡ D.faults disk.old }
     {
         if !self.room_for(count, 2) {
             return Err(StoreFault::Full);
@@ -113,6 +115,7 @@ impl Store {
         ensures attached { D.attached disk.new ≡ D.attached disk.old }
         ensures later { D.faults disk.old ≤ D.faults disk.new }
         ensures cause { IsErrOf result StoreFault.Disk → Rose (D.faults disk.old) (D.faults disk.new) }
+        ensures none { (IsErrOf result StoreFault.Disk → ⊥) → D.faults disk.new ≡ D.faults disk.old }
     {
         self.machine.prepare(settled)?;
         match append(self.alloc, disk, STORE_LIMIT, self.end, payloads) {

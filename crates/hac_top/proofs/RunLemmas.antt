@@ -22,7 +22,7 @@ use Rattle.shell_lang.specs.declared.reading.TheConstants.{PIECE}
 use Rattle.hac_top.specs.Ends.{IsFinished, finished_status, stopped_status, end_status}
 use Rattle.hac_top.specs.Crashes.{Holds, IsTreeAfter, IsTreeOfAnswered}
 use Rattle.hac_top.specs.Run.{AnswersTaken, AnswersWithin, AnswersPromptly, Outside, Played, Plays}
-use Rattle.hac_top.specs.Stops.{StopsAnswer, StopsCommand, CutsAnswer}
+use Rattle.hac_top.specs.Stops.{StopsAnswer, StopsCommand, CutsAnswer, is_disk_stop}
 use Rattle.hac_top.specs.TakenLines.{items_of_piece, items_of_taken, GivesTaken, Gives, CutsLine, Cuts, StopsIn, StopsAt}
 use Rattle.hac_top.specs.Told.{told_text}
 use Rattle.hac_top.specs.declared.stops.Stop.{Stop}
@@ -78,6 +78,13 @@ disk-stop WriteFault e = cc
 disk-stop DiskFault e = refl
 disk-stop Memory e = cc
 disk-stop TooLong e = cc
+
+pub other-disk : (T : Type 0) (stop : Stop) → (stopped_status stop ≡ status.DiskFault → ⊥) → is_disk_stop {T = T} (Err stop) ≡ false
+other-disk T ReadFault other = refl
+other-disk T WriteFault other = refl
+other-disk T DiskFault other = absurd (other refl)
+other-disk T Memory other = refl
+other-disk T TooLong other = refl
 
 module _ (first : Setting) where
   -- where no line was cut off by the end of the source, the whole lines that were played are all

@@ -38,6 +38,7 @@ pub fn open_store<D: Disk>(
     ensures attaches { (result ≡ Err Status.DiskFault → ⊥) → AttachesStore (D.attached disk.old) (asked_of options.entry) (D.attached disk.new) }
     ensures later { D.faults disk.old ≤ D.faults disk.new }
     ensures cause { result ≡ Err Status.DiskFault → Rose (D.faults disk.old) (D.faults disk.new) }
+    ensures none { (result ≡ Err Status.DiskFault → ⊥) → D.faults disk.new ≡ D.faults disk.old }
 {
     if disk.attach(options.store, options.fresh).is_err() {
         return Err(Status::DiskFault);
@@ -60,6 +61,7 @@ fn load_or_create<D: Disk>(alloc: Global, fresh: bool, disk: &mut D) -> Result<S
     ensures attached { D.attached disk.new ≡ D.attached disk.old }
     ensures later { D.faults disk.old ≤ D.faults disk.new }
     ensures cause { IsErrOf result StoreFault.Disk → Rose (D.faults disk.old) (D.faults disk.new) }
+    ensures none { (IsErrOf result StoreFault.Disk → ⊥) → D.faults disk.new ≡ D.faults disk.old }
 {
     if fresh {
         Store::create(alloc, disk)

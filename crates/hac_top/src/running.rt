@@ -73,6 +73,7 @@ pub fn run<S: Source, K: Sink, D: Disk>(
     ensures write_cause { result ≡ Status.WriteFault → Rose (K.seen output.old).faults (K.seen output.new).faults }
     ensures disk_later { D.faults disk.old ≤ D.faults disk.new }
     ensures disk_cause { result ≡ Status.DiskFault → Rose (D.faults disk.old) (D.faults disk.new) }
+    ensures disk_told { (result ≡ Status.DiskFault → ⊥) → D.faults disk.new ≡ D.faults disk.old }
 {
     let Some(options) = read_words(words) else {
         return tell_usage(output);
@@ -116,6 +117,7 @@ fn play_store<S: Source, K: Sink, D: Disk>(
     ensures attached { D.attached disk.new ≡ D.attached disk.old }
     ensures later { D.faults disk.old ≤ D.faults disk.new }
     ensures cause { end_status result ≡ Status.DiskFault → Rose (D.faults disk.old) (D.faults disk.new) }
+    ensures none { (end_status result ≡ Status.DiskFault → ⊥) → D.faults disk.new ≡ D.faults disk.old }
 {
     let mut player = Player {
         alloc,
@@ -148,6 +150,7 @@ fn play_script<S: Source, K: Sink, D: Disk>(
     ensures attached { D.attached disk.new ≡ D.attached disk.old }
     ensures later { D.faults disk.old ≤ D.faults disk.new }
     ensures cause { end_status result ≡ Status.DiskFault → Rose (D.faults disk.old) (D.faults disk.new) }
+    ensures none { (end_status result ≡ Status.DiskFault → ⊥) → D.faults disk.new ≡ D.faults disk.old }
 {
     let mut reader = Reader::new(alloc)?;
     'lines: loop {

@@ -10,7 +10,7 @@ use Rattle.hac_store.specs.declared.fault.StoreFault.TheVariants.{Full}
 use Rattle.hac_store.proofs.RoomLemmas.{steps-have-room}
 use Rattle.hac_top.specs.Obeying.{is_disk_fault}
 use Rattle.hac_top.proofs.StepLemmas.{after-steps, part-happens, part-moments, part-room, steps}
-use Rattle.hac_top.proofs.StoringLemmas.{disk-cause, rose-since}
+use Rattle.hac_top.proofs.StoringLemmas.{disk-cause, disk-none, rose-since}
 use Rattle.hac_top.proofs.obeying.take_steps.Goals as goal
 
 pub returns-then-not-room_for-clause-full : goal.returns-then-not-room_for-clause-full
@@ -55,11 +55,15 @@ returns-in_err-steps-clause-stores g c =
           part-moments g.D.Disk.moment g.D.Disk.image_since c.args.disk.now c.loop-left.disk c.steps.new.disk c.args.store.now c.loop-left.store (c.args.count - c.loop-left.left) c.min-batch.result c.args.count few was.store
           (was.moments stands) (c.steps.ensures.any_moment (was.stands stands));
       names = c.steps.ensures.attached ∙ was.names;
-      later = omega (arith, was.later, c.steps.ensures.later);
+      later = omega (arith, was.faults, c.steps.ensures.later);
       cause = λ fails.
-          rose-since (g.D.Disk.faults c.args.disk.now) (g.D.Disk.faults c.loop-left.disk) (g.D.Disk.faults c.steps.new.disk) was.later
+          rose-since (g.D.Disk.faults c.args.disk.now) (g.D.Disk.faults c.loop-left.disk) (g.D.Disk.faults c.steps.new.disk) (omega (arith, was.faults))
           (disk-cause c.steps.result (Rose (g.D.Disk.faults c.loop-left.disk) (g.D.Disk.faults c.steps.new.disk)) c.steps.ensures.kind c.steps.ensures.cause
           (ap is_disk_fault (c.in_err-steps.was ∙ ap Err (sym stop.2) ∙ sym stop.1) ∙ fails));
+      none = λ told.
+          disk-none c.steps.result (g.D.Disk.faults c.steps.new.disk ≡ g.D.Disk.faults c.loop-left.disk) c.steps.ensures.none
+          (ap is_disk_fault (c.in_err-steps.was ∙ ap Err (sym stop.2) ∙ sym stop.1) ∙ told)
+          ∙ was.faults;
     }
 
 pub loop-left-preserved : goal.loop-left-preserved
@@ -80,5 +84,5 @@ loop-left-preserved g c =
           part-moments g.D.Disk.moment g.D.Disk.image_since c.args.disk.now c.loop-left.disk c.steps.new.disk c.args.store.now c.loop-left.store (c.args.count - c.loop-left.left) c.min-batch.result c.args.count few was.store
           (was.moments stands) (c.steps.ensures.any_moment (was.stands stands));
       names = c.steps.ensures.attached ∙ was.names;
-      later = omega (arith, was.later, c.steps.ensures.later);
+      faults = now.none (λ fails. cc) ∙ was.faults;
     }

@@ -20,7 +20,7 @@ invariant-loop-left g l =
       moments : Stands (disk l.fn.disk) (image l.fn.disk) first →
           LeavesOnly g.D.Disk.moment g.D.Disk.image_since l.fn.disk l.disk (Holds (IsTreeAfter first.state (steps l.fn.count)));
       names : g.D.Disk.attached l.disk ≡ g.D.Disk.attached l.fn.disk;
-      later : g.D.Disk.faults l.fn.disk ≤ g.D.Disk.faults l.disk;
+      faults : g.D.Disk.faults l.disk ≡ g.D.Disk.faults l.fn.disk;
     }
 
 abbrev pub decreases-loop-left : goal.decreases-loop-left

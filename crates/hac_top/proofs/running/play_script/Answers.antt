@@ -18,7 +18,7 @@ use Rattle.hac_top.proofs.GoesOn.{GoesOn}
 use Rattle.hac_top.proofs.MomentLemmas.{moments-first, moments-line}
 use Rattle.hac_top.proofs.StoringLemmas.{rose-since, stands-held}
 use Rattle.hac_top.proofs.EndLemmas.{ends-before, ends-within, ends-all}
-use Rattle.hac_top.proofs.RunLemmas.{disk-stop, goes-begin, reader-begin, total-begin, stops-first, stops-before, stops-within, finishes, goes-on}
+use Rattle.hac_top.proofs.RunLemmas.{disk-stop, goes-begin, other-disk, reader-begin, total-begin, stops-first, stops-before, stops-within, finishes, goes-on}
 use Rattle.hac_top.proofs.TakenLemmas.{still_open}
 use Rattle.hac_top.proofs.running.play_script.Goals as goal
 
@@ -54,7 +54,7 @@ lines-init g c =
       stands = λ stands. stands;
       moments = moments-first g.D.Disk.seen g.D.Disk.image g.D.Disk.moment g.D.Disk.image_since g.met.D.Disk.only_now c.args.disk.now c.args.player.now.store.setting input.left;
       names = refl;
-      later = omega arith;
+      faults = refl;
     }
 
 pub take_line-requires : goal.take_line-requires
@@ -130,8 +130,16 @@ returns-in_err-answer-in-Some-clause-cause g c =
     let faults = g.D.Disk.faults in
     let got : c.answer.result ≡ Err stop.0 = c.in_err-answer-in-Some.was ∙ ap Err (sym stop.2) in
     λ fails.
-    rose-since (faults c.args.disk.now) (faults c.lines.disk) (faults c.answer.new.disk) c.lines.invariant.later
+    rose-since (faults c.args.disk.now) (faults c.lines.disk) (faults c.answer.new.disk) (omega (arith, c.lines.invariant.faults))
     (c.answer.ensures.stores.cause (ap is_disk_stop (got ∙ ap Err (disk-stop stop.0 (ap end_status (sym stop.1) ∙ fails)))))
+
+pub returns-in_err-answer-in-Some-clause-none : goal.returns-in_err-answer-in-Some-clause-none
+returns-in_err-answer-in-Some-clause-none g c =
+    let stop = err_from_is_err_and c.from_residual-in_err-answer-in-Some.result c.from_residual-in_err-answer-in-Some.ensures.1 in
+    let got : c.answer.result ≡ Err stop.0 = c.in_err-answer-in-Some.was ∙ ap Err (sym stop.2) in
+    λ other.
+    c.answer.ensures.stores.none (ap is_disk_stop got ∙ other-disk (Unit {0}) stop.0 (λ fails. other (ap end_status stop.1 ∙ fails)))
+    ∙ c.lines.invariant.faults
 
 pub returns-in_err-answer-in-Some-clause-ends : goal.returns-in_err-answer-in-Some-clause-ends
 returns-in_err-answer-in-Some-clause-ends g c =
@@ -215,5 +223,5 @@ lines-preserved g c =
           moments-line g.D.Disk.seen g.D.Disk.image g.D.Disk.moment g.D.Disk.image_since c.args.disk.now c.lines.disk c.answer.new.disk c.args.player.now.store.setting script (pending c.lines.reader (seen c.lines.input).left) behind line c.lines.reader.ended reader.ended setting c.lines.player.refused
           before (sink c.lines.output) was.goes (rw c.in-Some.is at c.in_ok-line.ensures.line) was.stands was.moments c.answer.ensures.stores.moments;
       names = c.answer.ensures.stores.names ∙ was.names;
-      later = omega (arith, was.later, c.answer.ensures.stores.later);
+      faults = answer.stores.none refl ∙ was.faults;
     }

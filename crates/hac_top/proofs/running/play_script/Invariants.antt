@@ -32,7 +32,7 @@ invariant-lines g l =
       moments : IfSome (input l.fn.input).left (λ script. Stands (disk l.fn.disk) (image l.fn.disk) first →
           LeavesOnly g.D.Disk.moment g.D.Disk.image_since l.fn.disk l.disk (Holds (IsTreeAfter first.state (all_events (play first script)))));
       names : g.D.Disk.attached l.disk ≡ g.D.Disk.attached l.fn.disk;
-      later : g.D.Disk.faults l.fn.disk ≤ g.D.Disk.faults l.disk;
+      faults : g.D.Disk.faults l.disk ≡ g.D.Disk.faults l.fn.disk;
     }
 
 -- each line takes a byte of those that a script may have
