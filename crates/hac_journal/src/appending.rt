@@ -26,19 +26,24 @@ pub fn append<D: Disk>(
     requires limit { limit ≤ 2 ^ 32 }
     requires place { HasByteAt (D.seen disk.old) end }
     ensures end { IfOk result (λ new. new ≡ end + length (records_of (contents_of payloads.now))) }
-    ensures written { OnOk result (Written (D.seen disk.old) end (log_of (contents_of payloads.now)) (D.seen disk.new)) }
+    ensures written { OnOk result (Written (D.seen disk.old) end (log_of (contents_of payloads.now))
+        (D.seen disk.new)) }
     ensures settled { OnOk result (IsSettled (D.seen disk.new) (D.image disk.new)) }
     ensures gate { IfOk result (λ new. HasByteAt (D.seen disk.new) new) }
-    ensures full { IsErrOf result JournalFault.Full ↔ (limit < end + length (log_of (contents_of payloads.now))) }
-    ensures unwritten { (IsErrOf result JournalFault.Full ⊎ IsErrOf result JournalFault.Memory) → disk.new ≡ disk.old }
+    ensures full { IsErrOf result JournalFault.Full ↔
+        (limit < end + length (log_of (contents_of payloads.now))) }
+    ensures unwritten { (IsErrOf result JournalFault.Full ⊎ IsErrOf result JournalFault.Memory) →
+        disk.new ≡ disk.old }
 
     // At each moment a crash leaves an image from before the call, with none of the records or with all.
-    ensures any_moment { IfSome (D.seen disk.old) (λ _. ((c : List ℕ) → D.image disk.old c → ClosedAt end c)
+    ensures any_moment { IfSome (D.seen disk.old) (λ _.
+        ((c : List ℕ) → D.image disk.old c → ClosedAt end c)
         → LeavesOnly D.moment D.image_since disk.old disk.new (Appending end (log_of (contents_of payloads.now)) (D.image disk.old))) }
 
     ensures attached { D.attached disk.new ≡ D.attached disk.old }
     ensures later { D.faults disk.old ≤ D.faults disk.new }
-    ensures cause { IsErrOf result JournalFault.Disk → Rose (D.faults disk.old) (D.faults disk.new) }
+    ensures cause { IsErrOf result JournalFault.Disk →
+        Rose (D.faults disk.old) (D.faults disk.new) }
     ensures none { (IsErrOf result JournalFault.Disk → ⊥) → D.faults disk.new ≡ D.faults disk.old }
 {
     let Some(new_end) = log_end(limit, end, payloads) else {

@@ -29,18 +29,25 @@ impl Store {
     pub fn create<D: Disk>(alloc: Global, disk: &mut D) -> Result<Store, StoreFault>
         ensures made { IfOk result (λ store. store ≡ first_store) }
         ensures new { IfSome (D.seen disk.old) (λ file. OnOk result (IsErr (held file))) }
-        ensures already { IfSome (D.seen disk.old) (λ file. result ≡ Err StoreFault.AlreadyStore → IsOk (held file)) }
-        ensures stands { IfSome (D.seen disk.old) (λ _. OnOk result (Stands (D.seen disk.new) (D.image disk.new) new_setting)) }
+        ensures already { IfSome (D.seen disk.old)
+            (λ file. result ≡ Err StoreFault.AlreadyStore → IsOk (held file)) }
+        ensures stands { IfSome (D.seen disk.old) (λ _. OnOk result
+            (Stands (D.seen disk.new) (D.image disk.new) new_setting)) }
         ensures place { IfOk result (λ store. Bears (D.seen disk.new) store) }
-        ensures quiet { IfSome (D.seen disk.old) (λ file. IsOk (held file) → IsQuiet D.seen D.image D.moment D.image_since disk.old disk.new) }
+        ensures quiet { IfSome (D.seen disk.old) (λ file. IsOk (held file) →
+            IsQuiet D.seen D.image D.moment D.image_since disk.old disk.new) }
         // At each moment a crash leaves what it might have left before, or the root alone, or no store.
         ensures any_moment { IfSome (D.seen disk.old) (λ file. IsErr (held file) →
-            LeavesOnly D.moment D.image_since disk.old disk.new (λ c. D.image disk.old c ⊎ IsNewOrNone c)) }
-        ensures kind { ((at : ℕ) → result ≡ Err (StoreFault.NotStore at) → ⊥) × (result ≡ Err StoreFault.Full → ⊥) }
+            LeavesOnly D.moment D.image_since disk.old disk.new
+            (λ c. D.image disk.old c ⊎ IsNewOrNone c)) }
+        ensures kind { ((at : ℕ) → result ≡ Err (StoreFault.NotStore at) → ⊥) ×
+            (result ≡ Err StoreFault.Full → ⊥) }
         ensures attached { D.attached disk.new ≡ D.attached disk.old }
         ensures later { D.faults disk.old ≤ D.faults disk.new }
-        ensures cause { IsErrOf result StoreFault.Disk → Rose (D.faults disk.old) (D.faults disk.new) }
-        ensures none { (IsErrOf result StoreFault.Disk → ⊥) → D.faults disk.new ≡ D.faults disk.old }
+        ensures cause { IsErrOf result StoreFault.Disk →
+            Rose (D.faults disk.old) (D.faults disk.new) }
+        ensures none { (IsErrOf result StoreFault.Disk → ⊥) →
+            D.faults disk.new ≡ D.faults disk.old }
     {
         disk.sync()?;
         none(read_store(alloc, disk).err())?;
@@ -64,10 +71,13 @@ fn new_store<D: Disk>(alloc: Global, disk: &mut D) -> Result<Store, StoreFault>
     requires settled { IsSettled (D.seen disk.old) (D.image disk.old) }
     requires unheld { IsUnheld (D.seen disk.old) }
     ensures made { IfOk result (λ store. store ≡ first_store) }
-    ensures stands { IfSome (D.seen disk.old) (λ _. OnOk result (Stands (D.seen disk.new) (D.image disk.new) new_setting)) }
+    ensures stands { IfSome (D.seen disk.old) (λ _. OnOk result
+        (Stands (D.seen disk.new) (D.image disk.new) new_setting)) }
     ensures place { IfOk result (λ store. Bears (D.seen disk.new) store) }
-    ensures any_moment { IfSome (D.seen disk.old) (λ _. LeavesOnly D.moment D.image_since disk.old disk.new IsNewOrNone) }
-    ensures kind { ((at : ℕ) → result ≡ Err (StoreFault.NotStore at) → ⊥) × (result ≡ Err StoreFault.AlreadyStore → ⊥) × (result ≡ Err StoreFault.Full → ⊥) }
+    ensures any_moment { IfSome (D.seen disk.old)
+        (λ _. LeavesOnly D.moment D.image_since disk.old disk.new IsNewOrNone) }
+    ensures kind { ((at : ℕ) → result ≡ Err (StoreFault.NotStore at) → ⊥) ×
+        (result ≡ Err StoreFault.AlreadyStore → ⊥) × (result ≡ Err StoreFault.Full → ⊥) }
     ensures attached { D.attached disk.new ≡ D.attached disk.old }
     ensures later { D.faults disk.old ≤ D.faults disk.new }
     ensures cause { IsErrOf result StoreFault.Disk → Rose (D.faults disk.old) (D.faults disk.new) }
@@ -95,9 +105,11 @@ fn new_store<D: Disk>(alloc: Global, disk: &mut D) -> Result<Store, StoreFault>
 fn write_new<D: Disk>(disk: &mut D) -> Result<(), Failed>
     requires settled { IsSettled (D.seen disk.old) (D.image disk.old) }
     requires unheld { IsUnheld (D.seen disk.old) }
-    ensures stands { IfSome (D.seen disk.old) (λ _. OnOk result (Stands (D.seen disk.new) (D.image disk.new) new_setting)) }
+    ensures stands { IfSome (D.seen disk.old) (λ _. OnOk result
+        (Stands (D.seen disk.new) (D.image disk.new) new_setting)) }
     ensures place { OnOk result (HasByteAt (D.seen disk.new) new_setting.end) }
-    ensures any_moment { IfSome (D.seen disk.old) (λ _. LeavesOnly D.moment D.image_since disk.old disk.new IsNewOrNone) }
+    ensures any_moment { IfSome (D.seen disk.old)
+        (λ _. LeavesOnly D.moment D.image_since disk.old disk.new IsNewOrNone) }
     ensures attached { D.attached disk.new ≡ D.attached disk.old }
     ensures cause { HasCause (D.faults disk.old) (D.faults disk.new) result }
 {
@@ -111,7 +123,8 @@ fn write_head<D: Disk>(disk: &mut D) -> Result<(), Failed>
     requires unheld { IsUnheld (D.seen disk.old) }
     ensures ready { OnOk result (Becomes (D.seen disk.old) IsReady (D.seen disk.new)) }
     ensures settled { OnOk result (IsSettled (D.seen disk.new) (D.image disk.new)) }
-    ensures any_moment { IfSome (D.seen disk.old) (λ _. LeavesOnly D.moment D.image_since disk.old disk.new IsNewOrNone) }
+    ensures any_moment { IfSome (D.seen disk.old)
+        (λ _. LeavesOnly D.moment D.image_since disk.old disk.new IsNewOrNone) }
     ensures attached { D.attached disk.new ≡ D.attached disk.old }
     ensures cause { HasCause (D.faults disk.old) (D.faults disk.new) result }
 {
@@ -129,7 +142,8 @@ fn close<D: Disk>(disk: &mut D) -> Result<(), Failed>
     requires unheld { IsUnheld (D.seen disk.old) }
     ensures shut { OnOk result (Becomes (D.seen disk.old) (ClosedAt 0) (D.seen disk.new)) }
     ensures settled { OnOk result (IsSettled (D.seen disk.new) (D.image disk.new)) }
-    ensures any_moment { IfSome (D.seen disk.old) (λ _. LeavesOnly D.moment D.image_since disk.old disk.new IsNewOrNone) }
+    ensures any_moment { IfSome (D.seen disk.old)
+        (λ _. LeavesOnly D.moment D.image_since disk.old disk.new IsNewOrNone) }
     ensures attached { D.attached disk.new ≡ D.attached disk.old }
     ensures cause { HasCause (D.faults disk.old) (D.faults disk.new) result }
 {

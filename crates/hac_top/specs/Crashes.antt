@@ -77,9 +77,12 @@ pub record IsTreeOfAnswered (s : State) (turns : List Turn) (done : ℕ) (now : 
 
 -- What became of the disk while a store went on by events: a crash at any moment leaves the tree after some of them,
 -- and its count of faults rose where a call of the disk failed, and there alone.
-pub record Stores {D : Type 0} (seen : D → Option (List ℕ)) (image : D → List ℕ → Type 0) (moment : D → ℕ) (image_since : D → ℕ → List ℕ → Type 0)
-    (attached : D → Option (List (List ℕ × Bool))) (faults : D → ℕ) (old new : D) (setting : Setting) (events : List Event) (failed : Bool) : Type 0 where
-  pub moments : Stands (seen old) (image old) setting → LeavesOnly moment image_since old new (Holds (IsTreeAfter setting.state events))
+pub record Stores {D : Type 0} (seen : D → Option (List ℕ)) (image : D → List ℕ → Type 0)
+    (moment : D → ℕ) (image_since : D → ℕ → List ℕ → Type 0)
+    (attached : D → Option (List (List ℕ × Bool))) (faults : D → ℕ) (old new : D)
+    (setting : Setting) (events : List Event) (failed : Bool) : Type 0 where
+  pub moments : Stands (seen old) (image old) setting →
+      LeavesOnly moment image_since old new (Holds (IsTreeAfter setting.state events))
   pub names : attached new ≡ attached old
   pub later : faults old ≤ faults new
   pub cause : failed ≡ true → Rose (faults old) (faults new)

@@ -57,14 +57,16 @@ pub record Ends (status : Status) (before after : Outside) : Type 0 where
   pub passed : (status ≡ WriteFault → ⊥) → before.sink.held_back ≡ 0 → after.sink.held_back ≡ 0
 
 -- the script was read to its end, and each reply was written: no more and no less
-pub record AnswersAll (status : Status) (setting : Setting) (script : List ℕ) (done : ℕ) (left : Option (List ℕ)) : Type 0 where
+pub record AnswersAll (status : Status) (setting : Setting) (script : List ℕ) (done : ℕ)
+    (left : Option (List ℕ)) : Type 0 where
   pub read : left ≡ Some []
   pub within : length script ≤ SCRIPT_LIMIT
   pub status_is : status ≡ finished_status (has_refusal (play setting script))
   pub all : done ≡ length (play setting script)
 
 -- a part of the script was taken, and each whole line of it was answered
-pub record AnswersTaken (setting : Setting) (script : List ℕ) (done : ℕ) (left : Option (List ℕ)) : Type 0 where
+pub record AnswersTaken (setting : Setting) (script : List ℕ) (done : ℕ)
+    (left : Option (List ℕ)) : Type 0 where
   pub taken : List ℕ
   pub rest : List ℕ
   pub script_is : script ≡ taken ++ rest
@@ -73,7 +75,8 @@ pub record AnswersTaken (setting : Setting) (script : List ℕ) (done : ℕ) (le
 
 -- the script is longer than a script may be, so much of it and one byte were taken, and each line within the limit was
 -- answered
-pub record AnswersWithin (setting : Setting) (script : List ℕ) (done : ℕ) (left : Option (List ℕ)) : Type 0 where
+pub record AnswersWithin (setting : Setting) (script : List ℕ) (done : ℕ)
+    (left : Option (List ℕ)) : Type 0 where
   pub longer : SCRIPT_LIMIT < length script
   pub left_is : left ≡ Some (drop (SCRIPT_LIMIT + 1) script)
   pub all : take done (play setting script) ≡ play setting (whole (take SCRIPT_LIMIT script))
@@ -81,7 +84,8 @@ pub record AnswersWithin (setting : Setting) (script : List ℕ) (done : ℕ) (l
 -- Of what was taken, all was answered but one line with the bytes that belong to it, and less than one piece behind
 -- them. So no read goes beyond the piece in which an unanswered line ends, with its bytes. Of that line's replies the
 -- first k were written, and of nothing behind it.
-pub record AnswersPromptly (setting : Setting) (script : List ℕ) (done : ℕ) (left : Option (List ℕ)) : Type 0 where
+pub record AnswersPromptly (setting : Setting) (script : List ℕ) (done : ℕ)
+    (left : Option (List ℕ)) : Type 0 where
   pub answered : List ℕ
   pub line : List ℕ
   pub behind : List ℕ
@@ -91,11 +95,13 @@ pub record AnswersPromptly (setting : Setting) (script : List ℕ) (done : ℕ) 
   pub whole_is : whole answered ≡ answered
   pub one : after_item line ≡ []
   pub near : length behind < PIECE
-  pub all : (k : ℕ) × (take done (play setting script) ≡ play setting answered ++ take k (turns (left_by setting (play setting answered)) (first_items line)))
+  pub all : (k : ℕ) × (take done (play setting script) ≡ play setting answered ++ take k
+      (turns (left_by setting (play setting answered)) (first_items line)))
 
 -- However the run ends, the replies are those of the plain tree, none ahead of time and none late. A reply is cut off
 -- only where the sink failed.
-pub record Plays (status : Status) (setting : Setting) (script : List ℕ) (before after : Outside) : Type 0 where
+pub record Plays (status : Status) (setting : Setting) (script : List ℕ)
+    (before after : Outside) : Type 0 where
   pub told : Told (play setting script) before.sink after.sink
   pub whole : (status ≡ WriteFault → ⊥) → told.cut ≡ []
   pub prompt : AnswersPromptly setting script told.done after.source.left
@@ -106,16 +112,20 @@ pub record Plays (status : Status) (setting : Setting) (script : List ℕ) (befo
 -- How a script is played from a store. Its replies are those of the plain tree. Where nothing was pending on
 -- the disk as it began, a crash leaves the tree with the events of each answered command, and at most those of the
 -- command in hand besides; and where the script has ended, it leaves what the last command left.
-pub record Played (fresh : Bool) (status : Status) (setting : Setting) (script : List ℕ) (before after : Outside)
+pub record Played (fresh : Bool) (status : Status) (setting : Setting) (script : List ℕ)
+    (before after : Outside)
     (stood : Type 0) (image : List ℕ → Type 0) : Type 0 where
   pub plays : Plays status setting script before after
-  pub reopens : stood → (c : List ℕ) → image c → Reopens fresh (IsTreeOfAnswered setting.state (play setting script) plays.told.done) c
-  pub kept : stood → IsFinished status → (c : List ℕ) → image c → IsHeldAs c (left_by setting (play setting script))
+  pub reopens : stood → (c : List ℕ) → image c → Reopens fresh (IsTreeOfAnswered setting.state
+      (play setting script) plays.told.done) c
+  pub kept : stood → IsFinished status → (c : List ℕ) → image c →
+      IsHeldAs c (left_by setting (play setting script))
 
 -- the run has begun: a byte of the script was taken, or one of a reply was written, or the script has ended
 abbrev pub HasBegun : Status → Outside → Outside → Type 0
 HasBegun status before after =
-    (after.source.left ≡ before.source.left → ⊥) ⊎ ((after.sink.written ≡ before.sink.written → ⊥) ⊎ IsFinished status)
+    (after.source.left ≡ before.source.left → ⊥) ⊎
+    ((after.sink.written ≡ before.sink.written → ⊥) ⊎ IsFinished status)
 
 -- without a fault a script within the limit is read to its end, and a longer one is reported as such, unless memory
 -- runs out
@@ -130,15 +140,19 @@ IsTreeOf setting script now = IsTreeAfter setting.state (all_events (play settin
 -- The outcome of a run that goes on from a store. Where nothing was pending on the disk as it began, a crash at each
 -- moment leaves that tree after some of the events of the script; once it has begun to take the script, a crash leaves
 -- a store. Without a fault the script is played, unless memory runs out.
-pub record Ran (fresh : Bool) (status : Status) (setting : Setting) (script : List ℕ) (before after : Outside)
-    (settled : Type 0) (image : List ℕ → Type 0) (leaves : (List ℕ → Type 0) → Type 0) (faultless : Type 0) : Type 0 where
+pub record Ran (fresh : Bool) (status : Status) (setting : Setting) (script : List ℕ)
+    (before after : Outside)
+    (settled : Type 0) (image : List ℕ → Type 0) (leaves : (List ℕ → Type 0) → Type 0)
+    (faultless : Type 0) : Type 0 where
   pub played : Played fresh status setting script before after settled image
   pub moments : settled → leaves (Reopens fresh (IsTreeOf setting script))
-  pub begun : settled → HasBegun status before after → (c : List ℕ) → image c → Holds (IsTreeOf setting script) c
+  pub begun : settled → HasBegun status before after → (c : List ℕ) → image c →
+      Holds (IsTreeOf setting script) c
   pub complete : faultless → Completes status script
 
 -- the words, the file and the script, if they are known, and what the run then goes on from
-abbrev pub IfOpens : Option Options → Option (List ℕ) → Option (List ℕ) → (Bool → Setting → List ℕ → Type 0) → Type 0
+abbrev pub IfOpens : Option Options → Option (List ℕ) → Option (List ℕ) →
+    (Bool → Setting → List ℕ → Type 0) → Type 0
 IfOpens words seen left P =
     IfSome words (λ options. IfSome seen (λ file. IfSome left (λ script.
     IfOk (opening_outcome options.fresh (held file)) (λ setting. P options.fresh setting script))))
@@ -146,7 +160,8 @@ IfOpens words seen left P =
 -- no call of the source, the sink or the disk failed, given the faults of the disk
 abbrev pub IsFaultless : Outside → Outside → ℕ → ℕ → Type 0
 IsFaultless before after was now =
-    (Rose before.source.faults after.source.faults → ⊥) × (Rose before.sink.faults after.sink.faults → ⊥) × (Rose was now → ⊥)
+    (Rose before.source.faults after.source.faults → ⊥) ×
+    (Rose before.sink.faults after.sink.faults → ⊥) × (Rose was now → ⊥)
 
 -- a run that no store is open for ends so, unless a call of the disk fails or memory runs out before
 abbrev pub EndsSo : Status → Status → Type 0

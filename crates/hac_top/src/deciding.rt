@@ -27,7 +27,8 @@ pub fn decide(
     line: Text,
     taken: Option<Taken>,
 ) -> Result<Decision, Memory>
-    ensures { IfOk result (Decides machine.now.state (λ setting. item_turn setting (item_taken line taken))) }
+    ensures { IfOk result (Decides machine.now.state
+        (λ setting. item_turn setting (item_taken line taken))) }
 {
     match parse_line(alloc, line.as_slice(), taken) {
         Ok(line) => decide_line(machine, line),

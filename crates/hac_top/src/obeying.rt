@@ -36,10 +36,16 @@ pub fn carry_out<D: Disk>(
 ) -> Result<Reply, Stop>
     requires intact { store.old.broken ≡ false }
     requires place { Bears (D.seen disk.old) store.old }
-    ensures reply { IfOk result (λ reply. reply ≡ (item_turn store.old.setting (item_taken line taken)).reply) }
-    ensures store { OnOk result (store.new ≡ record store.old { setting = (item_turn store.old.setting (item_taken line taken)).after }) }
+    ensures reply { IfOk result (λ reply. reply ≡
+        (item_turn store.old.setting (item_taken line taken)).reply) }
+    ensures store { OnOk result (store.new
+        ≡ record store.old {
+          setting = (item_turn store.old.setting
+              (item_taken line taken)).after;
+        }) }
     ensures place { OnOk result (Bears (D.seen disk.new) store.new) }
-    ensures stands { Stands (D.seen disk.old) (D.image disk.old) store.old.setting → OnOk result (Stands (D.seen disk.new) (D.image disk.new) store.new.setting) }
+    ensures stands { Stands (D.seen disk.old) (D.image disk.old) store.old.setting →
+        OnOk result (Stands (D.seen disk.new) (D.image disk.new) store.new.setting) }
     ensures stores { Stores D.seen D.image D.moment D.image_since D.attached D.faults disk.old disk.new store.old.setting
         (item_turn store.old.setting (item_taken line taken)).events (is_disk_stop result) }
     ensures stops { IfErr result StopsCommand }
@@ -61,10 +67,13 @@ fn happen<D: Disk>(
     requires intact { store.old.broken ≡ false }
     requires place { Bears (D.seen disk.old) store.old }
     requires happen { AllHappen store.old.setting.state (settled_events settled) }
-    ensures reply { IfOk result (λ reply. reply ≡ kept_reply store.old.setting (settled_events settled)) }
-    ensures store { OnOk result (store.new ≡ store_after store.old (kept_events store.old.setting (settled_events settled))) }
+    ensures reply { IfOk result (λ reply. reply ≡ kept_reply store.old.setting
+        (settled_events settled)) }
+    ensures store { OnOk result (store.new ≡ store_after store.old
+        (kept_events store.old.setting (settled_events settled))) }
     ensures place { OnOk result (Bears (D.seen disk.new) store.new) }
-    ensures stands { Stands (D.seen disk.old) (D.image disk.old) store.old.setting → OnOk result (Stands (D.seen disk.new) (D.image disk.new) store.new.setting) }
+    ensures stands { Stands (D.seen disk.old) (D.image disk.old) store.old.setting →
+        OnOk result (Stands (D.seen disk.new) (D.image disk.new) store.new.setting) }
     ensures stores { Stores D.seen D.image D.moment D.image_since D.attached D.faults disk.old disk.new store.old.setting
         (kept_events store.old.setting (settled_events settled)) (is_disk_stop result) }
     ensures stops { IfErr result StopsCommand }
@@ -89,10 +98,14 @@ fn store_events<D: Disk>(
     requires place { Bears (D.seen disk.old) store.old }
     requires happen { AllHappen store.old.setting.state (settled_events settled) }
     ensures ok { OnOk result (store.new ≡ store_after store.old (settled_events settled)) }
-    ensures full { IsErrOf result StoreFault.Full → (have_room store.old.setting (settled_events settled) ≡ false) × (store.new ≡ store.old) }
-    ensures room { have_room store.old.setting (settled_events settled) ≡ false → (IsErrOf result StoreFault.Full ⊎ IsErrOf result StoreFault.Memory) × (disk.new ≡ disk.old) }
+    ensures full { IsErrOf result StoreFault.Full →
+        (have_room store.old.setting (settled_events settled) ≡ false) × (store.new ≡ store.old) }
+    ensures room { have_room store.old.setting (settled_events settled) ≡ false →
+        (IsErrOf result StoreFault.Full ⊎ IsErrOf result StoreFault.Memory) ×
+        (disk.new ≡ disk.old) }
     ensures place { OnOk result (Bears (D.seen disk.new) store.new) }
-    ensures stands { Stands (D.seen disk.old) (D.image disk.old) store.old.setting → OnOk result (Stands (D.seen disk.new) (D.image disk.new) store.new.setting) }
+    ensures stands { Stands (D.seen disk.old) (D.image disk.old) store.old.setting →
+        OnOk result (Stands (D.seen disk.new) (D.image disk.new) store.new.setting) }
     ensures stores { Stores D.seen D.image D.moment D.image_since D.attached D.faults disk.old disk.new store.old.setting
         (settled_events settled) (is_disk_fault result) }
 {
@@ -108,10 +121,14 @@ fn take_steps<D: Disk>(store: &mut Store, disk: &mut D, count: u64) -> Result<()
     requires place { Bears (D.seen disk.old) store.old }
     requires happen { AllHappen store.old.setting.state (replicate count event.Step) }
     ensures ok { OnOk result (store.new ≡ store_after store.old (replicate count event.Step)) }
-    ensures full { IsErrOf result StoreFault.Full → (have_room store.old.setting (replicate count event.Step) ≡ false) × (store.new ≡ store.old) }
-    ensures room { have_room store.old.setting (replicate count event.Step) ≡ false → (IsErrOf result StoreFault.Full ⊎ IsErrOf result StoreFault.Memory) × (disk.new ≡ disk.old) }
+    ensures full { IsErrOf result StoreFault.Full →
+        (have_room store.old.setting (replicate count event.Step) ≡ false) ×
+        (store.new ≡ store.old) }
+    ensures room { have_room store.old.setting (replicate count event.Step) ≡ false →
+        IsErrOf result StoreFault.Full × (disk.new ≡ disk.old) }
     ensures place { OnOk result (Bears (D.seen disk.new) store.new) }
-    ensures stands { Stands (D.seen disk.old) (D.image disk.old) store.old.setting → OnOk result (Stands (D.seen disk.new) (D.image disk.new) store.new.setting) }
+    ensures stands { Stands (D.seen disk.old) (D.image disk.old) store.old.setting →
+        OnOk result (Stands (D.seen disk.new) (D.image disk.new) store.new.setting) }
     ensures stores { Stores D.seen D.image D.moment D.image_since D.attached D.faults disk.old disk.new store.old.setting
         (replicate count event.Step) (is_disk_fault result) }
 {

@@ -44,33 +44,48 @@ pub fn run<S: Source, K: Sink, D: Disk>(
     // Faulty command lines are refused.
     ensures usage { result ≡ Status.Usage → options (map string_bytes words.now) ≡ None }
     ensures words { options (map string_bytes words.now) ≡ None →
-        RefusesWords result (outside (S.seen input.old) (K.seen output.old)) (outside (S.seen input.new) (K.seen output.new)) × (disk.new ≡ disk.old) }
+        RefusesWords result (outside (S.seen input.old) (K.seen output.old))
+        (outside (S.seen input.new) (K.seen output.new)) × (disk.new ≡ disk.old) }
 
     // The replies are those of the tree that the store held, a crash at any moment leaves that tree after some of the
     // events, at the end those of what was answered, and without a fault the script is played.
-    ensures ran { IfOpens (options (map string_bytes words.now)) (D.seen disk.old) (S.seen input.old).left
+    ensures ran { IfOpens (options (map string_bytes words.now)) (D.seen disk.old)
+        (S.seen input.old).left
         (λ fresh setting script. Ran fresh result setting script
-        (outside (S.seen input.old) (K.seen output.old)) (outside (S.seen input.new) (K.seen output.new))
+        (outside (S.seen input.old) (K.seen output.old))
+        (outside (S.seen input.new) (K.seen output.new))
         (IsSettled (D.seen disk.old) (D.image disk.old)) (D.image disk.new)
         (LeavesOnly D.moment D.image_since disk.old disk.new)
-        (IsFaultless (outside (S.seen input.old) (K.seen output.old)) (outside (S.seen input.new) (K.seen output.new))
+        (IsFaultless (outside (S.seen input.old) (K.seen output.old))
+        (outside (S.seen input.new) (K.seen output.new))
         (D.faults disk.old) (D.faults disk.new))) }
 
     // Where the file holds no store, or one though a new one was asked for, it says so and does nothing else.
-    ensures unopened { IfSome (options (map string_bytes words.now)) (λ asked. IfSome (D.seen disk.old) (λ file. IfErr (opening_outcome asked.fresh (held file)) (λ wanted.
-        EndsSo wanted result × IsQuiet D.seen D.image D.moment D.image_since disk.old disk.new × (input.new ≡ input.old) × (output.new ≡ output.old)))) }
-    ensures file { IfSome (options (map string_bytes words.now)) (λ asked. IfSome (D.seen disk.old) (λ file. TellsFile result → opening_outcome asked.fresh (held file) ≡ Err result)) }
+    ensures unopened { IfSome (options (map string_bytes words.now))
+        (λ asked. IfSome (D.seen disk.old) (λ file. IfErr (opening_outcome asked.fresh (held file))
+        (λ wanted.
+        EndsSo wanted result × IsQuiet D.seen D.image D.moment D.image_since disk.old disk.new ×
+        (input.new ≡ input.old) × (output.new ≡ output.old)))) }
+    ensures file { IfSome (options (map string_bytes words.now))
+        (λ asked. IfSome (D.seen disk.old) (λ file. TellsFile result → opening_outcome asked.fresh
+        (held file) ≡ Err result)) }
 
     // The disk is attached once, by the name that the words give.
-    ensures attached { IfSome (options (map string_bytes words.now)) (λ asked. MayAttach (D.attached disk.old) asked (D.attached disk.new)
+    ensures attached { IfSome (options (map string_bytes words.now))
+        (λ asked. MayAttach (D.attached disk.old) asked (D.attached disk.new)
         × ((result ≡ Status.DiskFault → ⊥) → AttachesStore (D.attached disk.old) asked (D.attached disk.new))) }
 
     // Each fault is reported, and nothing is left unflushed in the sink.
-    ensures ends { Ends result (outside (S.seen input.old) (K.seen output.old)) (outside (S.seen input.new) (K.seen output.new)) }
-    ensures read_told { (S.seen input.old).faults < (S.seen input.new).faults → result ≡ Status.ReadFault }
-    ensures write_told { (K.seen output.old).faults < (K.seen output.new).faults → result ≡ Status.WriteFault }
-    ensures read_cause { result ≡ Status.ReadFault → Rose (S.seen input.old).faults (S.seen input.new).faults }
-    ensures write_cause { result ≡ Status.WriteFault → Rose (K.seen output.old).faults (K.seen output.new).faults }
+    ensures ends { Ends result (outside (S.seen input.old) (K.seen output.old))
+        (outside (S.seen input.new) (K.seen output.new)) }
+    ensures read_told { (S.seen input.old).faults < (S.seen input.new).faults →
+        result ≡ Status.ReadFault }
+    ensures write_told { (K.seen output.old).faults < (K.seen output.new).faults →
+        result ≡ Status.WriteFault }
+    ensures read_cause { result ≡ Status.ReadFault →
+        Rose (S.seen input.old).faults (S.seen input.new).faults }
+    ensures write_cause { result ≡ Status.WriteFault →
+        Rose (K.seen output.old).faults (K.seen output.new).faults }
     ensures disk_later { D.faults disk.old ≤ D.faults disk.new }
     ensures disk_cause { result ≡ Status.DiskFault → Rose (D.faults disk.old) (D.faults disk.new) }
     ensures disk_told { (result ≡ Status.DiskFault → ⊥) → D.faults disk.new ≡ D.faults disk.old }
@@ -86,10 +101,12 @@ pub fn run<S: Source, K: Sink, D: Disk>(
 
 fn tell_usage<K: Sink>(output: &mut K) -> Status
     ensures status { (result ≡ Status.Usage) ⊎ (result ≡ Status.WriteFault) }
-    ensures written { result ≡ Status.Usage → Appends (K.seen output.old).written (K.seen output.new).written usage_line }
+    ensures written { result ≡ Status.Usage → Appends (K.seen output.old).written
+        (K.seen output.new).written usage_line }
     ensures passed { result ≡ Status.Usage → (K.seen output.new).held_back ≡ 0 }
     ensures some { AppendsSome (K.seen output.old).written (K.seen output.new).written usage_line }
-    ensures faults { TellsFault (is_write_fault result) (K.seen output.old).faults (K.seen output.new).faults }
+    ensures faults { TellsFault (is_write_fault result) (K.seen output.old).faults
+        (K.seen output.new).faults }
 {
     match tell_bytes(output, b"usage: hac [--new] STORE\n") {
         Ok(()) => Status::Usage,
@@ -109,15 +126,22 @@ fn play_store<S: Source, K: Sink, D: Disk>(
     requires intact { store.broken ≡ false }
     requires place { Bears (D.seen disk.old) store }
     ensures ran { IfSome (S.seen input.old).left (λ script.
-        Played false (end_status result) store.setting script (outside (S.seen input.old) (K.seen output.old)) (outside (S.seen input.new) (K.seen output.new))
+        Played false (end_status result) store.setting script
+        (outside (S.seen input.old) (K.seen output.old))
+        (outside (S.seen input.new) (K.seen output.new))
         (Stands (D.seen disk.old) (D.image disk.old) store.setting) (D.image disk.new)) }
-    ensures any_moment { IfSome (S.seen input.old).left (λ script. Stands (D.seen disk.old) (D.image disk.old) store.setting →
-        LeavesOnly D.moment D.image_since disk.old disk.new (Holds (IsTreeAfter store.setting.state (all_events (play store.setting script))))) }
-    ensures ends { Ends (end_status result) (outside (S.seen input.old) (K.seen output.old)) (outside (S.seen input.new) (K.seen output.new)) }
+    ensures any_moment { IfSome (S.seen input.old).left
+        (λ script. Stands (D.seen disk.old) (D.image disk.old) store.setting →
+        LeavesOnly D.moment D.image_since disk.old disk.new
+        (Holds (IsTreeAfter store.setting.state (all_events (play store.setting script))))) }
+    ensures ends { Ends (end_status result) (outside (S.seen input.old) (K.seen output.old))
+        (outside (S.seen input.new) (K.seen output.new)) }
     ensures attached { D.attached disk.new ≡ D.attached disk.old }
     ensures later { D.faults disk.old ≤ D.faults disk.new }
-    ensures cause { end_status result ≡ Status.DiskFault → Rose (D.faults disk.old) (D.faults disk.new) }
-    ensures none { (end_status result ≡ Status.DiskFault → ⊥) → D.faults disk.new ≡ D.faults disk.old }
+    ensures cause { end_status result ≡ Status.DiskFault →
+        Rose (D.faults disk.old) (D.faults disk.new) }
+    ensures none { (end_status result ≡ Status.DiskFault → ⊥) →
+        D.faults disk.new ≡ D.faults disk.old }
 {
     let mut player = Player {
         alloc,
@@ -142,15 +166,23 @@ fn play_script<S: Source, K: Sink, D: Disk>(
     requires intact { player.old.store.broken ≡ false }
     requires place { Bears (D.seen disk.old) player.old.store }
     ensures ran { IfSome (S.seen input.old).left (λ script.
-        Played false (end_status result) player.old.store.setting script (outside (S.seen input.old) (K.seen output.old)) (outside (S.seen input.new) (K.seen output.new))
+        Played false (end_status result) player.old.store.setting script
+        (outside (S.seen input.old) (K.seen output.old))
+        (outside (S.seen input.new) (K.seen output.new))
         (Stands (D.seen disk.old) (D.image disk.old) player.old.store.setting) (D.image disk.new)) }
-    ensures any_moment { IfSome (S.seen input.old).left (λ script. Stands (D.seen disk.old) (D.image disk.old) player.old.store.setting →
-        LeavesOnly D.moment D.image_since disk.old disk.new (Holds (IsTreeAfter player.old.store.setting.state (all_events (play player.old.store.setting script))))) }
-    ensures ends { Ends (end_status result) (outside (S.seen input.old) (K.seen output.old)) (outside (S.seen input.new) (K.seen output.new)) }
+    ensures any_moment { IfSome (S.seen input.old).left
+        (λ script. Stands (D.seen disk.old) (D.image disk.old) player.old.store.setting →
+        LeavesOnly D.moment D.image_since disk.old disk.new
+        (Holds (IsTreeAfter player.old.store.setting.state
+        (all_events (play player.old.store.setting script))))) }
+    ensures ends { Ends (end_status result) (outside (S.seen input.old) (K.seen output.old))
+        (outside (S.seen input.new) (K.seen output.new)) }
     ensures attached { D.attached disk.new ≡ D.attached disk.old }
     ensures later { D.faults disk.old ≤ D.faults disk.new }
-    ensures cause { end_status result ≡ Status.DiskFault → Rose (D.faults disk.old) (D.faults disk.new) }
-    ensures none { (end_status result ≡ Status.DiskFault → ⊥) → D.faults disk.new ≡ D.faults disk.old }
+    ensures cause { end_status result ≡ Status.DiskFault →
+        Rose (D.faults disk.old) (D.faults disk.new) }
+    ensures none { (end_status result ≡ Status.DiskFault → ⊥) →
+        D.faults disk.new ≡ D.faults disk.old }
 {
     let mut reader = Reader::new(alloc)?;
     'lines: loop {
