@@ -81,6 +81,7 @@ pub fn roots<D: Disk>(disk: &mut D) -> Result<Root, RootFault>
     ensures attached { D.attached disk.new ≡ D.attached disk.old }
     ensures later { D.faults disk.old ≤ D.faults disk.new }
     ensures cause { result ≡ Err RootFault.Disk → Rose (D.faults disk.old) (D.faults disk.new) }
+    ensures none { (result ≡ Err RootFault.Disk → ⊥) → D.faults disk.new ≡ D.faults disk.old }
 {
     let len = disk.len()?;
     let mut head = [0; HEAD];

@@ -1,5 +1,5 @@
 //! Putting records behind a log, all of them or none.
-ghost use Rattle.std.specs.Prelude.{◌≡◌, ◌⊎◌, ◌+◌, ◌<◌, ◌≤◌, ◌↔◌, List, ℕ, IfOk, IfSome, IsErrOf, OnOk, length};
+ghost use Rattle.std.specs.Prelude.{◌≡◌, ◌⊎◌, ◌+◌, ◌<◌, ◌≤◌, ◌^◌, ◌↔◌, List, ℕ, IfOk, IfSome, IsErrOf, OnOk, length};
 ghost use Rattle.hac_outside.specs.Causes.{Rose};
 ghost use Rattle.hac_disk.specs.Images.{LeavesOnly};
 ghost use Rattle.hac_disk.specs.Told.{HasByteAt, IsSettled, Written};
@@ -7,37 +7,46 @@ ghost use Rattle.hac_journal.specs.Appending.{Appending, ClosedAt};
 ghost use Rattle.hac_journal.specs.Records.{contents_of, log_of, records_of};
 
 use super::fault::JournalFault;
-use super::records::{OPEN, STORE_LIMIT, log_bytes, log_end};
+use super::records::{OPEN, log_bytes, log_end};
 use hac_disk::{Disk, write_stable};
 use std::alloc::Global;
 
 /// Puts records of these payloads behind the log that ends at `end`, and answers the log's new end. All but the
 /// first gate is written and synced behind the gate that is closed; then the first gate is opened and synced: so
-/// a crash leaves none of the records, or all. `Full` and `Memory` come before any write.
+/// a crash leaves none of the records, or all. `Full` and `Memory` come before any write. The log and the closed
+/// gate behind it end within `limit` bytes.
 pub fn append<D: Disk>(
     alloc: Global,
     disk: &mut D,
+    limit: u64,
     end: u64,
     payloads: &[Vec<u8>],
 ) -> Result<u64, JournalFault>
     requires some { 0 < length payloads.now }
+    requires limit { limit ≤ 2 ^ 32 }
     requires place { HasByteAt (D.seen disk.old) end }
     ensures end { IfOk result (λ new. new ≡ end + length (records_of (contents_of payloads.now))) }
-    ensures written { OnOk result (Written (D.seen disk.old) end (log_of (contents_of payloads.now)) (D.seen disk.new)) }
+    ensures written { OnOk result (Written (D.seen disk.old) end (log_of (contents_of payloads.now))
+        (D.seen disk.new)) }
     ensures settled { OnOk result (IsSettled (D.seen disk.new) (D.image disk.new)) }
     ensures gate { IfOk result (λ new. HasByteAt (D.seen disk.new) new) }
-    ensures full { IsErrOf result JournalFault.Full ↔ (STORE_LIMIT < end + length (log_of (contents_of payloads.now))) }
-    ensures unwritten { (IsErrOf result JournalFault.Full ⊎ IsErrOf result JournalFault.Memory) → disk.new ≡ disk.old }
+    ensures full { IsErrOf result JournalFault.Full ↔
+        (limit < end + length (log_of (contents_of payloads.now))) }
+    ensures unwritten { (IsErrOf result JournalFault.Full ⊎ IsErrOf result JournalFault.Memory) →
+        disk.new ≡ disk.old }
 
     // At each moment a crash leaves an image from before the call, with none of the records or with all.
-    ensures any_moment { IfSome (D.seen disk.old) (λ _. ((c : List ℕ) → D.image disk.old c → ClosedAt end c)
+    ensures any_moment { IfSome (D.seen disk.old) (λ _.
+        ((c : List ℕ) → D.image disk.old c → ClosedAt end c)
         → LeavesOnly D.moment D.image_since disk.old disk.new (Appending end (log_of (contents_of payloads.now)) (D.image disk.old))) }
 
     ensures attached { D.attached disk.new ≡ D.attached disk.old }
     ensures later { D.faults disk.old ≤ D.faults disk.new }
-    ensures cause { IsErrOf result JournalFault.Disk → Rose (D.faults disk.old) (D.faults disk.new) }
+    ensures cause { IsErrOf result JournalFault.Disk →
+        Rose (D.faults disk.old) (D.faults disk.new) }
+    ensures none { (IsErrOf result JournalFault.Disk → ⊥) → D.faults disk.new ≡ D.faults disk.old }
 {
-    let Some(new_end) = log_end(end, payloads) else {
+    let Some(new_end) = log_end(limit, end, payloads) else {
         return Err(JournalFault::Full);
     };
     let log = log_bytes(alloc, payloads)?;

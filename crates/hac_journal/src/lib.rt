@@ -14,4 +14,4 @@ pub use fault::JournalFault;
 pub use finding::Next;
 pub use laws::{closed_gates_end_a_log, found_records_are_whole, records_are_found};
 pub use reading::{LogReader, next};
-pub use records::{CLOSED, OPEN, STORE_LIMIT};
+pub use records::{CLOSED, OPEN};

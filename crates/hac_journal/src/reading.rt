@@ -56,7 +56,10 @@ impl LogReader {
         ensures attached { D.attached disk.new ≡ D.attached disk.old }
         ensures not_full { IsErrOf result JournalFault.Full → ⊥ }
         ensures later { D.faults disk.old ≤ D.faults disk.new }
-        ensures cause { IsErrOf result JournalFault.Disk → Rose (D.faults disk.old) (D.faults disk.new) }
+        ensures cause { IsErrOf result JournalFault.Disk →
+            Rose (D.faults disk.old) (D.faults disk.new) }
+        ensures none { (IsErrOf result JournalFault.Disk → ⊥) →
+            D.faults disk.new ≡ D.faults disk.old }
     {
         loop {
             match look_at(self.from(at)) {
@@ -97,7 +100,8 @@ impl LogReader {
     // The payload of a record that is held whole.
     fn payload(&self, at: u64, size: usize) -> Result<Vec<u8>, AllocError>
         requires { 5 + size < length (held_from self.now at) }
-        ensures payload { IfOk result (λ payload. payload.items ≡ take size (drop 5 (held_from self.now at))) }
+        ensures payload { IfOk result (λ payload. payload.items ≡ take size
+            (drop 5 (held_from self.now at))) }
         ensures next { at + 5 + size < 2 ^ 64 }
     {
         Vec::from_slice(self.alloc, &self.from(at)[5..5 + size])
@@ -113,13 +117,17 @@ impl LogReader {
         requires held { StandAt (D.seen disk.old) self.old.start self.old.bytes }
         requires need { need < 2 ^ 33 }
         ensures held { StandAt (D.seen disk.new) self.new.start self.new.bytes }
-        ensures filled { IfOk result (λ short. MatchOption short (need ≤ length (held_from self.new at))
+        ensures filled { IfOk result (λ short. MatchOption short
+            (need ≤ length (held_from self.new at))
             (λ len. HasLength (D.seen disk.old) len × (len < at + need) × (self.new ≡ self.old))) }
         ensures quiet { IsQuiet D.seen D.image D.moment D.image_since disk.old disk.new }
         ensures attached { D.attached disk.new ≡ D.attached disk.old }
         ensures not_full { IsErrOf result JournalFault.Full → ⊥ }
         ensures later { D.faults disk.old ≤ D.faults disk.new }
-        ensures cause { IsErrOf result JournalFault.Disk → Rose (D.faults disk.old) (D.faults disk.new) }
+        ensures cause { IsErrOf result JournalFault.Disk →
+            Rose (D.faults disk.old) (D.faults disk.new) }
+        ensures none { (IsErrOf result JournalFault.Disk → ⊥) →
+            D.faults disk.new ≡ D.faults disk.old }
     {
         let len = disk.len()?;
         if len < at || len - at < need as u64 {
@@ -147,7 +155,9 @@ pub fn next<D: Disk>(alloc: Global, disk: &mut D, at: u64) -> Result<Next, Journ
     ensures attached { D.attached disk.new ≡ D.attached disk.old }
     ensures not_full { IsErrOf result JournalFault.Full → ⊥ }
     ensures later { D.faults disk.old ≤ D.faults disk.new }
-    ensures cause { IsErrOf result JournalFault.Disk → Rose (D.faults disk.old) (D.faults disk.new) }
+    ensures cause { IsErrOf result JournalFault.Disk →
+        Rose (D.faults disk.old) (D.faults disk.new) }
+    ensures none { (IsErrOf result JournalFault.Disk → ⊥) → D.faults disk.new ≡ D.faults disk.old }
 {
     LogReader::new(alloc).next(disk, at)
 }

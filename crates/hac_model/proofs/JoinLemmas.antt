@@ -11,7 +11,7 @@ use Rattle.std.proofs.lemmas.Grind.{common_steps}
 use Rattle.hac_model.specs.Bytes.{is_line_end}
 use Rattle.hac_model.specs.Lines.{Item, items_of}
 use Rattle.hac_model.specs.Script.{first_line, after_line, is_first_ended, due, first_items, after_item, script, is_first_whole, whole_line, whole}
-use Rattle.hac_model.specs.Play.{Setting, Turn, left_by, play, turn, turns}
+use Rattle.hac_model.specs.Play.{Setting, Turn, left_by, play, item_turn, turns}
 use Rattle.hac_model.proofs.FrontLemmas.{items-front}
 use Rattle.hac_model.proofs.PrefixLemmas.{unended-take}
 use Rattle.hac_model.proofs.ScriptLemmas.{script-step, script-nothing, whole-step, length-after_item}
@@ -185,7 +185,7 @@ script-joined a b lines = script-joined-within (length a) a b (omega arith) line
 -- turns that are joined go on from what the first ones leave
 pub turns-append : (setting : Setting) (xs ys : List Item) → turns setting (xs ++ ys) ≡ turns setting xs ++ turns (left_by setting (turns setting xs)) ys
 turns-append setting [] ys = refl
-turns-append setting (x ∷ xs) ys = ap (λ (rest : List Turn). turn setting x ∷ rest) (turns-append (turn setting x).after xs ys)
+turns-append setting (x ∷ xs) ys = ap (λ (rest : List Turn). item_turn setting x ∷ rest) (turns-append (item_turn setting x).after xs ys)
 
 pub left_by-append : (setting : Setting) (xs ys : List Turn) → left_by setting (xs ++ ys) ≡ left_by (left_by setting xs) ys
 left_by-append setting [] ys = refl

@@ -8,7 +8,7 @@ use Rattle.hac_model.specs.Answers.{first_cause}
 use Rattle.hac_model.specs.Events.{apply, apply_all, dirty}
 use Rattle.hac_model.specs.Lines.{Item, is_quiet, is_spelled, item_of, items_of}
 use Rattle.hac_model.specs.Payloads.{event_text}
-use Rattle.hac_model.specs.Play.{Setting, answered, all_events, end_after, events_in, full_cause, left_by, play, refused, turn, turn_of, turns}
+use Rattle.hac_model.specs.Play.{Setting, answered, all_events, end_behind, events_in, full_cause, left_by, play, refused, item_turn, command_turn, turns}
 use Rattle.hac_model.specs.Refusals.{cause, events_of, led_to}
 use Rattle.hac_model.specs.Resolving.{resolve}
 use Rattle.hac_model.specs.Script.{after_item, after_line, first_items, first_line, items_of_lines, script}
@@ -27,7 +27,7 @@ abbrev against : Setting → Resolved → Option Refusal
 against setting command = first_cause (cause setting.state command ∷ full_cause setting command ∷ [])
 
 -- what a command leads to is valid
-command-valid : (setting : Setting) (line : Line) (r : Result Resolved Refusal) → IsValid setting.state → IsTrue (is_spelled line.command) → resolve setting.state line ≡ r → IsValid (turn_of setting r).after.state
+command-valid : (setting : Setting) (line : Line) (r : Result Resolved Refusal) → IsValid setting.state → IsTrue (is_spelled line.command) → resolve setting.state line ≡ r → IsValid (command_turn setting r).after.state
 command-valid setting line (Err refusal) h spelled leads = h
 command-valid setting line (Ok command) h spelled leads =
     elim (against setting command) as (λ o. against setting command ≡ o → IsValid (option_map_or (refused setting) o (answered setting command)).after.state) [
@@ -35,13 +35,13 @@ command-valid setting line (Ok command) h spelled leads =
       | Some refusal ↦ (λ _. h)
     ] refl
 
-pub turn-valid : (setting : Setting) (item : Item) → IsItem item → IsValid setting.state → IsValid (turn setting item).after.state
+pub turn-valid : (setting : Setting) (item : Item) → IsItem item → IsValid setting.state → IsValid (item_turn setting item).after.state
 turn-valid setting (Ok line) spelled h = command-valid setting line (resolve setting.state line) h spelled refl
 turn-valid setting (Err refusal) spelled h = h
 
 pub turns-valid : (setting : Setting) (items : List Item) → AllByRecursion IsItem items → IsValid setting.state → IsValid (left_by setting (turns setting items)).state
 turns-valid setting [] spelled h = h
-turns-valid setting (item ∷ items) spelled h = turns-valid (turn setting item).after items spelled.1 (turn-valid setting item spelled.0 h)
+turns-valid setting (item ∷ items) spelled h = turns-valid (item_turn setting item).after items spelled.1 (turn-valid setting item spelled.0 h)
 
 all-append : (xs ys : List Item) → AllByRecursion IsItem xs → AllByRecursion IsItem ys → AllByRecursion IsItem (xs ++ ys)
 all-append [] ys p q = q
@@ -69,7 +69,7 @@ apply_all-append [] ys s = refl
 apply_all-append (x ∷ xs) ys s = apply_all-append xs ys (apply s x)
 
 -- a turn leaves what its events make of the state
-command-leads : (setting : Setting) (r : Result Resolved Refusal) → (turn_of setting r).after.state ≡ apply_all setting.state (events_in (turn_of setting r))
+command-leads : (setting : Setting) (r : Result Resolved Refusal) → (command_turn setting r).after.state ≡ apply_all setting.state (events_in (command_turn setting r))
 command-leads setting (Err refusal) = refl
 command-leads setting (Ok command) =
     elim (against setting command) as (λ o. (option_map_or (refused setting) o (answered setting command)).after.state ≡ apply_all setting.state (events_in (option_map_or (refused setting) o (answered setting command)))) [
@@ -77,41 +77,41 @@ command-leads setting (Ok command) =
       | Some refusal ↦ refl
     ]
 
-turn-leads : (setting : Setting) (item : Item) → (turn setting item).after.state ≡ apply_all setting.state (events_in (turn setting item))
+turn-leads : (setting : Setting) (item : Item) → (item_turn setting item).after.state ≡ apply_all setting.state (events_in (item_turn setting item))
 turn-leads setting (Ok line) = command-leads setting (resolve setting.state line)
 turn-leads setting (Err refusal) = refl
 
 pub events-lead : (setting : Setting) (items : List Item) → (left_by setting (turns setting items)).state ≡ apply_all setting.state (all_events (turns setting items))
 events-lead setting [] = refl
 events-lead setting (item ∷ items) =
-    events-lead (turn setting item).after items
-    ∙ ap (λ (s : State). apply_all s (all_events (turns (turn setting item).after items))) (turn-leads setting item)
-    ∙ sym (apply_all-append (events_in (turn setting item)) (all_events (turns (turn setting item).after items)) setting.state)
+    events-lead (item_turn setting item).after items
+    ∙ ap (λ (s : State). apply_all s (all_events (turns (item_turn setting item).after items))) (turn-leads setting item)
+    ∙ sym (apply_all-append (events_in (item_turn setting item)) (all_events (turns (item_turn setting item).after items)) setting.state)
 
 -- and its store ends behind their records
 
-pub end_after-append : (xs ys : List Event) (end : ℕ) → end_after end (xs ++ ys) ≡ end_after (end_after end xs) ys
-end_after-append [] ys end = refl
-end_after-append (x ∷ xs) ys end = end_after-append xs ys (end + 5 + length (event_text x))
+pub end_behind-append : (xs ys : List Event) (end : ℕ) → end_behind end (xs ++ ys) ≡ end_behind (end_behind end xs) ys
+end_behind-append [] ys end = refl
+end_behind-append (x ∷ xs) ys end = end_behind-append xs ys (end + 5 + length (event_text x))
 
-command-ends : (setting : Setting) (r : Result Resolved Refusal) → (turn_of setting r).after.end ≡ end_after setting.end (events_in (turn_of setting r))
+command-ends : (setting : Setting) (r : Result Resolved Refusal) → (command_turn setting r).after.end ≡ end_behind setting.end (events_in (command_turn setting r))
 command-ends setting (Err refusal) = refl
 command-ends setting (Ok command) =
-    elim (against setting command) as (λ o. (option_map_or (refused setting) o (answered setting command)).after.end ≡ end_after setting.end (events_in (option_map_or (refused setting) o (answered setting command)))) [
-      | None ↦ ap (end_after setting.end) (sym (append-nil (events_of setting.state command)))
+    elim (against setting command) as (λ o. (option_map_or (refused setting) o (answered setting command)).after.end ≡ end_behind setting.end (events_in (option_map_or (refused setting) o (answered setting command)))) [
+      | None ↦ ap (end_behind setting.end) (sym (append-nil (events_of setting.state command)))
       | Some refusal ↦ refl
     ]
 
-turn-ends : (setting : Setting) (item : Item) → (turn setting item).after.end ≡ end_after setting.end (events_in (turn setting item))
+turn-ends : (setting : Setting) (item : Item) → (item_turn setting item).after.end ≡ end_behind setting.end (events_in (item_turn setting item))
 turn-ends setting (Ok line) = command-ends setting (resolve setting.state line)
 turn-ends setting (Err refusal) = refl
 
-pub events-end : (setting : Setting) (items : List Item) → (left_by setting (turns setting items)).end ≡ end_after setting.end (all_events (turns setting items))
+pub events-end : (setting : Setting) (items : List Item) → (left_by setting (turns setting items)).end ≡ end_behind setting.end (all_events (turns setting items))
 events-end setting [] = refl
 events-end setting (item ∷ items) =
-    events-end (turn setting item).after items
-    ∙ ap (λ (end : ℕ). end_after end (all_events (turns (turn setting item).after items))) (turn-ends setting item)
-    ∙ sym (end_after-append (events_in (turn setting item)) (all_events (turns (turn setting item).after items)) setting.end)
+    events-end (item_turn setting item).after items
+    ∙ ap (λ (end : ℕ). end_behind end (all_events (turns (item_turn setting item).after items))) (turn-ends setting item)
+    ∙ sym (end_behind-append (events_in (item_turn setting item)) (all_events (turns (item_turn setting item).after items)) setting.end)
 
 pub index-cleans : (s : State) → IsValid s → dirty (led_to s Index) ≡ 0
 index-cleans s h = steps-clean-all (dirty s) s h refl

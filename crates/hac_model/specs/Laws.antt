@@ -17,7 +17,7 @@ use Rattle.hac_model.specs.Resolving.{resolve}
 use Rattle.hac_model.specs.Script.{due, whole}
 use Rattle.hac_model.specs.Sessions.{stored}
 use Rattle.hac_model.specs.Payloads.{is_spellable}
-use Rattle.hac_model.specs.Play.{Setting, all_events, end_after, left_by, opening, play, replies, turns}
+use Rattle.hac_model.specs.Play.{Setting, all_events, end_after, left_by, new_setting, play, replies, turns}
 use Rattle.hac_model.specs.Texts.{escaped_text, text_of}
 use Rattle.hac_model.specs.Tree.{empty, entry_at, path_of}
 use Rattle.hac_model.specs.Valid.{IsValid}
@@ -114,7 +114,7 @@ EventsLead = (setting : Setting) (items : List Item) → (left_by setting (turns
 
 -- and the store then ends behind the records of these events
 abbrev pub EventsEnd : Type 0
-EventsEnd = (setting : Setting) (items : List Item) → (left_by setting (turns setting items)).end ≡ end_after setting.end (all_events (turns setting items))
+EventsEnd = (setting : Setting) (items : List Item) → (left_by setting (turns setting items)).end ≡ end_after setting (all_events (turns setting items))
 
 -- each event that a valid state accepts has a spelling
 abbrev pub AcceptedAreSpelled : Type 0
@@ -188,7 +188,7 @@ lines_text lines = flat_map ended lines
 -- a semantic directory has the files that had its word when they were last indexed, and no directory is written over
 abbrev pub FirstListings : Type 0
 FirstListings =
-    text (replies (play opening (lines_text (
+    text (replies (play new_setting (lines_text (
     codes "write /a Big apple" ∷ codes "smkdir /s apple" ∷ codes "sls /s" ∷ codes "index" ∷ codes "sls /s"
     ∷ codes "write /a pear" ∷ codes "sls /s" ∷ codes "write /s x" ∷ codes "smkdir /s y" ∷ []))))
     ≡ lines_text (
@@ -199,7 +199,7 @@ FirstListings =
 -- move takes files out of its links, and brings others in.
 abbrev pub MovedListings : Type 0
 MovedListings =
-    text (replies (play opening (lines_text (
+    text (replies (play new_setting (lines_text (
     codes "mkdir /d" ∷ codes "mkdir d/e" ∷ codes "write /d/e/f red apple" ∷ codes "write g green apple" ∷ codes "smkdir /d/s apple"
     ∷ codes "smkdir d/s/t red" ∷ codes "index" ∷ codes "sls /d/s" ∷ codes "sls /d/s/t" ∷ codes "mv /d/e /h" ∷ codes "sls /d/s"
     ∷ codes "sls /d/s/t" ∷ codes "mv /g /d/./x/../e/" ∷ codes "sls /d/s" ∷ codes "sls /d/s/t" ∷ codes "mv /h/f /d/s/g"
@@ -214,12 +214,12 @@ MovedListings =
 -- a store without room for one more record refuses each change, and still answers
 abbrev pub FullStore : Type 0
 FullStore =
-    text (replies (play (record opening { start = 4294967290; end = 4294967290 }) (lines_text (codes "mkdir /a" ∷ codes "mkdir /a" ∷ codes "ls" ∷ []))))
+    text (replies (play (record new_setting { start = 4294967290; end = 4294967290 }) (lines_text (codes "mkdir /a" ∷ codes "mkdir /a" ∷ codes "ls" ∷ []))))
     ≡ lines_text (codes "no limit store" ∷ codes "no limit store" ∷ codes "ok" ∷ [])
 
 -- the record of a new directory is 12 bytes longer than its name: 13 bytes for `a`
 abbrev pub FirstEnd : Type 0
-FirstEnd = (left_by opening (play opening (lines_text (codes "mkdir /a" ∷ [])))).end ≡ 64 + 13
+FirstEnd = (left_by new_setting (play new_setting (lines_text (codes "mkdir /a" ∷ [])))).end ≡ 64 + 13
 
 -- a new store, an existing one, and one whose name begins like an option
 abbrev pub FirstCommandLines : Type 0

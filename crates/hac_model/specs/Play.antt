@@ -100,23 +100,27 @@ pub record Setting : Type 0 where
   pub generation : ℕ
 
 -- a new store holds the root alone
-abbrev pub opening : Setting
-opening = record { state = empty; start = 64; end = 64; generation = 1 }
+abbrev pub new_setting : Setting
+new_setting = record { state = empty; start = 64; end = 64; generation = 1 }
 
--- where a log ends once it holds the records of events too: of each a gate, the payload's length in four bytes, the
--- payload
-abbrev pub end_after : ℕ → List Event → ℕ
-end_after end [] = end
-end_after end (event ∷ events) = end_after (end + 5 + length (event_text event)) events
+-- where a log that ends here ends once it holds the records of events too: of each a gate, the payload's length in four
+-- bytes, the payload
+abbrev pub end_behind : ℕ → List Event → ℕ
+end_behind end [] = end
+end_behind end (event ∷ events) = end_behind (end + 5 + length (event_text event)) events
+
+-- where the log of a store ends then
+abbrev pub end_after : Setting → List Event → ℕ
+end_after setting events = end_behind setting.end events
 
 -- the setting after events have happened and are stored
 abbrev pub after_events : Setting → List Event → Setting
-after_events setting events = record setting { state = apply_all setting.state events; end = end_after setting.end events }
+after_events setting events = record setting { state = apply_all setting.state events; end = end_after setting events }
 
 -- the records of events, and the closed gate behind them, lie within the limit of a store
-abbrev pub have_room : ℕ → List Event → Bool
-have_room end [] = true
-have_room end events = nat_lt (end_after end events) STORE_LIMIT
+abbrev pub have_room : Setting → List Event → Bool
+have_room setting [] = true
+have_room setting events = nat_lt (end_after setting events) STORE_LIMIT
 
 -- what comes of one command: its reply, the events that it makes, the index steps behind it, and what the next command
 -- meets
@@ -141,23 +145,23 @@ answered setting command = record {
 
 -- the store has no room for the records of the command's events
 abbrev pub full_cause : Setting → Resolved → Option Refusal
-full_cause setting command = if have_room setting.end (events_of setting.state command) then None else Some (Limit Store)
+full_cause setting command = if have_room setting (events_of setting.state command) then None else Some (Limit Store)
 
 -- the turn of a command whose paths were followed. A full store is the last of all causes.
-abbrev pub turn_of : Setting → Result Resolved Refusal → Turn
-turn_of setting (Err refusal) = refused setting refusal
-turn_of setting (Ok command) =
+abbrev pub command_turn : Setting → Result Resolved Refusal → Turn
+command_turn setting (Err refusal) = refused setting refusal
+command_turn setting (Ok command) =
     option_map_or (refused setting) (first_cause (cause setting.state command ∷ full_cause setting command ∷ [])) (answered setting command)
 
 -- the turn of a line, which is a command or refused by its form
-abbrev pub turn : Setting → Item → Turn
-turn setting (Err refusal) = refused setting refusal
-turn setting (Ok line) = turn_of setting (resolve setting.state line)
+abbrev pub item_turn : Setting → Item → Turn
+item_turn setting (Err refusal) = refused setting refusal
+item_turn setting (Ok line) = command_turn setting (resolve setting.state line)
 
 -- the turns of lines in order
 abbrev pub turns : Setting → List Item → List Turn
 turns setting [] = []
-turns setting (item ∷ items) = turn setting item ∷ turns (turn setting item).after items
+turns setting (item ∷ items) = item_turn setting item ∷ turns (item_turn setting item).after items
 
 -- the turns of a script
 abbrev pub play : Setting → List ℕ → List Turn

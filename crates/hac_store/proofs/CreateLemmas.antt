@@ -7,7 +7,7 @@ use Rattle.hac_disk.specs.Told.{HasByteAt, HasLength, IsSettled, StandAt, Writte
 use Rattle.hac_disk.proofs.Moments.{quiet_leaves, then_quiet, then_run, weaken}
 use Rattle.hac_disk.proofs.ToldLemmas.{if_told, told-settled, told-written}
 use Rattle.hac_journal.specs.Appending.{ClosedAt}
-use Rattle.hac_model.specs.Play.{opening}
+use Rattle.hac_model.specs.Play.{new_setting}
 use Rattle.hac_store.specs.Creating.{Becomes, IsReady, IsUnheld}
 use Rattle.hac_store.specs.Held.{held}
 use Rattle.hac_store.specs.Stores.{IsNewOrNone, Stands}
@@ -52,7 +52,7 @@ rest-ready (Some old) (Some file) new shut written =
 
 -- once its gate is open, it is a new store
 pub opened-stands : {E : Type 0} (result : Result Unit E) (seen mid new : Option (List ℕ)) (image : List ℕ → Type 0) → Becomes seen IsReady mid
-    → OnOk result (Written mid 0 (1 ∷ []) new) → OnOk result (IsSettled new image) → IfSome seen (λ _. OnOk result (Stands new image opening))
+    → OnOk result (Written mid 0 (1 ∷ []) new) → OnOk result (IsSettled new image) → IfSome seen (λ _. OnOk result (Stands new image new_setting))
 opened-stands (Err e) None mid new image ready written settled = tt
 opened-stands (Err e) (Some old) mid new image ready written settled = tt
 opened-stands (Ok u) None mid new image ready written settled = tt
@@ -60,8 +60,8 @@ opened-stands (Ok u) (Some old) None new image ready written settled = absurd re
 opened-stands (Ok u) (Some old) (Some file) new image ready written settled =
     let bytes = overlaid 0 (1 ∷ []) file in
     let only = told-settled new bytes image written settled in
-    let stands : Stands (Some bytes) image opening = λ c left. ap held (only c left) ∙ (opened-held file ready).0 in
-    subst (λ s. Stands s image opening) (sym written) stands
+    let stands : Stands (Some bytes) image new_setting = λ c left. ap held (only c left) ∙ (opened-held file ready).0 in
+    subst (λ s. Stands s image new_setting) (sym written) stands
 
 pub opened-place : {E : Type 0} (result : Result Unit E) (seen mid new : Option (List ℕ)) → Becomes seen IsReady mid
     → OnOk result (Written mid 0 (1 ∷ []) new) → OnOk result (HasByteAt new 64)

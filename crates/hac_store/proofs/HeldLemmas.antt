@@ -16,12 +16,14 @@ use Rattle.hac_journal.proofs.CrashLemmas.{front-less}
 use Rattle.hac_journal.proofs.LawLemmas.{closed-is-found}
 use Rattle.hac_model.specs.Events.{apply_all}
 use Rattle.hac_model.specs.Payloads.{event_text}
-use Rattle.hac_model.specs.Play.{Setting, after_events, end_after}
+use Rattle.hac_model.specs.Play.{Setting, after_events, end_behind}
 use Rattle.hac_model.specs.Tree.{empty}
+use Rattle.hac_model.specs.Valid.{IsValid}
 use Rattle.hac_model.specs.declared.events.Event.{Event}
+use Rattle.hac_model.proofs.AcyclicLemmas.{empty-valid}
 use Rattle.hac_store.specs.Held.{Log, from_root, held, log, with_root}
 use Rattle.hac_store.specs.Stores.{HeldBetween}
-use Rattle.hac_store.proofs.LogLemmas.{Ends, AreStored, log-closed, log-ends, log-records}
+use Rattle.hac_store.proofs.LogLemmas.{Ends, AreStored, log-closed, log-ends, log-records, log-valid}
 
 -- the store of a root and the end of its log
 abbrev pub setting_of : Root → Log → Setting
@@ -61,6 +63,12 @@ root-parts file setting (Err (stop.BadAt at)) root_is is = let none = sym (held-
 pub held-parts : (file : List ℕ) (setting : Setting) → held file ≡ Ok setting → Parts file setting
 held-parts file setting is = root-parts file setting (root_of file) refl is
 
+-- what is held is valid
+pub held-valid : (file : List ℕ) (setting : Setting) → held file ≡ Ok setting → IsValid setting.state
+held-valid file setting is =
+    let parts = held-parts file setting is in
+    log-valid empty parts.root.start file (record { state = setting.state; end = setting.end }) empty-valid parts.log_is
+
 -- a file that agrees with one that holds a store, up to the end of its log, and has a byte there
 module _ (c d : List ℕ) (z : Setting) (is : held d ≡ Ok z) (front : take z.end c ≡ take z.end d) (long : z.end < length c) where
   held-ends : Ends empty (held-parts d z is).root.start d (record { state = z.state; end = z.end })
@@ -79,9 +87,9 @@ module _ (c d : List ℕ) (z : Setting) (is : held d ≡ Ok z) (front : take z.e
   pub held-closed : ClosedAt z.end c → held c ≡ Ok z
   held-closed closed = held-along (record { state = z.state; end = z.end }) (log-closed z.state z.end c (closed-is-found z.end c closed))
 
-  pub held-records : (events : List Event) → AreStored z.state events → end_after z.end events < 2 ^ 32 → HoldsAt z.end (log_of (map event_text events)) c
+  pub held-records : (events : List Event) → AreStored z.state events → end_behind z.end events < 2 ^ 32 → HoldsAt z.end (log_of (map event_text events)) c
       → held c ≡ Ok (after_events z events)
-  held-records events stored fits holds = held-along (record { state = apply_all z.state events; end = end_after z.end events }) (log-records events z.state z.end c stored fits holds)
+  held-records events stored fits holds = held-along (record { state = apply_all z.state events; end = end_behind z.end events }) (log-records events z.state z.end c stored fits holds)
 
 -- bytes at a place are within the file
 holds-long : (at : ℕ) (bytes file : List ℕ) → 0 < length bytes → HoldsAt at bytes file → at < length file
@@ -96,7 +104,7 @@ log-some payloads = omega (arith, length-append (records_of payloads) (0 ∷ [])
 
 -- what an append leaves of a store
 pub held-appending : (image : List ℕ → Type 0) (z : Setting) (events : List Event) → ((d : List ℕ) → image d → held d ≡ Ok z)
-    → AreStored z.state events → end_after z.end events < 2 ^ 32 → (c : List ℕ) → Appending z.end (log_of (map event_text events)) image c → HeldBetween z events c
+    → AreStored z.state events → end_behind z.end events < 2 ^ 32 → (c : List ℕ) → Appending z.end (log_of (map event_text events)) image c → HeldBetween z events c
 held-appending image z events stands stored fits c left =
     let is = stands left.old left.from in
     ⊎_elim
@@ -118,7 +126,7 @@ held-gate d z is =
     let parts = held-parts d z is in (log-ends empty parts.root.start d (record { state = z.state; end = z.end }) parts.log_is).closed
 
 -- a file that holds a store, with records at the end of its log, holds what they lead to
-pub held-overlaid : (d : List ℕ) (z : Setting) (events : List Event) → held d ≡ Ok z → AreStored z.state events → end_after z.end events < 2 ^ 32
+pub held-overlaid : (d : List ℕ) (z : Setting) (events : List Event) → held d ≡ Ok z → AreStored z.state events → end_behind z.end events < 2 ^ 32
     → held (overlaid z.end (log_of (map event_text events)) d) ≡ Ok (after_events z events)
 held-overlaid d z events is stored fits =
     let there = (held-gate d z is).there in

@@ -11,9 +11,11 @@ use Rattle.hac_journal.proofs.CrashLemmas.{front-less}
 use Rattle.hac_journal.proofs.LawLemmas.{closed-is-found, found-is-closed, found-is-whole, found-along, records-are-found, none-is-closed}
 use Rattle.hac_model.specs.Events.{accepted, apply, apply_all}
 use Rattle.hac_model.specs.Payloads.{event_text, is_spellable, spelled}
-use Rattle.hac_model.specs.Play.{end_after}
+use Rattle.hac_model.specs.Play.{end_behind}
+use Rattle.hac_model.specs.Valid.{IsValid}
 use Rattle.hac_model.specs.declared.events.Event.{Event}
 use Rattle.hac_model.specs.declared.states.State.{State}
+use Rattle.hac_model.proofs.AcyclicLemmas.{apply-valid}
 use Rattle.event_codec.proofs.PayloadLemmas.{written_is_read}
 use Rattle.hac_store.specs.Held.{Log, after_found, go_on, after_payload, log, log_from}
 
@@ -108,13 +110,41 @@ read-ends (suc n) s at d l is =
 pub log-ends : (s : State) (at : ℕ) (d : List ℕ) (l : Log) → log s at d ≡ Ok l → Ends s at d l
 log-ends s at d l is = read-ends (length d) s at d l is
 
+-- what a log leads to is valid
+judged-valid : (s : State) (at : ℕ) (event : Event) (b : Bool) (new : State) → accepted s event ≡ b → IsValid s
+    → (if b then Ok (apply s event) else Err (stop.BadAt (at + 5))) ≡ Ok new → IsValid new
+judged-valid s at event true new accepted h is = let same : apply s event ≡ new = cc in subst IsValid same (apply-valid s event h accepted)
+judged-valid s at event false new accepted h is = absurd (cc)
+
+after-valid : (s : State) (at : ℕ) (r : Result Event ℕ) (new : State) → IsValid s → after_payload s at r ≡ Ok new → IsValid new
+after-valid s at (Err offset) new h is = absurd (cc)
+after-valid s at (Ok event) new h is = judged-valid s at event (accepted s event) new refl h is
+
+found-valid : (n : ℕ) (s : State) (at : ℕ) (d : List ℕ) (l : Log) (found : Found) → IsValid s
+    → ((new : State) (behind : ℕ) → IsValid new → log_from n new behind d ≡ Ok l → IsValid l.state)
+    → after_found s at found (λ new behind. log_from n new behind d) ≡ Ok l → IsValid l.state
+found-valid n s at d l Short h rest is = absurd (cc)
+found-valid n s at d l Closed h rest is =
+    let same : record { state = s; end = at } ≡ l = cc in subst (λ (end : Log). IsValid end.state) same h
+found-valid n s at d l (Whole payload behind) h rest is =
+    let parts = go-parts (after_payload s at (spelled payload)) (λ new. log_from n new behind d) l is in
+    rest parts.0 behind (after-valid s at (spelled payload) parts.0 h parts.1) parts.2
+
+read-valid : (n : ℕ) (s : State) (at : ℕ) (d : List ℕ) (l : Log) → IsValid s → log_from n s at d ≡ Ok l → IsValid l.state
+read-valid zero s at d l h is = let none = sym (read-none s at d) ∙ is in absurd (cc)
+read-valid (suc n) s at d l h is =
+    found-valid n s at d l (found_at at d) h (λ new behind valid. read-valid n new behind d l valid) (sym (read-step n s at d) ∙ is)
+
+pub log-valid : (s : State) (at : ℕ) (d : List ℕ) (l : Log) → IsValid s → log s at d ≡ Ok l → IsValid l.state
+log-valid s at d l h is = read-valid (length d) s at d l h is
+
 -- each event can happen to what those before it lead to, and has a spelling
 abbrev pub AreStored : State → List Event → Type 0
 AreStored s [] = ⊤
 AreStored s (event ∷ events) = IsTrue (accepted s event) × IsTrue (is_spellable event) × AreStored (apply s event) events
 
 -- the end of a log doesn't fall
-pub end-grows : (events : List Event) (end : ℕ) → end ≤ end_after end events
+pub end-grows : (events : List Event) (end : ℕ) → end ≤ end_behind end events
 end-grows [] end = omega arith
 end-grows (event ∷ events) end = omega (arith, end-grows events (end + 5 + length (event_text event)))
 
@@ -123,8 +153,8 @@ judged-event s at event accepted spellable =
     ap (after_payload s at) (written_is_read event spellable) ∙ ap (λ (b : Bool). if b then Ok (apply s event) else Err (stop.BadAt (at + 5))) accepted
 
 -- records of events are read as what these lead to
-pub log-records : (events : List Event) (s : State) (at : ℕ) (file : List ℕ) → AreStored s events → end_after at events < 2 ^ 32
-    → HoldsAt at (log_of (map event_text events)) file → log s at file ≡ Ok (record { state = apply_all s events; end = end_after at events })
+pub log-records : (events : List Event) (s : State) (at : ℕ) (file : List ℕ) → AreStored s events → end_behind at events < 2 ^ 32
+    → HoldsAt at (log_of (map event_text events)) file → log s at file ≡ Ok (record { state = apply_all s events; end = end_behind at events })
 log-records [] s at file stored fits holds = log-closed s at file (closed-is-found at file (none-is-closed at file holds))
 log-records (event ∷ events) s at file (accepted, spellable, stored) fits holds =
     let payload = event_text event in

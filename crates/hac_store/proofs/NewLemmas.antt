@@ -15,7 +15,7 @@ use Rattle.hac_journal.specs.Finding.{Short, found_in}
 use Rattle.hac_journal.proofs.CrashLemmas.{byte-same}
 use Rattle.hac_journal.proofs.FoundLemmas.{behind-short, found-open, found-shut}
 use Rattle.hac_journal.proofs.LawLemmas.{closed-is-found}
-use Rattle.hac_model.specs.Play.{Setting, opening}
+use Rattle.hac_model.specs.Play.{Setting, new_setting}
 use Rattle.hac_model.specs.Tree.{empty}
 use Rattle.hac_store.specs.Creating.{IsReady}
 use Rattle.hac_store.specs.Held.{Log, held, log}
@@ -69,7 +69,7 @@ unfolding root_of named slots counting
 new-root = refl
 
 -- a file that begins with all of a new store holds it
-pub new-held : (c : List ℕ) → take 65 c ≡ 1 ∷ drop 1 NEW → held c ≡ Ok opening
+pub new-held : (c : List ℕ) → take 65 c ≡ 1 ∷ drop 1 NEW → held c ≡ Ok new_setting
 new-held c new =
     let head : take 43 c ≡ take 43 (1 ∷ take 42 (drop 1 NEW)) = sym (take-take 43 65 c (omega arith)) ∙ ap (take 43) new in
     let root = roots-agree c (1 ∷ take 42 (drop 1 NEW)) head ∙ new-root in
@@ -80,8 +80,8 @@ new-held c new =
 
 pub held-new : (c : List ℕ) → take 65 c ≡ 1 ∷ drop 1 NEW → IsNewOrNone c
 held-new c new setting is =
-    let told : Ok opening ≡ Ok setting = sym (new-held c new) ∙ is in
-    let same : opening ≡ setting = cc in ap (λ (z : Setting). z.state) (sym same)
+    let told : Ok new_setting ≡ Ok setting = sym (new-held c new) ∙ is in
+    let same : new_setting ≡ setting = cc in ap (λ (z : Setting). z.state) (sym same)
 
 -- the first byte of a file, and the others
 first-byte : (c : List ℕ) → 0 < length c → c ≡ slice_index c 0 ∷ drop 1 c
@@ -125,5 +125,5 @@ torn-open file c ready torn =
     (cases_eq (slice_index c 0) 1)
 
 -- what was opened holds a new store
-pub opened-held : (file : List ℕ) → IsReady file → (held (overlaid 0 (1 ∷ []) file) ≡ Ok opening) × (64 < length (overlaid 0 (1 ∷ []) file))
+pub opened-held : (file : List ℕ) → IsReady file → (held (overlaid 0 (1 ∷ []) file) ≡ Ok new_setting) × (64 < length (overlaid 0 (1 ∷ []) file))
 opened-held file ready = (new-held (overlaid 0 (1 ∷ []) file) (ap (λ (l : List ℕ). 1 ∷ l) ready), omega (arith, length-overlaid 0 (1 ∷ []) file (omega arith), ready-long file ready))

@@ -1,5 +1,5 @@
 -- What is left of a store whose log gets the records of events.
-use Rattle.std.proofs.Common.{◌≡◌, inl, ⊎_elim, Bool, false, ℕ, ◌+◌, ◌<◌, ◌^◌, List, [], ◌∷◌, length, map, None, Some, IfSome, Ok, refl, sym, ◌∙◌, ap, subst, arith, Vec}
+use Rattle.std.proofs.Common.{◌≡◌, inl, ⊎_elim, Bool, ℕ, ◌+◌, ◌<◌, ◌^◌, List, [], ◌∷◌, length, map, None, Some, IfSome, Ok, refl, sym, ◌∙◌, ap, subst, arith, Vec}
 use Rattle.std.specs.declared.alloc.Global.{Global}
 use Rattle.std.specs.declared.option.Option.{Option}
 use Rattle.std.proofs.lemmas.Bool.{cases_lt}
@@ -7,12 +7,13 @@ use Rattle.hac_disk.specs.Images.{LeavesOnly, overlaid}
 use Rattle.hac_disk.specs.Told.{IsSettled, Written}
 use Rattle.hac_disk.proofs.Moments.{started, weaken}
 use Rattle.hac_disk.proofs.ToldLemmas.{told-settled}
+use Rattle.hac_checkpoint.specs.declared.heads.Slot.{Slot}
 use Rattle.hac_journal.specs.Appending.{Appending, ClosedAt}
 use Rattle.hac_journal.specs.Records.{contents_of, log_of}
 use Rattle.hac_model.specs.Events.{accepted, apply, apply_all}
 use Rattle.hac_model.specs.Laws.{AllHappen}
 use Rattle.hac_model.specs.Payloads.{event_text}
-use Rattle.hac_model.specs.Play.{Setting, after_events, end_after}
+use Rattle.hac_model.specs.Play.{Setting, after_events, end_behind}
 use Rattle.hac_model.specs.Valid.{IsValid}
 use Rattle.hac_model.specs.declared.events.Event.{Event}
 use Rattle.hac_model.specs.declared.limits.TheConstants.{STORE_LIMIT}
@@ -21,7 +22,7 @@ use Rattle.hac_model.proofs.AcyclicLemmas.{apply-valid}
 use Rattle.hac_model.proofs.SpelledLemmas.{accepted-spelled}
 use Rattle.hac_core.specs.Seen.{Seen as Kept}
 use Rattle.hac_store.specs.Held.{held}
-use Rattle.hac_store.specs.Stores.{HeldBetween, Seen, Stands, intact}
+use Rattle.hac_store.specs.Stores.{HeldBetween, Seen, Stands, store_after}
 use Rattle.hac_store.proofs.HeldLemmas.{held-appending, held-gate, held-overlaid}
 use Rattle.hac_store.proofs.LogLemmas.{AreStored}
 use Rattle.hac_store.proofs.RoomLemmas.{within-limit}
@@ -33,15 +34,13 @@ all-stored (event ∷ events) s valid (happens, rest) =
     (happens, accepted-spelled s event valid happens, all-stored events (apply s event) (apply-valid s event valid happens) rest)
 
 -- what is seen of a store whose machine and whose end have gone on
-pub put-seen : (seen : Seen) (s new : State) (start end generation to : ℕ) (broken : Bool) (events : List Event)
-    → record { setting = record { state = s; start = start; end = end; generation = generation }; broken = broken } ≡ seen
-    → seen.broken ≡ false → new ≡ apply_all s events → to ≡ end_after end events
-    → record { setting = record { state = new; start = start; end = to; generation = generation }; broken = broken } ≡ intact (after_events seen.setting events)
-put-seen seen s new start end generation to broken events is unbroken state ends =
-    let kept : broken ≡ false = ap (λ (x : Seen). x.broken) is ∙ unbroken in
-    let of : ℕ → State → Bool → Seen = λ to state broken. record { setting = record { state = state; start = start; end = to; generation = generation }; broken = broken } in
-    ap (of to new) kept ∙ ap (λ (t : State). of to t false) state ∙ ap (λ (n : ℕ). of n (apply_all s events) false) ends
-    ∙ ap (λ (x : Seen). intact (after_events x.setting events)) is
+pub put-seen : (seen : Seen) (s new : State) (start end generation to : ℕ) (slot : Slot) (broken : Bool) (events : List Event)
+    → record { setting = record { state = s; start = start; end = end; generation = generation }; slot = slot; broken = broken } ≡ seen
+    → new ≡ apply_all s events → to ≡ end_behind end events
+    → record { setting = record { state = new; start = start; end = to; generation = generation }; slot = slot; broken = broken } ≡ store_after seen events
+put-seen seen s new start end generation to slot broken events is state ends =
+    let of : ℕ → State → Seen = λ to state. record { setting = record { state = state; start = start; end = to; generation = generation }; slot = slot; broken = broken } in
+    ap (of to) state ∙ ap (λ (n : ℕ). of n (apply_all s events)) ends ∙ ap (λ (x : Seen). store_after x events) is
 
 -- the machine after what it was ready for
 pub put-state : (old ready new : Kept) (events : List Event) → ready ≡ record { state = old.state; ready = events }

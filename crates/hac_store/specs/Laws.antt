@@ -3,7 +3,7 @@ use Rattle.std.specs.Prelude.{◌≡◌, ℕ, List, [], ◌∷◌, replicate, Is
 use Rattle.hac_disk.specs.Images.{overlaid}
 use Rattle.hac_journal.specs.Records.{log_of}
 use Rattle.hac_model.specs.Events.{accepted}
-use Rattle.hac_model.specs.Payloads.{event_text, is_spellable}
+use Rattle.hac_model.specs.Payloads.{event_text}
 use Rattle.hac_model.specs.Play.{Setting, after_events, have_room}
 use Rattle.hac_model.specs.declared.events.Event.{Event}
 use Rattle.hac_model.specs.declared.events.Event.TheVariants.{Step}
@@ -15,9 +15,9 @@ use Rattle.hac_store.specs.Stores.{fit_behind}
 abbrev pub AppendsExtend : Type 0
 AppendsExtend =
     (file : List ℕ) (setting : Setting) (event : Event) → held file ≡ Ok setting → IsTrue (accepted setting.state event) →
-    IsTrue (is_spellable event) → IsTrue (have_room setting.end (event ∷ [])) →
+    IsTrue (have_room setting (event ∷ [])) →
     held (overlaid setting.end (log_of (event_text event ∷ [])) file) ≡ Ok (after_events setting (event ∷ []))
 
 -- for index steps there is room just where as many records of two bytes fit
 abbrev pub StepsHaveRoom : Type 0
-StepsHaveRoom = (end count : ℕ) → have_room end (replicate count Step) ≡ fit_behind end count 2
+StepsHaveRoom = (setting : Setting) (count : ℕ) → have_room setting (replicate count Step) ≡ fit_behind setting.end count 2

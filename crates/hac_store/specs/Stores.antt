@@ -1,7 +1,12 @@
 -- A store as it is seen, and what a crash may leave of it.
 use Rattle.std.specs.Prelude.{◌≡◌, ◌⊎◌, ◌||◌, ◌==◌, ◌+◌, ◌*◌, nat_lt, ⊤, ℕ, Bool, true, false, List, Option, None, Some, Result, Ok, Err, refl}
 use Rattle.std.specs.Coded.{Coded, code_by, coded×, coded_bool, coded_ℕ}
-use Rattle.hac_model.specs.Play.{Setting, after_events}
+use Rattle.hac_checkpoint.specs.contracts.heads.Slot as slot
+use Rattle.hac_checkpoint.specs.declared.heads.Root.{Root}
+use Rattle.hac_checkpoint.specs.declared.heads.Slot.{Slot}
+use Rattle.hac_checkpoint.specs.declared.heads.Slot.TheVariants.{A}
+use Rattle.hac_disk.specs.Told.{HasByteAt}
+use Rattle.hac_model.specs.Play.{Setting, after_events, new_setting}
 use Rattle.hac_model.specs.Tree.{empty}
 use Rattle.hac_model.specs.declared.events.Event.{Event}
 use Rattle.hac_model.specs.contracts.states.State as state
@@ -11,41 +16,63 @@ use Rattle.hac_store.specs.Held.{held}
 use Rattle.hac_store.specs.declared.fault.StoreFault.{StoreFault}
 use Rattle.hac_store.specs.declared.fault.StoreFault.TheVariants.{NotStore}
 
--- a store: what a run goes on from, and whether a write of it failed
+-- a store: what a run goes on from, the slot of the root that counts, and whether a write of it failed
 pub record Seen : Type 0 where
   pub setting : Setting
+  pub slot : Slot
   pub broken : Bool
 
 abbrev pub seen_code : Coded Seen
 seen_code =
-    code_by (State × (ℕ × (ℕ × (ℕ × Bool)))) (coded× state.the_row.coded (coded× coded_ℕ (coded× coded_ℕ (coded× coded_ℕ coded_bool))))
-    (λ seen. (seen.setting.state, (seen.setting.start, (seen.setting.end, (seen.setting.generation, seen.broken)))))
-    (λ parts. record { setting = record { state = parts.0; start = parts.1.0; end = parts.1.1.0; generation = parts.1.1.1.0 }; broken = parts.1.1.1.1 })
+    code_by (State × (ℕ × (ℕ × (ℕ × (Slot × Bool)))))
+    (coded× state.the_row.coded (coded× coded_ℕ (coded× coded_ℕ (coded× coded_ℕ (coded× slot.the_row.coded coded_bool)))))
+    (λ seen. (seen.setting.state, (seen.setting.start, (seen.setting.end, (seen.setting.generation, (seen.slot, seen.broken))))))
+    (λ parts. record {
+      setting = record { state = parts.0; start = parts.1.0; end = parts.1.1.0; generation = parts.1.1.1.0 };
+      slot = parts.1.1.1.1.0;
+      broken = parts.1.1.1.1.1;
+    })
     (λ _. refl)
 
 -- this many records with payloads of this size, and the closed gate behind them, lie within the limit of a store
 abbrev pub fit_behind : ℕ → ℕ → ℕ → Bool
 fit_behind end records payload = records == 0 || nat_lt (end + records * (5 + payload)) STORE_LIMIT
 
--- a store that no write of failed
-abbrev pub intact : Setting → Seen
-intact setting = record { setting = setting; broken = false }
+-- the store after events
+abbrev pub store_after : Seen → List Event → Seen
+store_after store events = record store { setting = after_events store.setting events }
+
+-- a store that holds the root alone
+abbrev pub first_store : Seen
+first_store = record { setting = new_setting; slot = A; broken = false }
+
+-- the disk bears the store: it has the gate behind its log
+abbrev pub Bears : Option (List ℕ) → Seen → Type 0
+Bears seen store = HasByteAt seen store.setting.end
+
+-- what a file holds has this setting
+abbrev pub IsHeldAs : List ℕ → Setting → Type 0
+IsHeldAs image setting = held image ≡ Ok setting
 
 -- the disk tells its bytes, and whatever a crash leaves of them holds this
 abbrev pub Stands : Option (List ℕ) → (List ℕ → Type 0) → Setting → Type 0
 Stands None image setting = ⊥
-Stands (Some file) image setting = (c : List ℕ) → image c → held c ≡ Ok setting
+Stands (Some file) image setting = (c : List ℕ) → image c → IsHeldAs c setting
 
 -- it holds what stood before events, or what they lead to: all of them happened, or none
 abbrev pub HeldBetween : Setting → List Event → List ℕ → Type 0
-HeldBetween setting events c = (held c ≡ Ok setting) ⊎ (held c ≡ Ok (after_events setting events))
+HeldBetween setting events c = IsHeldAs c setting ⊎ IsHeldAs c (after_events setting events)
 
 -- if it holds anything, that is the root alone
 abbrev pub IsNewOrNone : List ℕ → Type 0
-IsNewOrNone c = (setting : Setting) → held c ≡ Ok setting → setting.state ≡ empty
+IsNewOrNone c = (setting : Setting) → IsHeldAs c setting → setting.state ≡ empty
 
 -- what a call that opens a store answers, given what the file holds
 abbrev pub Opens : Result Seen StoreFault → Result Setting ℕ → Type 0
 Opens (Ok store) kept = kept ≡ Ok store.setting
 Opens (Err (NotStore at)) kept = kept ≡ Err at
 Opens (Err other) kept = ⊤
+
+-- the root that counts is the one that the store goes by
+abbrev pub root_by : Seen → Root
+root_by store = record { slot = store.slot; generation = store.setting.generation; start = store.setting.start }

@@ -4,14 +4,15 @@ ghost use Rattle.hac_outside.specs.Causes.{HasCause, Rose};
 ghost use Rattle.hac_disk.specs.Images.{IsQuiet, LeavesOnly};
 ghost use Rattle.hac_disk.specs.Told.{HasByteAt, IsSettled};
 ghost use Rattle.hac_journal.specs.Appending.{ClosedAt};
-ghost use Rattle.hac_model.specs.Play.{opening};
+ghost use Rattle.hac_model.specs.Play.{new_setting};
 ghost use Rattle.hac_store.specs.Creating.{Becomes, IsReady, IsUnheld, none_in};
 ghost use Rattle.hac_store.specs.Held.{held};
-ghost use Rattle.hac_store.specs.Stores.{IsNewOrNone, Stands, intact};
+ghost use Rattle.hac_store.specs.Stores.{Bears, IsNewOrNone, Stands, first_store};
 
 use crate::fault::StoreFault;
 use crate::opening::read_store;
 use crate::store::Store;
+use hac_checkpoint::Slot;
 use hac_core::Machine;
 use hac_disk::{Disk, write_stable};
 use hac_journal::{CLOSED, OPEN};
@@ -26,19 +27,27 @@ const NEW: [u8; 65] =
 impl Store {
     /// Makes a new store on a disk that holds none.
     pub fn create<D: Disk>(alloc: Global, disk: &mut D) -> Result<Store, StoreFault>
-        ensures made { IfOk result (λ store. store ≡ intact opening) }
+        ensures made { IfOk result (λ store. store ≡ first_store) }
         ensures new { IfSome (D.seen disk.old) (λ file. OnOk result (IsErr (held file))) }
-        ensures already { IfSome (D.seen disk.old) (λ file. result ≡ Err StoreFault.AlreadyStore → IsOk (held file)) }
-        ensures stands { IfSome (D.seen disk.old) (λ _. OnOk result (Stands (D.seen disk.new) (D.image disk.new) opening)) }
-        ensures place { OnOk result (HasByteAt (D.seen disk.new) opening.end) }
-        ensures quiet { IfSome (D.seen disk.old) (λ file. IsOk (held file) → IsQuiet D.seen D.image D.moment D.image_since disk.old disk.new) }
+        ensures already { IfSome (D.seen disk.old)
+            (λ file. result ≡ Err StoreFault.AlreadyStore → IsOk (held file)) }
+        ensures stands { IfSome (D.seen disk.old) (λ _. OnOk result
+            (Stands (D.seen disk.new) (D.image disk.new) new_setting)) }
+        ensures place { IfOk result (λ store. Bears (D.seen disk.new) store) }
+        ensures quiet { IfSome (D.seen disk.old) (λ file. IsOk (held file) →
+            IsQuiet D.seen D.image D.moment D.image_since disk.old disk.new) }
         // At each moment a crash leaves what it might have left before, or the root alone, or no store.
         ensures any_moment { IfSome (D.seen disk.old) (λ file. IsErr (held file) →
-            LeavesOnly D.moment D.image_since disk.old disk.new (λ c. D.image disk.old c ⊎ IsNewOrNone c)) }
-        ensures kind { ((at : ℕ) → result ≡ Err (StoreFault.NotStore at) → ⊥) × (result ≡ Err StoreFault.Full → ⊥) }
+            LeavesOnly D.moment D.image_since disk.old disk.new
+            (λ c. D.image disk.old c ⊎ IsNewOrNone c)) }
+        ensures kind { ((at : ℕ) → result ≡ Err (StoreFault.NotStore at) → ⊥) ×
+            (result ≡ Err StoreFault.Full → ⊥) }
         ensures attached { D.attached disk.new ≡ D.attached disk.old }
         ensures later { D.faults disk.old ≤ D.faults disk.new }
-        ensures cause { IsErrOf result StoreFault.Disk → Rose (D.faults disk.old) (D.faults disk.new) }
+        ensures cause { IsErrOf result StoreFault.Disk →
+            Rose (D.faults disk.old) (D.faults disk.new) }
+        ensures none { (IsErrOf result StoreFault.Disk → ⊥) →
+            D.faults disk.new ≡ D.faults disk.old }
     {
         disk.sync()?;
         none(read_store(alloc, disk).err())?;
@@ -61,20 +70,25 @@ fn none(found: Option<StoreFault>) -> Result<(), StoreFault>
 fn new_store<D: Disk>(alloc: Global, disk: &mut D) -> Result<Store, StoreFault>
     requires settled { IsSettled (D.seen disk.old) (D.image disk.old) }
     requires unheld { IsUnheld (D.seen disk.old) }
-    ensures made { IfOk result (λ store. store ≡ intact opening) }
-    ensures stands { IfSome (D.seen disk.old) (λ _. OnOk result (Stands (D.seen disk.new) (D.image disk.new) opening)) }
-    ensures place { OnOk result (HasByteAt (D.seen disk.new) opening.end) }
-    ensures any_moment { IfSome (D.seen disk.old) (λ _. LeavesOnly D.moment D.image_since disk.old disk.new IsNewOrNone) }
-    ensures kind { ((at : ℕ) → result ≡ Err (StoreFault.NotStore at) → ⊥) × (result ≡ Err StoreFault.AlreadyStore → ⊥) × (result ≡ Err StoreFault.Full → ⊥) }
+    ensures made { IfOk result (λ store. store ≡ first_store) }
+    ensures stands { IfSome (D.seen disk.old) (λ _. OnOk result
+        (Stands (D.seen disk.new) (D.image disk.new) new_setting)) }
+    ensures place { IfOk result (λ store. Bears (D.seen disk.new) store) }
+    ensures any_moment { IfSome (D.seen disk.old)
+        (λ _. LeavesOnly D.moment D.image_since disk.old disk.new IsNewOrNone) }
+    ensures kind { ((at : ℕ) → result ≡ Err (StoreFault.NotStore at) → ⊥) ×
+        (result ≡ Err StoreFault.AlreadyStore → ⊥) × (result ≡ Err StoreFault.Full → ⊥) }
     ensures attached { D.attached disk.new ≡ D.attached disk.old }
     ensures later { D.faults disk.old ≤ D.faults disk.new }
     ensures cause { IsErrOf result StoreFault.Disk → Rose (D.faults disk.old) (D.faults disk.new) }
+    ensures none { (IsErrOf result StoreFault.Disk → ⊥) → D.faults disk.new ≡ D.faults disk.old }
 {
     let machine = Machine::new(alloc)?;
     match write_new(disk) {
         Ok(()) => Ok(Store {
             alloc,
             machine,
+            slot: Slot::A,
             start: 64,
             end: 64,
             generation: 1,
@@ -91,9 +105,11 @@ fn new_store<D: Disk>(alloc: Global, disk: &mut D) -> Result<Store, StoreFault>
 fn write_new<D: Disk>(disk: &mut D) -> Result<(), Failed>
     requires settled { IsSettled (D.seen disk.old) (D.image disk.old) }
     requires unheld { IsUnheld (D.seen disk.old) }
-    ensures stands { IfSome (D.seen disk.old) (λ _. OnOk result (Stands (D.seen disk.new) (D.image disk.new) opening)) }
-    ensures place { OnOk result (HasByteAt (D.seen disk.new) opening.end) }
-    ensures any_moment { IfSome (D.seen disk.old) (λ _. LeavesOnly D.moment D.image_since disk.old disk.new IsNewOrNone) }
+    ensures stands { IfSome (D.seen disk.old) (λ _. OnOk result
+        (Stands (D.seen disk.new) (D.image disk.new) new_setting)) }
+    ensures place { OnOk result (HasByteAt (D.seen disk.new) new_setting.end) }
+    ensures any_moment { IfSome (D.seen disk.old)
+        (λ _. LeavesOnly D.moment D.image_since disk.old disk.new IsNewOrNone) }
     ensures attached { D.attached disk.new ≡ D.attached disk.old }
     ensures cause { HasCause (D.faults disk.old) (D.faults disk.new) result }
 {
@@ -107,7 +123,8 @@ fn write_head<D: Disk>(disk: &mut D) -> Result<(), Failed>
     requires unheld { IsUnheld (D.seen disk.old) }
     ensures ready { OnOk result (Becomes (D.seen disk.old) IsReady (D.seen disk.new)) }
     ensures settled { OnOk result (IsSettled (D.seen disk.new) (D.image disk.new)) }
-    ensures any_moment { IfSome (D.seen disk.old) (λ _. LeavesOnly D.moment D.image_since disk.old disk.new IsNewOrNone) }
+    ensures any_moment { IfSome (D.seen disk.old)
+        (λ _. LeavesOnly D.moment D.image_since disk.old disk.new IsNewOrNone) }
     ensures attached { D.attached disk.new ≡ D.attached disk.old }
     ensures cause { HasCause (D.faults disk.old) (D.faults disk.new) result }
 {
@@ -125,7 +142,8 @@ fn close<D: Disk>(disk: &mut D) -> Result<(), Failed>
     requires unheld { IsUnheld (D.seen disk.old) }
     ensures shut { OnOk result (Becomes (D.seen disk.old) (ClosedAt 0) (D.seen disk.new)) }
     ensures settled { OnOk result (IsSettled (D.seen disk.new) (D.image disk.new)) }
-    ensures any_moment { IfSome (D.seen disk.old) (λ _. LeavesOnly D.moment D.image_since disk.old disk.new IsNewOrNone) }
+    ensures any_moment { IfSome (D.seen disk.old)
+        (λ _. LeavesOnly D.moment D.image_since disk.old disk.new IsNewOrNone) }
     ensures attached { D.attached disk.new ≡ D.attached disk.old }
     ensures cause { HasCause (D.faults disk.old) (D.faults disk.new) result }
 {

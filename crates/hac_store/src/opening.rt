@@ -6,9 +6,10 @@ ghost use Rattle.hac_disk.specs.Told.{HasByteAt, IsSettled};
 ghost use Rattle.hac_model.specs.Events.{accepted, apply};
 ghost use Rattle.hac_model.specs.Payloads.{spelled};
 ghost use Rattle.hac_model.specs.Valid.{IsValid};
+ghost use Rattle.hac_checkpoint.specs.Roots.{root_of};
 ghost use Rattle.hac_store.specs.Held.{held, after_payload, log};
 ghost use Rattle.hac_store.specs.Reading.{Judges, ReadsLog};
-ghost use Rattle.hac_store.specs.Stores.{Opens, Stands};
+ghost use Rattle.hac_store.specs.Stores.{Bears, Opens, Stands, root_by};
 
 use crate::fault::StoreFault;
 use crate::store::Store;
@@ -24,15 +25,23 @@ impl Store {
     /// Opens the store on a disk: syncs, reads it and applies its events. It writes nothing.
     pub fn load<D: Disk>(alloc: Global, disk: &mut D) -> Result<Store, StoreFault>
         ensures held { IfSome (D.seen disk.old) (λ file. Opens result (held file)) }
-        ensures sound { IfOk result (λ store. (store.broken ≡ false) × IsValid store.setting.state) }
-        ensures stands { IfSome (D.seen disk.old) (λ _. IfOk result (λ store. Stands (D.seen disk.new) (D.image disk.new) store.setting)) }
-        ensures place { IfOk result (λ store. HasByteAt (D.seen disk.new) store.setting.end) }
+        ensures root { IfSome (D.seen disk.old) (λ file. IfOk result
+            (λ store. root_of file ≡ Ok (root_by store))) }
+        ensures sound { IfOk result (λ store. (store.broken ≡ false) ×
+            IsValid store.setting.state) }
+        ensures stands { IfSome (D.seen disk.old) (λ _. IfOk result
+            (λ store. Stands (D.seen disk.new) (D.image disk.new) store.setting)) }
+        ensures place { IfOk result (λ store. Bears (D.seen disk.new) store) }
         ensures settled { OnOk result (IsSettled (D.seen disk.new) (D.image disk.new)) }
         ensures quiet { IsQuiet D.seen D.image D.moment D.image_since disk.old disk.new }
-        ensures kind { (result ≡ Err StoreFault.AlreadyStore → ⊥) × (result ≡ Err StoreFault.Full → ⊥) }
+        ensures kind { (result ≡ Err StoreFault.AlreadyStore → ⊥) ×
+            (result ≡ Err StoreFault.Full → ⊥) }
         ensures attached { D.attached disk.new ≡ D.attached disk.old }
         ensures later { D.faults disk.old ≤ D.faults disk.new }
-        ensures cause { IsErrOf result StoreFault.Disk → Rose (D.faults disk.old) (D.faults disk.new) }
+        ensures cause { IsErrOf result StoreFault.Disk →
+            Rose (D.faults disk.old) (D.faults disk.new) }
+        ensures none { (IsErrOf result StoreFault.Disk → ⊥) →
+            D.faults disk.new ≡ D.faults disk.old }
     {
         disk.sync()?;
         read_store(alloc, disk)
@@ -42,13 +51,16 @@ impl Store {
 /// Reads the store on a disk. It writes nothing.
 pub(crate) fn read_store<D: Disk>(alloc: Global, disk: &mut D) -> Result<Store, StoreFault>
     ensures held { IfSome (D.seen disk.old) (λ file. Opens result (held file)) }
+    ensures root { IfSome (D.seen disk.old) (λ file. IfOk result
+        (λ store. root_of file ≡ Ok (root_by store))) }
     ensures sound { IfOk result (λ store. (store.broken ≡ false) × IsValid store.setting.state) }
-    ensures place { IfOk result (λ store. HasByteAt (D.seen disk.new) store.setting.end) }
+    ensures place { IfOk result (λ store. Bears (D.seen disk.new) store) }
     ensures quiet { IsQuiet D.seen D.image D.moment D.image_since disk.old disk.new }
     ensures kind { (result ≡ Err StoreFault.AlreadyStore → ⊥) × (result ≡ Err StoreFault.Full → ⊥) }
     ensures attached { D.attached disk.new ≡ D.attached disk.old }
     ensures later { D.faults disk.old ≤ D.faults disk.new }
     ensures cause { IsErrOf result StoreFault.Disk → Rose (D.faults disk.old) (D.faults disk.new) }
+    ensures none { (IsErrOf result StoreFault.Disk → ⊥) → D.faults disk.new ≡ D.faults disk.old }
 {
     let root = roots(disk)?;
     let mut machine = Machine::new(alloc)?;
@@ -56,6 +68,7 @@ pub(crate) fn read_store<D: Disk>(alloc: Global, disk: &mut D) -> Result<Store, 
         Ok(end) => Ok(Store {
             alloc,
             machine,
+            slot: root.slot,
             start: root.start,
             end,
             generation: root.generation,
@@ -76,7 +89,8 @@ fn read_log<D: Disk>(
     start: u64,
 ) -> Result<u64, StoreFault>
     requires valid { IsValid machine.old.state }
-    ensures log { IfSome (D.seen disk.old) (λ file. ReadsLog result machine.new.state file (log machine.old.state start file)) }
+    ensures log { IfSome (D.seen disk.old) (λ file. ReadsLog result machine.new.state file
+        (log machine.old.state start file)) }
     ensures valid { OnOk result (IsValid machine.new.state) }
     ensures place { IfOk result (λ end. HasByteAt (D.seen disk.new) end) }
     ensures quiet { IsQuiet D.seen D.image D.moment D.image_since disk.old disk.new }
@@ -84,6 +98,7 @@ fn read_log<D: Disk>(
     ensures attached { D.attached disk.new ≡ D.attached disk.old }
     ensures later { D.faults disk.old ≤ D.faults disk.new }
     ensures cause { IsErrOf result StoreFault.Disk → Rose (D.faults disk.old) (D.faults disk.new) }
+    ensures none { (IsErrOf result StoreFault.Disk → ⊥) → D.faults disk.new ≡ D.faults disk.old }
 {
     let mut reader = LogReader::new(alloc);
     let mut at = start;
@@ -109,7 +124,8 @@ fn replay(
 ) -> Result<(), StoreFault>
     requires valid { IsValid machine.old.state }
     requires place { at + 5 + length payload.now < 2 ^ 64 }
-    ensures judged { Judges result machine.new.state (after_payload machine.old.state at (spelled payload.now)) }
+    ensures judged { Judges result machine.new.state
+        (after_payload machine.old.state at (spelled payload.now)) }
     ensures valid { OnOk result (IsValid machine.new.state) }
 {
     match read_payload(alloc, payload, first) {
@@ -125,7 +141,8 @@ fn replay(
 fn happen(machine: &mut Machine, at: u64, event: Event) -> Result<(), StoreFault>
     requires valid { IsValid machine.old.state }
     requires place { at + 5 < 2 ^ 64 }
-    ensures judged { Judges result machine.new.state (after_payload machine.old.state at (Ok event)) }
+    ensures judged { Judges result machine.new.state
+        (after_payload machine.old.state at (Ok event)) }
     ensures valid { OnOk result (IsValid machine.new.state) }
 {
     match machine.fits(&event) {

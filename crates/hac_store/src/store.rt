@@ -2,8 +2,9 @@
 ghost use Rattle.std.specs.Prelude.{◌≡◌};
 ghost use Rattle.hac_store.specs.Stores.{fit_behind};
 
+use hac_checkpoint::Slot;
 use hac_core::Machine;
-use hac_journal::STORE_LIMIT;
+use hac_model::STORE_LIMIT;
 use std::alloc::Global;
 use std::marker::Model;
 
@@ -12,6 +13,7 @@ use std::marker::Model;
 pub struct Store {
     pub(crate) alloc: Global,
     pub(crate) machine: Machine,
+    pub(crate) slot: Slot,
     pub(crate) start: u64,
     pub(crate) end: u64,
     pub(crate) generation: u64,
@@ -28,6 +30,7 @@ impl Model for Store {
 
     ghost view = { λ store. record {
       setting = record { state = store.machine.state; start = store.start; end = store.end; generation = store.generation };
+      slot = store.slot;
       broken = store.broken;
     } };
 

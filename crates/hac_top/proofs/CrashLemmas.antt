@@ -6,7 +6,7 @@ use Rattle.std.proofs.lemmas.Grind.{flat_map-append}
 use Rattle.hac_model.specs.Answers.{first_cause}
 use Rattle.hac_model.specs.Events.{apply_all}
 use Rattle.hac_model.specs.Lines.{Item}
-use Rattle.hac_model.specs.Play.{Setting, Turn, answered, all_events, events_before, events_in, full_cause, refused, turn, turn_of, turns}
+use Rattle.hac_model.specs.Play.{Setting, Turn, answered, all_events, events_before, events_in, full_cause, refused, item_turn, command_turn, turns}
 use Rattle.hac_model.specs.Refusals.{cause}
 use Rattle.hac_model.specs.Resolving.{resolve}
 use Rattle.hac_model.specs.declared.events.Event.{Event}
@@ -23,19 +23,19 @@ pub all_events-append : (xs ys : List Turn) → all_events (xs ++ ys) ≡ all_ev
 all_events-append xs ys = flat_map-append events_in xs ys
 
 -- no steps follow a command of their own
-command-steps : (setting : Setting) (r : Result Resolved Refusal) → (turn_of setting r).steps ≡ []
+command-steps : (setting : Setting) (r : Result Resolved Refusal) → (command_turn setting r).steps ≡ []
 command-steps setting (Err refusal) = refl
 command-steps setting (Ok command) =
     elim (first_cause (cause setting.state command ∷ full_cause setting command ∷ [])) as (λ o. (option_map_or (refused setting) o (answered setting command)).steps ≡ []) [ None ↦ refl | Some refusal ↦ refl ]
 
-pub turn-steps : (setting : Setting) (item : Item) → (turn setting item).steps ≡ []
+pub turn-steps : (setting : Setting) (item : Item) → (item_turn setting item).steps ≡ []
 turn-steps setting (Ok line) = command-steps setting (resolve setting.state line)
 turn-steps setting (Err refusal) = refl
 
 -- the events of one turn are those of its command
-pub one-turn : (setting : Setting) (item : Item) → all_events (turns setting (item ∷ [])) ≡ (turn setting item).events
+pub one-turn : (setting : Setting) (item : Item) → all_events (turns setting (item ∷ [])) ≡ (item_turn setting item).events
 one-turn setting item =
-    append-nil (events_in (turn setting item)) ∙ ap (λ (steps : List Event). (turn setting item).events ++ steps) (turn-steps setting item) ∙ append-nil (turn setting item).events
+    append-nil (events_in (item_turn setting item)) ∙ ap (λ (steps : List Event). (item_turn setting item).events ++ steps) (turn-steps setting item) ∙ append-nil (item_turn setting item).events
 
 -- Counts.
 
@@ -124,7 +124,7 @@ some-answered s t now setting all done items rest is few led tree =
         length (all_events done) + tree.count ≤ events_before (suc (length done)) (done ++ (turns setting items ++ rest))
     further [] [] few within more = absurd (omega (arith, more, length-append done []))
     further [] (next ∷ rest) few within more = omega (arith, within, before-next done rest next)
-    further (item ∷ []) rest few within more = omega (arith, within, before-next done rest (turn setting item), ap length (one-turn setting item))
+    further (item ∷ []) rest few within more = omega (arith, within, before-next done rest (item_turn setting item), ap length (one-turn setting item))
     further (item ∷ other ∷ items) rest few within more = absurd (omega (arith, few))
 
 -- a tree of what is in hand is one of all

@@ -4,8 +4,8 @@ use Rattle.std.specs.Prelude.{⊤}
 use Rattle.std.specs.Io.KnownBytes.{Appends}
 use Rattle.hac_outside.specs.Seen.{SinkSeen}
 use Rattle.hac_model.specs.Events.{apply_all}
-use Rattle.hac_model.specs.Play.{Setting, Turn, all_events, has_refusal, left_by, play}
-use Rattle.hac_model.specs.Script.{after_item, whole}
+use Rattle.hac_model.specs.Play.{Setting, Turn, all_events, has_refusal, left_by, play, turns}
+use Rattle.hac_model.specs.Script.{after_item, first_items, whole}
 use Rattle.hac_top.specs.Told.{told_text}
 
 -- Some turns of the script were answered, and those of what is pending are to come. The script is whole lines that were
@@ -23,7 +23,7 @@ pub record Goes (first : Setting) (script pending : List ℕ) (ended : Bool) (se
   pub script_is : script ≡ played ++ (last ++ pending)
   pub whole_is : (more : List ℕ) → whole (played ++ more) ≡ played ++ whole more
   pub one : after_item last ≡ []
-  pub front : (more : List Turn) × (done ≡ play first played ++ more)
+  pub front : done ≡ play first played ++ turns (left_by first (play first played)) (first_items last)
   pub none : ended ≡ false → last ≡ []
   pub on : ended ≡ false → (more : List ℕ) → play first (played ++ more) ≡ done ++ play setting more
   pub closed : ended ≡ true → pending ≡ []

@@ -27,27 +27,27 @@ any None P all = search rules
 any (Some x) P all = all x
 
 -- the tree after some of the events of a script
-abbrev pub IsTreeOf : Setting → List ℕ → List ℕ → Type 0
-IsTreeOf first script c = Holds (IsTreeAfter first.state (all_events (play first script))) c
+abbrev pub HoldsTreeOf : Setting → List ℕ → List ℕ → Type 0
+HoldsTreeOf first script c = Holds (IsTreeAfter first.state (all_events (play first script))) c
 
 module _ {D : Type 0} (seen : D → Option (List ℕ)) (image : D → List ℕ → Type 0) (moment : D → ℕ) (image_since : D → ℕ → List ℕ → Type 0) where
   -- nothing was done yet
   pub moments-first : ((disk : D) (c : List ℕ) → image_since disk (moment disk) c → image disk c) → (disk : D) (first : Setting) (script : Option (List ℕ)) →
-      IfSome script (λ s. Stands (seen disk) (image disk) first → LeavesOnly moment image_since disk disk (IsTreeOf first s))
+      IfSome script (λ s. Stands (seen disk) (image disk) first → LeavesOnly moment image_since disk disk (HoldsTreeOf first s))
   moments-first only_now disk first script =
-      any script (λ s. Stands (seen disk) (image disk) first → LeavesOnly moment image_since disk disk (IsTreeOf first s))
-      (λ s stands. started moment image_since disk (IsTreeOf first s) (λ c left. held-before first (all_events (play first s)) c (stands-held (seen disk) (image disk) first stands c (only_now disk c left))))
+      any script (λ s. Stands (seen disk) (image disk) first → LeavesOnly moment image_since disk disk (HoldsTreeOf first s))
+      (λ s stands. started moment image_since disk (HoldsTreeOf first s) (λ c left. held-before first (all_events (play first s)) c (stands-held (seen disk) (image disk) first stands c (only_now disk c left))))
 
   -- one line more was answered, or was begun to be
   pub moments-line : (old mid new : D) (first : Setting) (script pending behind : Option (List ℕ)) (line : TakenLine) (old_ended new_ended : Bool) (setting : Setting) (refused : Bool) (before now : SinkSeen) →
       GoesOn first script pending old_ended setting refused before now → Gives (Some line) new_ended pending behind → (Stands (seen old) (image old) first → Stands (seen mid) (image mid) setting) →
-      IfSome script (λ s. Stands (seen old) (image old) first → LeavesOnly moment image_since old mid (IsTreeOf first s)) →
+      IfSome script (λ s. Stands (seen old) (image old) first → LeavesOnly moment image_since old mid (HoldsTreeOf first s)) →
       (Stands (seen mid) (image mid) setting → LeavesOnly moment image_since mid new (Holds (IsTreeAfter setting.state (all_events (turns setting (items_of_taken line)))))) →
-      IfSome script (λ s. Stands (seen old) (image old) first → LeavesOnly moment image_since old new (IsTreeOf first s))
+      IfSome script (λ s. Stands (seen old) (image old) first → LeavesOnly moment image_since old new (HoldsTreeOf first s))
   moments-line old mid new first script pending behind line old_ended new_ended setting refused before now goes gives stands so_far moments =
       let here = Holds (IsTreeAfter setting.state (all_events (turns setting (items_of_taken line)))) in
-      both script (λ s. Stands (seen old) (image old) first → LeavesOnly moment image_since old mid (IsTreeOf first s)) (λ s. (c : List ℕ) → Holds (IsTreeAfter setting.state (all_events (turns setting (items_of_taken line)))) c → IsTreeOf first s c)
-      (λ s. Stands (seen old) (image old) first → LeavesOnly moment image_since old new (IsTreeOf first s))
+      both script (λ s. Stands (seen old) (image old) first → LeavesOnly moment image_since old mid (HoldsTreeOf first s)) (λ s. (c : List ℕ) → Holds (IsTreeAfter setting.state (all_events (turns setting (items_of_taken line)))) c → HoldsTreeOf first s c)
+      (λ s. Stands (seen old) (image old) first → LeavesOnly moment image_since old new (HoldsTreeOf first s))
       (λ s so_far then_all stood.
-      then_run moment image_since old mid new (IsTreeOf first s) (so_far stood) (weaken moment image_since mid new here (IsTreeOf first s) then_all (moments (stands stood))))
+      then_run moment image_since old mid new (HoldsTreeOf first s) (so_far stood) (weaken moment image_since mid new here (HoldsTreeOf first s) then_all (moments (stands stood))))
       so_far (tree-of-line first script pending behind line old_ended new_ended setting refused before now goes gives)

@@ -5,7 +5,7 @@ use Rattle.std.specs.Option.{IfSome}
 use Rattle.hac_disk.specs.Images.{IsQuiet, LeavesOnly}
 use Rattle.hac_disk.specs.Told.{IsSettled}
 use Rattle.hac_disk.proofs.Moments.{quiet_leaves, then_run, weaken}
-use Rattle.hac_model.specs.Play.{Setting, opening}
+use Rattle.hac_model.specs.Play.{Setting, new_setting}
 use Rattle.hac_store.specs.Held.{held}
 use Rattle.hac_store.specs.Stores.{IsNewOrNone}
 use Rattle.hac_top.specs.Crashes.{Reopens, opening_outcome}
@@ -24,7 +24,7 @@ file-reopens true file (Ok kept) is setting goes = absurd cc
 file-reopens true file (Err at) is setting goes = λ other held_as. absurd (let never : Err at ≡ Ok other = sym is ∙ held_as in cc)
 
 -- where a new store is made, the file holds none
-no-store : (kept : Result Setting ℕ) (setting : Setting) → opening_outcome true kept ≡ Ok setting → IsErr kept × (setting ≡ opening)
+no-store : (kept : Result Setting ℕ) (setting : Setting) → opening_outcome true kept ≡ Ok setting → IsErr kept × (setting ≡ new_setting)
 no-store (Ok kept) setting goes = absurd cc
 no-store (Err at) setting goes = (refl, cc)
 
@@ -53,7 +53,7 @@ module _ {D : Type 0} (seen : D → Option (List ℕ)) (image : D → List ℕ �
       let none = no-store (held file) setting goes in
       weaken moment image_since old new (λ c. image old c ⊎ IsNewOrNone c) (Reopens true (λ s. s ≡ setting.state)) (of file setting goes settled none.1) (made none.0))
     where
-      of : (file : List ℕ) (setting : Setting) → opening_outcome true (held file) ≡ Ok setting → IsSettled (Some file) (image old) → setting ≡ opening → (c : List ℕ) → image old c ⊎ IsNewOrNone c → Reopens true (λ s. s ≡ setting.state) c
+      of : (file : List ℕ) (setting : Setting) → opening_outcome true (held file) ≡ Ok setting → IsSettled (Some file) (image old) → setting ≡ new_setting → (c : List ℕ) → image old c ⊎ IsNewOrNone c → Reopens true (λ s. s ≡ setting.state) c
       of file setting goes settled is c (inl left) = subst (λ (xs : List ℕ). Reopens true (λ s. s ≡ setting.state) xs) (sym (settled c left)) (file-reopens true file (held file) refl setting goes)
       of file setting goes settled is c (inr new) = λ kept held_as. new kept held_as ∙ ap (λ (z : Setting). z.state) (sym is)
 

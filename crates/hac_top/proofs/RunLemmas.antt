@@ -2,7 +2,7 @@
 use Rattle.std.proofs.Common.{◌≡◌, ℕ, ◌+◌, ◌<◌, ◌≤◌, Bool, true, false, List, [], ◌∷◌, ◌++◌, length, take, drop, refl, ap, sym, ◌∙◌, arith, rules, append_assoc, length-append, append-nil, subst, inl, inr, Option, Some, None, Result, Ok, Err}
 use Rattle.std.specs.Prelude.{◌⊎◌, ◌||◌, IfSome}
 use Rattle.std.specs.Io.KnownBytes.{Appends, prepend_known}
-use Rattle.std.proofs.Math.Seq.{take-append_seam, drop-append_seam, drop-nil}
+use Rattle.std.proofs.Math.Seq.{take-append_seam, take-length, drop-append_seam, drop-nil}
 use Rattle.std.proofs.lemmas.List.Folds.{list_any-append}
 use Rattle.hac_outside.specs.Seen.{SinkSeen, SourceSeen}
 use Rattle.hac_model.specs.Lines.{Item, items_of}
@@ -20,8 +20,8 @@ use Rattle.shell_lang.specs.declared.reading.Piece.{Piece}
 use Rattle.shell_lang.specs.declared.reading.Piece.TheVariants.{Blank, Bytes, LongLine, End}
 use Rattle.hac_top.specs.Ends.{IsFinished, finished_status, stopped_status, end_status}
 use Rattle.hac_top.specs.Crashes.{Holds, IsTreeAfter, IsTreeOfAnswered}
-use Rattle.hac_top.specs.Run.{AnswersTaken, AnswersWithin, AnswersPromptly, Outside, Plays, Ran}
-use Rattle.hac_top.specs.Stops.{StopsAnswer, StopsCommand, CutsAnswer}
+use Rattle.hac_top.specs.Run.{AnswersTaken, AnswersWithin, AnswersPromptly, Outside, Played, Plays}
+use Rattle.hac_top.specs.Stops.{StopsAnswer, StopsCommand, CutsAnswer, is_disk_stop}
 use Rattle.hac_top.specs.TakenLines.{items_of_piece, items_of_taken, GivesTaken, Gives, CutsLine, Cuts, StopsIn, StopsAt}
 use Rattle.hac_top.specs.Told.{told_text}
 use Rattle.hac_top.specs.declared.stops.Stop.{Stop}
@@ -38,6 +38,10 @@ use Rattle.hac_top.proofs.TellingLemmas.{front-turns, stops-telling, text-append
 
 play-nothing : (setting : Setting) → play setting [] ≡ []
 play-nothing setting = ap (λ (items : List Item). turns setting items) script-nothing
+
+-- no bytes have no items
+items-nothing : first_items [] ≡ []
+items-nothing = refl
 
 no_rest : (xs ys : List ℕ) → xs ++ ys ≡ [] → ys ≡ []
 no_rest [] ys e = e
@@ -74,7 +78,20 @@ disk-stop DiskFault e = refl
 disk-stop Memory e = cc
 disk-stop TooLong e = cc
 
+pub other-disk : (T : Type 0) (stop : Stop) → (stopped_status stop ≡ status.DiskFault → ⊥) → is_disk_stop {T = T} (Err stop) ≡ false
+other-disk T ReadFault other = refl
+other-disk T WriteFault other = refl
+other-disk T DiskFault other = absurd (other refl)
+other-disk T Memory other = refl
+other-disk T TooLong other = refl
+
 module _ (first : Setting) where
+  -- where no line was cut off by the end of the source, the whole lines that were played are all
+  all-whole : (s p : List ℕ) (is_ended : Bool) (setting : Setting) (refused : Bool) (before now : SinkSeen) (goes : Goes first s p is_ended setting refused before now) → goes.last ≡ [] → goes.done ≡ play first goes.played
+  all-whole s p is_ended setting refused before now goes none =
+      goes.front ∙ ap (λ (xs : List ℕ). play first goes.played ++ turns (left_by first (play first goes.played)) (first_items xs)) none
+      ∙ ap (λ (items : List Item). play first goes.played ++ turns (left_by first (play first goes.played)) items) items-nothing ∙ append-nil (play first goes.played)
+
   -- a run that stops within a line has answered all lines before it
   prompt-stop : (s p l : List ℕ) (is_ended : Bool) (setting : Setting) (refused : Bool) (before now : SinkSeen) (goes : Goes first s p is_ended setting refused before now) → StopsIn p l →
       AnswersPromptly first s (length goes.done) (Some l)
@@ -92,7 +109,11 @@ module _ (first : Setting) where
         whole_is = played-whole goes.played goes.whole_is;
         one = goes.one;
         near = omega arith;
-        all = (goes.front.0, front-turns (play first s) goes.done (play setting p) goes.turns_are ∙ goes.front.1);
+        all = (
+          length (turns (left_by first (play first goes.played)) (first_items goes.last)),
+          front-turns (play first s) goes.done (play setting p) goes.turns_are ∙ goes.front
+              ∙ ap (λ (ts : List Turn). play first goes.played ++ ts) (sym (take-length (turns (left_by first (play first goes.played)) (first_items goes.last)))),
+        );
       }
   prompt-stop s p l false setting refused before now goes stops =
       record {
@@ -105,7 +126,11 @@ module _ (first : Setting) where
         whole_is = played-whole goes.played goes.whole_is;
         one = stops.one;
         near = stops.near;
-        all = (goes.front.0, front-turns (play first s) goes.done (play setting p) goes.turns_are ∙ goes.front.1);
+        all = (
+          0,
+          front-turns (play first s) goes.done (play setting p) goes.turns_are ∙ all-whole s p false setting refused before now goes (goes.none refl)
+              ∙ sym (append-nil (play first goes.played)),
+        );
       }
 
   -- the whole lines that were taken are those that were played, where no whole line more was taken
@@ -183,7 +208,7 @@ module _ (first : Setting) where
   -- what is left of a run that has answered all that it took up
   ran-so-far : (stood : Type 0) (image : List ℕ → Type 0) (ends : Status) (s p : List ℕ) (is_ended : Bool) (setting : Setting) (refused : Bool) (before after : Outside)
       (goes : Goes first s p is_ended setting refused before.sink after.sink) → (IsFinished ends → setting ≡ left_by first (play first s)) → (stood → (c : List ℕ) → image c → held c ≡ Ok setting) →
-      (plays : Plays ends first s before after) → plays.told.done ≡ length goes.done → Ran false ends first s before after stood image
+      (plays : Plays ends first s before after) → plays.told.done ≡ length goes.done → Played false ends first s before after stood image
   ran-so-far stood image ends s p is_ended setting refused before after goes all stands plays count =
       let answered : IsTreeOfAnswered first.state (play first s) plays.told.done setting.state =
       subst (λ (n : ℕ). IsTreeOfAnswered first.state (play first s) n setting.state) (sym count) (all-answered first.state setting.state (play first s) goes.done (play setting p) goes.turns_are goes.state_is) in
@@ -219,7 +244,7 @@ module _ (first : Setting) where
   pub stops-before : (stood : Type 0) (image : List ℕ → Type 0) (stop : Stop) (script pending left : Option (List ℕ)) (taken : ℕ) (is_ended : Bool) (setting : Setting) (refused : Bool) (before after : Outside) →
       left ≡ after.source.left → GoesOn first script pending is_ended setting refused before.sink after.sink → (before.sink.held_back ≡ 0 → after.sink.held_back ≡ 0) → StopsAt pending left →
       (stop ≡ ReadFault → (is_ended ≡ false) × Cuts 0 pending left) → (stop ≡ TooLong → (is_ended ≡ false) × (taken ≡ SCRIPT_LIMIT + 1) × Cuts 1 pending left) → SameTotal 0 script taken left →
-      (stood → (c : List ℕ) → image c → held c ≡ Ok setting) → IfSome script (λ s. Ran false (stopped_status stop) first s before after stood image)
+      (stood → (c : List ℕ) → image c → held c ≡ Ok setting) → IfSome script (λ s. Played false (stopped_status stop) first s before after stood image)
   stops-before stood image stop None pending left taken is_ended setting refused before after left_is goes passed stops read long total stands = search rules
   stops-before stood image stop (Some s) None left taken is_ended setting refused before after left_is goes passed stops read long total stands = absurd goes
   stops-before stood image stop (Some s) (Some p) None taken is_ended setting refused before after left_is goes passed stops read long total stands = absurd stops
@@ -239,7 +264,7 @@ module _ (first : Setting) where
   pub finishes : (stood : Type 0) (image : List ℕ → Type 0) (script pending left : Option (List ℕ)) (r : Reading) (is_ended : Bool) (setting : Setting) (refused : Bool) (before after : Outside) →
       left ≡ after.source.left → GoesOn first script pending is_ended setting refused before.sink after.sink → (before.sink.held_back ≡ 0 → after.sink.held_back ≡ 0) →
       Gives None r.ended pending (prepend_known r.held left) → SameTotal 0 script r.taken left → r.taken ≤ SCRIPT_LIMIT →
-      (stood → (c : List ℕ) → image c → held c ≡ Ok setting) → IfSome script (λ s. Ran false (finished_status refused) first s before after stood image)
+      (stood → (c : List ℕ) → image c → held c ≡ Ok setting) → IfSome script (λ s. Played false (finished_status refused) first s before after stood image)
   finishes stood image None pending left r is_ended setting refused before after left_is goes passed gives total within stands = search rules
   finishes stood image (Some s) None left r is_ended setting refused before after left_is goes passed gives total within stands = absurd goes
   finishes stood image (Some s) (Some p) None r is_ended setting refused before after left_is goes passed gives total within stands = absurd total
@@ -264,8 +289,8 @@ module _ (first : Setting) where
       }) refl
 
   -- a line that is given, with all that belongs to it, is one line and not more
-  cut : (line : TakenLine) (is_ended : Bool) (bytes rest : List ℕ) → GivesTaken line is_ended bytes rest → (own : List ℕ) × (bytes ≡ own ++ rest) × (after_item own ≡ [])
-  cut line true bytes rest gives = (bytes, sym (append-nil bytes) ∙ ap (λ (xs : List ℕ). bytes ++ xs) (sym (gives.last refl)), sym gives.behind ∙ gives.last refl)
+  cut : (line : TakenLine) (is_ended : Bool) (bytes rest : List ℕ) → GivesTaken line is_ended bytes rest → (own : List ℕ) × (bytes ≡ own ++ rest) × (after_item own ≡ []) × (first_items own ≡ first_items bytes)
+  cut line true bytes rest gives = (bytes, sym (append-nil bytes) ∙ ap (λ (xs : List ℕ). bytes ++ xs) (sym (gives.last refl)), sym gives.behind ∙ gives.last refl, refl)
   cut line false bytes rest gives =
       let own = first_line bytes in
       let xs = take (due (first_line bytes)) (after_line bytes) in
@@ -274,6 +299,8 @@ module _ (first : Setting) where
         own ++ 10 ∷ xs,
         whole_first.bytes ∙ ap (λ (behind : List ℕ). own ++ 10 ∷ (xs ++ behind)) (sym gives.behind) ∙ sym (append_assoc own (10 ∷ xs) rest),
         ap (λ (all : List ℕ). after_item (own ++ 10 ∷ all)) (sym (append-nil xs)) ∙ after_item-line own xs [] unended whole_first.asked,
+        ap (λ (all : List ℕ). first_items (own ++ 10 ∷ all)) (sym (append-nil xs)) ∙ first_items-line own xs [] unended whole_first.asked
+            ∙ sym (ap (λ (all : List ℕ). first_items all) whole_first.bytes ∙ first_items-line own xs (after_item bytes) unended whole_first.asked),
       )
 
   few-items : (piece : Piece) (taken : Option Taken) (setting : Setting) → length (turns setting (items_of_piece piece taken)) ≤ 1
@@ -344,7 +371,7 @@ module _ (first : Setting) where
       length r.held < piece_size → CutsAnswer stop mid after.sink (told_text (turns setting (items_of_taken line))) → StopsAnswer stop →
       (stood → (c : List ℕ) → image c → Holds (IsTreeAfter setting.state (all_events (turns setting (items_of_taken line)))) c) →
       (stop ≡ WriteFault → stood → (c : List ℕ) → image c → held c ≡ Ok (left_by setting (turns setting (items_of_taken line)))) →
-      IfSome script (λ s. Ran false (stopped_status stop) first s before after stood image)
+      IfSome script (λ s. Played false (stopped_status stop) first s before after stood image)
   stops-within stood image stop None pending left line r is_ended setting refused mid before after left_is goes passed gives near cuts why some all = search rules
   stops-within stood image stop (Some s) None left line r is_ended setting refused mid before after left_is goes passed gives near cuts why some all = absurd goes
   stops-within stood image stop (Some s) (Some p) None line r is_ended setting refused mid before after left_is goes passed gives near cuts why some all = absurd gives
@@ -357,6 +384,10 @@ module _ (first : Setting) where
       goes.turns_are ∙ ap (λ (ts : List Turn). goes.done ++ ts) (turns-next line r.ended p (r.held ++ l) setting gives) in
       let stopped = stops-telling (play first s) goes.done now rest before.sink mid after.sink cuts.count all_is (few-items line.piece line.taken setting) goes.written passed cuts.within cuts.front in
       let one = cut line r.ended p (r.held ++ l) gives in
+      let whole_is = all-whole s p false setting refused before.sink mid goes (goes.none refl) in
+      let now_is : turns setting (items_of_taken line) ≡ turns (left_by first (play first goes.played)) (first_items one.0) =
+      ap (λ (z : Setting). turns z (items_of_taken line)) (goes.left_is ∙ ap (left_by first) whole_is)
+      ∙ ap (turns (left_by first (play first goes.played))) (gives.items ∙ sym one.3) in
       let prompt : AnswersPromptly first s stopped.told.done (Some l) =
       record {
         answered = goes.played;
@@ -368,7 +399,11 @@ module _ (first : Setting) where
         whole_is = played-whole goes.played goes.whole_is;
         one = one.2;
         near = near;
-        all = (goes.front.0 ++ stopped.front.0, stopped.front.1 ∙ ap (λ (ts : List Turn). ts ++ stopped.front.0) goes.front.1 ∙ append_assoc (play first goes.played) goes.front.0 stopped.front.0);
+        all = (
+          stopped.front.0,
+          stopped.front.1 ∙ ap (λ (ts : List Turn). ts ++ take stopped.front.0 now) whole_is
+              ∙ ap (λ (ts : List Turn). play first goes.played ++ take stopped.front.0 ts) now_is,
+        );
       } in
       record {
         plays = record {
@@ -411,7 +446,11 @@ module _ (first : Setting) where
         script_is = script-of s p false setting refused before mid goes refl ∙ ap (λ (xs : List ℕ). goes.played ++ xs) (sym (append-nil p) ∙ ap (λ (xs : List ℕ). p ++ xs) (sym (gives.last refl)));
         whole_is = goes.whole_is;
         one = sym gives.behind ∙ gives.last refl;
-        front = (goes.front.0 ++ now, ap (λ (ts : List Turn). ts ++ now) goes.front.1 ∙ append_assoc (play first goes.played) goes.front.0 now);
+        front =
+            ap (λ (ts : List Turn). ts ++ now) (all-whole s p false setting refused before mid goes (goes.none refl))
+            ∙ ap (λ (ts : List Turn). play first goes.played ++ ts)
+            (ap (λ (z : Setting). turns z (items_of_taken line)) (goes.left_is ∙ ap (left_by first) (all-whole s p false setting refused before mid goes (goes.none refl)))
+            ∙ ap (turns (left_by first (play first goes.played))) gives.items);
         none = λ e. absurd cc;
         on = λ e. absurd cc;
         closed = λ _. gives.last refl;
@@ -448,7 +487,9 @@ module _ (first : Setting) where
             ap (λ (all : List ℕ). whole all) (cut_line goes.played own xs more) ∙ goes.whole_is (own ++ 10 ∷ (xs ++ more))
             ∙ ap (λ (all : List ℕ). goes.played ++ all) (whole-line own xs more unended whole_first.asked) ∙ sym (append_assoc goes.played (own ++ 10 ∷ xs) (whole more));
         one = drop-nil (due (first_line []));
-        front = ([], sym (append-nil (play first (goes.played ++ (own ++ 10 ∷ xs))) ∙ line_turns));
+        front =
+            sym line_turns ∙ sym (append-nil (play first (goes.played ++ (own ++ 10 ∷ xs))))
+            ∙ ap (λ (items : List Item). play first (goes.played ++ (own ++ 10 ∷ xs)) ++ turns (left_by first (play first (goes.played ++ (own ++ 10 ∷ xs)))) items) (sym items-nothing);
         none = λ _. refl;
         on = λ _ more. ap (λ (all : List ℕ). play first all) (cut_line goes.played own xs more) ∙ played_on more;
         closed = λ e. absurd cc;
@@ -492,7 +533,9 @@ module _ (first : Setting) where
       script_is = refl;
       whole_is = λ more. refl;
       one = drop-nil (due (first_line []));
-      front = ([], sym (append-nil (play first []) ∙ play-nothing first));
+      front =
+          sym (play-nothing first) ∙ sym (append-nil (play first []))
+          ∙ ap (λ (items : List Item). play first [] ++ turns (left_by first (play first [])) items) (sym items-nothing);
       none = λ _. refl;
       on = λ _ more. refl;
       closed = λ e. absurd cc;
@@ -510,10 +553,10 @@ module _ (first : Setting) where
 
   -- a run that stops before it begins
   pub stops-first : (stood : Type 0) (image : List ℕ → Type 0) (stop : Stop) (result : Result Bool Stop) (before : Outside) → result ≡ Err stop → StopsCommand stop → (stood → (c : List ℕ) → image c → held c ≡ Ok first) →
-      IfSome before.source.left (λ s. Ran false (end_status result) first s before before stood image)
+      IfSome before.source.left (λ s. Played false (end_status result) first s before before stood image)
   stops-first stood image stop result before is why stands =
       let script = before.source.left in
-      subst (λ (r : Result Bool Stop). IfSome before.source.left (λ s. Ran false (end_status r) first s before before stood image)) (sym is)
+      subst (λ (r : Result Bool Stop). IfSome before.source.left (λ s. Played false (end_status r) first s before before stood image)) (sym is)
       (stops-before stood image stop script (prepend_known [] script) script 0 false first false before before refl (goes-first script before.sink) (λ none. none) (first-stops script)
       (λ read. absurd (no-read stop (inr why) read)) (λ long. absurd (no-long stop (inr why) long)) (total-first script) stands)
 

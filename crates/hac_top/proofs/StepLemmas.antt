@@ -5,16 +5,16 @@ use Rattle.std.proofs.lemmas.Bool.Decides.{nat_tests}
 use Rattle.hac_model.specs.Events.{apply, apply_all}
 use Rattle.hac_model.specs.Laws.{AllHappen}
 use Rattle.hac_model.specs.Payloads.{event_text}
-use Rattle.hac_model.specs.Play.{Setting, after_events, end_after}
+use Rattle.hac_model.specs.Play.{Setting, after_events, end_behind}
 use Rattle.hac_model.specs.declared.events.Event.{Event}
 use Rattle.hac_model.specs.declared.events.Event.TheVariants.{Step}
 use Rattle.hac_model.specs.declared.limits.TheConstants.{STORE_LIMIT}
 use Rattle.hac_model.specs.declared.states.State.{State}
 use Rattle.hac_disk.specs.Images.{LeavesOnly}
 use Rattle.hac_disk.proofs.Moments.{then_run, weaken}
-use Rattle.hac_store.specs.Stores.{HeldBetween, Seen, fit_behind, intact}
+use Rattle.hac_store.specs.Stores.{HeldBetween, Seen, fit_behind, store_after}
 use Rattle.hac_top.specs.Crashes.{Holds, IsTreeAfter}
-use Rattle.hac_model.proofs.PlayLemmas.{apply_all-append, end_after-append}
+use Rattle.hac_model.proofs.PlayLemmas.{apply_all-append, end_behind-append}
 
 abbrev pub steps : ℕ → List Event
 steps count = replicate count Step
@@ -39,7 +39,7 @@ steps-front (suc n) (suc m) few = ap (λ (more : List Event). Step ∷ more) (st
 pub after-steps : (setting : Setting) (n m k : ℕ) → n + m ≡ k → after_events (after_events setting (steps n)) (steps m) ≡ after_events setting (steps k)
 after-steps setting n m k is = λ i. record setting {
   state = (sym (apply_all-append (steps n) (steps m) setting.state) ∙ ap (apply_all setting.state) (steps-join n m k is)) i;
-  end = (sym (end_after-append (steps n) (steps m) setting.end) ∙ ap (end_after setting.end) (steps-join n m k is)) i;
+  end = (sym (end_behind-append (steps n) (steps m) setting.end) ∙ ap (end_behind setting.end) (steps-join n m k is)) i;
 }
 
 -- those behind the first of some steps can happen once these have
@@ -76,22 +76,22 @@ step-text : event_text Step ≡ 1 ∷ 15 ∷ []
 unfolding event_text
 step-text = refl
 
-pub end-steps : (n end : ℕ) → end_after end (steps n) ≡ end + n * 7
+pub end-steps : (n end : ℕ) → end_behind end (steps n) ≡ end + n * 7
 end-steps zero end = omega arith
 end-steps (suc n) end = end-steps n (end + 5 + length (event_text Step)) ∙ omega (arith, ap length step-text)
 
 -- where all steps have room, so does a part behind the first ones
-pub part-room : (end done batch count : ℕ) → done + batch ≤ count → 0 < batch → fit_behind end count 2 ≡ true → fit_behind (end_after end (steps done)) batch 2 ≡ true
+pub part-room : (end done batch count : ℕ) → done + batch ≤ count → 0 < batch → fit_behind end count 2 ≡ true → fit_behind (end_behind end (steps done)) batch 2 ≡ true
 part-room end done batch count few some fits =
-    let at : end_after end (steps done) ≡ end + done * 7 = end-steps done end in
+    let at : end_behind end (steps done) ≡ end + done * 7 = end-steps done end in
     let more : (count == 0) ≡ false = grind (arith, nat_tests, few, some) in
     let below : end + count * 7 < STORE_LIMIT = grind (arith, nat_tests, fits, more) in
     grind (arith, nat_tests, at, below, few)
 
 -- what a crash leaves while one part more is stored
-pub part-moments : {D : Type 0} (moment : D → ℕ) (image_since : D → ℕ → List ℕ → Type 0) (old mid new : D) (setting : Setting) (store : Seen) (done batch count : ℕ) → done + batch ≤ count → store ≡ intact (after_events setting (steps done)) →
-    LeavesOnly moment image_since old mid (Holds (IsTreeAfter setting.state (steps count))) → LeavesOnly moment image_since mid new (HeldBetween store.setting (steps batch)) → LeavesOnly moment image_since old new (Holds (IsTreeAfter setting.state (steps count)))
-part-moments moment image_since old mid new setting store done batch count few is so_far part =
-    then_run moment image_since old mid new (Holds (IsTreeAfter setting.state (steps count))) so_far
-    (weaken moment image_since mid new (HeldBetween store.setting (steps batch)) (Holds (IsTreeAfter setting.state (steps count)))
-    (λ c between. part-held setting done batch count c few (subst (λ (z : Seen). HeldBetween z.setting (steps batch) c) is between)) part)
+pub part-moments : {D : Type 0} (moment : D → ℕ) (image_since : D → ℕ → List ℕ → Type 0) (old mid new : D) (first store : Seen) (done batch count : ℕ) → done + batch ≤ count → store ≡ store_after first (steps done) →
+    LeavesOnly moment image_since old mid (Holds (IsTreeAfter first.setting.state (steps count))) → LeavesOnly moment image_since mid new (HeldBetween store.setting (steps batch)) → LeavesOnly moment image_since old new (Holds (IsTreeAfter first.setting.state (steps count)))
+part-moments moment image_since old mid new first store done batch count few is so_far part =
+    then_run moment image_since old mid new (Holds (IsTreeAfter first.setting.state (steps count))) so_far
+    (weaken moment image_since mid new (HeldBetween store.setting (steps batch)) (Holds (IsTreeAfter first.setting.state (steps count)))
+    (λ c between. part-held first.setting done batch count c few (subst (λ (z : Seen). HeldBetween z.setting (steps batch) c) is between)) part)

@@ -47,6 +47,7 @@ module _ {D : Type 0} (seen : D → Option (List ℕ)) (image : D → List ℕ �
         names = refl;
         later = omega arith;
         cause = λ fails. absurd (let never : true ≡ false = sym fails ∙ none in cc);
+        none = λ _. refl;
       }
 
   -- the same disk, said in another way
@@ -58,21 +59,22 @@ module _ {D : Type 0} (seen : D → Option (List ℕ)) (image : D → List ℕ �
 
   -- one call, before and after which the store is held
   pub stores-once : (old new : D) (setting : Setting) (events : List Event) (failed : Bool) → (Stands (seen old) (image old) setting → LeavesOnly moment image_since old new (HeldBetween setting events)) →
-      attached new ≡ attached old → faults old ≤ faults new → (failed ≡ true → Rose (faults old) (faults new)) → Stores seen image moment image_since attached faults old new setting events failed
-  stores-once old new setting events failed moments same later cause =
+      attached new ≡ attached old → faults old ≤ faults new → (failed ≡ true → Rose (faults old) (faults new)) → (failed ≡ false → faults new ≡ faults old) → Stores seen image moment image_since attached faults old new setting events failed
+  stores-once old new setting events failed moments same later cause none =
       record {
         moments = λ stands. weaken moment image_since old new (HeldBetween setting events) (Holds (IsTreeAfter setting.state events)) (held-between setting events) (moments stands);
         names = same;
         later = later;
         cause = cause;
+        none = none;
       }
 
   -- the events that are kept: all, or none where the store is full and nothing was written
   pub stores-kept : ((disk : D) (c : List ℕ) → image_since disk (moment disk) c → image disk c) → (old new : D) (setting : Setting) (events : List Event) (failed other : Bool) → other ≡ failed →
-      (have_room setting.end events ≡ false → (new ≡ old) × (failed ≡ false)) → Stores seen image moment image_since attached faults old new setting events failed →
+      (have_room setting events ≡ false → (new ≡ old) × (failed ≡ false)) → Stores seen image moment image_since attached faults old new setting events failed →
       Stores seen image moment image_since attached faults old new setting (kept_events setting events) other
   stores-kept only_now old new setting events failed other is none stores =
-      elim (have_room setting.end events) as (λ b. have_room setting.end events ≡ b → Stores seen image moment image_since attached faults old new setting (cond b events []) other) [
+      elim (have_room setting events) as (λ b. have_room setting events ≡ b → Stores seen image moment image_since attached faults old new setting (cond b events []) other) [
         | true ↦ (λ _. stores-same old new setting events events failed other refl is stores)
         | false ↦ (λ full.
             let same = none full in
@@ -87,6 +89,10 @@ disk-cause (Err (fault.NotStore at)) R kind cause fails = absurd (kind.0 at refl
 disk-cause (Err fault.AlreadyStore) R kind cause fails = absurd (kind.1 refl)
 disk-cause (Err fault.Full) R kind cause fails = absurd cc
 disk-cause (Err fault.Memory) R kind cause fails = absurd cc
+
+-- a store that no disk failed
+pub disk-none : {T : Type 0} (result : Result T StoreFault) (R : Type 0) → ((IsErrOf result fault.Disk → ⊥) → R) → is_disk_fault result ≡ false → R
+disk-none result R none told = none (λ fails. let never : true ≡ false = sym (ap is_disk_fault fails) ∙ told in cc)
 
 -- a count that rose since a later moment rose since an earlier one
 pub rose-since : (a b c : ℕ) → a ≤ b → Rose b c → Rose a c

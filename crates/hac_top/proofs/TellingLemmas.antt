@@ -57,7 +57,7 @@ last-turn done turn =
 -- a run that stops while it writes what comes behind the answered turns
 pub record StopsTelling (all done now : List Turn) (before after : SinkSeen) (count : ℕ) : Type 0 where
   pub told : Told all before after
-  pub front : (more : List Turn) × (take told.done all ≡ done ++ more)
+  pub front : (k : ℕ) × (take told.done all ≡ done ++ take k now)
   pub whole : count ≡ 0 → told.cut ≡ []
   -- none of them was written whole, or all, which is one at most
   pub place : (told.done ≡ length done) ⊎ (told.done ≡ length (done ++ now))
@@ -75,7 +75,7 @@ stops-telling all done [] rest before mid after count is few written passed with
     subst (λ (xs : List ℕ). Appends before.written after.written xs) same (appends-then before.written mid.written after.written (told_text done) (take count (told_text [])) written writes.written) in
     record {
       told = told-whole all done rest before after is all_written (λ none. omega (arith, passed none, writes.held, ap length nothing));
-      front = ([], front-turns all done rest is ∙ sym (append-nil done));
+      front = (0, front-turns all done rest is ∙ sym (append-nil done));
       whole = λ _. refl;
       place = inl refl;
       none = λ _. refl;
@@ -94,7 +94,7 @@ stops-telling all done (turn ∷ []) rest before mid after count is few written 
           let last_is : length (last_written [] (done ++ turn ∷ [])) ≡ length (told_text (turn ∷ [])) = ap (λ (ts : List Turn). length (told_text ts)) (last-turn done turn) in
           record {
             told = told-whole all more rest before after all_is all_written (λ none. omega (arith, passed none, writes.held, ap length whole_text, last_is));
-            front = (turn ∷ [], front-turns all more rest all_is);
+            front = (1, front-turns all more rest all_is);
             whole = λ _. refl;
             place = inr refl;
             none = λ none. absurd (omega (arith, none, enough, ap length text_is, text-some turn.reply));
@@ -115,7 +115,7 @@ stops-telling all done (turn ∷ []) rest before mid after count is few written 
                   (appends-then before.written mid.written after.written (told_text done) (take count (told_text (turn ∷ []))) written writes.written);
               held = λ none. omega (arith, passed none, writes.held, no-less cut (take (length done) all));
             };
-            front = ([], front-turns all done (turn ∷ rest) is ∙ sym (append-nil done));
+            front = (0, front-turns all done (turn ∷ rest) is ∙ sym (append-nil done));
             whole = λ none. ap (λ (n : ℕ). take n (told_text (turn ∷ []))) none;
             place = inl refl;
             none = λ _. refl;

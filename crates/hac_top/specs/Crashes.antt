@@ -4,7 +4,7 @@ use Rattle.std.specs.declared.option.Option.{Option}
 use Rattle.hac_disk.specs.Images.{LeavesOnly}
 use Rattle.hac_outside.specs.Causes.{Rose}
 use Rattle.hac_model.specs.Events.{apply_all}
-use Rattle.hac_model.specs.Play.{Setting, Turn, all_events, events_before, opening, tree_after}
+use Rattle.hac_model.specs.Play.{Setting, Turn, all_events, events_before, new_setting, tree_after}
 use Rattle.hac_model.specs.declared.events.Event.{Event}
 use Rattle.hac_model.specs.declared.states.State.{State}
 use Rattle.hac_store.specs.Held.{held}
@@ -20,7 +20,7 @@ abbrev pub opening_outcome : Bool → Result Setting ℕ → Result Setting Stat
 opening_outcome false (Ok setting) = Ok setting
 opening_outcome false (Err at) = Err (NotStore at)
 opening_outcome true (Ok setting) = Err AlreadyStore
-opening_outcome true (Err at) = Ok opening
+opening_outcome true (Err at) = Ok new_setting
 
 -- the status says what the file holds
 abbrev pub TellsFile : Status → Type 0
@@ -76,10 +76,14 @@ pub record IsTreeOfAnswered (s : State) (turns : List Turn) (done : ℕ) (now : 
   pub no_further : done < length turns → count ≤ events_before (suc done) turns
 
 -- What became of the disk while a store went on by events: a crash at any moment leaves the tree after some of them,
--- and where a call of the disk failed, its count of faults rose.
-pub record Stores {D : Type 0} (seen : D → Option (List ℕ)) (image : D → List ℕ → Type 0) (moment : D → ℕ) (image_since : D → ℕ → List ℕ → Type 0)
-    (attached : D → Option (List (List ℕ × Bool))) (faults : D → ℕ) (old new : D) (setting : Setting) (events : List Event) (failed : Bool) : Type 0 where
-  pub moments : Stands (seen old) (image old) setting → LeavesOnly moment image_since old new (Holds (IsTreeAfter setting.state events))
+-- and its count of faults rose where a call of the disk failed, and there alone.
+pub record Stores {D : Type 0} (seen : D → Option (List ℕ)) (image : D → List ℕ → Type 0)
+    (moment : D → ℕ) (image_since : D → ℕ → List ℕ → Type 0)
+    (attached : D → Option (List (List ℕ × Bool))) (faults : D → ℕ) (old new : D)
+    (setting : Setting) (events : List Event) (failed : Bool) : Type 0 where
+  pub moments : Stands (seen old) (image old) setting →
+      LeavesOnly moment image_since old new (Holds (IsTreeAfter setting.state events))
   pub names : attached new ≡ attached old
   pub later : faults old ≤ faults new
   pub cause : failed ≡ true → Rose (faults old) (faults new)
+  pub none : failed ≡ false → faults new ≡ faults old

@@ -1,5 +1,6 @@
 pub mod Attaching
 pub mod Crashes
+pub mod Deciding
 pub mod Ends
 pub mod Obeying
 pub mod Stops

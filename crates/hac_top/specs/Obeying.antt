@@ -11,11 +11,11 @@ use Rattle.hac_store.specs.declared.fault.StoreFault.TheVariants.{Full, Memory}
 
 -- the reply: no lines, or that the store is full
 abbrev pub kept_reply : Setting → List Event → Reply
-kept_reply setting events = if have_room setting.end events then Lines [] else Refused (Limit Store)
+kept_reply setting events = if have_room setting events then Lines [] else Refused (Limit Store)
 
 -- the events that happen: all, or none where the store is full
 abbrev pub kept_events : Setting → List Event → List Event
-kept_events setting events = if have_room setting.end events then events else []
+kept_events setting events = if have_room setting events then events else []
 
 -- the store failed because a call of the disk did
 abbrev pub is_disk_fault : {T : Type 0} → Result T StoreFault → Bool

@@ -2,15 +2,17 @@
 use Rattle.std.specs.Prelude.{◌≡◌, ◌⊎◌, ℕ, ◌+◌, ◌<◌, ◌≤◌, ⊤, Bool, List, [], ◌++◌, length, take, drop, codes, Option, None, Some, Ok, IfOk}
 use Rattle.std.specs.Option.{IfSome}
 use Rattle.std.specs.Io.KnownBytes.{Appends}
-use Rattle.hac_outside.specs.Causes.{TellsFault}
+use Rattle.hac_outside.specs.Causes.{Rose, TellsFault}
 use Rattle.hac_outside.specs.Seen.{SourceSeen, SinkSeen}
 use Rattle.hac_model.specs.CommandLine.{Options}
-use Rattle.hac_model.specs.Play.{Setting, Turn, has_refusal, left_by, play}
+use Rattle.hac_model.specs.Play.{Setting, all_events, has_refusal, left_by, play, turns}
 use Rattle.hac_model.specs.Printed.{ended}
-use Rattle.hac_model.specs.Script.{after_item, whole}
+use Rattle.hac_model.specs.Script.{after_item, first_items, whole}
 use Rattle.hac_model.specs.declared.limits.TheConstants.{SCRIPT_LIMIT}
+use Rattle.hac_model.specs.declared.states.State.{State}
 use Rattle.hac_store.specs.Held.{held}
-use Rattle.hac_top.specs.Crashes.{IsTreeOfAnswered, Reopens, opening_outcome}
+use Rattle.hac_store.specs.Stores.{IsHeldAs}
+use Rattle.hac_top.specs.Crashes.{Holds, IsTreeAfter, IsTreeOfAnswered, Reopens, opening_outcome}
 use Rattle.hac_top.specs.Ends.{IsFinished, finished_status, is_read_fault, is_write_fault}
 use Rattle.hac_top.specs.Told.{Told}
 use Rattle.hac_top.specs.declared.status.Status.{Status}
@@ -55,14 +57,16 @@ pub record Ends (status : Status) (before after : Outside) : Type 0 where
   pub passed : (status ≡ WriteFault → ⊥) → before.sink.held_back ≡ 0 → after.sink.held_back ≡ 0
 
 -- the script was read to its end, and each reply was written: no more and no less
-pub record AnswersAll (status : Status) (setting : Setting) (script : List ℕ) (done : ℕ) (left : Option (List ℕ)) : Type 0 where
+pub record AnswersAll (status : Status) (setting : Setting) (script : List ℕ) (done : ℕ)
+    (left : Option (List ℕ)) : Type 0 where
   pub read : left ≡ Some []
   pub within : length script ≤ SCRIPT_LIMIT
   pub status_is : status ≡ finished_status (has_refusal (play setting script))
   pub all : done ≡ length (play setting script)
 
 -- a part of the script was taken, and each whole line of it was answered
-pub record AnswersTaken (setting : Setting) (script : List ℕ) (done : ℕ) (left : Option (List ℕ)) : Type 0 where
+pub record AnswersTaken (setting : Setting) (script : List ℕ) (done : ℕ)
+    (left : Option (List ℕ)) : Type 0 where
   pub taken : List ℕ
   pub rest : List ℕ
   pub script_is : script ≡ taken ++ rest
@@ -71,14 +75,17 @@ pub record AnswersTaken (setting : Setting) (script : List ℕ) (done : ℕ) (le
 
 -- the script is longer than a script may be, so much of it and one byte were taken, and each line within the limit was
 -- answered
-pub record AnswersWithin (setting : Setting) (script : List ℕ) (done : ℕ) (left : Option (List ℕ)) : Type 0 where
+pub record AnswersWithin (setting : Setting) (script : List ℕ) (done : ℕ)
+    (left : Option (List ℕ)) : Type 0 where
   pub longer : SCRIPT_LIMIT < length script
   pub left_is : left ≡ Some (drop (SCRIPT_LIMIT + 1) script)
   pub all : take done (play setting script) ≡ play setting (whole (take SCRIPT_LIMIT script))
 
 -- Of what was taken, all was answered but one line with the bytes that belong to it, and less than one piece behind
--- them. So no read goes beyond the piece in which an unanswered line ends, with its bytes.
-pub record AnswersPromptly (setting : Setting) (script : List ℕ) (done : ℕ) (left : Option (List ℕ)) : Type 0 where
+-- them. So no read goes beyond the piece in which an unanswered line ends, with its bytes. Of that line's replies the
+-- first k were written, and of nothing behind it.
+pub record AnswersPromptly (setting : Setting) (script : List ℕ) (done : ℕ)
+    (left : Option (List ℕ)) : Type 0 where
   pub answered : List ℕ
   pub line : List ℕ
   pub behind : List ℕ
@@ -88,11 +95,13 @@ pub record AnswersPromptly (setting : Setting) (script : List ℕ) (done : ℕ) 
   pub whole_is : whole answered ≡ answered
   pub one : after_item line ≡ []
   pub near : length behind < piece_size
-  pub all : (more : List Turn) × (take done (play setting script) ≡ play setting answered ++ more)
+  pub all : (k : ℕ) × (take done (play setting script) ≡ play setting answered ++ take k
+      (turns (left_by setting (play setting answered)) (first_items line)))
 
 -- However the run ends, the replies are those of the plain tree, none ahead of time and none late. A reply is cut off
 -- only where the sink failed.
-pub record Plays (status : Status) (setting : Setting) (script : List ℕ) (before after : Outside) : Type 0 where
+pub record Plays (status : Status) (setting : Setting) (script : List ℕ)
+    (before after : Outside) : Type 0 where
   pub told : Told (play setting script) before.sink after.sink
   pub whole : (status ≡ WriteFault → ⊥) → told.cut ≡ []
   pub prompt : AnswersPromptly setting script told.done after.source.left
@@ -100,29 +109,60 @@ pub record Plays (status : Status) (setting : Setting) (script : List ℕ) (befo
   pub read_fault : status ≡ ReadFault → AnswersTaken setting script told.done after.source.left
   pub too_long : status ≡ TooLong → AnswersWithin setting script told.done after.source.left
 
--- The outcome of a run that goes on from a store. Its replies are those of the plain tree. Where nothing was pending on
+-- How a script is played from a store. Its replies are those of the plain tree. Where nothing was pending on
 -- the disk as it began, a crash leaves the tree with the events of each answered command, and at most those of the
 -- command in hand besides; and where the script has ended, it leaves what the last command left.
-pub record Ran (fresh : Bool) (status : Status) (setting : Setting) (script : List ℕ) (before after : Outside) (stood : Type 0) (image : List ℕ → Type 0) : Type 0 where
+pub record Played (fresh : Bool) (status : Status) (setting : Setting) (script : List ℕ)
+    (before after : Outside)
+    (stood : Type 0) (image : List ℕ → Type 0) : Type 0 where
   pub plays : Plays status setting script before after
-  pub reopens : stood → (c : List ℕ) → image c → Reopens fresh (IsTreeOfAnswered setting.state (play setting script) plays.told.done) c
-  pub kept : stood → IsFinished status → (c : List ℕ) → image c → held c ≡ Ok (left_by setting (play setting script))
-
--- the words, the file and the script, if they are known, and what the run then goes on from
-abbrev pub IfOpens : Option Options → Option (List ℕ) → Option (List ℕ) → (Bool → Setting → List ℕ → Type 0) → Type 0
-IfOpens words seen left P = IfSome words (λ options. IfSome seen (λ file. IfSome left (λ script. IfOk (opening_outcome options.fresh (held file)) (λ setting. P options.fresh setting script))))
+  pub reopens : stood → (c : List ℕ) → image c → Reopens fresh (IsTreeOfAnswered setting.state
+      (play setting script) plays.told.done) c
+  pub kept : stood → IsFinished status → (c : List ℕ) → image c →
+      IsHeldAs c (left_by setting (play setting script))
 
 -- the run has begun: a byte of the script was taken, or one of a reply was written, or the script has ended
 abbrev pub HasBegun : Status → Outside → Outside → Type 0
 HasBegun status before after =
-    (after.source.left ≡ before.source.left → ⊥) ⊎ ((after.sink.written ≡ before.sink.written → ⊥) ⊎ IsFinished status)
-
--- a run that no store is open for ends so, unless a call of the disk fails or memory runs out before
-abbrev pub EndsSo : Status → Status → Type 0
-EndsSo wanted status = (status ≡ wanted) ⊎ ((status ≡ DiskFault) ⊎ (status ≡ Memory))
+    (after.source.left ≡ before.source.left → ⊥) ⊎
+    ((after.sink.written ≡ before.sink.written → ⊥) ⊎ IsFinished status)
 
 -- without a fault a script within the limit is read to its end, and a longer one is reported as such, unless memory
 -- runs out
 pub record Completes (status : Status) (script : List ℕ) : Type 0 where
   pub within : length script ≤ SCRIPT_LIMIT → IsFinished status ⊎ (status ≡ Memory)
   pub past : SCRIPT_LIMIT < length script → (status ≡ TooLong) ⊎ (status ≡ Memory)
+
+-- the tree after some of the events of a script, the first ones in order
+abbrev pub IsTreeOf : Setting → List ℕ → State → Type 0
+IsTreeOf setting script now = IsTreeAfter setting.state (all_events (play setting script)) now
+
+-- The outcome of a run that goes on from a store. Where nothing was pending on the disk as it began, a crash at each
+-- moment leaves that tree after some of the events of the script; once it has begun to take the script, a crash leaves
+-- a store. Without a fault the script is played, unless memory runs out.
+pub record Ran (fresh : Bool) (status : Status) (setting : Setting) (script : List ℕ)
+    (before after : Outside)
+    (settled : Type 0) (image : List ℕ → Type 0) (leaves : (List ℕ → Type 0) → Type 0)
+    (faultless : Type 0) : Type 0 where
+  pub played : Played fresh status setting script before after settled image
+  pub moments : settled → leaves (Reopens fresh (IsTreeOf setting script))
+  pub begun : settled → HasBegun status before after → (c : List ℕ) → image c →
+      Holds (IsTreeOf setting script) c
+  pub complete : faultless → Completes status script
+
+-- the words, the file and the script, if they are known, and what the run then goes on from
+abbrev pub IfOpens : Option Options → Option (List ℕ) → Option (List ℕ) →
+    (Bool → Setting → List ℕ → Type 0) → Type 0
+IfOpens words seen left P =
+    IfSome words (λ options. IfSome seen (λ file. IfSome left (λ script.
+    IfOk (opening_outcome options.fresh (held file)) (λ setting. P options.fresh setting script))))
+
+-- no call of the source, the sink or the disk failed, given the faults of the disk
+abbrev pub IsFaultless : Outside → Outside → ℕ → ℕ → Type 0
+IsFaultless before after was now =
+    (Rose before.source.faults after.source.faults → ⊥) ×
+    (Rose before.sink.faults after.sink.faults → ⊥) × (Rose was now → ⊥)
+
+-- a run that no store is open for ends so, unless a call of the disk fails or memory runs out before
+abbrev pub EndsSo : Status → Status → Type 0
+EndsSo wanted status = (status ≡ wanted) ⊎ ((status ≡ DiskFault) ⊎ (status ≡ Memory))

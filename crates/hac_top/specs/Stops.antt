@@ -1,9 +1,5 @@
 -- How a run stops before the end of its script.
 use Rattle.std.specs.Prelude.{◌≡◌, ◌⊎◌, ℕ, ◌≤◌, Bool, true, false, List, length, take, Result, Ok, Err}
-use Rattle.hac_model.specs.declared.replies.Deny.{Deny}
-use Rattle.hac_model.specs.declared.replies.Deny.TheVariants as deny
-use Rattle.hac_model.specs.declared.replies.Reply.{Reply}
-use Rattle.hac_model.specs.declared.replies.Reply.TheVariants.{Refused}
 use Rattle.hac_outside.specs.Seen.{SinkSeen, Writes}
 use Rattle.shell_lang.specs.declared.reading.LineFault.{LineFault}
 use Rattle.shell_lang.specs.declared.reading.LineFault.TheVariants as line
@@ -57,8 +53,3 @@ pub record CutsAnswer (stop : Stop) (before after : SinkSeen) (text : List ℕ) 
   pub within : count ≤ length text
   pub front : Writes before after (take count text)
   pub none : (stop ≡ WriteFault → ⊥) → count ≡ 0
-
--- the reply to what was denied. Want of memory has none.
-abbrev pub IsDenial : Deny → Reply → Type 0
-IsDenial (deny.Refused refusal) reply = reply ≡ Refused refusal
-IsDenial deny.Memory reply = ⊥

@@ -1,13 +1,11 @@
 //! Answering: a command is carried out, and its reply is written and flushed.
 ghost use Rattle.std.specs.Prelude.{◌≡◌, ◌||◌, false, Err, IfOk, IfErr, List, ℕ, Ok, OnOk, OnErr};
 ghost use Rattle.std.specs.Io.KnownBytes.{Appends};
-ghost use Rattle.hac_disk.specs.Told.{HasByteAt};
 ghost use Rattle.hac_outside.specs.Causes.{HasCause, TellsFault};
 ghost use Rattle.hac_outside.specs.Seen.{WritesSome};
-ghost use Rattle.hac_model.specs.Play.{all_events, turn, turns, left_by, is_refused, has_refusal};
+ghost use Rattle.hac_model.specs.Play.{all_events, item_turn, turns, left_by, is_refused, has_refusal};
 ghost use Rattle.hac_model.specs.Printed.{reply_text};
-ghost use Rattle.hac_store.specs.Held.{held};
-ghost use Rattle.hac_store.specs.Stores.{Stands, intact};
+ghost use Rattle.hac_store.specs.Stores.{Bears, IsHeldAs, Stands};
 ghost use Rattle.hac_top.specs.Crashes.{Stores};
 ghost use Rattle.hac_top.specs.Stops.{CutsAnswer, StopsAnswer, StopsTelling, is_disk_stop, is_write_stop};
 ghost use Rattle.hac_top.specs.TakenLines.{items_of_taken};
@@ -44,20 +42,35 @@ impl Player {
         line: TakenLine,
     ) -> Result<(), Stop>
         requires intact { self.old.store.broken ≡ false }
-        requires place { HasByteAt (D.seen disk.old) self.old.store.setting.end }
-        ensures store { OnOk result (self.new.store ≡ intact (left_by self.old.store.setting (turns self.old.store.setting (items_of_taken line)))) }
-        ensures refused { OnOk result (self.new.refused ≡ (self.old.refused || has_refusal (turns self.old.store.setting (items_of_taken line)))) }
-        ensures written { OnOk result (Appends (K.seen output.old).written (K.seen output.new).written (told_text (turns self.old.store.setting (items_of_taken line)))) }
-        ensures passed { OnOk result ((K.seen output.old).held_back ≡ 0 → (K.seen output.new).held_back ≡ 0) }
-        ensures cut { IfErr result (λ stop. CutsAnswer stop (K.seen output.old) (K.seen output.new) (told_text (turns self.old.store.setting (items_of_taken line)))) }
+        requires place { Bears (D.seen disk.old) self.old.store }
+        ensures store { OnOk result (self.new.store
+            ≡ record self.old.store {
+              setting = left_by self.old.store.setting
+                  (turns self.old.store.setting (items_of_taken line));
+            }) }
+        ensures refused { OnOk result (self.new.refused ≡
+            (self.old.refused || has_refusal (turns self.old.store.setting
+            (items_of_taken line)))) }
+        ensures written { OnOk result (Appends (K.seen output.old).written
+            (K.seen output.new).written (told_text
+            (turns self.old.store.setting (items_of_taken line)))) }
+        ensures passed { OnOk result ((K.seen output.old).held_back ≡ 0 →
+            (K.seen output.new).held_back ≡ 0) }
+        ensures cut { IfErr result (λ stop. CutsAnswer stop (K.seen output.old) (K.seen output.new)
+            (told_text (turns self.old.store.setting (items_of_taken line)))) }
         ensures stops { IfErr result StopsAnswer }
-        ensures faults { TellsFault (is_write_stop result) (K.seen output.old).faults (K.seen output.new).faults }
-        ensures place { OnOk result (HasByteAt (D.seen disk.new) self.new.store.setting.end) }
-        ensures stands { Stands (D.seen disk.old) (D.image disk.old) self.old.store.setting → OnOk result (Stands (D.seen disk.new) (D.image disk.new) self.new.store.setting) }
-        ensures stored { result ≡ Err Stop.WriteFault → Stands (D.seen disk.old) (D.image disk.old) self.old.store.setting →
-            (c : List ℕ) → D.image disk.new c → held c ≡ Ok (left_by self.old.store.setting (turns self.old.store.setting (items_of_taken line))) }
+        ensures faults { TellsFault (is_write_stop result) (K.seen output.old).faults
+            (K.seen output.new).faults }
+        ensures place { OnOk result (Bears (D.seen disk.new) self.new.store) }
+        ensures stands { Stands (D.seen disk.old) (D.image disk.old) self.old.store.setting →
+            OnOk result (Stands (D.seen disk.new) (D.image disk.new) self.new.store.setting) }
+        ensures stored { result ≡ Err Stop.WriteFault →
+            Stands (D.seen disk.old) (D.image disk.old) self.old.store.setting →
+            (c : List ℕ) → D.image disk.new c → IsHeldAs c (left_by self.old.store.setting
+            (turns self.old.store.setting (items_of_taken line))) }
         ensures stores { Stores D.seen D.image D.moment D.image_since D.attached D.faults disk.old disk.new self.old.store.setting
-            (all_events (turns self.old.store.setting (items_of_taken line))) (is_disk_stop result) }
+            (all_events (turns self.old.store.setting (items_of_taken line)))
+            (is_disk_stop result) }
     {
         let TakenLine { piece, taken } = line;
         match piece {
@@ -75,20 +88,34 @@ impl Player {
         taken: Option<Taken>,
     ) -> Result<(), Stop>
         requires intact { self.old.store.broken ≡ false }
-        requires place { HasByteAt (D.seen disk.old) self.old.store.setting.end }
-        ensures store { OnOk result (self.new.store ≡ intact (turn self.old.store.setting (item_taken line taken)).after) }
-        ensures refused { OnOk result (self.new.refused ≡ (self.old.refused || is_refused (turn self.old.store.setting (item_taken line taken)).reply)) }
-        ensures written { OnOk result (Appends (K.seen output.old).written (K.seen output.new).written (reply_text (turn self.old.store.setting (item_taken line taken)).reply)) }
+        requires place { Bears (D.seen disk.old) self.old.store }
+        ensures store { OnOk result (self.new.store
+            ≡ record self.old.store {
+              setting = (item_turn self.old.store.setting
+                  (item_taken line taken)).after;
+            }) }
+        ensures refused { OnOk result (self.new.refused ≡
+            (self.old.refused || is_refused (item_turn self.old.store.setting
+            (item_taken line taken)).reply)) }
+        ensures written { OnOk result (Appends (K.seen output.old).written
+            (K.seen output.new).written (reply_text
+            (item_turn self.old.store.setting (item_taken line taken)).reply)) }
         ensures passed { OnOk result ((K.seen output.new).held_back ≡ 0) }
-        ensures cut { IfErr result (λ stop. CutsAnswer stop (K.seen output.old) (K.seen output.new) (reply_text (turn self.old.store.setting (item_taken line taken)).reply)) }
+        ensures cut { IfErr result (λ stop. CutsAnswer stop (K.seen output.old) (K.seen output.new)
+            (reply_text (item_turn self.old.store.setting (item_taken line taken)).reply)) }
         ensures stops { IfErr result StopsAnswer }
-        ensures faults { TellsFault (is_write_stop result) (K.seen output.old).faults (K.seen output.new).faults }
-        ensures place { OnOk result (HasByteAt (D.seen disk.new) self.new.store.setting.end) }
-        ensures stands { Stands (D.seen disk.old) (D.image disk.old) self.old.store.setting → OnOk result (Stands (D.seen disk.new) (D.image disk.new) self.new.store.setting) }
-        ensures stored { result ≡ Err Stop.WriteFault → Stands (D.seen disk.old) (D.image disk.old) self.old.store.setting →
-            (c : List ℕ) → D.image disk.new c → held c ≡ Ok (turn self.old.store.setting (item_taken line taken)).after }
+        ensures faults { TellsFault (is_write_stop result) (K.seen output.old).faults
+            (K.seen output.new).faults }
+        ensures place { OnOk result (Bears (D.seen disk.new) self.new.store) }
+        ensures stands { Stands (D.seen disk.old) (D.image disk.old) self.old.store.setting →
+            OnOk result (Stands (D.seen disk.new) (D.image disk.new) self.new.store.setting) }
+        ensures stored { result ≡ Err Stop.WriteFault →
+            Stands (D.seen disk.old) (D.image disk.old) self.old.store.setting →
+            (c : List ℕ) → D.image disk.new c → IsHeldAs c (item_turn self.old.store.setting
+            (item_taken line taken)).after }
         ensures stores { Stores D.seen D.image D.moment D.image_since D.attached D.faults disk.old disk.new self.old.store.setting
-            (turn self.old.store.setting (item_taken line taken)).events (is_disk_stop result) }
+            (item_turn self.old.store.setting (item_taken line taken)).events
+            (is_disk_stop result) }
     {
         let reply = carry_out(self.alloc, &mut self.store, disk, line, taken)?;
         self.tell(output, reply)
@@ -98,11 +125,14 @@ impl Player {
     fn tell<K: Sink>(&mut self, output: &mut K, reply: Reply) -> Result<(), Stop>
         ensures store { self.new.store ≡ self.old.store }
         ensures refused { OnOk result (self.new.refused ≡ (self.old.refused || is_refused reply)) }
-        ensures written { OnOk result (Appends (K.seen output.old).written (K.seen output.new).written (reply_text reply)) }
+        ensures written { OnOk result (Appends (K.seen output.old).written
+            (K.seen output.new).written (reply_text reply)) }
         ensures passed { OnOk result ((K.seen output.new).held_back ≡ 0) }
-        ensures cut { IfErr result (λ stop. CutsAnswer stop (K.seen output.old) (K.seen output.new) (reply_text reply)) }
+        ensures cut { IfErr result (λ stop. CutsAnswer stop (K.seen output.old) (K.seen output.new)
+            (reply_text reply)) }
         ensures stops { IfErr result StopsTelling }
-        ensures faults { TellsFault (is_write_stop result) (K.seen output.old).faults (K.seen output.new).faults }
+        ensures faults { TellsFault (is_write_stop result) (K.seen output.old).faults
+            (K.seen output.new).faults }
     {
         let bytes = print_reply(self.alloc, &reply);
         self.refused = self.refused | is_refused(&reply);
@@ -123,7 +153,8 @@ fn is_refused(reply: &Reply) -> bool
 
 /// Writes bytes and flushes them, so that their reader has them before anything else is done.
 pub fn tell_bytes<K: Sink>(output: &mut K, bytes: &[u8]) -> Result<(), Failed>
-    ensures ok { OnOk result (Appends (K.seen output.old).written (K.seen output.new).written bytes.now) }
+    ensures ok { OnOk result (Appends (K.seen output.old).written
+        (K.seen output.new).written bytes.now) }
     ensures passed { OnOk result ((K.seen output.new).held_back ≡ 0) }
     ensures err { OnErr result (WritesSome (K.seen output.old) (K.seen output.new) bytes.now) }
     ensures cause { HasCause (K.seen output.old).faults (K.seen output.new).faults result }

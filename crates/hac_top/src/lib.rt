@@ -3,6 +3,7 @@
 #![tactic(auto)]
 
 mod answering;
+mod deciding;
 mod obeying;
 mod opening;
 mod running;

@@ -1,10 +1,10 @@
 //! Opening: the file of the store is attached, and the store that it holds is loaded, or a new one is made.
 ghost use Rattle.std.specs.Prelude.{◌≡◌, ◌≤◌, false, Err, IfOk, IfErr, IfSome, IsErrOf};
 ghost use Rattle.hac_disk.specs.Images.{IsQuiet, LeavesOnly};
-ghost use Rattle.hac_disk.specs.Told.{HasByteAt, IsSettled};
+ghost use Rattle.hac_disk.specs.Told.{IsSettled};
 ghost use Rattle.hac_outside.specs.Causes.{Rose};
 ghost use Rattle.hac_store.specs.Held.{held};
-ghost use Rattle.hac_store.specs.Stores.{Stands};
+ghost use Rattle.hac_store.specs.Stores.{Bears, Stands};
 ghost use Rattle.hac_top.specs.Attaching.{AttachesStore, MayAttach};
 ghost use Rattle.hac_top.specs.Crashes.{IsOpened, Reopens, StopsOpening, opening_outcome, opening_result, opening_status};
 ghost use Rattle.hac_top.specs.Words.{asked_of};
@@ -21,23 +21,33 @@ pub fn open_store<D: Disk>(
     options: Options<'_>,
     disk: &mut D,
 ) -> Result<Store, Status>
-    ensures opened { IfSome (D.seen disk.old) (λ file. IsOpened result (opening_outcome options.entry.fresh (held file))) }
+    ensures opened { IfSome (D.seen disk.old) (λ file. IsOpened result
+        (opening_outcome options.entry.fresh (held file))) }
     ensures intact { IfOk result (λ store. store.broken ≡ false) }
-    ensures place { IfOk result (λ store. HasByteAt (D.seen disk.new) store.setting.end) }
-    ensures stands { IfSome (D.seen disk.old) (λ _. IfOk result (λ store. Stands (D.seen disk.new) (D.image disk.new) store.setting)) }
+    ensures place { IfOk result (λ store. Bears (D.seen disk.new) store) }
+    ensures stands { IfSome (D.seen disk.old) (λ _. IfOk result
+        (λ store. Stands (D.seen disk.new) (D.image disk.new) store.setting)) }
     ensures stops { IfErr result StopsOpening }
 
     // At each moment a crash leaves the store as it was, or the root alone, or no store yet.
-    ensures any_moment { IfSome (D.seen disk.old) (λ file. IfOk (opening_outcome options.entry.fresh (held file)) (λ setting. IsSettled (D.seen disk.old) (D.image disk.old) →
-        LeavesOnly D.moment D.image_since disk.old disk.new (Reopens options.entry.fresh (λ s. s ≡ setting.state)))) }
+    ensures any_moment { IfSome (D.seen disk.old) (λ file. IfOk
+        (opening_outcome options.entry.fresh (held file))
+        (λ setting. IsSettled (D.seen disk.old) (D.image disk.old) →
+        LeavesOnly D.moment D.image_since disk.old disk.new
+        (Reopens options.entry.fresh (λ s. s ≡ setting.state)))) }
 
     // Where the file holds no store, or one that is in the way, nothing is written.
-    ensures quiet { IfSome (D.seen disk.old) (λ file. IfErr (opening_outcome options.entry.fresh (held file)) (λ _. IsQuiet D.seen D.image D.moment D.image_since disk.old disk.new)) }
+    ensures quiet { IfSome (D.seen disk.old) (λ file. IfErr
+        (opening_outcome options.entry.fresh (held file))
+        (λ _. IsQuiet D.seen D.image D.moment D.image_since disk.old disk.new)) }
 
-    ensures attached { MayAttach (D.attached disk.old) (asked_of options.entry) (D.attached disk.new) }
-    ensures attaches { (result ≡ Err Status.DiskFault → ⊥) → AttachesStore (D.attached disk.old) (asked_of options.entry) (D.attached disk.new) }
+    ensures attached { MayAttach (D.attached disk.old) (asked_of options.entry)
+        (D.attached disk.new) }
+    ensures attaches { (result ≡ Err Status.DiskFault → ⊥) →
+        AttachesStore (D.attached disk.old) (asked_of options.entry) (D.attached disk.new) }
     ensures later { D.faults disk.old ≤ D.faults disk.new }
     ensures cause { result ≡ Err Status.DiskFault → Rose (D.faults disk.old) (D.faults disk.new) }
+    ensures none { (result ≡ Err Status.DiskFault → ⊥) → D.faults disk.new ≡ D.faults disk.old }
 {
     if disk.attach(options.store, options.fresh).is_err() {
         return Err(Status::DiskFault);
@@ -50,16 +60,22 @@ pub fn open_store<D: Disk>(
 
 // Loads the store of the disk, or makes a new one.
 fn load_or_create<D: Disk>(alloc: Global, fresh: bool, disk: &mut D) -> Result<Store, StoreFault>
-    ensures opened { IfSome (D.seen disk.old) (λ file. IsOpened (opening_result result) (opening_outcome fresh (held file))) }
+    ensures opened { IfSome (D.seen disk.old) (λ file. IsOpened (opening_result result)
+        (opening_outcome fresh (held file))) }
     ensures intact { IfOk result (λ store. store.broken ≡ false) }
-    ensures place { IfOk result (λ store. HasByteAt (D.seen disk.new) store.setting.end) }
-    ensures stands { IfSome (D.seen disk.old) (λ _. IfOk result (λ store. Stands (D.seen disk.new) (D.image disk.new) store.setting)) }
-    ensures any_moment { IfSome (D.seen disk.old) (λ file. IfOk (opening_outcome fresh (held file)) (λ setting. IsSettled (D.seen disk.old) (D.image disk.old) →
-        LeavesOnly D.moment D.image_since disk.old disk.new (Reopens fresh (λ s. s ≡ setting.state)))) }
-    ensures quiet { IfSome (D.seen disk.old) (λ file. IfErr (opening_outcome fresh (held file)) (λ _. IsQuiet D.seen D.image D.moment D.image_since disk.old disk.new)) }
+    ensures place { IfOk result (λ store. Bears (D.seen disk.new) store) }
+    ensures stands { IfSome (D.seen disk.old) (λ _. IfOk result
+        (λ store. Stands (D.seen disk.new) (D.image disk.new) store.setting)) }
+    ensures any_moment { IfSome (D.seen disk.old) (λ file. IfOk (opening_outcome fresh (held file))
+        (λ setting. IsSettled (D.seen disk.old) (D.image disk.old) →
+        LeavesOnly D.moment D.image_since disk.old disk.new
+        (Reopens fresh (λ s. s ≡ setting.state)))) }
+    ensures quiet { IfSome (D.seen disk.old) (λ file. IfErr (opening_outcome fresh (held file))
+        (λ _. IsQuiet D.seen D.image D.moment D.image_since disk.old disk.new)) }
     ensures attached { D.attached disk.new ≡ D.attached disk.old }
     ensures later { D.faults disk.old ≤ D.faults disk.new }
     ensures cause { IsErrOf result StoreFault.Disk → Rose (D.faults disk.old) (D.faults disk.new) }
+    ensures none { (IsErrOf result StoreFault.Disk → ⊥) → D.faults disk.new ≡ D.faults disk.old }
 {
     if fresh {
         Store::create(alloc, disk)

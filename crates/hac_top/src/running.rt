@@ -2,16 +2,16 @@
 ghost use Rattle.std.specs.Prelude.{◌≡◌, ◌⊎◌, ℕ, ◌≤◌, ◌<◌, false, IfErr, IfSome, List, None, Ok, map, string_bytes};
 ghost use Rattle.std.specs.Io.KnownBytes.{Appends};
 ghost use Rattle.hac_disk.specs.Images.{IsQuiet, LeavesOnly};
-ghost use Rattle.hac_disk.specs.Told.{HasByteAt, IsSettled};
+ghost use Rattle.hac_disk.specs.Told.{IsSettled};
 ghost use Rattle.hac_model.specs.CommandLine.{options};
 ghost use Rattle.hac_model.specs.Play.{all_events, play};
 ghost use Rattle.hac_outside.specs.Causes.{Rose, TellsFault};
 ghost use Rattle.hac_store.specs.Held.{held};
-ghost use Rattle.hac_store.specs.Stores.{Stands};
+ghost use Rattle.hac_store.specs.Stores.{Bears, Stands};
 ghost use Rattle.hac_top.specs.Attaching.{AttachesStore, MayAttach};
-ghost use Rattle.hac_top.specs.Crashes.{Holds, IsTreeAfter, Reopens, TellsFile, opening_outcome};
+ghost use Rattle.hac_top.specs.Crashes.{Holds, IsTreeAfter, TellsFile, opening_outcome};
 ghost use Rattle.hac_top.specs.Ends.{end_status, is_write_fault};
-ghost use Rattle.hac_top.specs.Run.{usage_line, outside, AppendsSome, RefusesWords, Ends, EndsSo, HasBegun, IfOpens, Plays, Ran, Completes};
+ghost use Rattle.hac_top.specs.Run.{AppendsSome, Ends, EndsSo, IfOpens, IsFaultless, Played, Ran, RefusesWords, outside, usage_line};
 
 use crate::answering::{Player, tell_bytes};
 use crate::opening::open_store;
@@ -44,46 +44,51 @@ pub fn run<S: Source, K: Sink, D: Disk>(
     // Faulty command lines are refused.
     ensures usage { result ≡ Status.Usage → options (map string_bytes words.now) ≡ None }
     ensures words { options (map string_bytes words.now) ≡ None →
-        RefusesWords result (outside (S.seen input.old) (K.seen output.old)) (outside (S.seen input.new) (K.seen output.new)) × (disk.new ≡ disk.old) }
+        RefusesWords result (outside (S.seen input.old) (K.seen output.old))
+        (outside (S.seen input.new) (K.seen output.new)) × (disk.new ≡ disk.old) }
 
-    // The replies are those of the tree that the store held, and a crash leaves that tree after the events of what was
-    // answered.
-    ensures ran { IfOpens (options (map string_bytes words.now)) (D.seen disk.old) (S.seen input.old).left (λ fresh setting script.
-        Ran fresh result setting script (outside (S.seen input.old) (K.seen output.old)) (outside (S.seen input.new) (K.seen output.new))
-        (IsSettled (D.seen disk.old) (D.image disk.old)) (D.image disk.new)) }
-
-    // At each moment a crash leaves that tree after some of the events, the first ones in order.
-    ensures any_moment { IfOpens (options (map string_bytes words.now)) (D.seen disk.old) (S.seen input.old).left (λ fresh setting script.
-        IsSettled (D.seen disk.old) (D.image disk.old) →
-        LeavesOnly D.moment D.image_since disk.old disk.new (Reopens fresh (IsTreeAfter setting.state (all_events (play setting script))))) }
-
-    // Once it has begun to take the script, a crash leaves a store.
-    ensures begun { IfOpens (options (map string_bytes words.now)) (D.seen disk.old) (S.seen input.old).left (λ fresh setting script.
-        IsSettled (D.seen disk.old) (D.image disk.old) → HasBegun result (outside (S.seen input.old) (K.seen output.old)) (outside (S.seen input.new) (K.seen output.new)) →
-        (c : List ℕ) → D.image disk.new c → Holds (IsTreeAfter setting.state (all_events (play setting script))) c) }
+    // The replies are those of the tree that the store held, a crash at any moment leaves that tree after some of the
+    // events, at the end those of what was answered, and without a fault the script is played.
+    ensures ran { IfOpens (options (map string_bytes words.now)) (D.seen disk.old)
+        (S.seen input.old).left
+        (λ fresh setting script. Ran fresh result setting script
+        (outside (S.seen input.old) (K.seen output.old))
+        (outside (S.seen input.new) (K.seen output.new))
+        (IsSettled (D.seen disk.old) (D.image disk.old)) (D.image disk.new)
+        (LeavesOnly D.moment D.image_since disk.old disk.new)
+        (IsFaultless (outside (S.seen input.old) (K.seen output.old))
+        (outside (S.seen input.new) (K.seen output.new))
+        (D.faults disk.old) (D.faults disk.new))) }
 
     // Where the file holds no store, or one though a new one was asked for, it says so and does nothing else.
-    ensures unopened { IfSome (options (map string_bytes words.now)) (λ asked. IfSome (D.seen disk.old) (λ file. IfErr (opening_outcome asked.fresh (held file)) (λ wanted.
-        EndsSo wanted result × IsQuiet D.seen D.image D.moment D.image_since disk.old disk.new × (input.new ≡ input.old) × (output.new ≡ output.old)))) }
-    ensures file { IfSome (options (map string_bytes words.now)) (λ asked. IfSome (D.seen disk.old) (λ file. TellsFile result → opening_outcome asked.fresh (held file) ≡ Err result)) }
+    ensures unopened { IfSome (options (map string_bytes words.now))
+        (λ asked. IfSome (D.seen disk.old) (λ file. IfErr (opening_outcome asked.fresh (held file))
+        (λ wanted.
+        EndsSo wanted result × IsQuiet D.seen D.image D.moment D.image_since disk.old disk.new ×
+        (input.new ≡ input.old) × (output.new ≡ output.old)))) }
+    ensures file { IfSome (options (map string_bytes words.now))
+        (λ asked. IfSome (D.seen disk.old) (λ file. TellsFile result → opening_outcome asked.fresh
+        (held file) ≡ Err result)) }
 
     // The disk is attached once, by the name that the words give.
-    ensures attached { IfSome (options (map string_bytes words.now)) (λ asked. MayAttach (D.attached disk.old) asked (D.attached disk.new)
+    ensures attached { IfSome (options (map string_bytes words.now))
+        (λ asked. MayAttach (D.attached disk.old) asked (D.attached disk.new)
         × ((result ≡ Status.DiskFault → ⊥) → AttachesStore (D.attached disk.old) asked (D.attached disk.new))) }
 
     // Each fault is reported, and nothing is left unflushed in the sink.
-    ensures ends { Ends result (outside (S.seen input.old) (K.seen output.old)) (outside (S.seen input.new) (K.seen output.new)) }
-    ensures read_told { (S.seen input.old).faults < (S.seen input.new).faults → result ≡ Status.ReadFault }
-    ensures write_told { (K.seen output.old).faults < (K.seen output.new).faults → result ≡ Status.WriteFault }
-    ensures read_cause { result ≡ Status.ReadFault → Rose (S.seen input.old).faults (S.seen input.new).faults }
-    ensures write_cause { result ≡ Status.WriteFault → Rose (K.seen output.old).faults (K.seen output.new).faults }
+    ensures ends { Ends result (outside (S.seen input.old) (K.seen output.old))
+        (outside (S.seen input.new) (K.seen output.new)) }
+    ensures read_told { (S.seen input.old).faults < (S.seen input.new).faults →
+        result ≡ Status.ReadFault }
+    ensures write_told { (K.seen output.old).faults < (K.seen output.new).faults →
+        result ≡ Status.WriteFault }
+    ensures read_cause { result ≡ Status.ReadFault →
+        Rose (S.seen input.old).faults (S.seen input.new).faults }
+    ensures write_cause { result ≡ Status.WriteFault →
+        Rose (K.seen output.old).faults (K.seen output.new).faults }
     ensures disk_later { D.faults disk.old ≤ D.faults disk.new }
     ensures disk_cause { result ≡ Status.DiskFault → Rose (D.faults disk.old) (D.faults disk.new) }
-
-    // Without a fault the script is played, unless memory runs out.
-    ensures complete { ¬ Rose (S.seen input.old).faults (S.seen input.new).faults → ¬ Rose (K.seen output.old).faults (K.seen output.new).faults →
-        ¬ Rose (D.faults disk.old) (D.faults disk.new) →
-        IfOpens (options (map string_bytes words.now)) (D.seen disk.old) (S.seen input.old).left (λ fresh setting script. Completes result script) }
+    ensures disk_told { (result ≡ Status.DiskFault → ⊥) → D.faults disk.new ≡ D.faults disk.old }
 {
     let Some(options) = read_words(words) else {
         return tell_usage(output);
@@ -96,10 +101,12 @@ pub fn run<S: Source, K: Sink, D: Disk>(
 
 fn tell_usage<K: Sink>(output: &mut K) -> Status
     ensures status { (result ≡ Status.Usage) ⊎ (result ≡ Status.WriteFault) }
-    ensures written { result ≡ Status.Usage → Appends (K.seen output.old).written (K.seen output.new).written usage_line }
+    ensures written { result ≡ Status.Usage → Appends (K.seen output.old).written
+        (K.seen output.new).written usage_line }
     ensures passed { result ≡ Status.Usage → (K.seen output.new).held_back ≡ 0 }
     ensures some { AppendsSome (K.seen output.old).written (K.seen output.new).written usage_line }
-    ensures faults { TellsFault (is_write_fault result) (K.seen output.old).faults (K.seen output.new).faults }
+    ensures faults { TellsFault (is_write_fault result) (K.seen output.old).faults
+        (K.seen output.new).faults }
 {
     match tell_bytes(output, b"usage: hac [--new] STORE\n") {
         Ok(()) => Status::Usage,
@@ -117,16 +124,24 @@ fn play_store<S: Source, K: Sink, D: Disk>(
 ) -> Result<bool, Stop>
     requires source { (S.seen input.old).ended ≡ false }
     requires intact { store.broken ≡ false }
-    requires place { HasByteAt (D.seen disk.old) store.setting.end }
+    requires place { Bears (D.seen disk.old) store }
     ensures ran { IfSome (S.seen input.old).left (λ script.
-        Ran false (end_status result) store.setting script (outside (S.seen input.old) (K.seen output.old)) (outside (S.seen input.new) (K.seen output.new))
+        Played false (end_status result) store.setting script
+        (outside (S.seen input.old) (K.seen output.old))
+        (outside (S.seen input.new) (K.seen output.new))
         (Stands (D.seen disk.old) (D.image disk.old) store.setting) (D.image disk.new)) }
-    ensures any_moment { IfSome (S.seen input.old).left (λ script. Stands (D.seen disk.old) (D.image disk.old) store.setting →
-        LeavesOnly D.moment D.image_since disk.old disk.new (Holds (IsTreeAfter store.setting.state (all_events (play store.setting script))))) }
-    ensures ends { Ends (end_status result) (outside (S.seen input.old) (K.seen output.old)) (outside (S.seen input.new) (K.seen output.new)) }
+    ensures any_moment { IfSome (S.seen input.old).left
+        (λ script. Stands (D.seen disk.old) (D.image disk.old) store.setting →
+        LeavesOnly D.moment D.image_since disk.old disk.new
+        (Holds (IsTreeAfter store.setting.state (all_events (play store.setting script))))) }
+    ensures ends { Ends (end_status result) (outside (S.seen input.old) (K.seen output.old))
+        (outside (S.seen input.new) (K.seen output.new)) }
     ensures attached { D.attached disk.new ≡ D.attached disk.old }
     ensures later { D.faults disk.old ≤ D.faults disk.new }
-    ensures cause { end_status result ≡ Status.DiskFault → Rose (D.faults disk.old) (D.faults disk.new) }
+    ensures cause { end_status result ≡ Status.DiskFault →
+        Rose (D.faults disk.old) (D.faults disk.new) }
+    ensures none { (end_status result ≡ Status.DiskFault → ⊥) →
+        D.faults disk.new ≡ D.faults disk.old }
 {
     let mut player = Player {
         alloc,
@@ -149,16 +164,25 @@ fn play_script<S: Source, K: Sink, D: Disk>(
     requires source { (S.seen input.old).ended ≡ false }
     requires begun { player.old.refused ≡ false }
     requires intact { player.old.store.broken ≡ false }
-    requires place { HasByteAt (D.seen disk.old) player.old.store.setting.end }
+    requires place { Bears (D.seen disk.old) player.old.store }
     ensures ran { IfSome (S.seen input.old).left (λ script.
-        Ran false (end_status result) player.old.store.setting script (outside (S.seen input.old) (K.seen output.old)) (outside (S.seen input.new) (K.seen output.new))
+        Played false (end_status result) player.old.store.setting script
+        (outside (S.seen input.old) (K.seen output.old))
+        (outside (S.seen input.new) (K.seen output.new))
         (Stands (D.seen disk.old) (D.image disk.old) player.old.store.setting) (D.image disk.new)) }
-    ensures any_moment { IfSome (S.seen input.old).left (λ script. Stands (D.seen disk.old) (D.image disk.old) player.old.store.setting →
-        LeavesOnly D.moment D.image_since disk.old disk.new (Holds (IsTreeAfter player.old.store.setting.state (all_events (play player.old.store.setting script))))) }
-    ensures ends { Ends (end_status result) (outside (S.seen input.old) (K.seen output.old)) (outside (S.seen input.new) (K.seen output.new)) }
+    ensures any_moment { IfSome (S.seen input.old).left
+        (λ script. Stands (D.seen disk.old) (D.image disk.old) player.old.store.setting →
+        LeavesOnly D.moment D.image_since disk.old disk.new
+        (Holds (IsTreeAfter player.old.store.setting.state
+        (all_events (play player.old.store.setting script))))) }
+    ensures ends { Ends (end_status result) (outside (S.seen input.old) (K.seen output.old))
+        (outside (S.seen input.new) (K.seen output.new)) }
     ensures attached { D.attached disk.new ≡ D.attached disk.old }
     ensures later { D.faults disk.old ≤ D.faults disk.new }
-    ensures cause { end_status result ≡ Status.DiskFault → Rose (D.faults disk.old) (D.faults disk.new) }
+    ensures cause { end_status result ≡ Status.DiskFault →
+        Rose (D.faults disk.old) (D.faults disk.new) }
+    ensures none { (end_status result ≡ Status.DiskFault → ⊥) →
+        D.faults disk.new ≡ D.faults disk.old }
 {
     let mut reader = Reader::new(alloc)?;
     'lines: loop {

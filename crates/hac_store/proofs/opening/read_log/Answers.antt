@@ -28,7 +28,7 @@ loop-reader-preserved g c =
       read = read-more seen c.args.machine.now.state c.args.start c.loop-reader.machine.state c.replay.new.machine.state c.loop-reader.at c.in-Entry.next c.in-Entry.payload c.loop-reader.invariant.read tells judges;
       quiet = search rules;
       attached = c.next.ensures.attached ∙ c.loop-reader.invariant.attached;
-      later = omega (arith, c.next.ensures.later, c.loop-reader.invariant.later);
+      faults = c.in_ok-payload.ensures.none (λ fails. cc) ∙ c.loop-reader.invariant.faults;
     }
 
 pub returns-in-End-clause-log : goal.returns-in-End-clause-log

@@ -12,7 +12,7 @@ invariant-loop-reader g l = let disk = g.D.Disk in record {
   read : IsRead (disk.seen l.initial.disk) l.initial.machine.state l.start l.machine.state l.at;
   quiet : IsQuiet disk.seen disk.image disk.moment disk.image_since l.initial.disk l.disk;
   attached : disk.attached l.disk ≡ disk.attached l.initial.disk;
-  later : disk.faults l.initial.disk ≤ disk.faults l.disk;
+  faults : disk.faults l.disk ≡ disk.faults l.initial.disk;
 }
 
 abbrev pub decreases-loop-reader : goal.decreases-loop-reader

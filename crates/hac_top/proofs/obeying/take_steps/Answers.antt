@@ -2,20 +2,20 @@ use Rattle.std.proofs.Common.{◌≡◌, ◌≤◌, ◌+◌, ◌-◌, true, fals
 use Rattle.std.specs.Prelude.{IsErrOf, Result}
 use Rattle.std.proofs.lemmas.Result.{err_from_is_err_and}
 use Rattle.hac_model.specs.Laws.{AllHappen}
-use Rattle.hac_model.specs.Play.{after_events}
+use Rattle.hac_model.specs.Play.{Setting}
 use Rattle.hac_outside.specs.Causes.{Rose}
-use Rattle.hac_store.specs.Stores.{Seen, fit_behind, intact}
+use Rattle.hac_store.specs.Stores.{Seen, fit_behind, store_after}
 use Rattle.hac_store.specs.declared.fault.StoreFault.{StoreFault}
 use Rattle.hac_store.specs.declared.fault.StoreFault.TheVariants.{Full}
 use Rattle.hac_store.proofs.RoomLemmas.{steps-have-room}
 use Rattle.hac_top.specs.Obeying.{is_disk_fault}
 use Rattle.hac_top.proofs.StepLemmas.{after-steps, part-happens, part-moments, part-room, steps}
-use Rattle.hac_top.proofs.StoringLemmas.{disk-cause, rose-since}
+use Rattle.hac_top.proofs.StoringLemmas.{disk-cause, disk-none, rose-since}
 use Rattle.hac_top.proofs.obeying.take_steps.Goals as goal
 
 pub returns-then-not-room_for-clause-full : goal.returns-then-not-room_for-clause-full
 returns-then-not-room_for-clause-full g c =
-    λ _. (steps-have-room c.args.store.now.setting.end c.args.count ∙ search rules, refl)
+    λ _. (steps-have-room c.args.store.now.setting c.args.count ∙ search rules, refl)
 
 pub steps-requires-clause-happen : goal.steps-requires-clause-happen
 steps-requires-clause-happen g c =
@@ -25,10 +25,10 @@ steps-requires-clause-happen g c =
 
 -- all steps fit
 pub returns-clause-room : goal.returns-clause-room
-returns-clause-room g c = λ none. absurd (let never : false ≡ true = sym none ∙ steps-have-room c.args.store.now.setting.end c.args.count ∙ c.loop-left.invariant.room in cc)
+returns-clause-room g c = λ none. absurd (let never : false ≡ true = sym none ∙ steps-have-room c.args.store.now.setting c.args.count ∙ c.loop-left.invariant.room in cc)
 
 pub returns-in_err-steps-clause-room : goal.returns-in_err-steps-clause-room
-returns-in_err-steps-clause-room g c = λ none. absurd (let never : false ≡ true = sym none ∙ steps-have-room c.args.store.now.setting.end c.args.count ∙ c.loop-left.invariant.room in cc)
+returns-in_err-steps-clause-room g c = λ none. absurd (let never : false ≡ true = sym none ∙ steps-have-room c.args.store.now.setting c.args.count ∙ c.loop-left.invariant.room in cc)
 
 pub returns-in_err-steps-clause-full : goal.returns-in_err-steps-clause-full
 returns-in_err-steps-clause-full g c =
@@ -42,7 +42,7 @@ returns-in_err-steps-clause-full g c =
     (part-room c.args.store.now.setting.end done batch c.args.count few (omega (arith, c.loop-left-test.true, c.min-batch.ensures)) was.room) in
     λ full.
     let full_now : IsErrOf c.steps.result Full = subst (λ (r : Result (Unit {0}) StoreFault). IsErrOf r Full) (stop.1 ∙ ap Err stop.2 ∙ sym c.in_err-steps.was) full in
-    let none : false ≡ true = sym (c.steps.ensures.full full_now) ∙ steps-have-room c.loop-left.store.setting.end batch ∙ fits in
+    let none : false ≡ true = sym (c.steps.ensures.full full_now) ∙ steps-have-room c.loop-left.store.setting batch ∙ fits in
     absurd cc
 
 pub returns-in_err-steps-clause-stores : goal.returns-in_err-steps-clause-stores
@@ -52,14 +52,18 @@ returns-in_err-steps-clause-stores g c =
     let few : (c.args.count - c.loop-left.left) + c.min-batch.result ≤ c.args.count = omega (arith, was.within, c.min-batch.ensures) in
     record {
       moments = λ stands.
-          part-moments g.D.Disk.moment g.D.Disk.image_since c.args.disk.now c.loop-left.disk c.steps.new.disk c.args.store.now.setting c.loop-left.store (c.args.count - c.loop-left.left) c.min-batch.result c.args.count few was.store
+          part-moments g.D.Disk.moment g.D.Disk.image_since c.args.disk.now c.loop-left.disk c.steps.new.disk c.args.store.now c.loop-left.store (c.args.count - c.loop-left.left) c.min-batch.result c.args.count few was.store
           (was.moments stands) (c.steps.ensures.any_moment (was.stands stands));
       names = c.steps.ensures.attached ∙ was.names;
-      later = omega (arith, was.later, c.steps.ensures.later);
+      later = omega (arith, was.faults, c.steps.ensures.later);
       cause = λ fails.
-          rose-since (g.D.Disk.faults c.args.disk.now) (g.D.Disk.faults c.loop-left.disk) (g.D.Disk.faults c.steps.new.disk) was.later
+          rose-since (g.D.Disk.faults c.args.disk.now) (g.D.Disk.faults c.loop-left.disk) (g.D.Disk.faults c.steps.new.disk) (omega (arith, was.faults))
           (disk-cause c.steps.result (Rose (g.D.Disk.faults c.loop-left.disk) (g.D.Disk.faults c.steps.new.disk)) c.steps.ensures.kind c.steps.ensures.cause
           (ap is_disk_fault (c.in_err-steps.was ∙ ap Err (sym stop.2) ∙ sym stop.1) ∙ fails));
+      none = λ told.
+          disk-none c.steps.result (g.D.Disk.faults c.steps.new.disk ≡ g.D.Disk.faults c.loop-left.disk) c.steps.ensures.none
+          (ap is_disk_fault (c.in_err-steps.was ∙ ap Err (sym stop.2) ∙ sym stop.1) ∙ told)
+          ∙ was.faults;
     }
 
 pub loop-left-preserved : goal.loop-left-preserved
@@ -71,13 +75,14 @@ loop-left-preserved g c =
       within = omega (arith, was.within);
       room = was.room;
       store =
-          now.ok ∙ ap intact (ap (λ (z : Seen). after_events z.setting (steps c.min-batch.result)) was.store
-          ∙ after-steps c.args.store.now.setting (c.args.count - c.loop-left.left) c.min-batch.result (c.args.count - (c.loop-left.left - c.min-batch.result)) (omega (arith, was.within, c.min-batch.ensures)));
+          now.ok ∙ ap (λ (z : Seen). store_after z (steps c.min-batch.result)) was.store
+          ∙ ap (λ (z : Setting). record c.args.store.now { setting = z })
+          (after-steps c.args.store.now.setting (c.args.count - c.loop-left.left) c.min-batch.result (c.args.count - (c.loop-left.left - c.min-batch.result)) (omega (arith, was.within, c.min-batch.ensures)));
       place = now.place;
       stands = λ stands. now.stands (was.stands stands);
       moments = λ stands.
-          part-moments g.D.Disk.moment g.D.Disk.image_since c.args.disk.now c.loop-left.disk c.steps.new.disk c.args.store.now.setting c.loop-left.store (c.args.count - c.loop-left.left) c.min-batch.result c.args.count few was.store
+          part-moments g.D.Disk.moment g.D.Disk.image_since c.args.disk.now c.loop-left.disk c.steps.new.disk c.args.store.now c.loop-left.store (c.args.count - c.loop-left.left) c.min-batch.result c.args.count few was.store
           (was.moments stands) (c.steps.ensures.any_moment (was.stands stands));
       names = c.steps.ensures.attached ∙ was.names;
-      later = omega (arith, was.later, c.steps.ensures.later);
+      faults = now.none (λ fails. cc) ∙ was.faults;
     }

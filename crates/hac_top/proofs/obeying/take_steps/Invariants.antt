@@ -1,8 +1,6 @@
 use Rattle.std.proofs.Common.{◌≡◌, ◌≤◌, ◌-◌, true}
 use Rattle.hac_disk.specs.Images.{LeavesOnly}
-use Rattle.hac_disk.specs.Told.{HasByteAt}
-use Rattle.hac_model.specs.Play.{after_events}
-use Rattle.hac_store.specs.Stores.{Stands, fit_behind, intact}
+use Rattle.hac_store.specs.Stores.{Bears, Stands, fit_behind, store_after}
 use Rattle.hac_top.specs.Crashes.{Holds, IsTreeAfter}
 use Rattle.hac_top.proofs.StepLemmas.{steps}
 use Rattle.hac_top.proofs.obeying.take_steps.Given as goal
@@ -16,13 +14,13 @@ invariant-loop-left g l =
     record {
       within : l.left ≤ l.fn.count;
       room : fit_behind l.fn.store.setting.end l.fn.count 2 ≡ true;
-      store : l.store ≡ intact (after_events first (steps (l.fn.count - l.left)));
-      place : HasByteAt (disk l.disk) l.store.setting.end;
+      store : l.store ≡ store_after l.fn.store (steps (l.fn.count - l.left));
+      place : Bears (disk l.disk) l.store;
       stands : Stands (disk l.fn.disk) (image l.fn.disk) first → Stands (disk l.disk) (image l.disk) l.store.setting;
       moments : Stands (disk l.fn.disk) (image l.fn.disk) first →
           LeavesOnly g.D.Disk.moment g.D.Disk.image_since l.fn.disk l.disk (Holds (IsTreeAfter first.state (steps l.fn.count)));
       names : g.D.Disk.attached l.disk ≡ g.D.Disk.attached l.fn.disk;
-      later : g.D.Disk.faults l.fn.disk ≤ g.D.Disk.faults l.disk;
+      faults : g.D.Disk.faults l.disk ≡ g.D.Disk.faults l.fn.disk;
     }
 
 abbrev pub decreases-loop-left : goal.decreases-loop-left

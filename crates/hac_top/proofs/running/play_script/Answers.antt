@@ -7,7 +7,7 @@ use Rattle.shell_lang.specs.Reading.{Reading, pending}
 use Rattle.shell_lang.proofs.ReaderLemmas.{total_on}
 use Rattle.hac_top.specs.Ends.{end_status}
 use Rattle.hac_store.specs.Stores.{Seen, Stands}
-use Rattle.hac_top.specs.Run.{outside, Ran}
+use Rattle.hac_top.specs.Run.{outside, Played}
 use Rattle.hac_top.specs.Stops.{CutsAnswer, StopsAnswer, is_disk_stop, is_read_stop, is_write_stop}
 use Rattle.hac_top.specs.TakenLines.{items_of_taken}
 use Rattle.hac_top.specs.Told.{told_text}
@@ -18,7 +18,7 @@ use Rattle.hac_top.proofs.GoesOn.{GoesOn}
 use Rattle.hac_top.proofs.MomentLemmas.{moments-first, moments-line}
 use Rattle.hac_top.proofs.StoringLemmas.{rose-since, stands-held}
 use Rattle.hac_top.proofs.EndLemmas.{ends-before, ends-within, ends-all}
-use Rattle.hac_top.proofs.RunLemmas.{disk-stop, goes-begin, reader-begin, total-begin, stops-first, stops-before, stops-within, finishes, goes-on}
+use Rattle.hac_top.proofs.RunLemmas.{disk-stop, goes-begin, other-disk, reader-begin, total-begin, stops-first, stops-before, stops-within, finishes, goes-on}
 use Rattle.hac_top.proofs.TakenLemmas.{still_open}
 use Rattle.hac_top.proofs.running.play_script.Goals as goal
 
@@ -54,7 +54,7 @@ lines-init g c =
       stands = λ stands. stands;
       moments = moments-first g.D.Disk.seen g.D.Disk.image g.D.Disk.moment g.D.Disk.image_since g.met.D.Disk.only_now c.args.disk.now c.args.player.now.store.setting input.left;
       names = refl;
-      later = omega arith;
+      faults = refl;
     }
 
 pub take_line-requires : goal.take_line-requires
@@ -72,7 +72,7 @@ returns-in_err-line-clause-ran g c =
     let after = outside (seen c.take_line.new.input) (g.K.Sink.seen c.lines.output) in
     let left = (seen c.take_line.new.input).left in
     let got : (want : Stop) → stop.0 ≡ want → c.take_line.result ≡ Err want = λ want is. c.in_err-line.was ∙ ap Err (sym stop.2 ∙ is) in
-    subst (λ (r : Result Bool Stop). IfSome (g.S.Source.seen c.args.input.now).left (λ s. Ran false (end_status r) c.args.player.now.store.setting s before after (Stands (g.D.Disk.seen c.args.disk.now) (g.D.Disk.image c.args.disk.now) c.args.player.now.store.setting) (g.D.Disk.image c.lines.disk))) (sym stop.1)
+    subst (λ (r : Result Bool Stop). IfSome (g.S.Source.seen c.args.input.now).left (λ s. Played false (end_status r) c.args.player.now.store.setting s before after (Stands (g.D.Disk.seen c.args.disk.now) (g.D.Disk.image c.args.disk.now) c.args.player.now.store.setting) (g.D.Disk.image c.lines.disk))) (sym stop.1)
     (stops-before c.args.player.now.store.setting (Stands (g.D.Disk.seen c.args.disk.now) (g.D.Disk.image c.args.disk.now) c.args.player.now.store.setting) (g.D.Disk.image c.lines.disk) stop.0 script (pending c.lines.reader (seen c.lines.input).left) left reader.taken c.lines.reader.ended c.lines.player.store.setting c.lines.player.refused before after refl was.goes was.passed c.in_err-line.ensures.stops
     (λ read. let cut = took.read_fault (got ReadFault read) in (still_open c.lines.reader.ended reader.ended took.stays cut.0, cut.1))
     (λ long. let cut = took.too_long (got TooLong long) in (still_open c.lines.reader.ended reader.ended took.stays cut.0, cut.1, cut.2))
@@ -108,7 +108,7 @@ returns-in_err-answer-in-Some-clause-ran g c =
     let after = outside (seen c.take_line.new.input) (g.K.Sink.seen c.answer.new.output) in
     let goes = rw c.in-Some.is at c.in_ok-line.ensures.advances in
     let text = told_text (turns setting (items_of_taken line)) in
-    subst (λ (r : Result Bool Stop). IfSome (g.S.Source.seen c.args.input.now).left (λ s. Ran false (end_status r) c.args.player.now.store.setting s before after (Stands (g.D.Disk.seen c.args.disk.now) (g.D.Disk.image c.args.disk.now) c.args.player.now.store.setting) (g.D.Disk.image c.answer.new.disk))) (sym stop.1)
+    subst (λ (r : Result Bool Stop). IfSome (g.S.Source.seen c.args.input.now).left (λ s. Played false (end_status r) c.args.player.now.store.setting s before after (Stands (g.D.Disk.seen c.args.disk.now) (g.D.Disk.image c.args.disk.now) c.args.player.now.store.setting) (g.D.Disk.image c.answer.new.disk))) (sym stop.1)
     (stops-within c.args.player.now.store.setting (Stands (g.D.Disk.seen c.args.disk.now) (g.D.Disk.image c.args.disk.now) c.args.player.now.store.setting) (g.D.Disk.image c.answer.new.disk) stop.0 script (pending c.lines.reader (seen c.lines.input).left) (seen c.take_line.new.input).left line reader c.lines.reader.ended setting c.lines.player.refused mid before after refl was.goes was.passed
     (rw c.in-Some.is at c.in_ok-line.ensures.line) goes.near
     (subst (λ (s : Stop). CutsAnswer s mid after_sink text) (sym stop.2) c.in_err-answer-in-Some.ensures.cut)
@@ -130,8 +130,16 @@ returns-in_err-answer-in-Some-clause-cause g c =
     let faults = g.D.Disk.faults in
     let got : c.answer.result ≡ Err stop.0 = c.in_err-answer-in-Some.was ∙ ap Err (sym stop.2) in
     λ fails.
-    rose-since (faults c.args.disk.now) (faults c.lines.disk) (faults c.answer.new.disk) c.lines.invariant.later
+    rose-since (faults c.args.disk.now) (faults c.lines.disk) (faults c.answer.new.disk) (omega (arith, c.lines.invariant.faults))
     (c.answer.ensures.stores.cause (ap is_disk_stop (got ∙ ap Err (disk-stop stop.0 (ap end_status (sym stop.1) ∙ fails)))))
+
+pub returns-in_err-answer-in-Some-clause-none : goal.returns-in_err-answer-in-Some-clause-none
+returns-in_err-answer-in-Some-clause-none g c =
+    let stop = err_from_is_err_and c.from_residual-in_err-answer-in-Some.result c.from_residual-in_err-answer-in-Some.ensures.1 in
+    let got : c.answer.result ≡ Err stop.0 = c.in_err-answer-in-Some.was ∙ ap Err (sym stop.2) in
+    λ other.
+    c.answer.ensures.stores.none (ap is_disk_stop got ∙ other-disk (Unit {0}) stop.0 (λ fails. other (ap end_status stop.1 ∙ fails)))
+    ∙ c.lines.invariant.faults
 
 pub returns-in_err-answer-in-Some-clause-ends : goal.returns-in_err-answer-in-Some-clause-ends
 returns-in_err-answer-in-Some-clause-ends g c =
@@ -208,12 +216,12 @@ lines-preserved g c =
       limit = took.limit;
       read = read ∙ was.read;
       wrote = wrote ∙ was.wrote;
-      unbroken = ap (λ (store : Seen). store.broken) answer.store;
+      unbroken = ap (λ (store : Seen). store.broken) answer.store ∙ was.unbroken;
       place = answer.place;
       stands = λ stands. answer.stands (was.stands stands);
       moments =
           moments-line g.D.Disk.seen g.D.Disk.image g.D.Disk.moment g.D.Disk.image_since c.args.disk.now c.lines.disk c.answer.new.disk c.args.player.now.store.setting script (pending c.lines.reader (seen c.lines.input).left) behind line c.lines.reader.ended reader.ended setting c.lines.player.refused
           before (sink c.lines.output) was.goes (rw c.in-Some.is at c.in_ok-line.ensures.line) was.stands was.moments c.answer.ensures.stores.moments;
       names = c.answer.ensures.stores.names ∙ was.names;
-      later = omega (arith, was.later, c.answer.ensures.stores.later);
+      faults = answer.stores.none refl ∙ was.faults;
     }

@@ -1,10 +1,9 @@
 use Rattle.std.proofs.Common.{◌≡◌, ◌≤◌, ◌+◌, ◌-◌, false}
 use Rattle.std.specs.Prelude.{IfSome}
 use Rattle.hac_disk.specs.Images.{LeavesOnly}
-use Rattle.hac_disk.specs.Told.{HasByteAt}
 use Rattle.hac_model.specs.Play.{all_events, play}
 use Rattle.hac_model.specs.declared.limits.TheConstants.{SCRIPT_LIMIT}
-use Rattle.hac_store.specs.Stores.{Stands}
+use Rattle.hac_store.specs.Stores.{Bears, Stands}
 use Rattle.shell_lang.specs.Reading.{pending, given, IsReaderOf, SameTotal}
 use Rattle.hac_top.specs.Crashes.{Holds, IsTreeAfter}
 use Rattle.hac_top.proofs.GoesOn.{GoesOn}
@@ -28,12 +27,12 @@ invariant-lines g l =
       read : (input l.input).faults ≡ (input l.fn.input).faults;
       wrote : (output l.output).faults ≡ (output l.fn.output).faults;
       unbroken : l.player.store.broken ≡ false;
-      place : HasByteAt (disk l.disk) l.player.store.setting.end;
+      place : Bears (disk l.disk) l.player.store;
       stands : Stands (disk l.fn.disk) (image l.fn.disk) first → Stands (disk l.disk) (image l.disk) l.player.store.setting;
       moments : IfSome (input l.fn.input).left (λ script. Stands (disk l.fn.disk) (image l.fn.disk) first →
           LeavesOnly g.D.Disk.moment g.D.Disk.image_since l.fn.disk l.disk (Holds (IsTreeAfter first.state (all_events (play first script)))));
       names : g.D.Disk.attached l.disk ≡ g.D.Disk.attached l.fn.disk;
-      later : g.D.Disk.faults l.fn.disk ≤ g.D.Disk.faults l.disk;
+      faults : g.D.Disk.faults l.disk ≡ g.D.Disk.faults l.fn.disk;
     }
 
 -- each line takes a byte of those that a script may have

@@ -9,7 +9,7 @@ invariant-loop-size g l = let disk = g.D.Disk in record {
   held : StandAt (disk.seen l.disk) l.self.start l.self.bytes;
   quiet : IsQuiet disk.seen disk.image disk.moment disk.image_since l.initial.disk l.disk;
   attached : disk.attached l.disk ≡ disk.attached l.initial.disk;
-  later : disk.faults l.initial.disk ≤ disk.faults l.disk;
+  faults : disk.faults l.disk ≡ disk.faults l.initial.disk;
 }
 
 abbrev pub decreases-loop-size : goal.decreases-loop-size

@@ -26,8 +26,8 @@ pub returns-in-Ok-clause-ok : goal.returns-in-Ok-clause-ok
 returns-in-Ok-clause-ok g c =
     let events = settled_events c.args.settled in
     let after = put-state c.self.inside.machine c.prepare.new.self c.commit.new.self events c.in_ok-prepare.ensures.ok c.commit.ensures in
-    put-seen c.args.self.now c.self.inside.machine.state c.commit.new.self.state c.self.inside.start c.self.inside.end c.self.inside.generation c.in-Ok.end c.self.inside.broken events
-    c.self.view_is c.requires.intact after (c.in-Ok.ensures.end ∙ end-is c.args.payloads.now events c.self.inside.end c.requires.texts)
+    put-seen c.args.self.now c.self.inside.machine.state c.commit.new.self.state c.self.inside.start c.self.inside.end c.self.inside.generation c.in-Ok.end c.self.inside.slot c.self.inside.broken events
+    c.self.view_is after (c.in-Ok.ensures.end ∙ end-is c.args.payloads.now events c.self.inside.end c.requires.texts)
 
 pub returns-in-Ok-clause-room : goal.returns-in-Ok-clause-room
 returns-in-Ok-clause-room g c =
@@ -35,7 +35,7 @@ returns-in-Ok-clause-room g c =
     let size : c.self.inside.end ≡ z.end = ap (λ (x : Seen). x.setting.end) c.self.view_is in
     let full = rw size at c.in-Ok.ensures.full in
     λ none.
-    let never : true ≡ false = sym (has-room c.args.payloads.now (settled_events c.args.settled) z.end c.requires.texts (λ past. let full_now = full.1 past in cc)) ∙ none in
+    let never : true ≡ false = sym (has-room c.args.payloads.now (settled_events c.args.settled) z c.requires.texts (λ past. let full_now = full.1 past in cc)) ∙ none in
     absurd cc
 
 pub returns-in-Err-Disk-clause-room : goal.returns-in-Err-Disk-clause-room
@@ -45,7 +45,7 @@ returns-in-Err-Disk-clause-room g c =
     let full = rw size at c.append.ensures.full in
     let failed = c.in-Err-Disk.is ∙ ap (λ f. Err f) c.in-Err-Disk.field-0-is in
     λ none.
-    let never : true ≡ false = sym (has-room c.args.payloads.now (settled_events c.args.settled) z.end c.requires.texts (λ past. let full_now = sym failed ∙ full.1 past in cc)) ∙ none in
+    let never : true ≡ false = sym (has-room c.args.payloads.now (settled_events c.args.settled) z c.requires.texts (λ past. let full_now = sym failed ∙ full.1 past in cc)) ∙ none in
     absurd cc
 
 pub returns-in-Ok-clause-stands : goal.returns-in-Ok-clause-stands
@@ -58,8 +58,8 @@ returns-in-Ok-clause-stands g c stands =
     let stored = all-stored events z.state (subst IsValid state c.self.invariant) c.requires.happen in
     let full = rw size at c.in-Ok.ensures.full in
     let after = put-state c.self.inside.machine c.prepare.new.self c.commit.new.self events c.in_ok-prepare.ensures.ok c.commit.ensures in
-    let is = put-seen c.args.self.now c.self.inside.machine.state c.commit.new.self.state c.self.inside.start c.self.inside.end c.self.inside.generation c.in-Ok.end c.self.inside.broken events
-    c.self.view_is c.requires.intact after (c.in-Ok.ensures.end ∙ end-is c.args.payloads.now events c.self.inside.end c.requires.texts) in
+    let is = put-seen c.args.self.now c.self.inside.machine.state c.commit.new.self.state c.self.inside.start c.self.inside.end c.self.inside.generation c.in-Ok.end c.self.inside.slot c.self.inside.broken events
+    c.self.view_is after (c.in-Ok.ensures.end ∙ end-is c.args.payloads.now events c.self.inside.end c.requires.texts) in
     subst (λ (x : Seen). Stands (disk.seen c.append.new.disk) (disk.image c.append.new.disk) x.setting) (sym is)
     (put-stands (disk.seen c.args.disk.now) (disk.seen c.append.new.disk) (disk.image c.args.disk.now) (disk.image c.append.new.disk) z events c.args.payloads.now
     (g.met.D.Disk.read_is_image c.args.disk.now) c.requires.texts stored (λ past. let never = full.1 past in cc)
@@ -70,7 +70,7 @@ returns-in-Err-Full-clause-full g c is_full =
     let z = c.args.self.now.setting in
     let size : c.self.inside.end ≡ z.end = ap (λ (x : Seen). x.setting.end) c.self.view_is in
     let full = rw size at c.append.ensures.full in
-    no-room c.args.payloads.now (settled_events c.args.settled) z.end c.requires.some c.requires.texts (full.0 (c.in-Err-Full.is ∙ ap (λ f. Err f) c.in-Err-Full.field-0-is))
+    no-room c.args.payloads.now (settled_events c.args.settled) z c.requires.some c.requires.texts (full.0 (c.in-Err-Full.is ∙ ap (λ f. Err f) c.in-Err-Full.field-0-is))
 
 pub returns-in-Ok-clause-any_moment : goal.returns-in-Ok-clause-any_moment
 returns-in-Ok-clause-any_moment g c =

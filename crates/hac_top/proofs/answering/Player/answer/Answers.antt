@@ -1,5 +1,5 @@
 use Rattle.std.proofs.Common.{ap, refl, ◌∙◌}
-use Rattle.hac_model.specs.Play.{all_events, turn, turns}
+use Rattle.hac_model.specs.Play.{all_events, item_turn, turns}
 use Rattle.hac_model.specs.Lines.{item_taken}
 use Rattle.shell_lang.specs.declared.reading.Piece.{Piece}
 use Rattle.hac_top.specs.Stops.{is_disk_stop}
@@ -15,5 +15,5 @@ returns-in-Bytes-clause-stores g c =
     let taken = c.args.line.taken in
     let item = item_taken c.in-Bytes.line c.args.line.taken in
     let failed = is_disk_stop c.answer_line.result in
-    stores-same disk.seen disk.image disk.moment disk.image_since disk.attached disk.faults c.args.disk.now c.answer_line.new.disk setting (turn setting item).events (all_events (turns setting (items_of_taken c.args.line))) failed failed
+    stores-same disk.seen disk.image disk.moment disk.image_since disk.attached disk.faults c.args.disk.now c.answer_line.new.disk setting (item_turn setting item).events (all_events (turns setting (items_of_taken c.args.line))) failed failed
     (ap (λ (piece : Piece). all_events (turns setting (items_of_piece piece taken))) c.in-Bytes.is ∙ one-turn setting item) refl c.answer_line.ensures.stores

@@ -1,0 +1,26 @@
+use Rattle.std.proofs.Common.{ap, sym, subst, ◌∙◌}
+use Rattle.std.specs.Prelude.{Ok}
+use Rattle.hac_model.specs.Answers.{Refuses}
+use Rattle.hac_model.specs.Play.{command_turn, item_turn}
+use Rattle.hac_model.specs.Refusals.{refusal}
+use Rattle.hac_model.specs.Resolving.{resolve}
+use Rattle.hac_model.specs.declared.replies.Deny.{Deny}
+use Rattle.hac_model.specs.declared.states.State.{State}
+use Rattle.hac_top.proofs.ObeyLemmas.{decides-alike, decides-denied, refused-turn}
+use Rattle.hac_top.proofs.deciding.decide_line.Goals as goal
+
+pub returns-in-Ok : goal.returns-in-Ok
+returns-in-Ok c =
+    let s = c.args.machine.now.state in
+    let line = c.args.line in
+    let draft = c.in-Ok.draft in
+    decides-alike s (λ setting. command_turn setting (Ok c.in-Ok.draft)) (λ setting. item_turn setting (Ok c.args.line)) c.decide_draft.result
+    (λ setting same. ap (command_turn setting) (sym (ap (λ (t : State). resolve t c.args.line) same ∙ c.in-Ok.ensures.draft.resolved))) c.decide_draft.ensures
+
+pub returns-in-Err : goal.returns-in-Err
+returns-in-Err c =
+    let s = c.args.machine.now.state in
+    decides-denied c.in-Err.deny c.refused.result s (λ setting. item_turn setting (Ok c.args.line)) c.refused.ensures
+    (λ why is setting same.
+    refused-turn setting (resolve setting.state c.args.line) why
+    (ap (λ (t : State). refusal t c.args.line) same ∙ subst (λ (deny : Deny). Refuses deny (refusal c.args.machine.now.state c.args.line)) is c.in-Err.ensures.refused))

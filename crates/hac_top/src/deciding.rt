@@ -1,0 +1,73 @@
+//! Deciding: what a line asks of the tree, by the machine alone, before the store is touched.
+ghost use Rattle.std.specs.Prelude.{IfOk, IsTrue, Ok};
+ghost use Rattle.hac_core.specs.Drafts.{IsDraft};
+ghost use Rattle.hac_model.specs.Lines.{is_spelled};
+ghost use Rattle.hac_model.specs.Play.{command_turn, item_turn};
+ghost use Rattle.hac_top.specs.Deciding.{Decides, IsDenial};
+ghost use Rattle.hac_model.specs.Lines.{item_taken};
+
+use hac_core::{Draft, Machine, Settled};
+use hac_model::{Deny, Line, Memory, Reply, Taken, Text};
+use shell_lang::parse_line;
+use std::alloc::Global;
+
+/// What is to be done about a line.
+#[derive(Drop)]
+pub enum Decision {
+    /// To give this reply. The tree stays as it is.
+    Answer(Reply),
+    /// To store these events, if there is room for them.
+    Change(Settled),
+}
+
+/// What is to be done about a line, given what was taken of the bytes behind it.
+pub fn decide(
+    alloc: Global,
+    machine: &Machine,
+    line: Text,
+    taken: Option<Taken>,
+) -> Result<Decision, Memory>
+    ensures { IfOk result (Decides machine.now.state
+        (λ setting. item_turn setting (item_taken line taken))) }
+{
+    match parse_line(alloc, line.as_slice(), taken) {
+        Ok(line) => decide_line(machine, line),
+        Err(deny) => refused(deny),
+    }
+}
+
+// What is to be done about a line that spells a command.
+fn decide_line(machine: &Machine, line: Line) -> Result<Decision, Memory>
+    requires { IsTrue (is_spelled line.command) }
+    ensures { IfOk result (Decides machine.now.state (λ setting. item_turn setting (Ok line))) }
+{
+    match machine.check(line) {
+        Ok(draft) => decide_draft(machine, draft),
+        Err(deny) => refused(deny),
+    }
+}
+
+// What is to be done about a command that the tree doesn't refuse so far.
+fn decide_draft(machine: &Machine, draft: Draft) -> Result<Decision, Memory>
+    requires { IsDraft machine.now.state draft }
+    ensures { IfOk result (Decides machine.now.state (λ setting. command_turn setting (Ok draft))) }
+{
+    if draft.reads() {
+        let reply = machine.ask(draft)?;
+        return Ok(Decision::Answer(reply));
+    }
+    match machine.settle(draft) {
+        Ok(settled) => Ok(Decision::Change(settled)),
+        Err(deny) => refused(deny),
+    }
+}
+
+// To refuse what is denied.
+fn refused(deny: Deny) -> Result<Decision, Memory>
+    ensures { IsDenial deny result }
+{
+    match deny {
+        Deny::Refused(refusal) => Ok(Decision::Answer(Reply::Refused(refusal))),
+        Deny::Memory => Err(Memory),
+    }
+}
