@@ -7,7 +7,6 @@ import subprocess
 import sys
 import textwrap
 import unittest
-from pathlib import Path
 
 from tests.support import TOOLS
 
