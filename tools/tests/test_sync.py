@@ -475,11 +475,11 @@ class Stops(SyncTest):
                 file.rename(to)
         for _ in range(30 - len(files)):
             self.write(f"d{chance.randrange(4)}/n{chance.randrange(1000)}", b"new %d pear\n" % chance.randrange(texts))
-        for directory in self.folder.iterdir():
+        for directory in list(self.folder.iterdir()):
             if not any(directory.iterdir()):
                 directory.rmdir()
             elif chance.random() < 0.2 and not (self.folder / f"x{directory.name}").exists():
-                directory.rename(self.folder / f"x{directory.name}"[: len(str(self.folder)) + 4])
+                directory.rename(self.folder / f"x{directory.name}")
 
     def test_killed_at_50_moments(self) -> None:
         chance = random.Random(31)
