@@ -147,8 +147,9 @@ class Hac:
         self._program = find_program()
         self._lock = _locked(store, wait)
         try:
+            self._kept = () if self._lock is None else (self._lock,)
             if make and not store.exists():
-                _make_store(self._program, store)
+                _make_store(self._program, store, self._kept)
             self._process = self._start()
         except BaseException:
             self._unlock()
@@ -234,8 +235,8 @@ class Hac:
             stdin=subprocess.PIPE,
             stdout=subprocess.PIPE,
             stderr=subprocess.PIPE,
-            pass_fds=() if self._lock is None else (self._lock,),
-            start_new_session=True,  # A Control-C at the terminal is the tool's, which ends the program in its own way.
+            pass_fds=self._kept,
+            start_new_session=True,  # A Control-C at the terminal is for the tool alone.
         )
 
     def _reply(self) -> Reply:
@@ -323,14 +324,17 @@ def _locked(store: Path, wait: float) -> Optional[int]:
             time.sleep(0.02)
 
 
-def _make_store(program: Path, store: Path) -> None:
+def _make_store(program: Path, store: Path, kept: Tuple[int, ...]) -> None:
     """Makes a store where there is no file: whole or not at all, and never over another file."""
     new = store.with_name(f".{store.name}.new")
     try:
         if new.exists():
             new.unlink()
         ended = subprocess.run(
-            [os.fsencode(program), b"--new", b"--", os.fsencode(new)], stdin=subprocess.DEVNULL, capture_output=True
+            [os.fsencode(program), b"--new", b"--", os.fsencode(new)],
+            stdin=subprocess.DEVNULL,
+            capture_output=True,
+            pass_fds=kept,
         )
         if ended.returncode != 0:
             raise Stopped(store, ended.returncode, ended.stderr.decode("utf-8", "replace").strip())

@@ -1,4 +1,4 @@
-"""What the tests of the tools share: a folder of their own, runs of tools and of hac, and a hac that ends too early."""
+"""What the tests share: a folder of their own, runs of tools and of hac, and a hac that ends too early."""
 
 from __future__ import annotations
 
@@ -152,7 +152,8 @@ class ToolTest(unittest.TestCase):
     def ends_after(self, replies: int, status: int, said: str) -> Path:
         """A hac that does what hac does, and ends so behind so many replies: they came, and what they say is done."""
         path = self.made / f"hac-{status}-{replies}"
-        path.write_text(_ENDS_AFTER.format(python=sys.executable, hac=str(HAC), replies=replies, status=status, said=said))
+        values = {"python": sys.executable, "hac": str(HAC), "replies": replies, "status": status, "said": said}
+        path.write_text(_ENDS_AFTER.format(**values))
         path.chmod(0o755)
         return path
 

@@ -177,7 +177,8 @@ class Endings(ToolTest):
         self.assertIn("Every command that was answered is in the store", str(stopped))
 
     def test_other_endings(self) -> None:
-        for status, words in ((3, "couldn't be read"), (4, "couldn't be written"), (9, "more than a script"), (77, "why")):
+        endings = {3: "couldn't be read", 4: "couldn't be written", 9: "more than a script", 77: "why"}
+        for status, words in endings.items():
             with self.subTest(status=status):
                 self.assertIn(words, str(self.ending(self.ends_after(2, status, "hac: said"))))
 
@@ -194,6 +195,22 @@ class Endings(ToolTest):
             with Hac(path) as hac:
                 hac.ls(b"/")
         self.assertIn("must be UTF-8", str(caught.exception))
+
+    def test_a_store_that_hac_itself_has_open(self) -> None:
+        self.make_store("mkdir /a")
+        with subprocess.Popen([HAC, self.store], stdin=subprocess.PIPE, stdout=subprocess.PIPE) as other:
+            assert other.stdin is not None and other.stdout is not None
+            other.stdin.write(b"mkdir /b\n")
+            other.stdin.flush()
+            self.assertEqual(other.stdout.readline(), b"ok\n")
+            if subprocess.run([HAC, self.store], stdin=subprocess.DEVNULL, capture_output=True).returncode != 5:
+                self.skipTest("this hac doesn't notice another one")
+            with self.assertRaises(Stopped) as caught:
+                with Hac(self.store) as hac:
+                    hac.ls(b"/")
+            self.assertEqual(caught.exception.status, 5)
+            self.assertIn("another run may have it open", str(caught.exception))
+        self.assertEqual(self.ask("ls"), ["d a", "d b", "ok"])
 
     def test_no_program(self) -> None:
         for path in (self.made, self.made / "none", Path("/etc/passwd")):

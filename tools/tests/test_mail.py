@@ -5,7 +5,6 @@ from __future__ import annotations
 import random
 import time
 import unittest
-from pathlib import Path
 from typing import Dict, List
 
 from tests.support import Run, ToolTest, load
@@ -71,11 +70,10 @@ class Headers(unittest.TestCase):
 
         self.assertEqual(name(b"Date: Tue, 5 Mar 2024 23:59:00 -0800", b"Subject: a/b\tc"), "2024-03-05 a-b c")
         self.assertEqual(name(b"Date: 5 Mar 2024 10:00"), "2024-03-05 no subject")
-        for date in (b"yesterday", b"99 Foo 2024", b"Tue, 5 Mar 99999999999999999999 1:2:3", b"", b"5 Mar 2024 25:99:99 +9999999"):
+        long, late = b"Tue, 5 Mar 99999999999999999999 1:2:3", b"5 Mar 2024 25:99:99 +9999999"
+        for date in (b"yesterday", b"99 Foo 2024", long, late, b""):
             self.assertIn(name(b"Date: " + date, b"Subject: x"), ("undated x", "2024-03-05 x"), date)
-        long = mail.read_message(message(b"Subject: =?utf-8?q?" + b"=C3=A4" * 300 + b"?=", b"", b"")).name
-        self.assertLessEqual(len(long), 243)
-        self.assertEqual(long.decode("utf-8"), "undated " + "ä" * 117)
+        self.assertEqual(name(b"Subject: =?utf-8?q?" + b"=C3=A4" * 300 + b"?="), "undated " + "ä" * 117)
 
 
 class Bodies(unittest.TestCase):
@@ -83,8 +81,9 @@ class Bodies(unittest.TestCase):
         return text_of(message(*lines)).partition("\n")[2].rstrip("\n")
 
     def test_codings(self) -> None:
+        quoted = b"Content-Transfer-Encoding: quoted-printable"
         for head, content, wanted in (
-            ((b"Content-Type: text/plain; charset=iso-8859-1", b"Content-Transfer-Encoding: quoted-printable"), b"Gr=FC=DFe=\n!", "Grüße!"),
+            ((b"Content-Type: text/plain; charset=iso-8859-1", quoted), b"Gr=FC=DFe=\n!", "Grüße!"),
             ((b"Content-Transfer-Encoding: base64",), b"w7ZsIQ==", "öl!"),
             ((b"Content-Transfer-Encoding: x-unknown",), b"as it is", "as it is"),
             ((b"Content-Type: text/plain; charset=klingon",), "ö".encode(), "ö"),
@@ -103,7 +102,8 @@ class Bodies(unittest.TestCase):
         self.assertIn("apple", self.body(b"Content-Transfer-Encoding: base64", b"", b"YXBwbGUgcGll", b"%%%"))
 
     def test_parts(self) -> None:
-        inner = (b"--in", b"Content-Type: text/html", b"", b"<p>pear</p>", b"--in", b"Content-Type: text/plain", b"", b"plum", b"--in--")
+        as_html = (b"--in", b"Content-Type: text/html", b"", b"<p>pear</p>")
+        inner = (*as_html, b"--in", b"Content-Type: text/plain", b"", b"plum", b"--in--")
         text = self.body(
             b"X: y",
             b'Content-Type: multipart/mixed; boundary="out"',
@@ -141,7 +141,8 @@ class Bodies(unittest.TestCase):
 
     def test_any_bytes_are_a_message(self) -> None:
         chance = random.Random(5)
-        pieces = [b"Content-Type:", b" multipart/mixed;", b"boundary=", b"\n", b"\n\n", b"--x", b"=?", b"?b?", b"\xff", b"\0", b";", b'"', b"a", b"Date: ", b"<", b"From: "]
+        pieces = [b"Content-Type:", b" multipart/mixed;", b"boundary=", b"\n", b"\n\n", b"--x", b"=?", b"?b?", b"\xff"]
+        pieces += [b"\0", b";", b'"', b"a", b"Date: ", b"<", b"From: "]
         for _ in range(2000):
             mail.read_message(b"".join(chance.choices(pieces, k=chance.randrange(40))))
 
@@ -223,12 +224,13 @@ class Mailboxes(MailTest):
     def test_what_an_mbox_is(self) -> None:
         box = self.made / "box"
         box.write_bytes(
-            b"\n" + FROM + b"Subject: a\n\n>From quoted\n>>From twice\nFrom 12:30 on, not behind a blank line\n\nFrom here on\n\n"
+            b"\n" + FROM + b"Subject: a\n\n>From quoted\n>>From twice\nFrom 12:30 on, with no blank line before it\n\n"
+            b"From here on\n\n"
             + FROM.replace(b"\n", b"\r\n") + b"Subject: b\r\n\r\nx\r\n\r\n" + FROM + FROM + b"Subject: c"
         )
         contents = [source.content for source in mail.messages_of(box)]
         self.assertEqual(len(contents), 3)
-        self.assertIn(b"\nFrom quoted\n>From twice\nFrom 12:30 on, not behind a blank line\n\nFrom here on\n", contents[0])
+        self.assertIn(b"\nFrom quoted\n>From twice\nFrom 12:30 on, with no blank line before it\n\nFrom here on\n", contents[0])
         box.write_bytes(b"")
         self.assertEqual(list(mail.messages_of(box)), [])
         box.write_bytes(b"Subject: no mbox\n\n")
@@ -260,7 +262,8 @@ class Mailboxes(MailTest):
 
 class Stops(MailTest):
     def test_killed_and_run_again(self) -> None:
-        messages = [message(b"Subject: s%d" % (n % 7), b"Message-ID: <%d@x>" % n, b"", b"text %d" % n) for n in range(60)]
+        heads = [(b"Subject: s%d" % (n % 7), b"Message-ID: <%d@x>" % n) for n in range(60)]
+        messages = [message(*head, b"", b"text %d" % n) for n, head in enumerate(heads)]
         box = self.made / "box"
         box.write_bytes(b"".join(FROM + content + b"\n" for content in messages))
         for moment in range(10):
@@ -277,7 +280,8 @@ class Stops(MailTest):
         box = self.made / "box"
         box.write_bytes(b"".join(FROM + content + b"\n" for content in messages))
         for replies in range(0, 14):
-            ran = Run("hac-mail", box, self.store, "/mail", hac=self.ends_after(replies, 5, "hac: disk fault")).ended()
+            hac = self.ends_after(replies, 5, "hac: disk fault")
+            ran = Run("hac-mail", box, self.store, "/mail", hac=hac).ended()
             self.assertIn(ran.returncode, (0, 5))
             self.assertEqual(ran.returncode == 5, b"status 5 (hac: disk fault)" in ran.stderr)
         self.run_tool("hac-mail", box, self.store, "/mail")

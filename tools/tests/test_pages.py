@@ -3,13 +3,14 @@
 from __future__ import annotations
 
 import ast
+import os
+import re
 import subprocess
 import sys
 import textwrap
 import unittest
-from pathlib import Path
 
-from tests.support import TOOLS
+from tests.support import HAC, TOOLS, ToolTest
 
 NAMES = ("hac-shell", "hac-sync", "hac-mail", "hac-view")
 
@@ -51,3 +52,35 @@ class Pages(unittest.TestCase):
                     names = [node.module or ""]
                 for name in names:
                     self.assertIn(name.partition(".")[0], own | set(sys.stdlib_module_names), f"{file.name}: {name}")
+
+
+class FirstFolder(ToolTest):
+    def test_the_first_session(self) -> None:
+        """The commands of docs/first_folder.md, one after the other, do what the page says."""
+        page = (TOOLS.parent / "docs/first_folder.md").read_text()
+        commands = re.findall(r"^    ((?:tools/|echo |ls ).*)$", page, re.MULTILINE)
+        self.assertEqual(len(commands), 7)
+        notes = self.made / "notes"
+        (notes / "garden").mkdir(parents=True)
+        (notes / "garden/monday.txt").write_text("Call about apple trees\n")
+        (notes / "shopping.txt").write_text("Bread, Apples\n")
+        (notes / "cake.txt").write_text("Apple cake\n")
+        (self.made / "tools").symlink_to(TOOLS)
+        (self.made / "hac").symlink_to(HAC)
+        said = {}
+        for command in commands:
+            ran = subprocess.run(
+                ["sh", "-c", command],
+                cwd=self.made,
+                stdin=subprocess.DEVNULL,
+                capture_output=True,
+                env={**os.environ, "HOME": str(self.made), "HAC": str(HAC)},
+            )
+            self.assertEqual((ran.returncode, ran.stderr), (0, b""), command)
+            said[command] = ran.stdout.decode()
+        self.assertEqual(said["ls ~/by-content/apples"], "monday.txt\nshopping.txt\n")
+        self.assertEqual(os.readlink(self.made / "by-content/apples/monday.txt"), f"{notes}/garden/monday.txt")
+        self.store = self.made / "notes.hac"
+        self.assertEqual(
+            self.ask("find apple* AND NOT cake"), ["f /notes/garden/monday.txt", "f /notes/shopping.txt", "ok"]
+        )

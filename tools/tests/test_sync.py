@@ -64,14 +64,16 @@ class WhatComes(SyncTest):
         self.write("a", b"one\n")
         self.write("sub/b", b"two\tthree\\n\n")
         self.write("sub/deep/c d", b"")
-        self.assertEqual(self.sync()[-1], "3 files in the store: 3 new, 0 changed, 0 renamed, 0 removed; 0 left out, 0 refused")
+        told = "3 files in the store: 3 new, 0 changed, 0 renamed, 0 removed; 0 left out, 0 refused"
+        self.assertEqual(self.sync()[-1], told)
         self.assertEqual(self.tree(), self.wanted())
         self.assertEqual(self.numbers()["dirty"], 0)
 
         self.write("a", b"other\n")
         (self.folder / "sub/b").unlink()
         self.write("new/e", b"five\n")
-        self.assertEqual(self.sync()[-1], "3 files in the store: 1 new, 1 changed, 0 renamed, 1 removed; 0 left out, 0 refused")
+        told = "3 files in the store: 1 new, 1 changed, 0 renamed, 1 removed; 0 left out, 0 refused"
+        self.assertEqual(self.sync()[-1], told)
         self.assertEqual(self.tree(), self.wanted())
         self.assertEqual(self.numbers()["dirty"], 0)
 
@@ -129,7 +131,7 @@ class WhatComes(SyncTest):
         self.assertEqual(self.tree("/x y/n"), {f"/x y/n{path}": text for path, text in self.wanted().items()})
 
     def test_names(self) -> None:
-        names = [b'"', b'a "b" \\ c', b" ", b"  two  ", b"#", b"{x}", b"\xff\xfe", "ä".encode(), b"-", b"x" * 255, b"\\x41"]
+        names = [b'"', b'a "b" \\ c', b" ", b"  two  ", b"#", b"{x}", b"\xff\xfe", b"-", b"x" * 255, b"\\x41"]
         for count, name in enumerate(names):
             with open(bytes(self.folder) + b"/" + name, "wb") as file:
                 file.write(b"%d" % count)
@@ -367,7 +369,8 @@ class Renames(SyncTest):
 
 class OtherHands(SyncTest):
     def test_what_hac_sync_did_not_bring_stays(self) -> None:
-        self.make_store("write /mine x", "mkdir /sub", "write /sub/mine y", "write /a not the file's", "write /same an apple\\n")
+        self.make_store("write /mine x", "mkdir /sub", "write /sub/mine y", "write /a not the file's")
+        self.ask("write /same an apple\\n")
         self.write("a")
         self.write("same")
         self.write("sub/b")
@@ -472,11 +475,11 @@ class Stops(SyncTest):
                 file.rename(to)
         for _ in range(30 - len(files)):
             self.write(f"d{chance.randrange(4)}/n{chance.randrange(1000)}", b"new %d pear\n" % chance.randrange(texts))
-        for directory in self.folder.iterdir():
+        for directory in list(self.folder.iterdir()):
             if not any(directory.iterdir()):
                 directory.rmdir()
             elif chance.random() < 0.2 and not (self.folder / f"x{directory.name}").exists():
-                directory.rename(self.folder / f"x{directory.name}"[: len(str(self.folder)) + 4])
+                directory.rename(self.folder / f"x{directory.name}")
 
     def test_killed_at_50_moments(self) -> None:
         chance = random.Random(31)
@@ -504,8 +507,9 @@ class Stops(SyncTest):
     def test_stopped_behind_each_reply(self) -> None:
         """hac ends by itself, in each of the ways in which it does, behind each of its replies."""
         chance = random.Random(7)
+        endings = ((5, "hac: disk fault"), (7, "hac: out of memory"), (3, "hac: read fault"))
         for replies in range(0, 60, 3):
-            status, said = ((5, "hac: disk fault"), (7, "hac: out of memory"), (3, "hac: read fault"))[replies % 9 // 3]
+            status, said = endings[replies // 3 % 3]
             self.change(chance, 10)
             ran = Run("hac-sync", self.folder, self.store, hac=self.ends_after(replies, status, said)).ended()
             if ran.returncode != 0:

@@ -96,7 +96,14 @@ class WhatIsWritten(ViewTest):
         self.view()
         self.assertEqual(
             self.seen(),
-            {"s": "d", "s/y": "d", "s/a - x": "apple 4", "s/a - x (2)": "apple 1", "s/b - x": "apple 2", "s/y (2)": "apple 3"},
+            {
+                "s": "d",
+                "s/y": "d",
+                "s/a - x": "apple 4",
+                "s/a - x (2)": "apple 1",
+                "s/b - x": "apple 2",
+                "s/y (2)": "apple 3",
+            },
         )
 
     def test_long_paths_become_names(self) -> None:
@@ -118,7 +125,7 @@ class WhatIsWritten(ViewTest):
 
 class OtherHands(ViewTest):
     def test_what_stands_there_is_left(self) -> None:
-        self.make_store("write /a apple", "write /b apple", "smkdir /s apple", "smkdir /t apple", "smkdir /u apple", "index")
+        self.make_store("write /a apple", "smkdir /s apple", "smkdir /t apple", "smkdir /u apple", "index")
         (self.folder / "s").mkdir(parents=True)
         (self.folder / "s/a").write_text("mine")
         (self.folder / "t").write_text("a file")
@@ -186,9 +193,11 @@ class OtherHands(ViewTest):
 class Stops(ViewTest):
     def test_killed_and_run_again(self) -> None:
         chance = random.Random(3)
-        self.make_store("smkdir /s apple", "smkdir /t pear", *(f"write /f{n} apple pear {n}" for n in range(40)), "index")
+        files = [f"write /f{n} apple pear {n}" for n in range(40)]
+        self.make_store("smkdir /s apple", "smkdir /t pear", *files, "index")
         for moment in range(15):
-            self.ask(f"setq /s {chance.choice(['apple', 'pear', 'none'])}", f"write /f{moment} pear {moment + 100}", "index")
+            query = chance.choice(["apple", "pear", "none"])
+            self.ask(f"setq /s {query}", f"write /f{moment} pear {moment + 100}", "index")
             run = Run("hac-view", self.store, self.folder)
             time.sleep(0.01 + 0.01 * moment)
             run.kill()
@@ -204,7 +213,8 @@ class Stops(ViewTest):
     def test_hac_ends(self) -> None:
         self.make_store("smkdir /s apple", *(f"write /f{n} apple {n}" for n in range(5)), "index")
         for replies in range(12):
-            ran = Run("hac-view", self.store, self.folder, hac=self.ends_after(replies, 7, "hac: out of memory")).ended()
+            hac = self.ends_after(replies, 7, "hac: out of memory")
+            ran = Run("hac-view", self.store, self.folder, hac=hac).ended()
             self.assertEqual(ran.returncode == 7, b"memory ran out" in ran.stderr)
         self.view()
         self.assertEqual(len(self.seen()), 6)
