@@ -1,11 +1,11 @@
 -- What a crash may leave while a new store is being made.
-use Rattle.std.proofs.Common.{◌≡◌, ◌⊎◌, inl, inr, ℕ, ◌+◌, ◌-◌, ◌<◌, List, [], ◌∷◌, ◌++◌, length, take, drop, slice_index, None, Some, Ok, Err, Result, IfSome, OnOk, IsErr, refl, sym, ◌∙◌, ap, subst, arith, append_assoc, length-drop}
+use Rattle.std.proofs.Common.{◌≡◌, ◌⊎◌, inl, inr, ℕ, ◌<◌, List, [], ◌∷◌, ◌++◌, length, take, drop, slice_index, None, Some, Ok, Err, Result, IfSome, OnOk, IsErr, refl, sym, ◌∙◌, ap, subst, arith, append_assoc}
 use Rattle.std.specs.declared.option.Option.{Option}
 use Rattle.std.proofs.lemmas.List.{get_or-take, drop_at, take_at, length-take}
 use Rattle.hac_disk.specs.Images.{IsQuiet, LeavesOnly, Torn, TornFrom, overlaid}
 use Rattle.hac_disk.specs.Told.{HasByteAt, HasLength, IsSettled, StandAt, Written}
 use Rattle.hac_disk.proofs.Moments.{quiet_leaves, then_quiet, then_run, weaken}
-use Rattle.hac_disk.proofs.ToldLemmas.{if_told, told-settled, told-written}
+use Rattle.hac_disk.proofs.ToldLemmas.{if_told, told-settled}
 use Rattle.hac_journal.specs.Appending.{ClosedAt}
 use Rattle.hac_model.specs.Play.{new_setting}
 use Rattle.hac_store.specs.Creating.{Becomes, IsReady, IsUnheld}

@@ -1,5 +1,5 @@
 -- What a file holds where a new store is being made.
-use Rattle.std.proofs.Common.{◌≡◌, ◌≢◌, ⊎_elim, ℕ, ◌-◌, ◌<◌, ◌≤◌, List, [], ◌∷◌, length, take, drop, slice_index, Ok, Err, IsErr, refl, sym, ◌∙◌, ap, subst, arith, length-drop}
+use Rattle.std.proofs.Common.{◌≡◌, ◌≢◌, ⊎_elim, ℕ, ◌<◌, ◌≤◌, List, [], ◌∷◌, length, take, drop, slice_index, Ok, Err, IsErr, refl, sym, ◌∙◌, ap, subst, arith, length-drop}
 use Rattle.std.proofs.lemmas.Bool.{cases_eq}
 use Rattle.std.proofs.lemmas.Bool.Decides.{nat_tests}
 use Rattle.std.proofs.lemmas.List.{drop_more, length-take, take-take, get_or-take}
@@ -11,7 +11,7 @@ use Rattle.hac_checkpoint.specs.declared.heads.Stop.{Stop}
 use Rattle.hac_checkpoint.specs.declared.heads.Stop.TheVariants as stop
 use Rattle.hac_checkpoint.proofs.HeadLemmas.{roots-agree, roots-start-behind}
 use Rattle.hac_journal.specs.Appending.{ClosedAt}
-use Rattle.hac_journal.specs.Finding.{Short, found_in}
+use Rattle.hac_journal.specs.Finding.{found_in}
 use Rattle.hac_journal.proofs.CrashLemmas.{byte-same}
 use Rattle.hac_journal.proofs.FoundLemmas.{behind-short, found-open, found-shut}
 use Rattle.hac_journal.proofs.LawLemmas.{closed-is-found}

@@ -1,5 +1,5 @@
 -- What is left of a store whose log gets the records of events.
-use Rattle.std.proofs.Common.{◌≡◌, inl, ⊎_elim, Bool, ℕ, ◌+◌, ◌<◌, ◌^◌, List, [], ◌∷◌, length, map, None, Some, IfSome, Ok, refl, sym, ◌∙◌, ap, subst, arith, Vec}
+use Rattle.std.proofs.Common.{◌≡◌, inl, ⊎_elim, Bool, ℕ, ◌+◌, ◌<◌, List, [], ◌∷◌, length, map, None, Some, IfSome, Ok, refl, sym, ◌∙◌, ap, subst, arith, Vec}
 use Rattle.std.specs.declared.alloc.Global.{Global}
 use Rattle.std.specs.declared.option.Option.{Option}
 use Rattle.std.proofs.lemmas.Bool.{cases_lt}
@@ -10,7 +10,7 @@ use Rattle.hac_disk.proofs.ToldLemmas.{told-settled}
 use Rattle.hac_checkpoint.specs.declared.heads.Slot.{Slot}
 use Rattle.hac_journal.specs.Appending.{Appending, ClosedAt}
 use Rattle.hac_journal.specs.Records.{contents_of, log_of}
-use Rattle.hac_model.specs.Events.{accepted, apply, apply_all}
+use Rattle.hac_model.specs.Events.{apply, apply_all}
 use Rattle.hac_model.specs.Laws.{AllHappen}
 use Rattle.hac_model.specs.Payloads.{event_text}
 use Rattle.hac_model.specs.Play.{Setting, after_events, end_behind}

@@ -1,8 +1,7 @@
 -- Whether records fit behind the end of a log.
-use Rattle.std.proofs.Common.{◌≡◌, ℕ, zero, suc, ◌+◌, ◌*◌, ◌<◌, ◌≤◌, ◌^◌, List, [], ◌∷◌, ◌++◌, length, map, nat_lt, ◌==◌, ◌||◌, Bool, replicate, IsTrue, true, false, refl, sym, ◌∙◌, ap, arith, length-append, ⊎_elim, Vec}
+use Rattle.std.proofs.Common.{◌≡◌, ℕ, zero, suc, ◌+◌, ◌*◌, ◌<◌, ◌≤◌, ◌^◌, List, [], ◌∷◌, length, map, nat_lt, ◌==◌, ◌||◌, Bool, replicate, IsTrue, true, false, refl, sym, ◌∙◌, ap, arith, length-append, ⊎_elim, Vec}
 use Rattle.std.specs.declared.alloc.Global.{Global}
 use Rattle.std.proofs.lemmas.Bool.{cases_lt}
-use Rattle.std.proofs.lemmas.List.{map-append, replicate_more}
 use Rattle.std.proofs.lemmas.Bool.Decides.{nat_tests}
 use Rattle.hac_journal.specs.Records.{contents_of, log_of, record_of, records_of}
 use Rattle.hac_journal.proofs.RecordLemmas.{length-contents, length-log, length-record}

@@ -1,5 +1,5 @@
 -- A store as it is seen, and what a crash may leave of it.
-use Rattle.std.specs.Prelude.{◌≡◌, ◌⊎◌, ◌||◌, ◌==◌, ◌+◌, ◌*◌, nat_lt, ⊤, ℕ, Bool, true, false, List, Option, None, Some, Result, Ok, Err, refl}
+use Rattle.std.specs.Prelude.{◌≡◌, ◌⊎◌, ◌||◌, ◌==◌, ◌+◌, ◌*◌, nat_lt, ⊤, ℕ, Bool, false, List, Option, None, Some, Result, Ok, Err, refl}
 use Rattle.std.specs.Coded.{Coded, code_by, coded×, coded_bool, coded_ℕ}
 use Rattle.hac_checkpoint.specs.contracts.heads.Slot as slot
 use Rattle.hac_checkpoint.specs.declared.heads.Root.{Root}

@@ -5,7 +5,7 @@ use Rattle.std.specs.Option.{IfSome}
 use Rattle.hac_disk.specs.Images.{LeavesOnly}
 use Rattle.hac_disk.proofs.Moments.{then_run, weaken}
 use Rattle.hac_model.specs.CommandLine.{Options}
-use Rattle.hac_model.specs.Play.{Setting, Turn, all_events, play}
+use Rattle.hac_model.specs.Play.{Setting, all_events, play}
 use Rattle.hac_model.specs.declared.events.Event.{Event}
 use Rattle.hac_model.specs.declared.states.State.{State}
 use Rattle.hac_store.specs.Held.{held}

@@ -1,13 +1,10 @@
 -- What a sink holds after one write and another.
-use Rattle.std.proofs.Common.{◌≡◌, ℕ, ◌≤◌, List, [], ◌++◌, length, refl, ap, sym, ◌∙◌, arith, rules, append_assoc, append-nil, subst, Option, Some, None}
+use Rattle.std.proofs.Common.{ℕ, ◌≤◌, List, [], ◌++◌, length, ap, sym, ◌∙◌, arith, rules, append_assoc, append-nil, subst, Option, Some, None}
 use Rattle.std.specs.Prelude.{Result, Ok, Err, OnErr}
 use Rattle.std.specs.Io.KnownBytes.{Appends, Keeps}
 use Rattle.std.proofs.Math.Seq.{take-length}
 use Rattle.hac_outside.specs.Seen.{SinkSeen, Writes, WritesSome}
 use Rattle.hac_top.specs.Run.{AppendsSome}
-use Rattle.hac_top.specs.Stops.{CutsAnswer}
-use Rattle.hac_top.specs.declared.stops.Stop.{Stop}
-use Rattle.hac_top.specs.declared.stops.Stop.TheVariants.{WriteFault}
 
 -- bytes and then more bytes are all of them
 pub appends-then : (a b c : Option (List ℕ)) (xs ys : List ℕ) → Appends a b xs → Appends b c ys → Appends a c (xs ++ ys)

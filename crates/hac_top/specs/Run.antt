@@ -1,5 +1,5 @@
 -- What a run promises. Most of it depends on the script, which its source may tell.
-use Rattle.std.specs.Prelude.{◌≡◌, ◌⊎◌, ℕ, ◌+◌, ◌<◌, ◌≤◌, ⊤, Bool, List, [], ◌++◌, length, take, drop, codes, Option, None, Some, Ok, IfOk}
+use Rattle.std.specs.Prelude.{◌≡◌, ◌⊎◌, ℕ, ◌+◌, ◌<◌, ◌≤◌, ⊤, Bool, List, [], ◌++◌, length, take, drop, codes, Option, None, Some, IfOk}
 use Rattle.std.specs.Option.{IfSome}
 use Rattle.std.specs.Io.KnownBytes.{Appends}
 use Rattle.hac_outside.specs.Causes.{Rose, TellsFault}

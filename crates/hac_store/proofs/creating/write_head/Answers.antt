@@ -1,4 +1,3 @@
-use Rattle.std.proofs.Common.{OnOk}
 use Rattle.hac_store.proofs.CreateLemmas.{behind-new, first-new, ok-then, rest-ready}
 use Rattle.hac_store.proofs.creating.write_head.Goals as goal
 

@@ -1,9 +1,5 @@
-use Rattle.std.proofs.Common.{◌≡◌, ◌∙◌, sym, ap, subst, arith, rules, Err, IfSome}
-use Rattle.hac_journal.specs.Finding.{TellsAt}
-use Rattle.hac_journal.specs.declared.finding.Next.TheVariants.{Entry, End, Bad}
-use Rattle.hac_model.specs.Payloads.{spelled}
-use Rattle.hac_store.specs.Held.{after_payload}
-use Rattle.hac_store.proofs.ReadLemmas.{IsRead, Reads, read-end, read-more, read-short, read-stop}
+use Rattle.std.proofs.Common.{◌≡◌, ◌∙◌, sym, subst, rules, Err}
+use Rattle.hac_store.proofs.ReadLemmas.{Reads, read-end, read-more, read-short, read-stop}
 use Rattle.hac_store.proofs.opening.read_log.Goals as goal
 
 pub returns-in_err-replay-in-Entry-clause-log : goal.returns-in_err-replay-in-Entry-clause-log

@@ -1,4 +1,4 @@
-use Rattle.std.proofs.Common.{◌≡◌, ◌≤◌, ◌-◌, ◌^◌}
+use Rattle.std.proofs.Common.{◌≡◌, ◌-◌, ◌^◌}
 use Rattle.hac_disk.specs.Images.{IsQuiet}
 use Rattle.hac_disk.specs.Told.{StandAt}
 use Rattle.hac_model.specs.Valid.{IsValid}

@@ -1,5 +1,4 @@
-use Rattle.std.proofs.Common.{◌≡◌, ◌∙◌, ap, sym, subst, rules, IfSome, Err}
-use Rattle.std.proofs.lemmas.Result.{err_from_is_err_and}
+use Rattle.std.proofs.Common.{◌≡◌, sym, subst, rules, IfSome, Err}
 use Rattle.hac_store.specs.Faults.{of_root}
 use Rattle.hac_store.specs.Held.{held}
 use Rattle.hac_store.specs.Stores.{Opens}

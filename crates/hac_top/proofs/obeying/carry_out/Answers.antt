@@ -7,7 +7,6 @@ use Rattle.hac_model.specs.Play.{Setting, item_turn}
 use Rattle.hac_model.specs.declared.replies.Reply.{Reply}
 use Rattle.hac_model.specs.declared.states.State.{State}
 use Rattle.hac_model.specs.Lines.{item_taken}
-use Rattle.hac_top.specs.Deciding.{KeepsEvents, OnlyAnswers}
 use Rattle.hac_top.specs.Obeying.{kept_events}
 use Rattle.hac_top.specs.Stops.{is_disk_stop}
 use Rattle.hac_top.proofs.StoringLemmas.{no-disk-stop, stores-nothing, stores-same}

@@ -1,4 +1,4 @@
-use Rattle.std.proofs.Common.{◌≡◌, ◌≤◌, ◌-◌, ◌^◌, length}
+use Rattle.std.proofs.Common.{◌≡◌, ◌-◌, ◌^◌, length}
 use Rattle.hac_disk.specs.Images.{IsQuiet}
 use Rattle.hac_disk.specs.Told.{StandAt}
 use Rattle.hac_journal.specs.Finding.{held_from}

@@ -1,12 +1,6 @@
-use Rattle.std.proofs.Common.{◌≡◌, false, inl, ◌+◌, ◌<◌, ◌∙◌, length, Ok, Err, ap, subst, sym, true}
-use Rattle.hac_disk.specs.Told.{Written}
-use Rattle.hac_journal.specs.Records.{contents_of, log_of}
-use Rattle.hac_journal.specs.declared.fault.JournalFault.TheVariants as fault
-use Rattle.hac_model.specs.Events.{apply_all}
+use Rattle.std.proofs.Common.{◌≡◌, false, inl, ◌∙◌, Err, ap, subst, sym, true}
 use Rattle.hac_model.specs.Laws.{AllHappen}
 use Rattle.hac_model.specs.Valid.{IsValid}
-use Rattle.hac_model.specs.declared.limits.TheConstants.{STORE_LIMIT}
-use Rattle.hac_model.specs.declared.states.State.{State}
 use Rattle.hac_model.proofs.EventLemmas.{all-valid}
 use Rattle.hac_core.specs.Settling.{settled_events}
 use Rattle.hac_store.specs.Stores.{Seen, Stands}
