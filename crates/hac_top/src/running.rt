@@ -73,7 +73,8 @@ pub fn run<S: Source, K: Sink, D: Disk>(
     // The disk is attached once, by the name that the words give.
     ensures attached { IfSome (options (map string_bytes words.now))
         (λ asked. MayAttach (D.attached disk.old) asked (D.attached disk.new)
-        × ((result ≡ Status.DiskFault → ⊥) → AttachesStore (D.attached disk.old) asked (D.attached disk.new))) }
+        × ((result ≡ Status.DiskFault → ⊥) →
+        AttachesStore (D.attached disk.old) asked (D.attached disk.new))) }
 
     // Each fault is reported, and nothing is left unflushed in the sink.
     ensures ends { Ends result (outside (S.seen input.old) (K.seen output.old))
