@@ -158,38 +158,6 @@ no_rest : (xs ys : List ℕ) → xs ++ ys ≡ [] → ys ≡ []
 no_rest [] ys e = e
 no_rest (x ∷ xs) ys e = cc
 
-no_front : (xs ys : List ℕ) → xs ++ ys ≡ [] → xs ≡ []
-no_front [] ys e = refl
-no_front (x ∷ xs) ys e = cc
-
--- bytes that hold no whole line are one line, with those of its bytes that there are
-one-whole : (b : List ℕ) → whole b ≡ [] → is_first_whole b ≡ true → ⊥
-one-whole b none test =
-    let line = first_line b in
-    let xs = take (due (first_line b)) (after_line b) in
-    let cut = bytes-whole b test in
-    let all : whole b ≡ (line ++ 10 ∷ xs) ++ whole (after_item b) =
-    ap (λ (bytes : List ℕ). whole bytes) cut.bytes ∙ whole-line line xs (after_item b) (first_line-is_unended b) cut.asked in
-    let empty : line ++ 10 ∷ xs ≡ [] = no_front (line ++ 10 ∷ xs) (whole (after_item b)) (sym all ∙ none) in
-    absurd (omega (arith, ap length empty, length-append line (10 ∷ xs)))
-
-one-short : (b : List ℕ) (ended enough : Bool) → is_first_ended b ≡ ended → nat_le (due (first_line b)) (length (after_line b)) ≡ enough → (ended && enough) ≡ false → after_item b ≡ []
-one-short b true true ended_is enough_is test = absurd cc
-one-short b true false ended_is enough_is test =
-    let fewer : length (after_line b) < due (first_line b) = grind (arith, common_steps, enough_is) in
-    drop_of_length-le (after_line b) (omega (arith, fewer))
-one-short b false enough ended_is enough_is test =
-    let no_end : length b ≤ position_or_len is_line_end b = grind (arith, common_steps, ended_is) in
-    let none : after_line b ≡ [] = drop_of_length-le b (omega (arith, no_end)) in
-    ap (λ (behind : List ℕ). drop (due (first_line b)) behind) none ∙ drop-nil (due (first_line b))
-
-pub one-line : (b : List ℕ) → whole b ≡ [] → after_item b ≡ []
-one-line b none =
-    elim (is_first_whole b) as (λ t. is_first_whole b ≡ t → after_item b ≡ []) [
-      | true ↦ (λ test. absurd (one-whole b none test))
-      | false ↦ (λ test. one-short b (is_first_ended b) (nat_le (due (first_line b)) (length (after_line b))) refl refl test)
-    ] refl
-
 -- a line with its end alone takes no bytes
 line-alone : (line : List ℕ) → IsUnended line → after_item (line ++ 10 ∷ []) ≡ []
 line-alone line unended =

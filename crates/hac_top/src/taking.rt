@@ -23,21 +23,28 @@ pub struct TakenLine {
 pub fn take_line<S: Source>(reader: &mut Reader, input: &mut S) -> Result<Option<TakenLine>, Stop>
     requires { IsReaderOf reader.old (S.seen input.old) }
 
-    ensures line { IfOk result (λ line. Gives line reader.new.ended (pending reader.old (S.seen input.old).left) (pending reader.new (S.seen input.new).left)) }
+    ensures line { IfOk result (λ line. Gives line reader.new.ended
+        (pending reader.old (S.seen input.old).left) (pending reader.new (S.seen input.new).left)) }
     ensures advances { IfOk result (λ line. Advances line reader.old reader.new) }
 
     // A run that stops here has taken no whole line more, or has no memory for the one that it took.
-    ensures stops { OnErr result (StopsAt (pending reader.old (S.seen input.old).left) (S.seen input.new).left) }
-    ensures read_fault { result ≡ Err Stop.ReadFault → (reader.new.ended ≡ false) × Cuts 0 (pending reader.old (S.seen input.old).left) (S.seen input.new).left }
-    ensures too_long { result ≡ Err Stop.TooLong → (reader.new.ended ≡ false) × (reader.new.taken ≡ SCRIPT_LIMIT + 1)
+    ensures stops { OnErr result (StopsAt (pending reader.old (S.seen input.old).left)
+        (S.seen input.new).left) }
+    ensures read_fault { result ≡ Err Stop.ReadFault →
+        (reader.new.ended ≡ false) × Cuts 0 (pending reader.old (S.seen input.old).left)
+        (S.seen input.new).left }
+    ensures too_long { result ≡ Err Stop.TooLong →
+        (reader.new.ended ≡ false) × (reader.new.taken ≡ SCRIPT_LIMIT + 1)
         × Cuts 1 (pending reader.old (S.seen input.old).left) (S.seen input.new).left }
     ensures answers { result ≡ Err Stop.WriteFault → ⊥ }
     ensures disk { result ≡ Err Stop.DiskFault → ⊥ }
-    ensures faults { TellsFault (is_read_stop result) (S.seen input.old).faults (S.seen input.new).faults }
+    ensures faults { TellsFault (is_read_stop result) (S.seen input.old).faults
+        (S.seen input.new).faults }
 
     ensures source { OnOk result (IsReaderOf reader.new (S.seen input.new)) }
     ensures stays { reader.old.ended ≡ true → reader.new.ended ≡ true }
-    ensures total { SameTotal reader.old.taken (S.seen input.old).left reader.new.taken (S.seen input.new).left }
+    ensures total { SameTotal reader.old.taken (S.seen input.old).left reader.new.taken
+        (S.seen input.new).left }
     ensures limit { reader.new.taken ≤ SCRIPT_LIMIT + 1 }
 {
     match reader.next_line(input)? {
@@ -61,9 +68,12 @@ fn take_due<S: Source>(
     requires source { IsReaderBehind 0 reader.old (S.seen input.old) }
     requires sound { IsReading reader.old }
     requires limit { given reader.old ≤ SCRIPT_LIMIT }
-    ensures given { IfOk result (λ taken. GivesDue due taken reader.old reader.new (S.seen input.old) (S.seen input.new)) }
-    ensures fault { IfErr result (λ fault. FallsShort fault (unwrap_or due 0) reader.old reader.new (S.seen input.old) (S.seen input.new)) }
-    ensures leaves { LeavesReader result reader.old reader.new (S.seen input.old) (S.seen input.new) }
+    ensures given { IfOk result (λ taken. GivesDue due taken reader.old reader.new
+        (S.seen input.old) (S.seen input.new)) }
+    ensures fault { IfErr result (λ fault. FallsShort fault (unwrap_or due 0) reader.old reader.new
+        (S.seen input.old) (S.seen input.new)) }
+    ensures leaves { LeavesReader result reader.old reader.new (S.seen input.old)
+        (S.seen input.new) }
 {
     match due {
         Some(length) => Ok(Some(reader.take_put(input, length)?)),

@@ -1,16 +1,14 @@
 -- A reader that gives the bytes behind a line.
-use Rattle.std.proofs.Common.{◌≡◌, ℕ, ◌+◌, ◌-◌, ◌<◌, ◌≤◌, Bool, true, false, List, [], ◌∷◌, ◌++◌, length, take, drop, refl, ap, sym, ◌∙◌, arith, rules, append_assoc, append-nil, length-append, length-drop, drop-drop, subst, inl, inr, Option, Some, None}
+use Rattle.std.proofs.Common.{◌≡◌, ℕ, ◌+◌, ◌-◌, ◌<◌, ◌≤◌, Bool, true, false, List, [], ◌∷◌, ◌++◌, length, take, drop, refl, ap, sym, ◌∙◌, arith, rules, append_assoc, append-nil, length-append, length-drop, drop-drop, subst, inl, Option, Some, None}
 use Rattle.std.specs.Prelude.{◌⊎◌, nat_le, nat_lt, if◌then◌else◌, min, max, Result, Ok, Err, IfErr, OnErr}
 use Rattle.std.specs.List.{position_or_len}
 use Rattle.std.specs.Io.KnownBytes.{prepend_known, Keeps, Consumes, IsAtEnd}
-use Rattle.std.proofs.Math.ListN.{drop_of_length-le}
 use Rattle.std.proofs.Math.Seq.{take-append_seam, drop-append_seam, drop-nil}
 use Rattle.std.proofs.lemmas.Grind.{common_steps}
 use Rattle.std.proofs.lemmas.List.{length-take-le, take-append-drop}
 use Rattle.hac_model.specs.Bytes.{is_line_end}
 use Rattle.hac_model.specs.Puts.{came}
 use Rattle.hac_model.specs.declared.limits.TheConstants.{SCRIPT_LIMIT, TEXT_LIMIT}
-use Rattle.hac_model.specs.declared.taken.Taken.{Taken}
 use Rattle.hac_model.specs.declared.taken.Taken.TheVariants.{Whole, Dropped, Short}
 use Rattle.hac_model.proofs.PrefixLemmas.{position-skip}
 use Rattle.hac_outside.specs.Known.{Known}
@@ -19,7 +17,7 @@ use Rattle.shell_lang.specs.Reading.{Reading, IsReading, IsReaderBehind, SameTot
 use Rattle.shell_lang.specs.Takes.{Takes, Misses, GivesPut, FallsShort, within}
 use Rattle.shell_lang.specs.declared.reading.LineFault.{LineFault}
 use Rattle.shell_lang.specs.declared.reading.LineFault.TheVariants as why
-use Rattle.shell_lang.proofs.ReaderLemmas.{total_on, reads-on}
+use Rattle.shell_lang.proofs.ReaderLemmas.{total_on}
 
 -- where scanning goes on, after this many bytes were given
 pub scanned-moved : (start scanned count : ℕ) (bytes : List ℕ) → start ≤ scanned → scanned ≤ start + position_or_len is_line_end (drop start bytes) → count ≤ length (drop start bytes) →
@@ -54,11 +52,6 @@ consumes-moved (Some x) (Some y) front held count h =
     h ∙ ap (λ (xs : List ℕ). front ++ (xs ++ y)) (sym (take-append-drop count held)) ∙ ap (λ (xs : List ℕ). front ++ xs) (append_assoc (take count held) (drop count held) y)
     ∙ sym (append_assoc front (take count held) (drop count held ++ y))
 
-consumes-none : (all after : Option (List ℕ)) → Keeps all after → Consumes all after []
-consumes-none None after keeps = search rules
-consumes-none (Some x) None keeps = absurd keeps
-consumes-none (Some x) (Some y) keeps = sym keeps
-
 consumes-kept : (all mid new : Option (List ℕ)) (front : List ℕ) → Consumes all mid front → Keeps mid new → Consumes all new front
 consumes-kept None mid new front h keeps = search rules
 consumes-kept (Some x) None new front h keeps = absurd h
@@ -87,11 +80,6 @@ at-end : (held : List ℕ) (left : Option (List ℕ)) → held ≡ [] → IsAtEn
 at-end held None none end = tt
 at-end held (Some l) none end = ap (λ (xs : List ℕ). xs ++ l) none ∙ end
 
--- where the source has ended, nothing is pending behind what was given
-last-moved : (count : ℕ) (now : Reading) → count ≤ within now → (now.held ≡ []) ⊎ (within now < count) → drop count now.held ≡ []
-last-moved count now enough (inl none) = ap (λ (xs : List ℕ). drop count xs) none ∙ drop-nil count
-last-moved count now enough (inr fewer) = absurd (omega (arith, enough, fewer))
-
 keeps-all : (all : Option (List ℕ)) → Keeps all all
 keeps-all None = search rules
 keeps-all (Some x) = refl
@@ -115,20 +103,6 @@ takes-all ended (Some x) (Some y) asked front h counted last =
       behind = sym (ap (λ (xs : List ℕ). drop asked xs) h ∙ ap (λ (n : ℕ). drop n (front ++ y)) (sym counted) ∙ drop-append_seam front y);
       whole = λ _. omega (arith, ap length h, length-append front y, counted);
       last = last;
-    }
-
--- and where nothing is left, all bytes that there are
-takes-short : (ended : Bool) (old new : Option (List ℕ)) (asked : ℕ) (front : List ℕ) → Consumes old new front → length front < asked → ended ≡ true → IsAtEnd new → Known (Takes Short asked ended) old new
-takes-short ended None new asked front h short over end = tt
-takes-short ended (Some x) None asked front h short over end = absurd h
-takes-short ended (Some x) (Some y) asked front h short over end =
-    let all : x ≡ front = h ∙ ap (λ (xs : List ℕ). front ++ xs) end ∙ append-nil front in
-    let fewer : length x < asked = omega (arith, ap length all, short) in
-    record {
-      taken_is = sym (came-short asked x fewer);
-      behind = end ∙ sym (drop_of_length-le x (omega (arith, fewer)));
-      whole = λ goes. absurd cc;
-      last = λ _. end;
     }
 
 misses : (fault : LineFault) (asked : ℕ) (now : Reading) (old left : Option (List ℕ)) (gone : List ℕ) → Consumes old (prepend_known now.held left) gone → (asked ≤ TEXT_LIMIT → gone ≡ []) → length gone ≤ asked →
@@ -159,70 +133,6 @@ keeps-first asked old before source =
       };
       last = λ e. inl (source.last e);
       near = source.near;
-    }
-
--- more was read
-pub keeps-filled : (asked : ℕ) (old now new : Reading) (before mid after : SourceSeen) → KeepsOn asked old now before mid → within now < asked → now.taken ≤ SCRIPT_LIMIT → IsReading now → IsReading new →
-    ReadsOn now new mid after → length new.held ≤ length now.held + piece_size → (new.ended ≡ true → new.held ≡ now.held) → KeepsOn asked old new before after
-keeps-filled asked old now new before mid after was fewer room sound new_sound reads near end =
-    record {
-      reads = reads-on old now new before mid after was.reads reads;
-      last = λ e.
-          let same : length new.held ≡ length now.held = ap length (end e) in
-          inr (omega (arith, fewer, room, same, reads.given, new_sound.kept, sound.kept));
-      near = omega (arith, near, fewer, room);
-    }
-
--- all that is asked for is held, and given
-pub keeps-gives : (asked : ℕ) (old now new : Reading) (before after : SourceSeen) (taken : Taken) → KeepsOn asked old now before after → IsReading now → asked ≤ within now → asked ≤ TEXT_LIMIT →
-    taken ≡ Whole (take asked now.held) → new ≡ record now { held = drop asked now.held } → GivesPut taken asked old new before after
-keeps-gives asked old now new before after taken was sound enough few taken_is new_is =
-    let all = prepend_known old.held before.left in
-    let rest = prepend_known (drop asked now.held) after.left in
-    let count : length (take asked now.held) ≡ asked = length-take-le asked now.held (omega (arith, enough)) in
-    let fits : nat_le asked TEXT_LIMIT ≡ true = grind (arith, common_steps, few) in
-    let none : now.ended ≡ true → drop asked now.held ≡ [] = λ e. last-moved asked now enough (was.last e) in
-    let consumed : Consumes (prepend_known old.held before.left) (prepend_known (drop asked now.held) after.left) (take asked now.held) =
-    consumes-moved all after.left [] now.held asked (consumes-none all (prepend_known now.held after.left) was.reads.pending) in
-    let takes : Known (Takes (Whole (take asked now.held)) asked now.ended) (prepend_known old.held before.left) (prepend_known (drop asked now.held) after.left) =
-    subst (λ (b : Bool). Known (Takes (if b then Whole (take asked now.held) else Dropped) asked now.ended) (prepend_known old.held before.left) (prepend_known (drop asked now.held) after.left)) fits
-    (takes-all now.ended all rest asked (take asked now.held) consumed count (λ e. at-end (drop asked now.held) after.left (none e) (was.reads.nothing e))) in
-    subst (λ (t : Taken). GivesPut t asked old new before after) (sym taken_is)
-    (subst (λ (r : Reading). GivesPut (Whole (take asked now.held)) asked old r before after) (sym new_is) (record {
-      bytes = takes;
-      kept = (count, few);
-      short = λ e. cc;
-      further = omega (arith, was.reads.given, sound.kept, length-drop asked now.held);
-      limit = omega (arith, enough, sound.kept, sound.given, length-drop asked now.held);
-      source = record { ended = was.reads.ended; nothing = was.reads.nothing; last = none; near = omega (arith, was.near, enough, length-drop asked now.held) };
-    }))
-
--- the source has ended, and all that there is was given
-pub keeps-short : (asked : ℕ) (old now new : Reading) (before after : SourceSeen) → KeepsOn asked old now before after → IsReading now → within now < asked → now.taken ≤ SCRIPT_LIMIT → now.ended ≡ true →
-    new ≡ record now { held = drop (within now) now.held } → GivesPut Short asked old new before after
-keeps-short asked old now new before after was sound fewer room ended new_is =
-    let all = prepend_known old.held before.left in
-    let rest = prepend_known (drop (within now) now.held) after.left in
-    let none : drop (within now) now.held ≡ [] = drop_of_length-le now.held (omega (arith, room)) in
-    let consumed : Consumes (prepend_known old.held before.left) (prepend_known (drop (within now) now.held) after.left) (take (within now) now.held) =
-    consumes-moved all after.left [] now.held (within now) (consumes-none all (prepend_known now.held after.left) was.reads.pending) in
-    let part : length (take (within now) now.held) ≡ within now = length-take-le (within now) now.held (omega arith) in
-    subst (λ (r : Reading). GivesPut Short asked old r before after) (sym new_is) (record {
-      bytes = takes-short now.ended all rest asked (take (within now) now.held) consumed (omega (arith, part, fewer)) ended (at-end (drop (within now) now.held) after.left none (was.reads.nothing ended));
-      kept = omega (arith, fewer);
-      short = λ _. ended;
-      further = omega (arith, was.reads.given, sound.kept, length-drop (within now) now.held);
-      limit = omega (arith, room);
-      source = record { ended = was.reads.ended; nothing = was.reads.nothing; last = λ _. none; near = omega (arith, ap length none) };
-    })
-
--- a fault came, and nothing is lost
-pub keeps-falls : (fault : LineFault) (asked : ℕ) (old now : Reading) (before after : SourceSeen) → KeepsOn asked old now before after → (now.ended ≡ true → now.held ≡ []) →
-    ((fault ≡ why.Memory → ⊥) → within now < asked) → FallsShort fault asked old now before after
-keeps-falls fault asked old now before after was last missing =
-    record {
-      bytes = misses fault asked now (prepend_known old.held before.left) after.left [] (consumes-none (prepend_known old.held before.left) (prepend_known now.held after.left) was.reads.pending) (λ _. refl) (omega arith) (omega (arith, was.near)) (λ m. omega (arith, missing m));
-      source = record { ended = was.reads.ended; nothing = was.reads.nothing; last = last; near = was.near };
     }
 
 -- of bytes that a text may not have some came, which are gone, and so many are still due
@@ -314,18 +224,6 @@ drops-all asked due old now before after was sound none many =
       further = omega (arith, was.given);
       limit = omega (arith, sound.kept, sound.given);
       source = record { ended = was.source.ended; nothing = was.source.nothing; last = was.source.last; near = omega (arith, was.source.near, none) };
-    }
-
--- the source has ended before
-pub drops-short : (asked due : ℕ) (old now : Reading) (before after : SourceSeen) → DropsOn asked due old now before after → IsReading now → 0 < due → now.held ≡ [] → now.ended ≡ true → GivesPut Short asked old now before after
-drops-short asked due old now before after was sound more none ended =
-    record {
-      bytes = takes-short now.ended (prepend_known old.held before.left) (prepend_known now.held after.left) asked was.gone was.bytes (omega (arith, was.counted, more)) ended (at-end now.held after.left none (was.source.nothing ended));
-      kept = omega (arith, was.counted, more);
-      short = λ _. ended;
-      further = omega (arith, was.given);
-      limit = omega (arith, sound.ended ended, ap length none);
-      source = record { ended = was.source.ended; nothing = was.source.nothing; last = was.source.last; near = omega (arith, ap length none) };
     }
 
 -- a fault came, and what came is gone

@@ -119,18 +119,23 @@ impl Reader {
         // A reader is given the source that it began with.
         requires { IsReaderOf self.old (S.seen source.old) }
 
-        ensures piece { IfOk result (λ piece. Known (GivesPiece piece self.new.ended) (pending self.old (S.seen source.old).left) (pending self.new (S.seen source.new).left)) }
+        ensures piece { IfOk result (λ piece. Known (GivesPiece piece self.new.ended)
+            (pending self.old (S.seen source.old).left)
+            (pending self.new (S.seen source.new).left)) }
         ensures advances { IfOk result (λ piece. PieceAdvances piece self.old self.new) }
 
         // After a fault the reader still holds what it took.
-        ensures err { OnErr result (Keeps (pending self.old (S.seen source.old).left) (pending self.new (S.seen source.new).left)) }
+        ensures err { OnErr result (Keeps (pending self.old (S.seen source.old).left)
+            (pending self.new (S.seen source.new).left)) }
         ensures past { IsErrOf result LineFault.TooLong → IsPastLimit self.new }
 
         // A line that is held is given without a read, so a fault of reading comes only if none is.
         ensures unended { IsErrOf result LineFault.Read → IsUnended self.new.held }
         ensures unread { is_first_ended self.old.held ≡ true → source.new ≡ source.old }
-        ensures source { MatchResult result (λ _. IsReaderBehind 0 self.new (S.seen source.new)) (λ _. IsReaderOf self.new (S.seen source.new)) }
-        ensures leaves { LeavesReader result self.old self.new (S.seen source.old) (S.seen source.new) }
+        ensures source { MatchResult result (λ _. IsReaderBehind 0 self.new (S.seen source.new))
+            (λ _. IsReaderOf self.new (S.seen source.new)) }
+        ensures leaves { LeavesReader result self.old self.new (S.seen source.old)
+            (S.seen source.new) }
     {
         match self.find_line(source)? {
             Found::Ended(end) => self.give(end, end + 1),
@@ -147,9 +152,11 @@ impl Reader {
         ensures reads { ReadsOn self.old self.new (S.seen source.old) (S.seen source.new) }
         ensures source { IsReaderOf self.new (S.seen source.new) }
         ensures unread { is_first_ended self.old.held ≡ true → source.new ≡ source.old }
-        ensures unended { OnErr result ((self.new.ended ≡ false) × (self.new.taken ≤ SCRIPT_LIMIT) × IsUnended self.new.held) }
+        ensures unended { OnErr result
+            ((self.new.ended ≡ false) × (self.new.taken ≤ SCRIPT_LIMIT) × IsUnended self.new.held) }
         ensures not_long { IsErrOf result LineFault.TooLong → ⊥ }
-        ensures faults { TellsFault (is_read_fault result) (S.seen source.old).faults (S.seen source.new).faults }
+        ensures faults { TellsFault (is_read_fault result) (S.seen source.old).faults
+            (S.seen source.new).faults }
     {
         loop {
             if let Some(found) = self.look() {
@@ -172,7 +179,8 @@ impl Reader {
     fn look(&self) -> Option<Found>
         ensures sound { IsReading self.now }
         ensures found { IfSome result (λ found. IsLineFound found self.now) }
-        ensures none { IfNone result ((self.now.ended ≡ false) × (self.now.taken ≤ SCRIPT_LIMIT) × IsUnended self.now.held) }
+        ensures none { IfNone result
+            ((self.now.ended ≡ false) × (self.now.taken ≤ SCRIPT_LIMIT) × IsUnended self.now.held) }
     {
         match line_end(self.held(), self.scanned - self.start) {
             Some(end) => Some(self.found_at(end)),
@@ -208,7 +216,8 @@ impl Reader {
         requires source { (S.seen source.old).ended ≡ false }
         requires open { self.old.ended ≡ false }
         requires room { self.old.taken ≤ SCRIPT_LIMIT }
-        requires few { length self.old.held ≤ max (position_or_len is_line_end self.old.held) TEXT_LIMIT }
+        requires few { length self.old.held ≤ max (position_or_len is_line_end self.old.held)
+            TEXT_LIMIT }
         ensures reads { ReadsOn self.old self.new (S.seen source.old) (S.seen source.new) }
         ensures ok { OnOk result ((self.new.ended ≡ true) ⊎ (self.old.taken < self.new.taken)) }
         ensures err { OnErr result (self.new ≡ self.old) }
@@ -216,7 +225,8 @@ impl Reader {
         ensures sound { IsReading self.new }
         ensures near { length self.new.held ≤ length self.old.held + piece_size }
         ensures end { self.new.ended ≡ true → self.new.held ≡ self.old.held }
-        ensures faults { TellsFault (is_read_fault result) (S.seen source.old).faults (S.seen source.new).faults }
+        ensures faults { TellsFault (is_read_fault result) (S.seen source.old).faults
+            (S.seen source.new).faults }
     {
         drop_front(&mut self.bytes, self.start);
         self.scanned -= self.start;
@@ -254,7 +264,8 @@ impl Reader {
     fn give_last(&mut self) -> Result<Piece, LineFault>
         requires { self.old.ended ≡ true }
         ensures none { self.old.held ≡ [] → (result ≡ Ok Piece.End) × (self.new ≡ self.old) }
-        ensures piece { 0 < length self.old.held → IfOk result (λ piece. piece ≡ piece_of self.old.held) }
+        ensures piece { 0 < length self.old.held →
+            IfOk result (λ piece. piece ≡ piece_of self.old.held) }
         ensures ok { OnOk result (self.new ≡ record self.old { held = [] }) }
         ensures err { OnErr result (self.new ≡ self.old) }
         ensures memory { OnErr result (IsErrOf result LineFault.Memory) }
@@ -287,11 +298,14 @@ fn read_onto<S: Source>(
     requires open { (S.seen source.old).ended ≡ false }
     requires some { 0 < most }
     requires most { most ≤ piece_size }
-    ensures ok { IfOk result (λ count. ReadsPiece bytes.old.items bytes.new.items (S.seen source.old) (S.seen source.new) count most) }
-    ensures err { OnErr result ((bytes.new.items ≡ bytes.old.items) × Keeps (S.seen source.old).left (S.seen source.new).left) }
+    ensures ok { IfOk result (λ count. ReadsPiece bytes.old.items bytes.new.items
+        (S.seen source.old) (S.seen source.new) count most) }
+    ensures err { OnErr result ((bytes.new.items ≡ bytes.old.items)
+        × Keeps (S.seen source.old).left (S.seen source.new).left) }
     ensures open { OnErr result ((S.seen source.new).ended ≡ false) }
     ensures not_long { IsErrOf result LineFault.TooLong → ⊥ }
-    ensures faults { TellsFault (is_read_fault result) (S.seen source.old).faults (S.seen source.new).faults }
+    ensures faults { TellsFault (is_read_fault result) (S.seen source.old).faults
+        (S.seen source.new).faults }
 {
     bytes.reserve(PIECE)?;
     let mut piece = [0u8; PIECE];

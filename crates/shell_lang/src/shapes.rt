@@ -21,7 +21,8 @@ pub fn one_path<F: FnOnce(PathWord) -> Command>(
     command: F,
 ) -> Result<Command, Deny>
     requires { F.IsAlwaysCallable command }
-    ensures { (spelled : PathWord → Command) → ((path : PathWord) (made : Command) → F.post command path made → made ≡ spelled path)
+    ensures { (spelled : PathWord → Command) → ((path : PathWord) (made : Command) →
+        F.post command path made → made ≡ spelled path)
         → Answers result (one_path spelled arguments.now) }
 {
     let path = only_path(alloc, arguments)?;
@@ -36,7 +37,9 @@ pub fn of_two_paths<F: FnOnce(PathWord, PathWord) -> Command>(
     command: F,
 ) -> Result<Command, Deny>
     requires { F.IsAlwaysCallable command }
-    ensures { (spelled : PathWord → PathWord → Command) → ((first second : PathWord) (made : Command) → F.post command first second made → made ≡ spelled first second)
+    ensures { (spelled : PathWord → PathWord → Command) →
+        ((first second : PathWord) (made : Command) → F.post command first second made →
+        made ≡ spelled first second)
         → Answers result (of_two_paths spelled arguments.now) }
 {
     let (first, rest) = split_word(alloc, arguments)?;
@@ -53,7 +56,9 @@ pub fn path_and_query<F: FnOnce(PathWord, RawQuery) -> Command>(
     command: F,
 ) -> Result<Command, Deny>
     requires { F.IsAlwaysCallable command }
-    ensures { (spelled : PathWord → Formula PathWord → Command) → ((path : PathWord) (query : Formula PathWord) (made : Command) → F.post command path query made → made ≡ spelled path query)
+    ensures { (spelled : PathWord → Formula PathWord → Command) →
+        ((path : PathWord) (query : Formula PathWord) (made : Command) →
+        F.post command path query made → made ≡ spelled path query)
         → Answers result (path_and_query spelled arguments.now) }
 {
     let (word, rest) = split_word(alloc, arguments)?;

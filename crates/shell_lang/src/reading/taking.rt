@@ -15,14 +15,17 @@ impl Reader {
         // The line that asks for the bytes was given, or a fault came and they are asked for again.
         requires { IsReaderBehind asked self.old (S.seen source.old) }
 
-        ensures given { IfOk result (λ taken. GivesPut taken asked self.old self.new (S.seen source.old) (S.seen source.new)) }
+        ensures given { IfOk result (λ taken. GivesPut taken asked self.old self.new
+            (S.seen source.old) (S.seen source.new)) }
 
         // A fault loses no byte that a text may have.
-        ensures fault { IfErr result (λ fault. FallsShort fault asked self.old self.new (S.seen source.old) (S.seen source.new)) }
+        ensures fault { IfErr result (λ fault. FallsShort fault asked self.old self.new
+            (S.seen source.old) (S.seen source.new)) }
 
         // Bytes that are held are given without a read, so a fault comes only where some are missing.
         ensures unread { asked ≤ within self.old → source.new ≡ source.old }
-        ensures leaves { LeavesReader result self.old self.new (S.seen source.old) (S.seen source.new) }
+        ensures leaves { LeavesReader result self.old self.new (S.seen source.old)
+            (S.seen source.new) }
     {
         if asked > TEXT_LIMIT {
             self.drop_put(source, asked)
@@ -35,10 +38,13 @@ impl Reader {
     fn keep_put<S: Source>(&mut self, source: &mut S, asked: u64) -> Result<Taken, LineFault>
         requires source { IsReaderBehind asked self.old (S.seen source.old) }
         requires few { asked ≤ TEXT_LIMIT }
-        ensures given { IfOk result (λ taken. GivesPut taken asked self.old self.new (S.seen source.old) (S.seen source.new)) }
-        ensures fault { IfErr result (λ fault. FallsShort fault asked self.old self.new (S.seen source.old) (S.seen source.new)) }
+        ensures given { IfOk result (λ taken. GivesPut taken asked self.old self.new
+            (S.seen source.old) (S.seen source.new)) }
+        ensures fault { IfErr result (λ fault. FallsShort fault asked self.old self.new
+            (S.seen source.old) (S.seen source.new)) }
         ensures unread { asked ≤ within self.old → source.new ≡ source.old }
-        ensures leaves { LeavesReader result self.old self.new (S.seen source.old) (S.seen source.new) }
+        ensures leaves { LeavesReader result self.old self.new (S.seen source.old)
+            (S.seen source.new) }
     {
         'bytes: loop {
             if asked <= self.within() as u64 {
@@ -56,10 +62,13 @@ impl Reader {
     fn drop_put<S: Source>(&mut self, source: &mut S, asked: u64) -> Result<Taken, LineFault>
         requires source { IsReaderBehind asked self.old (S.seen source.old) }
         requires many { TEXT_LIMIT < asked }
-        ensures given { IfOk result (λ taken. GivesPut taken asked self.old self.new (S.seen source.old) (S.seen source.new)) }
-        ensures fault { IfErr result (λ fault. FallsShort fault asked self.old self.new (S.seen source.old) (S.seen source.new)) }
+        ensures given { IfOk result (λ taken. GivesPut taken asked self.old self.new
+            (S.seen source.old) (S.seen source.new)) }
+        ensures fault { IfErr result (λ fault. FallsShort fault asked self.old self.new
+            (S.seen source.old) (S.seen source.new)) }
         ensures unread { asked ≤ within self.old → source.new ≡ source.old }
-        ensures leaves { LeavesReader result self.old self.new (S.seen source.old) (S.seen source.new) }
+        ensures leaves { LeavesReader result self.old self.new (S.seen source.old)
+            (S.seen source.new) }
     {
         let mut due = asked;
         'bytes: loop {
@@ -86,7 +95,8 @@ impl Reader {
     fn has_ended(&self) -> Result<bool, LineFault>
         ensures ended { IfOk result (λ ended. ended ≡ self.now.ended) }
         ensures room { OnOk result (self.now.taken ≤ SCRIPT_LIMIT) }
-        ensures past { OnErr result (IsErrOf result LineFault.TooLong × (self.now.ended ≡ false) × (self.now.taken ≡ SCRIPT_LIMIT + 1)) }
+        ensures past { OnErr result (IsErrOf result
+            LineFault.TooLong × (self.now.ended ≡ false) × (self.now.taken ≡ SCRIPT_LIMIT + 1)) }
     {
         if self.taken > SCRIPT_LIMIT {
             return Err(LineFault::TooLong);
