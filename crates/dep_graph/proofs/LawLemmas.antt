@@ -2,7 +2,7 @@
 use Rattle.std.proofs.Common.{◌≡◌, ℕ, zero, suc, ◌+◌, Bool, true, false, cond, List, subst, refl, sym, arith, eq-eqb, inl, inr}
 use Rattle.std.specs.Prelude.{◌⊎◌, ◌==◌}
 use Rattle.std.proofs.lemmas.Bool.{eqb-true}
-use Rattle.hac_model.specs.Depends.{Among, Leads, Reaches}
+use Rattle.hac_model.specs.Tree.Depends.{Among, Leads, Reaches}
 use Rattle.dep_graph.specs.Graphs.{replaced}
 use Rattle.dep_graph.specs.Laws.{NewEdgesKeepOff, NewEdgesReturn}
 

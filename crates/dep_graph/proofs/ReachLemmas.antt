@@ -2,7 +2,7 @@
 use Rattle.std.proofs.Common.{◌≡◌, ℕ, zero, suc, Bool, true, false, cond, List, [], ◌∷◌, ◌++◌, subst, refl, sym, ◌∙◌, inl, inr}
 use Rattle.std.specs.Prelude.{◌⊎◌, nat_eq, not}
 use Rattle.std.proofs.lemmas.Bool.{eqb-true}
-use Rattle.hac_model.specs.Depends.{Among, Leads, Reaches}
+use Rattle.hac_model.specs.Tree.Depends.{Among, Leads, Reaches}
 use Rattle.hac_model.proofs.AmongLemmas.{among-append, among-left, among-right}
 use Rattle.dep_graph.specs.Passed.{KeepsAway}
 use Rattle.dep_graph.specs.Steps.{Marks}

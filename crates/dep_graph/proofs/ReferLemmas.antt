@@ -6,7 +6,7 @@ use Rattle.std.specs.Map.{keys_of}
 use Rattle.std.specs.declared.alloc.Global.{Global}
 use Rattle.std.proofs.lemmas.Bool.{eqb-true}
 use Rattle.std.proofs.lemmas.List.{append-nil}
-use Rattle.hac_model.specs.Depends.{Among}
+use Rattle.hac_model.specs.Tree.Depends.{Among}
 use Rattle.dep_graph.specs.Graphs.{edges_at}
 use Rattle.dep_graph.specs.Searches.{EachOnce}
 

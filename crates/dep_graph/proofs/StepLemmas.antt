@@ -1,7 +1,7 @@
 -- A search by steps, each number left behind all to which it leads.
 use Rattle.std.proofs.Common.{◌≡◌, ◌≢◌, ℕ, zero, suc, ◌+◌, ◌≤◌, Bool, true, false, List, [], ◌∷◌, ◌++◌, length, subst, refl, ap, sym, ◌∙◌, arith, inl, inr}
 use Rattle.std.specs.Prelude.{◌⊎◌}
-use Rattle.hac_model.specs.Depends.{Among, Leads, NeverReturns}
+use Rattle.hac_model.specs.Tree.Depends.{Among, Leads, NeverReturns}
 use Rattle.hac_model.proofs.AmongLemmas.{among-append, among-left, among-right}
 use Rattle.dep_graph.specs.Graphs.{edges_at}
 use Rattle.dep_graph.specs.Searches.{AnyReaches, AreSources, IsOrdered}

@@ -1,6 +1,6 @@
 -- What holds after the edges of one directory are replaced, whatever the edges are.
 use Rattle.std.specs.Prelude.{ℕ, suc, List}
-use Rattle.hac_model.specs.Depends.{Among, Leads, Reaches, NeverReturns}
+use Rattle.hac_model.specs.Tree.Depends.{Among, Leads, Reaches, NeverReturns}
 use Rattle.dep_graph.specs.Graphs.{replaced}
 
 -- no number is reached from itself, if none was before and no new edge reaches the directory over the old edges

@@ -1,6 +1,6 @@
 -- What is looked for over edges, given where each number leads.
 use Rattle.std.specs.Prelude.{◌≡◌, ◌≢◌, ◌⊎◌, ℕ, List, [], ◌∷◌, Option, Some, None}
-use Rattle.hac_model.specs.Depends.{Among, Reaches}
+use Rattle.hac_model.specs.Tree.Depends.{Among, Reaches}
 
 -- the first of the numbers that reaches the other, none where none does
 abbrev pub IsFirstToReach : (ℕ → List ℕ) → ℕ → List ℕ → Option ℕ → Type 0

@@ -1,6 +1,6 @@
 //! Whether new edges would let a directory depend on itself.
 ghost use Rattle.std.specs.Prelude.{◌≡◌, true, false, nat_eq, IfOk};
-ghost use Rattle.hac_model.specs.Depends.{Reaches};
+ghost use Rattle.hac_model.specs.Tree.Depends.{Reaches};
 ghost use Rattle.indexmap.specs.IndexSet.{contains};
 ghost use Rattle.dep_graph.specs.Graphs.{edges_of};
 ghost use Rattle.dep_graph.specs.Searches.{IsFirstToReach};

@@ -1,7 +1,7 @@
 //! Which directories name a directory in their queries.
 ghost use Rattle.std.specs.Prelude.{◌≡◌, ◌↔◌, ℕ, nat_eq, drop, IfOk};
 ghost use Rattle.std.specs.List.{list_any};
-ghost use Rattle.hac_model.specs.Depends.{Among};
+ghost use Rattle.hac_model.specs.Tree.Depends.{Among};
 ghost use Rattle.dep_graph.specs.Graphs.{named_by};
 ghost use Rattle.dep_graph.specs.Searches.{EachOnce};
 

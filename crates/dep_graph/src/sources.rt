@@ -1,6 +1,6 @@
 //! What directories depend on, in an order in which each can be looked at once.
 ghost use Rattle.std.specs.Prelude.{◌≡◌, nat_eq, IfOk, OnOk};
-ghost use Rattle.hac_model.specs.Depends.{NeverReturns};
+ghost use Rattle.hac_model.specs.Tree.Depends.{NeverReturns};
 ghost use Rattle.indexmap.specs.IndexSet.{contains};
 ghost use Rattle.dep_graph.specs.Graphs.{edges_of};
 ghost use Rattle.dep_graph.specs.Searches.{AreSources};

@@ -4,8 +4,8 @@ use Rattle.std.specs.Int.{Width, w8, w16, w32, byte_len, from_le_bytes, to_le_by
 use Rattle.std.proofs.lemmas.Bool.{cases_lt, ltb-true, ltb-false, lt-ltb, le-ltb, leb-true, le-leb, eqb-true, and_parts, and_from}
 use Rattle.std.proofs.lemmas.List.{take_at, drop_at, take-append-drop, length-append, length-take, length-drop, get_or-drop, get_or-take, get_or_past}
 use Rattle.std.proofs.lemmas.Nat.{le_bytes_2, le_bytes_4, from_le_bytes-to_le_bytes_2, from_le_bytes-to_le_bytes_4}
-use Rattle.hac_model.specs.Answers.{◌>>=◌}
-use Rattle.hac_model.specs.Fields.{Field, number_at, number, run_at, run, nothing, ◌&◌, checked, items_at, items_fit, items_text, list, Part, part, Way, failing_at, way, whole_way, way_at, choice_at, choice}
+use Rattle.hac_model.specs.Run.Answers.{◌>>=◌}
+use Rattle.hac_model.specs.Payload.Fields.{Field, number_at, number, run_at, run, nothing, ◌&◌, checked, items_at, items_fit, items_text, list, Part, part, Way, failing_at, way, whole_way, way_at, choice_at, choice}
 use Rattle.event_codec.specs.Laws.{AreBytes}
 
 AreBytes-drop : (n : ℕ) (bytes : List ℕ) → AreBytes bytes → AreBytes (drop n bytes)

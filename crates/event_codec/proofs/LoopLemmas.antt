@@ -4,8 +4,8 @@ use Rattle.std.specs.List.{slice_get}
 use Rattle.std.proofs.lemmas.Bool.{and_parts}
 use Rattle.std.proofs.lemmas.List.{append-nil, length-append, take_more}
 use Rattle.std.proofs.Math.Seq.{drop-cons}
-use Rattle.hac_model.specs.Answers.{◌>>=◌}
-use Rattle.hac_model.specs.Fields.{Field, items_at, items_fit, items_text}
+use Rattle.hac_model.specs.Run.Answers.{◌>>=◌}
+use Rattle.hac_model.specs.Payload.Fields.{Field, items_at, items_fit, items_text}
 use Rattle.event_codec.specs.declared.faults.Fault.{Fault}
 use Rattle.event_codec.specs.declared.faults.Fault.TheVariants as fault
 use Rattle.event_codec.specs.Reading.{Fails}

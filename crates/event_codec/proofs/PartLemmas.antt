@@ -2,9 +2,9 @@
 use Rattle.std.proofs.Common.{◌≡◌, ℕ, zero, suc, ◌+◌, ◌-◌, ◌<◌, ◌≤◌, List, [], ◌∷◌, ◌++◌, length, Some, None, Result, Ok, Err, refl, sym, ap, ◌∙◌, append_assoc, arith}
 use Rattle.std.specs.Prelude.{map}
 use Rattle.std.proofs.lemmas.List.{append-nil}
-use Rattle.hac_model.specs.Answers.{◌>>=◌}
-use Rattle.hac_model.specs.Formula.{Formula}
-use Rattle.hac_model.specs.QueryFields.{Room, Token, built, put, room_after, token_at, tokens_at}
+use Rattle.hac_model.specs.Run.Answers.{◌>>=◌}
+use Rattle.hac_model.specs.Query.Formula.{Formula}
+use Rattle.hac_model.specs.Payload.QueryFields.{Room, Token, built, put, room_after, token_at, tokens_at}
 use Rattle.event_codec.specs.declared.faults.Fault.{Fault}
 use Rattle.event_codec.specs.declared.faults.Fault.TheVariants as fault
 use Rattle.event_codec.specs.Reading.{Fails}

@@ -3,12 +3,12 @@ use Rattle.std.proofs.Common.{◌≡◌, ℕ, true, eqb, nat_lt, nat_le, List, [
 use Rattle.std.specs.Int.{w8, w16, w32}
 use Rattle.std.proofs.lemmas.Bool.{eqb-true}
 use Rattle.std.proofs.lemmas.List.{append-nil, nil_from_length}
-use Rattle.hac_model.specs.Fields.{Field, num, nothing, ◌&◌, checked, part, way, way_at, choice_at}
-use Rattle.hac_model.specs.Names.{is_name}
-use Rattle.hac_model.specs.Listing.{is_before}
-use Rattle.hac_model.specs.Payloads.{name_field, space_field, text_field, target_field, docs_field, told_field, mark_field, nums, is_any, is_path_word, rises, mark_part, mark_ways, event_part, event_ways, event_field, payload_field, is_spellable, event_text, all_of, placed, spelled}
-use Rattle.hac_model.specs.QueryFields.{query_field}
-use Rattle.hac_model.specs.SpaceNames.{is_space_name}
+use Rattle.hac_model.specs.Payload.Fields.{Field, num, nothing, ◌&◌, checked, part, way, way_at, choice_at}
+use Rattle.hac_model.specs.Tree.Names.{is_name}
+use Rattle.hac_model.specs.Tree.Listing.{is_before}
+use Rattle.hac_model.specs.Payload.Payloads.{name_field, space_field, text_field, target_field, docs_field, told_field, mark_field, nums, is_any, is_path_word, rises, mark_part, mark_ways, event_part, event_ways, event_field, payload_field, is_spellable, event_text, all_of, placed, spelled}
+use Rattle.hac_model.specs.Payload.QueryFields.{query_field}
+use Rattle.hac_model.specs.Script.SpaceNames.{is_space_name}
 use Rattle.hac_model.specs.declared.events.Event.{Event}
 use Rattle.hac_model.specs.declared.events.Event.TheVariants.{Mkdir, NewFile, Rewrite, Ln, Mv, Rm, Rmdir, Smkdir, Setq, Unq, Mark, Smount, Ssync, Sumount, Step, Cd}
 use Rattle.hac_model.specs.declared.limits.TheConstants.{NAME_LIMIT, TEXT_LIMIT}

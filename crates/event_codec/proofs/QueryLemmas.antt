@@ -4,14 +4,14 @@ use Rattle.std.specs.Int.{w16, w32}
 use Rattle.std.specs.Option.{ok_or}
 use Rattle.std.proofs.lemmas.Bool.{leb-true, le-leb, and_parts, and_from}
 use Rattle.std.proofs.lemmas.List.{append-nil, length-append}
-use Rattle.hac_model.specs.Answers.{◌>>=◌}
-use Rattle.hac_model.specs.Fields.{num, nothing, way_at, choice_at}
-use Rattle.hac_model.specs.Formula.{Formula}
-use Rattle.hac_model.specs.Formula as query
-use Rattle.hac_model.specs.Queries.{all_leaves, are_terms, is_query, term_size, term_count, letter_count, not_count}
-use Rattle.hac_model.specs.QueryFields.{Token, word_field, token_part, token_ways, token_field, are_nums, query_bytes, Room, room_after, is_barred, token_at, tokens_at, joined, put, built, first_built, query_read, query_fits, query_field}
-use Rattle.hac_model.specs.QueryFields as token
-use Rattle.hac_model.specs.Words.{is_word}
+use Rattle.hac_model.specs.Run.Answers.{◌>>=◌}
+use Rattle.hac_model.specs.Payload.Fields.{num, nothing, way_at, choice_at}
+use Rattle.hac_model.specs.Query.Formula.{Formula}
+use Rattle.hac_model.specs.Query.Formula as query
+use Rattle.hac_model.specs.Query.Queries.{all_leaves, are_terms, is_query, term_size, term_count, letter_count, not_count}
+use Rattle.hac_model.specs.Payload.QueryFields.{Token, word_field, token_part, token_ways, token_field, are_nums, query_bytes, Room, room_after, is_barred, token_at, tokens_at, joined, put, built, first_built, query_read, query_fits, query_field}
+use Rattle.hac_model.specs.Payload.QueryFields as token
+use Rattle.hac_model.specs.Query.Words.{is_word}
 use Rattle.hac_model.specs.declared.limits.TheConstants.{NESTING_LIMIT, QUERY_LIMIT, TERMS_LIMIT}
 use Rattle.hac_model.specs.declared.terms.Term as asked
 use Rattle.hac_model.specs.declared.terms.Term.TheVariants.{Word, Prefix}

@@ -1,6 +1,6 @@
 -- Theorems over the definitions of hac_model, each proved as the contract of a function of the module `laws`.
 use Rattle.std.specs.Prelude.{◌≡◌, ℕ, ◌<◌, List, slice_index, IsTrue, Ok}
-use Rattle.hac_model.specs.Payloads.{event_text, is_spellable, spelled}
+use Rattle.hac_model.specs.Payload.Payloads.{event_text, is_spellable, spelled}
 use Rattle.hac_model.specs.declared.events.Event.{Event}
 
 -- the numbers are bytes

@@ -1,7 +1,7 @@
 -- What calls answer that read a part of a payload.
 use Rattle.std.specs.Prelude.{◌≡◌, ⊤, ℕ, ◌+◌, ◌&&◌, if◌then◌else◌, nat_le, List, length, take, drop, Option, None, Some, Result, Ok, Err, IsTrue}
 use Rattle.std.specs.Int.{Width, byte_len, from_le_bytes}
-use Rattle.hac_model.specs.Payloads.{is_spellable}
+use Rattle.hac_model.specs.Payload.Payloads.{is_spellable}
 use Rattle.hac_model.specs.declared.events.Event.{Event}
 use Rattle.event_codec.specs.declared.faults.Fault.{Fault}
 use Rattle.event_codec.specs.declared.faults.Fault.TheVariants as fault

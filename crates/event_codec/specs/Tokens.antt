@@ -1,8 +1,8 @@
 -- Parts of queries and room for them, as the code holds them.
 use Rattle.std.specs.Prelude.{◌≡◌, ℕ, Bool, if◌then◌else◌, List, ◌∷◌, map, Option, Some, None}
-use Rattle.hac_model.specs.Formula.{Formula}
-use Rattle.hac_model.specs.QueryFields as query
-use Rattle.hac_model.specs.QueryFields.{room_after}
+use Rattle.hac_model.specs.Query.Formula.{Formula}
+use Rattle.hac_model.specs.Payload.QueryFields as query
+use Rattle.hac_model.specs.Payload.QueryFields.{room_after}
 use Rattle.event_codec.specs.declared.queries.Token.{Token}
 use Rattle.event_codec.specs.declared.queries.Token.TheVariants.{Term, Dir, Not, And, Or}
 use Rattle.event_codec.specs.declared.rooms.Room.{Room}

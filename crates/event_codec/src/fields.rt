@@ -3,10 +3,10 @@ ghost use Rattle.std.specs.Prelude.{◌≡◌, ◌≤◌, ◌+◌, ◌&&◌, if�
 ghost use Rattle.std.specs.Int.{w8, w16, w32};
 ghost use Rattle.std.specs.List.{list_all};
 ghost use Rattle.std.specs.Option.{option_copied};
-ghost use Rattle.hac_model.specs.Fields.{num};
-ghost use Rattle.hac_model.specs.Payloads.{name_field, space_field, target_field, text_field, is_path_word};
-ghost use Rattle.hac_model.specs.QueryFields.{word_field};
-ghost use Rattle.hac_model.specs.SpaceNames.{is_space_byte, is_space_name};
+ghost use Rattle.hac_model.specs.Payload.Fields.{num};
+ghost use Rattle.hac_model.specs.Payload.Payloads.{name_field, space_field, target_field, text_field, is_path_word};
+ghost use Rattle.hac_model.specs.Payload.QueryFields.{word_field};
+ghost use Rattle.hac_model.specs.Script.SpaceNames.{is_space_byte, is_space_name};
 ghost use Rattle.event_codec.specs.Reading.{GivesField, run_in};
 
 use crate::bytes::Bytes;
@@ -24,7 +24,7 @@ pub(crate) const SPACE_LIMIT: usize = 32;
 pub(crate) const TARGET_LIMIT: usize = 1_024;
 
 /// The number at the front.
-#[tactic(auto, unfolding(hac_model::specs::Fields::number_at))]
+#[tactic(auto, unfolding(hac_model::specs::Payload::Fields::number_at))]
 pub(crate) fn num(bytes: &mut Bytes) -> Result<Number, Fault>
     ensures { GivesField result bytes.new (num.read bytes.old) }
 {
@@ -37,7 +37,7 @@ pub(crate) fn num(bytes: &mut Bytes) -> Result<Number, Fault>
 }
 
 /// The name of an entry.
-#[tactic(auto, unfolding(hac_model::specs::Fields::run_at))]
+#[tactic(auto, unfolding(hac_model::specs::Payload::Fields::run_at))]
 pub(crate) fn name(alloc: Global, bytes: &mut Bytes) -> Result<Name, Fault>
     ensures { GivesField result bytes.new (name_field.read bytes.old) }
 {
@@ -91,7 +91,7 @@ fn run(bytes: &[u8], count: usize, most: usize) -> Option<&[u8]>
 }
 
 /// The name of a space.
-#[tactic(auto, unfolding(hac_model::specs::Fields::run_at))]
+#[tactic(auto, unfolding(hac_model::specs::Payload::Fields::run_at))]
 pub(crate) fn space(alloc: Global, bytes: &mut Bytes) -> Result<Name, Fault>
     ensures { GivesField result bytes.new (space_field.read bytes.old) }
 {
@@ -105,7 +105,7 @@ pub(crate) fn space(alloc: Global, bytes: &mut Bytes) -> Result<Name, Fault>
 }
 
 /// Whether bytes are the name of a space: 1 to 32 ASCII letters, ASCII digits, `_` or `-`.
-#[tactic(auto, unfolding(hac_model::specs::SpaceNames::is_space_name))]
+#[tactic(auto, unfolding(hac_model::specs::Script::SpaceNames::is_space_name))]
 fn is_space_name(bytes: &[u8]) -> bool
     ensures { result ≡ is_space_name bytes.now }
 {
@@ -118,7 +118,7 @@ fn are_space_bytes(bytes: &[u8]) -> bool
     bytes.iter().all(|b| is_space_byte(*b))
 }
 
-#[tactic(auto, unfolding(hac_model::specs::SpaceNames::is_space_byte))]
+#[tactic(auto, unfolding(hac_model::specs::Script::SpaceNames::is_space_byte))]
 fn is_space_byte(b: u8) -> bool
     ensures { result ≡ is_space_byte b }
 {
@@ -126,7 +126,7 @@ fn is_space_byte(b: u8) -> bool
 }
 
 /// The bytes of a file.
-#[tactic(auto, unfolding(hac_model::specs::Fields::run_at))]
+#[tactic(auto, unfolding(hac_model::specs::Payload::Fields::run_at))]
 pub(crate) fn text(alloc: Global, bytes: &mut Bytes) -> Result<Text, Fault>
     ensures { GivesField result bytes.new (text_field.read bytes.old) }
 {
@@ -140,7 +140,7 @@ pub(crate) fn text(alloc: Global, bytes: &mut Bytes) -> Result<Text, Fault>
 }
 
 /// Where a symbolic link leads.
-#[tactic(auto, unfolding(hac_model::specs::Fields::run_at))]
+#[tactic(auto, unfolding(hac_model::specs::Payload::Fields::run_at))]
 pub(crate) fn target(alloc: Global, bytes: &mut Bytes) -> Result<Text, Fault>
     ensures { GivesField result bytes.new (target_field.read bytes.old) }
 {
@@ -160,7 +160,7 @@ fn is_path_word(bytes: &[u8]) -> bool
 }
 
 /// The letters of a term.
-#[tactic(auto, unfolding(hac_model::specs::Fields::run_at))]
+#[tactic(auto, unfolding(hac_model::specs::Payload::Fields::run_at))]
 pub(crate) fn word(alloc: Global, bytes: &mut Bytes) -> Result<Name, Fault>
     ensures { GivesField result bytes.new (word_field.read bytes.old) }
 {

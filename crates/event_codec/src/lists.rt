@@ -1,9 +1,9 @@
 //! The fields that are lists, read and written: a number, and as many items.
 ghost use Rattle.std.specs.Prelude.{◌≡◌, ◌<◌, ◌^◌, ℕ, List, Option, None, nat_lt, ◌++◌, IsTrue, OnOk, length};
 ghost use Rattle.std.specs.Option.{option_copied};
-ghost use Rattle.hac_model.specs.Fields.{Field, checked, items_at, items_fit, items_text, num};
-ghost use Rattle.hac_model.specs.Listing.{is_before};
-ghost use Rattle.hac_model.specs.Payloads.{docs_field, name_field, nums, rises, told_field};
+ghost use Rattle.hac_model.specs.Payload.Fields.{Field, checked, items_at, items_fit, items_text, num};
+ghost use Rattle.hac_model.specs.Tree.Listing.{is_before};
+ghost use Rattle.hac_model.specs.Payload.Payloads.{docs_field, name_field, nums, rises, told_field};
 ghost use Rattle.event_codec.specs.Reading.{GivesField};
 
 use crate::bytes::Bytes;
@@ -33,8 +33,8 @@ pub(crate) trait Item: Sized + Drop {
 /// The numbers of a list rise.
 impl Item for Number {
     ghost use Rattle.std.specs.Prelude.{nat_lt};
-    ghost use Rattle.hac_model.specs.Fields.{checked, num};
-    ghost use Rattle.hac_model.specs.Payloads.{rises};
+    ghost use Rattle.hac_model.specs.Payload.Fields.{checked, num};
+    ghost use Rattle.hac_model.specs.Payload.Payloads.{rises};
 
     ghost item = { λ last. checked num (rises nat_lt last) };
 
@@ -54,9 +54,9 @@ impl Item for Number {
 
 /// So do the names of documents.
 impl Item for Name {
-    ghost use Rattle.hac_model.specs.Fields.{checked};
-    ghost use Rattle.hac_model.specs.Listing.{is_before};
-    ghost use Rattle.hac_model.specs.Payloads.{name_field, rises};
+    ghost use Rattle.hac_model.specs.Payload.Fields.{checked};
+    ghost use Rattle.hac_model.specs.Tree.Listing.{is_before};
+    ghost use Rattle.hac_model.specs.Payload.Payloads.{name_field, rises};
 
     ghost item = { λ last. checked name_field (rises is_before last) };
 
@@ -76,7 +76,7 @@ impl Item for Name {
 
 /// An answer is a list of numbers by itself.
 impl Item for Seq<Number> {
-    ghost use Rattle.hac_model.specs.Payloads.{nums};
+    ghost use Rattle.hac_model.specs.Payload.Payloads.{nums};
 
     ghost item = { λ last. nums };
 

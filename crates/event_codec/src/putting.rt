@@ -1,12 +1,12 @@
 //! The fields of events as bytes, each added to those before it.
 ghost use Rattle.std.specs.Prelude.{◌≡◌, ◌++◌, ◌∷◌, ◌<◌, ◌≤◌, ◌^◌, [], IsTrue, OnOk, length};
 ghost use Rattle.std.specs.Int.{w8, w16, w32, to_le_bytes};
-ghost use Rattle.hac_model.specs.Fields.{num};
-ghost use Rattle.hac_model.specs.Payloads.{mark_field, name_field};
-ghost use Rattle.hac_model.specs.Queries.{are_terms, letter_count};
-ghost use Rattle.hac_model.specs.QueryFields.{are_nums, query_bytes, token_field};
+ghost use Rattle.hac_model.specs.Payload.Fields.{num};
+ghost use Rattle.hac_model.specs.Payload.Payloads.{mark_field, name_field};
+ghost use Rattle.hac_model.specs.Query.Queries.{are_terms, letter_count};
+ghost use Rattle.hac_model.specs.Payload.QueryFields.{are_nums, query_bytes, token_field};
 ghost use Rattle.hac_model.specs.declared.limits.TheConstants.{QUERY_LIMIT};
-ghost use Rattle.hac_model.specs.QueryFields as token;
+ghost use Rattle.hac_model.specs.Payload.QueryFields as token;
 
 use byteorder::{ByteOrder, LittleEndian};
 use hac_model::{Kind, Memory, Name, Node, Number, Query, Term};

@@ -1,7 +1,7 @@
 //! Queries. Their parts are read one by one, and then joined, so that no bytes make this go deep.
 ghost use Rattle.std.specs.Prelude.{◌≡◌, ◌∷◌, [], IfOk, OnOk, length};
-ghost use Rattle.hac_model.specs.Fields.{failing_at};
-ghost use Rattle.hac_model.specs.QueryFields.{built, put, query_field, token_at, tokens_at, word_field};
+ghost use Rattle.hac_model.specs.Payload.Fields.{failing_at};
+ghost use Rattle.hac_model.specs.Payload.QueryFields.{built, put, query_field, token_at, tokens_at, word_field};
 ghost use Rattle.hac_model.specs.declared.limits.TheConstants.{NESTING_LIMIT, QUERY_LIMIT, TERMS_LIMIT};
 ghost use Rattle.event_codec.specs.Reading.{GivesField, GivesSeen};
 ghost use Rattle.event_codec.specs.Tokens.{TakesTwo, token_of, tokens_of};
@@ -29,7 +29,7 @@ pub(crate) enum Token {
 }
 
 /// A query.
-#[tactic(auto, unfolding(hac_model::specs::QueryFields::query_read))]
+#[tactic(auto, unfolding(hac_model::specs::Payload::QueryFields::query_read))]
 pub(crate) fn query(alloc: Global, bytes: &mut Bytes) -> Result<Query<Number>, Fault>
     ensures { GivesField result bytes.new (query_field.read bytes.old) }
 {
@@ -67,7 +67,7 @@ fn tokens(alloc: Global, bytes: &mut Bytes) -> Result<Vec<Token>, Fault>
 }
 
 /// The part at the front, where `terms` terms may still come.
-#[tactic(auto, unfolding(hac_model::specs::Fields::choice_at, hac_model::specs::Fields::way_at))]
+#[tactic(auto, unfolding(hac_model::specs::Payload::Fields::choice_at, hac_model::specs::Payload::Fields::way_at))]
 fn next_token(alloc: Global, bytes: &mut Bytes, terms: u64) -> Result<Token, Fault>
     ensures { GivesSeen token_of result bytes.new (token_at terms bytes.old) }
 {

@@ -1,8 +1,8 @@
 //! Payloads and the events that they hold.
 ghost use Rattle.std.specs.Option.{option_map_or};
 ghost use Rattle.std.specs.Prelude.{◌≡◌, ◌+◌, ◌-◌, IfOk, List, ℕ, Ok, Err, length};
-ghost use Rattle.hac_model.specs.Fields.{way_at};
-ghost use Rattle.hac_model.specs.Payloads.{event_field, event_ways, mark_field, mark_ways, mount_ways, payload_field, query_ways, spelled};
+ghost use Rattle.hac_model.specs.Payload.Fields.{way_at};
+ghost use Rattle.hac_model.specs.Payload.Payloads.{event_field, event_ways, mark_field, mark_ways, mount_ways, payload_field, query_ways, spelled};
 ghost use Rattle.event_codec.specs.Reading.{GivesField, IsSpellable, ReadsPayload};
 ghost use Rattle.event_codec.specs.declared.faults.CodecFault.TheVariants as codec;
 
@@ -23,7 +23,7 @@ pub enum Payload {
 
 /// What a payload says. `first` is whether it is the first one of its area: a whole state may stand there
 /// once states are written, and nowhere else. So far none are, and a payload of that kind is bad at 0.
-#[tactic(auto, unfolding(hac_model::specs::Payloads::spelled))]
+#[tactic(auto, unfolding(hac_model::specs::Payload::Payloads::spelled))]
 pub fn read_payload(alloc: Global, bytes: &[u8], first: bool) -> Result<Payload, CodecFault>
     ensures event { ReadsPayload result (spelled bytes.now) }
     // What is read can be written.
@@ -53,7 +53,7 @@ fn bad(size: usize, left: usize) -> CodecFault
 }
 
 /// The event of a payload, behind the byte that says so.
-#[tactic(auto, unfolding(hac_model::specs::Fields::choice_at, hac_model::specs::Fields::way_at))]
+#[tactic(auto, unfolding(hac_model::specs::Payload::Fields::choice_at, hac_model::specs::Payload::Fields::way_at))]
 fn payload_at(alloc: Global, bytes: &mut Bytes) -> Result<Event, Fault>
     ensures { GivesField result bytes.new (payload_field.read bytes.old) }
 {
@@ -65,7 +65,7 @@ fn payload_at(alloc: Global, bytes: &mut Bytes) -> Result<Event, Fault>
 }
 
 /// The event at the front.
-#[tactic(auto, unfolding(hac_model::specs::Fields::choice_at))]
+#[tactic(auto, unfolding(hac_model::specs::Payload::Fields::choice_at))]
 fn event_at(alloc: Global, bytes: &mut Bytes) -> Result<Event, Fault>
     ensures { GivesField result bytes.new (event_field.read bytes.old) }
 {
@@ -76,7 +76,7 @@ fn event_at(alloc: Global, bytes: &mut Bytes) -> Result<Event, Fault>
 }
 
 /// The event of a kind, behind its kind byte.
-#[tactic(auto, unfolding(hac_model::specs::Fields::way_at))]
+#[tactic(auto, unfolding(hac_model::specs::Payload::Fields::way_at))]
 fn event_of(alloc: Global, kind: u8, bytes: &mut Bytes) -> Result<Event, Fault>
     ensures { GivesField result bytes.new (way_at event_ways kind bytes.old) }
 {
@@ -111,7 +111,7 @@ fn event_of(alloc: Global, kind: u8, bytes: &mut Bytes) -> Result<Event, Fault>
 }
 
 /// The same, of what happens to semantic directories and behind those in order.
-#[tactic(auto, unfolding(hac_model::specs::Fields::way_at))]
+#[tactic(auto, unfolding(hac_model::specs::Payload::Fields::way_at))]
 fn query_event(alloc: Global, kind: u8, bytes: &mut Bytes) -> Result<Event, Fault>
     ensures { GivesField result bytes.new (way_at query_ways kind bytes.old) }
 {
@@ -138,7 +138,7 @@ fn query_event(alloc: Global, kind: u8, bytes: &mut Bytes) -> Result<Event, Faul
 }
 
 /// The same, of what happens to mounts, and an index step.
-#[tactic(auto, unfolding(hac_model::specs::Fields::way_at))]
+#[tactic(auto, unfolding(hac_model::specs::Payload::Fields::way_at))]
 fn mount_event(alloc: Global, kind: u8, bytes: &mut Bytes) -> Result<Event, Fault>
     ensures { GivesField result bytes.new (way_at mount_ways kind bytes.old) }
 {
@@ -164,7 +164,7 @@ fn mount_event(alloc: Global, kind: u8, bytes: &mut Bytes) -> Result<Event, Faul
 }
 
 /// What an item is marked as.
-#[tactic(auto, unfolding(hac_model::specs::Fields::choice_at))]
+#[tactic(auto, unfolding(hac_model::specs::Payload::Fields::choice_at))]
 fn mark(bytes: &mut Bytes) -> Result<Kind, Fault>
     ensures { GivesField result bytes.new (mark_field.read bytes.old) }
 {
@@ -176,7 +176,7 @@ fn mark(bytes: &mut Bytes) -> Result<Kind, Fault>
 }
 
 /// The mark that a byte spells.
-#[tactic(auto, unfolding(hac_model::specs::Fields::way_at))]
+#[tactic(auto, unfolding(hac_model::specs::Payload::Fields::way_at))]
 fn mark_of(byte: u8) -> Option<Kind>
     ensures { (rest : List ℕ) → way_at mark_ways byte rest ≡ option_map_or (λ kind. Ok (kind, rest)) result (Err (length rest + 1)) }
 {

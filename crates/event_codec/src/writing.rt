@@ -1,6 +1,6 @@
 //! Events as the bytes of a payload.
 ghost use Rattle.std.specs.Prelude.{◌≡◌, ◌++◌, IsTrue, IfOk, OnOk};
-ghost use Rattle.hac_model.specs.Payloads.{event_field, event_text, is_spellable, mark_field};
+ghost use Rattle.hac_model.specs.Payload.Payloads.{event_field, event_text, is_spellable, mark_field};
 
 use crate::lists::{put_docs, put_told};
 use crate::putting::{
@@ -10,7 +10,7 @@ use hac_model::{Event, Memory};
 use std::alloc::Global;
 
 /// The payload of an event. Where a session stands is never written, so a `Cd` has none.
-#[tactic(auto, unfolding(hac_model::specs::Payloads::event_text, hac_model::specs::Payloads::is_spellable))]
+#[tactic(auto, unfolding(hac_model::specs::Payload::Payloads::event_text, hac_model::specs::Payload::Payloads::is_spellable))]
 pub fn write_event(alloc: Global, event: &Event) -> Result<Vec<u8>, Memory>
     requires { IsTrue (is_spellable event.now) }
     ensures { IfOk result (λ bytes. bytes.items ≡ event_text event.now) }

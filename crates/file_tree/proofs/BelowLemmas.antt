@@ -5,7 +5,7 @@ use Rattle.std.specs.Option.{option_map, option_to_list}
 use Rattle.std.proofs.lemmas.Bool.{ne_eqb, cases_lt}
 use Rattle.std.proofs.lemmas.Bool.Decides.{nat_tests}
 use Rattle.std.proofs.lemmas.List.{append-nil}
-use Rattle.hac_model.specs.Events.{changed}
+use Rattle.hac_model.specs.Tree.Events.{changed}
 use Rattle.hac_model.specs.Tree.{entry_at}
 use Rattle.hac_model.specs.declared.states.Entry.{Entry}
 use Rattle.hac_model.proofs.ChangeLemmas.{entry_at-other, entry_at-new}

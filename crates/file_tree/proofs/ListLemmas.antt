@@ -6,8 +6,8 @@ use Rattle.std.specs.List.{AllByRecursion}
 use Rattle.std.specs.Str.{bytes_eq}
 use Rattle.std.proofs.lemmas.Bool.{eqb-true, ne_eqb}
 use Rattle.std.specs.Cmp.Lexicographic.{nat_list_eq_equiv}
-use Rattle.hac_model.specs.Depends.{Among}
-use Rattle.hac_model.specs.Listing.{is_before}
+use Rattle.hac_model.specs.Tree.Depends.{Among}
+use Rattle.hac_model.specs.Tree.Listing.{is_before}
 use Rattle.hac_model.proofs.AmongLemmas.{among-append, among-left, among-right}
 use Rattle.hac_model.proofs.ChangeLemmas.{all-filter, all-weaker}
 use Rattle.file_tree.specs.Search.{rank_in}

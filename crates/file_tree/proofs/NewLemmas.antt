@@ -4,9 +4,9 @@ use Rattle.std.specs.Prelude.{nat_eq, Option, None, false, true, is_some, option
 use Rattle.std.specs.Option.{option_map, option_map_or, option_to_list}
 use Rattle.std.specs.Map.{lookup}
 use Rattle.indexmap.specs.IndexMap.{IndexMap}
-use Rattle.hac_model.specs.Depends.{Among}
+use Rattle.hac_model.specs.Tree.Depends.{Among}
 use Rattle.hac_model.specs.Tree.{empty}
-use Rattle.hac_model.specs.Valid.{IsLayout}
+use Rattle.hac_model.specs.Tree.Valid.{IsLayout}
 use Rattle.hac_model.specs.declared.states.Entry.{Entry}
 use Rattle.hac_model.proofs.ValidLemmas.{empty-layout}
 use Rattle.file_tree.specs.Nodes.{entries_below, entry_from, entry_of, has_node, if_placed, kids_of, name_of}

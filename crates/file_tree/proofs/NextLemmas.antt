@@ -4,7 +4,7 @@ use Rattle.std.specs.Prelude.{nat_le, Some, None}
 use Rattle.std.proofs.lemmas.Bool.{cases_lt}
 use Rattle.std.proofs.lemmas.Bool.Decides.{nat_tests}
 use Rattle.hac_model.specs.Tree.{entry_at}
-use Rattle.hac_model.specs.Valid.{NumbersRise}
+use Rattle.hac_model.specs.Tree.Valid.{NumbersRise}
 use Rattle.hac_model.specs.declared.states.Entry.{Entry}
 use Rattle.hac_model.proofs.TreeLemmas.{entry_at-above, entry_at-behind, entry_at-first, rise-below}
 use Rattle.file_tree.specs.Answers.{next_from}

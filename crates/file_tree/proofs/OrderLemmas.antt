@@ -5,11 +5,11 @@ use Rattle.std.specs.List.{AllByRecursion}
 use Rattle.std.specs.Str.{bytes_eq}
 use Rattle.std.specs.Cmp.Lexicographic.{nat_list_eq_equiv}
 use Rattle.std.proofs.lemmas.Bool.{eqb-true, ne_eqb}
-use Rattle.hac_model.specs.Depends.{Among}
-use Rattle.hac_model.specs.Events.{is_bare}
-use Rattle.hac_model.specs.Listing.{children, in_order, is_before, put_in_order}
+use Rattle.hac_model.specs.Tree.Depends.{Among}
+use Rattle.hac_model.specs.Tree.Events.{is_bare}
+use Rattle.hac_model.specs.Tree.Listing.{children, in_order, is_before, put_in_order}
 use Rattle.hac_model.specs.Tree.{child, entry_at}
-use Rattle.hac_model.specs.Valid.{NamesDiffer, NumbersRise}
+use Rattle.hac_model.specs.Tree.Valid.{NamesDiffer, NumbersRise}
 use Rattle.hac_model.specs.declared.states.Entry.{Entry}
 use Rattle.hac_model.specs.declared.states.State.{State}
 use Rattle.hac_model.proofs.ChangeLemmas.{all-weaker}

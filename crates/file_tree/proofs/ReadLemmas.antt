@@ -4,7 +4,7 @@ use Rattle.std.specs.Prelude.{IsSome, is_some, Option, Some, None, Result, Ok, E
 use Rattle.std.specs.Option.{option_copied, option_map}
 use Rattle.indexmap.specs.IndexMap.{IndexMap}
 use Rattle.hac_model.specs.Tree.{entry_at}
-use Rattle.hac_model.specs.Valid.{IsLayout}
+use Rattle.hac_model.specs.Tree.Valid.{IsLayout}
 use Rattle.hac_model.specs.declared.states.Entry.{Entry}
 use Rattle.file_tree.specs.Nodes.{entry_from, entry_of, placed_at}
 use Rattle.file_tree.specs.Seen.{Seen}

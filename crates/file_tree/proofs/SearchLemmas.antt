@@ -8,7 +8,7 @@ use Rattle.std.specs.Ordering.{nat_cmp, is_eq, is_lt, ordering_reverse}
 use Rattle.std.specs.declared.cmp.Ordering.{Ordering}
 use Rattle.std.specs.declared.cmp.Ordering.TheVariants.{Less, Equal, Greater}
 use Rattle.std.specs.Str.{bytes_eq}
-use Rattle.hac_model.specs.Listing.{is_before}
+use Rattle.hac_model.specs.Tree.Listing.{is_before}
 use Rattle.file_tree.specs.Search.{first_named, rank_in}
 use Rattle.file_tree.specs.Shape.{NamesRise}
 

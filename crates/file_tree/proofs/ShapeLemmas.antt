@@ -4,7 +4,7 @@ use Rattle.std.proofs.Common.{◌≡◌, ℕ, ◌<◌, ◌≤◌, Bool, true, fa
 use Rattle.std.specs.Prelude.{◌⊎◌, nat_eq, insert, remove, Option, Some, None}
 use Rattle.std.specs.Str.{bytes_eq}
 use Rattle.std.proofs.lemmas.Bool.{eqb-true, ne_eqb}
-use Rattle.hac_model.specs.Depends.{Among}
+use Rattle.hac_model.specs.Tree.Depends.{Among}
 use Rattle.hac_model.specs.declared.states.Entry.{Entry}
 use Rattle.file_tree.specs.Search.{rank_in}
 use Rattle.file_tree.specs.Shape.{AreNested, NamesRise, parent_in}

@@ -5,10 +5,10 @@ use Rattle.std.specs.Option.{option_map}
 use Rattle.std.specs.Str.{bytes_eq}
 use Rattle.std.proofs.lemmas.Slice.Eq.{bytes_eq-Decides}
 use Rattle.std.proofs.lemmas.Bool.{ne_eqb}
-use Rattle.hac_model.specs.Depends.{Among}
-use Rattle.hac_model.specs.Events.{added, changed_at, edited, removed, reseated}
+use Rattle.hac_model.specs.Tree.Depends.{Among}
+use Rattle.hac_model.specs.Tree.Events.{added, changed_at, edited, removed, reseated}
 use Rattle.hac_model.specs.Tree.{child, entry_at, is_directory_at, path_of}
-use Rattle.hac_model.specs.Valid.{IsLayout}
+use Rattle.hac_model.specs.Tree.Valid.{IsLayout}
 use Rattle.hac_model.specs.declared.states.Body.{Body}
 use Rattle.hac_model.specs.declared.states.Entry.{Entry}
 use Rattle.hac_model.specs.declared.states.State.{State}

@@ -1,8 +1,8 @@
 -- What a tree is ready for, read part by part.
 use Rattle.std.specs.Prelude.{⊤, ℕ, List, [], Option, Some, None}
 use Rattle.std.specs.Option.{option_map_or, unwrap_or}
-use Rattle.hac_model.specs.Formula.{Formula}
-use Rattle.hac_model.specs.Formula as query
+use Rattle.hac_model.specs.Query.Formula.{Formula}
+use Rattle.hac_model.specs.Query.Formula as query
 use Rattle.hac_model.specs.Tree.{query_in, text_in}
 use Rattle.hac_model.specs.declared.states.Body.{Body}
 use Rattle.hac_model.specs.declared.states.Body.TheVariants as body

@@ -2,7 +2,7 @@
 use Rattle.std.specs.Prelude.{ℕ, if◌then◌else◌, List, [], ◌∷◌, Option, Some, None}
 use Rattle.std.specs.List.{prefix_len}
 use Rattle.std.specs.Str.{bytes_eq}
-use Rattle.hac_model.specs.Listing.{is_before}
+use Rattle.hac_model.specs.Tree.Listing.{is_before}
 
 -- how many of the first have names before this one
 abbrev pub rank_in : (ℕ → List ℕ) → List ℕ → List ℕ → ℕ

@@ -3,9 +3,9 @@ use Rattle.std.specs.Prelude.{◌≡◌, ℕ, ◌<◌, ◌≤◌, false, List, [
 use Rattle.std.specs.List.{AllByRecursion}
 use Rattle.std.specs.Option.{option_map}
 use Rattle.indexmap.specs.IndexMap.{IndexMap}
-use Rattle.hac_model.specs.Depends.{Among}
-use Rattle.hac_model.specs.Listing.{is_before}
-use Rattle.hac_model.specs.Valid.{IsLayout}
+use Rattle.hac_model.specs.Tree.Depends.{Among}
+use Rattle.hac_model.specs.Tree.Listing.{is_before}
+use Rattle.hac_model.specs.Tree.Valid.{IsLayout}
 use Rattle.hac_model.specs.declared.states.Entry.{Entry}
 use Rattle.hac_model.specs.declared.states.State.{State}
 use Rattle.file_tree.specs.Nodes.{entries_below, entry_of, has_node, kids_of, name_of}

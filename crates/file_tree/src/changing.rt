@@ -1,8 +1,8 @@
 //! Changes of the tree. Those that may want memory are prepared, and no change itself takes any.
 ghost use Rattle.std.specs.Prelude.{◌≡◌, ◌<◌, ◌-◌, ◌++◌, ◌∷◌, [], true, ℕ, List, length, remove, if◌then◌else◌, Some, None, IfOk, OnOk, OnErr, IsSome, IsTrue};
-ghost use Rattle.hac_model.specs.Events.{added, asking, changed_at, edited, indexed, plain_body, removed, reseated, rewritten};
+ghost use Rattle.hac_model.specs.Tree.Events.{added, asking, changed_at, edited, indexed, plain_body, removed, reseated, rewritten};
 ghost use Rattle.hac_model.specs.Tree.{entry_at, is_directory_at, is_file};
-ghost use Rattle.hac_model.specs.Valid.{IsLayout};
+ghost use Rattle.hac_model.specs.Tree.Valid.{IsLayout};
 ghost use Rattle.file_tree.specs.Nodes.{entry_of, kids_of, name_of};
 ghost use Rattle.file_tree.specs.Ready.{body_in, name_in, new_query, new_text, room_in};
 ghost use Rattle.file_tree.specs.Search.{rank_in};

@@ -3,7 +3,7 @@ ghost use Rattle.std.specs.Prelude.{◌≡◌, ℕ, ◌<◌, [], Some, None, nat
 ghost use Rattle.std.specs.Option.{option_copied, option_map};
 ghost use Rattle.indexmap.specs.IndexMap.{get};
 ghost use Rattle.file_tree.specs.Nodes.{body_of, entry_of, has_node, kids_of, name_of, placed_at};
-ghost use Rattle.hac_model.specs.Events.{asking, edited, indexed, plain_body, reseated, rewritten};
+ghost use Rattle.hac_model.specs.Tree.Events.{asking, edited, indexed, plain_body, reseated, rewritten};
 ghost use Rattle.hac_model.specs.Tree.{is_dirty, query_in, shown_text};
 
 use hac_model::{Answer, Body, Document, Memory, Name, Number, Query, Seq, Text};

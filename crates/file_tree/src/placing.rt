@@ -1,7 +1,7 @@
 //! Where a path word leads.
 ghost use Rattle.std.specs.Prelude.{◌≡◌, ◌≤◌, IfOk, IsTrue, length, take, drop};
-ghost use Rattle.hac_model.specs.Looks.{look};
-ghost use Rattle.hac_model.specs.Paths.{join};
+ghost use Rattle.hac_model.specs.Tree.Looks.{look};
+ghost use Rattle.hac_model.specs.Tree.Paths.{join};
 ghost use Rattle.hac_model.specs.Tree.{is_directory_at, path_of};
 ghost use Rattle.hac_model.proofs.Walks.{walk};
 ghost use Rattle.file_tree.specs.Answers.{Finds};

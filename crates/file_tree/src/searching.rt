@@ -1,6 +1,6 @@
 //! Names among numbers that are in order of their names.
 ghost use Rattle.std.specs.Prelude.{◌≡◌, ◌≤◌, ◌<◌, ◌++◌, ◌∷◌, [], ℕ, List, length, insert};
-ghost use Rattle.hac_model.specs.Listing.{is_before};
+ghost use Rattle.hac_model.specs.Tree.Listing.{is_before};
 ghost use Rattle.file_tree.specs.Nodes.{name_of};
 ghost use Rattle.file_tree.specs.Search.{first_named, rank_in};
 ghost use Rattle.file_tree.specs.Shape.{NamesRise};

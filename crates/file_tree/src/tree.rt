@@ -1,11 +1,11 @@
 //! The tree itself, and what it says of its entries.
 ghost use Rattle.std.specs.Prelude.{◌≡◌, ◌==◌, Some, IfOk, IsTrue, IsSome, [], false, length, map};
 ghost use Rattle.std.specs.Option.{option_copied, option_map, option_map_or, option_and_then};
-ghost use Rattle.hac_model.specs.Events.{is_bare};
-ghost use Rattle.hac_model.specs.Links.{parent_of, query_at, shown_of};
-ghost use Rattle.hac_model.specs.Listing.{children};
+ghost use Rattle.hac_model.specs.Tree.Events.{is_bare};
+ghost use Rattle.hac_model.specs.Tree.Links.{parent_of, query_at, shown_of};
+ghost use Rattle.hac_model.specs.Tree.Listing.{children};
 ghost use Rattle.hac_model.specs.Tree.{body_at, child, empty, entry_at, is_directory_at, is_dirty, is_file_at, is_made_directory, text_in};
-ghost use Rattle.hac_model.specs.Valid.{IsLayout};
+ghost use Rattle.hac_model.specs.Tree.Valid.{IsLayout};
 ghost use Rattle.file_tree.specs.Answers.{entry_kind_at, entry_kind, next_from};
 ghost use Rattle.file_tree.specs.Nodes.{body_of};
 

@@ -2,9 +2,9 @@
 use Rattle.std.proofs.Common.{◌≡◌, ℕ, true, false, cond, List, [], ◌∷◌, refl, ap}
 use Rattle.std.specs.Prelude.{Some, None}
 use Rattle.std.specs.Option.{option_map}
-use Rattle.hac_model.specs.Answers.{first_cause}
-use Rattle.hac_model.specs.Bare.{bare}
-use Rattle.hac_model.specs.Refusals.{blocked, directory_cause, filled_cause, least_path, plain_cause, referenced_cause, root_cause, taken_cause, under_cause, written_cause}
+use Rattle.hac_model.specs.Run.Answers.{first_cause}
+use Rattle.hac_model.specs.Tree.Bare.{bare}
+use Rattle.hac_model.specs.Run.Refusals.{blocked, directory_cause, filled_cause, least_path, plain_cause, referenced_cause, root_cause, taken_cause, under_cause, written_cause}
 use Rattle.hac_model.specs.declared.places.Place.{Place}
 use Rattle.hac_model.specs.declared.places.Place.TheVariants.{There, Free}
 use Rattle.hac_model.specs.declared.replies.Refusal.TheVariants as refusal

@@ -2,16 +2,16 @@
 use Rattle.std.proofs.Common.{◌≡◌, ℕ, Bool, true, false, cond, refl, List, [], ◌∷◌, ◌++◌, map, ap, sym, ◌∙◌}
 use Rattle.std.specs.Prelude.{codes, Option, Some, None, option_and_then}
 use Rattle.std.specs.Option.{option_map_or}
-use Rattle.hac_model.specs.Bare.{bare}
-use Rattle.hac_model.specs.Formula.{Formula}
-use Rattle.hac_model.specs.Links.{query_at}
-use Rattle.hac_model.specs.Listing.{children, entry_line}
-use Rattle.hac_model.specs.Paths.{path_text}
-use Rattle.hac_model.specs.Play.{query_lines, text_line, text_lines}
-use Rattle.hac_model.specs.QueryText.{query_text, named_by}
+use Rattle.hac_model.specs.Tree.Bare.{bare}
+use Rattle.hac_model.specs.Query.Formula.{Formula}
+use Rattle.hac_model.specs.Tree.Links.{query_at}
+use Rattle.hac_model.specs.Tree.Listing.{children, entry_line}
+use Rattle.hac_model.specs.Tree.Paths.{path_text}
+use Rattle.hac_model.specs.Run.Play.{query_lines, text_line, text_lines}
+use Rattle.hac_model.specs.Query.QueryText.{query_text, named_by}
 use Rattle.hac_model.specs.Tree.{body_at, is_directory_at, is_file_at, path_of, text_in}
-use Rattle.hac_model.specs.Refusals.{directory_cause}
-use Rattle.hac_model.specs.Valid.{IsLayout}
+use Rattle.hac_model.specs.Run.Refusals.{directory_cause}
+use Rattle.hac_model.specs.Tree.Valid.{IsLayout}
 use Rattle.hac_model.specs.declared.replies.Refusal.{Refusal}
 use Rattle.hac_model.specs.declared.replies.Refusal.TheVariants.{NotFile}
 use Rattle.hac_model.specs.declared.states.State.{State}

@@ -4,14 +4,14 @@ use Rattle.std.specs.Prelude.{◌==◌, ◌&&◌, ◌||◌, not, length, nat_lt,
 use Rattle.std.specs.Option.{option_map, option_map_or}
 use Rattle.std.proofs.Math.Bool.{and-false, and-true}
 use Rattle.std.proofs.lemmas.Bool.{and_parts, leb-true}
-use Rattle.hac_model.specs.Bare.{bare}
-use Rattle.hac_model.specs.Depends.{cycle_over}
-use Rattle.hac_model.specs.Events.{accepted, apply, edited, is_bare, is_free, is_possible, may_ask}
-use Rattle.hac_model.specs.Formula.{Formula}
-use Rattle.hac_model.specs.Limits.{answer_limits, counts, first_passed, is_text, layout_limits, passed}
-use Rattle.hac_model.specs.Links.{parent_of}
+use Rattle.hac_model.specs.Tree.Bare.{bare}
+use Rattle.hac_model.specs.Tree.Depends.{cycle_over}
+use Rattle.hac_model.specs.Tree.Events.{accepted, apply, edited, is_bare, is_free, is_possible, may_ask}
+use Rattle.hac_model.specs.Query.Formula.{Formula}
+use Rattle.hac_model.specs.Tree.Limits.{answer_limits, counts, first_passed, is_text, layout_limits, passed}
+use Rattle.hac_model.specs.Tree.Links.{parent_of}
 use Rattle.hac_model.specs.Tree.{entry_at, is_directory, is_file, is_file_at, is_made_directory}
-use Rattle.hac_model.specs.Valid.{IsLayout, IsSound}
+use Rattle.hac_model.specs.Tree.Valid.{IsLayout, IsSound}
 use Rattle.hac_model.specs.declared.counts.Counts.{Counts}
 use Rattle.hac_model.specs.declared.events.Event.{Event}
 use Rattle.hac_model.specs.declared.events.Event.TheVariants.{Mkdir, NewFile, Rewrite, Smkdir, Setq, Unq, Mark, Mv, Rm, Rmdir, Step}

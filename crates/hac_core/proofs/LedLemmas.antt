@@ -1,10 +1,10 @@
 -- What a command leads to, which the tree decides without marks.
 use Rattle.std.proofs.Common.{◌≡◌, ℕ, List, [], ◌∷◌, refl, ap, sym, ◌∙◌}
 use Rattle.std.specs.Prelude.{replicate}
-use Rattle.hac_model.specs.Bare.{bare}
-use Rattle.hac_model.specs.Events.{apply, apply_all}
-use Rattle.hac_model.specs.Limits.{counts}
-use Rattle.hac_model.specs.Refusals.{events_of, led_to}
+use Rattle.hac_model.specs.Tree.Bare.{bare}
+use Rattle.hac_model.specs.Tree.Events.{apply, apply_all}
+use Rattle.hac_model.specs.Tree.Limits.{counts}
+use Rattle.hac_model.specs.Run.Refusals.{events_of, led_to}
 use Rattle.hac_model.specs.declared.events.Event.{Event}
 use Rattle.hac_model.specs.declared.events.Event.TheVariants as event
 use Rattle.hac_model.specs.declared.resolved.Resolved.{Resolved}

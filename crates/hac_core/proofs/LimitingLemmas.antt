@@ -4,12 +4,12 @@ use Rattle.std.specs.Prelude.{not, nat_le, nat_lt, max, replicate, Option, Some,
 use Rattle.std.specs.Option.{option_map_or}
 use Rattle.std.proofs.lemmas.Bool.{ltb-false, le-ltb}
 use Rattle.std.proofs.lemmas.Bool.Decides.{nat_tests}
-use Rattle.hac_model.specs.Events.{added, apply, apply_all, asking, changed, changed_at, dirty, edited, forgotten, is_bare, marked, plain_body, removed, reseated, rewritten}
-use Rattle.hac_model.specs.Limits.{answer_limits, are_paths_short, counts, directory_count, first_passed, layout_limits, passed, text_size, weight}
-use Rattle.hac_model.specs.Links.{parent_of}
-use Rattle.hac_model.specs.Refusals.{blocked, directory_cause, filled_cause, led_to, referenced_cause}
+use Rattle.hac_model.specs.Tree.Events.{added, apply, apply_all, asking, changed, changed_at, dirty, edited, forgotten, is_bare, marked, plain_body, removed, reseated, rewritten}
+use Rattle.hac_model.specs.Tree.Limits.{answer_limits, are_paths_short, counts, directory_count, first_passed, layout_limits, passed, text_size, weight}
+use Rattle.hac_model.specs.Tree.Links.{parent_of}
+use Rattle.hac_model.specs.Run.Refusals.{blocked, directory_cause, filled_cause, led_to, referenced_cause}
 use Rattle.hac_model.specs.Tree.{ancestors, entry_at, is_directory, is_directory_at, is_dirty, is_file, is_file_at, lineage, path_of, query_in}
-use Rattle.hac_model.specs.Valid.{IsLayout}
+use Rattle.hac_model.specs.Tree.Valid.{IsLayout}
 use Rattle.hac_model.specs.declared.counts.Counts.{Counts}
 use Rattle.hac_model.specs.declared.limits.TheConstants.{DIRS_LIMIT, ITEMS_LIMIT, PATH_LIMIT, TEXTS_LIMIT}
 use Rattle.hac_model.specs.declared.events.Event.TheVariants.{Step}
@@ -21,7 +21,7 @@ use Rattle.hac_model.specs.declared.replies.Refusal.{Refusal}
 use Rattle.hac_model.specs.declared.replies.Refusal.TheVariants as refusal
 use Rattle.hac_model.specs.declared.resolved.Resolved.{Resolved}
 use Rattle.hac_model.specs.declared.resolved.Resolved.TheVariants.{Mkdir, Rmdir, Write, Mv, Rm, Smkdir, Setq, Unq, Sln, Srm, Sforget, Index}
-use Rattle.hac_model.specs.Formula.{Formula}
+use Rattle.hac_model.specs.Query.Formula.{Formula}
 use Rattle.hac_model.specs.declared.states.Body.{Body}
 use Rattle.hac_model.specs.declared.states.Body.TheVariants as body
 use Rattle.hac_model.specs.declared.states.Entry.{Entry}

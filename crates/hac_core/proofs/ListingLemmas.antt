@@ -3,9 +3,9 @@ use Rattle.std.proofs.Common.{◌≡◌, ℕ, zero, suc, ◌<◌, ◌≤◌, tru
 use Rattle.std.specs.Prelude.{◌==◌, Option, Some, is_some, filter}
 use Rattle.std.specs.Option.{option_map_or}
 use Rattle.std.specs.List.{AllByRecursion}
-use Rattle.hac_model.specs.Listing.{children, entry_line, in_order, is_before, put_in_order}
+use Rattle.hac_model.specs.Tree.Listing.{children, entry_line, in_order, is_before, put_in_order}
 use Rattle.hac_model.specs.Tree.{entry_at}
-use Rattle.hac_model.specs.Valid.{IsLayout}
+use Rattle.hac_model.specs.Tree.Valid.{IsLayout}
 use Rattle.hac_model.specs.declared.states.Entry.{Entry}
 use Rattle.hac_model.specs.declared.states.State.{State}
 use Rattle.hac_model.proofs.ChangeLemmas.{all-filter}

@@ -2,12 +2,12 @@
 use Rattle.std.proofs.Common.{◌≡◌, List, [], ◌∷◌, subst, ap, sym, ◌∙◌}
 use Rattle.std.specs.Prelude.{Option, None, Ok}
 use Rattle.std.specs.Option.{option_map}
-use Rattle.hac_model.specs.Answers.{first_cause, Refuses}
+use Rattle.hac_model.specs.Run.Answers.{first_cause, Refuses}
 use Rattle.hac_model.specs.Laws.{AllHappen}
-use Rattle.hac_model.specs.Limits.{answer_limits, counts, first_passed}
-use Rattle.hac_model.specs.Refusals.{answer_cause, cause, cause_against, early_cause, events_of, refusal}
-use Rattle.hac_model.specs.Resolving.{resolve}
-use Rattle.hac_model.specs.Valid.{IsValid}
+use Rattle.hac_model.specs.Tree.Limits.{answer_limits, counts, first_passed}
+use Rattle.hac_model.specs.Run.Refusals.{answer_cause, cause, cause_against, early_cause, events_of, refusal}
+use Rattle.hac_model.specs.Run.Resolving.{resolve}
+use Rattle.hac_model.specs.Tree.Valid.{IsValid}
 use Rattle.hac_model.specs.declared.commands.Line.{Line}
 use Rattle.hac_model.specs.declared.events.Event.{Event}
 use Rattle.hac_model.specs.declared.limits.LimitWord.{LimitWord}

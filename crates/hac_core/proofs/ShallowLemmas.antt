@@ -5,11 +5,11 @@ use Rattle.std.specs.List.{AllByRecursion, list_all}
 use Rattle.std.proofs.lemmas.Bool.{and_parts, eqb-true, ne_eqb, le-leb}
 use Rattle.std.proofs.lemmas.Bool.Decides.{nat_tests}
 use Rattle.std.proofs.lemmas.List.Folds.{list_all-map}
-use Rattle.hac_model.specs.Events.{changed_at, is_inside, reseated}
-use Rattle.hac_model.specs.Limits.{are_paths_short}
-use Rattle.hac_model.specs.Listing.{children, in_order, is_before, put_in_order}
+use Rattle.hac_model.specs.Tree.Events.{changed_at, is_inside, reseated}
+use Rattle.hac_model.specs.Tree.Limits.{are_paths_short}
+use Rattle.hac_model.specs.Tree.Listing.{children, in_order, is_before, put_in_order}
 use Rattle.hac_model.specs.Tree.{entry_at, extends, path_of}
-use Rattle.hac_model.specs.Valid.{IsLayout}
+use Rattle.hac_model.specs.Tree.Valid.{IsLayout}
 use Rattle.hac_model.specs.declared.limits.TheConstants.{PATH_LIMIT}
 use Rattle.hac_model.specs.declared.states.Entry.{Entry}
 use Rattle.hac_model.specs.declared.states.State.{State}

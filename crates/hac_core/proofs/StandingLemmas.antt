@@ -3,11 +3,11 @@ use Rattle.std.proofs.Common.{◌≡◌, ℕ, Bool, true, false, List, refl, ap,
 use Rattle.std.specs.Prelude.{◌==◌, ◌||◌, Option, Some, None, is_some, Result, Ok, IsTrue}
 use Rattle.std.specs.Option.{option_map, option_map_or}
 use Rattle.std.proofs.lemmas.Bool.{eqb-true}
-use Rattle.hac_model.specs.Answers.{Denies, and_then}
-use Rattle.hac_model.specs.Lines.{is_spelled}
-use Rattle.hac_model.specs.Resolving.{resolve}
+use Rattle.hac_model.specs.Run.Answers.{Denies, and_then}
+use Rattle.hac_model.specs.Script.Lines.{is_spelled}
+use Rattle.hac_model.specs.Run.Resolving.{resolve}
 use Rattle.hac_model.specs.Tree.{entry_at, is_directory, is_directory_at}
-use Rattle.hac_model.specs.Valid.{IsLayout, IsValid}
+use Rattle.hac_model.specs.Tree.Valid.{IsLayout, IsValid}
 use Rattle.hac_model.specs.declared.commands.Line.{Line}
 use Rattle.hac_model.specs.declared.places.Place.{Place}
 use Rattle.hac_model.specs.declared.places.Place.TheVariants.{There, Free}

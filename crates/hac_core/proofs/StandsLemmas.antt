@@ -5,7 +5,7 @@ use Rattle.hac_model.specs.declared.places.Place.{Place}
 use Rattle.hac_model.specs.declared.places.Place.TheVariants.{There, Free}
 use Rattle.hac_model.specs.declared.resolved.Resolved.{Resolved}
 use Rattle.hac_model.specs.declared.resolved.Resolved.TheVariants.{Mkdir, Rmdir, Write, Cat, Ls, Mv, Rm, Smkdir, Setq, Unq, Query, Sls, Sln, Srm, Sforget, Find, Index, Counts}
-use Rattle.hac_model.specs.Bare.{bare}
+use Rattle.hac_model.specs.Tree.Bare.{bare}
 use Rattle.hac_model.specs.declared.states.State.{State}
 use Rattle.file_tree.specs.Answers.{is_live}
 use Rattle.hac_core.specs.Standing.{AllStand, StandsAt}

@@ -1,8 +1,8 @@
 -- Commands that a state doesn't refuse so far.
 use Rattle.std.specs.Prelude.{◌≡◌, Bool, true, false, None, Ok, IsTrue}
-use Rattle.hac_model.specs.Lines.{is_spelled}
-use Rattle.hac_model.specs.Refusals.{early_cause}
-use Rattle.hac_model.specs.Resolving.{resolve}
+use Rattle.hac_model.specs.Script.Lines.{is_spelled}
+use Rattle.hac_model.specs.Run.Refusals.{early_cause}
+use Rattle.hac_model.specs.Run.Resolving.{resolve}
 use Rattle.hac_model.specs.declared.commands.Line.{Line}
 use Rattle.hac_model.specs.declared.resolved.Resolved.{Resolved}
 use Rattle.hac_model.specs.declared.resolved.Resolved.TheVariants.{Cat, Ls, Query, Sls, Find, Counts}

@@ -1,9 +1,9 @@
 -- What blocks an event that no command made, and what doesn't.
 use Rattle.std.specs.Prelude.{Bool, true, ◌==◌, ◌&&◌, not, length, is_none, is_some}
-use Rattle.hac_model.specs.Depends.{cycle_of_move, cycle_over}
-use Rattle.hac_model.specs.Events.{apply, is_bare, is_free, is_inside, is_possible, is_unreferenced, may_ask, may_mark}
-use Rattle.hac_model.specs.Limits.{answer_limits, first_passed, layout_limits, passed}
-use Rattle.hac_model.specs.Links.{is_item, is_semantic, parent_of}
+use Rattle.hac_model.specs.Tree.Depends.{cycle_of_move, cycle_over}
+use Rattle.hac_model.specs.Tree.Events.{apply, is_bare, is_free, is_inside, is_possible, is_unreferenced, may_ask, may_mark}
+use Rattle.hac_model.specs.Tree.Limits.{answer_limits, first_passed, layout_limits, passed}
+use Rattle.hac_model.specs.Tree.Links.{is_item, is_semantic, parent_of}
 use Rattle.hac_model.specs.Tree.{entry_at, is_made_directory}
 use Rattle.hac_model.specs.declared.counts.Counts.{Counts}
 use Rattle.hac_model.specs.declared.events.Event.{Event}

@@ -1,9 +1,9 @@
 -- Which limits a command would exceed, by counts.
 use Rattle.std.specs.Prelude.{◌≡◌, ℕ, zero, suc, Bool, true, false, is_some, map, IsTrue}
 use Rattle.std.specs.List.{list_all}
-use Rattle.hac_model.specs.Events.{added, changed_at, is_bare, is_inside, reseated}
-use Rattle.hac_model.specs.Limits.{answer_limits, counts, first_passed, is_text, layout_limits}
-use Rattle.hac_model.specs.Listing.{children}
+use Rattle.hac_model.specs.Tree.Events.{added, changed_at, is_bare, is_inside, reseated}
+use Rattle.hac_model.specs.Tree.Limits.{answer_limits, counts, first_passed, is_text, layout_limits}
+use Rattle.hac_model.specs.Tree.Listing.{children}
 use Rattle.hac_model.specs.declared.counts.Counts.{Counts}
 use Rattle.hac_model.specs.Tree.{entry_at, is_directory_at}
 use Rattle.hac_model.specs.declared.places.Place.{Place}

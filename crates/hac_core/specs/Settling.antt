@@ -1,7 +1,7 @@
 -- What commands do that change the state.
 use Rattle.std.specs.Prelude.{◌≡◌, List, [], ◌∷◌, replicate, None}
 use Rattle.hac_model.specs.Laws.{AllHappen}
-use Rattle.hac_model.specs.Refusals.{cause, events_of}
+use Rattle.hac_model.specs.Run.Refusals.{cause, events_of}
 use Rattle.hac_model.specs.declared.events.Event.{Event}
 use Rattle.hac_model.specs.declared.events.Event.TheVariants.{Step}
 use Rattle.hac_model.specs.declared.resolved.Resolved.{Resolved}

@@ -1,6 +1,6 @@
 -- What a command whose paths were followed refers to.
 use Rattle.std.specs.Prelude.{⊤, IsTrue}
-use Rattle.hac_model.specs.Events.{may_ask}
+use Rattle.hac_model.specs.Tree.Events.{may_ask}
 use Rattle.hac_model.specs.Tree.{is_directory_at}
 use Rattle.hac_model.specs.declared.places.Place.{Place}
 use Rattle.hac_model.specs.declared.places.Place.TheVariants.{There, Free}

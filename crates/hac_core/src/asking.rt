@@ -1,9 +1,9 @@
 //! Which queries may be asked.
 ghost use Rattle.std.specs.Prelude.{◌≡◌, ◌-◌, if◌then◌else◌, length, nat_le, nat_lt};
-ghost use Rattle.hac_model.specs.Depends.{named_in};
-ghost use Rattle.hac_model.specs.Events.{are_directories, may_ask};
-ghost use Rattle.hac_model.specs.Queries.{are_terms, is_query, is_term, letter_count, not_count, term_size};
-ghost use Rattle.hac_model.specs.Words.{is_word};
+ghost use Rattle.hac_model.specs.Tree.Depends.{named_in};
+ghost use Rattle.hac_model.specs.Tree.Events.{are_directories, may_ask};
+ghost use Rattle.hac_model.specs.Query.Queries.{are_terms, is_query, is_term, letter_count, not_count, term_size};
+ghost use Rattle.hac_model.specs.Query.Words.{is_word};
 
 use file_tree::Tree;
 use hac_model::{NESTING_LIMIT, Node, Number, QUERY_LIMIT, Query, TERMS_LIMIT, Term};

@@ -1,8 +1,8 @@
 //! What blocks a command whose paths were followed. Limits are left out.
 ghost use Rattle.std.specs.Prelude.{◌≡◌, ◌∷◌, [], IsTrue};
-ghost use Rattle.hac_model.specs.Answers.{first_cause, Passes};
-ghost use Rattle.hac_model.specs.Events.{is_inside};
-ghost use Rattle.hac_model.specs.Refusals.{blocked, directory_cause, filled_cause, plain_cause, root_cause, taken_cause, under_cause, written_cause};
+ghost use Rattle.hac_model.specs.Run.Answers.{first_cause, Passes};
+ghost use Rattle.hac_model.specs.Tree.Events.{is_inside};
+ghost use Rattle.hac_model.specs.Run.Refusals.{blocked, directory_cause, filled_cause, plain_cause, root_cause, taken_cause, under_cause, written_cause};
 ghost use Rattle.file_tree.specs.Answers.{is_live};
 ghost use Rattle.hac_core.specs.Blocking.{is_alone};
 ghost use Rattle.hac_core.specs.Standing.{AllStand, StandsAt};

@@ -1,7 +1,7 @@
 //! Each command with what its paths lead to, from left to right.
 ghost use Rattle.std.specs.Prelude.{◌≡◌, ℕ, List};
-ghost use Rattle.hac_model.specs.Answers.{Answers};
-ghost use Rattle.hac_model.specs.Resolving.{resolve, resolved};
+ghost use Rattle.hac_model.specs.Run.Answers.{Answers};
+ghost use Rattle.hac_model.specs.Run.Resolving.{resolve, resolved};
 
 use crate::resolving::{directory, entry, listed, numbered, place};
 use file_tree::Tree;

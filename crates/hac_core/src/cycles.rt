@@ -1,7 +1,7 @@
 //! Commands after which a directory would depend on itself.
 ghost use Rattle.std.specs.Prelude.{◌≡◌};
-ghost use Rattle.hac_model.specs.Answers.{Passes};
-ghost use Rattle.hac_model.specs.Refusals.{cycle_by, cycle_cause};
+ghost use Rattle.hac_model.specs.Run.Answers.{Passes};
+ghost use Rattle.hac_model.specs.Run.Refusals.{cycle_by, cycle_cause};
 
 use hac_model::{Deny, Number, Place, Query, Refusal, Resolved};
 use kept_state::KeptState;

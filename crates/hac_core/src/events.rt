@@ -1,7 +1,7 @@
 //! The outcome of a command that changes the state.
 ghost use Rattle.std.specs.Prelude.{◌≡◌, ◌∷◌, [], None, false};
-ghost use Rattle.hac_model.specs.Events.{dirty};
-ghost use Rattle.hac_model.specs.Refusals.{blocked, events_of, marks, writes};
+ghost use Rattle.hac_model.specs.Tree.Events.{dirty};
+ghost use Rattle.hac_model.specs.Run.Refusals.{blocked, events_of, marks, writes};
 ghost use Rattle.hac_core.specs.Drafts.{reads};
 ghost use Rattle.hac_core.specs.Settling.{settled_events};
 ghost use Rattle.hac_core.specs.Standing.{IsFree};

@@ -1,8 +1,8 @@
 //! Whether an event can happen to the state, wherever it comes from. Commands make only such events; a log may hold
 //! any.
 ghost use Rattle.std.specs.Prelude.{◌≡◌, ◌==◌, ◌&&◌, is_none, is_some, length, IfOk, IsTrue};
-ghost use Rattle.hac_model.specs.Events.{accepted, apply, is_free, may_ask};
-ghost use Rattle.hac_model.specs.Limits.{is_text, passed};
+ghost use Rattle.hac_model.specs.Tree.Events.{accepted, apply, is_free, may_ask};
+ghost use Rattle.hac_model.specs.Tree.Limits.{is_text, passed};
 ghost use Rattle.hac_model.specs.Tree.{entry_at, is_made_directory};
 ghost use Rattle.hac_core.specs.Fitting.{is_clear, is_placed, may_come, passes_none};
 

@@ -1,9 +1,9 @@
 //! How much a state would hold after a command, before anything changes.
 ghost use Rattle.std.specs.Prelude.{◌≡◌, ◌<◌, ◌≤◌, ◌^◌, false, ℕ, List, length, IsTrue, None};
-ghost use Rattle.hac_model.specs.Events.{added, apply_all, asking, changed_at, edited, reseated, rewritten};
-ghost use Rattle.hac_model.specs.Limits.{are_paths_short, counts};
-ghost use Rattle.hac_model.specs.Refusals.{blocked, led_to, writes, written_cause};
-ghost use Rattle.hac_model.specs.Formula.{Formula};
+ghost use Rattle.hac_model.specs.Tree.Events.{added, apply_all, asking, changed_at, edited, reseated, rewritten};
+ghost use Rattle.hac_model.specs.Tree.Limits.{are_paths_short, counts};
+ghost use Rattle.hac_model.specs.Run.Refusals.{blocked, led_to, writes, written_cause};
+ghost use Rattle.hac_model.specs.Query.Formula.{Formula};
 ghost use Rattle.hac_model.specs.Tree.{ancestors, is_directory_at, is_file_at, is_made_directory, path_of};
 ghost use Rattle.hac_model.specs.declared.states.Body.{Body};
 ghost use Rattle.file_tree.specs.Answers.{is_live};

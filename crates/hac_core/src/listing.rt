@@ -1,9 +1,9 @@
 //! The data lines of commands that read: the text of a file, the entries of a directory, and more.
 ghost use Rattle.std.specs.Prelude.{◌≡◌, ◌&&◌, ◌∷◌, [], None, IfOk, IsSome, IsTrue, Some, map};
 ghost use Rattle.std.specs.Option.{option_map};
-ghost use Rattle.hac_model.specs.Listing.{children, entry_line, letter};
-ghost use Rattle.hac_model.specs.Play.{data_lines, text_lines};
-ghost use Rattle.hac_model.specs.Refusals.{blocked};
+ghost use Rattle.hac_model.specs.Tree.Listing.{children, entry_line, letter};
+ghost use Rattle.hac_model.specs.Run.Play.{data_lines, text_lines};
+ghost use Rattle.hac_model.specs.Run.Refusals.{blocked};
 ghost use Rattle.hac_model.specs.Tree.{entry_at, is_file_at};
 ghost use Rattle.hac_model.specs.declared.states.Body.{Body};
 ghost use Rattle.file_tree.specs.Answers.{entry_kind};

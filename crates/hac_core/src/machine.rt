@@ -1,16 +1,16 @@
 //! The machine itself.
 ghost use Rattle.std.specs.Prelude.{◌≡◌, [], IfOk, IfErr, IsTrue, None, OnOk, OnErr, true, false};
 ghost use Rattle.std.specs.Option.{option_map};
-ghost use Rattle.hac_model.specs.Answers.{Answers, Passes, Refuses};
-ghost use Rattle.hac_model.specs.Events.{accepted, apply_all, dirty};
+ghost use Rattle.hac_model.specs.Run.Answers.{Answers, Passes, Refuses};
+ghost use Rattle.hac_model.specs.Tree.Events.{accepted, apply_all, dirty};
 ghost use Rattle.hac_model.specs.Laws.{AllHappen};
-ghost use Rattle.hac_model.specs.Limits.{first_passed};
-ghost use Rattle.hac_model.specs.Lines.{is_spelled};
-ghost use Rattle.hac_model.specs.Play.{data_lines};
-ghost use Rattle.hac_model.specs.Refusals.{answer_cause, blocked, cause, early_cause, layout_cause, refusal};
-ghost use Rattle.hac_model.specs.Resolving.{resolve};
+ghost use Rattle.hac_model.specs.Tree.Limits.{first_passed};
+ghost use Rattle.hac_model.specs.Script.Lines.{is_spelled};
+ghost use Rattle.hac_model.specs.Run.Play.{data_lines};
+ghost use Rattle.hac_model.specs.Run.Refusals.{answer_cause, blocked, cause, early_cause, layout_cause, refusal};
+ghost use Rattle.hac_model.specs.Run.Resolving.{resolve};
 ghost use Rattle.hac_model.specs.Tree.{empty};
-ghost use Rattle.hac_model.specs.Valid.{IsValid};
+ghost use Rattle.hac_model.specs.Tree.Valid.{IsValid};
 ghost use Rattle.hac_core.specs.Drafts.{IsDraft, IsDraftOf, reads};
 ghost use Rattle.hac_core.specs.Limiting.{are_texts};
 ghost use Rattle.hac_core.specs.Settling.{Settles, settled_events};

@@ -1,9 +1,9 @@
 //! Where path words lead.
 ghost use Rattle.std.specs.Prelude.{◌≡◌, ◌++◌, ◌∷◌, [], ℕ, List, IfOk, IsTrue};
-ghost use Rattle.hac_model.specs.Answers.{Answers};
-ghost use Rattle.hac_model.specs.Resolving.{place, entry, directory, listed, numbered};
+ghost use Rattle.hac_model.specs.Run.Answers.{Answers};
+ghost use Rattle.hac_model.specs.Run.Resolving.{place, entry, directory, listed, numbered};
 ghost use Rattle.hac_model.specs.Tree.{is_directory_at, path_of};
-ghost use Rattle.hac_model.specs.Valid.{IsLayout};
+ghost use Rattle.hac_model.specs.Tree.Valid.{IsLayout};
 ghost use Rattle.file_tree.specs.Answers.{is_live};
 
 use file_tree::{EntryKind, Stop, Tree};

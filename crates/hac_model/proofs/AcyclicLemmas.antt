@@ -3,14 +3,14 @@ use Rattle.std.proofs.Common.{◌≡◌, ℕ, zero, suc, Bool, true, false, cond
 use Rattle.std.specs.Prelude.{◌⊎◌, ◌==◌, ◌||◌, filter, Option, Some, None, IsTrue, option_and_then}
 use Rattle.std.specs.Option.{option_map, option_map_or}
 use Rattle.std.proofs.lemmas.Bool.{and_parts, cases_eq, eqb-true}
-use Rattle.hac_model.specs.Depends.{Among, IsAcyclic, Leads, Reaches, cycle_of_move, cycle_over, depends, named_in}
-use Rattle.hac_model.specs.Events.{accepted, added, apply, are_directories, asking, changed_at, edited, forgetting, forgotten, indexed, is_possible, marked, next_dirty, plain_body, removed, reseated, rewritten}
-use Rattle.hac_model.specs.Formula.{Formula}
-use Rattle.hac_model.specs.Limits.{passed}
-use Rattle.hac_model.specs.Links.{parent_of, query_at}
-use Rattle.hac_model.specs.Queries.{is_query}
+use Rattle.hac_model.specs.Tree.Depends.{Among, IsAcyclic, Leads, Reaches, cycle_of_move, cycle_over, depends, named_in}
+use Rattle.hac_model.specs.Tree.Events.{accepted, added, apply, are_directories, asking, changed_at, edited, forgetting, forgotten, indexed, is_possible, marked, next_dirty, plain_body, removed, reseated, rewritten}
+use Rattle.hac_model.specs.Query.Formula.{Formula}
+use Rattle.hac_model.specs.Tree.Limits.{passed}
+use Rattle.hac_model.specs.Tree.Links.{parent_of, query_at}
+use Rattle.hac_model.specs.Query.Queries.{is_query}
 use Rattle.hac_model.specs.Tree.{empty, entry_at, is_directory, is_directory_at, is_made_directory, query_in}
-use Rattle.hac_model.specs.Valid.{AsksWell, IsLayout, IsValid}
+use Rattle.hac_model.specs.Tree.Valid.{AsksWell, IsLayout, IsValid}
 use Rattle.hac_model.specs.declared.events.Event.{Event}
 use Rattle.hac_model.specs.declared.events.Event.TheVariants.{Mkdir, NewFile, Rewrite, Mark, Mv, Rm, Rmdir, Setq, Smkdir, Step, Unq}
 use Rattle.hac_model.specs.declared.marks.Kind.{Kind}

@@ -3,23 +3,23 @@ use Rattle.std.proofs.Common.{◌≡◌, ℕ, Bool, true, false, cond, List, [],
 use Rattle.std.specs.Prelude.{◌+◌, ◌==◌, codes, ◌&&◌, ◌||◌, ◌++◌, ◌-◌, filter, not, Option, Some, None, Ok, Err, IsTrue, is_some, is_none, option_and_then}
 use Rattle.std.specs.List.{AllByRecursion, slice_index_or}
 use Rattle.std.specs.Option.{option_map, option_map_or, unwrap_or}
-use Rattle.hac_model.specs.Answers.{and_then, first_cause}
-use Rattle.hac_model.specs.Bare.{bare, bare_body}
-use Rattle.hac_model.specs.Depends.{depends, named_in, names_directory, referrers}
-use Rattle.hac_model.specs.Events.{are_directories, dirty, edited, is_bare, is_free, is_inside, may_ask}
-use Rattle.hac_model.specs.Formula.{Formula}
-use Rattle.hac_model.specs.Formula as query
-use Rattle.hac_model.specs.Limits.{answer_limits, layout_limits, counts, first_passed, passed, weight}
-use Rattle.hac_model.specs.Links.{has, parent_of, query_at}
-use Rattle.hac_model.specs.Listing.{children, entry_line, in_order, is_before, letter, put_in_order}
-use Rattle.hac_model.specs.Looks.{look, stands_at, stop_at, ways}
-use Rattle.hac_model.specs.Names.{is_name}
-use Rattle.hac_model.specs.Paths.{join, without_last}
-use Rattle.hac_model.specs.Queries.{is_query}
-use Rattle.hac_model.specs.Resolving.{directory, entry, item_and_dir, listed, numbered, place, resolved, standing}
-use Rattle.hac_model.specs.Sessions.{base_of, stands_in}
+use Rattle.hac_model.specs.Run.Answers.{and_then, first_cause}
+use Rattle.hac_model.specs.Tree.Bare.{bare, bare_body}
+use Rattle.hac_model.specs.Tree.Depends.{depends, named_in, names_directory, referrers}
+use Rattle.hac_model.specs.Tree.Events.{are_directories, dirty, edited, is_bare, is_free, is_inside, may_ask}
+use Rattle.hac_model.specs.Query.Formula.{Formula}
+use Rattle.hac_model.specs.Query.Formula as query
+use Rattle.hac_model.specs.Tree.Limits.{answer_limits, layout_limits, counts, first_passed, passed, weight}
+use Rattle.hac_model.specs.Tree.Links.{has, parent_of, query_at}
+use Rattle.hac_model.specs.Tree.Listing.{children, entry_line, in_order, is_before, letter, put_in_order}
+use Rattle.hac_model.specs.Tree.Looks.{look, stands_at, stop_at, ways}
+use Rattle.hac_model.specs.Tree.Names.{is_name}
+use Rattle.hac_model.specs.Tree.Paths.{join, without_last}
+use Rattle.hac_model.specs.Query.Queries.{is_query}
+use Rattle.hac_model.specs.Run.Resolving.{directory, entry, item_and_dir, listed, numbered, place, resolved, standing}
+use Rattle.hac_model.specs.Tree.Sessions.{base_of, stands_in}
 use Rattle.hac_model.specs.Tree.{body_at, child, entry_at, extends, is_directory, is_directory_at, is_dirty, is_file, is_file_at, path_of, query_in, text_in}
-use Rattle.hac_model.specs.Valid.{IsLayout, IsSound, NamesDiffer, NumbersRise}
+use Rattle.hac_model.specs.Tree.Valid.{IsLayout, IsSound, NamesDiffer, NumbersRise}
 use Rattle.hac_model.specs.declared.commands.Command.{Command}
 use Rattle.hac_model.specs.declared.commands.Command.TheVariants as command
 use Rattle.hac_model.specs.declared.paths.PathWord.{PathWord}

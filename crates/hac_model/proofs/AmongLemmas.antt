@@ -1,7 +1,7 @@
 -- Who is among the numbers of two lists that are joined.
 use Rattle.std.proofs.Common.{ℕ, List, [], ◌∷◌, ◌++◌, inl, inr}
 use Rattle.std.specs.Prelude.{◌⊎◌}
-use Rattle.hac_model.specs.Depends.{Among}
+use Rattle.hac_model.specs.Tree.Depends.{Among}
 
 pub among-left : (xs ys : List ℕ) (n : ℕ) → Among xs n → Among (xs ++ ys) n
 among-left [] ys n h = absurd h

@@ -7,9 +7,9 @@ use Rattle.std.specs.Str.{bytes_eq}
 use Rattle.std.specs.Cmp.{nat_eq_equiv}
 use Rattle.std.specs.Cmp.Lexicographic.{nat_list_eq_equiv}
 use Rattle.std.proofs.lemmas.Bool.{eqb-true, ne_eqb}
-use Rattle.hac_model.specs.Events.{changed, edited, reseated}
+use Rattle.hac_model.specs.Tree.Events.{changed, edited, reseated}
 use Rattle.hac_model.specs.Tree.{body_at, child, entry_at, is_directory, is_directory_at, is_made_directory}
-use Rattle.hac_model.specs.Valid.{NamesDiffer, NumbersRise}
+use Rattle.hac_model.specs.Tree.Valid.{NamesDiffer, NumbersRise}
 use Rattle.hac_model.specs.declared.states.Body.{Body}
 use Rattle.hac_model.specs.declared.states.Entry.{Entry}
 

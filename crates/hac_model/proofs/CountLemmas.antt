@@ -3,10 +3,10 @@ use Rattle.std.proofs.Common.{◌≡◌, ℕ, ◌+◌, ◌<◌, ◌≤◌, Bool,
 use Rattle.std.specs.Prelude.{◌==◌, not, filter, sum_by, Some, is_some}
 use Rattle.std.proofs.lemmas.Bool.{eqb-true, ne_eqb}
 use Rattle.std.proofs.lemmas.List.Sums.{sum_by-cons, sum_by_push}
-use Rattle.hac_model.specs.Events.{changed, changed_at, edited, indexed, reseated, rewritten}
-use Rattle.hac_model.specs.Limits.{directory_count, dirty_count, file_count, semantic_count, text_size, weight}
+use Rattle.hac_model.specs.Tree.Events.{changed, changed_at, edited, indexed, reseated, rewritten}
+use Rattle.hac_model.specs.Tree.Limits.{directory_count, dirty_count, file_count, semantic_count, text_size, weight}
 use Rattle.hac_model.specs.Tree.{entry_at, is_directory, is_dirty, is_file, query_in}
-use Rattle.hac_model.specs.Valid.{NumbersRise}
+use Rattle.hac_model.specs.Tree.Valid.{NumbersRise}
 use Rattle.hac_model.specs.declared.states.Body.{Body}
 use Rattle.hac_model.specs.declared.states.Body.TheVariants.{File, Dir, Symlink, Semantic, Mount}
 use Rattle.hac_model.specs.declared.states.Entry.{Entry}

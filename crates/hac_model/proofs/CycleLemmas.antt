@@ -4,8 +4,8 @@ use Rattle.std.specs.Prelude.{◌⊎◌, ◌==◌, ◌||◌, Option, Some, None,
 use Rattle.std.specs.List.{list_any}
 use Rattle.std.specs.Option.{option_map, option_map_or}
 use Rattle.std.proofs.lemmas.Bool.{eqb-true}
-use Rattle.hac_model.specs.Depends.{Among, IsAcyclic, Leads, Reaches, depends, first_reaching, leads_within, named_in, reaches}
-use Rattle.hac_model.specs.Limits.{semantic_count}
+use Rattle.hac_model.specs.Tree.Depends.{Among, IsAcyclic, Leads, Reaches, depends, first_reaching, leads_within, named_in, reaches}
+use Rattle.hac_model.specs.Tree.Limits.{semantic_count}
 use Rattle.hac_model.specs.Tree.{entry_at, query_in}
 use Rattle.hac_model.specs.declared.states.Entry.{Entry}
 use Rattle.hac_model.specs.declared.states.State.{State}

@@ -5,10 +5,10 @@ use Rattle.std.specs.Option.{option_map}
 use Rattle.std.specs.List.{AllByRecursion, list_all}
 use Rattle.std.proofs.lemmas.Bool.{and_from, and_parts, eqb-false}
 use Rattle.std.proofs.lemmas.List.{length-map}
-use Rattle.hac_model.specs.Events.{changed, edited}
-use Rattle.hac_model.specs.Limits.{are_paths_short}
+use Rattle.hac_model.specs.Tree.Events.{changed, edited}
+use Rattle.hac_model.specs.Tree.Limits.{are_paths_short}
 use Rattle.hac_model.specs.Tree.{ancestors, entry_at, is_path_short, lineage}
-use Rattle.hac_model.specs.Valid.{IsLayout}
+use Rattle.hac_model.specs.Tree.Valid.{IsLayout}
 use Rattle.hac_model.specs.declared.states.Body.{Body}
 use Rattle.hac_model.specs.declared.states.Entry.{Entry}
 use Rattle.hac_model.specs.declared.states.State.{State}

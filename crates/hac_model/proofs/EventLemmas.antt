@@ -5,23 +5,23 @@ use Rattle.std.specs.List.{list_all}
 use Rattle.std.specs.Option.{option_map, option_map_or}
 use Rattle.std.proofs.lemmas.Bool.{and_from, and_parts, not_from_false}
 use Rattle.std.proofs.lemmas.Bool.Decides.{nat_tests}
-use Rattle.hac_model.specs.Answers.{and_then, first_cause}
-use Rattle.hac_model.specs.Events.{accepted, apply, apply_all, are_directories, changed_at, dirty, edited, indexed, is_bare, is_free, is_inside, is_possible, is_unreferenced, may_ask, may_mark, next_dirty}
-use Rattle.hac_model.specs.Depends.{cycle_of_move, cycle_over, named_in, names_directory, referrers}
-use Rattle.hac_model.specs.Formula.{Formula}
-use Rattle.hac_model.specs.Formula as query
+use Rattle.hac_model.specs.Run.Answers.{and_then, first_cause}
+use Rattle.hac_model.specs.Tree.Events.{accepted, apply, apply_all, are_directories, changed_at, dirty, edited, indexed, is_bare, is_free, is_inside, is_possible, is_unreferenced, may_ask, may_mark, next_dirty}
+use Rattle.hac_model.specs.Tree.Depends.{cycle_of_move, cycle_over, named_in, names_directory, referrers}
+use Rattle.hac_model.specs.Query.Formula.{Formula}
+use Rattle.hac_model.specs.Query.Formula as query
 use Rattle.hac_model.specs.Laws.{AllHappen}
-use Rattle.hac_model.specs.Limits.{answer_limits, counts, dirty_count, first_passed, is_text, layout_limits, passed}
-use Rattle.hac_model.specs.Lines.{is_spelled, is_spelled_word}
-use Rattle.hac_model.specs.Paths.{are_names}
-use Rattle.hac_model.specs.Links.{has, is_item, is_permanent, is_prohibited, is_semantic, links, parent_of}
-use Rattle.hac_model.specs.Queries.{are_terms, is_query, letter_count, not_count, term_count}
-use Rattle.hac_model.specs.QueryReading.{are_rooted, is_spelled_query}
-use Rattle.hac_model.specs.Refusals.{already_cause, answer_cause, blocked, cause, cycle_by, cycle_cause, directory_cause, early_cause, events_of, filled_cause, layout_cause, least_path, led_to, marks, plain_cause, referenced_cause, root_cause, taken_cause, under_cause, unlinked_cause, unmarked_cause}
-use Rattle.hac_model.specs.Resolving.{directed, directory, entry, item_and_dir, listed, numbered, place, resolve, resolved, standing}
-use Rattle.hac_model.specs.Sessions.{stands_in}
+use Rattle.hac_model.specs.Tree.Limits.{answer_limits, counts, dirty_count, first_passed, is_text, layout_limits, passed}
+use Rattle.hac_model.specs.Script.Lines.{is_spelled, is_spelled_word}
+use Rattle.hac_model.specs.Tree.Paths.{are_names}
+use Rattle.hac_model.specs.Tree.Links.{has, is_item, is_permanent, is_prohibited, is_semantic, links, parent_of}
+use Rattle.hac_model.specs.Query.Queries.{are_terms, is_query, letter_count, not_count, term_count}
+use Rattle.hac_model.specs.Query.QueryReading.{are_rooted, is_spelled_query}
+use Rattle.hac_model.specs.Run.Refusals.{already_cause, answer_cause, blocked, cause, cycle_by, cycle_cause, directory_cause, early_cause, events_of, filled_cause, layout_cause, least_path, led_to, marks, plain_cause, referenced_cause, root_cause, taken_cause, under_cause, unlinked_cause, unmarked_cause}
+use Rattle.hac_model.specs.Run.Resolving.{directed, directory, entry, item_and_dir, listed, numbered, place, resolve, resolved, standing}
+use Rattle.hac_model.specs.Tree.Sessions.{stands_in}
 use Rattle.hac_model.specs.Tree.{entry_at, is_directory_at, is_dirty, is_file_at, is_made_directory, path_of}
-use Rattle.hac_model.specs.Valid.{IsLayout, IsValid, NumbersRise}
+use Rattle.hac_model.specs.Tree.Valid.{IsLayout, IsValid, NumbersRise}
 use Rattle.hac_model.specs.declared.commands.Command.{Command}
 use Rattle.hac_model.specs.declared.commands.Command.TheVariants as command
 use Rattle.hac_model.specs.declared.commands.Line.{Line}

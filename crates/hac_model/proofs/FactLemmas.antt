@@ -3,14 +3,14 @@ use Rattle.std.proofs.Common.{◌≡◌, ℕ, Bool, true, false, cond, List, [],
 use Rattle.std.specs.Prelude.{◌==◌, ◌&&◌, filter, Option, Some, None, is_some, option_and_then}
 use Rattle.std.specs.Option.{option_map, option_map_or}
 use Rattle.std.proofs.lemmas.Bool.{and_parts, eqb-true}
-use Rattle.hac_model.specs.Bare.{bare}
-use Rattle.hac_model.specs.Depends.{depends, named_in}
-use Rattle.hac_model.specs.Events.{apply, asking, changed_at, edited, forgetting, indexed, is_possible, marked, may_mark, next_dirty, plain_body, reseated, rewritten}
-use Rattle.hac_model.specs.Facts.{Facts, edges_to, facts_after, facts_at, facts_in, facts_of, no_facts, put_at, with_mark, without_item}
-use Rattle.hac_model.specs.Formula.{Formula}
-use Rattle.hac_model.specs.Links.{is_item, is_semantic}
+use Rattle.hac_model.specs.Tree.Bare.{bare}
+use Rattle.hac_model.specs.Tree.Depends.{depends, named_in}
+use Rattle.hac_model.specs.Tree.Events.{apply, asking, changed_at, edited, forgetting, indexed, is_possible, marked, may_mark, next_dirty, plain_body, reseated, rewritten}
+use Rattle.hac_model.specs.Tree.Facts.{Facts, edges_to, facts_after, facts_at, facts_in, facts_of, no_facts, put_at, with_mark, without_item}
+use Rattle.hac_model.specs.Query.Formula.{Formula}
+use Rattle.hac_model.specs.Tree.Links.{is_item, is_semantic}
 use Rattle.hac_model.specs.Tree.{entry_at, is_directory, is_file, query_in}
-use Rattle.hac_model.specs.Valid.{NumbersRise}
+use Rattle.hac_model.specs.Tree.Valid.{NumbersRise}
 use Rattle.hac_model.specs.declared.events.Event.{Event}
 use Rattle.hac_model.specs.declared.events.Event.TheVariants.{Mkdir, NewFile, Rewrite, Smkdir, Setq, Unq, Mark, Mv, Rm, Rmdir, Step}
 use Rattle.hac_model.specs.declared.marks.Kind.{Kind}

@@ -2,11 +2,11 @@
 use Rattle.std.proofs.Common.{◌≡◌, ℕ, List, [], ◌∷◌, map, refl, ap, sym, ◌∙◌}
 use Rattle.std.specs.Prelude.{Some, filter}
 use Rattle.std.specs.List.{AllByRecursion}
-use Rattle.hac_model.specs.Bare.{bare, bare_body}
-use Rattle.hac_model.specs.Events.{apply, edited, marked}
-use Rattle.hac_model.specs.Facts.{Facts, bare_after, facts_at, facts_in, facts_of, filled, filled_entry, joined}
+use Rattle.hac_model.specs.Tree.Bare.{bare, bare_body}
+use Rattle.hac_model.specs.Tree.Events.{apply, edited, marked}
+use Rattle.hac_model.specs.Tree.Facts.{Facts, bare_after, facts_at, facts_in, facts_of, filled, filled_entry, joined}
 use Rattle.hac_model.specs.Tree.{entry_at}
-use Rattle.hac_model.specs.Valid.{NumbersRise}
+use Rattle.hac_model.specs.Tree.Valid.{NumbersRise}
 use Rattle.hac_model.specs.declared.events.Event.{Event}
 use Rattle.hac_model.specs.declared.events.Event.TheVariants.{Mark, Rm}
 use Rattle.hac_model.specs.declared.states.Body.{Body}

@@ -4,8 +4,8 @@ use Rattle.std.specs.Prelude.{nat_le, nat_lt, take, Option, None, Some, Err}
 use Rattle.std.specs.Option.{option_map, unwrap_or}
 use Rattle.std.proofs.lemmas.Bool.{le-ltb}
 use Rattle.std.proofs.lemmas.List.{take-append-le}
-use Rattle.hac_model.specs.Lines.{Item, in_main, command_with, is_quiet, item_of, items_of, put_length}
-use Rattle.hac_model.specs.Puts.{came}
+use Rattle.hac_model.specs.Script.Lines.{Item, in_main, command_with, is_quiet, item_of, items_of, put_length}
+use Rattle.hac_model.specs.Script.Puts.{came}
 use Rattle.hac_model.specs.Script.{due}
 use Rattle.hac_model.specs.declared.limits.LimitWord.TheVariants as limit
 use Rattle.hac_model.specs.declared.limits.TheConstants.{LINE_LIMIT, TEXT_LIMIT}

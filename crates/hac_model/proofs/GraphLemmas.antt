@@ -1,7 +1,7 @@
 -- Walks over edges, and how a graph stays without one that returns.
 use Rattle.std.proofs.Common.{◌≡◌, ℕ, zero, suc, ◌+◌, List, [], subst, refl, sym, arith, inl, inr}
 use Rattle.std.specs.Prelude.{◌⊎◌}
-use Rattle.hac_model.specs.Depends.{Among, Leads, NeverReturns, Reaches}
+use Rattle.hac_model.specs.Tree.Depends.{Among, Leads, NeverReturns, Reaches}
 
 -- a step more at the end
 pub leads_more : (edges : ℕ → List ℕ) (k : ℕ) (d e m : ℕ) → Leads edges k d e → Among (edges e) m → Leads edges (suc k) d m

@@ -9,9 +9,9 @@ use Rattle.std.proofs.lemmas.List.Sums.{split_at_first, passes_at_first}
 use Rattle.std.proofs.Math.Seq.{take-append_seam, drop-append_seam, drop-append-add}
 use Rattle.std.proofs.lemmas.Grind.{common_steps}
 use Rattle.hac_model.specs.Bytes.{is_line_end}
-use Rattle.hac_model.specs.Lines.{Item, items_of}
+use Rattle.hac_model.specs.Script.Lines.{Item, items_of}
 use Rattle.hac_model.specs.Script.{first_line, after_line, is_first_ended, due, first_items, after_item, script, is_first_whole, whole_line, whole}
-use Rattle.hac_model.specs.Play.{Setting, Turn, left_by, play, item_turn, turns}
+use Rattle.hac_model.specs.Run.Play.{Setting, Turn, left_by, play, item_turn, turns}
 use Rattle.hac_model.proofs.FrontLemmas.{items-front}
 use Rattle.hac_model.proofs.PrefixLemmas.{unended-take}
 use Rattle.hac_model.proofs.ScriptLemmas.{script-step, script-nothing, whole-step, length-after_item}

@@ -1,7 +1,7 @@
 -- A state that exceeds no limit is within each of them.
 use Rattle.std.proofs.Common.{◌≡◌, Bool, true, false, cond, refl, ap, ◌∙◌, List, [], ◌∷◌, ◌++◌}
 use Rattle.std.specs.Prelude.{nat_lt, Option, Some, None}
-use Rattle.hac_model.specs.Limits.{answer_limits, are_paths_short, counts, directory_count, file_count, first_passed, layout_limits, long_paths, passed, semantic_count, text_size}
+use Rattle.hac_model.specs.Tree.Limits.{answer_limits, are_paths_short, counts, directory_count, file_count, first_passed, layout_limits, long_paths, passed, semantic_count, text_size}
 use Rattle.hac_model.specs.declared.limits.Limit.{Limit}
 use Rattle.hac_model.specs.declared.limits.TheConstants.{TEXTS_LIMIT, DIRS_LIMIT, SEMANTICS_LIMIT, ITEMS_LIMIT, NUMBERS_LIMIT}
 use Rattle.hac_model.specs.declared.limits.LimitWord.{LimitWord}

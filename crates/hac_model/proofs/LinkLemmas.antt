@@ -6,11 +6,11 @@ use Rattle.std.specs.Option.{option_map_or, option_map}
 use Rattle.std.proofs.Math.Dec.{eqb}
 use Rattle.std.proofs.lemmas.Bool.{eqb-true}
 use Rattle.std.proofs.lemmas.List.Sums.{sum_by-cons}
-use Rattle.hac_model.specs.Depends.{depends, named_in, Among, Leads, IsAcyclic}
-use Rattle.hac_model.specs.Formula.{Formula}
-use Rattle.hac_model.specs.Formula as query
-use Rattle.hac_model.specs.Limits.{semantic_count}
-use Rattle.hac_model.specs.Links.{parent_of, is_permanent, is_semantic, is_unmarked, is_below, provide, holds, satisfies, passes, column, round, rounds, links, items, shown_of, query_at}
+use Rattle.hac_model.specs.Tree.Depends.{depends, named_in, Among, Leads, IsAcyclic}
+use Rattle.hac_model.specs.Query.Formula.{Formula}
+use Rattle.hac_model.specs.Query.Formula as query
+use Rattle.hac_model.specs.Tree.Limits.{semantic_count}
+use Rattle.hac_model.specs.Tree.Links.{parent_of, is_permanent, is_semantic, is_unmarked, is_below, provide, holds, satisfies, passes, column, round, rounds, links, items, shown_of, query_at}
 use Rattle.hac_model.specs.Tree.{entry_at, body_at, query_in}
 use Rattle.hac_model.specs.declared.states.Entry.{Entry}
 use Rattle.hac_model.specs.declared.states.State.{State}

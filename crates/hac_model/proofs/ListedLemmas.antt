@@ -4,10 +4,10 @@ use Rattle.std.specs.Prelude.{◌&&◌, ◌||◌, ◌==◌, Option, filter}
 use Rattle.std.specs.List.{range_with_len}
 use Rattle.std.specs.Option.{option_map, option_map_or}
 use Rattle.std.proofs.lemmas.Bool.{cases_eq, cases_lt}
-use Rattle.hac_model.specs.Depends.{IsAcyclic}
-use Rattle.hac_model.specs.Links.{has, is_item, is_semantic, passes, column, links, items, round}
+use Rattle.hac_model.specs.Tree.Depends.{IsAcyclic}
+use Rattle.hac_model.specs.Tree.Links.{has, is_item, is_semantic, passes, column, links, items, round}
 use Rattle.hac_model.specs.Tree.{is_file, is_file_at}
-use Rattle.hac_model.specs.Valid.{IsLayout}
+use Rattle.hac_model.specs.Tree.Valid.{IsLayout}
 use Rattle.hac_model.specs.declared.states.Entry.{Entry}
 use Rattle.hac_model.specs.declared.states.State.{State}
 use Rattle.hac_model.proofs.LinkLemmas.{links-fixed}

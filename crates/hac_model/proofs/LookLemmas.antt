@@ -5,14 +5,14 @@ use Rattle.std.specs.Option.{option_map, option_map_or}
 use Rattle.std.specs.Str.{bytes_eq}
 use Rattle.std.proofs.lemmas.Bool.{and_from, and_parts}
 use Rattle.std.proofs.lemmas.List.{append-nil}
-use Rattle.hac_model.specs.Events.{is_free}
-use Rattle.hac_model.specs.Looks.{has_names, look}
-use Rattle.hac_model.specs.Names.{is_name}
-use Rattle.hac_model.specs.Paths.{are_names, join, without_last}
-use Rattle.hac_model.specs.Resolving.{place}
-use Rattle.hac_model.specs.Sessions.{base_of, stands_in}
+use Rattle.hac_model.specs.Tree.Events.{is_free}
+use Rattle.hac_model.specs.Tree.Looks.{has_names, look}
+use Rattle.hac_model.specs.Tree.Names.{is_name}
+use Rattle.hac_model.specs.Tree.Paths.{are_names, join, without_last}
+use Rattle.hac_model.specs.Run.Resolving.{place}
+use Rattle.hac_model.specs.Tree.Sessions.{base_of, stands_in}
 use Rattle.hac_model.specs.Tree.{child, entry_at, is_directory, is_directory_at, is_file, is_file_at, is_made_directory, path_of}
-use Rattle.hac_model.specs.Valid.{IsLayout, IsSound, IsValid}
+use Rattle.hac_model.specs.Tree.Valid.{IsLayout, IsSound, IsValid}
 use Rattle.hac_model.specs.declared.paths.PathWord.{PathWord}
 use Rattle.hac_model.specs.declared.places.Place.{Place}
 use Rattle.hac_model.specs.declared.places.Place.TheVariants.{There, Free}

@@ -4,12 +4,12 @@ use Rattle.std.specs.Prelude.{◌==◌, ◌&&◌, ◌||◌, ◌++◌, Option, So
 use Rattle.std.specs.Option.{option_map, option_map_or}
 use Rattle.std.specs.List.{AllByRecursion, list_all}
 use Rattle.std.specs.Str.{bytes_eq}
-use Rattle.hac_model.specs.Events.{edited}
-use Rattle.hac_model.specs.Limits.{answer_limits, are_paths_short, counts, directory_count, file_count, first_passed, layout_limits, long_paths, passed, semantic_count, text_size, weight}
-use Rattle.hac_model.specs.Limits as limits_of
-use Rattle.hac_model.specs.Names.{is_name}
+use Rattle.hac_model.specs.Tree.Events.{edited}
+use Rattle.hac_model.specs.Tree.Limits.{answer_limits, are_paths_short, counts, directory_count, file_count, first_passed, layout_limits, long_paths, passed, semantic_count, text_size, weight}
+use Rattle.hac_model.specs.Tree.Limits as limits_of
+use Rattle.hac_model.specs.Tree.Names.{is_name}
 use Rattle.hac_model.specs.Tree.{ancestors, body_at, child, entry_at, is_directory, is_directory_at, is_file, is_path_short, lineage, path_of, query_in}
-use Rattle.hac_model.specs.Valid.{IsLayout, IsSound, NamesDiffer, NumbersRise}
+use Rattle.hac_model.specs.Tree.Valid.{IsLayout, IsSound, NamesDiffer, NumbersRise}
 use Rattle.hac_model.specs.declared.limits.LimitWord.TheVariants.{Texts, Dirs, Semantics, Path, Items, Numbers}
 use Rattle.hac_model.specs.declared.limits.TheConstants.{DIRS_LIMIT, ITEMS_LIMIT, NUMBERS_LIMIT, SEMANTICS_LIMIT, TEXTS_LIMIT}
 use Rattle.hac_model.specs.declared.states.Body.{Body}

@@ -3,9 +3,9 @@ use Rattle.std.proofs.Common.{◌≡◌, ℕ, ◌+◌, ◌≤◌, Bool, true, fa
 use Rattle.std.specs.Prelude.{◌==◌, ◌&&◌, ◌||◌, not, nat_lt, filter}
 use Rattle.std.specs.List.{AllByRecursion}
 use Rattle.std.proofs.lemmas.Bool.{cases_order, eqb-true, ltb-true, ltb-false, eqb-false, ne_eqb, not-true}
-use Rattle.hac_model.specs.Events.{forgetting, marked, marking, put_in, without}
-use Rattle.hac_model.specs.Links.{has, is_item}
-use Rattle.hac_model.specs.Valid.{AreMarks, AsksWell, IsSoundQuery, RiseFrom}
+use Rattle.hac_model.specs.Tree.Events.{forgetting, marked, marking, put_in, without}
+use Rattle.hac_model.specs.Tree.Links.{has, is_item}
+use Rattle.hac_model.specs.Tree.Valid.{AreMarks, AsksWell, IsSoundQuery, RiseFrom}
 use Rattle.hac_model.specs.declared.marks.Kind.{Kind}
 use Rattle.hac_model.specs.declared.marks.Kind.TheVariants.{Transient, Permanent, Prohibited, Unlinked}
 use Rattle.hac_model.specs.declared.states.Body.{Body}

@@ -9,10 +9,10 @@ use Rattle.std.proofs.lemmas.Bool.Decides.{nat_tests}
 use Rattle.std.proofs.lemmas.List.{drop-append-le, length-map, length-reverse, length-take, reverse-append, reverse-reverse, take_all}
 use Rattle.std.proofs.lemmas.List.Folds.{list_all-append}
 use Rattle.std.proofs.Math.Seq.{drop-length}
-use Rattle.hac_model.specs.Events.{accepted, added, apply, changed, changed_at, is_inside, is_possible, renamed, reseated}
-use Rattle.hac_model.specs.Limits.{are_paths_short, passed}
+use Rattle.hac_model.specs.Tree.Events.{accepted, added, apply, changed, changed_at, is_inside, is_possible, renamed, reseated}
+use Rattle.hac_model.specs.Tree.Limits.{are_paths_short, passed}
 use Rattle.hac_model.specs.Tree.{ancestors, entry_at, extends, is_path_short, lineage, path_of}
-use Rattle.hac_model.specs.Valid.{IsLayout}
+use Rattle.hac_model.specs.Tree.Valid.{IsLayout}
 use Rattle.hac_model.specs.declared.events.Event.TheVariants.{Mv}
 use Rattle.hac_model.specs.declared.limits.TheConstants.{PATH_LIMIT}
 use Rattle.hac_model.specs.declared.states.Body.{Body}

@@ -1,11 +1,11 @@
 -- The state after an event, put together from its tree and its facts.
 use Rattle.std.proofs.Common.{◌≡◌, ℕ, ap, sym, subst, ◌∙◌}
 use Rattle.std.specs.Prelude.{IsTrue}
-use Rattle.hac_model.specs.Bare.{bare}
-use Rattle.hac_model.specs.Events.{accepted, apply, is_possible}
-use Rattle.hac_model.specs.Facts.{Facts, bare_after, facts_after, facts_of, joined}
-use Rattle.hac_model.specs.Limits.{passed}
-use Rattle.hac_model.specs.Valid.{IsLayout, IsValid}
+use Rattle.hac_model.specs.Tree.Bare.{bare}
+use Rattle.hac_model.specs.Tree.Events.{accepted, apply, is_possible}
+use Rattle.hac_model.specs.Tree.Facts.{Facts, bare_after, facts_after, facts_of, joined}
+use Rattle.hac_model.specs.Tree.Limits.{passed}
+use Rattle.hac_model.specs.Tree.Valid.{IsLayout, IsValid}
 use Rattle.hac_model.specs.declared.events.Event.{Event}
 use Rattle.hac_model.specs.declared.states.State.{State}
 use Rattle.hac_model.proofs.AcyclicLemmas.{apply-valid}

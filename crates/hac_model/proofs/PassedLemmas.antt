@@ -4,10 +4,10 @@ use Rattle.std.specs.Prelude.{nat_lt, filter, Some, None}
 use Rattle.std.specs.Option.{option_map_or}
 use Rattle.std.specs.List.{AllByRecursion}
 use Rattle.std.proofs.lemmas.Bool.{ltb-false, le-ltb}
-use Rattle.hac_model.specs.Events.{apply, changed_at, edited, forgetting, indexed, is_bare, next_dirty, removed}
-use Rattle.hac_model.specs.Limits.{directory_count, passed, text_size, weight}
+use Rattle.hac_model.specs.Tree.Events.{apply, changed_at, edited, forgetting, indexed, is_bare, next_dirty, removed}
+use Rattle.hac_model.specs.Tree.Limits.{directory_count, passed, text_size, weight}
 use Rattle.hac_model.specs.Tree.{is_directory, is_file, is_file_at}
-use Rattle.hac_model.specs.Valid.{IsLayout}
+use Rattle.hac_model.specs.Tree.Valid.{IsLayout}
 use Rattle.hac_model.specs.declared.events.Event.TheVariants.{Rm, Rmdir, Step}
 use Rattle.hac_model.specs.declared.limits.TheConstants.{DIRS_LIMIT, SEMANTICS_LIMIT, ITEMS_LIMIT}
 use Rattle.hac_model.specs.declared.states.Body.{Body}

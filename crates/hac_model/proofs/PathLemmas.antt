@@ -10,9 +10,9 @@ use Rattle.std.proofs.lemmas.Bool.{and_parts, cond-false, eqb-true, le-leb, leb-
 use Rattle.std.proofs.lemmas.Bool.Decides.{same_from_decides, Decides-eqb, Decides-like}
 use Rattle.std.proofs.lemmas.List.{append-nil, length-map, length-reverse, reverse-append, take_all}
 use Rattle.std.proofs.lemmas.Slice.Eq.{bytes_eq-Decides, slice_eq-Decides}
-use Rattle.hac_model.specs.Looks.{has_names, look}
+use Rattle.hac_model.specs.Tree.Looks.{has_names, look}
 use Rattle.hac_model.specs.Tree.{ancestors, child, entry_at, extends, is_directory_at, is_file_at, is_path_short, lineage, path_of}
-use Rattle.hac_model.specs.Valid.{IsLayout}
+use Rattle.hac_model.specs.Tree.Valid.{IsLayout}
 use Rattle.hac_model.specs.declared.limits.TheConstants.{PATH_LIMIT}
 use Rattle.hac_model.specs.declared.places.Place.{Place}
 use Rattle.hac_model.specs.declared.places.Place.TheVariants.{There, Free}

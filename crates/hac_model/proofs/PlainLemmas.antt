@@ -4,9 +4,9 @@ use Rattle.std.specs.Prelude.{◌⊎◌, Option, Some, None, option_and_then}
 use Rattle.std.specs.Option.{option_map, unwrap_or}
 use Rattle.std.proofs.lemmas.Bool.{cases_eq, cases_order}
 use Rattle.std.proofs.lemmas.List.{append-nil}
-use Rattle.hac_model.specs.Looks.{body_of, plain, stands_at}
+use Rattle.hac_model.specs.Tree.Looks.{body_of, plain, stands_at}
 use Rattle.hac_model.specs.Tree.{child, entry_at, path_of}
-use Rattle.hac_model.specs.Valid.{IsLayout, IsValid, NumbersRise}
+use Rattle.hac_model.specs.Tree.Valid.{IsLayout, IsValid, NumbersRise}
 use Rattle.hac_model.specs.declared.states.Body.{Body}
 use Rattle.hac_model.specs.declared.states.Body.TheVariants.{Dir}
 use Rattle.hac_model.specs.declared.states.Entry.{Entry}

@@ -4,15 +4,15 @@ use Rattle.std.specs.Prelude.{if◌then◌else◌, Some, None, Result, Ok, Err, 
 use Rattle.std.specs.List.{AllByRecursion}
 use Rattle.std.specs.Option.{option_map_or}
 use Rattle.std.proofs.lemmas.List.{append-nil}
-use Rattle.hac_model.specs.Answers.{first_cause}
-use Rattle.hac_model.specs.Events.{apply, apply_all, dirty}
-use Rattle.hac_model.specs.Lines.{Item, is_quiet, is_spelled, item_of, items_of}
-use Rattle.hac_model.specs.Payloads.{event_text}
-use Rattle.hac_model.specs.Play.{Setting, answered, all_events, end_behind, events_in, full_cause, left_by, play, refused, item_turn, command_turn, turns}
-use Rattle.hac_model.specs.Refusals.{cause, events_of, led_to}
-use Rattle.hac_model.specs.Resolving.{resolve}
+use Rattle.hac_model.specs.Run.Answers.{first_cause}
+use Rattle.hac_model.specs.Tree.Events.{apply, apply_all, dirty}
+use Rattle.hac_model.specs.Script.Lines.{Item, is_quiet, is_spelled, item_of, items_of}
+use Rattle.hac_model.specs.Payload.Payloads.{event_text}
+use Rattle.hac_model.specs.Run.Play.{Setting, answered, all_events, end_behind, events_in, full_cause, left_by, play, refused, item_turn, command_turn, turns}
+use Rattle.hac_model.specs.Run.Refusals.{cause, events_of, led_to}
+use Rattle.hac_model.specs.Run.Resolving.{resolve}
 use Rattle.hac_model.specs.Script.{after_item, after_line, first_items, first_line, items_of_lines, script}
-use Rattle.hac_model.specs.Valid.{IsValid}
+use Rattle.hac_model.specs.Tree.Valid.{IsValid}
 use Rattle.hac_model.specs.declared.commands.Line.{Line}
 use Rattle.hac_model.specs.declared.events.Event.{Event}
 use Rattle.hac_model.specs.declared.replies.Refusal.{Refusal}

@@ -9,16 +9,16 @@ use Rattle.std.specs.Str.{bytes_eq}
 use Rattle.std.proofs.lemmas.Bool.{and_parts, and_from, cond_both}
 use Rattle.std.proofs.lemmas.Bool.Decides.{nat_tests}
 use Rattle.std.proofs.lemmas.List.Folds.{list_all-append}
-use Rattle.hac_model.specs.Answers.{and_then}
+use Rattle.hac_model.specs.Run.Answers.{and_then}
 use Rattle.hac_model.specs.Bytes.{is_backslash, is_slash, is_space}
-use Rattle.hac_model.specs.Formula.{Formula}
-use Rattle.hac_model.specs.Formula as formula
-use Rattle.hac_model.specs.Grammar.{is_control, Leaf, Word, Prefix, Dir, leaf_part, not_part, and_part, or_part, group_part}
-use Rattle.hac_model.specs.PathWords.{is_bad, has_long_part, untested_word, relative, parts, at_root, word_of}
-use Rattle.hac_model.specs.Paths.{are_names}
-use Rattle.hac_model.specs.Queries.{are_terms, is_operator, is_query, letter_count, not_count, term_count}
-use Rattle.hac_model.specs.QueryReading.{join_and, join_or, nots_part, enter, negate, receive, whole_part, after_and, after_or, grouped, leave, ungrouped, finish, kind_of, operand_begins, sign_begins, operator_begins, after_run, token_begins, run_ends, run_step, brace_step, path_step, escape_step, operand_step, sign_ends, operator_step, kind_step, step, ended_token, read_whole, fresh_reader, goes_on, read_on, parsed, named, worded, limited_query, spelled_query, read_query, are_rooted, is_spelled_query}
-use Rattle.hac_model.specs.Words.{has_bytes, is_word, is_word_byte, is_lower_word_byte, lower_case}
+use Rattle.hac_model.specs.Query.Formula.{Formula}
+use Rattle.hac_model.specs.Query.Formula as formula
+use Rattle.hac_model.specs.Query.Grammar.{is_control, Leaf, Word, Prefix, Dir, leaf_part, not_part, and_part, or_part, group_part}
+use Rattle.hac_model.specs.Script.PathWords.{is_bad, has_long_part, untested_word, relative, parts, at_root, word_of}
+use Rattle.hac_model.specs.Tree.Paths.{are_names}
+use Rattle.hac_model.specs.Query.Queries.{are_terms, is_operator, is_query, letter_count, not_count, term_count}
+use Rattle.hac_model.specs.Query.QueryReading.{join_and, join_or, nots_part, enter, negate, receive, whole_part, after_and, after_or, grouped, leave, ungrouped, finish, kind_of, operand_begins, sign_begins, operator_begins, after_run, token_begins, run_ends, run_step, brace_step, path_step, escape_step, operand_step, sign_ends, operator_step, kind_step, step, ended_token, read_whole, fresh_reader, goes_on, read_on, parsed, named, worded, limited_query, spelled_query, read_query, are_rooted, is_spelled_query}
+use Rattle.hac_model.specs.Query.Words.{has_bytes, is_word, is_word_byte, is_lower_word_byte, lower_case}
 use Rattle.hac_model.specs.declared.limits.TheConstants.{QUERY_LIMIT, TERMS_LIMIT, NESTING_LIMIT}
 use Rattle.hac_model.specs.declared.paths.PathWord.{PathWord}
 use Rattle.hac_model.specs.declared.reading.ByteKind.{ByteKind}

@@ -3,7 +3,7 @@ use Rattle.std.proofs.Common.{◌≡◌, ℕ, zero, suc, ◌+◌, ◌≤◌, Lis
 use Rattle.std.specs.Prelude.{if◌then◌else◌}
 use Rattle.std.specs.List.{position_or_len}
 use Rattle.hac_model.specs.Bytes.{is_line_end}
-use Rattle.hac_model.specs.Lines.{Item}
+use Rattle.hac_model.specs.Script.Lines.{Item}
 use Rattle.hac_model.specs.Script.{first_line, after_line, due, first_items, after_item, is_first_whole, whole_line, items_of_lines, script, whole_lines, whole}
 
 -- nothing has no items, in however many lines

@@ -8,21 +8,21 @@ use Rattle.std.proofs.lemmas.List.Folds.{list_all-append}
 use Rattle.std.specs.List.{list_all}
 use Rattle.std.specs.Option.{option_map, option_map_or}
 use Rattle.std.specs.Str.{bytes_eq}
-use Rattle.hac_model.specs.Depends.{cycle_over, named_in}
-use Rattle.hac_model.specs.Events.{accepted, apply, are_directories, is_free, is_possible, may_ask, may_mark}
-use Rattle.hac_model.specs.Fields.{num}
-use Rattle.hac_model.specs.Formula.{Formula}
-use Rattle.hac_model.specs.Formula as formula
-use Rattle.hac_model.specs.Limits.{is_text, passed}
-use Rattle.hac_model.specs.Links.{is_item, is_semantic, parent_of}
-use Rattle.hac_model.specs.Names.{is_name, is_name_byte}
-use Rattle.hac_model.specs.Payloads.{is_spellable, mark_field, name_field, text_field, told_field}
-use Rattle.hac_model.specs.Queries.{is_query}
-use Rattle.hac_model.specs.QueryFields.{are_nums, query_field}
-use Rattle.hac_model.specs.Sessions.{stored}
+use Rattle.hac_model.specs.Tree.Depends.{cycle_over, named_in}
+use Rattle.hac_model.specs.Tree.Events.{accepted, apply, are_directories, is_free, is_possible, may_ask, may_mark}
+use Rattle.hac_model.specs.Payload.Fields.{num}
+use Rattle.hac_model.specs.Query.Formula.{Formula}
+use Rattle.hac_model.specs.Query.Formula as formula
+use Rattle.hac_model.specs.Tree.Limits.{is_text, passed}
+use Rattle.hac_model.specs.Tree.Links.{is_item, is_semantic, parent_of}
+use Rattle.hac_model.specs.Tree.Names.{is_name, is_name_byte}
+use Rattle.hac_model.specs.Payload.Payloads.{is_spellable, mark_field, name_field, text_field, told_field}
+use Rattle.hac_model.specs.Query.Queries.{is_query}
+use Rattle.hac_model.specs.Payload.QueryFields.{are_nums, query_field}
+use Rattle.hac_model.specs.Tree.Sessions.{stored}
 use Rattle.hac_model.specs.Tree.{body_at, entry_at, is_directory, is_directory_at, is_file, is_file_at, is_made_directory, query_in}
-use Rattle.hac_model.specs.Valid.{IsValid}
-use Rattle.hac_model.specs.Words.{is_word}
+use Rattle.hac_model.specs.Tree.Valid.{IsValid}
+use Rattle.hac_model.specs.Query.Words.{is_word}
 use Rattle.hac_model.specs.declared.events.Event.{Event}
 use Rattle.hac_model.specs.declared.events.Event.TheVariants.{Mkdir, NewFile, Rewrite, Ln, Mv, Rm, Rmdir, Smkdir, Setq, Unq, Mark, Smount, Ssync, Sumount, Step, Cd}
 use Rattle.hac_model.specs.declared.limits.TheConstants.{NAME_LIMIT, NUMBERS_LIMIT, TEXT_LIMIT}

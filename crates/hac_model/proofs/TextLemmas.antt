@@ -9,7 +9,7 @@ use Rattle.std.proofs.lemmas.Grind.{common_steps}
 use Rattle.std.proofs.lemmas.List.Folds.{prefix_len-append}
 use Rattle.std.proofs.lemmas.Str.{digit_value-digit_char}
 use Rattle.hac_model.specs.Bytes.{is_backslash, is_line_end}
-use Rattle.hac_model.specs.Texts.{escape_of, escaped_text, hex_of, hex_byte, escaped_byte, text_of, then_text, with_byte}
+use Rattle.hac_model.specs.Script.Texts.{escape_of, escaped_text, hex_of, hex_byte, escaped_byte, text_of, then_text, with_byte}
 
 -- two digits are read as their number
 digits-read : (high low h l : ℕ) (rest : List ℕ) → digit_value high ≡ h → digit_value low ≡ l → h < 16 → l < 16 →

@@ -4,14 +4,14 @@ use Rattle.std.specs.Prelude.{◌&&◌, ◌==◌, not, Option, Some, None, IsTru
 use Rattle.std.specs.Option.{option_map_or}
 use Rattle.std.specs.List.{AllByRecursion}
 use Rattle.std.proofs.lemmas.Bool.{and_parts, eqb-false, not-true}
-use Rattle.hac_model.specs.Events.{accepted, added, apply, asking, changed, changed_at, edited, forgetting, forgotten, indexed, is_bare, is_free, is_inside, is_possible, is_unreferenced, marked, may_ask, may_mark, next_dirty, plain_body, removed, reseated, rewritten}
-use Rattle.hac_model.specs.Depends.{cycle_of_move, cycle_over}
-use Rattle.hac_model.specs.Formula.{Formula}
-use Rattle.hac_model.specs.Limits.{first_passed, is_text, passed, weight}
-use Rattle.hac_model.specs.Links.{is_item, is_semantic, parent_of}
-use Rattle.hac_model.specs.Names.{is_name}
+use Rattle.hac_model.specs.Tree.Events.{accepted, added, apply, asking, changed, changed_at, edited, forgetting, forgotten, indexed, is_bare, is_free, is_inside, is_possible, is_unreferenced, marked, may_ask, may_mark, next_dirty, plain_body, removed, reseated, rewritten}
+use Rattle.hac_model.specs.Tree.Depends.{cycle_of_move, cycle_over}
+use Rattle.hac_model.specs.Query.Formula.{Formula}
+use Rattle.hac_model.specs.Tree.Limits.{first_passed, is_text, passed, weight}
+use Rattle.hac_model.specs.Tree.Links.{is_item, is_semantic, parent_of}
+use Rattle.hac_model.specs.Tree.Names.{is_name}
 use Rattle.hac_model.specs.Tree.{child, empty, entry_at, is_directory, is_directory_at, is_file, is_file_at, is_made_directory, query_in}
-use Rattle.hac_model.specs.Valid.{IsLayout, IsSound, IsSoundFile}
+use Rattle.hac_model.specs.Tree.Valid.{IsLayout, IsSound, IsSoundFile}
 use Rattle.hac_model.specs.declared.events.Event.{Event}
 use Rattle.hac_model.specs.declared.events.Event.TheVariants.{Mkdir, NewFile, Rewrite, Mark, Mv, Rm, Rmdir, Setq, Smkdir, Step, Unq}
 use Rattle.hac_model.specs.declared.limits.LimitWord.{LimitWord}

@@ -3,10 +3,10 @@ use Rattle.std.proofs.Common.{◌≡◌, ℕ, Bool, true, false, cond, List, [],
 use Rattle.std.specs.Prelude.{◌==◌, filter, Option, Some, None}
 use Rattle.std.specs.Option.{option_map}
 use Rattle.std.proofs.lemmas.Bool.{eqb-false, eqb-true, ne_eqb}
-use Rattle.hac_model.specs.Events.{changed}
-use Rattle.hac_model.specs.Facts.{put_at}
+use Rattle.hac_model.specs.Tree.Events.{changed}
+use Rattle.hac_model.specs.Tree.Facts.{put_at}
 use Rattle.hac_model.specs.Tree.{entry_at}
-use Rattle.hac_model.specs.Valid.{NumbersRise}
+use Rattle.hac_model.specs.Tree.Valid.{NumbersRise}
 use Rattle.hac_model.specs.declared.states.Entry.{Entry}
 use Rattle.hac_model.proofs.ChangeLemmas.{entry_at-changed, entry_at-gone, entry_at-kept, entry_at-new, entry_at-other, is_kept, touched}
 use Rattle.hac_model.proofs.TreeLemmas.{entry_at-next, entry_at-number}

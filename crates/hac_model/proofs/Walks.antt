@@ -3,9 +3,9 @@ use Rattle.std.proofs.Common.{◌≡◌, ℕ, suc, ◌-◌, true, false, cond, L
 use Rattle.std.specs.Prelude.{◌&&◌, take, Option, Some, None, Result, Ok, Err, option_and_then}
 use Rattle.std.specs.List.{slice_index_or}
 use Rattle.std.specs.Option.{option_map_or, unwrap_or}
-use Rattle.hac_model.specs.Answers.{first_cause}
-use Rattle.hac_model.specs.Looks.{has_names, look, stands_at, ways}
-use Rattle.hac_model.specs.Paths.{without_last}
+use Rattle.hac_model.specs.Run.Answers.{first_cause}
+use Rattle.hac_model.specs.Tree.Looks.{has_names, look, stands_at, ways}
+use Rattle.hac_model.specs.Tree.Paths.{without_last}
 use Rattle.hac_model.specs.Tree.{child, is_file_at}
 use Rattle.hac_model.specs.declared.places.Place.{Place}
 use Rattle.hac_model.specs.declared.places.Place.TheVariants.{There, Free}

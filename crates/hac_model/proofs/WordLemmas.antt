@@ -6,9 +6,9 @@ use Rattle.std.specs.Prelude.{not, nat_le, nat_lt, ◌||◌, slice_index, Result
 use Rattle.std.specs.Str.{bytes_eq}
 use Rattle.std.specs.List.{list_all, list_any}
 use Rattle.hac_model.specs.Bytes.{is_slash}
-use Rattle.hac_model.specs.Names.{is_name, is_name_byte}
-use Rattle.hac_model.specs.Paths.{are_names}
-use Rattle.hac_model.specs.PathWords.{parts, is_part, is_long, is_idle, is_up, is_bad, has_long_part, at_root, relative, word_of}
+use Rattle.hac_model.specs.Tree.Names.{is_name, is_name_byte}
+use Rattle.hac_model.specs.Tree.Paths.{are_names}
+use Rattle.hac_model.specs.Script.PathWords.{parts, is_part, is_long, is_idle, is_up, is_bad, has_long_part, at_root, relative, word_of}
 use Rattle.hac_model.specs.declared.paths.PathWord.{PathWord}
 use Rattle.hac_model.specs.declared.replies.Refusal.{Refusal}
 

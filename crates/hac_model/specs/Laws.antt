@@ -1,26 +1,26 @@
 -- Theorems over the definitions, each proved as the contract of a function of the module `laws`.
 use Rattle.std.specs.Prelude.{true, false, ◌≡◌, ⊤, ℕ, zero, suc, ◌≤◌, ◌+◌, length, if◌then◌else◌, ◌||◌, nat_lt, List, [], ◌∷◌, ◌++◌, None, Some, Ok, IsTrue, is_some, codes}
 use Rattle.std.specs.List.{flat_map, position_or_len}
-use Rattle.hac_model.specs.Bare.{bare}
+use Rattle.hac_model.specs.Tree.Bare.{bare}
 use Rattle.hac_model.specs.Bytes.{is_backslash, is_line_end, is_quote}
-use Rattle.hac_model.specs.CommandLine.{options}
-use Rattle.hac_model.specs.Depends.{IsAcyclic}
-use Rattle.hac_model.specs.Events.{accepted, apply, apply_all, dirty, renamed}
-use Rattle.hac_model.specs.Facts.{facts_after, facts_of}
-use Rattle.hac_model.specs.LineWords.{first_word, is_word_end, quoted_word}
-use Rattle.hac_model.specs.Lines.{Item, is_spelled, item_of}
-use Rattle.hac_model.specs.Links.{links, round}
-use Rattle.hac_model.specs.Looks.{look, plain}
-use Rattle.hac_model.specs.Printed.{ended, text}
-use Rattle.hac_model.specs.Refusals.{cause, events_of, led_to}
-use Rattle.hac_model.specs.Resolving.{resolve}
+use Rattle.hac_model.specs.Script.CommandLine.{options}
+use Rattle.hac_model.specs.Tree.Depends.{IsAcyclic}
+use Rattle.hac_model.specs.Tree.Events.{accepted, apply, apply_all, dirty, renamed}
+use Rattle.hac_model.specs.Tree.Facts.{facts_after, facts_of}
+use Rattle.hac_model.specs.Script.LineWords.{first_word, is_word_end, quoted_word}
+use Rattle.hac_model.specs.Script.Lines.{Item, is_spelled, item_of}
+use Rattle.hac_model.specs.Tree.Links.{links, round}
+use Rattle.hac_model.specs.Tree.Looks.{look, plain}
+use Rattle.hac_model.specs.Script.Printed.{ended, text}
+use Rattle.hac_model.specs.Run.Refusals.{cause, events_of, led_to}
+use Rattle.hac_model.specs.Run.Resolving.{resolve}
 use Rattle.hac_model.specs.Script.{due, whole}
-use Rattle.hac_model.specs.Sessions.{stored}
-use Rattle.hac_model.specs.Payloads.{is_spellable}
-use Rattle.hac_model.specs.Play.{Setting, all_events, end_after, left_by, new_setting, play, replies, turns}
-use Rattle.hac_model.specs.Texts.{escaped_text, text_of}
+use Rattle.hac_model.specs.Tree.Sessions.{stored}
+use Rattle.hac_model.specs.Payload.Payloads.{is_spellable}
+use Rattle.hac_model.specs.Run.Play.{Setting, all_events, end_after, left_by, new_setting, play, replies, turns}
+use Rattle.hac_model.specs.Script.Texts.{escaped_text, text_of}
 use Rattle.hac_model.specs.Tree.{empty, entry_at, path_of}
-use Rattle.hac_model.specs.Valid.{IsValid}
+use Rattle.hac_model.specs.Tree.Valid.{IsValid}
 use Rattle.hac_model.specs.declared.commands.Line.{Line}
 use Rattle.hac_model.specs.declared.events.Event.{Event}
 use Rattle.hac_model.specs.declared.events.Event.TheVariants.{Mv, Step}

@@ -1,9 +1,17 @@
 -- The commands that the bytes of a script spell.
+pub mod Lines
+pub mod LineWords
+pub mod PathWords
+pub mod Puts
+pub mod Printed
+pub mod Texts
+pub mod CommandLine
+pub mod SpaceNames
 use Rattle.std.specs.Prelude.{ℕ, zero, suc, Bool, ◌+◌, ◌&&◌, if◌then◌else◌, nat_le, nat_lt, List, [], ◌++◌, length, take, drop}
 use Rattle.std.specs.List.{before_first, after_first, position_or_len}
 use Rattle.std.specs.Option.{unwrap_or}
 use Rattle.hac_model.specs.Bytes.{is_line_end}
-use Rattle.hac_model.specs.Lines.{Item, items_of, bytes_due}
+use Rattle.hac_model.specs.Script.Lines.{Item, items_of, bytes_due}
 
 -- the first line, without its end; the last line may have none
 abbrev pub first_line : List ℕ → List ℕ

@@ -1,9 +1,22 @@
 -- The tree: entries, and which is in which directory.
+pub mod Bare
+pub mod Valid
+pub mod Looks
+pub mod Listing
+pub mod Paths
+pub mod Names
+pub mod Links
+pub mod Kinds
+pub mod Depends
+pub mod Limits
+pub mod Events
+pub mod Facts
+pub mod Sessions
 use Rattle.std.specs.Prelude.{ℕ, zero, suc, ◌+◌, Bool, true, false, ◌==◌, ◌&&◌, ◌||◌, if◌then◌else◌, nat_le, List, [], ◌∷◌, length, map, reverse, Option, Some, None}
 use Rattle.std.specs.Option.{option_map, option_map_or}
 use Rattle.std.specs.Str.{bytes_eq}
 use Rattle.hac_model.specs.declared.limits.TheConstants.{PATH_LIMIT}
-use Rattle.hac_model.specs.Formula.{Formula}
+use Rattle.hac_model.specs.Query.Formula.{Formula}
 use Rattle.hac_model.specs.declared.states.Body.{Body}
 use Rattle.hac_model.specs.declared.states.Body.TheVariants.{File, Dir, Semantic}
 use Rattle.hac_model.specs.declared.states.Entry.{Entry}

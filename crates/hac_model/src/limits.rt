@@ -1,6 +1,6 @@
 //! The limits of a store, each with the word by which a refusal names it.
 ghost use Rattle.std.specs.Prelude.{◌≡◌};
-ghost use Rattle.hac_model.specs.Limits.{answer_limits, first_passed, layout_limits};
+ghost use Rattle.hac_model.specs.Tree.Limits.{answer_limits, first_passed, layout_limits};
 
 use crate::counts::Counts;
 
@@ -102,7 +102,7 @@ pub struct Limit {
 }
 
 /// The word of the first limit that is exceeded.
-#[tactic(auto, unfolding(crate::specs::Limits::first_passed))]
+#[tactic(auto, unfolding(crate::specs::Tree::Limits::first_passed))]
 pub fn first_passed(limits: &[Limit]) -> Option<LimitWord>
     ensures { result ≡ first_passed limits.now }
 {

@@ -1,6 +1,6 @@
 //! What a semantic directory asks for.
 ghost use Rattle.std.specs.Prelude.{◌≡◌, IfOk};
-ghost use Rattle.hac_model.specs.Formula.{Formula};
+ghost use Rattle.hac_model.specs.Query.Formula.{Formula};
 
 use crate::memory::Memory;
 use crate::numbers::Number;
@@ -37,13 +37,13 @@ pub enum Node<D> {
 pub type RawQuery = Query<PathWord>;
 
 impl<D> Model for Query<D> {
-    ghost use Rattle.hac_model.specs.Formula.{Formula, formula_code, size_of};
+    ghost use Rattle.hac_model.specs.Query.Formula.{Formula, formula_code, size_of};
 
     ghost Value = { Formula D };
 
     ghost coded = { formula_code D.code };
 
-    ghost use Rattle.hac_model.specs.FormulaOf.{formula_of};
+    ghost use Rattle.hac_model.specs.Query.FormulaOf.{formula_of};
 
     ghost view = { λ query. formula_of query.node };
 

@@ -1,6 +1,6 @@
 //! What a query may ask of a text, and the words that a text has.
 ghost use Rattle.std.specs.Prelude.{◌≡◌};
-ghost use Rattle.hac_model.specs.Terms.{is_term_before, letters_in};
+ghost use Rattle.hac_model.specs.Query.Terms.{is_term_before, letters_in};
 
 use crate::bytes::{Name, Seq};
 

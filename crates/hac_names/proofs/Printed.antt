@@ -8,9 +8,9 @@ use Rattle.std.proofs.lemmas.List.Folds.{list_all_at}
 use Rattle.std.proofs.lemmas.List.Splits.{slice_split_none, slice_split_at}
 use Rattle.std.proofs.lemmas.Bool.Decides.{nat_tests}
 use Rattle.hac_model.specs.Bytes.{is_slash}
-use Rattle.hac_model.specs.Names.{is_name, is_name_byte}
-use Rattle.hac_model.specs.Paths.{are_names, slashed, path_text}
-use Rattle.hac_model.specs.PathWords.{parts, is_part, is_long, is_bad, has_long_part, relative, at_root, untested_word, word_of}
+use Rattle.hac_model.specs.Tree.Names.{is_name, is_name_byte}
+use Rattle.hac_model.specs.Tree.Paths.{are_names, slashed, path_text}
+use Rattle.hac_model.specs.Script.PathWords.{parts, is_part, is_long, is_bad, has_long_part, relative, at_root, untested_word, word_of}
 use Rattle.hac_names.specs.Laws.{PrintedPathIsRead}
 use Rattle.hac_model.proofs.WordLemmas.{leads_down}
 

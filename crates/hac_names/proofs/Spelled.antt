@@ -5,7 +5,7 @@ use Rattle.std.specs.Borrow.{Bor}
 use Rattle.std.specs.Option.{option_map}
 use Rattle.std.specs.Prelude.{◌==◌, if◌then◌else◌, slice_index, Option, Some, None}
 use Rattle.hac_model.specs.Bytes.{is_backslash}
-use Rattle.hac_model.specs.Texts.{escape_meaning, escape_of, hex_of, hex_byte, text_of, then_text, with_byte}
+use Rattle.hac_model.specs.Script.Texts.{escape_meaning, escape_of, hex_of, hex_byte, text_of, then_text, with_byte}
 use Rattle.hac_names.specs.Spelling.{SpellsFirst}
 
 -- what is spelled behind the first byte is spelled from it on, where that is how they are read

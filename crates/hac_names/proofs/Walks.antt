@@ -3,8 +3,8 @@ use Rattle.std.proofs.Common.{◌≡◌, ℕ, ◌+◌, ◌-◌, ◌≤◌, ◌<�
 use Rattle.std.specs.Prelude.{zero, suc}
 use Rattle.std.proofs.lemmas.List.{take-append-le, take-take, take_all, drop_more, append-nil}
 use Rattle.std.proofs.lemmas.Bool.Decides.{nat_tests}
-use Rattle.hac_model.specs.Paths.{without_last}
-use Rattle.hac_model.specs.PathWords.{relative, before, is_idle, is_up}
+use Rattle.hac_model.specs.Tree.Paths.{without_last}
+use Rattle.hac_model.specs.Script.PathWords.{relative, before, is_idle, is_up}
 use Rattle.hac_model.specs.declared.paths.PathWord.{PathWord}
 use Rattle.hac_names.specs.Reading.{walked}
 

@@ -1,7 +1,7 @@
 -- Theorems over the definitions alone.
 use Rattle.std.specs.Prelude.{◌≡◌, ℕ, true, List, IsTrue, Ok}
-use Rattle.hac_model.specs.Paths.{are_names, path_text}
-use Rattle.hac_model.specs.PathWords.{word_of}
+use Rattle.hac_model.specs.Tree.Paths.{are_names, path_text}
+use Rattle.hac_model.specs.Script.PathWords.{word_of}
 use Rattle.hac_model.specs.declared.paths.PathWord.{PathWord}
 
 -- a printed path of names is read as the absolute word that leads to it

@@ -1,7 +1,7 @@
 -- What a call answers that reads a path word.
 use Rattle.std.specs.Prelude.{◌≡◌, ⊤, ◌+◌, ◌==◌, if◌then◌else◌, ℕ, List, [], ◌∷◌, ◌++◌, length, Result, Ok, Err}
-use Rattle.hac_model.specs.Paths.{without_last}
-use Rattle.hac_model.specs.PathWords.{is_idle, is_up}
+use Rattle.hac_model.specs.Tree.Paths.{without_last}
+use Rattle.hac_model.specs.Script.PathWords.{is_idle, is_up}
 use Rattle.hac_model.specs.declared.limits.LimitWord.TheVariants as limit
 use Rattle.hac_model.specs.declared.paths.PathWord.{PathWord}
 use Rattle.hac_model.specs.declared.replies.Refusal.{Refusal}

@@ -1,7 +1,7 @@
 -- How a text is read from its spelling, byte by byte.
 use Rattle.std.specs.Prelude.{◌≡◌, ◌<◌, ℕ, List, length, Option, Some, None}
 use Rattle.std.specs.Borrow.{Bor}
-use Rattle.hac_model.specs.Texts.{text_of, with_byte}
+use Rattle.hac_model.specs.Script.Texts.{text_of, with_byte}
 
 -- the bytes are read as this byte in front of the text that those behind it spell, fewer than they are; or they are no
 -- text

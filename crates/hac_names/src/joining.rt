@@ -1,6 +1,6 @@
 //! Where a path word leads.
 ghost use Rattle.std.specs.Prelude.{◌≡◌, ◌-◌, length, if◌then◌else◌, IfOk};
-ghost use Rattle.hac_model.specs.Paths as paths;
+ghost use Rattle.hac_model.specs.Tree.Paths as paths;
 
 use hac_model::{Memory, Path, PathWord};
 use std::alloc::Global;

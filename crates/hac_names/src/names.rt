@@ -1,8 +1,8 @@
 //! Which bytes are a name, and which a part of a path word.
 ghost use Rattle.std.specs.Prelude.{◌≡◌, ◌||◌, codes};
 ghost use Rattle.std.specs.Str.{bytes_eq};
-ghost use Rattle.hac_model.specs.Names as names;
-ghost use Rattle.hac_model.specs.PathWords as words;
+ghost use Rattle.hac_model.specs.Tree.Names as names;
+ghost use Rattle.hac_model.specs.Script.PathWords as words;
 
 use hac_model::NAME_LIMIT;
 

@@ -1,6 +1,6 @@
 //! Paths as they are printed.
 ghost use Rattle.std.specs.Prelude.{◌≡◌, IfOk};
-ghost use Rattle.hac_model.specs.Paths.{path_text};
+ghost use Rattle.hac_model.specs.Tree.Paths.{path_text};
 
 use hac_model::{Memory, Name, Path};
 use std::alloc::Global;

@@ -1,8 +1,8 @@
 //! Path words as they are read.
 ghost use Rattle.std.specs.Prelude.{◌≡◌, ◌+◌, ◌<◌, ◌^◌, length, IfOk, OnOk, IsTrue};
-ghost use Rattle.hac_model.specs.Paths.{are_names};
-ghost use Rattle.hac_model.specs.PathWords.{word_of, relative, parts};
-ghost use Rattle.hac_model.specs.PathWords as words;
+ghost use Rattle.hac_model.specs.Tree.Paths.{are_names};
+ghost use Rattle.hac_model.specs.Script.PathWords.{word_of, relative, parts};
+ghost use Rattle.hac_model.specs.Script.PathWords as words;
 ghost use Rattle.hac_names.specs.Reading.{ReadsWord, walked};
 
 use crate::names::is_part;
@@ -35,7 +35,7 @@ impl From<Memory> for NameFault {
 }
 
 /// The path word that bytes spell.
-#[tactic(auto, unfolding(hac_model::specs::PathWords::word_of))]
+#[tactic(auto, unfolding(hac_model::specs::Script::PathWords::word_of))]
 pub fn parse_word(alloc: Global, bytes: &[u8]) -> Result<PathWord, NameFault>
     ensures word { ReadsWord result (word_of bytes.now) }
     ensures names { IfOk result (λ word. IsTrue (are_names word.names)) }

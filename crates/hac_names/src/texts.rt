@@ -3,7 +3,7 @@
 ghost use Rattle.std.specs.Prelude.{◌≡◌, ◌++◌, ◌<◌, ◌&&◌, ◌+◌, ◌*◌, length, is_some, IfSome, IfOk, OnOk};
 ghost use Rattle.std.specs.Char.{digit_char, digit_value, is_digit};
 ghost use Rattle.std.specs.Option.{option_map};
-ghost use Rattle.hac_model.specs.Texts.{escape_meaning, escape_of, escaped_text, hex_of, hex_byte, escaped_byte, text_of};
+ghost use Rattle.hac_model.specs.Script.Texts.{escape_meaning, escape_of, escaped_text, hex_of, hex_byte, escaped_byte, text_of};
 ghost use Rattle.hac_names.specs.Spelling.{SpellsFirst};
 
 use hac_model::Memory;
@@ -21,7 +21,7 @@ pub fn print_text(alloc: Global, text: &[u8]) -> Result<Vec<u8>, Memory>
 }
 
 /// Adds a byte as it is printed.
-#[tactic(auto, unfolding(hac_model::specs::Texts::escaped_byte))]
+#[tactic(auto, unfolding(hac_model::specs::Script::Texts::escaped_byte))]
 fn push_byte(printed: &mut Vec<u8>, byte: u8) -> Result<(), Memory>
     ensures { OnOk result (printed.new.items ≡ printed.old.items ++ escaped_byte byte) }
 {

@@ -7,7 +7,7 @@ use Rattle.hac_disk.specs.Told.{HasByteAt, HasLength, IsSettled, StandAt, Writte
 use Rattle.hac_disk.proofs.Moments.{quiet_leaves, then_quiet, then_run, weaken}
 use Rattle.hac_disk.proofs.ToldLemmas.{if_told, told-settled}
 use Rattle.hac_journal.specs.Appending.{ClosedAt}
-use Rattle.hac_model.specs.Play.{new_setting}
+use Rattle.hac_model.specs.Run.Play.{new_setting}
 use Rattle.hac_store.specs.Creating.{Becomes, IsReady, IsUnheld}
 use Rattle.hac_store.specs.Held.{held}
 use Rattle.hac_store.specs.Stores.{IsNewOrNone, Stands}

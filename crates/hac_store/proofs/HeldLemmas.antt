@@ -13,11 +13,11 @@ use Rattle.hac_journal.specs.Appending.{Appending, ClosedAt, HoldsAt}
 use Rattle.hac_journal.specs.Records.{log_of, records_of}
 use Rattle.hac_journal.proofs.CrashLemmas.{front-less}
 use Rattle.hac_journal.proofs.LawLemmas.{closed-is-found}
-use Rattle.hac_model.specs.Events.{apply_all}
-use Rattle.hac_model.specs.Payloads.{event_text}
-use Rattle.hac_model.specs.Play.{Setting, after_events, end_behind}
+use Rattle.hac_model.specs.Tree.Events.{apply_all}
+use Rattle.hac_model.specs.Payload.Payloads.{event_text}
+use Rattle.hac_model.specs.Run.Play.{Setting, after_events, end_behind}
 use Rattle.hac_model.specs.Tree.{empty}
-use Rattle.hac_model.specs.Valid.{IsValid}
+use Rattle.hac_model.specs.Tree.Valid.{IsValid}
 use Rattle.hac_model.specs.declared.events.Event.{Event}
 use Rattle.hac_model.proofs.AcyclicLemmas.{empty-valid}
 use Rattle.hac_store.specs.Held.{Log, from_root, held, log, with_root}

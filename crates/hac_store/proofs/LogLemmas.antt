@@ -9,10 +9,10 @@ use Rattle.hac_journal.specs.Finding.{Found, Whole, Closed, Short, found_at, fou
 use Rattle.hac_journal.specs.Records.{log_of}
 use Rattle.hac_journal.proofs.CrashLemmas.{front-less}
 use Rattle.hac_journal.proofs.LawLemmas.{closed-is-found, found-is-closed, found-is-whole, found-along, records-are-found, none-is-closed}
-use Rattle.hac_model.specs.Events.{accepted, apply, apply_all}
-use Rattle.hac_model.specs.Payloads.{event_text, is_spellable, spelled}
-use Rattle.hac_model.specs.Play.{end_behind}
-use Rattle.hac_model.specs.Valid.{IsValid}
+use Rattle.hac_model.specs.Tree.Events.{accepted, apply, apply_all}
+use Rattle.hac_model.specs.Payload.Payloads.{event_text, is_spellable, spelled}
+use Rattle.hac_model.specs.Run.Play.{end_behind}
+use Rattle.hac_model.specs.Tree.Valid.{IsValid}
 use Rattle.hac_model.specs.declared.events.Event.{Event}
 use Rattle.hac_model.specs.declared.states.State.{State}
 use Rattle.hac_model.proofs.AcyclicLemmas.{apply-valid}

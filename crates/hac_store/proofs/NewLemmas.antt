@@ -15,7 +15,7 @@ use Rattle.hac_journal.specs.Finding.{found_in}
 use Rattle.hac_journal.proofs.CrashLemmas.{byte-same}
 use Rattle.hac_journal.proofs.FoundLemmas.{behind-short, found-open, found-shut}
 use Rattle.hac_journal.proofs.LawLemmas.{closed-is-found}
-use Rattle.hac_model.specs.Play.{Setting, new_setting}
+use Rattle.hac_model.specs.Run.Play.{Setting, new_setting}
 use Rattle.hac_model.specs.Tree.{empty}
 use Rattle.hac_store.specs.Creating.{IsReady}
 use Rattle.hac_store.specs.Held.{Log, held, log}

@@ -10,11 +10,11 @@ use Rattle.hac_disk.proofs.ToldLemmas.{told-settled}
 use Rattle.hac_checkpoint.specs.declared.heads.Slot.{Slot}
 use Rattle.hac_journal.specs.Appending.{Appending, ClosedAt}
 use Rattle.hac_journal.specs.Records.{contents_of, log_of}
-use Rattle.hac_model.specs.Events.{apply, apply_all}
+use Rattle.hac_model.specs.Tree.Events.{apply, apply_all}
 use Rattle.hac_model.specs.Laws.{AllHappen}
-use Rattle.hac_model.specs.Payloads.{event_text}
-use Rattle.hac_model.specs.Play.{Setting, after_events, end_behind}
-use Rattle.hac_model.specs.Valid.{IsValid}
+use Rattle.hac_model.specs.Payload.Payloads.{event_text}
+use Rattle.hac_model.specs.Run.Play.{Setting, after_events, end_behind}
+use Rattle.hac_model.specs.Tree.Valid.{IsValid}
 use Rattle.hac_model.specs.declared.events.Event.{Event}
 use Rattle.hac_model.specs.declared.limits.TheConstants.{STORE_LIMIT}
 use Rattle.hac_model.specs.declared.states.State.{State}

@@ -12,9 +12,9 @@ use Rattle.hac_checkpoint.specs.declared.heads.Stop.{Stop}
 use Rattle.hac_checkpoint.specs.declared.heads.Stop.TheVariants as stop
 use Rattle.hac_journal.specs.Finding.{TellsAt}
 use Rattle.hac_journal.specs.declared.finding.Next.TheVariants.{Entry, End, Bad}
-use Rattle.hac_model.specs.Answers.{◌>>=◌}
-use Rattle.hac_model.specs.Payloads.{all_of, payload_field, spelled}
-use Rattle.hac_model.specs.Payloads.{placed as within_payload}
+use Rattle.hac_model.specs.Run.Answers.{◌>>=◌}
+use Rattle.hac_model.specs.Payload.Payloads.{all_of, payload_field, spelled}
+use Rattle.hac_model.specs.Payload.Payloads.{placed as within_payload}
 use Rattle.hac_model.specs.Tree.{empty}
 use Rattle.hac_model.specs.declared.events.Event.{Event}
 use Rattle.hac_model.specs.declared.states.State.{State}

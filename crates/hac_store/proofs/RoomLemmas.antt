@@ -5,8 +5,8 @@ use Rattle.std.proofs.lemmas.Bool.{cases_lt}
 use Rattle.std.proofs.lemmas.Bool.Decides.{nat_tests}
 use Rattle.hac_journal.specs.Records.{contents_of, log_of, record_of, records_of}
 use Rattle.hac_journal.proofs.RecordLemmas.{length-contents, length-log, length-record}
-use Rattle.hac_model.specs.Payloads.{event_text, is_spellable}
-use Rattle.hac_model.specs.Play.{Setting, end_behind, have_room}
+use Rattle.hac_model.specs.Payload.Payloads.{event_text, is_spellable}
+use Rattle.hac_model.specs.Run.Play.{Setting, end_behind, have_room}
 use Rattle.hac_model.specs.declared.events.Event.{Event}
 use Rattle.hac_model.specs.declared.events.Event.TheVariants.{Step}
 use Rattle.hac_model.specs.declared.limits.TheConstants.{STORE_LIMIT}

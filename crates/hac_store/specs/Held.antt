@@ -6,9 +6,9 @@ use Rattle.hac_checkpoint.specs.declared.heads.Root.{Root}
 use Rattle.hac_checkpoint.specs.declared.heads.Stop.{Stop}
 use Rattle.hac_checkpoint.specs.declared.heads.Stop.TheVariants as stop
 use Rattle.hac_journal.specs.Finding.{Found, Whole, Closed, Short, found_at}
-use Rattle.hac_model.specs.Events.{accepted, apply}
-use Rattle.hac_model.specs.Payloads.{spelled}
-use Rattle.hac_model.specs.Play.{Setting}
+use Rattle.hac_model.specs.Tree.Events.{accepted, apply}
+use Rattle.hac_model.specs.Payload.Payloads.{spelled}
+use Rattle.hac_model.specs.Run.Play.{Setting}
 use Rattle.hac_model.specs.Tree.{empty}
 use Rattle.hac_model.specs.declared.events.Event.{Event}
 use Rattle.hac_model.specs.declared.states.State.{State}

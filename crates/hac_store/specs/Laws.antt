@@ -2,9 +2,9 @@
 use Rattle.std.specs.Prelude.{◌≡◌, ℕ, List, [], ◌∷◌, replicate, IsTrue, Ok}
 use Rattle.hac_disk.specs.Images.{overlaid}
 use Rattle.hac_journal.specs.Records.{log_of}
-use Rattle.hac_model.specs.Events.{accepted}
-use Rattle.hac_model.specs.Payloads.{event_text}
-use Rattle.hac_model.specs.Play.{Setting, after_events, have_room}
+use Rattle.hac_model.specs.Tree.Events.{accepted}
+use Rattle.hac_model.specs.Payload.Payloads.{event_text}
+use Rattle.hac_model.specs.Run.Play.{Setting, after_events, have_room}
 use Rattle.hac_model.specs.declared.events.Event.{Event}
 use Rattle.hac_model.specs.declared.events.Event.TheVariants.{Step}
 use Rattle.hac_store.specs.Held.{held}

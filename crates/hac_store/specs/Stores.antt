@@ -6,7 +6,7 @@ use Rattle.hac_checkpoint.specs.declared.heads.Root.{Root}
 use Rattle.hac_checkpoint.specs.declared.heads.Slot.{Slot}
 use Rattle.hac_checkpoint.specs.declared.heads.Slot.TheVariants.{A}
 use Rattle.hac_disk.specs.Told.{HasByteAt}
-use Rattle.hac_model.specs.Play.{Setting, after_events, new_setting}
+use Rattle.hac_model.specs.Run.Play.{Setting, after_events, new_setting}
 use Rattle.hac_model.specs.Tree.{empty}
 use Rattle.hac_model.specs.declared.events.Event.{Event}
 use Rattle.hac_model.specs.contracts.states.State as state

@@ -4,7 +4,7 @@ ghost use Rattle.hac_outside.specs.Causes.{HasCause, Rose};
 ghost use Rattle.hac_disk.specs.Images.{IsQuiet, LeavesOnly};
 ghost use Rattle.hac_disk.specs.Told.{HasByteAt, IsSettled};
 ghost use Rattle.hac_journal.specs.Appending.{ClosedAt};
-ghost use Rattle.hac_model.specs.Play.{new_setting};
+ghost use Rattle.hac_model.specs.Run.Play.{new_setting};
 ghost use Rattle.hac_store.specs.Creating.{Becomes, IsReady, IsUnheld, none_in};
 ghost use Rattle.hac_store.specs.Held.{held};
 ghost use Rattle.hac_store.specs.Stores.{Bears, IsNewOrNone, Stands, first_store};

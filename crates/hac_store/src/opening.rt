@@ -3,9 +3,9 @@ ghost use Rattle.std.specs.Prelude.{◌≡◌, ◌+◌, ◌<◌, ◌≤◌, ◌^
 ghost use Rattle.hac_outside.specs.Causes.{Rose};
 ghost use Rattle.hac_disk.specs.Images.{IsQuiet};
 ghost use Rattle.hac_disk.specs.Told.{HasByteAt, IsSettled};
-ghost use Rattle.hac_model.specs.Events.{accepted, apply};
-ghost use Rattle.hac_model.specs.Payloads.{spelled};
-ghost use Rattle.hac_model.specs.Valid.{IsValid};
+ghost use Rattle.hac_model.specs.Tree.Events.{accepted, apply};
+ghost use Rattle.hac_model.specs.Payload.Payloads.{spelled};
+ghost use Rattle.hac_model.specs.Tree.Valid.{IsValid};
 ghost use Rattle.hac_checkpoint.specs.Roots.{root_of};
 ghost use Rattle.hac_store.specs.Held.{held, after_payload, log};
 ghost use Rattle.hac_store.specs.Reading.{Judges, ReadsLog};

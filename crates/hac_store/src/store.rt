@@ -21,7 +21,7 @@ pub struct Store {
 }
 
 impl Model for Store {
-    ghost use Rattle.hac_model.specs.Valid.{IsValid};
+    ghost use Rattle.hac_model.specs.Tree.Valid.{IsValid};
     ghost use Rattle.hac_store.specs.Stores.{Seen, seen_code};
 
     ghost Value = { Seen };

@@ -3,12 +3,12 @@ use Rattle.std.proofs.Common.{◌≡◌, ℕ, zero, suc, ◌+◌, ◌<◌, ◌�
 use Rattle.std.specs.Prelude.{None, Some, Result, Ok, Err}
 use Rattle.std.specs.Option.{option_map_or}
 use Rattle.std.proofs.lemmas.Grind.{flat_map-append}
-use Rattle.hac_model.specs.Answers.{first_cause}
-use Rattle.hac_model.specs.Events.{apply_all}
-use Rattle.hac_model.specs.Lines.{Item}
-use Rattle.hac_model.specs.Play.{Setting, Turn, answered, all_events, events_before, events_in, full_cause, refused, item_turn, command_turn, turns}
-use Rattle.hac_model.specs.Refusals.{cause}
-use Rattle.hac_model.specs.Resolving.{resolve}
+use Rattle.hac_model.specs.Run.Answers.{first_cause}
+use Rattle.hac_model.specs.Tree.Events.{apply_all}
+use Rattle.hac_model.specs.Script.Lines.{Item}
+use Rattle.hac_model.specs.Run.Play.{Setting, Turn, answered, all_events, events_before, events_in, full_cause, refused, item_turn, command_turn, turns}
+use Rattle.hac_model.specs.Run.Refusals.{cause}
+use Rattle.hac_model.specs.Run.Resolving.{resolve}
 use Rattle.hac_model.specs.declared.events.Event.{Event}
 use Rattle.hac_model.specs.declared.replies.Refusal.{Refusal}
 use Rattle.hac_model.specs.declared.resolved.Resolved.{Resolved}

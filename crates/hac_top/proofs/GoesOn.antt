@@ -3,8 +3,8 @@ use Rattle.std.proofs.Common.{◌≡◌, ℕ, true, false, Bool, List, [], ◌++
 use Rattle.std.specs.Prelude.{⊤}
 use Rattle.std.specs.Io.KnownBytes.{Appends}
 use Rattle.hac_outside.specs.Seen.{SinkSeen}
-use Rattle.hac_model.specs.Events.{apply_all}
-use Rattle.hac_model.specs.Play.{Setting, Turn, all_events, has_refusal, left_by, play, turns}
+use Rattle.hac_model.specs.Tree.Events.{apply_all}
+use Rattle.hac_model.specs.Run.Play.{Setting, Turn, all_events, has_refusal, left_by, play, turns}
 use Rattle.hac_model.specs.Script.{after_item, first_items, whole}
 use Rattle.hac_top.specs.Told.{told_text}
 

@@ -3,7 +3,7 @@ use Rattle.std.proofs.Common.{ℕ, Bool, List, rules, Option, Some, None}
 use Rattle.std.specs.Option.{IfSome}
 use Rattle.hac_disk.specs.Images.{LeavesOnly}
 use Rattle.hac_disk.proofs.Moments.{started, then_run, weaken}
-use Rattle.hac_model.specs.Play.{Setting, all_events, play, turns}
+use Rattle.hac_model.specs.Run.Play.{Setting, all_events, play, turns}
 use Rattle.hac_outside.specs.Seen.{SinkSeen}
 use Rattle.hac_store.specs.Stores.{Stands}
 use Rattle.hac_top.specs.Crashes.{Holds, IsTreeAfter}

@@ -6,9 +6,9 @@ use Rattle.std.specs.Option.{option_map_or}
 use Rattle.hac_core.specs.Drafts.{reads}
 use Rattle.hac_core.specs.Settling.{Settles, settled_events}
 use Rattle.hac_core.specs.declared.drafts.Settled.{Settled}
-use Rattle.hac_model.specs.Answers.{first_cause}
-use Rattle.hac_model.specs.Play.{Setting, Turn, answered, after_events, command_turn, data_lines, full_cause, have_room, refused}
-use Rattle.hac_model.specs.Refusals.{cause, cause_against, events_of}
+use Rattle.hac_model.specs.Run.Answers.{first_cause}
+use Rattle.hac_model.specs.Run.Play.{Setting, Turn, answered, after_events, command_turn, data_lines, full_cause, have_room, refused}
+use Rattle.hac_model.specs.Run.Refusals.{cause, cause_against, events_of}
 use Rattle.hac_model.specs.declared.events.Event.{Event}
 use Rattle.hac_model.specs.declared.limits.LimitWord.TheVariants.{Store}
 use Rattle.hac_model.specs.declared.memory.Memory.{Memory}

@@ -5,7 +5,7 @@ use Rattle.std.specs.Option.{IfSome}
 use Rattle.hac_disk.specs.Images.{IsQuiet, LeavesOnly}
 use Rattle.hac_disk.specs.Told.{IsSettled}
 use Rattle.hac_disk.proofs.Moments.{quiet_leaves, then_run, weaken}
-use Rattle.hac_model.specs.Play.{Setting, new_setting}
+use Rattle.hac_model.specs.Run.Play.{Setting, new_setting}
 use Rattle.hac_store.specs.Held.{held}
 use Rattle.hac_store.specs.Stores.{IsNewOrNone}
 use Rattle.hac_top.specs.Crashes.{Reopens, opening_outcome}

@@ -4,8 +4,8 @@ use Rattle.std.specs.Prelude.{Option, None, Some, Result, Ok, Err, IfOk}
 use Rattle.std.specs.Option.{IfSome}
 use Rattle.hac_disk.specs.Images.{LeavesOnly}
 use Rattle.hac_disk.proofs.Moments.{then_run, weaken}
-use Rattle.hac_model.specs.CommandLine.{Options}
-use Rattle.hac_model.specs.Play.{Setting, all_events, play}
+use Rattle.hac_model.specs.Script.CommandLine.{Options}
+use Rattle.hac_model.specs.Run.Play.{Setting, all_events, play}
 use Rattle.hac_model.specs.declared.events.Event.{Event}
 use Rattle.hac_model.specs.declared.states.State.{State}
 use Rattle.hac_store.specs.Held.{held}

@@ -5,11 +5,11 @@ use Rattle.std.specs.Io.KnownBytes.{Appends, prepend_known}
 use Rattle.std.proofs.Math.Seq.{take-append_seam, take-length, drop-append_seam, drop-nil}
 use Rattle.std.proofs.lemmas.List.Folds.{list_any-append}
 use Rattle.hac_outside.specs.Seen.{SinkSeen, SourceSeen}
-use Rattle.hac_model.specs.Lines.{Item, items_of}
+use Rattle.hac_model.specs.Script.Lines.{Item, items_of}
 use Rattle.hac_model.specs.Script.{first_line, after_line, due, first_items, after_item, whole}
 use Rattle.hac_model.specs.declared.limits.TheConstants.{SCRIPT_LIMIT}
-use Rattle.hac_model.specs.Events.{apply_all}
-use Rattle.hac_model.specs.Play.{Setting, Turn, all_events, is_refused, has_refusal, left_by, play, turns}
+use Rattle.hac_model.specs.Tree.Events.{apply_all}
+use Rattle.hac_model.specs.Run.Play.{Setting, Turn, all_events, is_refused, has_refusal, left_by, play, turns}
 use Rattle.hac_model.specs.declared.states.State.{State}
 use Rattle.hac_model.proofs.JoinLemmas.{first_line-is_unended, bytes-whole, first_items-line, after_item-line, left_by-append, whole-line, whole-unended, play-line, play-of_line}
 use Rattle.hac_model.proofs.PlayLemmas.{apply_all-append, events-lead}

@@ -4,8 +4,8 @@ use Rattle.std.specs.Prelude.{IsErrOf, Option, None, Some, Result, Ok, Err}
 use Rattle.std.proofs.Math.Seq.{take-length}
 use Rattle.hac_disk.specs.Images.{LeavesOnly}
 use Rattle.hac_disk.proofs.Moments.{started, weaken}
-use Rattle.hac_model.specs.Events.{apply_all}
-use Rattle.hac_model.specs.Play.{Setting, after_events, have_room}
+use Rattle.hac_model.specs.Tree.Events.{apply_all}
+use Rattle.hac_model.specs.Run.Play.{Setting, after_events, have_room}
 use Rattle.hac_model.specs.declared.events.Event.{Event}
 use Rattle.hac_outside.specs.Causes.{Rose}
 use Rattle.hac_store.specs.Held.{held}

@@ -14,8 +14,8 @@ use Rattle.hac_outside.specs.Known.{Known}
 use Rattle.hac_outside.specs.Seen.{SourceSeen}
 use Rattle.hac_outside.proofs.KnownLemmas.{known-behind, known-joined, known-kept, known-weaker}
 use Rattle.hac_model.specs.Bytes.{is_line_end}
-use Rattle.hac_model.specs.Lines.{Item, bytes_due, command_with, in_main, is_quiet, item_of, items_of, put_length, taken_of}
-use Rattle.hac_model.specs.Puts.{came}
+use Rattle.hac_model.specs.Script.Lines.{Item, bytes_due, command_with, in_main, is_quiet, item_of, items_of, put_length, taken_of}
+use Rattle.hac_model.specs.Script.Puts.{came}
 use Rattle.hac_model.specs.Script.{first_line, after_line, is_first_ended, due, after_item, is_first_whole, whole}
 use Rattle.hac_model.specs.declared.limits.LimitWord.TheVariants as limit
 use Rattle.hac_model.specs.declared.limits.TheConstants.{LINE_LIMIT}

@@ -9,8 +9,8 @@ use Rattle.std.proofs.lemmas.List.{take-append-drop, take_all}
 use Rattle.hac_outside.specs.Seen.{SinkSeen, Writes}
 use Rattle.hac_model.specs.declared.replies.Reply.{Reply}
 use Rattle.hac_model.specs.declared.replies.Reply.TheVariants as reply
-use Rattle.hac_model.specs.Play.{Turn, turns}
-use Rattle.hac_model.specs.Printed.{ended, refusal_text, reply_text}
+use Rattle.hac_model.specs.Run.Play.{Turn, turns}
+use Rattle.hac_model.specs.Script.Printed.{ended, refusal_text, reply_text}
 use Rattle.hac_top.specs.Told.{IsBeginning, Told, last_written, told_text}
 use Rattle.hac_store.specs.Held.{held}
 use Rattle.hac_top.proofs.WrittenLemmas.{appends-then}

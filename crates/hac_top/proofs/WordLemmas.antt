@@ -1,7 +1,7 @@
 -- Words that are read one by one: what the first of those that follow is.
 use Rattle.std.proofs.Common.{◌≡◌, ℕ, suc, ◌+◌, Bool, true, false, List, ◌∷◌, take, drop, refl, ap, append_assoc, arith}
 use Rattle.std.specs.List.{after_first, before_first, position_or_len}
-use Rattle.hac_model.specs.CommandLine.{ends_options, is_option}
+use Rattle.hac_model.specs.Script.CommandLine.{ends_options, is_option}
 use Rattle.hac_top.specs.Words.{asked_on, asked_with_name, asked_with_option}
 use Rattle.hac_top.specs.declared.words.Asked.{Asked}
 

@@ -1,6 +1,6 @@
 -- The names by which a run attaches the file of its store.
 use Rattle.std.specs.Prelude.{◌≡◌, ◌⊎◌, ℕ, Bool, List, [], ◌∷◌, ◌++◌, Option, Some, None}
-use Rattle.hac_model.specs.CommandLine.{Options}
+use Rattle.hac_model.specs.Script.CommandLine.{Options}
 
 -- the file was attached by the name of the store, to be made where a new store is asked for; nothing else was attached
 abbrev pub AttachesStore : Option (List (List ℕ × Bool)) → Options → Option (List (List ℕ × Bool)) → Type 0

@@ -3,8 +3,8 @@ use Rattle.std.specs.Prelude.{◌≡◌, ◌⊎◌, ⊤, ℕ, suc, ◌<◌, ◌�
 use Rattle.std.specs.declared.option.Option.{Option}
 use Rattle.hac_disk.specs.Images.{LeavesOnly}
 use Rattle.hac_outside.specs.Causes.{Rose}
-use Rattle.hac_model.specs.Events.{apply_all}
-use Rattle.hac_model.specs.Play.{Setting, Turn, all_events, events_before, new_setting, tree_after}
+use Rattle.hac_model.specs.Tree.Events.{apply_all}
+use Rattle.hac_model.specs.Run.Play.{Setting, Turn, all_events, events_before, new_setting, tree_after}
 use Rattle.hac_model.specs.declared.events.Event.{Event}
 use Rattle.hac_model.specs.declared.states.State.{State}
 use Rattle.hac_store.specs.Held.{held}

@@ -2,7 +2,7 @@
 use Rattle.std.specs.Prelude.{◌≡◌, List, [], IsErr, Result, Ok}
 use Rattle.hac_core.specs.Settling.{settled_events}
 use Rattle.hac_model.specs.Laws.{AllHappen}
-use Rattle.hac_model.specs.Play.{Setting, Turn, after_events}
+use Rattle.hac_model.specs.Run.Play.{Setting, Turn, after_events}
 use Rattle.hac_model.specs.declared.events.Event.{Event}
 use Rattle.hac_model.specs.declared.memory.Memory.{Memory}
 use Rattle.hac_model.specs.declared.replies.Deny.{Deny}

@@ -1,6 +1,6 @@
 -- The outcome of a command that nothing blocks but, perhaps, the size of the store.
 use Rattle.std.specs.Prelude.{Bool, true, false, if◌then◌else◌, List, [], Result, Ok, Err}
-use Rattle.hac_model.specs.Play.{Setting, have_room}
+use Rattle.hac_model.specs.Run.Play.{Setting, have_room}
 use Rattle.hac_model.specs.declared.events.Event.{Event}
 use Rattle.hac_model.specs.declared.limits.LimitWord.TheVariants.{Store}
 use Rattle.hac_model.specs.declared.replies.Refusal.TheVariants.{Limit}

@@ -4,9 +4,9 @@ use Rattle.std.specs.Option.{IfSome}
 use Rattle.std.specs.Io.KnownBytes.{Appends}
 use Rattle.hac_outside.specs.Causes.{Rose, TellsFault}
 use Rattle.hac_outside.specs.Seen.{SourceSeen, SinkSeen}
-use Rattle.hac_model.specs.CommandLine.{Options}
-use Rattle.hac_model.specs.Play.{Setting, all_events, has_refusal, left_by, play, turns}
-use Rattle.hac_model.specs.Printed.{ended}
+use Rattle.hac_model.specs.Script.CommandLine.{Options}
+use Rattle.hac_model.specs.Run.Play.{Setting, all_events, has_refusal, left_by, play, turns}
+use Rattle.hac_model.specs.Script.Printed.{ended}
 use Rattle.hac_model.specs.Script.{after_item, first_items, whole}
 use Rattle.hac_model.specs.declared.limits.TheConstants.{SCRIPT_LIMIT}
 use Rattle.hac_model.specs.declared.states.State.{State}

@@ -1,8 +1,8 @@
 -- What a run takes up at a time: a line, and what came of the bytes that belong to it.
 use Rattle.std.specs.Prelude.{◌≡◌, ℕ, ◌<◌, ◌≤◌, Bool, true, false, List, [], ◌∷◌, ◌++◌, length, drop, Option, None, Some, Err}
 use Rattle.std.specs.Option.{option_map, unwrap_or}
-use Rattle.hac_model.specs.Lines.{Item, item_taken, put_length}
-use Rattle.hac_model.specs.Puts.{came}
+use Rattle.hac_model.specs.Script.Lines.{Item, item_taken, put_length}
+use Rattle.hac_model.specs.Script.Puts.{came}
 use Rattle.hac_model.specs.Script.{first_items, after_item, is_first_whole, whole}
 use Rattle.hac_model.specs.declared.limits.LimitWord.TheVariants as limit
 use Rattle.hac_model.specs.declared.limits.TheConstants.{SCRIPT_LIMIT}

@@ -2,8 +2,8 @@
 use Rattle.std.specs.Prelude.{◌≡◌, ℕ, ◌-◌, ◌<◌, ◌≤◌, List, [], ◌∷◌, ◌++◌, length, take, drop}
 use Rattle.std.specs.Io.KnownBytes.{Appends}
 use Rattle.hac_outside.specs.Seen.{SinkSeen}
-use Rattle.hac_model.specs.Play.{Turn, replies}
-use Rattle.hac_model.specs.Printed.{reply_text, text}
+use Rattle.hac_model.specs.Run.Play.{Turn, replies}
+use Rattle.hac_model.specs.Script.Printed.{reply_text, text}
 
 -- the replies of turns, as they are printed
 abbrev pub told_text : List Turn → List ℕ

@@ -2,8 +2,8 @@
 use Rattle.std.specs.Prelude.{ℕ, Bool, true, false, if◌then◌else◌, List, [], ◌∷◌, ◌++◌, filter, codes, Option, Some, None}
 use Rattle.std.specs.Borrow.{Bor}
 use Rattle.std.specs.List.{after_first, before_first}
-use Rattle.hac_model.specs.CommandLine as line
-use Rattle.hac_model.specs.CommandLine.{ends_options, is_option, is_no_option, asked_by}
+use Rattle.hac_model.specs.Script.CommandLine as line
+use Rattle.hac_model.specs.Script.CommandLine.{ends_options, is_option, is_no_option, asked_by}
 use Rattle.hac_top.specs.declared.words.Options.{Options}
 use Rattle.hac_top.specs.declared.words.Asked.{Asked}
 

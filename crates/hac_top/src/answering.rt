@@ -3,14 +3,14 @@ ghost use Rattle.std.specs.Prelude.{◌≡◌, ◌||◌, false, Err, IfOk, IfErr
 ghost use Rattle.std.specs.Io.KnownBytes.{Appends};
 ghost use Rattle.hac_outside.specs.Causes.{HasCause, TellsFault};
 ghost use Rattle.hac_outside.specs.Seen.{WritesSome};
-ghost use Rattle.hac_model.specs.Play.{all_events, item_turn, turns, left_by, is_refused, has_refusal};
-ghost use Rattle.hac_model.specs.Printed.{reply_text};
+ghost use Rattle.hac_model.specs.Run.Play.{all_events, item_turn, turns, left_by, is_refused, has_refusal};
+ghost use Rattle.hac_model.specs.Script.Printed.{reply_text};
 ghost use Rattle.hac_store.specs.Stores.{Bears, IsHeldAs, Stands};
 ghost use Rattle.hac_top.specs.Crashes.{Stores};
 ghost use Rattle.hac_top.specs.Stops.{CutsAnswer, StopsAnswer, StopsTelling, is_disk_stop, is_write_stop};
 ghost use Rattle.hac_top.specs.TakenLines.{items_of_taken};
 ghost use Rattle.hac_top.specs.Told.{told_text};
-ghost use Rattle.hac_model.specs.Lines.{item_taken};
+ghost use Rattle.hac_model.specs.Script.Lines.{item_taken};
 
 use crate::obeying::carry_out;
 use crate::stops::Stop;

@@ -1,10 +1,10 @@
 //! Deciding: what a line asks of the tree, by the machine alone, before the store is touched.
 ghost use Rattle.std.specs.Prelude.{IfOk, IsTrue, Ok};
 ghost use Rattle.hac_core.specs.Drafts.{IsDraft};
-ghost use Rattle.hac_model.specs.Lines.{is_spelled};
-ghost use Rattle.hac_model.specs.Play.{command_turn, item_turn};
+ghost use Rattle.hac_model.specs.Script.Lines.{is_spelled};
+ghost use Rattle.hac_model.specs.Run.Play.{command_turn, item_turn};
 ghost use Rattle.hac_top.specs.Deciding.{Decides, IsDenial};
-ghost use Rattle.hac_model.specs.Lines.{item_taken};
+ghost use Rattle.hac_model.specs.Script.Lines.{item_taken};
 
 use hac_core::{Draft, Machine, Settled};
 use hac_model::{Deny, Line, Memory, Reply, Taken, Text};

@@ -2,13 +2,13 @@
 ghost use Rattle.std.specs.Prelude.{◌≡◌, ◌⊎◌, ◌≤◌, ◌<◌, ◌∷◌, [], length, replicate, if◌then◌else◌, IfOk, IfErr, IsErrOf, OnOk, IsTrue, Ok, true, false};
 ghost use Rattle.hac_core.specs.Settling.{settled_events};
 ghost use Rattle.hac_model.specs.Laws.{AllHappen};
-ghost use Rattle.hac_model.specs.Play.{have_room, item_turn};
+ghost use Rattle.hac_model.specs.Run.Play.{have_room, item_turn};
 ghost use Rattle.hac_model.specs.declared.events.Event.TheVariants as event;
 ghost use Rattle.hac_store.specs.Stores.{Bears, Stands, store_after};
 ghost use Rattle.hac_top.specs.Crashes.{Stores};
 ghost use Rattle.hac_top.specs.Obeying.{is_disk_fault, kept_events, kept_reply};
 ghost use Rattle.hac_top.specs.Stops.{StopsCommand, is_disk_stop};
-ghost use Rattle.hac_model.specs.Lines.{item_taken};
+ghost use Rattle.hac_model.specs.Script.Lines.{item_taken};
 
 use crate::deciding::{Decision, decide};
 use crate::stops::Stop;

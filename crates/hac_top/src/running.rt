@@ -3,8 +3,8 @@ ghost use Rattle.std.specs.Prelude.{◌≡◌, ◌⊎◌, ℕ, ◌≤◌, ◌<�
 ghost use Rattle.std.specs.Io.KnownBytes.{Appends};
 ghost use Rattle.hac_disk.specs.Images.{IsQuiet, LeavesOnly};
 ghost use Rattle.hac_disk.specs.Told.{IsSettled};
-ghost use Rattle.hac_model.specs.CommandLine.{options};
-ghost use Rattle.hac_model.specs.Play.{all_events, play};
+ghost use Rattle.hac_model.specs.Script.CommandLine.{options};
+ghost use Rattle.hac_model.specs.Run.Play.{all_events, play};
 ghost use Rattle.hac_outside.specs.Causes.{Rose, TellsFault};
 ghost use Rattle.hac_store.specs.Held.{held};
 ghost use Rattle.hac_store.specs.Stores.{Bears, Stands};

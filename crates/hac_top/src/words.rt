@@ -1,7 +1,7 @@
 //! Reading the words of the program: the name of its store, and whether that is to be a new one. It knows no device.
 ghost use Rattle.std.specs.Prelude.{◌≡◌, ◌∷◌, [], false, List, ℕ, map, string_bytes};
 ghost use Rattle.std.specs.Option.{option_map};
-ghost use Rattle.hac_model.specs.CommandLine.{options, is_option};
+ghost use Rattle.hac_model.specs.Script.CommandLine.{options, is_option};
 ghost use Rattle.hac_top.specs.Words.{asked_of, asked_on, asked_after, asked_with_name, asked_with_option};
 
 /// What the words ask for.
@@ -14,7 +14,7 @@ pub(crate) struct Options<'a> {
 }
 
 /// What the words of the program ask for, behind its own name. None where they are faulty.
-#[tactic(auto, unfolding(hac_model::specs::CommandLine::options))]
+#[tactic(auto, unfolding(hac_model::specs::Script::CommandLine::options))]
 pub(crate) fn read_words(words: &[String]) -> Option<Options<'_>>
     ensures { option_map asked_of result ≡ options (map string_bytes words.now) }
 {

@@ -7,7 +7,7 @@ use Rattle.std.proofs.lemmas.List.Folds.{list_all-map}
 use Rattle.std.proofs.lemmas.Bool.Decides.{nat_tests}
 use Rattle.std.specs.Char.{to_ascii_lowercase}
 use Rattle.std.specs.List.{All, AllByRecursion, list_any, list_all, onto_first, slice_split, starts_with, zip}
-use Rattle.hac_model.specs.Words.{has_bytes, has_term, is_asked, is_lower_word_byte, is_word, is_word_byte, lower_case, runs, words}
+use Rattle.hac_model.specs.Query.Words.{has_bytes, has_term, is_asked, is_lower_word_byte, is_word, is_word_byte, lower_case, runs, words}
 use Rattle.hac_model.specs.declared.terms.Term.{Term}
 
 module _ {X : Type 0} where

@@ -6,7 +6,7 @@ use Rattle.std.specs.List.{Contains, list_any}
 use Rattle.std.specs.List.Sorted.{IsStrictlySortedBy}
 use Rattle.std.specs.Ordering.{eq_by_cmp, nat_cmp}
 use Rattle.std.proofs.lemmas.Map.Views.{Contains-from_any, list_any-from_Contains}
-use Rattle.hac_model.specs.Words.{has_term, is_asked, rising_words, words}
+use Rattle.hac_model.specs.Query.Words.{has_term, is_asked, rising_words, words}
 use Rattle.hac_model.specs.declared.terms.Term.{Term}
 use Rattle.hac_words.proofs.RisingLemmas.{IsStrictlySortedBy-fold, list_any-fold, same_rising, word_tie, words_apart}
 

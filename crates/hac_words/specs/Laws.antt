@@ -4,7 +4,7 @@ use Rattle.std.specs.Cmp.Lexicographic.{slice_cmp}
 use Rattle.std.specs.List.{list_any}
 use Rattle.std.specs.List.Sorted.{IsStrictlySortedBy}
 use Rattle.std.specs.Ordering.{nat_cmp}
-use Rattle.hac_model.specs.Words.{has_term, is_asked, is_word, rising_words, words}
+use Rattle.hac_model.specs.Query.Words.{has_term, is_asked, is_word, rising_words, words}
 use Rattle.hac_model.specs.declared.terms.Term.{Term}
 
 -- each word of a text is a word by itself

@@ -1,6 +1,6 @@
 //! The distinct words of a text.
 ghost use Rattle.std.specs.Prelude.{◌≡◌, IfOk, map};
-ghost use Rattle.hac_model.specs.Words.{lower_case, rising_words, runs};
+ghost use Rattle.hac_model.specs.Query.Words.{lower_case, rising_words, runs};
 
 use crate::bytes::is_word_byte;
 use hac_model::{Memory, Name, Words};

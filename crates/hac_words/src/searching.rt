@@ -2,7 +2,7 @@
 ghost use Rattle.std.specs.Prelude.{◌≡◌, ◌&&◌, nat_eq};
 ghost use Rattle.std.specs.List.{starts_with};
 ghost use Rattle.std.specs.Str.{bytes_eq};
-ghost use Rattle.hac_model.specs.Words.{has_bytes, has_term, is_asked, lower_case};
+ghost use Rattle.hac_model.specs.Query.Words.{has_bytes, has_term, is_asked, lower_case};
 
 use crate::bytes::is_word_byte;
 use hac_model::Term;

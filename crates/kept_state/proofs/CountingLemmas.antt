@@ -3,11 +3,11 @@ use Rattle.std.proofs.Common.{◌≡◌, ℕ, ◌+◌, ◌<◌, ◌≤◌, ◌^�
 use Rattle.std.specs.Prelude.{Option, Some, filter}
 use Rattle.std.specs.Option.{option_map, option_map_or}
 use Rattle.std.proofs.lemmas.Bool.Decides.{nat_tests}
-use Rattle.hac_model.specs.Events.{added, changed, changed_at, edited, removed, reseated, rewritten}
-use Rattle.hac_model.specs.Limits.{counts, long_paths, weight}
+use Rattle.hac_model.specs.Tree.Events.{added, changed, changed_at, edited, removed, reseated, rewritten}
+use Rattle.hac_model.specs.Tree.Limits.{counts, long_paths, weight}
 use Rattle.hac_model.specs.Tree.{entry_at, is_directory, is_dirty, is_file}
-use Rattle.hac_model.specs.Valid.{IsLayout}
-use Rattle.hac_model.specs.Formula.{Formula}
+use Rattle.hac_model.specs.Tree.Valid.{IsLayout}
+use Rattle.hac_model.specs.Query.Formula.{Formula}
 use Rattle.hac_model.specs.declared.counts.Counts.{Counts}
 use Rattle.hac_model.specs.declared.states.Body.{Body}
 use Rattle.hac_model.specs.declared.states.Body.TheVariants as body

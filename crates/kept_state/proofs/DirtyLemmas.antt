@@ -7,10 +7,10 @@ use Rattle.std.specs.Ordering.{nat_cmp}
 use Rattle.std.proofs.lemmas.Bool.{eqb-true, ne_eqb}
 use Rattle.std.proofs.lemmas.Bool.Decides.{nat_tests}
 use Rattle.std.specs.Cmp.{unsigned_ties}
-use Rattle.hac_model.specs.Events.{added, apply, asking, changed_at, edited, indexed, next_dirty, plain_body, removed, reseated}
-use Rattle.hac_model.specs.Formula.{Formula}
+use Rattle.hac_model.specs.Tree.Events.{added, apply, asking, changed_at, edited, indexed, next_dirty, plain_body, removed, reseated}
+use Rattle.hac_model.specs.Query.Formula.{Formula}
 use Rattle.hac_model.specs.Tree.{entry_at, is_dirty}
-use Rattle.hac_model.specs.Valid.{IsLayout, NumbersRise}
+use Rattle.hac_model.specs.Tree.Valid.{IsLayout, NumbersRise}
 use Rattle.hac_model.specs.declared.events.Event.TheVariants.{Step}
 use Rattle.hac_model.specs.declared.states.Body.{Body}
 use Rattle.hac_model.specs.declared.states.Body.TheVariants as body

@@ -2,10 +2,10 @@
 use Rattle.std.proofs.Common.{◌≡◌, ℕ, Bool, true, false, cond, List, [], ◌∷◌, subst, refl, ap, sym, ◌∙◌}
 use Rattle.std.specs.Prelude.{◌==◌, IsTrue}
 use Rattle.std.proofs.lemmas.Bool.{eqb-true}
-use Rattle.hac_model.specs.Depends.{depends}
-use Rattle.hac_model.specs.Events.{accepted, apply, apply_all}
-use Rattle.hac_model.specs.Facts.{Facts, Marks, bare_after, facts_after, facts_of, joined}
-use Rattle.hac_model.specs.Valid.{IsValid}
+use Rattle.hac_model.specs.Tree.Depends.{depends}
+use Rattle.hac_model.specs.Tree.Events.{accepted, apply, apply_all}
+use Rattle.hac_model.specs.Tree.Facts.{Facts, Marks, bare_after, facts_after, facts_of, joined}
+use Rattle.hac_model.specs.Tree.Valid.{IsValid}
 use Rattle.hac_model.specs.declared.events.Event.{Event}
 use Rattle.hac_model.specs.declared.states.Answer.{Answer}
 use Rattle.hac_model.specs.declared.states.State.{State}

@@ -3,15 +3,15 @@ use Rattle.std.proofs.Common.{◌≡◌, ℕ, suc, zero, Bool, true, false, cond
 use Rattle.std.specs.Prelude.{◌==◌, ◌&&◌, Option, Some, None, is_some, replicate, option_and_then, IsTrue}
 use Rattle.std.specs.Option.{option_map, option_map_or}
 use Rattle.std.proofs.lemmas.Bool.{and_parts, eqb-true}
-use Rattle.hac_model.specs.Depends.{named_in}
-use Rattle.hac_model.specs.Events.{accepted, added, apply, apply_all, asking, changed_at, edited, is_possible, may_mark, next_dirty, plain_body, removed, reseated, rewritten}
-use Rattle.hac_model.specs.Facts.{Facts, Marks, bare_after, edges_to, facts_after, facts_at, facts_of, no_facts, with_mark, without_item}
-use Rattle.hac_model.specs.Formula.{Formula}
+use Rattle.hac_model.specs.Tree.Depends.{named_in}
+use Rattle.hac_model.specs.Tree.Events.{accepted, added, apply, apply_all, asking, changed_at, edited, is_possible, may_mark, next_dirty, plain_body, removed, reseated, rewritten}
+use Rattle.hac_model.specs.Tree.Facts.{Facts, Marks, bare_after, edges_to, facts_after, facts_at, facts_of, no_facts, with_mark, without_item}
+use Rattle.hac_model.specs.Query.Formula.{Formula}
 use Rattle.hac_model.specs.Laws.{AllHappen}
-use Rattle.hac_model.specs.Limits.{is_text}
-use Rattle.hac_model.specs.Links.{is_item, is_semantic, parent_of, query_at}
+use Rattle.hac_model.specs.Tree.Limits.{is_text}
+use Rattle.hac_model.specs.Tree.Links.{is_item, is_semantic, parent_of, query_at}
 use Rattle.hac_model.specs.Tree.{body_at, entry_at, is_directory, is_file, is_file_at, query_in}
-use Rattle.hac_model.specs.Valid.{IsLayout}
+use Rattle.hac_model.specs.Tree.Valid.{IsLayout}
 use Rattle.hac_model.specs.declared.events.Event.{Event}
 use Rattle.hac_model.specs.declared.events.Event.TheVariants as event
 use Rattle.hac_model.specs.declared.marks.Kind.{Kind}

@@ -1,8 +1,8 @@
 -- What the search over a graph says of the state.
 use Rattle.std.proofs.Common.{◌≡◌, ℕ, true, false, cond, List, [], ◌∷◌, subst, refl, ap, sym, ◌∙◌, inl, inr}
 use Rattle.std.specs.Prelude.{Bool, Option, Some, Result, Ok, Err, IfOk}
-use Rattle.hac_model.specs.Depends.{IsAcyclic, cycle_over, depends, first_reaching, named_in, reaches}
-use Rattle.hac_model.specs.Formula.{Formula}
+use Rattle.hac_model.specs.Tree.Depends.{IsAcyclic, cycle_over, depends, first_reaching, named_in, reaches}
+use Rattle.hac_model.specs.Query.Formula.{Formula}
 use Rattle.hac_model.specs.declared.memory.Memory.{Memory}
 use Rattle.hac_model.specs.declared.states.State.{State}
 use Rattle.hac_model.proofs.CycleLemmas.{reaches-told, reaches-walk}

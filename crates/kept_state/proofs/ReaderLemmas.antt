@@ -3,11 +3,11 @@ use Rattle.std.proofs.Common.{◌≡◌, ℕ, true, false, cond, List, [], ◌�
 use Rattle.std.specs.Prelude.{Option, Some, None}
 use Rattle.std.specs.Option.{option_map, option_map_or}
 use Rattle.std.specs.List.{AllByRecursion}
-use Rattle.hac_model.specs.Facts.{Facts, facts_at, facts_of, filled, filled_entry, joined}
-use Rattle.hac_model.specs.Links.{has, is_permanent, is_prohibited, permanent_at, prohibited_at}
+use Rattle.hac_model.specs.Tree.Facts.{Facts, facts_at, facts_of, filled, filled_entry, joined}
+use Rattle.hac_model.specs.Tree.Links.{has, is_permanent, is_prohibited, permanent_at, prohibited_at}
 use Rattle.hac_model.specs.Tree as tree
 use Rattle.hac_model.specs.Tree.{entry_at}
-use Rattle.hac_model.specs.Valid.{IsSound, IsValid}
+use Rattle.hac_model.specs.Tree.Valid.{IsSound, IsValid}
 use Rattle.hac_model.specs.declared.marks.Kind.{Kind}
 use Rattle.hac_model.specs.declared.marks.Kind.TheVariants.{Transient, Permanent, Prohibited, Unlinked}
 use Rattle.hac_model.specs.declared.states.Body.{Body}

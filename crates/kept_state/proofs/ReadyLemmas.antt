@@ -2,12 +2,12 @@
 use Rattle.std.proofs.Common.{◌≡◌, ℕ, suc, ◌+◌, ◌-◌, ◌<◌, Bool, true, cond, List, [], ◌∷◌, length, arith, subst, ap, sym, ◌∙◌, refl}
 use Rattle.std.specs.Prelude.{◌==◌, ◌&&◌, replicate, Some, None, is_none, IsTrue}
 use Rattle.std.proofs.lemmas.Bool.{and_parts, eqb-true}
-use Rattle.hac_model.specs.Depends.{cycle_over}
-use Rattle.hac_model.specs.Events.{accepted, added, apply, apply_all, is_free, is_possible, may_ask}
-use Rattle.hac_model.specs.Facts.{Facts, bare_after, facts_after, joined}
-use Rattle.hac_model.specs.Formula.{Formula}
-use Rattle.hac_model.specs.Limits.{is_text, passed}
-use Rattle.hac_model.specs.Links.{parent_of}
+use Rattle.hac_model.specs.Tree.Depends.{cycle_over}
+use Rattle.hac_model.specs.Tree.Events.{accepted, added, apply, apply_all, is_free, is_possible, may_ask}
+use Rattle.hac_model.specs.Tree.Facts.{Facts, bare_after, facts_after, joined}
+use Rattle.hac_model.specs.Query.Formula.{Formula}
+use Rattle.hac_model.specs.Tree.Limits.{is_text, passed}
+use Rattle.hac_model.specs.Tree.Links.{parent_of}
 use Rattle.hac_model.specs.Tree.{is_directory_at, is_dirty, is_made_directory}
 use Rattle.hac_model.specs.declared.events.Event.{Event}
 use Rattle.hac_model.specs.declared.events.Event.TheVariants as event

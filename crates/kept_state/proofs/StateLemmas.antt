@@ -2,15 +2,15 @@
 use Rattle.std.proofs.Common.{◌≡◌, ℕ, List, [], map, refl, ap, subst, sym, ◌∙◌}
 use Rattle.std.specs.Prelude.{Option, Some, None, is_some, option_and_then}
 use Rattle.std.specs.Option.{option_map}
-use Rattle.hac_model.specs.Bare.{bare, bare_body}
-use Rattle.hac_model.specs.Depends.{depends, referrers}
-use Rattle.hac_model.specs.Events.{dirty, edited, is_bare, is_inside, may_ask}
-use Rattle.hac_model.specs.Formula.{Formula}
-use Rattle.hac_model.specs.Limits.{counts}
-use Rattle.hac_model.specs.Links.{is_semantic, parent_of, query_at, shown_of}
-use Rattle.hac_model.specs.Resolving.{resolved}
+use Rattle.hac_model.specs.Tree.Bare.{bare, bare_body}
+use Rattle.hac_model.specs.Tree.Depends.{depends, referrers}
+use Rattle.hac_model.specs.Tree.Events.{dirty, edited, is_bare, is_inside, may_ask}
+use Rattle.hac_model.specs.Query.Formula.{Formula}
+use Rattle.hac_model.specs.Tree.Limits.{counts}
+use Rattle.hac_model.specs.Tree.Links.{is_semantic, parent_of, query_at, shown_of}
+use Rattle.hac_model.specs.Run.Resolving.{resolved}
 use Rattle.hac_model.specs.Tree.{entry_at, is_directory, is_directory_at, is_file_at, is_made_directory, path_of, shown_text}
-use Rattle.hac_model.specs.Valid.{IsLayout}
+use Rattle.hac_model.specs.Tree.Valid.{IsLayout}
 use Rattle.hac_model.specs.declared.commands.Command.{Command}
 use Rattle.hac_model.specs.declared.states.Body.{Body}
 use Rattle.hac_model.specs.declared.states.Body.TheVariants.{File, Dir, Symlink, Semantic, Mount}

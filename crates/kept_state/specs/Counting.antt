@@ -1,6 +1,6 @@
 -- What one entry counts for, and sums of counts.
 use Rattle.std.specs.Prelude.{ℕ, ◌+◌, ◌<◌, ◌^◌, Bool, if◌then◌else◌, is_some}
-use Rattle.hac_model.specs.Limits.{weight}
+use Rattle.hac_model.specs.Tree.Limits.{weight}
 use Rattle.hac_model.specs.Tree.{is_directory, is_dirty, is_file, query_in}
 use Rattle.hac_model.specs.declared.counts.Counts.{Counts}
 use Rattle.hac_model.specs.declared.states.Body.{Body}

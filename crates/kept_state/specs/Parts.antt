@@ -1,10 +1,10 @@
 -- A tree with the marks of its semantic directories, and with what depends on what.
 use Rattle.std.specs.Prelude.{◌≡◌, ℕ, [], ◌∷◌, Option, Some, None}
-use Rattle.hac_model.specs.Depends.{named_in}
-use Rattle.hac_model.specs.Facts.{Facts, Marks, facts_of, joined}
-use Rattle.hac_model.specs.Formula.{Formula}
-use Rattle.hac_model.specs.Links.{query_at}
-use Rattle.hac_model.specs.Valid.{IsValid}
+use Rattle.hac_model.specs.Tree.Depends.{named_in}
+use Rattle.hac_model.specs.Tree.Facts.{Facts, Marks, facts_of, joined}
+use Rattle.hac_model.specs.Query.Formula.{Formula}
+use Rattle.hac_model.specs.Tree.Links.{query_at}
+use Rattle.hac_model.specs.Tree.Valid.{IsValid}
 use Rattle.hac_model.specs.declared.states.State.{State}
 use Rattle.dep_graph.specs.Graphs.{edges_of}
 use Rattle.dep_graph.specs.Graphs as graph

@@ -1,9 +1,9 @@
 -- What the parts of a kept state tell of it.
 use Rattle.std.specs.Prelude.{◌≡◌, ℕ, [], if◌then◌else◌}
-use Rattle.hac_model.specs.Bare.{bare}
-use Rattle.hac_model.specs.Depends.{depends}
-use Rattle.hac_model.specs.Links.{is_permanent, is_prohibited, permanent_at, prohibited_at}
-use Rattle.hac_model.specs.Valid.{IsLayout}
+use Rattle.hac_model.specs.Tree.Bare.{bare}
+use Rattle.hac_model.specs.Tree.Depends.{depends}
+use Rattle.hac_model.specs.Tree.Links.{is_permanent, is_prohibited, permanent_at, prohibited_at}
+use Rattle.hac_model.specs.Tree.Valid.{IsLayout}
 use Rattle.hac_model.specs.declared.marks.Kind.{Kind}
 use Rattle.hac_model.specs.declared.marks.Kind.TheVariants.{Permanent, Prohibited, Unlinked}
 use Rattle.hac_model.specs.declared.states.State.{State}

@@ -1,8 +1,8 @@
 -- What a machine is ready for: parts of it lie in the tree, the marks and the graph.
 use Rattle.std.specs.Prelude.{◌≡◌, ⊤, ℕ, ◌<◌, true, List, [], ◌∷◌, replicate, Some, None, IsTrue}
-use Rattle.hac_model.specs.Events.{apply_all}
+use Rattle.hac_model.specs.Tree.Events.{apply_all}
 use Rattle.hac_model.specs.Laws.{AllHappen}
-use Rattle.hac_model.specs.Links.{parent_of}
+use Rattle.hac_model.specs.Tree.Links.{parent_of}
 use Rattle.hac_model.specs.declared.events.Event.{Event}
 use Rattle.hac_model.specs.declared.events.Event.TheVariants as event
 use Rattle.hac_model.specs.declared.states.Body.{Body}

@@ -2,10 +2,10 @@
 ghost use Rattle.std.specs.Prelude.{◌≡◌, is_some, true, [], None, Some, IfOk, IfSome, IsSome, IsTrue, OnOk};
 ghost use Rattle.std.specs.BTreeSet.{contains};
 ghost use Rattle.std.specs.Ordering.{nat_cmp};
-ghost use Rattle.hac_model.specs.Events.{added, apply, asking, changed_at, edited, plain_body, next_dirty, removed, reseated, rewritten};
-ghost use Rattle.hac_model.specs.Limits.{counts};
+ghost use Rattle.hac_model.specs.Tree.Events.{added, apply, asking, changed_at, edited, plain_body, next_dirty, removed, reseated, rewritten};
+ghost use Rattle.hac_model.specs.Tree.Limits.{counts};
 ghost use Rattle.hac_model.specs.Tree.{empty, entry_at, is_directory_at, is_dirty, is_file, is_file_at, query_in};
-ghost use Rattle.hac_model.specs.Valid.{IsLayout};
+ghost use Rattle.hac_model.specs.Tree.Valid.{IsLayout};
 ghost use Rattle.file_tree.specs.Ready.{body_in, name_in, new_query, new_text, room_in};
 ghost use Rattle.file_tree.specs.declared.ready.Ready.TheVariants as ready;
 ghost use Rattle.kept_state.specs.Counted.{Covers, CoversOthers, is_dirty_at};

@@ -1,11 +1,11 @@
 //! What entries count for, and sums of counts, so that a limit is tested without a look at all entries.
 ghost use Rattle.std.specs.Prelude.{◌≡◌, ℕ, List, length, IsTrue, Some};
 ghost use Rattle.std.specs.Option.{option_map_or};
-ghost use Rattle.hac_model.specs.Events.{rewritten};
-ghost use Rattle.hac_model.specs.Limits.{counts, weight};
-ghost use Rattle.hac_model.specs.Links.{shown_of};
+ghost use Rattle.hac_model.specs.Tree.Events.{rewritten};
+ghost use Rattle.hac_model.specs.Tree.Limits.{counts, weight};
+ghost use Rattle.hac_model.specs.Tree.Links.{shown_of};
 ghost use Rattle.hac_model.specs.Tree.{empty, entry_at, is_dirty, is_file, is_file_at};
-ghost use Rattle.hac_model.specs.Formula.{Formula};
+ghost use Rattle.hac_model.specs.Query.Formula.{Formula};
 ghost use Rattle.hac_model.specs.declared.states.Body.{Body};
 ghost use Rattle.hac_model.specs.declared.states.Entry.{Entry};
 ghost use Rattle.kept_state.specs.Counting.{AreSmall, one_if, plus, share_of};

@@ -1,7 +1,7 @@
 //! What a semantic directory depends on, and whether one would come to depend on itself.
 ghost use Rattle.std.specs.Prelude.{◌≡◌, ◌++◌, ◌∷◌, IfOk, OnOk};
-ghost use Rattle.hac_model.specs.Depends.{cycle_of_move, cycle_over, named_in};
-ghost use Rattle.hac_model.specs.Links.{parent_of};
+ghost use Rattle.hac_model.specs.Tree.Depends.{cycle_of_move, cycle_over, named_in};
+ghost use Rattle.hac_model.specs.Tree.Links.{parent_of};
 ghost use Rattle.kept_state.specs.Parts.{IsLinked, state_of};
 
 use crate::parts::Parts;

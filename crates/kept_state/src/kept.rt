@@ -1,12 +1,12 @@
 //! The state as it is kept, and the events that it is ready for.
 ghost use Rattle.std.specs.Prelude.{◌≡◌, ◌∷◌, [], IfOk, IsTrue, OnOk, OnErr, replicate};
-ghost use Rattle.hac_model.specs.Depends.{cycle_of_move, cycle_over};
-ghost use Rattle.hac_model.specs.Events.{accepted, apply_all};
+ghost use Rattle.hac_model.specs.Tree.Depends.{cycle_of_move, cycle_over};
+ghost use Rattle.hac_model.specs.Tree.Events.{accepted, apply_all};
 ghost use Rattle.hac_model.specs.Laws.{AllHappen};
-ghost use Rattle.hac_model.specs.Limits.{counts};
-ghost use Rattle.hac_model.specs.Links.{parent_of};
+ghost use Rattle.hac_model.specs.Tree.Limits.{counts};
+ghost use Rattle.hac_model.specs.Tree.Links.{parent_of};
 ghost use Rattle.hac_model.specs.Tree.{empty, path_of};
-ghost use Rattle.hac_model.specs.Valid.{IsValid};
+ghost use Rattle.hac_model.specs.Tree.Valid.{IsValid};
 ghost use Rattle.kept_state.specs.Readers.{AreEdgesOf, AreMarksOf, IsTreeOf, mark_at};
 
 use crate::counted::CountedTree;

@@ -1,6 +1,6 @@
 //! What a machine is ready for: memory is taken first, and the change then made without any.
 ghost use Rattle.std.specs.Prelude.{◌≡◌, [], IfOk, IsTrue, replicate};
-ghost use Rattle.hac_model.specs.Events.{accepted, apply_all};
+ghost use Rattle.hac_model.specs.Tree.Events.{accepted, apply_all};
 ghost use Rattle.hac_model.specs.Laws.{AllHappen};
 ghost use Rattle.hac_model.specs.Tree.{is_directory_at};
 ghost use Rattle.link_kinds.specs.Seen.{LinkListsRise};

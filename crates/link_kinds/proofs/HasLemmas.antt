@@ -2,10 +2,10 @@
 use Rattle.std.proofs.Common.{◌≡◌, ℕ, Bool, true, false, cond, List, [], ◌∷◌, ◌||◌, refl, sym, ◌∙◌, inl, inr}
 use Rattle.std.specs.Prelude.{◌==◌}
 use Rattle.std.proofs.lemmas.Bool.{cases_eq, eq-eqb, ne_eqb}
-use Rattle.hac_model.specs.Links.{column, has}
+use Rattle.hac_model.specs.Tree.Links.{column, has}
 use Rattle.hac_model.specs.declared.marks.Kind.TheVariants.{Transient, Permanent, Prohibited, Unlinked}
 use Rattle.set_pool.specs.Rising.{is_among}
-use Rattle.hac_model.specs.Kinds.{is_linked, is_permanent, is_prohibited, is_transient}
+use Rattle.hac_model.specs.Tree.Kinds.{is_linked, is_permanent, is_prohibited, is_transient}
 use Rattle.link_kinds.specs.Seen.{AllApart, Known, kind_at, permanent_in, prohibited_in, transient_in}
 
 eqb-turned : (a b : ℕ) → (a == b) ≡ (b == a)

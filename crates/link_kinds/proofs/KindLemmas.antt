@@ -4,7 +4,7 @@ use Rattle.set_pool.specs.Rising.{is_among}
 use Rattle.set_pool.proofs.PoolLemmas.{among-inserted, among-removed}
 use Rattle.hac_model.specs.declared.marks.Kind.{Kind}
 use Rattle.hac_model.specs.declared.marks.Kind.TheVariants.{Transient, Permanent, Prohibited, Unlinked}
-use Rattle.hac_model.specs.Kinds.{is_permanent, is_prohibited, is_transient}
+use Rattle.hac_model.specs.Tree.Kinds.{is_permanent, is_prohibited, is_transient}
 use Rattle.link_kinds.specs.Kinds.{AreApart, Lists, kind_in, with_kind}
 
 -- whether an item is in a list after a change of another or of the same: the list is that of the kind, the item was in

@@ -4,16 +4,16 @@ use Rattle.std.specs.Prelude.{◌==◌, ◌&&◌, filter, map, is_some, option_a
 use Rattle.std.specs.Option.{option_map, option_map_or}
 use Rattle.std.specs.List.{range_with_len}
 use Rattle.std.proofs.lemmas.Bool.{eqb-true}
-use Rattle.hac_model.specs.Bare.{bare, bare_body}
-use Rattle.hac_model.specs.Events.{edited}
-use Rattle.hac_model.specs.Links.{is_below, is_semantic, items, parent_of, permanent_at, prohibited_at, query_at, shown_of}
+use Rattle.hac_model.specs.Tree.Bare.{bare, bare_body}
+use Rattle.hac_model.specs.Tree.Events.{edited}
+use Rattle.hac_model.specs.Tree.Links.{is_below, is_semantic, items, parent_of, permanent_at, prohibited_at, query_at, shown_of}
 use Rattle.hac_model.specs.Tree as tree
 use Rattle.hac_model.specs.Tree.{body_at, child, entry_at, extends, is_directory_at, is_file_at, path_of, query_in, shown_text}
 use Rattle.hac_model.specs.declared.states.Body.{Body}
 use Rattle.hac_model.specs.declared.states.Body.TheVariants.{File, Dir, Symlink, Semantic, Mount}
 use Rattle.hac_model.specs.declared.states.Entry.{Entry}
 use Rattle.hac_model.specs.declared.states.State.{State}
-use Rattle.hac_model.specs.Valid.{IsLayout}
+use Rattle.hac_model.specs.Tree.Valid.{IsLayout}
 use Rattle.hac_model.proofs.AlikeLemmas.{layout-bare, layout-unbare}
 use Rattle.hac_model.proofs.MapLemmas.{child-mapped, directory-mapped, mapped, path_of-mapped, test-mapped}
 use Rattle.link_kinds.specs.Marked.{with_marks, marked_body, marked_entry}

@@ -6,7 +6,7 @@ use Rattle.std.specs.Ordering.{nat_cmp}
 use Rattle.std.specs.declared.cmp.Ordering.TheVariants.{Less, Equal, Greater}
 use Rattle.std.proofs.lemmas.Bool.{cases_eq, cases_order, eq-eqb, le-ltb, lt-ltb, ne_eqb}
 use Rattle.std.proofs.lemmas.Map.Keys.{sorted_from_strictly_increasing}
-use Rattle.hac_model.specs.Events.{put_in, without}
+use Rattle.hac_model.specs.Tree.Events.{put_in, without}
 use Rattle.set_pool.specs.Rising.{AllAbove, Rises, inserted, removed}
 use Rattle.set_pool.proofs.RisingLemmas.{all-weaker, inserted-before, inserted-past, inserted-present}
 

@@ -1,7 +1,7 @@
 -- The items of one directory, by the kind of their links.
 use Rattle.std.specs.Prelude.{◌≡◌, ℕ, if◌then◌else◌, List, []}
 use Rattle.std.specs.List.Sorted.{IsStrictlyIncreasing}
-use Rattle.hac_model.specs.Kinds.{is_permanent, is_prohibited, is_transient}
+use Rattle.hac_model.specs.Tree.Kinds.{is_permanent, is_prohibited, is_transient}
 use Rattle.hac_model.specs.declared.marks.Kind.{Kind}
 use Rattle.hac_model.specs.declared.marks.Kind.TheVariants.{Transient, Permanent, Prohibited, Unlinked}
 use Rattle.set_pool.specs.Rising.{inserted, is_among, removed}

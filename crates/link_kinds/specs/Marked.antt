@@ -1,6 +1,6 @@
 -- A state whose marks are those of links.
 use Rattle.std.specs.Prelude.{ℕ, map}
-use Rattle.hac_model.specs.Events.{edited}
+use Rattle.hac_model.specs.Tree.Events.{edited}
 use Rattle.hac_model.specs.declared.states.Body.{Body}
 use Rattle.hac_model.specs.declared.states.Body.TheVariants.{Semantic}
 use Rattle.hac_model.specs.declared.states.Entry.{Entry}

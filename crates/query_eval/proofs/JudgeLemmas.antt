@@ -1,7 +1,7 @@
 -- Items that no directory links.
 use Rattle.std.proofs.Common.{◌≡◌, ℕ, Bool, true, false, None, refl, ap, ◌∙◌}
 use Rattle.std.specs.Prelude.{◌&&◌, Option, is_some}
-use Rattle.hac_model.specs.Links.{is_unmarked, passes, provide, shown_of, parent_of, satisfies}
+use Rattle.hac_model.specs.Tree.Links.{is_unmarked, passes, provide, shown_of, parent_of, satisfies}
 use Rattle.hac_model.specs.declared.states.State.{State}
 
 fails : (a b c : Bool) → (a && false && b && c) ≡ false

@@ -1,6 +1,6 @@
 -- A theorem over the definitions alone.
 use Rattle.std.specs.Prelude.{◌≡◌, ℕ, Bool, false, None}
-use Rattle.hac_model.specs.Links.{passes, shown_of}
+use Rattle.hac_model.specs.Tree.Links.{passes, shown_of}
 use Rattle.hac_model.specs.declared.states.State.{State}
 
 -- an item that was never indexed passes no query

@@ -1,6 +1,6 @@
 //! The judging of one item by a query.
 ghost use Rattle.std.specs.Prelude.{◌≡◌};
-ghost use Rattle.hac_model.specs.Queries.{judged};
+ghost use Rattle.hac_model.specs.Query.Queries.{judged};
 
 use crate::atoms::Atoms;
 use hac_model::{Member, Node, Number, Query};

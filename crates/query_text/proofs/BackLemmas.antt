@@ -5,16 +5,16 @@ use Rattle.std.specs.List.{list_all, flat_map}
 use Rattle.std.specs.Option.{option_map_or}
 use Rattle.std.proofs.lemmas.Bool.{and_parts}
 use Rattle.std.proofs.lemmas.Bool.Decides.{nat_tests}
-use Rattle.hac_model.specs.Answers.{and_then}
-use Rattle.hac_model.specs.Formula.{Formula}
-use Rattle.hac_model.specs.Formula as formula
-use Rattle.hac_model.specs.Grammar.{IsPath, AllPathBytes, is_control}
-use Rattle.hac_model.specs.Names.{is_name, is_name_byte}
-use Rattle.hac_model.specs.PathWords.{word_of}
-use Rattle.hac_model.specs.Paths.{are_names, path_text, slashed}
-use Rattle.hac_model.specs.QueryReading.{read_on, fresh_reader, parsed, named, worded, limited_query, spelled_query, read_query}
-use Rattle.hac_model.specs.Queries.{are_terms, term_count}
-use Rattle.hac_model.specs.QueryText.{named_by}
+use Rattle.hac_model.specs.Run.Answers.{and_then}
+use Rattle.hac_model.specs.Query.Formula.{Formula}
+use Rattle.hac_model.specs.Query.Formula as formula
+use Rattle.hac_model.specs.Query.Grammar.{IsPath, AllPathBytes, is_control}
+use Rattle.hac_model.specs.Tree.Names.{is_name, is_name_byte}
+use Rattle.hac_model.specs.Script.PathWords.{word_of}
+use Rattle.hac_model.specs.Tree.Paths.{are_names, path_text, slashed}
+use Rattle.hac_model.specs.Query.QueryReading.{read_on, fresh_reader, parsed, named, worded, limited_query, spelled_query, read_query}
+use Rattle.hac_model.specs.Query.Queries.{are_terms, term_count}
+use Rattle.hac_model.specs.Query.QueryText.{named_by}
 use Rattle.hac_model.specs.declared.limits.LimitWord.{LimitWord}
 use Rattle.hac_model.specs.declared.limits.TheConstants.{QUERY_LIMIT, TERMS_LIMIT, NESTING_LIMIT}
 use Rattle.hac_model.specs.declared.paths.PathWord.{PathWord}

@@ -3,10 +3,10 @@ use Rattle.std.proofs.Common.{◌≡◌, ℕ, zero, suc, ◌≤◌, Bool, true, 
 use Rattle.std.specs.Prelude.{◌||◌, ◌==◌, option_and_then, codes}
 use Rattle.std.specs.Option.{option_map, IfSome}
 use Rattle.std.specs.Str.{bytes_eq}
-use Rattle.hac_model.specs.Grammar.{AllWordBytes, IsRun, AllPathBytes, IsPath, escape, escaped, Spells, EndsRun, EndsToken, spaced, SpellAll, Token, Open, Close, And, Or, Not, Of, Word, Prefix, Dir, leaf_part}
-use Rattle.hac_model.specs.Queries.{is_operator}
-use Rattle.hac_model.specs.QueryReading.{negate, receive, after_and, after_or, leave, at, after_run, run_step, sign_ends, brace_step, path_step, escape_step, token_begins, operand_begins, operator_begins, kind_of, step, read_whole, ended_token}
-use Rattle.hac_model.specs.Words.{lower_case}
+use Rattle.hac_model.specs.Query.Grammar.{AllWordBytes, IsRun, AllPathBytes, IsPath, escape, escaped, Spells, EndsRun, EndsToken, spaced, SpellAll, Token, Open, Close, And, Or, Not, Of, Word, Prefix, Dir, leaf_part}
+use Rattle.hac_model.specs.Query.Queries.{is_operator}
+use Rattle.hac_model.specs.Query.QueryReading.{negate, receive, after_and, after_or, leave, at, after_run, run_step, sign_ends, brace_step, path_step, escape_step, token_begins, operand_begins, operator_begins, kind_of, step, read_whole, ended_token}
+use Rattle.hac_model.specs.Query.Words.{lower_case}
 use Rattle.hac_model.specs.declared.reading.ByteKind.{ByteKind}
 use Rattle.hac_model.specs.declared.reading.ByteKind.TheVariants as kind
 use Rattle.hac_model.specs.declared.reading.Held.{Held}

@@ -2,9 +2,9 @@
 use Rattle.std.proofs.Common.{◌≡◌, ℕ, zero, suc, ◌+◌, ◌<◌, ◌≤◌, true, List, [], ◌∷◌, ◌++◌, length, take, Option, Some, None, Result, Ok, Err, refl, ap, sym, subst, ◌∙◌, arith}
 use Rattle.std.specs.Prelude.{option_and_then}
 use Rattle.std.specs.Option.{ok_or}
-use Rattle.hac_model.specs.Grammar.{BeginsQuery, Reads, SpellAll, Token, tokens, meaning, Prefix, Dir, leaf_part, group_part}
-use Rattle.hac_model.specs.QueryReading.{join_or, receive, after_and, after_or, kind_of, operand_begins, operator_begins, run_step, brace_step, path_step, escape_step, sign_ends, step, read_whole, empty_level, fresh_reader, goes_on, read_on}
-use Rattle.hac_model.specs.Words.{is_word_byte, lower_case}
+use Rattle.hac_model.specs.Query.Grammar.{BeginsQuery, Reads, SpellAll, Token, tokens, meaning, Prefix, Dir, leaf_part, group_part}
+use Rattle.hac_model.specs.Query.QueryReading.{join_or, receive, after_and, after_or, kind_of, operand_begins, operator_begins, run_step, brace_step, path_step, escape_step, sign_ends, step, read_whole, empty_level, fresh_reader, goes_on, read_on}
+use Rattle.hac_model.specs.Query.Words.{is_word_byte, lower_case}
 use Rattle.hac_model.specs.declared.reading.ByteKind.{ByteKind}
 use Rattle.hac_model.specs.declared.reading.Held.{Held}
 use Rattle.hac_model.specs.declared.reading.Level.{Level}

@@ -4,9 +4,9 @@ use Rattle.std.specs.Prelude.{◌||◌, ◌==◌, ⊤}
 use Rattle.std.proofs.lemmas.Bool.{eqb-true}
 use Rattle.std.proofs.lemmas.Bool.Decides.{nat_tests}
 use Rattle.hac_model.specs.Bytes.{is_space, is_slash, is_backslash}
-use Rattle.hac_model.specs.Grammar.{is_control, escape}
-use Rattle.hac_model.specs.QueryReading.{kind_of, operand_begins, run_step, run_ends, sign_ends, path_step}
-use Rattle.hac_model.specs.Words.{is_word_byte}
+use Rattle.hac_model.specs.Query.Grammar.{is_control, escape}
+use Rattle.hac_model.specs.Query.QueryReading.{kind_of, operand_begins, run_step, run_ends, sign_ends, path_step}
+use Rattle.hac_model.specs.Query.Words.{is_word_byte}
 use Rattle.hac_model.specs.declared.reading.ByteKind.{ByteKind}
 use Rattle.hac_model.specs.declared.reading.ByteKind.TheVariants.{Word, Space, Open, Close, Star, Brace, EndBrace, Backslash, Slash, Control, Foreign}
 use Rattle.hac_model.specs.declared.reading.Operand.TheVariants as operand

@@ -1,10 +1,10 @@
 -- No tree of a query has fewer parentheses than its text.
 use Rattle.std.proofs.Common.{◌≡◌, ℕ, ◌+◌, ◌≤◌, Bool, true, false, List, [], ◌∷◌, ◌++◌, refl, ap, arith}
-use Rattle.hac_model.specs.Formula.{Formula}
-use Rattle.hac_model.specs.Formula as formula
-use Rattle.hac_model.specs.Grammar.{Rule, query, and_rule, not_rule, prim, Tree, of_and, or, of_not, and, of_prim, negation, group, leaf, Token, Open, Close, And, Or, Not, Of, Word, Prefix, Dir, tokens, meaning, SpellAll}
-use Rattle.hac_model.specs.Queries.{are_terms}
-use Rattle.hac_model.specs.QueryText.{is_or, is_joined, query_text}
+use Rattle.hac_model.specs.Query.Formula.{Formula}
+use Rattle.hac_model.specs.Query.Formula as formula
+use Rattle.hac_model.specs.Query.Grammar.{Rule, query, and_rule, not_rule, prim, Tree, of_and, or, of_not, and, of_prim, negation, group, leaf, Token, Open, Close, And, Or, Not, Of, Word, Prefix, Dir, tokens, meaning, SpellAll}
+use Rattle.hac_model.specs.Query.Queries.{are_terms}
+use Rattle.hac_model.specs.Query.QueryText.{is_or, is_joined, query_text}
 use Rattle.hac_model.specs.declared.terms.Term.TheVariants as term
 use Rattle.query_text.proofs.PrintLemmas.{trees, text_spells, text_means}
 use Rattle.query_text.specs.Laws.{ArePaths, opened}

@@ -7,12 +7,12 @@ use Rattle.std.specs.Str.{bytes_eq}
 use Rattle.std.proofs.lemmas.Bool.{and_parts}
 use Rattle.std.proofs.lemmas.Bool.Decides.{nat_tests}
 use Rattle.std.proofs.lemmas.Slice.Eq.{bytes_eq-Decides}
-use Rattle.hac_model.specs.Formula.{Formula}
-use Rattle.hac_model.specs.Formula as formula
-use Rattle.hac_model.specs.Grammar.{query, and_rule, not_rule, Tree, of_and, or, of_not, and, of_prim, negation, group, leaf, Token, Open, Close, And, Or, Not, Of, Leaf, Word, Prefix, Dir, tokens, meaning, Spells, SpellAll, EndsRun, EndsToken, IsRun, AllWordBytes, escaped, Reads}
-use Rattle.hac_model.specs.Queries.{are_terms, is_operator}
-use Rattle.hac_model.specs.QueryText.{is_or, is_joined, around, query_text}
-use Rattle.hac_model.specs.Words.{has_bytes, is_word, is_word_byte, is_lower_word_byte, lower_case}
+use Rattle.hac_model.specs.Query.Formula.{Formula}
+use Rattle.hac_model.specs.Query.Formula as formula
+use Rattle.hac_model.specs.Query.Grammar.{query, and_rule, not_rule, Tree, of_and, or, of_not, and, of_prim, negation, group, leaf, Token, Open, Close, And, Or, Not, Of, Leaf, Word, Prefix, Dir, tokens, meaning, Spells, SpellAll, EndsRun, EndsToken, IsRun, AllWordBytes, escaped, Reads}
+use Rattle.hac_model.specs.Query.Queries.{are_terms, is_operator}
+use Rattle.hac_model.specs.Query.QueryText.{is_or, is_joined, around, query_text}
+use Rattle.hac_model.specs.Query.Words.{has_bytes, is_word, is_word_byte, is_lower_word_byte, lower_case}
 use Rattle.hac_model.specs.declared.reading.Part.{Part}
 use Rattle.hac_model.specs.declared.terms.Term.TheVariants as term
 use Rattle.query_text.specs.Laws.{ArePaths}

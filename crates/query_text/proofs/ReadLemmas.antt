@@ -2,7 +2,7 @@
 use Rattle.std.proofs.Common.{◌≡◌, ℕ, suc, ◌+◌, ◌<◌, ◌≤◌, List, length, get_or, drop, Option, Some, None, Err, ap, sym, ◌∙◌, arith, add-one, drop-cons}
 use Rattle.std.specs.Option.{ok_or}
 use Rattle.std.proofs.lemmas.List.{drop_all}
-use Rattle.hac_model.specs.QueryReading.{read_on, step, read_whole, goes_on}
+use Rattle.hac_model.specs.Query.QueryReading.{read_on, step, read_whole, goes_on}
 use Rattle.hac_model.specs.declared.reading.Part.{Part}
 use Rattle.hac_model.specs.declared.reading.Reader.{Reader}
 

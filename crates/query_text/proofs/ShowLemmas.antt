@@ -5,10 +5,10 @@ use Rattle.std.specs.Option.{option_map, IfSome}
 use Rattle.std.specs.Str.{bytes_eq}
 use Rattle.std.proofs.lemmas.Bool.{eqb-true}
 use Rattle.std.proofs.lemmas.Slice.Eq.{bytes_eq-Decides}
-use Rattle.hac_model.specs.Grammar.{AllWordBytes, IsRun, AllPathBytes, IsPath, is_control, escape, escaped, Spells, EndsRun, EndsToken, SpellAll, Token, Open, Close, And, Or, Not, Of, Word, Prefix, Dir, leaf_part}
-use Rattle.hac_model.specs.Queries.{is_operator}
-use Rattle.hac_model.specs.QueryReading.{enter, negate, receive, after_and, after_or, leave, after_run, run_step, run_ends, sign_ends, brace_step, path_step, escape_step, token_begins, operand_begins, operator_begins, kind_step, kind_of, read_whole, ended_token}
-use Rattle.hac_model.specs.Words.{is_word_byte, lower_case}
+use Rattle.hac_model.specs.Query.Grammar.{AllWordBytes, IsRun, AllPathBytes, IsPath, is_control, escape, escaped, Spells, EndsRun, EndsToken, SpellAll, Token, Open, Close, And, Or, Not, Of, Word, Prefix, Dir, leaf_part}
+use Rattle.hac_model.specs.Query.Queries.{is_operator}
+use Rattle.hac_model.specs.Query.QueryReading.{enter, negate, receive, after_and, after_or, leave, after_run, run_step, run_ends, sign_ends, brace_step, path_step, escape_step, token_begins, operand_begins, operator_begins, kind_step, kind_of, read_whole, ended_token}
+use Rattle.hac_model.specs.Query.Words.{is_word_byte, lower_case}
 use Rattle.hac_model.specs.declared.reading.ByteKind.{ByteKind}
 use Rattle.hac_model.specs.declared.reading.ByteKind.TheVariants as kind
 use Rattle.hac_model.specs.declared.reading.Held.{Held}

@@ -2,8 +2,8 @@
 use Rattle.std.proofs.Common.{◌≡◌, ℕ, true, List, Ok, Err}
 use Rattle.std.specs.Prelude.{Result}
 use Rattle.std.specs.Result.{IfOk}
-use Rattle.hac_model.specs.Formula.{Formula}
-use Rattle.hac_model.specs.QueryReading.{read_query, is_spelled_query}
+use Rattle.hac_model.specs.Query.Formula.{Formula}
+use Rattle.hac_model.specs.Query.QueryReading.{read_query, is_spelled_query}
 use Rattle.hac_model.specs.declared.paths.PathWord.{PathWord}
 use Rattle.hac_model.proofs.QueryLemmas.{read_spelled}
 use Rattle.query_text.specs.Reading.{ReadsQuery}

@@ -2,8 +2,8 @@
 use Rattle.std.proofs.Common.{◌≡◌, ℕ, zero, suc, List, [], ◌∷◌, ◌++◌, Option, Some, None, refl, ap, sym, ◌∙◌, append_assoc, append-nil}
 use Rattle.std.specs.Prelude.{option_and_then}
 use Rattle.std.specs.Option.{option_map, IfSome}
-use Rattle.hac_model.specs.Grammar.{Rule, query, and_rule, not_rule, prim, Tree, of_and, or, of_not, and, of_prim, negation, group, leaf, Token, Open, Close, And, Or, Not, Of, tokens, meaning, leaf_part, not_part, and_part, or_part, group_part}
-use Rattle.hac_model.specs.QueryReading.{join_and, join_or, nots_part, empty_level, enter, negate, receive, after_and, after_or, grouped, leave, ungrouped, ended_token}
+use Rattle.hac_model.specs.Query.Grammar.{Rule, query, and_rule, not_rule, prim, Tree, of_and, or, of_not, and, of_prim, negation, group, leaf, Token, Open, Close, And, Or, Not, Of, tokens, meaning, leaf_part, not_part, and_part, or_part, group_part}
+use Rattle.hac_model.specs.Query.QueryReading.{join_and, join_or, nots_part, empty_level, enter, negate, receive, after_and, after_or, grouped, leave, ungrouped, ended_token}
 use Rattle.hac_model.specs.declared.reading.Level.{Level}
 use Rattle.hac_model.specs.declared.reading.Part.{Part}
 use Rattle.hac_model.specs.declared.reading.Stack.{Stack}

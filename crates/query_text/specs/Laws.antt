@@ -2,13 +2,13 @@
 use Rattle.std.specs.Prelude.{◌≡◌, ⊤, ℕ, ◌+◌, ◌≤◌, true, List, [], ◌∷◌, Result, Ok, Err}
 use Rattle.std.specs.List.{list_all}
 use Rattle.std.specs.Option.{option_map_or}
-use Rattle.hac_model.specs.Formula.{Formula}
-use Rattle.hac_model.specs.Formula as formula
-use Rattle.hac_model.specs.Grammar.{Token, Open, Tree, query, tokens, meaning, SpellAll, IsFault, IsPath, Reads}
-use Rattle.hac_model.specs.Paths.{are_names}
-use Rattle.hac_model.specs.Queries.{are_terms}
-use Rattle.hac_model.specs.QueryReading.{read_on, fresh_reader, read_query, is_spelled_query}
-use Rattle.hac_model.specs.QueryText.{query_text, named_by}
+use Rattle.hac_model.specs.Query.Formula.{Formula}
+use Rattle.hac_model.specs.Query.Formula as formula
+use Rattle.hac_model.specs.Query.Grammar.{Token, Open, Tree, query, tokens, meaning, SpellAll, IsFault, IsPath, Reads}
+use Rattle.hac_model.specs.Tree.Paths.{are_names}
+use Rattle.hac_model.specs.Query.Queries.{are_terms}
+use Rattle.hac_model.specs.Query.QueryReading.{read_on, fresh_reader, read_query, is_spelled_query}
+use Rattle.hac_model.specs.Query.QueryText.{query_text, named_by}
 use Rattle.hac_model.specs.declared.paths.PathWord.{PathWord}
 use Rattle.hac_model.specs.declared.replies.Refusal.{Refusal}
 use Rattle.hac_model.specs.declared.replies.Refusal.TheVariants.{Limit}

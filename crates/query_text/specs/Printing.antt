@@ -1,10 +1,10 @@
 -- Queries as they are printed, given the paths of their directories.
 use Rattle.std.specs.Prelude.{ℕ, Bool, true, ◌==◌, if◌then◌else◌, List, [], ◌∷◌, Option, Some, None, is_some}
 use Rattle.std.specs.Option.{option_map_or}
-use Rattle.hac_model.specs.Formula.{Formula}
-use Rattle.hac_model.specs.Paths.{path_text}
-use Rattle.hac_model.specs.Queries.{all_leaves}
-use Rattle.hac_model.specs.QueryText.{query_text, named_by}
+use Rattle.hac_model.specs.Query.Formula.{Formula}
+use Rattle.hac_model.specs.Tree.Paths.{path_text}
+use Rattle.hac_model.specs.Query.Queries.{all_leaves}
+use Rattle.hac_model.specs.Query.QueryText.{query_text, named_by}
 use Rattle.query_text.specs.declared.paths.Told.{Told}
 
 -- the path that a directory was given, the first of them

@@ -1,7 +1,7 @@
 //! Operands, and how what comes before them joins them.
 ghost use Rattle.std.specs.Prelude.{◌≡◌, ◌+◌, IfOk};
-ghost use Rattle.hac_model.specs.Grammar as grammar;
-ghost use Rattle.hac_model.specs.QueryReading as reading;
+ghost use Rattle.hac_model.specs.Query.Grammar as grammar;
+ghost use Rattle.hac_model.specs.Query.QueryReading as reading;
 
 use hac_model::reading::{Held, Level, Part, Wanted};
 use hac_model::{Memory, Pile, Query};

@@ -1,12 +1,12 @@
 //! What each byte is in a query.
 ghost use Rattle.std.specs.Prelude.{◌≡◌};
-ghost use Rattle.hac_model.specs.Grammar.{is_control};
-ghost use Rattle.hac_model.specs.QueryReading.{kind_of};
-ghost use Rattle.hac_model.specs.Words.{is_word_byte};
+ghost use Rattle.hac_model.specs.Query.Grammar.{is_control};
+ghost use Rattle.hac_model.specs.Query.QueryReading.{kind_of};
+ghost use Rattle.hac_model.specs.Query.Words.{is_word_byte};
 
 use hac_model::reading::ByteKind;
 
-#[tactic(auto, unfolding(hac_model::specs::QueryReading::kind_of))]
+#[tactic(auto, unfolding(hac_model::specs::Query::QueryReading::kind_of))]
 pub(crate) fn kind_of(byte: u8) -> ByteKind
     ensures { result ≡ kind_of byte }
 {
@@ -35,7 +35,7 @@ pub(crate) fn kind_of(byte: u8) -> ByteKind
     }
 }
 
-#[tactic(auto, unfolding(hac_model::specs::Words::is_word_byte))]
+#[tactic(auto, unfolding(hac_model::specs::Query::Words::is_word_byte))]
 fn is_word_byte(byte: u8) -> bool
     ensures { result ≡ is_word_byte byte }
 {

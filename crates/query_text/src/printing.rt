@@ -1,8 +1,8 @@
 //! Queries as they are printed.
 ghost use Rattle.std.specs.Prelude.{◌≡◌, ◌++◌, codes, is_some, IfOk, IsTrue, MatchOption, None, Some};
-ghost use Rattle.hac_model.specs.Paths.{path_text};
-ghost use Rattle.hac_model.specs.Grammar.{escape, escaped};
-ghost use Rattle.hac_model.specs.QueryText as text;
+ghost use Rattle.hac_model.specs.Tree.Paths.{path_text};
+ghost use Rattle.hac_model.specs.Query.Grammar.{escape, escaped};
+ghost use Rattle.hac_model.specs.Query.QueryText as text;
 ghost use Rattle.query_text.specs.Printing.{are_known, dir_path, path_at, printed_query};
 
 use crate::paths::{Paths, Told};

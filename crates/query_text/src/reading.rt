@@ -1,7 +1,7 @@
 //! Queries as they are read.
 ghost use Rattle.std.specs.Prelude.{◌≡◌, ◌-◌, if◌then◌else◌, nat_lt, IfOk, IsTrue};
-ghost use Rattle.hac_model.specs.Queries as queries;
-ghost use Rattle.hac_model.specs.QueryReading as reading;
+ghost use Rattle.hac_model.specs.Query.Queries as queries;
+ghost use Rattle.hac_model.specs.Query.QueryReading as reading;
 ghost use Rattle.query_text.specs.Reading.{IsPart, ReadsQuery};
 
 use crate::faults::QueryFault;
@@ -23,7 +23,7 @@ pub fn parse(alloc: Global, bytes: &[u8]) -> Result<RawQuery, QueryFault>
 }
 
 /// The query that bytes spell, where they aren't too many.
-#[tactic(auto, unfolding(hac_model::specs::QueryReading::read_query))]
+#[tactic(auto, unfolding(hac_model::specs::Query::QueryReading::read_query))]
 fn parse_short(alloc: Global, bytes: &[u8]) -> Result<RawQuery, QueryFault>
     ensures { ReadsQuery result (reading.read_query bytes.now) }
 {

@@ -1,9 +1,9 @@
 //! What one byte more makes of what was read of a query.
 ghost use Rattle.std.specs.Prelude.{◌≡◌, ◌==◌, ◌∷◌, ◌++◌, [], if◌then◌else◌, option_and_then, Ok, Err, Some, IfOk, MatchResult};
 ghost use Rattle.std.specs.Option.{option_map};
-ghost use Rattle.hac_model.specs.Grammar as grammar;
-ghost use Rattle.hac_model.specs.QueryReading as reading;
-ghost use Rattle.hac_model.specs.Words as words;
+ghost use Rattle.hac_model.specs.Query.Grammar as grammar;
+ghost use Rattle.hac_model.specs.Query.QueryReading as reading;
+ghost use Rattle.hac_model.specs.Query.Words as words;
 
 use crate::joining::{after_and, after_or, empty_level, enter, finish, leave, negate, receive};
 use crate::kinds::kind_of;
@@ -154,7 +154,7 @@ fn run_ends(
 }
 
 /// Behind a run that ended where an operand was wanted.
-#[tactic(auto, unfolding(hac_model::specs::QueryReading::after_run))]
+#[tactic(auto, unfolding(hac_model::specs::Query::QueryReading::after_run))]
 fn after_run(alloc: Global, run: Text, wanted: Wanted) -> Result<Option<Stack>, Memory>
     ensures { IfOk result (λ stack. stack ≡ reading.after_run run wanted) }
 {

@@ -1,6 +1,6 @@
 -- What a directory provides, by the links that were found and the marks.
 use Rattle.std.proofs.Common.{◌≡◌, ℕ, Bool, true, false, cond, List, [], ◌||◌, ◌&&◌, refl, ap, ◌∙◌}
-use Rattle.hac_model.specs.Links.{column, has, is_below, is_semantic, provide}
+use Rattle.hac_model.specs.Tree.Links.{column, has, is_below, is_semantic, provide}
 use Rattle.hac_model.specs.declared.states.State.{State}
 use Rattle.link_kinds.specs.Marked.{with_marks}
 use Rattle.link_kinds.specs.Seen.{Known, permanent_in, transient_in}

@@ -1,6 +1,6 @@
 //! Whether a directory provides an item.
 ghost use Rattle.std.specs.Prelude.{◌≡◌, ◌&&◌, ◌||◌};
-ghost use Rattle.hac_model.specs.Links.{column, has, is_below, is_semantic, provide};
+ghost use Rattle.hac_model.specs.Tree.Links.{column, has, is_below, is_semantic, provide};
 ghost use Rattle.link_kinds.specs.Marked.{with_marks};
 ghost use Rattle.link_kinds.specs.Seen.{permanent_in, transient_in};
 

@@ -7,7 +7,7 @@ use Rattle.hac_outside.specs.Known.{Known}
 use Rattle.hac_outside.specs.Seen.{SourceSeen}
 use Rattle.std.proofs.lemmas.Grind.{common_steps}
 use Rattle.hac_model.specs.Bytes.{is_line_end}
-use Rattle.hac_model.specs.Lines.{is_quiet}
+use Rattle.hac_model.specs.Script.Lines.{is_quiet}
 use Rattle.hac_model.specs.declared.limits.TheConstants.{LINE_LIMIT}
 use Rattle.hac_model.proofs.JoinLemmas.{position-ended, first_line-ended, after_line-ended}
 use Rattle.shell_lang.specs.declared.reading.Piece.{Piece}

@@ -12,7 +12,7 @@ use Rattle.std.proofs.lemmas.Int.Digits.{digits_value_more, digits_value-lt}
 use Rattle.std.proofs.lemmas.Slice.Eq.{bytes_eq-Decides}
 use Rattle.std.proofs.lemmas.Str.{digit_value_digit}
 use Rattle.std.proofs.lemmas.Str.Parse.{digit_from_value, digits_value-take-le}
-use Rattle.hac_model.specs.Puts.{is_length}
+use Rattle.hac_model.specs.Script.Puts.{is_length}
 
 digit_value-lt : (c : ℕ) → is_ascii_digit c ≡ true → digit_value c < 10
 digit_value-lt c h =

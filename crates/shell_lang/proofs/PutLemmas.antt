@@ -3,11 +3,11 @@ use Rattle.std.proofs.Common.{◌≡◌, ℕ, Bool, true, false, List, refl, ap,
 use Rattle.std.specs.Prelude.{if◌then◌else◌, Option, Some, None, Result, Ok, Err}
 use Rattle.std.specs.List.{list_all}
 use Rattle.std.specs.Str.Parse.{digits_value}
-use Rattle.hac_model.specs.Answers.{◌>>=◌}
+use Rattle.hac_model.specs.Run.Answers.{◌>>=◌}
 use Rattle.hac_model.specs.Bytes.{is_space}
-use Rattle.hac_model.specs.LineWords.{first_word}
-use Rattle.hac_model.specs.Lines.{asked, is_put, put_length, put_words}
-use Rattle.hac_model.specs.Puts.{is_length}
+use Rattle.hac_model.specs.Script.LineWords.{first_word}
+use Rattle.hac_model.specs.Script.Lines.{asked, is_put, put_length, put_words}
+use Rattle.hac_model.specs.Script.Puts.{is_length}
 use Rattle.hac_model.specs.declared.replies.Refusal.{Refusal}
 use Rattle.hac_model.specs.declared.replies.Refusal.TheVariants.{BadLine}
 use Rattle.shell_lang.specs.RawWords.{IsRaw}

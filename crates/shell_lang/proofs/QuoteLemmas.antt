@@ -5,7 +5,7 @@ use Rattle.std.specs.Borrow.{Bor}
 use Rattle.std.specs.Option.{option_map}
 use Rattle.std.proofs.lemmas.List.{length-drop}
 use Rattle.hac_model.specs.Bytes.{is_backslash, is_quote}
-use Rattle.hac_model.specs.LineWords.{in_front, quoted, quoted_escape}
+use Rattle.hac_model.specs.Script.LineWords.{in_front, quoted, quoted_escape}
 use Rattle.shell_lang.specs.Quotes.{QuotesFirst}
 
 pub quoted-none : (bytes : List ℕ) → length bytes < 1 → quoted bytes ≡ None

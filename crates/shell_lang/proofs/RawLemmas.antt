@@ -9,12 +9,12 @@ use Rattle.std.proofs.lemmas.Bool.Decides.{nat_tests}
 use Rattle.std.proofs.lemmas.List.{length-append}
 use Rattle.std.proofs.lemmas.Slice.Eq.{bytes_eq-Decides}
 use Rattle.std.proofs.lemmas.Str.Parse.{digit_from_value}
-use Rattle.hac_model.specs.Answers.{◌>>=◌}
+use Rattle.hac_model.specs.Run.Answers.{◌>>=◌}
 use Rattle.hac_model.specs.Bytes.{is_backslash, is_quote}
 use Rattle.hac_model.specs.Laws.{quoted_byte}
-use Rattle.hac_model.specs.LineWords.{in_front, is_word_end, quoted, quoted_word}
-use Rattle.hac_model.specs.Lines.{is_put}
-use Rattle.hac_model.specs.Puts.{is_length}
+use Rattle.hac_model.specs.Script.LineWords.{in_front, is_word_end, quoted, quoted_word}
+use Rattle.hac_model.specs.Script.Lines.{is_put}
+use Rattle.hac_model.specs.Script.Puts.{is_length}
 use Rattle.hac_model.specs.declared.replies.Refusal.TheVariants.{BadLine}
 use Rattle.hac_model.proofs.QuoteLemmas.{word-only}
 use Rattle.shell_lang.specs.RawWords.{IsRaw}

@@ -7,7 +7,7 @@ use Rattle.std.proofs.Math.Seq.{take-append_seam, drop-append_seam, drop-nil}
 use Rattle.std.proofs.lemmas.Grind.{common_steps}
 use Rattle.std.proofs.lemmas.List.{length-take-le, take-append-drop}
 use Rattle.hac_model.specs.Bytes.{is_line_end}
-use Rattle.hac_model.specs.Puts.{came}
+use Rattle.hac_model.specs.Script.Puts.{came}
 use Rattle.hac_model.specs.declared.limits.TheConstants.{SCRIPT_LIMIT, TEXT_LIMIT}
 use Rattle.hac_model.specs.declared.taken.Taken.TheVariants.{Whole, Dropped, Short}
 use Rattle.hac_model.proofs.PrefixLemmas.{position-skip}

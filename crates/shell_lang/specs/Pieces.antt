@@ -1,6 +1,6 @@
 -- What a reader gives of the bytes that are pending.
 use Rattle.std.specs.Prelude.{◌≡◌, ℕ, ◌+◌, ◌-◌, ◌<◌, ◌≤◌, Bool, true, false, if◌then◌else◌, nat_le, List, [], length, take}
-use Rattle.hac_model.specs.Lines.{is_quiet}
+use Rattle.hac_model.specs.Script.Lines.{is_quiet}
 use Rattle.hac_model.specs.Script.{first_line, after_line, is_first_ended}
 use Rattle.hac_model.specs.declared.limits.TheConstants.{LINE_LIMIT, SCRIPT_LIMIT}
 use Rattle.shell_lang.specs.declared.reading.Piece.{Piece}

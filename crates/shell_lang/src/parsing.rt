@@ -1,7 +1,7 @@
 //! A line's command. What a command does is not known here.
 ghost use Rattle.std.specs.Prelude.{IfOk, IsTrue};
-ghost use Rattle.hac_model.specs.Answers.{Answers};
-ghost use Rattle.hac_model.specs.Lines.{alone, called_with, command_with, is_spelled, item_taken, named_command};
+ghost use Rattle.hac_model.specs.Run.Answers.{Answers};
+ghost use Rattle.hac_model.specs.Script.Lines.{alone, called_with, command_with, is_spelled, item_taken, named_command};
 ghost use Rattle.hac_model.specs.declared.commands.Command.TheVariants.{Index, Counts};
 
 use crate::putting::{is_put, parse_put};
@@ -103,7 +103,7 @@ fn parse_named(alloc: Global, name: &[u8], arguments: &[u8]) -> Result<Command, 
 }
 
 /// `index`, from what follows it.
-#[tactic(auto, unfolding(hac_model::specs::Lines::alone))]
+#[tactic(auto, unfolding(hac_model::specs::Script::Lines::alone))]
 fn parse_index(arguments: &[u8]) -> Result<Command, Deny>
     ensures { Answers result (alone Index arguments.now) }
 {
@@ -115,7 +115,7 @@ fn parse_index(arguments: &[u8]) -> Result<Command, Deny>
 }
 
 /// `counts`, from what follows it.
-#[tactic(auto, unfolding(hac_model::specs::Lines::alone))]
+#[tactic(auto, unfolding(hac_model::specs::Script::Lines::alone))]
 fn parse_counts(arguments: &[u8]) -> Result<Command, Deny>
     ensures { Answers result (alone Counts arguments.now) }
 {

@@ -1,8 +1,8 @@
 //! The path words of a line. Where a path leads is not known here.
 ghost use Rattle.std.specs.Prelude.{◌≡◌};
-ghost use Rattle.hac_model.specs.Answers.{Answers};
-ghost use Rattle.hac_model.specs.Lines.{only_path, two_paths};
-ghost use Rattle.hac_model.specs.PathWords.{word_of};
+ghost use Rattle.hac_model.specs.Run.Answers.{Answers};
+ghost use Rattle.hac_model.specs.Script.Lines.{only_path, two_paths};
+ghost use Rattle.hac_model.specs.Script.PathWords.{word_of};
 
 use crate::words::only_word;
 use hac_model::{Deny, LimitWord, PathWord, Refusal};

@@ -1,8 +1,8 @@
 //! Replies as the program prints them.
 ghost use Rattle.std.specs.Prelude.{◌≡◌, ◌++◌, codes, decimal, IfOk, OnOk};
 ghost use Rattle.std.specs.List.{flat_map};
-ghost use Rattle.hac_model.specs.Paths.{path_text};
-ghost use Rattle.hac_model.specs.Printed.{ended, limit_word, refusal_text, reply_text};
+ghost use Rattle.hac_model.specs.Tree.Paths.{path_text};
+ghost use Rattle.hac_model.specs.Script.Printed.{ended, limit_word, refusal_text, reply_text};
 
 use hac_model::{LimitWord, Memory, Name, Path, Refusal, Reply};
 use hac_names::print_path;

@@ -4,9 +4,9 @@ ghost use Rattle.std.specs.Char.{is_ascii_digit};
 ghost use Rattle.std.specs.List.{list_all};
 ghost use Rattle.std.specs.Str.{bytes_eq};
 ghost use Rattle.std.specs.Str.Parse.{digits_value};
-ghost use Rattle.hac_model.specs.Answers.{Answers, AnswersSeen};
-ghost use Rattle.hac_model.specs.Lines.{asked, is_put, put_at, put_length, put_of, put_words};
-ghost use Rattle.hac_model.specs.Puts.{is_length};
+ghost use Rattle.hac_model.specs.Run.Answers.{Answers, AnswersSeen};
+ghost use Rattle.hac_model.specs.Script.Lines.{asked, is_put, put_at, put_length, put_of, put_words};
+ghost use Rattle.hac_model.specs.Script.Puts.{is_length};
 
 use crate::paths::parse_path;
 use crate::tree_lines::limited_text;
@@ -56,7 +56,7 @@ pub fn is_put(name: &[u8]) -> bool
 }
 
 /// The path and the length, from what follows `put`: two words and no more.
-#[tactic(auto, unfolding(hac_model::specs::Lines::put_words))]
+#[tactic(auto, unfolding(hac_model::specs::Script::Lines::put_words))]
 fn put_words(alloc: Global, arguments: &[u8]) -> Result<(Vec<u8>, Vec<u8>), Deny>
     ensures words { AnswersSeen (λ words. (words.0.items, words.1.items)) result (put_words arguments.now) }
     ensures length { IfOk result (λ words. is_length words.1.items ≡ true) }

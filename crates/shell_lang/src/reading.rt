@@ -4,7 +4,7 @@ ghost use Rattle.std.specs.List.{position_or_len};
 ghost use Rattle.std.specs.Io.KnownBytes.{Keeps};
 ghost use Rattle.hac_outside.specs.Causes.{TellsFault};
 ghost use Rattle.hac_model.specs.Bytes.{is_line_end};
-ghost use Rattle.hac_model.specs.Lines.{is_quiet};
+ghost use Rattle.hac_model.specs.Script.Lines.{is_quiet};
 ghost use Rattle.hac_model.specs.declared.limits.TheConstants.{TEXT_LIMIT};
 ghost use Rattle.hac_model.specs.Script.{is_first_ended};
 ghost use Rattle.hac_outside.specs.Known.{Known};

@@ -1,9 +1,9 @@
 //! Commands from what follows their names, by its shape.
 ghost use Rattle.std.specs.Prelude.{◌≡◌};
-ghost use Rattle.hac_model.specs.Answers.{Answers};
-ghost use Rattle.hac_model.specs.Formula.{Formula};
-ghost use Rattle.hac_model.specs.Lines.{find_of, of_two_paths, one_path, path_and_query};
-ghost use Rattle.hac_model.specs.QueryReading.{read_query};
+ghost use Rattle.hac_model.specs.Run.Answers.{Answers};
+ghost use Rattle.hac_model.specs.Query.Formula.{Formula};
+ghost use Rattle.hac_model.specs.Script.Lines.{find_of, of_two_paths, one_path, path_and_query};
+ghost use Rattle.hac_model.specs.Query.QueryReading.{read_query};
 ghost use Rattle.hac_model.specs.declared.commands.Command.{Command};
 ghost use Rattle.hac_model.specs.declared.paths.PathWord.{PathWord};
 
@@ -14,7 +14,7 @@ use query_text::{QueryFault, parse};
 use std::alloc::Global;
 
 /// The command of one path word.
-#[tactic(auto, unfolding(hac_model::specs::Lines::one_path))]
+#[tactic(auto, unfolding(hac_model::specs::Script::Lines::one_path))]
 pub fn one_path<F: FnOnce(PathWord) -> Command>(
     alloc: Global,
     arguments: &[u8],
@@ -30,7 +30,7 @@ pub fn one_path<F: FnOnce(PathWord) -> Command>(
 }
 
 /// The command of two path words, of which a bad one counts before one with a long name.
-#[tactic(auto, unfolding(hac_model::specs::Lines::of_two_paths))]
+#[tactic(auto, unfolding(hac_model::specs::Script::Lines::of_two_paths))]
 pub fn of_two_paths<F: FnOnce(PathWord, PathWord) -> Command>(
     alloc: Global,
     arguments: &[u8],
@@ -49,7 +49,7 @@ pub fn of_two_paths<F: FnOnce(PathWord, PathWord) -> Command>(
 }
 
 /// The command of a path word and a query, which is all that follows one space.
-#[tactic(auto, unfolding(hac_model::specs::Lines::path_and_query))]
+#[tactic(auto, unfolding(hac_model::specs::Script::Lines::path_and_query))]
 pub fn path_and_query<F: FnOnce(PathWord, RawQuery) -> Command>(
     alloc: Global,
     arguments: &[u8],
@@ -68,7 +68,7 @@ pub fn path_and_query<F: FnOnce(PathWord, RawQuery) -> Command>(
 }
 
 /// `find QUERY`, from what follows `find`.
-#[tactic(auto, unfolding(hac_model::specs::Lines::find_of))]
+#[tactic(auto, unfolding(hac_model::specs::Script::Lines::find_of))]
 pub fn parse_find(alloc: Global, arguments: &[u8]) -> Result<Command, Deny>
     ensures { Answers result (find_of arguments.now) }
 {

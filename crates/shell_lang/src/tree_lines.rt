@@ -1,9 +1,9 @@
 //! The lines of `write` and `ls`, from what follows the command's name.
 ghost use Rattle.std.specs.Prelude.{◌≡◌, Some, None};
 ghost use Rattle.std.specs.Option.{ok_or};
-ghost use Rattle.hac_model.specs.Answers.{Answers, AnswersSeen};
-ghost use Rattle.hac_model.specs.Lines.{write_of, ls_of, limited_text};
-ghost use Rattle.hac_model.specs.Texts.{text_of};
+ghost use Rattle.hac_model.specs.Run.Answers.{Answers, AnswersSeen};
+ghost use Rattle.hac_model.specs.Script.Lines.{write_of, ls_of, limited_text};
+ghost use Rattle.hac_model.specs.Script.Texts.{text_of};
 ghost use Rattle.hac_model.specs.declared.replies.Refusal.TheVariants.{BadLine};
 
 use crate::paths::{only_path, parse_path};
@@ -13,7 +13,7 @@ use hac_names::parse_text;
 use std::alloc::Global;
 
 /// `write PATH TEXT`, from what follows `write`.
-#[tactic(auto, unfolding(hac_model::specs::Lines::write_of))]
+#[tactic(auto, unfolding(hac_model::specs::Script::Lines::write_of))]
 pub fn parse_write(alloc: Global, arguments: &[u8]) -> Result<Command, Deny>
     ensures { Answers result (write_of arguments.now) }
 {
@@ -45,7 +45,7 @@ pub fn limited_text(bytes: Text) -> Result<Text, Deny>
 }
 
 /// `ls` with a path or without, from what follows `ls`.
-#[tactic(auto, unfolding(hac_model::specs::Lines::ls_of, hac_model::specs::Lines::one_path))]
+#[tactic(auto, unfolding(hac_model::specs::Script::Lines::ls_of, hac_model::specs::Script::Lines::one_path))]
 pub fn parse_ls(alloc: Global, arguments: &[u8]) -> Result<Command, Deny>
     ensures { Answers result (ls_of arguments.now) }
 {

@@ -3,10 +3,10 @@
 ghost use Rattle.std.specs.Prelude.{◌≡◌, false, drop, slice_index};
 ghost use Rattle.std.specs.List.{prefix_len, position_or_len, list_all};
 ghost use Rattle.std.specs.Option.{ok_or, option_map};
-ghost use Rattle.hac_model.specs.Answers.{AnswersSeen};
+ghost use Rattle.hac_model.specs.Run.Answers.{AnswersSeen};
 ghost use Rattle.hac_model.specs.Bytes.{is_quote, is_space};
-ghost use Rattle.hac_model.specs.LineWords.{skip_spaces, first_run, after_first_run, first_word, is_word_end, quoted, quoted_escape, quoted_word, word_at};
-ghost use Rattle.hac_model.specs.Lines.{only_word};
+ghost use Rattle.hac_model.specs.Script.LineWords.{skip_spaces, first_run, after_first_run, first_word, is_word_end, quoted, quoted_escape, quoted_word, word_at};
+ghost use Rattle.hac_model.specs.Script.Lines.{only_word};
 ghost use Rattle.hac_model.specs.declared.replies.Refusal.TheVariants.{BadLine};
 ghost use Rattle.shell_lang.specs.Quotes.{QuotesFirst};
 ghost use Rattle.shell_lang.specs.RawWords.{GivesRaw};

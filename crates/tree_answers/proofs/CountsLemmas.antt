@@ -5,12 +5,12 @@ use Rattle.std.specs.List.{AllByRecursion, range_with_len}
 use Rattle.std.specs.Option.{option_and_then, option_map, option_map_or}
 use Rattle.std.proofs.lemmas.Bool.{cases_eq, cases_lt}
 use Rattle.std.proofs.lemmas.Bool.Decides.{nat_tests}
-use Rattle.hac_model.specs.Depends.{Among, depends}
-use Rattle.hac_model.specs.Limits.{counts}
-use Rattle.hac_model.specs.Links.{column, is_item, is_semantic, links, permanent_at, permanent_count, prohibited_at, prohibited_count, transient_count}
-use Rattle.hac_model.specs.Play.{counted, counts_line}
+use Rattle.hac_model.specs.Tree.Depends.{Among, depends}
+use Rattle.hac_model.specs.Tree.Limits.{counts}
+use Rattle.hac_model.specs.Tree.Links.{column, is_item, is_semantic, links, permanent_at, permanent_count, prohibited_at, prohibited_count, transient_count}
+use Rattle.hac_model.specs.Run.Play.{counted, counts_line}
 use Rattle.hac_model.specs.Tree.{entry_at, permanent_in, prohibited_in, query_in}
-use Rattle.hac_model.specs.Valid.{AreMarks, AsksWell, IsValid, RiseFrom}
+use Rattle.hac_model.specs.Tree.Valid.{AreMarks, AsksWell, IsValid, RiseFrom}
 use Rattle.hac_model.specs.declared.counts.Counts.{Counts}
 use Rattle.hac_model.specs.declared.limits.TheConstants.{NUMBERS_LIMIT}
 use Rattle.hac_model.specs.declared.marks.Kind.{Kind}

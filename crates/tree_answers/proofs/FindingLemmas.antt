@@ -3,16 +3,16 @@ use Rattle.std.proofs.Common.{◌≡◌, ℕ, ◌+◌, ◌≤◌, Bool, true, fa
 use Rattle.std.specs.Prelude.{◌&&◌, ◌||◌, ◌==◌, not, nat_le, nat_lt, Option}
 use Rattle.std.specs.Option.{option_map_or}
 use Rattle.std.proofs.lemmas.Bool.{cases_lt, cases_order, eq-eqb, eqb-true, le-leb, le-ltb, lt-leb, lt-ltb, ne_eqb}
-use Rattle.hac_model.specs.Formula.{Formula}
-use Rattle.hac_model.specs.Formula as query
-use Rattle.hac_model.specs.Links.{atom, column, holds, is_unmarked, parent_of, provide, satisfies}
-use Rattle.hac_model.specs.Words.{has_term}
+use Rattle.hac_model.specs.Query.Formula.{Formula}
+use Rattle.hac_model.specs.Query.Formula as query
+use Rattle.hac_model.specs.Tree.Links.{atom, column, holds, is_unmarked, parent_of, provide, satisfies}
+use Rattle.hac_model.specs.Query.Words.{has_term}
 use Rattle.hac_model.specs.declared.marks.Kind.{Kind}
 use Rattle.hac_model.specs.declared.marks.Kind.TheVariants.{Transient, Permanent, Prohibited, Unlinked}
 use Rattle.hac_model.specs.declared.states.State.{State}
-use Rattle.hac_model.specs.Queries.{judged}
+use Rattle.hac_model.specs.Query.Queries.{judged}
 use Rattle.set_pool.specs.Rising.{is_among}
-use Rattle.hac_model.specs.Kinds.{is_transient}
+use Rattle.hac_model.specs.Tree.Kinds.{is_transient}
 use Rattle.link_kinds.specs.Kinds.{Lists, kind_in}
 use Rattle.link_kinds.specs.Marked.{with_marks}
 use Rattle.link_kinds.specs.Seen.{Known, SameKinds, kind_at, permanent_in, prohibited_in, transient_in}

@@ -4,17 +4,17 @@ use Rattle.std.specs.Prelude.{◌&&◌, ◌||◌, ◌==◌, ◌^◌, not, Option
 use Rattle.std.specs.List.{range_with_len}
 use Rattle.std.specs.Option.{option_map, option_map_or}
 use Rattle.std.proofs.lemmas.Bool.{cases_eq, cases_lt, eq-eqb, le-leb, lt-ltb, ne_eqb}
-use Rattle.hac_model.specs.Depends.{Among, IsAcyclic, NeverReturns, depends, named_in}
-use Rattle.hac_model.specs.Formula.{Formula}
-use Rattle.hac_model.specs.Links.{column, has, holds, is_item, is_permanent, is_prohibited, is_semantic, is_unmarked, items, kind, links, parent_of, passes, provide, query_at, satisfies, shown_of}
-use Rattle.hac_model.specs.Limits.{counts}
+use Rattle.hac_model.specs.Tree.Depends.{Among, IsAcyclic, NeverReturns, depends, named_in}
+use Rattle.hac_model.specs.Query.Formula.{Formula}
+use Rattle.hac_model.specs.Tree.Links.{column, has, holds, is_item, is_permanent, is_prohibited, is_semantic, is_unmarked, items, kind, links, parent_of, passes, provide, query_at, satisfies, shown_of}
+use Rattle.hac_model.specs.Tree.Limits.{counts}
 use Rattle.hac_model.specs.Tree.{is_file}
-use Rattle.hac_model.specs.Valid.{IsLayout, IsValid}
+use Rattle.hac_model.specs.Tree.Valid.{IsLayout, IsValid}
 use Rattle.hac_model.specs.declared.states.Entry.{Entry}
 use Rattle.hac_model.specs.declared.marks.Kind.{Kind}
 use Rattle.hac_model.specs.declared.marks.Kind.TheVariants.{Transient, Permanent, Prohibited, Unlinked}
 use Rattle.hac_model.specs.declared.states.State.{State}
-use Rattle.hac_model.specs.Kinds.{is_transient}
+use Rattle.hac_model.specs.Tree.Kinds.{is_transient}
 use Rattle.hac_model.proofs.GraphLemmas.{leads_more}
 use Rattle.hac_model.proofs.LinkLemmas.{holds-same, links-fixed, provide-same}
 use Rattle.hac_model.proofs.ListedLemmas.{file-item, linked-item, links-listed}

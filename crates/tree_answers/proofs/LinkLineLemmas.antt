@@ -2,12 +2,12 @@
 use Rattle.std.proofs.Common.{◌≡◌, ℕ, ◌<◌, Bool, true, false, List, [], ◌∷◌, map, refl, ap, sym, subst, ◌∙◌, arith}
 use Rattle.std.specs.Prelude.{◌&&◌, filter, is_some}
 use Rattle.std.specs.List.{flat_map, range_with_len}
-use Rattle.hac_model.specs.Depends.{Among, depends, named_in}
-use Rattle.hac_model.specs.Formula.{Formula}
-use Rattle.hac_model.specs.Links.{column, found_by, has, holds, is_item, items, kind, links, shown_of}
-use Rattle.hac_model.specs.Play.{found_line, kind_lines, link_lines}
+use Rattle.hac_model.specs.Tree.Depends.{Among, depends, named_in}
+use Rattle.hac_model.specs.Query.Formula.{Formula}
+use Rattle.hac_model.specs.Tree.Links.{column, found_by, has, holds, is_item, items, kind, links, shown_of}
+use Rattle.hac_model.specs.Run.Play.{found_line, kind_lines, link_lines}
 use Rattle.hac_model.specs.Tree.{path_of}
-use Rattle.hac_model.specs.Valid.{IsValid}
+use Rattle.hac_model.specs.Tree.Valid.{IsValid}
 use Rattle.hac_model.specs.declared.states.State.{State}
 use Rattle.hac_model.proofs.LinkLemmas.{holds-same}
 use Rattle.hac_model.proofs.ListedLemmas.{filter-agree}

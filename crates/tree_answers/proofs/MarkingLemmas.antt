@@ -1,8 +1,8 @@
 -- What the mark of an item tells.
 use Rattle.std.proofs.Common.{◌≡◌, ℕ, Bool, true, false, cond, refl}
 use Rattle.std.specs.Prelude.{◌||◌, not}
-use Rattle.hac_model.specs.Links.{is_permanent, is_prohibited, is_unmarked}
-use Rattle.hac_model.specs.Kinds.{is_permanent as is_permanent_kind, is_unlinked}
+use Rattle.hac_model.specs.Tree.Links.{is_permanent, is_prohibited, is_unmarked}
+use Rattle.hac_model.specs.Tree.Kinds.{is_permanent as is_permanent_kind, is_unlinked}
 use Rattle.hac_model.specs.declared.marks.Kind.TheVariants.{Permanent, Prohibited, Unlinked}
 use Rattle.hac_model.specs.declared.states.State.{State}
 use Rattle.kept_state.specs.Readers.{mark_at}

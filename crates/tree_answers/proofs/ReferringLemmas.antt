@@ -7,13 +7,13 @@ use Rattle.std.specs.Option.{option_map, option_map_or}
 use Rattle.std.specs.Ordering.{nat_cmp}
 use Rattle.std.proofs.lemmas.List.Sorted.{Contains-permutation, IsNonDecreasingBy-from_sort, IsPermutation-sym}
 use Rattle.std.proofs.lemmas.Map.Keys.{IsDistinct-IsPermutation, IsStrictlyIncreasing-from_distinct}
-use Rattle.hac_model.specs.Depends.{Among, depends, named_in, names_directory, referrers}
-use Rattle.hac_model.specs.Events.{is_unreferenced}
-use Rattle.hac_model.specs.Formula.{Formula}
-use Rattle.hac_model.specs.Links.{has, parent_of, query_at}
-use Rattle.hac_model.specs.Refusals.{least_path}
+use Rattle.hac_model.specs.Tree.Depends.{Among, depends, named_in, names_directory, referrers}
+use Rattle.hac_model.specs.Tree.Events.{is_unreferenced}
+use Rattle.hac_model.specs.Query.Formula.{Formula}
+use Rattle.hac_model.specs.Tree.Links.{has, parent_of, query_at}
+use Rattle.hac_model.specs.Run.Refusals.{least_path}
 use Rattle.hac_model.specs.Tree.{entry_at, path_of, query_in}
-use Rattle.hac_model.specs.Valid.{IsValid, NumbersRise, RiseFrom}
+use Rattle.hac_model.specs.Tree.Valid.{IsValid, NumbersRise, RiseFrom}
 use Rattle.hac_model.specs.declared.memory.Memory.{Memory}
 use Rattle.hac_model.specs.declared.states.Entry.{Entry}
 use Rattle.hac_model.specs.declared.states.State.{State}

@@ -1,8 +1,8 @@
 -- Links as a command finds them.
 use Rattle.std.specs.Prelude.{◌≡◌, ℕ, Bool, true, false, ◌&&◌, ◌==◌, nat_le, nat_lt, is_some, List, if◌then◌else◌}
-use Rattle.hac_model.specs.Depends.{depends}
-use Rattle.hac_model.specs.Formula.{Formula}
-use Rattle.hac_model.specs.Links.{column, holds, is_item, is_permanent, is_prohibited, is_semantic, is_unmarked, links, parent_of, provide, satisfies, shown_of}
+use Rattle.hac_model.specs.Tree.Depends.{depends}
+use Rattle.hac_model.specs.Query.Formula.{Formula}
+use Rattle.hac_model.specs.Tree.Links.{column, holds, is_item, is_permanent, is_prohibited, is_semantic, is_unmarked, links, parent_of, provide, satisfies, shown_of}
 use Rattle.hac_model.specs.declared.marks.Kind.{Kind}
 use Rattle.hac_model.specs.declared.marks.Kind.TheVariants.{Transient, Permanent, Prohibited, Unlinked}
 use Rattle.hac_model.specs.declared.states.State.{State}

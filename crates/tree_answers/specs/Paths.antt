@@ -1,7 +1,7 @@
 -- The paths of directories, given one after the other.
 use Rattle.std.specs.Prelude.{◌≡◌, ℕ, List, ◌++◌, map}
-use Rattle.hac_model.specs.Depends.{named_in}
-use Rattle.hac_model.specs.Formula.{Formula}
+use Rattle.hac_model.specs.Tree.Depends.{named_in}
+use Rattle.hac_model.specs.Query.Formula.{Formula}
 use Rattle.hac_model.specs.Tree.{path_of}
 use Rattle.hac_model.specs.declared.states.State.{State}
 use Rattle.query_text.specs.declared.paths.Told.{Told}

@@ -1,8 +1,8 @@
 -- The line of counts, and what it counts.
 use Rattle.std.specs.Prelude.{◌≡◌, ℕ, ◌≤◌, List, ◌++◌, ◌-◌, codes, length, sum_by}
 use Rattle.std.specs.List.{range_with_len}
-use Rattle.hac_model.specs.Links.{transient_count}
-use Rattle.hac_model.specs.Play.{counted}
+use Rattle.hac_model.specs.Tree.Links.{transient_count}
+use Rattle.hac_model.specs.Run.Play.{counted}
 use Rattle.hac_model.specs.declared.counts.Counts.{Counts}
 use Rattle.hac_model.specs.declared.limits.TheConstants.{NUMBERS_LIMIT}
 use Rattle.hac_model.specs.declared.marks.Kind.{Kind}

@@ -1,6 +1,6 @@
 //! The links that queries give to directories, found anew where a command asks for them.
 ghost use Rattle.std.specs.Prelude.{◌≡◌, ◌≤◌, is_some, IfOk, IsTrue, OnOk};
-ghost use Rattle.hac_model.specs.Links.{atom, column, has, holds, is_item, is_unmarked, links, parent_of, provide, satisfies, shown_of};
+ghost use Rattle.hac_model.specs.Tree.Links.{atom, column, has, holds, is_item, is_unmarked, links, parent_of, provide, satisfies, shown_of};
 ghost use Rattle.hac_model.specs.Tree.{is_file_at};
 ghost use Rattle.link_kinds.specs.Marked.{with_marks};
 ghost use Rattle.link_kinds.specs.Seen.{LinkListsRise, transient_in};

@@ -1,8 +1,8 @@
 //! The line of counts.
 ghost use Rattle.std.specs.Prelude.{◌≡◌, ◌≤◌, ◌∷◌, ◌++◌, ◌+◌, [], filter, IfOk, OnOk};
 ghost use Rattle.std.specs.List.{range_with_len};
-ghost use Rattle.hac_model.specs.Links.{is_semantic, permanent_count, prohibited_count};
-ghost use Rattle.hac_model.specs.Play.{counted, counts_line};
+ghost use Rattle.hac_model.specs.Tree.Links.{is_semantic, permanent_count, prohibited_count};
+ghost use Rattle.hac_model.specs.Run.Play.{counted, counts_line};
 ghost use Rattle.tree_answers.specs.Telling.{CanCount, HasAllLinks, link_count, told_line};
 
 use crate::finding::{find_links, know_lists};

@@ -1,9 +1,9 @@
 //! The lines of links: those of a semantic directory, and what a query finds anywhere.
 ghost use Rattle.std.specs.Prelude.{◌≡◌, ◌++◌, filter, map, if◌then◌else◌, IfOk, OnOk};
 ghost use Rattle.std.specs.List.{flat_map, range_with_len};
-ghost use Rattle.hac_model.specs.Links.{column, found_by, items};
-ghost use Rattle.hac_model.specs.Paths.{path_text};
-ghost use Rattle.hac_model.specs.Play.{found_line, kind_lines, link_lines};
+ghost use Rattle.hac_model.specs.Tree.Links.{column, found_by, items};
+ghost use Rattle.hac_model.specs.Tree.Paths.{path_text};
+ghost use Rattle.hac_model.specs.Run.Play.{found_line, kind_lines, link_lines};
 ghost use Rattle.hac_model.specs.Tree.{path_of};
 ghost use Rattle.link_kinds.specs.Seen.{transient_in};
 ghost use Rattle.tree_answers.specs.Finding.{is_met, kind_given};

@@ -1,8 +1,8 @@
 //! The line of a directory's query, with the present paths of the directories that it names.
 ghost use Rattle.std.specs.Prelude.{◌≡◌, IfOk, OnOk};
-ghost use Rattle.hac_model.specs.Play.{query_line, query_lines};
-ghost use Rattle.hac_model.specs.Paths.{path_text};
-ghost use Rattle.hac_model.specs.QueryText.{query_text, named_by};
+ghost use Rattle.hac_model.specs.Run.Play.{query_line, query_lines};
+ghost use Rattle.hac_model.specs.Tree.Paths.{path_text};
+ghost use Rattle.hac_model.specs.Query.QueryText.{query_text, named_by};
 ghost use Rattle.hac_model.specs.Tree.{path_of};
 ghost use Rattle.tree_answers.specs.Paths.{AddsPaths};
 

@@ -1,7 +1,7 @@
 //! Marks and links of single items.
 ghost use Rattle.std.specs.Prelude.{◌≡◌, ◌||◌, IfOk, IsTrue};
-ghost use Rattle.hac_model.specs.Events.{may_mark};
-ghost use Rattle.hac_model.specs.Links.{has, is_permanent, is_prohibited, links};
+ghost use Rattle.hac_model.specs.Tree.Events.{may_mark};
+ghost use Rattle.hac_model.specs.Tree.Links.{has, is_permanent, is_prohibited, links};
 ghost use Rattle.hac_model.specs.Tree.{is_file_at};
 
 use crate::finding::is_found;

@@ -1,9 +1,9 @@
 //! Which directories name another one in their queries.
 ghost use Rattle.std.specs.Prelude.{◌≡◌, map, IfOk};
-ghost use Rattle.hac_model.specs.Depends.{referrers};
-ghost use Rattle.hac_model.specs.Events.{is_unreferenced};
-ghost use Rattle.hac_model.specs.Listing.{is_before};
-ghost use Rattle.hac_model.specs.Refusals.{least_path, lesser_path};
+ghost use Rattle.hac_model.specs.Tree.Depends.{referrers};
+ghost use Rattle.hac_model.specs.Tree.Events.{is_unreferenced};
+ghost use Rattle.hac_model.specs.Tree.Listing.{is_before};
+ghost use Rattle.hac_model.specs.Run.Refusals.{least_path, lesser_path};
 ghost use Rattle.hac_model.specs.Tree.{path_of};
 
 use file_tree::Tree;

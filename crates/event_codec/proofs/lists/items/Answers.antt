@@ -2,7 +2,7 @@ use Rattle.std.proofs.Common.{◌≡◌, [], ◌∷◌, ◌++◌, None, Ok}
 use Rattle.std.proofs.Math.Nat.{sub-zero}
 use Rattle.std.proofs.lemmas.Result.{err_from_is_err_and}
 use Rattle.std.specs.Option.{option_copied}
-use Rattle.hac_model.specs.Fields.{items_at}
+use Rattle.hac_model.specs.Payload.Fields.{items_at}
 use Rattle.event_codec.proofs.LoopLemmas.{front_none, goes_on, goes_wrong, is_done, last_of}
 use Rattle.event_codec.specs.Reading.{Fails}
 use Rattle.event_codec.proofs.lists.items.Goals as goal

@@ -1,5 +1,5 @@
 use Rattle.std.proofs.Common.{◌-◌, None}
-use Rattle.hac_model.specs.Fields.{items_at}
+use Rattle.hac_model.specs.Payload.Fields.{items_at}
 use Rattle.event_codec.proofs.LoopLemmas.{GoesOn}
 use Rattle.event_codec.proofs.lists.items.Given as goal
 

@@ -1,5 +1,5 @@
 use Rattle.std.proofs.Common.{◌≡◌, [], vec_len}
-use Rattle.hac_model.specs.QueryFields.{built}
+use Rattle.hac_model.specs.Payload.QueryFields.{built}
 use Rattle.event_codec.specs.Tokens.{tokens_of}
 use Rattle.event_codec.proofs.queries.build.Given as goal
 

@@ -2,7 +2,7 @@ use Rattle.std.proofs.Common.{◌≡◌, ◌-◌, ◌<◌, ◌≤◌, [], ◌∷
 use Rattle.std.proofs.lemmas.Bool.{eqb-false, eqb-true}
 use Rattle.std.proofs.lemmas.List.{nil_from_length}
 use Rattle.std.proofs.lemmas.Result.{err_from_is_err_and}
-use Rattle.hac_model.specs.QueryFields.{room_after, tokens_at}
+use Rattle.hac_model.specs.Payload.QueryFields.{room_after, tokens_at}
 use Rattle.hac_model.specs.declared.limits.TheConstants.{NESTING_LIMIT, QUERY_LIMIT, TERMS_LIMIT}
 use Rattle.event_codec.specs.Tokens.{room_of, token_of, tokens_of}
 use Rattle.event_codec.proofs.PartLemmas.{map-last, parts_done, parts_short, part_barred, part_fails, part_read}

@@ -1,5 +1,5 @@
 use Rattle.std.proofs.Common.{◌-◌, [], ◌∷◌, length}
-use Rattle.hac_model.specs.QueryFields.{tokens_at}
+use Rattle.hac_model.specs.Payload.QueryFields.{tokens_at}
 use Rattle.hac_model.specs.declared.limits.TheConstants.{NESTING_LIMIT, QUERY_LIMIT, TERMS_LIMIT}
 use Rattle.event_codec.specs.Tokens.{tokens_of, room_of}
 use Rattle.event_codec.proofs.PartLemmas.{PartsGoOn}

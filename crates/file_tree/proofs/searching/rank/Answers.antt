@@ -1,6 +1,6 @@
 use Rattle.std.proofs.Common.{ℕ, rules}
 use Rattle.std.proofs.lemmas.List.Sorted.{IsPartitionPoint-from_clause}
-use Rattle.hac_model.specs.Listing.{is_before}
+use Rattle.hac_model.specs.Tree.Listing.{is_before}
 use Rattle.file_tree.specs.Nodes.{name_of}
 use Rattle.file_tree.proofs.SearchLemmas.{prefix-point, rank-partition}
 use Rattle.file_tree.proofs.searching.rank.Goals as goal

@@ -1,7 +1,7 @@
 use Rattle.std.proofs.Common.{subst, sym}
 use Rattle.std.specs.Prelude.{Option}
 use Rattle.hac_model.specs.declared.replies.Refusal.{Refusal}
-use Rattle.hac_model.specs.Answers.{Passes}
+use Rattle.hac_model.specs.Run.Answers.{Passes}
 use Rattle.hac_core.proofs.BlockingLemmas.{same-full_cause}
 use Rattle.hac_core.proofs.blocking.empty.Goals as goal
 

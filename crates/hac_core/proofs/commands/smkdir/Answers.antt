@@ -1,8 +1,8 @@
 use Rattle.std.proofs.Common.{◌∙◌, ap, sym, subst, ℕ, Ok}
 use Rattle.std.specs.Prelude.{Result}
-use Rattle.hac_model.specs.Answers.{Denies, and_then}
-use Rattle.hac_model.specs.Formula.{Formula}
-use Rattle.hac_model.specs.Resolving.{numbered}
+use Rattle.hac_model.specs.Run.Answers.{Denies, and_then}
+use Rattle.hac_model.specs.Query.Formula.{Formula}
+use Rattle.hac_model.specs.Run.Resolving.{numbered}
 use Rattle.hac_model.specs.declared.places.Place.{Place}
 use Rattle.hac_model.specs.declared.replies.Refusal.{Refusal}
 use Rattle.hac_model.specs.declared.resolved.Resolved.{Resolved}

@@ -1,9 +1,9 @@
 use Rattle.std.proofs.Common.{ℕ, subst, sym}
 use Rattle.std.specs.Prelude.{Option}
-use Rattle.hac_model.specs.Refusals.{cycle_by, cycle_cause}
+use Rattle.hac_model.specs.Run.Refusals.{cycle_by, cycle_cause}
 use Rattle.hac_model.specs.declared.places.Place.{Place}
 use Rattle.hac_model.specs.declared.resolved.Resolved.TheVariants.{Mv}
-use Rattle.hac_model.specs.Answers.{Passes}
+use Rattle.hac_model.specs.Run.Answers.{Passes}
 use Rattle.hac_core.proofs.cycles.unreached_there.Goals as goal
 
 pub returns : goal.returns

@@ -1,6 +1,6 @@
 use Rattle.std.proofs.Common.{◌<◌, ◌^◌, arith, length, subst, sym, [], ◌∙◌}
 use Rattle.std.specs.Prelude.{None, true}
-use Rattle.hac_model.specs.Formula as query
+use Rattle.hac_model.specs.Query.Formula as query
 use Rattle.hac_model.specs.declared.counts.Counts.{Counts}
 use Rattle.hac_model.specs.declared.events.Event.TheVariants.{Mkdir, NewFile, Rewrite, Smkdir, Setq, Mv}
 use Rattle.hac_model.specs.declared.states.Body.TheVariants.{Dir, File, Semantic}

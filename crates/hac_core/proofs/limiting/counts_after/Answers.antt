@@ -1,6 +1,6 @@
 use Rattle.std.proofs.Common.{◌≡◌, Bool, ap, sym, subst, ◌∙◌, [], arith}
 use Rattle.std.specs.Prelude.{◌==◌, ◌||◌}
-use Rattle.hac_model.specs.Refusals.{blocked}
+use Rattle.hac_model.specs.Run.Refusals.{blocked}
 use Rattle.hac_model.specs.Tree.{is_made_directory}
 use Rattle.hac_model.specs.declared.replies.Refusal.TheVariants as refusal
 use Rattle.hac_model.specs.declared.resolved.Resolved.{Resolved}

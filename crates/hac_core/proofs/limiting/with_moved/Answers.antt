@@ -1,5 +1,5 @@
 use Rattle.std.proofs.Common.{◌∙◌, ap, sym}
-use Rattle.hac_model.specs.Limits.{counts}
+use Rattle.hac_model.specs.Tree.Limits.{counts}
 use Rattle.hac_model.specs.declared.places.Place.{Place}
 use Rattle.hac_core.specs.Limiting.{with_moved}
 use Rattle.hac_core.proofs.limiting.with_moved.Goals as goal

@@ -1,8 +1,8 @@
 use Rattle.std.proofs.Common.{◌∙◌, ap, arith, subst, sym, []}
 use Rattle.std.specs.Prelude.{Option, false}
 use Rattle.std.specs.Option.{option_map, option_map_or}
-use Rattle.hac_model.specs.Events.{asking}
-use Rattle.hac_model.specs.Formula as query
+use Rattle.hac_model.specs.Tree.Events.{asking}
+use Rattle.hac_model.specs.Query.Formula as query
 use Rattle.hac_model.specs.Tree.{entry_at, is_directory}
 use Rattle.hac_model.specs.declared.counts.Counts.{Counts}
 use Rattle.hac_model.specs.declared.states.Body.TheVariants.{Semantic}

@@ -1,6 +1,6 @@
 use Rattle.std.proofs.Common.{◌∙◌, ap}
-use Rattle.hac_model.specs.Events.{changed_at, reseated}
-use Rattle.hac_model.specs.Limits.{are_paths_short}
+use Rattle.hac_model.specs.Tree.Events.{changed_at, reseated}
+use Rattle.hac_model.specs.Tree.Limits.{are_paths_short}
 use Rattle.file_tree.specs.Seen.{Seen}
 use Rattle.hac_core.proofs.LimitingLemmas.{moved-told}
 use Rattle.hac_core.proofs.limiting.with_reseated.Goals as goal

@@ -1,5 +1,5 @@
 use Rattle.std.proofs.Common.{◌∙◌, ap}
-use Rattle.hac_model.specs.Events.{rewritten}
+use Rattle.hac_model.specs.Tree.Events.{rewritten}
 use Rattle.hac_model.specs.Tree.{entry_at, is_file}
 use Rattle.file_tree.specs.Seen.{Seen}
 use Rattle.kept_state.proofs.CountedLemmas.{tested-entry}

@@ -1,8 +1,8 @@
 use Rattle.std.proofs.Common.{◌≡◌, ◌∙◌, ap, sym, subst, true}
 use Rattle.std.specs.Prelude.{None}
-use Rattle.hac_model.specs.Events.{apply_all}
-use Rattle.hac_model.specs.Limits.{counts}
-use Rattle.hac_model.specs.Refusals.{writes, written_cause}
+use Rattle.hac_model.specs.Tree.Events.{apply_all}
+use Rattle.hac_model.specs.Tree.Limits.{counts}
+use Rattle.hac_model.specs.Run.Refusals.{writes, written_cause}
 use Rattle.hac_model.specs.declared.places.Place.{Place}
 use Rattle.hac_model.specs.declared.states.Body.TheVariants.{File}
 use Rattle.hac_core.specs.Limiting.{with_new}

@@ -1,7 +1,7 @@
 use Rattle.std.proofs.Common.{◌≡◌, List, ℕ, IfOk, ap, sym, subst, ◌∙◌}
 use Rattle.std.specs.Prelude.{None}
-use Rattle.hac_model.specs.Play.{data_lines}
-use Rattle.hac_model.specs.Refusals.{blocked}
+use Rattle.hac_model.specs.Run.Play.{data_lines}
+use Rattle.hac_model.specs.Run.Refusals.{blocked}
 use Rattle.hac_model.specs.declared.resolved.Resolved.{Resolved}
 use Rattle.kept_state.proofs.StateLemmas.{same-file}
 use Rattle.hac_core.specs.Standing.{AllStand}

@@ -1,13 +1,13 @@
 use Rattle.std.proofs.Common.{ap, subst, sym, ◌∙◌}
 use Rattle.std.specs.Prelude.{List, Option}
 use Rattle.std.specs.Option.{option_map}
-use Rattle.hac_model.specs.Limits.{first_passed, answer_limits}
+use Rattle.hac_model.specs.Tree.Limits.{first_passed, answer_limits}
 use Rattle.hac_model.specs.declared.counts.Counts.{Counts}
 use Rattle.hac_model.specs.declared.limits.Limit.{Limit}
 use Rattle.hac_model.specs.declared.limits.LimitWord.{LimitWord}
 use Rattle.hac_model.specs.declared.replies.Refusal.{Refusal}
 use Rattle.hac_model.specs.declared.replies.Refusal.TheVariants as refusal
-use Rattle.hac_model.specs.Answers.{Passes}
+use Rattle.hac_model.specs.Run.Answers.{Passes}
 use Rattle.hac_core.proofs.BlockingLemmas.{same-unlinked}
 use Rattle.hac_core.proofs.LedLemmas.{same-led}
 use Rattle.hac_core.proofs.StandsLemmas.{stands-kept}

@@ -1,6 +1,6 @@
 use Rattle.std.proofs.Common.{subst, sym}
 use Rattle.std.specs.Prelude.{Result}
-use Rattle.hac_model.specs.Answers.{Answers}
+use Rattle.hac_model.specs.Run.Answers.{Answers}
 use Rattle.hac_model.specs.declared.replies.Refusal.{Refusal}
 use Rattle.hac_model.specs.declared.resolved.Resolved.{Resolved}
 use Rattle.kept_state.proofs.StateLemmas.{same-resolved}

@@ -1,7 +1,7 @@
 use Rattle.std.proofs.Common.{◌∙◌, sym}
-use Rattle.hac_model.specs.Events.{apply, is_possible}
-use Rattle.hac_model.specs.Facts.{facts_of}
-use Rattle.hac_model.specs.Limits.{passed}
+use Rattle.hac_model.specs.Tree.Events.{apply, is_possible}
+use Rattle.hac_model.specs.Tree.Facts.{facts_of}
+use Rattle.hac_model.specs.Tree.Limits.{passed}
 use Rattle.hac_model.proofs.FactLemmas.{facts-bare, facts-law}
 use Rattle.hac_model.proofs.FillLemmas.{same-state}
 use Rattle.hac_model.proofs.ValidLemmas.{accepted-parts}

@@ -1,5 +1,5 @@
 use Rattle.std.proofs.Common.{refl}
-use Rattle.hac_model.specs.CommandLine.{options}
+use Rattle.hac_model.specs.Script.CommandLine.{options}
 use Rattle.hac_model.proofs.laws.first_command_lines.Goals as goal
 
 pub returns-clause-some : goal.returns-clause-some

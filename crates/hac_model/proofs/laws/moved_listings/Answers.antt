@@ -1,17 +1,17 @@
 use Rattle.std.proofs.Common.{refl}
 use Rattle.std.specs.Fmt.{digits}
-use Rattle.hac_model.specs.Limits.{first_passed, passed}
-use Rattle.hac_model.specs.LineWords.{quoted}
-use Rattle.hac_model.specs.Lines.{alone, ls_of, of_two_paths, one_path, path_and_query, write_of}
-use Rattle.hac_model.specs.Links.{kind, links}
-use Rattle.hac_model.specs.PathWords.{word_of}
-use Rattle.hac_model.specs.Payloads.{event_text}
-use Rattle.hac_model.specs.QueryReading.{after_run, kind_of, read_on, read_query}
+use Rattle.hac_model.specs.Tree.Limits.{first_passed, passed}
+use Rattle.hac_model.specs.Script.LineWords.{quoted}
+use Rattle.hac_model.specs.Script.Lines.{alone, ls_of, of_two_paths, one_path, path_and_query, write_of}
+use Rattle.hac_model.specs.Tree.Links.{kind, links}
+use Rattle.hac_model.specs.Script.PathWords.{word_of}
+use Rattle.hac_model.specs.Payload.Payloads.{event_text}
+use Rattle.hac_model.specs.Query.QueryReading.{after_run, kind_of, read_on, read_query}
 use Rattle.hac_model.specs.Script.{script}
-use Rattle.hac_model.specs.Texts.{escaped_byte, text_of}
-use Rattle.hac_model.specs.Looks.{look}
+use Rattle.hac_model.specs.Script.Texts.{escaped_byte, text_of}
+use Rattle.hac_model.specs.Tree.Looks.{look}
 use Rattle.hac_model.specs.Tree.{is_path_short, lineage, path_of}
-use Rattle.hac_model.specs.Words.{has_term, is_word_byte, words}
+use Rattle.hac_model.specs.Query.Words.{has_term, is_word_byte, words}
 use Rattle.hac_model.proofs.laws.moved_listings.Goals as goal
 
 pub returns : goal.returns

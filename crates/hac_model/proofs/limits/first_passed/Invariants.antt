@@ -1,5 +1,5 @@
 use Rattle.std.proofs.Common.{◌≡◌, drop}
-use Rattle.hac_model.specs.Limits.{first_passed}
+use Rattle.hac_model.specs.Tree.Limits.{first_passed}
 use Rattle.hac_model.proofs.limits.first_passed.Given as goal
 
 abbrev pub invariant-loop-limit : goal.invariant-loop-limit

@@ -1,6 +1,6 @@
 use Rattle.std.proofs.Common.{◌≡◌, take}
 use Rattle.std.specs.List.{flat_map}
-use Rattle.hac_model.specs.Paths.{slashed}
+use Rattle.hac_model.specs.Tree.Paths.{slashed}
 use Rattle.hac_names.proofs.printing.print_path.Given as goal
 
 -- the names so far, each behind a slash

@@ -2,7 +2,7 @@
 use Rattle.std.proofs.Common.{rules, tests}
 use Rattle.std.proofs.lemmas.Iterator.Search.{any_from_yields_List}
 use Rattle.std.proofs.lemmas.Iterator.Splits.{YieldsList-from_slice_split}
-use Rattle.hac_model.specs.PathWords.{is_long}
+use Rattle.hac_model.specs.Script.PathWords.{is_long}
 use Rattle.hac_names.proofs.reading.has_long_part.Goals as goal
 
 pub returns : goal.returns

@@ -4,7 +4,7 @@ use Rattle.std.proofs.lemmas.Bool.Decides.{nat_tests}
 use Rattle.std.specs.List.{list_all}
 use Rattle.std.proofs.lemmas.Iterator.Search.{all_from_yields_List}
 use Rattle.std.proofs.lemmas.Iterator.Splits.{YieldsList-from_slice_split}
-use Rattle.hac_model.specs.PathWords.{is_part, parts}
+use Rattle.hac_model.specs.Script.PathWords.{is_part, parts}
 use Rattle.hac_names.proofs.reading.is_bad.Goals as goal
 
 pub returns-else-is_empty : goal.returns-else-is_empty

@@ -1,5 +1,5 @@
 use Rattle.std.proofs.Common.{◌≡◌, Ok, rules}
-use Rattle.hac_model.specs.PathWords.{word_of}
+use Rattle.hac_model.specs.Script.PathWords.{word_of}
 use Rattle.hac_model.proofs.WordLemmas.{word_of-names}
 use Rattle.hac_names.proofs.reading.parse_word.Goals as goal
 

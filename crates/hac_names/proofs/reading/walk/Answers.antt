@@ -3,7 +3,7 @@ use Rattle.std.proofs.lemmas.Iterator.Consumers.{YieldsList-turn, YieldsList-end
 use Rattle.std.proofs.lemmas.Iterator.Splits.{YieldsList-from_slice_split}
 use Rattle.std.proofs.lemmas.List.{length_push, drop_all}
 use Rattle.hac_model.specs.Bytes.{is_slash}
-use Rattle.hac_model.specs.PathWords.{parts, relative}
+use Rattle.hac_model.specs.Script.PathWords.{parts, relative}
 use Rattle.hac_names.proofs.Walks.{led_on, led_on-more, led_on-none, led_on-root, walked-ups}
 use Rattle.hac_names.proofs.reading.walk.Goals as goal
 

@@ -1,5 +1,5 @@
 use Rattle.std.proofs.Common.{◌≡◌, ◌≤◌, length, drop}
-use Rattle.hac_model.specs.PathWords.{relative, parts}
+use Rattle.hac_model.specs.Script.PathWords.{relative, parts}
 use Rattle.hac_names.proofs.Walks.{led_on}
 use Rattle.hac_names.proofs.reading.walk.Given as goal
 

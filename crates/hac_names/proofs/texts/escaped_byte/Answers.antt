@@ -2,7 +2,7 @@
 use Rattle.std.proofs.Common.{◌≡◌, ℕ, Bool, true, false, drop, ap, sym, ◌∙◌, arith, rules}
 use Rattle.std.specs.Prelude.{◌==◌, if◌then◌else◌, slice_index, Option}
 use Rattle.std.proofs.lemmas.List.{length-drop, take_rest}
-use Rattle.hac_model.specs.Texts.{escape_meaning, escape_of, hex_of, text_of, then_text}
+use Rattle.hac_model.specs.Script.Texts.{escape_meaning, escape_of, hex_of, text_of, then_text}
 use Rattle.hac_names.proofs.Spelled.{escape_of-none, escape_of-step, spells-behind}
 use Rattle.hac_names.proofs.texts.escaped_byte.Goals as goal
 

@@ -3,7 +3,7 @@ use Rattle.std.proofs.Common.{◌≡◌, Bool, true, false, drop, ap, ◌∙◌,
 use Rattle.std.specs.Prelude.{if◌then◌else◌, slice_index}
 use Rattle.std.proofs.lemmas.List.{length-drop, take_rest}
 use Rattle.hac_model.specs.Bytes.{is_backslash}
-use Rattle.hac_model.specs.Texts.{escape_of, text_of, with_byte}
+use Rattle.hac_model.specs.Script.Texts.{escape_of, text_of, with_byte}
 use Rattle.hac_names.proofs.Spelled.{spells-behind, text_of-step}
 use Rattle.hac_names.proofs.texts.first_byte.Goals as goal
 

@@ -2,7 +2,7 @@
 use Rattle.std.proofs.Common.{ℕ, drop, ap, sym, ◌∙◌, arith}
 use Rattle.std.specs.Prelude.{Option}
 use Rattle.std.proofs.lemmas.List.{length-drop, take_rest}
-use Rattle.hac_model.specs.Texts.{text_of, then_text}
+use Rattle.hac_model.specs.Script.Texts.{text_of, then_text}
 use Rattle.hac_names.proofs.Spelled.{hex_of-none, hex_of-step}
 use Rattle.hac_names.proofs.texts.numbered_byte.Goals as goal
 

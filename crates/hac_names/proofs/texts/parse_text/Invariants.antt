@@ -1,6 +1,6 @@
 use Rattle.std.proofs.Common.{◌≡◌, ◌++◌, List, ℕ, length}
 use Rattle.std.specs.Option.{option_map}
-use Rattle.hac_model.specs.Texts.{text_of}
+use Rattle.hac_model.specs.Script.Texts.{text_of}
 use Rattle.hac_names.proofs.texts.parse_text.Given as goal
 
 -- the text so far, and the text that what is left spells, are the whole text

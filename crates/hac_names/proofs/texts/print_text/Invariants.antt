@@ -1,5 +1,5 @@
 use Rattle.std.proofs.Common.{◌≡◌, take}
-use Rattle.hac_model.specs.Texts.{escaped_text}
+use Rattle.hac_model.specs.Script.Texts.{escaped_text}
 use Rattle.hac_names.proofs.texts.print_text.Given as goal
 
 -- the bytes so far, each as it is printed

@@ -1,8 +1,8 @@
 use Rattle.std.proofs.Common.{◌≡◌, rules, subst, sym}
 use Rattle.std.specs.Prelude.{IfOk, Ok}
-use Rattle.hac_model.specs.Lines.{Item}
-use Rattle.hac_model.specs.Play.{item_turn}
-use Rattle.hac_model.specs.Lines.{item_taken}
+use Rattle.hac_model.specs.Script.Lines.{Item}
+use Rattle.hac_model.specs.Run.Play.{item_turn}
+use Rattle.hac_model.specs.Script.Lines.{item_taken}
 use Rattle.hac_top.specs.Deciding.{Decides}
 use Rattle.hac_top.proofs.deciding.decide.Goals as goal
 

@@ -1,9 +1,9 @@
 use Rattle.std.proofs.Common.{◌≡◌, true, false, ap, rules, sym, subst, ◌∙◌}
 use Rattle.std.specs.Prelude.{Ok}
 use Rattle.hac_core.specs.Drafts.{reads}
-use Rattle.hac_model.specs.Answers.{Refuses}
-use Rattle.hac_model.specs.Play.{command_turn}
-use Rattle.hac_model.specs.Refusals.{cause}
+use Rattle.hac_model.specs.Run.Answers.{Refuses}
+use Rattle.hac_model.specs.Run.Play.{command_turn}
+use Rattle.hac_model.specs.Run.Refusals.{cause}
 use Rattle.hac_model.specs.declared.replies.Deny.{Deny}
 use Rattle.hac_model.specs.declared.replies.Reply.{Reply}
 use Rattle.hac_model.specs.declared.states.State.{State}

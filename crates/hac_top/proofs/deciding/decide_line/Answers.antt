@@ -1,9 +1,9 @@
 use Rattle.std.proofs.Common.{ap, sym, subst, ◌∙◌}
 use Rattle.std.specs.Prelude.{Ok}
-use Rattle.hac_model.specs.Answers.{Refuses}
-use Rattle.hac_model.specs.Play.{command_turn, item_turn}
-use Rattle.hac_model.specs.Refusals.{refusal}
-use Rattle.hac_model.specs.Resolving.{resolve}
+use Rattle.hac_model.specs.Run.Answers.{Refuses}
+use Rattle.hac_model.specs.Run.Play.{command_turn, item_turn}
+use Rattle.hac_model.specs.Run.Refusals.{refusal}
+use Rattle.hac_model.specs.Run.Resolving.{resolve}
 use Rattle.hac_model.specs.declared.replies.Deny.{Deny}
 use Rattle.hac_model.specs.declared.states.State.{State}
 use Rattle.hac_top.proofs.ObeyLemmas.{decides-alike, decides-denied, refused-turn}

@@ -3,10 +3,10 @@ use Rattle.std.specs.Prelude.{IfOk, OnOk}
 use Rattle.std.proofs.lemmas.Result.{err_from_is_err_and}
 use Rattle.hac_core.specs.Settling.{settled_events}
 use Rattle.hac_model.specs.Laws.{AllHappen}
-use Rattle.hac_model.specs.Play.{Setting, item_turn}
+use Rattle.hac_model.specs.Run.Play.{Setting, item_turn}
 use Rattle.hac_model.specs.declared.replies.Reply.{Reply}
 use Rattle.hac_model.specs.declared.states.State.{State}
-use Rattle.hac_model.specs.Lines.{item_taken}
+use Rattle.hac_model.specs.Script.Lines.{item_taken}
 use Rattle.hac_top.specs.Obeying.{kept_events}
 use Rattle.hac_top.specs.Stops.{is_disk_stop}
 use Rattle.hac_top.proofs.StoringLemmas.{no-disk-stop, stores-nothing, stores-same}

@@ -2,7 +2,7 @@ use Rattle.std.proofs.Common.{◌≡◌, ◌≤◌, ◌+◌, ◌-◌, true, fals
 use Rattle.std.specs.Prelude.{IsErrOf, Result}
 use Rattle.std.proofs.lemmas.Result.{err_from_is_err_and}
 use Rattle.hac_model.specs.Laws.{AllHappen}
-use Rattle.hac_model.specs.Play.{Setting}
+use Rattle.hac_model.specs.Run.Play.{Setting}
 use Rattle.hac_outside.specs.Causes.{Rose}
 use Rattle.hac_store.specs.Stores.{Seen, fit_behind, store_after}
 use Rattle.hac_store.specs.declared.fault.StoreFault.{StoreFault}

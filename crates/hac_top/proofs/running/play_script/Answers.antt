@@ -2,7 +2,7 @@ use Rattle.std.proofs.Common.{◌≡◌, ℕ, Bool, Err, inr, false, refl, ap, a
 use Rattle.std.specs.Prelude.{Option, Result, IfSome}
 use Rattle.std.proofs.lemmas.Result.{err_from_is_err_and}
 use Rattle.hac_outside.specs.Causes.{TellsFault}
-use Rattle.hac_model.specs.Play.{left_by, turns}
+use Rattle.hac_model.specs.Run.Play.{left_by, turns}
 use Rattle.shell_lang.specs.Reading.{Reading, pending}
 use Rattle.shell_lang.proofs.ReaderLemmas.{total_on}
 use Rattle.hac_top.specs.Ends.{end_status}

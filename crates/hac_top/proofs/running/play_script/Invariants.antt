@@ -1,7 +1,7 @@
 use Rattle.std.proofs.Common.{◌≡◌, ◌≤◌, ◌+◌, ◌-◌, false}
 use Rattle.std.specs.Prelude.{IfSome}
 use Rattle.hac_disk.specs.Images.{LeavesOnly}
-use Rattle.hac_model.specs.Play.{all_events, play}
+use Rattle.hac_model.specs.Run.Play.{all_events, play}
 use Rattle.hac_model.specs.declared.limits.TheConstants.{SCRIPT_LIMIT}
 use Rattle.hac_store.specs.Stores.{Bears, Stands}
 use Rattle.shell_lang.specs.Reading.{pending, given, IsReaderOf, SameTotal}

@@ -3,7 +3,7 @@ use Rattle.std.specs.Prelude.{Err, Option, Some}
 use Rattle.std.specs.Option.{option_map}
 use Rattle.hac_disk.specs.Images.{LeavesOnly}
 use Rattle.hac_disk.specs.Told.{IsSettled}
-use Rattle.hac_model.specs.CommandLine.{Options}
+use Rattle.hac_model.specs.Script.CommandLine.{Options}
 use Rattle.hac_store.specs.Stores.{Stands}
 use Rattle.hac_top.specs.Ends.{end_status}
 use Rattle.hac_top.specs.Run.{IfOpens, IsFaultless, Ran, outside}

@@ -1,5 +1,5 @@
 use Rattle.std.proofs.Common.{◌≡◌, drop, map, string_bytes}
-use Rattle.hac_model.specs.CommandLine.{options}
+use Rattle.hac_model.specs.Script.CommandLine.{options}
 use Rattle.hac_top.specs.Words.{asked_on}
 use Rattle.hac_top.proofs.words.read_words.Given as goal
 

@@ -3,7 +3,7 @@ use Rattle.std.proofs.lemmas.Iterator.{YieldsList-from_slice}
 use Rattle.std.proofs.lemmas.Iterator.Search.{all_from_yields_List}
 use Rattle.std.proofs.lemmas.Bool.Decides.{nat_tests}
 use Rattle.std.specs.List.{list_all}
-use Rattle.hac_model.specs.Words.{is_lower_word_byte, is_word}
+use Rattle.hac_model.specs.Query.Words.{is_lower_word_byte, is_word}
 use Rattle.hac_words.proofs.bytes.is_word.Goals as goal
 
 pub returns-then-not-is_empty : goal.returns-then-not-is_empty

@@ -1,7 +1,7 @@
 use Rattle.std.proofs.Common.{not, rules}
 use Rattle.std.proofs.lemmas.Iterator.Consumers.{YieldsList-at, YieldsList-from_filter, map_from_collect}
 use Rattle.std.proofs.lemmas.Iterator.Splits.{YieldsList-from_slice_split}
-use Rattle.hac_model.specs.Words.{has_bytes, is_word_byte}
+use Rattle.hac_model.specs.Query.Words.{has_bytes, is_word_byte}
 use Rattle.hac_words.proofs.listing.runs.Goals as goal
 
 pub returns : goal.returns

@@ -3,7 +3,7 @@ use Rattle.std.proofs.lemmas.List.Filters.{dedup_is}
 use Rattle.std.specs.BTreeSet.{insert_key}
 use Rattle.std.specs.Cmp.Lexicographic.{slice_cmp}
 use Rattle.std.specs.Ordering.{nat_cmp}
-use Rattle.hac_model.specs.Words.{lower_case, rising_words, runs, words}
+use Rattle.hac_model.specs.Query.Words.{lower_case, rising_words, runs, words}
 use Rattle.hac_words.proofs.RisingLemmas.{settled}
 use Rattle.hac_words.proofs.RunLemmas.{runs-lower_case}
 use Rattle.hac_words.proofs.listing.words_of.Goals as goal

@@ -1,9 +1,9 @@
 use Rattle.std.proofs.Common.{◌≡◌, ℕ, ap, subst, sym, ◌∙◌}
 use Rattle.std.specs.Prelude.{Option, Some, None, IfOk, option_and_then}
 use Rattle.std.specs.Option.{option_copied}
-use Rattle.hac_model.specs.Depends.{cycle_over}
-use Rattle.hac_model.specs.Formula.{Formula}
-use Rattle.hac_model.specs.Links.{query_at}
+use Rattle.hac_model.specs.Tree.Depends.{cycle_over}
+use Rattle.hac_model.specs.Query.Formula.{Formula}
+use Rattle.hac_model.specs.Tree.Links.{query_at}
 use Rattle.file_tree.specs.Seen.{Seen}
 use Rattle.kept_state.specs.Parts.{state_of}
 use Rattle.kept_state.proofs.StateLemmas.{kept-bares, same-query}

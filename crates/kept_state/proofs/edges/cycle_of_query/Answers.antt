@@ -1,7 +1,7 @@
 use Rattle.std.proofs.Common.{◌≡◌, ℕ, ap, subst, sym, ◌∙◌}
 use Rattle.std.specs.Prelude.{IfOk}
-use Rattle.hac_model.specs.Depends.{cycle_over}
-use Rattle.hac_model.specs.Links.{parent_of}
+use Rattle.hac_model.specs.Tree.Depends.{cycle_over}
+use Rattle.hac_model.specs.Tree.Links.{parent_of}
 use Rattle.file_tree.specs.Seen.{Seen}
 use Rattle.kept_state.specs.Parts.{state_of}
 use Rattle.kept_state.proofs.StateLemmas.{kept-bares, same-parent}

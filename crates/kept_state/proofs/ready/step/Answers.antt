@@ -1,6 +1,6 @@
 use Rattle.std.proofs.Common.{◌≡◌, ◌-◌, ◌∙◌, ℕ, ap, sym, arith}
 use Rattle.std.specs.Prelude.{replicate}
-use Rattle.hac_model.specs.Events.{apply_all}
+use Rattle.hac_model.specs.Tree.Events.{apply_all}
 use Rattle.hac_model.specs.declared.events.Event.TheVariants.{Step}
 use Rattle.kept_state.proofs.ReadyLemmas.{steps-on}
 use Rattle.kept_state.proofs.ready.step.Goals as goal

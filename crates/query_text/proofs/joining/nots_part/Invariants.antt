@@ -1,5 +1,5 @@
 use Rattle.std.proofs.Common.{◌≡◌}
-use Rattle.hac_model.specs.QueryReading as reading
+use Rattle.hac_model.specs.Query.QueryReading as reading
 use Rattle.query_text.proofs.joining.nots_part.Given as goal
 
 -- what is still to be put before the part

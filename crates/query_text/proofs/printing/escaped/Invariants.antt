@@ -1,5 +1,5 @@
 use Rattle.std.proofs.Common.{◌≡◌, ◌++◌, drop}
-use Rattle.hac_model.specs.Grammar.{escaped}
+use Rattle.hac_model.specs.Query.Grammar.{escaped}
 use Rattle.query_text.proofs.printing.escaped.Given as goal
 
 -- what is spelled so far, with the rest, is the whole

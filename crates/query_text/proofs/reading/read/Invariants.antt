@@ -1,5 +1,5 @@
 use Rattle.std.proofs.Common.{◌≡◌, ◌+◌, drop}
-use Rattle.hac_model.specs.QueryReading.{read_on, fresh_reader}
+use Rattle.hac_model.specs.Query.QueryReading.{read_on, fresh_reader}
 use Rattle.query_text.proofs.reading.read.Given as goal
 
 -- what is still to be read gives what all of it gives

@@ -1,5 +1,5 @@
 use Rattle.std.proofs.Common.{ap, sym, ◌∙◌}
-use Rattle.hac_model.specs.Kinds.{is_transient}
+use Rattle.hac_model.specs.Tree.Kinds.{is_transient}
 use Rattle.link_kinds.proofs.HasLemmas.{transient-told}
 use Rattle.scope_rules.proofs.providing.has_found.Goals as goal
 

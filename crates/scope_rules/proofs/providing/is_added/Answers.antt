@@ -1,5 +1,5 @@
 use Rattle.std.proofs.Common.{ap, sym, ◌∙◌}
-use Rattle.hac_model.specs.Kinds.{is_permanent}
+use Rattle.hac_model.specs.Tree.Kinds.{is_permanent}
 use Rattle.link_kinds.proofs.HasLemmas.{permanent-told}
 use Rattle.scope_rules.proofs.providing.is_added.Goals as goal
 

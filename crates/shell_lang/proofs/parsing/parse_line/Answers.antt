@@ -1,5 +1,5 @@
 use Rattle.std.proofs.Common.{◌≡◌, rules, Ok}
-use Rattle.hac_model.specs.Lines.{item_taken}
+use Rattle.hac_model.specs.Script.Lines.{item_taken}
 use Rattle.hac_model.specs.declared.commands.Line.{Line}
 use Rattle.hac_model.proofs.SpellingLemmas.{taken-spells}
 use Rattle.shell_lang.proofs.parsing.parse_line.Goals as goal

@@ -1,7 +1,7 @@
 -- the lines that the loop has passed come behind what was there
 use Rattle.std.proofs.Common.{◌≡◌, ◌++◌, take}
 use Rattle.std.specs.List.{flat_map}
-use Rattle.hac_model.specs.Printed.{ended}
+use Rattle.hac_model.specs.Script.Printed.{ended}
 use Rattle.shell_lang.proofs.printing.push_ok_lines.Given as goal
 
 abbrev pub invariant-loop-line : goal.invariant-loop-line

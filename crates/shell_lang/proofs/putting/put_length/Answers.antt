@@ -1,7 +1,7 @@
 -- The name as it is written says whether the line is a `put`.
 use Rattle.std.proofs.Common.{Bool, ap, sym, ◌∙◌}
 use Rattle.std.specs.Prelude.{if◌then◌else◌, Err}
-use Rattle.hac_model.specs.Lines.{asked, put_words}
+use Rattle.hac_model.specs.Script.Lines.{asked, put_words}
 use Rattle.hac_model.specs.declared.replies.Refusal.TheVariants.{BadLine}
 use Rattle.shell_lang.proofs.PutLemmas.{named}
 use Rattle.shell_lang.proofs.putting.put_length.Goals as goal

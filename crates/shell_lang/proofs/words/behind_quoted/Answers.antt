@@ -2,7 +2,7 @@
 use Rattle.std.proofs.Common.{◌≡◌, true, ap, sym, ◌∙◌, rules}
 use Rattle.std.specs.Prelude.{slice_index}
 use Rattle.hac_model.specs.Bytes.{is_quote}
-use Rattle.hac_model.specs.LineWords.{quoted}
+use Rattle.hac_model.specs.Script.LineWords.{quoted}
 use Rattle.shell_lang.proofs.RawLemmas.{behind, behind-closed, behind-front}
 use Rattle.shell_lang.proofs.words.behind_quoted.Goals as goal
 

@@ -1,5 +1,5 @@
 use Rattle.std.proofs.Common.{◌≡◌, length}
-use Rattle.hac_model.specs.LineWords.{quoted}
+use Rattle.hac_model.specs.Script.LineWords.{quoted}
 use Rattle.shell_lang.proofs.RawLemmas.{behind}
 use Rattle.shell_lang.proofs.words.behind_quoted.Given as goal
 

@@ -3,7 +3,7 @@ use Rattle.std.proofs.Common.{◌≡◌, Bool, true, false, drop, ap, ◌∙◌,
 use Rattle.std.specs.Prelude.{if◌then◌else◌, slice_index}
 use Rattle.std.proofs.lemmas.List.{length-drop, take_rest}
 use Rattle.hac_model.specs.Bytes.{is_backslash}
-use Rattle.hac_model.specs.LineWords.{in_front, quoted, quoted_escape}
+use Rattle.hac_model.specs.Script.LineWords.{in_front, quoted, quoted_escape}
 use Rattle.shell_lang.proofs.QuoteLemmas.{quoted-none, quoted-step, quotes-behind}
 use Rattle.shell_lang.proofs.words.quoted_byte.Goals as goal
 

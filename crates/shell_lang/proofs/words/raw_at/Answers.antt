@@ -1,7 +1,7 @@
 -- A plain word is written as it is.
 use Rattle.std.proofs.Common.{◌≡◌, inl, refl, rules}
 use Rattle.std.specs.Prelude.{Ok}
-use Rattle.hac_model.specs.LineWords.{word_at}
+use Rattle.hac_model.specs.Script.LineWords.{word_at}
 use Rattle.shell_lang.proofs.words.raw_at.Goals as goal
 
 pub returns-in_default : goal.returns-in_default

@@ -1,5 +1,5 @@
 use Rattle.std.proofs.Common.{◌≡◌, List, ℕ, [], ◌∷◌, ◌++◌, ◌+◌, ap, ◌∙◌, arith}
-use Rattle.hac_model.specs.Kinds.{is_transient}
+use Rattle.hac_model.specs.Tree.Kinds.{is_transient}
 use Rattle.tree_answers.proofs.FoundLemmas.{file-fits, found-alone}
 use Rattle.tree_answers.proofs.finding.is_found.Goals as goal
 

@@ -1,5 +1,5 @@
 use Rattle.std.proofs.Common.{ap, ◌∙◌}
-use Rattle.hac_model.specs.Kinds.{is_unlinked}
+use Rattle.hac_model.specs.Tree.Kinds.{is_unlinked}
 use Rattle.tree_answers.proofs.MarkingLemmas.{no-mark}
 use Rattle.tree_answers.proofs.finding.is_unmarked.Goals as goal
 

@@ -1,5 +1,5 @@
 use Rattle.std.proofs.Common.{ap, ◌∙◌}
-use Rattle.hac_model.specs.Links.{column, holds}
+use Rattle.hac_model.specs.Tree.Links.{column, holds}
 use Rattle.hac_model.specs.declared.states.State.{State}
 use Rattle.link_kinds.specs.Seen.{transient_in}
 use Rattle.kept_state.proofs.ReaderLemmas.{marked-is}

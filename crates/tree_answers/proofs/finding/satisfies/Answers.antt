@@ -1,9 +1,9 @@
 use Rattle.std.proofs.Common.{◌≡◌, Bool, ap, sym, ◌∙◌}
 use Rattle.std.specs.Prelude.{Option, Some, None, false}
 use Rattle.std.specs.Option.{option_copied, option_map_or}
-use Rattle.hac_model.specs.Formula.{Formula}
+use Rattle.hac_model.specs.Query.Formula.{Formula}
 use Rattle.std.specs.Prelude.{ℕ}
-use Rattle.hac_model.specs.Links.{column, holds, query_at}
+use Rattle.hac_model.specs.Tree.Links.{column, holds, query_at}
 use Rattle.link_kinds.specs.Seen.{transient_in}
 use Rattle.kept_state.proofs.StateLemmas.{same-query}
 use Rattle.tree_answers.proofs.finding.satisfies.Goals as goal

@@ -1,6 +1,6 @@
 use Rattle.std.proofs.Common.{◌≡◌, filter, sym, ◌∙◌}
 use Rattle.std.specs.List.{range_with_len}
-use Rattle.hac_model.specs.Links.{is_semantic}
+use Rattle.hac_model.specs.Tree.Links.{is_semantic}
 use Rattle.kept_state.proofs.StateLemmas.{same-next}
 use Rattle.tree_answers.proofs.CountsLemmas.{all-links}
 use Rattle.tree_answers.proofs.lines_of_counts.all_links.Goals as goal

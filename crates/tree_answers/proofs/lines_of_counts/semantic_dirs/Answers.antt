@@ -1,7 +1,7 @@
 use Rattle.std.proofs.Common.{◌≡◌, ℕ, ap, ◌∙◌, arith}
 use Rattle.std.specs.Prelude.{filter}
 use Rattle.std.specs.List.{range_with_len}
-use Rattle.hac_model.specs.Links.{is_semantic}
+use Rattle.hac_model.specs.Tree.Links.{is_semantic}
 use Rattle.kept_state.proofs.StateLemmas.{same-next}
 use Rattle.tree_answers.proofs.RangeLemmas.{keeps-more, keeps-same}
 use Rattle.tree_answers.proofs.lines_of_counts.semantic_dirs.Goals.{then-is_semantic+in_ok-push, else-is_semantic}

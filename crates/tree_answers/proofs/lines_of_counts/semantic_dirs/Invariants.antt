@@ -1,7 +1,7 @@
 use Rattle.std.proofs.Common.{◌≡◌}
 use Rattle.std.specs.Prelude.{filter}
 use Rattle.std.specs.List.{range_with_len}
-use Rattle.hac_model.specs.Links.{is_semantic}
+use Rattle.hac_model.specs.Tree.Links.{is_semantic}
 use Rattle.tree_answers.proofs.lines_of_counts.semantic_dirs.Given as goal
 
 -- those so far

@@ -1,6 +1,6 @@
 use Rattle.std.proofs.Common.{◌≡◌, ℕ, List, ◌++◌, ◌-◌, ap, ◌∙◌}
 use Rattle.std.specs.Prelude.{codes}
-use Rattle.hac_model.specs.Play.{counted}
+use Rattle.hac_model.specs.Run.Play.{counted}
 use Rattle.tree_answers.proofs.lines_of_counts.told_line.Goals as goal
 
 -- one more is added behind what was added before

@@ -1,5 +1,5 @@
 use Rattle.std.proofs.Common.{◌≡◌, ℕ, List, ◌++◌, IfOk, ap, sym, subst, ◌∙◌}
-use Rattle.hac_model.specs.Depends.{named_in}
+use Rattle.hac_model.specs.Tree.Depends.{named_in}
 use Rattle.kept_state.proofs.StateLemmas.{same-next}
 use Rattle.tree_answers.proofs.LinkLineLemmas.{met-told}
 use Rattle.tree_answers.proofs.lines_of_links.found_lines.Goals as goal

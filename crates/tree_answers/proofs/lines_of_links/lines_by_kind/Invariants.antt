@@ -1,8 +1,8 @@
 use Rattle.std.proofs.Common.{◌≡◌}
 use Rattle.std.specs.Prelude.{filter}
 use Rattle.std.specs.List.{flat_map, range_with_len}
-use Rattle.hac_model.specs.Links.{is_item}
-use Rattle.hac_model.specs.Play.{kind_lines}
+use Rattle.hac_model.specs.Tree.Links.{is_item}
+use Rattle.hac_model.specs.Run.Play.{kind_lines}
 use Rattle.hac_model.specs.Tree.{path_of}
 use Rattle.tree_answers.specs.Finding.{kind_given}
 use Rattle.tree_answers.proofs.lines_of_links.lines_by_kind.Given as goal

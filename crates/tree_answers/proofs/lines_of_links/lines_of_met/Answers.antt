@@ -1,7 +1,7 @@
 use Rattle.std.proofs.Common.{◌≡◌, ℕ, List, [], ◌∷◌, map, ap, ◌∙◌, arith, ◌++◌}
 use Rattle.std.specs.Prelude.{filter}
 use Rattle.std.specs.List.{range_with_len}
-use Rattle.hac_model.specs.Play.{found_line}
+use Rattle.hac_model.specs.Run.Play.{found_line}
 use Rattle.kept_state.proofs.StateLemmas.{same-next}
 use Rattle.tree_answers.specs.Finding.{is_met}
 use Rattle.tree_answers.proofs.RangeLemmas.{map-brings, map-skips}

@@ -1,7 +1,7 @@
 use Rattle.std.proofs.Common.{◌≡◌, map}
 use Rattle.std.specs.Prelude.{filter}
 use Rattle.std.specs.List.{range_with_len}
-use Rattle.hac_model.specs.Play.{found_line}
+use Rattle.hac_model.specs.Run.Play.{found_line}
 use Rattle.tree_answers.specs.Finding.{is_met}
 use Rattle.tree_answers.proofs.lines_of_links.lines_of_met.Given as goal
 

@@ -1,5 +1,5 @@
 use Rattle.std.proofs.Common.{◌≡◌, ℕ, List, map, IfOk, ap, subst, ◌∙◌, ◌++◌}
-use Rattle.hac_model.specs.Depends.{named_in}
+use Rattle.hac_model.specs.Tree.Depends.{named_in}
 use Rattle.tree_answers.specs.Paths.{told_of}
 use Rattle.tree_answers.proofs.QueryLineLemmas.{paths-known, query-told}
 use Rattle.tree_answers.proofs.lines_of_queries.printed.Goals as goal

@@ -1,6 +1,6 @@
 use Rattle.std.proofs.Common.{Bool, ap, ◌∙◌}
 use Rattle.std.specs.Prelude.{not}
-use Rattle.hac_model.specs.Kinds.{is_unlinked}
+use Rattle.hac_model.specs.Tree.Kinds.{is_unlinked}
 use Rattle.tree_answers.proofs.MarkingLemmas.{some-mark}
 use Rattle.tree_answers.proofs.marking.is_marked.Goals as goal
 

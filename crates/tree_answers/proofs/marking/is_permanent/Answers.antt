@@ -1,5 +1,5 @@
 use Rattle.std.proofs.Common.{ap, ◌∙◌}
-use Rattle.hac_model.specs.Kinds.{is_permanent}
+use Rattle.hac_model.specs.Tree.Kinds.{is_permanent}
 use Rattle.tree_answers.proofs.MarkingLemmas.{permanent-mark}
 use Rattle.tree_answers.proofs.marking.is_permanent.Goals as goal
 

@@ -1,5 +1,5 @@
 use Rattle.std.proofs.Common.{◌≡◌, ◌≤◌, drop, length, map}
-use Rattle.hac_model.specs.Refusals.{least_path}
+use Rattle.hac_model.specs.Run.Refusals.{least_path}
 use Rattle.hac_model.specs.Tree.{path_of}
 use Rattle.tree_answers.proofs.referring.least_path.Given as goal
 

@@ -1,5 +1,5 @@
 use Rattle.std.proofs.Common.{◌≡◌, ℕ, ◌++◌, ◌∷◌, [], List, subst, ap, sym, ◌∙◌}
-use Rattle.hac_model.specs.Depends.{Among}
+use Rattle.hac_model.specs.Tree.Depends.{Among}
 use Rattle.dep_graph.specs.Graphs.{Seen}
 use Rattle.dep_graph.specs.Searches.{EachOnce}
 use Rattle.dep_graph.proofs.ReferLemmas.{each-node-once, names, naming, naming-ended, naming-found, naming-from, naming-once, naming-passed, naming-to, numbers_of}

@@ -1,5 +1,5 @@
 use Rattle.std.proofs.Common.{ap, refl, subst, sym, ◌∙◌}
-use Rattle.hac_model.specs.Events.{changed_at, edited, indexed}
+use Rattle.hac_model.specs.Tree.Events.{changed_at, edited, indexed}
 use Rattle.hac_model.specs.declared.states.State.{State}
 use Rattle.file_tree.specs.Shape.{HasSpare}
 use Rattle.file_tree.specs.declared.ready.Ready.{Ready}

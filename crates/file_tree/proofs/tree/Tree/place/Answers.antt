@@ -1,5 +1,5 @@
 use Rattle.std.proofs.Common.{ℕ, List, [], subst, ap, sym, ◌∙◌}
-use Rattle.hac_model.specs.Paths.{join}
+use Rattle.hac_model.specs.Tree.Paths.{join}
 use Rattle.hac_model.specs.Tree.{path_of}
 use Rattle.hac_model.proofs.Walks.{look-walk, walk}
 use Rattle.file_tree.specs.Answers.{Finds}

@@ -1,6 +1,6 @@
 use Rattle.std.proofs.Common.{◌≡◌, ◌<◌, ℕ, List, [], Bool, false, Option, None, length, cond, ap, sym, subst, refl, ◌∙◌}
 use Rattle.std.specs.Prelude.{nat_eq, remove}
-use Rattle.hac_model.specs.Events.{removed}
+use Rattle.hac_model.specs.Tree.Events.{removed}
 use Rattle.hac_model.specs.declared.states.Entry.{Entry}
 use Rattle.hac_model.specs.declared.states.State.{State}
 use Rattle.file_tree.specs.Nodes.{entry_of, kids_of, name_of}

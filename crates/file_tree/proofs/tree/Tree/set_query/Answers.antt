@@ -1,10 +1,10 @@
 use Rattle.std.proofs.Common.{◌≡◌, ℕ, ap, refl, sym, subst, ◌∙◌}
 use Rattle.std.specs.Option.{unwrap_or}
-use Rattle.hac_model.specs.Events.{asking, changed_at, edited}
-use Rattle.hac_model.specs.Formula.{Formula}
-use Rattle.hac_model.specs.Formula as query
+use Rattle.hac_model.specs.Tree.Events.{asking, changed_at, edited}
+use Rattle.hac_model.specs.Query.Formula.{Formula}
+use Rattle.hac_model.specs.Query.Formula as query
 use Rattle.hac_model.specs.Tree.{query_in}
-use Rattle.hac_model.specs.Valid.{IsLayout}
+use Rattle.hac_model.specs.Tree.Valid.{IsLayout}
 use Rattle.hac_model.specs.declared.states.Body.{Body}
 use Rattle.hac_model.specs.declared.states.State.{State}
 use Rattle.file_tree.specs.Ready.{body_in, new_query}

@@ -1,8 +1,8 @@
 use Rattle.std.proofs.Common.{◌≡◌, ℕ, List, [], ap, refl, sym, subst, ◌∙◌}
 use Rattle.std.specs.Option.{option_map_or}
-use Rattle.hac_model.specs.Events.{changed_at, edited, rewritten}
+use Rattle.hac_model.specs.Tree.Events.{changed_at, edited, rewritten}
 use Rattle.hac_model.specs.Tree.{text_in}
-use Rattle.hac_model.specs.Valid.{IsLayout}
+use Rattle.hac_model.specs.Tree.Valid.{IsLayout}
 use Rattle.hac_model.specs.declared.states.Body.{Body}
 use Rattle.hac_model.specs.declared.states.State.{State}
 use Rattle.file_tree.specs.Ready.{body_in, new_text}

@@ -1,6 +1,6 @@
 use Rattle.std.proofs.Common.{subst}
-use Rattle.hac_model.specs.Refusals.{refusal}
-use Rattle.hac_model.specs.Answers.{Refuses}
+use Rattle.hac_model.specs.Run.Refusals.{refusal}
+use Rattle.hac_model.specs.Run.Answers.{Refuses}
 use Rattle.hac_core.specs.Seen.{Seen}
 use Rattle.hac_core.proofs.MachineLemmas.{refused-early}
 use Rattle.hac_core.proofs.StandingLemmas.{line-stands}

@@ -1,5 +1,5 @@
 use Rattle.std.proofs.Common.{◌≡◌, ap, subst}
-use Rattle.hac_model.specs.Valid.{IsValid}
+use Rattle.hac_model.specs.Tree.Valid.{IsValid}
 use Rattle.hac_model.proofs.SpelledLemmas.{accepted-spelled}
 use Rattle.hac_store.specs.Stores.{Seen}
 use Rattle.hac_store.proofs.store.Store.command.Goals as goal

@@ -1,6 +1,6 @@
 use Rattle.std.proofs.Common.{◌≡◌, false, inl, ◌∙◌, Err, ap, subst, sym, true}
 use Rattle.hac_model.specs.Laws.{AllHappen}
-use Rattle.hac_model.specs.Valid.{IsValid}
+use Rattle.hac_model.specs.Tree.Valid.{IsValid}
 use Rattle.hac_model.proofs.EventLemmas.{all-valid}
 use Rattle.hac_core.specs.Settling.{settled_events}
 use Rattle.hac_store.specs.Stores.{Seen, Stands}

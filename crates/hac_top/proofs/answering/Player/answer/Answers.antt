@@ -1,6 +1,6 @@
 use Rattle.std.proofs.Common.{ap, refl, ◌∙◌}
-use Rattle.hac_model.specs.Play.{all_events, item_turn, turns}
-use Rattle.hac_model.specs.Lines.{item_taken}
+use Rattle.hac_model.specs.Run.Play.{all_events, item_turn, turns}
+use Rattle.hac_model.specs.Script.Lines.{item_taken}
 use Rattle.shell_lang.specs.declared.reading.Piece.{Piece}
 use Rattle.hac_top.specs.Stops.{is_disk_stop}
 use Rattle.hac_top.specs.TakenLines.{items_of_piece, items_of_taken}

@@ -2,8 +2,8 @@ use Rattle.std.proofs.Common.{◌≡◌, subst, sym, false}
 use Rattle.std.specs.BTreeSet.{contains}
 use Rattle.std.specs.Ordering.{nat_cmp}
 use Rattle.std.specs.Prelude.{Some}
-use Rattle.hac_model.specs.Events.{added}
-use Rattle.hac_model.specs.Valid.{IsLayout}
+use Rattle.hac_model.specs.Tree.Events.{added}
+use Rattle.hac_model.specs.Tree.Valid.{IsLayout}
 use Rattle.hac_model.specs.declared.counts.Counts.{Counts}
 use Rattle.file_tree.specs.Ready.{body_in, room_in}
 use Rattle.file_tree.specs.Seen.{Seen}

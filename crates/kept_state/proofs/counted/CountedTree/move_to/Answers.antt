@@ -1,6 +1,6 @@
 use Rattle.std.proofs.Common.{subst, sym}
-use Rattle.hac_model.specs.Events.{changed_at, reseated}
-use Rattle.hac_model.specs.Valid.{IsLayout}
+use Rattle.hac_model.specs.Tree.Events.{changed_at, reseated}
+use Rattle.hac_model.specs.Tree.Valid.{IsLayout}
 use Rattle.file_tree.specs.Ready.{name_in}
 use Rattle.file_tree.specs.Seen.{Seen}
 use Rattle.std.specs.BTreeSet.{contains}

@@ -3,9 +3,9 @@ use Rattle.std.specs.BTreeMap.{is_at}
 use Rattle.std.specs.BTreeSet.{contains}
 use Rattle.std.specs.Ordering.{nat_cmp}
 use Rattle.std.specs.Prelude.{is_some}
-use Rattle.hac_model.specs.Events.{removed}
+use Rattle.hac_model.specs.Tree.Events.{removed}
 use Rattle.hac_model.specs.Tree.{entry_at}
-use Rattle.hac_model.specs.Valid.{IsLayout}
+use Rattle.hac_model.specs.Tree.Valid.{IsLayout}
 use Rattle.file_tree.specs.Seen.{Seen}
 use Rattle.hac_model.proofs.MoveLemmas.{some-found}
 use Rattle.kept_state.proofs.CountedLemmas.{made-counted}

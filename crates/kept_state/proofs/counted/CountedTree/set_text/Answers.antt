@@ -2,9 +2,9 @@ use Rattle.std.proofs.Common.{◌≡◌, subst, sym, true}
 use Rattle.std.specs.BTreeSet.{contains}
 use Rattle.std.specs.Ordering.{nat_cmp}
 use Rattle.std.specs.Prelude.{Some, IsTrue}
-use Rattle.hac_model.specs.Events.{changed_at, edited, rewritten}
+use Rattle.hac_model.specs.Tree.Events.{changed_at, edited, rewritten}
 use Rattle.hac_model.specs.Tree.{is_dirty, is_file, is_file_at}
-use Rattle.hac_model.specs.Valid.{IsLayout}
+use Rattle.hac_model.specs.Tree.Valid.{IsLayout}
 use Rattle.hac_model.specs.declared.counts.Counts.{Counts}
 use Rattle.file_tree.specs.Ready.{body_in, new_text, room_in}
 use Rattle.file_tree.specs.Seen.{Seen}

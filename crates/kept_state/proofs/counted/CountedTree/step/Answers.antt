@@ -3,7 +3,7 @@ use Rattle.std.specs.BTreeSet.{contains}
 use Rattle.std.specs.Option.{option_map_or}
 use Rattle.std.specs.Ordering.{nat_cmp}
 use Rattle.std.specs.Prelude.{Option}
-use Rattle.hac_model.specs.Events.{changed_at, edited, indexed, next_dirty}
+use Rattle.hac_model.specs.Tree.Events.{changed_at, edited, indexed, next_dirty}
 use Rattle.hac_model.specs.Tree.{is_dirty}
 use Rattle.hac_model.specs.declared.counts.Counts.{Counts}
 use Rattle.file_tree.specs.Seen.{Seen}

@@ -1,9 +1,9 @@
 use Rattle.std.proofs.Common.{subst, sym, ap, ◌∙◌, ◌≡◌}
-use Rattle.hac_model.specs.Limits.{counts}
+use Rattle.hac_model.specs.Tree.Limits.{counts}
 use Rattle.kept_state.specs.Parts.{state_of}
 use Rattle.kept_state.proofs.StateLemmas.{kept-bares, same-counts}
 use Rattle.kept_state.specs.Seen.{Seen}
-use Rattle.hac_model.specs.Valid.{IsValid}
+use Rattle.hac_model.specs.Tree.Valid.{IsValid}
 use Rattle.kept_state.proofs.kept.KeptState.counts.Goals as goal
 
 pub returns-clause-counts : goal.returns-clause-counts

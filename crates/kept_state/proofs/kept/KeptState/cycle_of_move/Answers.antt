@@ -1,6 +1,6 @@
 use Rattle.std.proofs.Common.{subst, sym, ap, ◌∙◌, ◌≡◌}
 use Rattle.std.specs.Prelude.{IfOk}
-use Rattle.hac_model.specs.Depends.{cycle_of_move}
+use Rattle.hac_model.specs.Tree.Depends.{cycle_of_move}
 use Rattle.kept_state.specs.Seen.{Seen}
 use Rattle.kept_state.proofs.kept.KeptState.cycle_of_move.Goals as goal
 

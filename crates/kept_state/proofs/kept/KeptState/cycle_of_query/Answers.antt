@@ -1,7 +1,7 @@
 use Rattle.std.proofs.Common.{subst, sym, ap, ◌∙◌, ◌≡◌}
 use Rattle.std.specs.Prelude.{IfOk}
-use Rattle.hac_model.specs.Depends.{cycle_over}
-use Rattle.hac_model.specs.Links.{parent_of}
+use Rattle.hac_model.specs.Tree.Depends.{cycle_over}
+use Rattle.hac_model.specs.Tree.Links.{parent_of}
 use Rattle.kept_state.specs.Seen.{Seen}
 use Rattle.kept_state.proofs.kept.KeptState.cycle_of_query.Goals as goal
 

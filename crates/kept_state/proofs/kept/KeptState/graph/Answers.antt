@@ -2,7 +2,7 @@ use Rattle.std.proofs.Common.{subst, sym, ap, ◌∙◌, ◌≡◌}
 use Rattle.kept_state.specs.Readers.{AreEdgesOf}
 use Rattle.kept_state.proofs.KeptLemmas.{kept-edges}
 use Rattle.kept_state.specs.Seen.{Seen}
-use Rattle.hac_model.specs.Valid.{IsValid}
+use Rattle.hac_model.specs.Tree.Valid.{IsValid}
 use Rattle.kept_state.proofs.kept.KeptState.graph.Goals as goal
 
 pub returns-clause-edges : goal.returns-clause-edges

@@ -2,7 +2,7 @@ use Rattle.std.proofs.Common.{subst, sym, ap, ◌∙◌, ◌≡◌}
 use Rattle.kept_state.specs.Readers.{AreMarksOf}
 use Rattle.kept_state.proofs.ReaderLemmas.{marks-of}
 use Rattle.kept_state.specs.Seen.{Seen}
-use Rattle.hac_model.specs.Valid.{IsValid}
+use Rattle.hac_model.specs.Tree.Valid.{IsValid}
 use Rattle.kept_state.proofs.kept.KeptState.marks.Goals as goal
 
 pub returns-clause-marks : goal.returns-clause-marks

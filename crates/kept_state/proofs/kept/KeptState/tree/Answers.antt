@@ -4,7 +4,7 @@ use Rattle.kept_state.specs.Parts.{state_of}
 use Rattle.kept_state.specs.Readers.{IsTreeOf}
 use Rattle.kept_state.proofs.ReaderLemmas.{tree-of}
 use Rattle.kept_state.specs.Seen.{Seen}
-use Rattle.hac_model.specs.Valid.{IsValid}
+use Rattle.hac_model.specs.Tree.Valid.{IsValid}
 use Rattle.kept_state.proofs.kept.KeptState.tree.Goals as goal
 
 pub returns-clause-tree : goal.returns-clause-tree

@@ -3,7 +3,7 @@ use Rattle.std.specs.Prelude.{ℕ, Bool, true, false, ◌+◌, ◌-◌, ◌==◌
 use Rattle.std.specs.List.{slice_split, list_any, list_all}
 use Rattle.std.specs.Str.{bytes_eq}
 use Rattle.hac_model.specs.Bytes.{is_slash}
-use Rattle.hac_model.specs.Names.{is_name_byte}
+use Rattle.hac_model.specs.Tree.Names.{is_name_byte}
 use Rattle.hac_model.specs.declared.limits.LimitWord.TheVariants as limit
 use Rattle.hac_model.specs.declared.limits.TheConstants.{NAME_LIMIT}
 use Rattle.hac_model.specs.declared.paths.PathWord.{PathWord}

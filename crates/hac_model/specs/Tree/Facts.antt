@@ -1,10 +1,10 @@
 -- A state as its bare tree and the facts of each number: what is kept of it beside the tree, and what it depends on.
 use Rattle.std.specs.Prelude.{ℕ, ◌==◌, List, [], ◌∷◌, map, Option, Some, None, if◌then◌else◌}
 use Rattle.std.specs.Option.{option_map_or}
-use Rattle.hac_model.specs.Depends.{named_in}
-use Rattle.hac_model.specs.Events.{apply, edited, put_in, removed, without}
-use Rattle.hac_model.specs.Formula.{Formula}
-use Rattle.hac_model.specs.Links.{parent_of, query_at}
+use Rattle.hac_model.specs.Tree.Depends.{named_in}
+use Rattle.hac_model.specs.Tree.Events.{apply, edited, put_in, removed, without}
+use Rattle.hac_model.specs.Query.Formula.{Formula}
+use Rattle.hac_model.specs.Tree.Links.{parent_of, query_at}
 use Rattle.hac_model.specs.Tree.{entry_at, permanent_in, prohibited_in, query_in}
 use Rattle.hac_model.specs.declared.events.Event.{Event}
 use Rattle.hac_model.specs.declared.events.Event.TheVariants.{Smkdir, Setq, Unq, Mark, Mv, Rm, Rmdir}

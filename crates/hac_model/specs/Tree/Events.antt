@@ -2,12 +2,12 @@
 use Rattle.std.specs.Prelude.{ℕ, Bool, true, false, ◌+◌, ◌==◌, ◌&&◌, ◌||◌, not, if◌then◌else◌, List, [], ◌∷◌, ◌++◌, length, drop, filter, map, nat_lt, Option, Some, None, is_some, is_none}
 use Rattle.std.specs.List.{list_all}
 use Rattle.std.specs.Option.{option_map_or}
-use Rattle.hac_model.specs.Depends.{cycle_of_move, cycle_over, named_in, names_directory}
-use Rattle.hac_model.specs.Formula.{Formula}
-use Rattle.hac_model.specs.Limits.{dirty_count, is_text, passed}
-use Rattle.hac_model.specs.Links.{has, is_item, is_permanent, is_prohibited, is_semantic, links, parent_of}
-use Rattle.hac_model.specs.Names.{is_name}
-use Rattle.hac_model.specs.Queries.{is_query}
+use Rattle.hac_model.specs.Tree.Depends.{cycle_of_move, cycle_over, named_in, names_directory}
+use Rattle.hac_model.specs.Query.Formula.{Formula}
+use Rattle.hac_model.specs.Tree.Limits.{dirty_count, is_text, passed}
+use Rattle.hac_model.specs.Tree.Links.{has, is_item, is_permanent, is_prohibited, is_semantic, links, parent_of}
+use Rattle.hac_model.specs.Tree.Names.{is_name}
+use Rattle.hac_model.specs.Query.Queries.{is_query}
 use Rattle.hac_model.specs.Tree.{child, entry_at, extends, is_directory_at, is_dirty, is_file_at, is_made_directory, path_of}
 use Rattle.hac_model.specs.declared.events.Event.{Event}
 use Rattle.hac_model.specs.declared.events.Event.TheVariants.{Mkdir, NewFile, Rewrite, Smkdir, Setq, Unq, Mark, Mv, Rm, Rmdir, Step}

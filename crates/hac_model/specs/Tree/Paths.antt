@@ -1,7 +1,7 @@
 -- Where words lead, and how paths are printed.
 use Rattle.std.specs.Prelude.{ℕ, Bool, ◌-◌, if◌then◌else◌, List, [], ◌∷◌, ◌++◌, length, take, codes}
 use Rattle.std.specs.List.{list_all, flat_map}
-use Rattle.hac_model.specs.Names.{is_name}
+use Rattle.hac_model.specs.Tree.Names.{is_name}
 use Rattle.hac_model.specs.declared.paths.PathWord.{PathWord}
 
 -- each name of a path is one

@@ -1,6 +1,6 @@
 -- A state without what is kept beside its tree: marks, kept answers and sessions.
 use Rattle.std.specs.Prelude.{[], map}
-use Rattle.hac_model.specs.Events.{edited}
+use Rattle.hac_model.specs.Tree.Events.{edited}
 use Rattle.hac_model.specs.declared.states.Body.{Body}
 use Rattle.hac_model.specs.declared.states.Body.TheVariants.{Semantic, Mount}
 use Rattle.hac_model.specs.declared.states.State.{State}

@@ -2,8 +2,8 @@
 use Rattle.std.specs.Prelude.{ℕ, Bool, true, false, ◌-◌, if◌then◌else◌, List, [], ◌∷◌, length, map, Option, None, Some, Result, Ok, Err, option_and_then}
 use Rattle.std.specs.List.{slice_index_or}
 use Rattle.std.specs.Option.{option_map, option_map_or, unwrap_or}
-use Rattle.hac_model.specs.Answers.{first_cause}
-use Rattle.hac_model.specs.Paths.{without_last}
+use Rattle.hac_model.specs.Run.Answers.{first_cause}
+use Rattle.hac_model.specs.Tree.Paths.{without_last}
 use Rattle.hac_model.specs.Tree.{body_at, child, is_file_at}
 use Rattle.hac_model.specs.declared.places.Place.{Place}
 use Rattle.hac_model.specs.declared.places.Place.TheVariants.{There, Free}

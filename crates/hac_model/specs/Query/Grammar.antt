@@ -3,10 +3,10 @@
 --     query = and { "OR" and }        and  = not { "AND" not }
 --     not   = "NOT" not | prim        prim = "(" query ")" | word | word "*" | "{" path "}"
 use Rattle.std.specs.Prelude.{◌≡◌, ⊤, ℕ, zero, suc, ◌+◌, ◌<◌, ◌≤◌, Bool, true, false, ◌==◌, ◌||◌, nat_lt, max, if◌then◌else◌, List, [], ◌∷◌, ◌++◌, length, take, codes}
-use Rattle.hac_model.specs.Formula.{Formula}
-use Rattle.hac_model.specs.Formula as formula
-use Rattle.hac_model.specs.Queries.{is_operator}
-use Rattle.hac_model.specs.Words.{is_word_byte, lower_case}
+use Rattle.hac_model.specs.Query.Formula.{Formula}
+use Rattle.hac_model.specs.Query.Formula as formula
+use Rattle.hac_model.specs.Query.Queries.{is_operator}
+use Rattle.hac_model.specs.Query.Words.{is_word_byte, lower_case}
 use Rattle.hac_model.specs.declared.reading.Part.{Part}
 use Rattle.hac_model.specs.declared.terms.Term.TheVariants as term
 

@@ -1,7 +1,7 @@
 -- Fields: how the values of a payload are spelled as bytes, and how bytes are read from the left.
 use Rattle.std.specs.Prelude.{ℕ, zero, suc, Bool, true, ◌+◌, ◌^◌, ◌==◌, ◌&&◌, if◌then◌else◌, nat_lt, nat_le, List, [], ◌∷◌, ◌++◌, length, take, drop, Option, Some, None, Result, Ok, Err}
 use Rattle.std.specs.Int.{Width, w32, byte_len, from_le_bytes, to_le_bytes}
-use Rattle.hac_model.specs.Answers.{◌>>=◌}
+use Rattle.hac_model.specs.Run.Answers.{◌>>=◌}
 
 -- A field of a payload: which values it has bytes for, the bytes of each, and what any bytes say: the value at their
 -- front and the bytes behind it, or how many bytes are left where the first field begins that has no allowed value.

@@ -2,20 +2,20 @@
 use Rattle.std.specs.Prelude.{ℕ, zero, suc, ◌+◌, nat_lt, if◌then◌else◌, Bool, true, false, List, [], ◌∷◌, ◌++◌, length, map, take, codes, decimal, Option, None, Some, Result, Ok, Err, option_and_then}
 use Rattle.std.specs.List.{flat_map, list_any}
 use Rattle.std.specs.Option.{option_map_or}
-use Rattle.hac_model.specs.Answers.{first_cause}
-use Rattle.hac_model.specs.Events.{apply_all}
-use Rattle.hac_model.specs.Lines.{Item}
-use Rattle.hac_model.specs.Formula.{Formula}
-use Rattle.hac_model.specs.Limits.{dirty_count, file_count, plain_count, semantic_count}
-use Rattle.hac_model.specs.Links.{found_by, items, kind, permanent_count, prohibited_count, query_at, transient_count}
-use Rattle.hac_model.specs.Listing.{children, entry_line}
-use Rattle.hac_model.specs.Paths.{path_text}
-use Rattle.hac_model.specs.Payloads.{event_text}
-use Rattle.hac_model.specs.QueryText.{query_text, named_by}
-use Rattle.hac_model.specs.Refusals.{cause, events_of}
-use Rattle.hac_model.specs.Resolving.{resolve}
+use Rattle.hac_model.specs.Run.Answers.{first_cause}
+use Rattle.hac_model.specs.Tree.Events.{apply_all}
+use Rattle.hac_model.specs.Script.Lines.{Item}
+use Rattle.hac_model.specs.Query.Formula.{Formula}
+use Rattle.hac_model.specs.Tree.Limits.{dirty_count, file_count, plain_count, semantic_count}
+use Rattle.hac_model.specs.Tree.Links.{found_by, items, kind, permanent_count, prohibited_count, query_at, transient_count}
+use Rattle.hac_model.specs.Tree.Listing.{children, entry_line}
+use Rattle.hac_model.specs.Tree.Paths.{path_text}
+use Rattle.hac_model.specs.Payload.Payloads.{event_text}
+use Rattle.hac_model.specs.Query.QueryText.{query_text, named_by}
+use Rattle.hac_model.specs.Run.Refusals.{cause, events_of}
+use Rattle.hac_model.specs.Run.Resolving.{resolve}
 use Rattle.hac_model.specs.Script.{script}
-use Rattle.hac_model.specs.Texts.{escaped_text}
+use Rattle.hac_model.specs.Script.Texts.{escaped_text}
 use Rattle.hac_model.specs.Tree.{body_at, empty, path_of, text_in}
 use Rattle.hac_model.specs.declared.events.Event.{Event}
 use Rattle.hac_model.specs.declared.limits.LimitWord.TheVariants.{Store}

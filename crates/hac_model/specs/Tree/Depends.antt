@@ -2,10 +2,10 @@
 use Rattle.std.specs.Prelude.{◌≡◌, ◌⊎◌, ℕ, zero, suc, ◌==◌, ◌||◌, Bool, if◌then◌else◌, List, [], ◌∷◌, false, filter, Option, None, Some, option_and_then}
 use Rattle.std.specs.List.{list_any}
 use Rattle.std.specs.Option.{option_map_or}
-use Rattle.hac_model.specs.Formula.{Formula}
-use Rattle.hac_model.specs.Limits.{semantic_count}
-use Rattle.hac_model.specs.Links.{has, parent_of, query_at}
-pub use Rattle.hac_model.specs.Queries.{named_in}
+use Rattle.hac_model.specs.Query.Formula.{Formula}
+use Rattle.hac_model.specs.Tree.Limits.{semantic_count}
+use Rattle.hac_model.specs.Tree.Links.{has, parent_of, query_at}
+pub use Rattle.hac_model.specs.Query.Queries.{named_in}
 use Rattle.hac_model.specs.Tree.{query_in}
 use Rattle.hac_model.specs.declared.states.Entry.{Entry}
 use Rattle.hac_model.specs.declared.states.State.{State}

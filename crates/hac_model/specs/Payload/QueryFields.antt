@@ -2,12 +2,12 @@
 use Rattle.std.specs.Prelude.{ℕ, zero, suc, Bool, true, false, ◌-◌, ◌==◌, ◌&&◌, if◌then◌else◌, nat_le, List, [], ◌∷◌, ◌++◌, length, Option, Some, None, Result, Ok, Err}
 use Rattle.std.specs.Int.{w16}
 use Rattle.std.specs.Option.{ok_or}
-use Rattle.hac_model.specs.Answers.{◌>>=◌}
-use Rattle.hac_model.specs.Fields.{Field, Part, Way, num, run, nothing, part, way, whole_way, choice}
-use Rattle.hac_model.specs.Formula.{Formula}
-use Rattle.hac_model.specs.Formula as query
-use Rattle.hac_model.specs.Queries.{all_leaves, is_query, term_size}
-use Rattle.hac_model.specs.Words.{is_word}
+use Rattle.hac_model.specs.Run.Answers.{◌>>=◌}
+use Rattle.hac_model.specs.Payload.Fields.{Field, Part, Way, num, run, nothing, part, way, whole_way, choice}
+use Rattle.hac_model.specs.Query.Formula.{Formula}
+use Rattle.hac_model.specs.Query.Formula as query
+use Rattle.hac_model.specs.Query.Queries.{all_leaves, is_query, term_size}
+use Rattle.hac_model.specs.Query.Words.{is_word}
 use Rattle.hac_model.specs.declared.limits.TheConstants.{NESTING_LIMIT, QUERY_LIMIT, TERMS_LIMIT}
 use Rattle.hac_model.specs.declared.terms.Term as asked
 use Rattle.hac_model.specs.declared.terms.Term.TheVariants.{Word, Prefix}

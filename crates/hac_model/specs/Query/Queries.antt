@@ -1,10 +1,10 @@
 -- Queries: what they say of an item, what they name, and how much one may hold.
 use Rattle.std.specs.Prelude.{ℕ, Bool, true, ◌+◌, ◌&&◌, ◌||◌, not, nat_le, max, List, [], ◌∷◌, ◌++◌, length, codes}
 use Rattle.std.specs.Str.{bytes_eq}
-use Rattle.hac_model.specs.Terms.{letters_in}
-use Rattle.hac_model.specs.Words.{is_word}
-use Rattle.hac_model.specs.Formula.{Formula}
-use Rattle.hac_model.specs.Formula as query
+use Rattle.hac_model.specs.Query.Terms.{letters_in}
+use Rattle.hac_model.specs.Query.Words.{is_word}
+use Rattle.hac_model.specs.Query.Formula.{Formula}
+use Rattle.hac_model.specs.Query.Formula as query
 use Rattle.hac_model.specs.declared.limits.TheConstants.{QUERY_LIMIT, TERMS_LIMIT, NESTING_LIMIT}
 use Rattle.hac_model.specs.declared.terms.Term.{Term}
 

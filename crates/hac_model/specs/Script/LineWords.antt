@@ -2,7 +2,7 @@
 use Rattle.std.specs.Prelude.{ℕ, Bool, ◌==◌, ◌||◌, if◌then◌else◌, List, [], ◌∷◌, length, slice_index, drop, Option, Some, None, Result, Ok, Err}
 use Rattle.std.specs.List.{prefix_len, before_first}
 use Rattle.std.specs.Option.{option_map, ok_or}
-use Rattle.hac_model.specs.Answers.{◌>>=◌}
+use Rattle.hac_model.specs.Run.Answers.{◌>>=◌}
 use Rattle.hac_model.specs.Bytes.{is_backslash, is_quote, is_space}
 use Rattle.hac_model.specs.declared.replies.Refusal.{Refusal}
 use Rattle.hac_model.specs.declared.replies.Refusal.TheVariants.{BadLine}

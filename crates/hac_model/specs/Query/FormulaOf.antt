@@ -1,6 +1,6 @@
 -- The tree that a query in memory is.
-use Rattle.hac_model.specs.Formula.{Formula}
-use Rattle.hac_model.specs.Formula as formula
+use Rattle.hac_model.specs.Query.Formula.{Formula}
+use Rattle.hac_model.specs.Query.Formula as formula
 use Rattle.hac_model.specs.declared.queries.Node.{Node}
 use Rattle.hac_model.specs.declared.queries.Node.TheVariants.{Term, Dir, Not, And, Or}
 

@@ -2,11 +2,11 @@
 use Rattle.std.specs.Prelude.{ℕ, zero, suc, Bool, false, ◌==◌, ◌&&◌, ◌||◌, not, if◌then◌else◌, List, [], filter, length, sum_by, Option, is_some, option_and_then}
 use Rattle.std.specs.List.{list_any, range_with_len}
 use Rattle.std.specs.Option.{option_map_or}
-use Rattle.hac_model.specs.Limits.{semantic_count}
-use Rattle.hac_model.specs.Formula.{Formula}
-use Rattle.hac_model.specs.Queries.{judged}
+use Rattle.hac_model.specs.Tree.Limits.{semantic_count}
+use Rattle.hac_model.specs.Query.Formula.{Formula}
+use Rattle.hac_model.specs.Query.Queries.{judged}
 use Rattle.hac_model.specs.Tree.{body_at, entry_at, extends, is_directory_at, is_file_at, path_of, permanent_in, prohibited_in, query_in, shown_text}
-use Rattle.hac_model.specs.Words.{has_term}
+use Rattle.hac_model.specs.Query.Words.{has_term}
 use Rattle.hac_model.specs.declared.marks.Kind.{Kind}
 use Rattle.hac_model.specs.declared.marks.Kind.TheVariants.{Transient, Permanent, Prohibited, Unlinked}
 use Rattle.hac_model.specs.declared.states.State.{State}

@@ -1,7 +1,7 @@
 -- Replies as the program prints them.
 use Rattle.std.specs.Prelude.{ℕ, List, [], ◌∷◌, ◌++◌, codes, decimal}
 use Rattle.std.specs.List.{flat_map}
-use Rattle.hac_model.specs.Paths.{path_text}
+use Rattle.hac_model.specs.Tree.Paths.{path_text}
 use Rattle.hac_model.specs.declared.limits.LimitWord.{LimitWord}
 use Rattle.hac_model.specs.declared.limits.LimitWord.TheVariants as limit
 use Rattle.hac_model.specs.declared.replies.Refusal.{Refusal}

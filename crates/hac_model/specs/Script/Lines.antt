@@ -4,16 +4,16 @@ use Rattle.std.specs.List.{list_all}
 use Rattle.std.specs.Option.{ok_or, option_map, option_map_or}
 use Rattle.std.specs.Str.{bytes_eq}
 use Rattle.std.specs.Str.Parse.{digits_value}
-use Rattle.hac_model.specs.Answers.{◌>>=◌}
+use Rattle.hac_model.specs.Run.Answers.{◌>>=◌}
 use Rattle.hac_model.specs.Bytes.{is_space}
-use Rattle.hac_model.specs.Formula.{Formula}
-use Rattle.hac_model.specs.Limits.{is_text}
-use Rattle.hac_model.specs.LineWords.{first_word, after_space}
-use Rattle.hac_model.specs.PathWords.{is_bad, word_of}
-use Rattle.hac_model.specs.Paths.{are_names}
-use Rattle.hac_model.specs.Puts.{came, is_length}
-use Rattle.hac_model.specs.QueryReading.{is_spelled_query, read_query}
-use Rattle.hac_model.specs.Texts.{text_of}
+use Rattle.hac_model.specs.Query.Formula.{Formula}
+use Rattle.hac_model.specs.Tree.Limits.{is_text}
+use Rattle.hac_model.specs.Script.LineWords.{first_word, after_space}
+use Rattle.hac_model.specs.Script.PathWords.{is_bad, word_of}
+use Rattle.hac_model.specs.Tree.Paths.{are_names}
+use Rattle.hac_model.specs.Script.Puts.{came, is_length}
+use Rattle.hac_model.specs.Query.QueryReading.{is_spelled_query, read_query}
+use Rattle.hac_model.specs.Script.Texts.{text_of}
 use Rattle.hac_model.specs.declared.commands.Command.{Command}
 use Rattle.hac_model.specs.declared.commands.Command.TheVariants.{Mkdir, Rmdir, Write, Cat, Ls, Mv, Rm, Smkdir, Setq, Unq, Query, Sls, Sln, Srm, Sforget, Find, Index, Counts}
 use Rattle.hac_model.specs.declared.commands.Line.{Line}

@@ -2,16 +2,16 @@
 use Rattle.std.specs.Prelude.{ℕ, zero, suc, ◌+◌, ◌==◌, ◌&&◌, Bool, true, nat_lt, if◌then◌else◌, List, [], ◌∷◌, ◌++◌, length, codes, Option, None, Some, Result, Ok, Err, option_and_then}
 use Rattle.std.specs.Option.{option_map, ok_or}
 use Rattle.std.specs.Str.{bytes_eq}
-use Rattle.hac_model.specs.Answers.{◌>>=◌}
+use Rattle.hac_model.specs.Run.Answers.{◌>>=◌}
 use Rattle.hac_model.specs.Bytes.{is_slash, is_space, is_backslash}
-use Rattle.hac_model.specs.Formula.{Formula}
-use Rattle.hac_model.specs.Formula as formula
-use Rattle.hac_model.specs.Grammar.{Leaf, leaf_part, not_part, and_part, or_part, group_part, is_control}
-use Rattle.hac_model.specs.Grammar as leaf
-use Rattle.hac_model.specs.PathWords.{word_of}
-use Rattle.hac_model.specs.Paths.{are_names}
-use Rattle.hac_model.specs.Queries.{all_leaves, is_operator, is_query, term_count}
-use Rattle.hac_model.specs.Words.{is_word_byte, lower_case}
+use Rattle.hac_model.specs.Query.Formula.{Formula}
+use Rattle.hac_model.specs.Query.Formula as formula
+use Rattle.hac_model.specs.Query.Grammar.{Leaf, leaf_part, not_part, and_part, or_part, group_part, is_control}
+use Rattle.hac_model.specs.Query.Grammar as leaf
+use Rattle.hac_model.specs.Script.PathWords.{word_of}
+use Rattle.hac_model.specs.Tree.Paths.{are_names}
+use Rattle.hac_model.specs.Query.Queries.{all_leaves, is_operator, is_query, term_count}
+use Rattle.hac_model.specs.Query.Words.{is_word_byte, lower_case}
 use Rattle.hac_model.specs.declared.limits.LimitWord.TheVariants as limit
 use Rattle.hac_model.specs.declared.limits.TheConstants.{QUERY_LIMIT, TERMS_LIMIT, NESTING_LIMIT}
 use Rattle.hac_model.specs.declared.paths.PathWord.{PathWord}

@@ -1,12 +1,12 @@
 -- What the paths of a command lead to, from left to right, the directories of its query last.
 use Rattle.std.specs.Prelude.{ℕ, if◌then◌else◌, List, [], ◌∷◌, ◌++◌, Option, Result, Ok, Err}
 use Rattle.std.specs.Option.{option_map_or}
-use Rattle.hac_model.specs.Answers.{◌>>=◌}
-use Rattle.hac_model.specs.Formula.{Formula}
-use Rattle.hac_model.specs.Formula as query
-use Rattle.hac_model.specs.Looks.{look}
-use Rattle.hac_model.specs.Paths.{join}
-use Rattle.hac_model.specs.Sessions.{base_of, stands_in}
+use Rattle.hac_model.specs.Run.Answers.{◌>>=◌}
+use Rattle.hac_model.specs.Query.Formula.{Formula}
+use Rattle.hac_model.specs.Query.Formula as query
+use Rattle.hac_model.specs.Tree.Looks.{look}
+use Rattle.hac_model.specs.Tree.Paths.{join}
+use Rattle.hac_model.specs.Tree.Sessions.{base_of, stands_in}
 use Rattle.hac_model.specs.Tree.{is_directory_at, path_of}
 use Rattle.hac_model.specs.declared.commands.Command.{Command}
 use Rattle.hac_model.specs.declared.commands.Command.TheVariants as command

@@ -1,14 +1,14 @@
 -- Why a state refuses a command: the first cause of the one order.
 use Rattle.std.specs.Prelude.{ℕ, ◌==◌, ◌||◌, if◌then◌else◌, List, [], ◌∷◌, map, replicate, Option, None, Some, Result, Ok, Err}
 use Rattle.std.specs.Option.{option_map, option_map_or}
-use Rattle.hac_model.specs.Answers.{first_cause}
-use Rattle.hac_model.specs.Depends.{cycle_of_move, cycle_over, referrers}
-use Rattle.hac_model.specs.Events.{apply_all, dirty, is_bare, is_inside}
-use Rattle.hac_model.specs.Limits.{answer_limits, counts, first_passed, layout_limits}
-use Rattle.hac_model.specs.Links.{has, is_permanent, is_prohibited, is_semantic, links, parent_of}
-use Rattle.hac_model.specs.Listing.{is_before}
-use Rattle.hac_model.specs.Paths.{path_text}
-use Rattle.hac_model.specs.Resolving.{resolve}
+use Rattle.hac_model.specs.Run.Answers.{first_cause}
+use Rattle.hac_model.specs.Tree.Depends.{cycle_of_move, cycle_over, referrers}
+use Rattle.hac_model.specs.Tree.Events.{apply_all, dirty, is_bare, is_inside}
+use Rattle.hac_model.specs.Tree.Limits.{answer_limits, counts, first_passed, layout_limits}
+use Rattle.hac_model.specs.Tree.Links.{has, is_permanent, is_prohibited, is_semantic, links, parent_of}
+use Rattle.hac_model.specs.Tree.Listing.{is_before}
+use Rattle.hac_model.specs.Tree.Paths.{path_text}
+use Rattle.hac_model.specs.Run.Resolving.{resolve}
 use Rattle.hac_model.specs.Tree.{is_directory_at, path_of}
 use Rattle.hac_model.specs.declared.commands.Line.{Line}
 use Rattle.hac_model.specs.declared.events.Event.{Event}

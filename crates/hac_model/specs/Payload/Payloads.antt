@@ -2,13 +2,13 @@
 use Rattle.std.specs.Prelude.{ℕ, Bool, true, false, ◌-◌, ◌==◌, ◌&&◌, not, if◌then◌else◌, nat_lt, nat_le, List, [], ◌∷◌, length, Option, Result, Ok, Err}
 use Rattle.std.specs.Int.{w8, w16, w32}
 use Rattle.std.specs.Option.{option_map_or}
-use Rattle.hac_model.specs.Answers.{◌>>=◌}
-use Rattle.hac_model.specs.Fields.{Field, Part, Way, num, run, nothing, ◌&◌, checked, list, part, way, choice}
-use Rattle.hac_model.specs.Listing.{is_before}
-use Rattle.hac_model.specs.Names.{is_name}
-use Rattle.hac_model.specs.PathWords.{has_long_part, is_bad}
-use Rattle.hac_model.specs.QueryFields.{query_field}
-use Rattle.hac_model.specs.SpaceNames.{is_space_name}
+use Rattle.hac_model.specs.Run.Answers.{◌>>=◌}
+use Rattle.hac_model.specs.Payload.Fields.{Field, Part, Way, num, run, nothing, ◌&◌, checked, list, part, way, choice}
+use Rattle.hac_model.specs.Tree.Listing.{is_before}
+use Rattle.hac_model.specs.Tree.Names.{is_name}
+use Rattle.hac_model.specs.Script.PathWords.{has_long_part, is_bad}
+use Rattle.hac_model.specs.Payload.QueryFields.{query_field}
+use Rattle.hac_model.specs.Script.SpaceNames.{is_space_name}
 use Rattle.hac_model.specs.declared.limits.TheConstants.{NAME_LIMIT, TEXT_LIMIT}
 use Rattle.hac_model.specs.declared.events.Event.{Event}
 use Rattle.hac_model.specs.declared.events.Event.TheVariants.{Mkdir, NewFile, Rewrite, Ln, Mv, Rm, Rmdir, Smkdir, Setq, Unq, Mark, Smount, Ssync, Sumount, Step, Cd}

@@ -1,0 +1,5 @@
+-- A run: what commands lead to, why they are refused, and the turns of a script.
+pub mod Answers
+pub mod Resolving
+pub mod Refusals
+pub mod Play
