@@ -22,7 +22,6 @@ use Rattle.hac_model.specs.Payload.QueryFields.{are_nums, query_field}
 use Rattle.hac_model.specs.Tree.Sessions.{stored}
 use Rattle.hac_model.specs.Tree.{body_at, entry_at, is_directory, is_directory_at, is_file, is_file_at, is_made_directory, query_in}
 use Rattle.hac_model.specs.Tree.Valid.{IsValid}
-use Rattle.hac_model.specs.Query.Words.{is_word}
 use Rattle.hac_model.specs.declared.events.Event.{Event}
 use Rattle.hac_model.specs.declared.events.Event.TheVariants.{Mkdir, NewFile, Rewrite, Ln, Mv, Rm, Rmdir, Smkdir, Setq, Unq, Mark, Smount, Ssync, Sumount, Step, Cd}
 use Rattle.hac_model.specs.declared.limits.TheConstants.{NAME_LIMIT, NUMBERS_LIMIT, TEXT_LIMIT}

@@ -1,5 +1,5 @@
 -- Lines spell commands with words that the commands may have.
-use Rattle.std.proofs.Common.{◌≡◌, ℕ, ◌≤◌, Bool, true, false, List, length, refl, ap, sym, ◌∙◌, arith}
+use Rattle.std.proofs.Common.{◌≡◌, ℕ, Bool, true, false, List, length, refl, ap, sym, ◌∙◌}
 use Rattle.std.specs.Prelude.{◌&&◌, ◌||◌, if◌then◌else◌, nat_le, codes, Option, Some, None, Result, Ok, Err, IsTrue, ⊤}
 use Rattle.std.specs.List.{list_all}
 use Rattle.std.specs.Option.{ok_or}
