@@ -1,4 +1,4 @@
-//! Trials of what no session can say: devices that fail, scripts that come in pieces, and calls that the program
+//! Trials of what no transcript can say: devices that fail, scripts that come in pieces, and calls that the program
 //! doesn't make yet, once each with ample memory. There is nothing here for other crates.
 #![tactic(auto)]
 
