@@ -78,7 +78,7 @@ impl Disk for FileDisk<'_> {
     }
 
     fn read_at(&mut self, at: u64, into: &mut [u8]) -> Result<(), Failed> {
-        let outcome = read_range(&mut self.file, at, into);
+        let outcome = read_range(&self.file, at, into);
         self.answer(outcome)
     }
 
@@ -88,13 +88,21 @@ impl Disk for FileDisk<'_> {
     }
 
     fn sync(&mut self) -> Result<(), Failed> {
-        let outcome = sync_file(&mut self.file);
+        let outcome = sync_file(&self.file);
         self.answer(outcome)
     }
 }
 
 // The file, or an error where none is attached.
-fn attached(file: &mut Option<LockedFile>) -> io::Result<&mut LockedFile> {
+fn attached(file: &Option<LockedFile>) -> io::Result<&LockedFile> {
+    match file {
+        Some(file) => Ok(file),
+        None => Err(io::Error::from(ErrorKind::NotFound)),
+    }
+}
+
+// The same of a file that is to be changed.
+fn attached_mut(file: &mut Option<LockedFile>) -> io::Result<&mut LockedFile> {
     match file {
         Some(file) => Ok(file),
         None => Err(io::Error::from(ErrorKind::NotFound)),
@@ -102,17 +110,17 @@ fn attached(file: &mut Option<LockedFile>) -> io::Result<&mut LockedFile> {
 }
 
 fn file_len(file: &mut Option<LockedFile>) -> io::Result<u64> {
-    attached(file)?.len()
+    attached_mut(file)?.len()
 }
 
-fn read_range(file: &mut Option<LockedFile>, at: u64, into: &mut [u8]) -> io::Result<()> {
+fn read_range(file: &Option<LockedFile>, at: u64, into: &mut [u8]) -> io::Result<()> {
     attached(file)?.read_at(at, into)
 }
 
 fn write_range(file: &mut Option<LockedFile>, at: u64, bytes: &[u8]) -> io::Result<()> {
-    attached(file)?.write_at(at, bytes)
+    attached_mut(file)?.write_at(at, bytes)
 }
 
-fn sync_file(file: &mut Option<LockedFile>) -> io::Result<()> {
+fn sync_file(file: &Option<LockedFile>) -> io::Result<()> {
     attached(file)?.sync()
 }

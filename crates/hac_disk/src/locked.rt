@@ -1,4 +1,6 @@
 //! A file that one run has for itself: it is locked while it is open, so its length is known without asking.
+ghost use Rattle.std.specs.Prelude.{◌≡◌, ◌+◌, IfOk, IfSome, None, Ok, OnOk, Some, length, max};
+
 use std::fs::{File, OpenFile, OpenOptions};
 use std::io::{self, ErrorKind};
 use std::os::fd::AsRawFd;
@@ -21,7 +23,9 @@ pub struct LockedFile {
 impl LockedFile {
     /// Opens a file to read and write. One that may be made is made durable in its folder too, so that a crash
     /// doesn't take its name away.
-    pub fn open(rt: &HostRuntime, name: &str, make: bool) -> io::Result<LockedFile> {
+    pub fn open(rt: &HostRuntime, name: &str, make: bool) -> io::Result<LockedFile>
+        ensures unasked { IfOk result (λ file. file.len ≡ None) }
+    {
         let mut how = OpenOptions::new();
         how.read(true).write(true).create(make);
         let file = how.open(rt, name)?;
@@ -34,7 +38,10 @@ impl LockedFile {
     }
 
     /// The length in bytes. The system is asked only if it isn't known.
-    pub fn len(&mut self) -> io::Result<u64> {
+    pub fn len(&mut self) -> io::Result<u64>
+        ensures known { IfSome self.old.len (λ len. result ≡ Ok len) }
+        ensures kept { IfOk result (λ len. self.new.len ≡ Some len) }
+    {
         if let Some(len) = self.len {
             return Ok(len);
         }
@@ -44,26 +51,39 @@ impl LockedFile {
     }
 
     /// Reads as many bytes as `into` has. A range that passes the end is an error.
-    pub fn read_at(&mut self, at: u64, into: &mut [u8]) -> io::Result<()> {
+    pub fn read_at(&self, at: u64, into: &mut [u8]) -> io::Result<()> {
         self.file.read_exact_at(into, at)
     }
 
     /// Writes bytes. A place behind the end is an error, as the system would write there and leave a hole.
-    pub fn write_at(&mut self, at: u64, bytes: &[u8]) -> io::Result<()> {
+    pub fn write_at(&mut self, at: u64, bytes: &[u8]) -> io::Result<()>
+        ensures grown { OnOk result (IfSome self.old.len (λ len.
+            self.new.len ≡ Some (max len (at + length bytes.now)))) }
+    {
         let len = self.len()?;
-        if at > len {
+        let Some(end) = end_within(len, at, bytes) else {
             return Err(io::Error::from(ErrorKind::InvalidInput));
-        }
+        };
         self.len = None;
         self.file.write_all_at(bytes, at)?;
-        self.len = Some(len.max(at.saturating_add(bytes.len() as u64)));
+        self.len = Some(len.max(end));
         Ok(())
     }
 
     /// Has the system write what it holds of the file to the disk.
-    pub fn sync(&mut self) -> io::Result<()> {
+    pub fn sync(&self) -> io::Result<()> {
         self.file.sync_all()
     }
+}
+
+// Where bytes end that are written at a place. There is no such end where the place lies behind the file's.
+fn end_within(len: u64, at: u64, bytes: &[u8]) -> Option<u64>
+    ensures { IfSome result (λ end. end ≡ at + length bytes.now) }
+{
+    if at > len {
+        return None;
+    }
+    at.checked_add(bytes.len() as u64)
 }
 
 // A file with the number of a standard stream would take what is written to that stream.
