@@ -1,0 +1,4 @@
+pub mod AddLemmas
+pub mod LineLemmas
+pub mod SplitLemmas
+pub mod TurnLemmas
