@@ -48,9 +48,13 @@ split_once p bytes =
 abbrev pub document_of : List ℕ → Option Document
 document_of line = option_and_then document_named (split_once is_tab line)
 
+-- the names of the documents
+abbrev pub names : List Document → List (List ℕ)
+names documents = map (λ document. document.0) documents
+
 -- one of the documents has the name
 abbrev pub has_name : List Document → List ℕ → Bool
-has_name documents name = list_any (bytes_eq name) (map (λ document. document.0) documents)
+has_name documents name = list_any (bytes_eq name) (names documents)
 
 -- the documents and one more, in the order of their names; none where one of them has its name already
 abbrev pub with_document : List Document → Document → Option (List Document)

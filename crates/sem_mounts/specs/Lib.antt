@@ -1,3 +1,4 @@
+pub mod Answering
 pub mod Catalogue
 pub mod Laws
 pub mod Reading

@@ -1,9 +1,13 @@
 //! Docs by their names, each with the words of its text.
 ghost use Rattle.std.specs.Prelude.{◌≡◌, [], IfOk};
-ghost use Rattle.sem_mounts.specs.Catalogue.{with_document};
+ghost use Rattle.std.specs.List.{list_any};
+ghost use Rattle.std.specs.Option.{option_map};
+ghost use Rattle.hac_model.specs.Query.Words.{has_term, is_asked};
+ghost use Rattle.sem_mounts.specs.Answering.{names_with, text_at};
+ghost use Rattle.sem_mounts.specs.Catalogue.{names, with_document};
 ghost use Rattle.sem_mounts.specs.Reading.{Adds};
 
-use hac_model::{Memory, Name, Words};
+use hac_model::{Memory, Name, Term, Words};
 use hac_words::words_of;
 use std::alloc::Global;
 use std::collections::BTreeMap;
@@ -44,6 +48,29 @@ impl IndexedText {
     {
         &self.text
     }
+
+    /// Whether the text has the term.
+    pub fn has_term(&self, term: &Term) -> bool
+        ensures { result ≡ has_term self.now term.now }
+    {
+        has_word(self.words.as_slice(), term)
+    }
+}
+
+// Whether one of the words is what the term asks for.
+fn has_word(words: &[Name], term: &Term) -> bool
+    ensures { result ≡ list_any (is_asked term.now) words.now }
+{
+    words.iter().any(|word| is_asked(word, term))
+}
+
+fn is_asked(word: &Name, term: &Term) -> bool
+    ensures { result ≡ is_asked term.now word.now }
+{
+    match term {
+        Term::Word(letters) => letters == word,
+        Term::Prefix(letters) => word.as_bytes().starts_with(letters.as_bytes()),
+    }
 }
 
 /// The documents of a space, no two of one name.
@@ -68,6 +95,40 @@ impl Docs {
     {
         Docs {
             texts: BTreeMap::new(alloc),
+        }
+    }
+
+    /// The names of the documents, rising.
+    pub fn names(&self, alloc: Global) -> Result<Vec<Name>, Memory>
+        ensures { IfOk result (λ found. found.items ≡ names self.now) }
+    {
+        let mut found = Vec::with_capacity(alloc, self.texts.len())?;
+        for name in self.texts.keys() {
+            found.push(name.clone()?)?;
+        }
+        Ok(found)
+    }
+
+    /// The names of the documents whose text has the term, rising. It looks into no text.
+    pub fn names_with(&self, alloc: Global, term: &Term) -> Result<Vec<Name>, Memory>
+        ensures { IfOk result (λ found. found.items ≡ names_with self.now term.now) }
+    {
+        let mut found = Vec::new(alloc);
+        for (name, text) in self.texts.iter() {
+            if text.has_term(term) {
+                found.push(name.clone()?)?;
+            }
+        }
+        Ok(found)
+    }
+
+    /// A copy of the text of the document of that name, if there is one.
+    pub fn text(&self, alloc: Global, name: &Name) -> Result<Option<Vec<u8>>, Memory>
+        ensures { IfOk result (λ text. option_map (λ text. text.items) text ≡ text_at self.now name.now) }
+    {
+        match self.texts.get(name) {
+            Some(text) => Ok(Some(Vec::from_slice(alloc, text.as_bytes())?)),
+            None => Ok(None),
         }
     }
 
