@@ -2,3 +2,4 @@ pub mod AddLemmas
 pub mod LineLemmas
 pub mod SplitLemmas
 pub mod TurnLemmas
+pub mod SpaceLemmas

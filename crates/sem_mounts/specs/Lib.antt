@@ -2,3 +2,5 @@ pub mod Answering
 pub mod Catalogue
 pub mod Laws
 pub mod Reading
+pub mod Seen
+pub mod Memory

@@ -1,9 +1,10 @@
 //! Docs by their names, each with the words of its text.
-ghost use Rattle.std.specs.Prelude.{◌≡◌, [], IfOk};
+ghost use Rattle.std.specs.Prelude.{◌≡◌, [], IfOk, IsTrue};
 ghost use Rattle.std.specs.List.{list_any};
 ghost use Rattle.std.specs.Option.{option_map};
 ghost use Rattle.hac_model.specs.Query.Words.{has_term, is_asked};
-ghost use Rattle.sem_mounts.specs.Answering.{names_with, text_at};
+ghost use Rattle.hac_model.specs.Tree.Names.{is_name};
+ghost use Rattle.sem_mounts.specs.Answering.{AreRisingNames, names_with, text_at};
 ghost use Rattle.sem_mounts.specs.Catalogue.{names, with_document};
 ghost use Rattle.sem_mounts.specs.Reading.{Adds};
 
@@ -76,16 +77,21 @@ fn is_asked(word: &Name, term: &Term) -> bool
 /// The documents of a space, no two of one name.
 #[derive(Drop)]
 pub struct Docs {
+    alloc: Global,
     texts: BTreeMap<Name, IndexedText>,
 }
 
 impl Model for Docs {
-    ghost use Rattle.std.specs.Prelude.{List};
+    ghost use Rattle.std.specs.Prelude.{All, IsTrue, List};
+    ghost use Rattle.std.specs.Map.{keys_of};
+    ghost use Rattle.hac_model.specs.Tree.Names.{is_name};
     ghost use Rattle.sem_mounts.specs.Catalogue.{Document};
 
     ghost Value = { List Document };
 
     ghost view = { λ documents. documents.texts.entries };
+
+    ghost invariant = { λ documents. All (λ name. IsTrue (is_name name)) (keys_of documents.texts.entries) };
 }
 
 impl Docs {
@@ -94,15 +100,17 @@ impl Docs {
         ensures { result ≡ [] }
     {
         Docs {
+            alloc,
             texts: BTreeMap::new(alloc),
         }
     }
 
     /// The names of the documents, rising.
-    pub fn names(&self, alloc: Global) -> Result<Vec<Name>, Memory>
-        ensures { IfOk result (λ found. found.items ≡ names self.now) }
+    pub fn names(&self) -> Result<Vec<Name>, Memory>
+        ensures names { IfOk result (λ found. found.items ≡ names self.now) }
+        ensures rising { IfOk result (λ found. AreRisingNames found.items) }
     {
-        let mut found = Vec::with_capacity(alloc, self.texts.len())?;
+        let mut found = Vec::with_capacity(self.alloc, self.texts.len())?;
         for name in self.texts.keys() {
             found.push(name.clone()?)?;
         }
@@ -110,10 +118,10 @@ impl Docs {
     }
 
     /// The names of the documents whose text has the term, rising. It looks into no text.
-    pub fn names_with(&self, alloc: Global, term: &Term) -> Result<Vec<Name>, Memory>
+    pub fn names_with(&self, term: &Term) -> Result<Vec<Name>, Memory>
         ensures { IfOk result (λ found. found.items ≡ names_with self.now term.now) }
     {
-        let mut found = Vec::new(alloc);
+        let mut found = Vec::new(self.alloc);
         for (name, text) in self.texts.iter() {
             if text.has_term(term) {
                 found.push(name.clone()?)?;
@@ -123,17 +131,18 @@ impl Docs {
     }
 
     /// A copy of the text of the document of that name, if there is one.
-    pub fn text(&self, alloc: Global, name: &Name) -> Result<Option<Vec<u8>>, Memory>
+    pub fn text(&self, name: &Name) -> Result<Option<Vec<u8>>, Memory>
         ensures { IfOk result (λ text. option_map (λ text. text.items) text ≡ text_at self.now name.now) }
     {
         match self.texts.get(name) {
-            Some(text) => Ok(Some(Vec::from_slice(alloc, text.as_bytes())?)),
+            Some(text) => Ok(Some(Vec::from_slice(self.alloc, text.as_bytes())?)),
             None => Ok(None),
         }
     }
 
     /// Adds a document. Where there is one of its name it doesn't, and says so.
     pub(crate) fn add(&mut self, name: Name, text: IndexedText) -> Result<bool, Memory>
+        requires { IsTrue (is_name name) }
         ensures { IfOk result (Adds (with_document self.old (name, text)) self.new) }
     {
         Ok(self.texts.insert(name, text)?.is_none())
