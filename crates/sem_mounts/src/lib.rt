@@ -4,7 +4,9 @@
 
 mod catalogues;
 mod documents;
+mod entries;
 mod faults;
+mod files;
 pub mod laws;
 mod limits;
 mod memory;
@@ -14,6 +16,7 @@ mod splitting;
 pub use catalogues::{CatalogueFault, read_catalogue};
 pub use documents::{Docs, IndexedText};
 pub use faults::{AttachFault, SpaceFault};
+pub use files::CatalogueSpaces;
 pub use limits::CATALOGUE_LIMIT;
 pub use memory::MemorySpaces;
 pub use spaces::Spaces;

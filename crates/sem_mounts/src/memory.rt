@@ -1,14 +1,15 @@
 //! Spaces in memory, which fail at chosen calls.
-ghost use Rattle.std.specs.Prelude.{◌≡◌, ◌++◌, ◌∷◌, [], IfOk, OnErr, OnOk, false, if◌then◌else◌, is_ok, map, not, Some};
+ghost use Rattle.std.specs.Prelude.{◌≡◌, [], IfOk, if◌then◌else◌, map, not, Some};
 ghost use Rattle.std.specs.List.{list_any};
 ghost use Rattle.std.specs.Map.{lookup};
-ghost use Rattle.std.specs.Option.{option_copied, option_map};
+ghost use Rattle.std.specs.Option.{option_copied};
 ghost use Rattle.std.specs.Str.{bytes_eq};
 ghost use Rattle.hac_outside.specs.Calls.{next_number};
 ghost use Rattle.sem_mounts.specs.Seen.{is_absent, is_failed};
 
 use crate::catalogues::read_catalogue;
 use crate::documents::Docs;
+use crate::entries::{copy_of, find, push};
 use crate::faults::{AttachFault, SpaceFault};
 use crate::spaces::Spaces;
 use hac_model::{Memory, Name, Term, Text};
@@ -138,37 +139,10 @@ fn asked<'a>(
     }
 }
 
-// What stands beside the first entry of this name.
-fn find<'a, T>(entries: &'a [(Name, T)], name: &[u8]) -> Option<&'a T>
-    ensures { option_copied result ≡ lookup (bytes_eq name.now) entries.now }
-{
-    for (key, value) in entries {
-        if name == key.as_bytes() {
-            return Some(value);
-        }
-    }
-    None
-}
-
 // A call of `attach`, as it is kept.
 fn call_of(alloc: Global, name: &Name, file: &str) -> Result<(Name, Name), Memory>
     ensures { IfOk result (λ call. call ≡ (name.now, file.now)) }
 {
     let file = Name::new(Vec::from_slice(alloc, file.as_bytes())?);
     Ok((copy_of(name)?, file))
-}
-
-fn copy_of(name: &Name) -> Result<Name, Memory>
-    ensures { IfOk result (λ copy. copy ≡ name.now) }
-{
-    Ok(name.clone()?)
-}
-
-// Puts a value behind the others. Where there is no memory, they are as before.
-fn push<T: Drop>(list: &mut Vec<T>, value: T) -> Result<(), Memory>
-    ensures ok { OnOk result (list.new.items ≡ list.old.items ++ value ∷ []) }
-    ensures err { OnErr result (list.new.items ≡ list.old.items) }
-{
-    list.push(value)?;
-    Ok(())
 }

@@ -1,7 +1,7 @@
 use Rattle.std.proofs.Common.{◌≡◌, drop}
 use Rattle.std.specs.Map.{lookup}
 use Rattle.std.specs.Str.{bytes_eq}
-use Rattle.sem_mounts.proofs.memory.find.Given as goal
+use Rattle.sem_mounts.proofs.entries.find.Given as goal
 
 -- the entries that are left have what all entries have
 abbrev pub invariant-loop-key : goal.invariant-loop-key
