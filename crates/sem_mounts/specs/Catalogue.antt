@@ -32,7 +32,8 @@ content line = before_first is_line_end line
 
 -- the text that the bytes spell, where a file may have it
 abbrev pub spelled_text : List ℕ → Option (List ℕ)
-spelled_text bytes = option_and_then (λ text. if is_text text then Some text else None) (text_of bytes)
+spelled_text bytes =
+    option_and_then (λ text. if is_text text then Some text else None) (text_of bytes)
 
 -- the document of a name and of the bytes that spell its text
 abbrev pub document_named : List ℕ × List ℕ → Option Document
@@ -42,7 +43,8 @@ document_named parts =
 -- the parts of the bytes before and behind the first that passes, where one does
 abbrev pub split_once : (ℕ → Bool) → List ℕ → Option (List ℕ × List ℕ)
 split_once p bytes =
-    if nat_lt (position_or_len p bytes) (length bytes) then Some (before_first p bytes, after_first p bytes) else None
+    if nat_lt (position_or_len p bytes) (length bytes)
+    then Some (before_first p bytes, after_first p bytes) else None
 
 -- the document that a line spells: its name ends at the first tab, and any other tab is the text's
 abbrev pub document_of : List ℕ → Option Document
@@ -74,7 +76,8 @@ unfoldable pub with_lines : ℕ → ℕ → List (List ℕ) → List Document �
 with_lines n room [] documents = Ok documents
 with_lines n room (line ∷ lines) documents =
     if nat_lt room (length line) then Err n
-    else (ok_or (with_line documents (content line)) n >>= with_lines (n + 1) (room - length line) lines)
+    else (ok_or (with_line documents (content line)) n
+    >>= with_lines (n + 1) (room - length line) lines)
 
 -- the documents of a catalogue in the order of their names, or the number of its first bad line
 unfoldable pub catalogue : List ℕ → Result (List Document) ℕ

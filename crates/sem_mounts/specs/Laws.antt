@@ -7,7 +7,8 @@ use Rattle.sem_mounts.specs.Catalogue.{catalogue}
 abbrev pub FirstCatalogues : Type 0
 FirstCatalogues =
     (catalogue [] ≡ Ok [])
-    × (catalogue (codes "b\tred pear\n  \na\tplum\\npie\n") ≡ Ok ((codes "a", codes "plum\npie") ∷ (codes "b", codes "red pear") ∷ []))
+    × (catalogue (codes "b\tred pear\n  \na\tplum\\npie\n")
+    ≡ Ok ((codes "a", codes "plum\npie") ∷ (codes "b", codes "red pear") ∷ []))
     × (catalogue (codes "a\tx\ty") ≡ Ok ((codes "a", codes "x\ty") ∷ []))
     × (catalogue (codes "a\t") ≡ Ok ((codes "a", []) ∷ []))
 
@@ -15,5 +16,6 @@ FirstCatalogues =
 abbrev pub BadLines : Type 0
 BadLines =
     (catalogue (codes "a\tx\n\na\ty\nb") ≡ Err 3) × (catalogue (codes "a\tx\nb\t\\q\n") ≡ Err 2)
-    × (catalogue (codes "a/b\tx\n") ≡ Err 1) × (catalogue (codes "\tx\n") ≡ Err 1) × (catalogue (codes "a\tx\n\nb\n") ≡ Err 3)
+    × (catalogue (codes "a/b\tx\n") ≡ Err 1) × (catalogue (codes "\tx\n") ≡ Err 1)
+    × (catalogue (codes "a\tx\n\nb\n") ≡ Err 3)
     × (catalogue (codes "# a\n") ≡ Err 1)

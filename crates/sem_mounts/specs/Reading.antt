@@ -23,7 +23,8 @@ Adds wanted documents added = wanted ≡ (if added then Some documents else None
 
 -- the documents with that of a name and of the bytes that spell its text
 abbrev pub with_spelled : List Document → List ℕ → List ℕ → Option (List Document)
-with_spelled documents name bytes = option_and_then (with_document documents) (document_named (name, bytes))
+with_spelled documents name bytes =
+    option_and_then (with_document documents) (document_named (name, bytes))
 
 -- why a space whose file is no catalogue isn't attached
 abbrev pub attach_fault : CatalogueFault → AttachFault

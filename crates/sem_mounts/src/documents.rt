@@ -91,7 +91,8 @@ impl Model for Docs {
 
     ghost view = { λ documents. documents.texts.entries };
 
-    ghost invariant = { λ documents. All (λ name. IsTrue (is_name name)) (keys_of documents.texts.entries) };
+    ghost invariant = { λ documents.
+        All (λ name. IsTrue (is_name name)) (keys_of documents.texts.entries) };
 }
 
 impl Docs {
@@ -132,7 +133,8 @@ impl Docs {
 
     /// A copy of the text of the document of that name, if there is one.
     pub fn text(&self, name: &Name) -> Result<Option<Vec<u8>>, Memory>
-        ensures { IfOk result (λ text. option_map (λ text. text.items) text ≡ text_at self.now name.now) }
+        ensures { IfOk result (λ text.
+            option_map (λ text. text.items) text ≡ text_at self.now name.now) }
     {
         match self.texts.get(name) {
             Some(text) => Ok(Some(Vec::from_slice(self.alloc, text.as_bytes())?)),

@@ -1,8 +1,6 @@
 //! Spaces over real files. They tell no contents: no contract can say what a real file holds.
 ghost use Rattle.std.specs.Prelude.{◌≡◌, [], IfOk, false, map, not};
-ghost use Rattle.std.specs.List.{list_any};
-ghost use Rattle.std.specs.Str.{bytes_eq};
-ghost use Rattle.sem_mounts.specs.Seen.{is_absent, is_failed};
+ghost use Rattle.sem_mounts.specs.Seen.{has_entry, is_absent, is_failed};
 
 use crate::catalogues::read_catalogue;
 use crate::documents::Docs;
@@ -81,7 +79,7 @@ fn read_file(rt: &HostRuntime, name: &str) -> io::Result<Vec<u8>> {
 
 // The documents of a space.
 fn attached<'a>(spaces: &'a [(Name, Docs)], name: &Name) -> Result<&'a Docs, SpaceFault>
-    ensures absent { is_absent result ≡ not (list_any (bytes_eq name.now) (map (λ space. space.0) spaces.now)) }
+    ensures absent { is_absent result ≡ not (has_entry spaces.now name.now) }
     ensures failed { is_failed result ≡ false }
 {
     match find(spaces, name.as_bytes()) {

@@ -1,11 +1,10 @@
 //! Spaces in memory, which fail at chosen calls.
-ghost use Rattle.std.specs.Prelude.{◌≡◌, [], IfOk, if◌then◌else◌, map, not, Some};
-ghost use Rattle.std.specs.List.{list_any};
+ghost use Rattle.std.specs.Prelude.{◌≡◌, [], IfOk, if◌then◌else◌, not, Some};
 ghost use Rattle.std.specs.Map.{lookup};
 ghost use Rattle.std.specs.Option.{option_copied};
 ghost use Rattle.std.specs.Str.{bytes_eq};
 ghost use Rattle.hac_outside.specs.Calls.{next_number};
-ghost use Rattle.sem_mounts.specs.Seen.{is_absent, is_failed};
+ghost use Rattle.sem_mounts.specs.Seen.{has_entry, is_absent, is_failed};
 
 use crate::catalogues::read_catalogue;
 use crate::documents::Docs;
@@ -121,9 +120,11 @@ fn asked<'a>(
     spaces: &'a [(Name, Docs)],
     name: &Name,
 ) -> Result<&'a Docs, SpaceFault>
-    ensures documents { IfOk result (λ documents. lookup (bytes_eq name.now) spaces.now ≡ Some documents.now) }
-    ensures absent { is_absent result ≡ not (list_any (bytes_eq name.now) (map (λ space. space.0) spaces.now)) }
-    ensures faults { calls.new.faults ≡ (if is_failed result then next_number calls.old.faults else calls.old.faults) }
+    ensures documents { IfOk result (λ documents.
+        lookup (bytes_eq name.now) spaces.now ≡ Some documents.now) }
+    ensures absent { is_absent result ≡ not (has_entry spaces.now name.now) }
+    ensures faults { calls.new.faults
+        ≡ (if is_failed result then next_number calls.old.faults else calls.old.faults) }
     ensures made { calls.new.made ≡ next_number calls.old.made }
     ensures failing { calls.new.failing.items ≡ calls.old.failing.items }
 {

@@ -19,9 +19,12 @@ pub trait Spaces {
     fn attach(&mut self, name: &Name, file: &str) -> Result<(), AttachFault>
         requires { is_attached (seen self.old) name.now ≡ false }
         ensures attached { (seen self.new).attached
-            ≡ (if is_ok result then (seen self.old).attached ++ name.now ∷ [] else (seen self.old).attached) }
-        ensures contents { Known (Attaches name.now file.now result) (seen self.old).contents (seen self.new).contents }
-        ensures cause { TellsFault (is_attach_failed result) (seen self.old).faults (seen self.new).faults };
+            ≡ (if is_ok result then (seen self.old).attached ++ name.now ∷ []
+            else (seen self.old).attached) }
+        ensures contents { Known (Attaches name.now file.now result)
+            (seen self.old).contents (seen self.new).contents }
+        ensures cause { TellsFault (is_attach_failed result)
+            (seen self.old).faults (seen self.new).faults };
 
     /// The names of the documents of a space, rising.
     fn list(&mut self, name: &Name) -> Result<Vec<Name>, SpaceFault>
