@@ -1,0 +1,5 @@
+pub mod AddLemmas
+pub mod LineLemmas
+pub mod SplitLemmas
+pub mod TurnLemmas
+pub mod SpaceLemmas

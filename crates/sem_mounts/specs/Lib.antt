@@ -1,0 +1,6 @@
+pub mod Answering
+pub mod Catalogue
+pub mod Laws
+pub mod Reading
+pub mod Seen
+pub mod Memory

@@ -1,0 +1,22 @@
+//! Spaces of documents, and the catalogues that they are read from. It knows no tree, and nothing of what a mount makes
+//! of the documents.
+#![tactic(auto)]
+
+mod catalogues;
+mod documents;
+mod entries;
+mod faults;
+mod files;
+pub mod laws;
+mod limits;
+mod memory;
+mod spaces;
+mod splitting;
+
+pub use catalogues::{CatalogueFault, read_catalogue};
+pub use documents::{Docs, IndexedText};
+pub use faults::{AttachFault, SpaceFault};
+pub use files::CatalogueSpaces;
+pub use limits::CATALOGUE_LIMIT;
+pub use memory::MemorySpaces;
+pub use spaces::Spaces;

@@ -1,0 +1,149 @@
+//! Spaces in memory, which fail at chosen calls.
+ghost use Rattle.std.specs.Prelude.{◌≡◌, [], IfOk, if◌then◌else◌, not, Some};
+ghost use Rattle.std.specs.Map.{lookup};
+ghost use Rattle.std.specs.Option.{option_copied};
+ghost use Rattle.std.specs.Str.{bytes_eq};
+ghost use Rattle.hac_outside.specs.Calls.{next_number};
+ghost use Rattle.sem_mounts.specs.Seen.{has_entry, is_absent, is_failed};
+
+use crate::catalogues::read_catalogue;
+use crate::documents::Docs;
+use crate::entries::{copy_of, find, push};
+use crate::faults::{AttachFault, SpaceFault};
+use crate::spaces::Spaces;
+use hac_model::{Memory, Name, Term, Text};
+use hac_outside::Calls;
+use std::alloc::Global;
+use std::marker::Model;
+
+/// Spaces over files in memory. A call that is to fail is a fault, and so is `attach` of a file that is missing.
+#[derive(Drop)]
+pub struct MemorySpaces {
+    alloc: Global,
+    files: Vec<(Name, Text)>,
+    spaces: Vec<(Name, Docs)>,
+    attaches: Vec<(Name, Name)>,
+    calls: Calls,
+}
+
+impl Model for MemorySpaces {
+    ghost use Rattle.std.specs.Prelude.{◌<◌, ◌^◌};
+    ghost use Rattle.sem_mounts.specs.Memory.{MemoryState};
+
+    ghost Value = { MemoryState };
+
+    ghost view = { λ spaces. record {
+      contents = record {
+        files = spaces.files.items;
+        spaces = spaces.spaces.items;
+        calls = spaces.attaches.items;
+      };
+      failing = spaces.calls.failing.items;
+      made = spaces.calls.made;
+      faults = spaces.calls.faults;
+    } };
+
+    ghost invariant = { λ spaces. spaces.calls.faults < 2 ^ 64 };
+}
+
+impl MemorySpaces {
+    /// Spaces over files, each with its name and its bytes. None is attached. A call whose number, from 1, is in
+    /// `failing` is a fault.
+    pub fn new(
+        alloc: Global,
+        files: &[(Name, Text)],
+        failing: &[u64],
+    ) -> Result<MemorySpaces, Memory>
+        ensures files { IfOk result (λ spaces. spaces.contents.files ≡ files.now) }
+        ensures spaces { IfOk result (λ spaces. spaces.contents.spaces ≡ []) }
+        ensures calls { IfOk result (λ spaces. spaces.contents.calls ≡ []) }
+        ensures failing { IfOk result (λ spaces. spaces.failing ≡ failing.now) }
+        ensures made { IfOk result (λ spaces. spaces.made ≡ 0) }
+        ensures faults { IfOk result (λ spaces. spaces.faults ≡ 0) }
+    {
+        Ok(MemorySpaces {
+            alloc,
+            files: copies(alloc, files)?,
+            spaces: Vec::new(alloc),
+            attaches: Vec::new(alloc),
+            calls: Calls::new(alloc, failing)?,
+        })
+    }
+}
+
+impl Spaces for MemorySpaces {
+    ghost use Rattle.sem_mounts.specs.Memory.{seen_of};
+
+    ghost seen = { seen_of };
+
+    fn attach(&mut self, name: &Name, file: &str) -> Result<(), AttachFault> {
+        push(&mut self.attaches, call_of(self.alloc, name, file)?)?;
+        self.calls.begin()?;
+        let Some(bytes) = find(&self.files, file.as_bytes()) else {
+            return Err(self.calls.fail().into());
+        };
+        let documents = read_catalogue(self.alloc, bytes.as_slice())?;
+        push(&mut self.spaces, (copy_of(name)?, documents))?;
+        Ok(())
+    }
+
+    #[tactic(auto, using(crate::proofs::SpaceLemmas::told_fault))]
+    fn list(&mut self, name: &Name) -> Result<Vec<Name>, SpaceFault> {
+        Ok(asked(&mut self.calls, &self.spaces, name)?.names()?)
+    }
+
+    #[tactic(auto, using(crate::proofs::SpaceLemmas::told_fault))]
+    fn search(&mut self, name: &Name, term: &Term) -> Result<Vec<Name>, SpaceFault> {
+        Ok(asked(&mut self.calls, &self.spaces, name)?.names_with(term)?)
+    }
+
+    #[tactic(auto, using(crate::proofs::SpaceLemmas::told_fault))]
+    fn fetch(&mut self, name: &Name, document: &Name) -> Result<Option<Vec<u8>>, SpaceFault> {
+        Ok(asked(&mut self.calls, &self.spaces, name)?.text(document)?)
+    }
+}
+
+fn copies(alloc: Global, files: &[(Name, Text)]) -> Result<Vec<(Name, Text)>, Memory>
+    ensures { IfOk result (λ copies. copies.items ≡ files.now) }
+{
+    let mut copies = Vec::with_capacity(alloc, files.len())?;
+    for (name, bytes) in files {
+        let bytes = Vec::from_slice(alloc, bytes.as_slice())?;
+        copies.push((copy_of(name)?, Text::new(bytes)))?;
+    }
+    Ok(copies)
+}
+
+// The documents that a question is for. A question to no space has a number too, but never fails.
+fn asked<'a>(
+    calls: &mut Calls,
+    spaces: &'a [(Name, Docs)],
+    name: &Name,
+) -> Result<&'a Docs, SpaceFault>
+    ensures documents { IfOk result (λ documents.
+        lookup (bytes_eq name.now) spaces.now ≡ Some documents.now) }
+    ensures absent { is_absent result ≡ not (has_entry spaces.now name.now) }
+    ensures faults { calls.new.faults
+        ≡ (if is_failed result then next_number calls.old.faults else calls.old.faults) }
+    ensures made { calls.new.made ≡ next_number calls.old.made }
+    ensures failing { calls.new.failing.items ≡ calls.old.failing.items }
+{
+    match find(spaces, name.as_bytes()) {
+        Some(documents) => match calls.begin() {
+            Ok(()) => Ok(documents),
+            Err(_) => Err(SpaceFault::Failed),
+        },
+        None => {
+            calls.made = calls.made.saturating_add(1);
+            Err(SpaceFault::Absent)
+        }
+    }
+}
+
+// A call of `attach`, as it is kept.
+fn call_of(alloc: Global, name: &Name, file: &str) -> Result<(Name, Name), Memory>
+    ensures { IfOk result (λ call. call ≡ (name.now, file.now)) }
+{
+    let file = Name::new(Vec::from_slice(alloc, file.as_bytes())?);
+    Ok((copy_of(name)?, file))
+}
