@@ -24,12 +24,16 @@ impl Graph {
         Ok(None)
     }
 
-    /// Whether a directory reaches another, which none of those seen before does. Those on the way are seen then.
+    /// Whether a directory reaches another, which none of those seen before does. Those on the way
+    /// are seen then.
     fn reaches(&self, from: Number, dir: Number, seen: &mut IndexSet<u64>) -> Result<bool, Memory>
         requires { KeepsAway (edges_of self.now) dir (contains nat_eq seen.old) }
-        ensures reached { IfOk result (λ found. found ≡ true → Reaches (edges_of self.now) from dir) }
-        ensures never { IfOk result (λ found. found ≡ false → Reaches (edges_of self.now) from dir → ⊥) }
-        ensures seen { IfOk result (λ found. found ≡ false → KeepsAway (edges_of self.now) dir (contains nat_eq seen.new)) }
+        ensures reached { IfOk result
+            (λ found. found ≡ true → Reaches (edges_of self.now) from dir) }
+        ensures never { IfOk result
+            (λ found. found ≡ false → Reaches (edges_of self.now) from dir → ⊥) }
+        ensures seen { IfOk result (λ found. found ≡ false
+            → KeepsAway (edges_of self.now) dir (contains nat_eq seen.new)) }
     {
         let mut stack = Vec::new(self.alloc);
         stack.push(from)?;

@@ -1,4 +1,5 @@
-//! The graph itself, what it says of a directory, and its changes. Those that may want memory are prepared.
+//! The graph itself, what it says of a directory, and its changes. Those that may want memory are
+//! prepared.
 ghost use Rattle.std.specs.Prelude.{◌≡◌, ℕ, [], Some, None, IfOk, OnOk, OnErr};
 ghost use Rattle.std.specs.Option.{option_copied};
 ghost use Rattle.dep_graph.specs.Graphs.{edges_of, if_any, replaced};
@@ -9,9 +10,9 @@ use indexmap::IndexMap;
 use std::alloc::Global;
 use std::marker::Model;
 
-/// The semantic directories with the edges of each, seen as their list and as which of them is ready for new edges.
-/// The first edge of a directory leads to its own directory, the others to those that its query names, in
-/// the query's order. A directory with no edges isn't there.
+/// The semantic directories with the edges of each, seen as their list and as which of them is
+/// ready for new edges. The first edge of a directory leads to its own directory, the others to
+/// those that its query names, in the query's order. A directory with no edges isn't there.
 #[derive(Drop)]
 pub struct Graph {
     pub(crate) alloc: Global,
@@ -87,7 +88,8 @@ impl Graph {
     pub fn set_edges(&mut self, edges: NewEdges)
         requires { self.old.ready ≡ Some edges.dir }
         ensures ready { self.new.ready ≡ None }
-        ensures edges { (q : ℕ) → edges_of self.new q ≡ replaced (edges_of self.old) edges.dir edges.edges.items q }
+        ensures edges { (q : ℕ) → edges_of self.new q
+            ≡ replaced (edges_of self.old) edges.dir edges.edges.items q }
     {
         self.ready = None;
         nodes::put(&mut self.nodes, edges.dir, edges.edges);

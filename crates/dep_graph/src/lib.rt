@@ -1,6 +1,6 @@
-//! Which directories depend on which, as numbers with lists of edges: which edges would close a cycle, which queries
-//! name a directory, and in what order links are found. It knows no tree, no query and no link, and not why a directory
-//! has its edges.
+//! Which directories depend on which, as numbers with lists of edges: which edges would close a
+//! cycle, which queries name a directory, and in what order links are found. It knows no tree, no
+//! query and no link, and not why a directory has its edges.
 #![tactic(auto)]
 
 mod cycles;

@@ -11,7 +11,8 @@ use hac_model::{Memory, Number};
 impl Graph {
     /// The directories whose queries name a directory.
     pub fn referrers(&self, dir: Number) -> Result<Vec<Number>, Memory>
-        ensures all { IfOk result (λ numbers. (q : ℕ) → Among numbers.items q ↔ Among (named_by self.now q) dir) }
+        ensures all { IfOk result (λ numbers. (q : ℕ)
+            → Among numbers.items q ↔ Among (named_by self.now q) dir) }
         ensures once { IfOk result (λ numbers. EachOnce numbers.items) }
     {
         let mut numbers = Vec::new(self.alloc);

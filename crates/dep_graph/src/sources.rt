@@ -20,8 +20,8 @@ enum Step {
 }
 
 impl Graph {
-    /// The directories that some of these reaches, those among them that are there. Each comes behind all on which it
-    /// depends.
+    /// The directories that some of these reaches, those among them that are there. Each comes
+    /// behind all on which it depends.
     pub fn sources(&self, dirs: &[Number]) -> Result<Vec<Number>, Memory>
         requires { NeverReturns (edges_of self.now) }
         ensures { IfOk result (λ numbers. AreSources (edges_of self.now) dirs.now numbers.items) }

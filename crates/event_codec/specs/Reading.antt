@@ -1,6 +1,7 @@
 -- What calls answer that read a part of a payload.
 use Rattle.std.specs.Prelude.{◌≡◌, ⊤, ℕ, ◌+◌, ◌&&◌, if◌then◌else◌, nat_le, List, length, take, drop, Option, None, Some, Result, Ok, Err, IsTrue}
 use Rattle.std.specs.Int.{Width, byte_len, from_le_bytes}
+use Rattle.hac_model.specs.Run.Answers as gives
 use Rattle.hac_model.specs.Payload.Payloads.{is_spellable}
 use Rattle.hac_model.specs.declared.events.Event.{Event}
 use Rattle.event_codec.specs.declared.faults.Fault.{Fault}
@@ -10,20 +11,18 @@ use Rattle.event_codec.specs.declared.faults.CodecFault.TheVariants as codec
 use Rattle.event_codec.specs.declared.reading.Payload.{Payload}
 use Rattle.event_codec.specs.declared.reading.Payload.TheVariants as payload
 
--- the fault is for what is read; want of memory may come in place of anything
+-- the fault is for what is read; memory may run out in place of anything
 abbrev pub Fails : {A : Type 0} → Fault → Result A ℕ → Type 0
 Fails fault.Memory read = ⊤
 Fails (fault.Bad left) read = read ≡ Err left
 
 -- the call gave what is read, a value and the bytes behind it, or the fault
 abbrev pub GivesField : {A : Type 0} → Result A Fault → List ℕ → Result (A × List ℕ) ℕ → Type 0
-GivesField (Ok value) rest read = read ≡ Ok (value, rest)
-GivesField (Err fault) rest read = Fails fault read
+GivesField result rest read = gives.GivesSeen (λ value. (value, rest)) Fails result read
 
 -- the same, where a value of the call is seen by a view
 abbrev pub GivesSeen : {A B : Type 0} → (A → B) → Result A Fault → List ℕ → Result (B × List ℕ) ℕ → Type 0
-GivesSeen view (Ok value) rest read = read ≡ Ok (view value, rest)
-GivesSeen view (Err fault) rest read = Fails fault read
+GivesSeen view result rest read = gives.GivesSeen (λ value. (view value, rest)) Fails result read
 
 -- the fault is for what the payload says
 abbrev pub IsPayloadFault : CodecFault → Result Event ℕ → Type 0

@@ -52,7 +52,8 @@ impl<'a> Bytes<'a> {
 
     /// Takes the next byte, where there is one.
     pub(crate) fn byte(&mut self) -> Option<u8>
-        ensures { MatchOption result ((self.old ≡ []) × (self.new ≡ [])) (λ byte. self.old ≡ byte ∷ self.new) }
+        ensures { MatchOption result ((self.old ≡ []) × (self.new ≡ []))
+            (λ byte. self.old ≡ byte ∷ self.new) }
     {
         let (byte, rest) = self.rest.split_first()?;
         self.rest = rest;

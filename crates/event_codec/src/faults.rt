@@ -9,7 +9,8 @@ pub enum CodecFault {
     /// The bytes spell nothing.
     #[error("the payload breaks the grammar at byte {at}")]
     Bad {
-        /// The place of the first byte of the first field that has no allowed value or is cut short.
+        /// The place of the first byte of the first field that has no allowed value or is cut
+        /// short.
         at: u64,
     },
     /// Memory ran out.

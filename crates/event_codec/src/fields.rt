@@ -82,7 +82,8 @@ fn long_run(bytes: &[u8], most: usize) -> Option<&[u8]>
 
 /// The first `count` bytes, if they are there and `count` is at most `most`.
 fn run(bytes: &[u8], count: usize, most: usize) -> Option<&[u8]>
-    ensures { option_copied result ≡ if nat_le count (length bytes.now) && nat_le count most then Some (take count bytes.now) else None }
+    ensures { option_copied result ≡ if nat_le count (length bytes.now) &&
+        nat_le count most then Some (take count bytes.now) else None }
 {
     if count > bytes.len() || count > most {
         return None;

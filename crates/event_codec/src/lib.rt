@@ -1,5 +1,5 @@
-//! Events as the bytes of a payload, and back. It knows the grammar of payloads; where in a store they lie,
-//! and which events fit a state, is for others to say.
+//! Events as the bytes of a payload, and back. It knows the grammar of payloads; where in a store
+//! they lie, and which events fit a state, is for others to say.
 #![tactic(auto)]
 
 mod bytes;

@@ -27,7 +27,8 @@ pub(crate) trait Item: Sized + Drop {
     /// Adds the bytes of the item, wherever in a list it is.
     fn put(&self, out: &mut Vec<u8>) -> Result<(), Memory>
         requires { (last : Option Self) × IsTrue ((item last).fits self.now) }
-        ensures { OnOk result ((last : Option Self) → out.new.items ≡ out.old.items ++ (item last).text self.now) };
+        ensures { OnOk result ((last : Option Self) → out.new.items ≡ out.old.items ++
+            (item last).text self.now) };
 }
 
 /// The numbers of a list rise.
@@ -149,7 +150,8 @@ pub(crate) fn put_told(out: &mut Vec<u8>, told: &Seq<Seq<Number>>) -> Result<(),
 pub(crate) fn put_list<T: Item>(out: &mut Vec<u8>, items: &[T]) -> Result<(), Memory>
     requires count { IsTrue (num.fits (length items.now)) }
     requires items { IsTrue (items_fit T.item None items.now) }
-    ensures { OnOk result (out.new.items ≡ out.old.items ++ (num.text (length items.now) ++ items_text T.item None items.now)) }
+    ensures { OnOk result (out.new.items ≡ out.old.items ++
+        (num.text (length items.now) ++ items_text T.item None items.now)) }
 {
     put_num(out, items.len() as u64)?;
     put_items(out, items)

@@ -26,7 +26,8 @@ pub(crate) fn put_num(out: &mut Vec<u8>, number: u64) -> Result<(), Memory>
 #[tactic(auto, using(crate::proofs::PutLemmas::puts))]
 pub(crate) fn put_short(out: &mut Vec<u8>, run: &[u8]) -> Result<(), Memory>
     requires { length run.now < 2 ^ 8 }
-    ensures { OnOk result (out.new.items ≡ out.old.items ++ (to_le_bytes w8 (length run.now) ++ run.now)) }
+    ensures { OnOk result (out.new.items ≡ out.old.items ++
+        (to_le_bytes w8 (length run.now) ++ run.now)) }
 {
     out.push(run.len() as u8)?;
     out.extend_from_slice(run)?;
@@ -37,7 +38,8 @@ pub(crate) fn put_short(out: &mut Vec<u8>, run: &[u8]) -> Result<(), Memory>
 #[tactic(auto, using(crate::proofs::PutLemmas::puts))]
 pub(crate) fn put_middle(out: &mut Vec<u8>, run: &[u8]) -> Result<(), Memory>
     requires { length run.now < 2 ^ 16 }
-    ensures { OnOk result (out.new.items ≡ out.old.items ++ (to_le_bytes w16 (length run.now) ++ run.now)) }
+    ensures { OnOk result (out.new.items ≡ out.old.items ++
+        (to_le_bytes w16 (length run.now) ++ run.now)) }
 {
     let mut bytes = [0; 2];
     LittleEndian::write_u16(&mut bytes, run.len() as u16);
@@ -50,7 +52,8 @@ pub(crate) fn put_middle(out: &mut Vec<u8>, run: &[u8]) -> Result<(), Memory>
 #[tactic(auto, using(crate::proofs::PutLemmas::puts))]
 pub(crate) fn put_long(out: &mut Vec<u8>, run: &[u8]) -> Result<(), Memory>
     requires { length run.now < 2 ^ 32 }
-    ensures { OnOk result (out.new.items ≡ out.old.items ++ (to_le_bytes w32 (length run.now) ++ run.now)) }
+    ensures { OnOk result (out.new.items ≡ out.old.items ++
+        (to_le_bytes w32 (length run.now) ++ run.now)) }
 {
     put_num(out, run.len() as u64)?;
     out.extend_from_slice(run)?;
@@ -72,7 +75,8 @@ pub(crate) fn put_numbered(out: &mut Vec<u8>, kind: u8, number: Number) -> Resul
 pub(crate) fn put_named(out: &mut Vec<u8>, kind: u8, dir: Number, name: &Name) -> Result<(), Memory>
     requires dir { IsTrue (num.fits dir) }
     requires name { IsTrue (name_field.fits name.now) }
-    ensures { OnOk result (out.new.items ≡ out.old.items ++ kind ∷ (num.text dir ++ name_field.text name.now)) }
+    ensures { OnOk result (out.new.items ≡ out.old.items ++ kind ∷
+        (num.text dir ++ name_field.text name.now)) }
 {
     put_numbered(out, kind, dir)?;
     put_short(out, name.as_bytes())
@@ -123,7 +127,8 @@ pub(crate) fn put_query(out: &mut Vec<u8>, query: &Query<Number>) -> Result<(), 
 #[tactic(auto, using(crate::proofs::PutLemmas::puts))]
 fn put_term(out: &mut Vec<u8>, term: &Term) -> Result<(), Memory>
     requires { IsTrue (token_field.fits (token.Term term.now)) }
-    ensures { OnOk result (out.new.items ≡ out.old.items ++ token_field.text (token.Term term.now)) }
+    ensures { OnOk result (out.new.items ≡ out.old.items ++
+        token_field.text (token.Term term.now)) }
 {
     match term {
         Term::Word(_) => out.push(1)?,

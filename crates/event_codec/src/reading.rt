@@ -21,8 +21,9 @@ pub enum Payload {
     Event(Event),
 }
 
-/// What a payload says. `first` is whether it is the first one of its area: a whole state may stand there
-/// once states are written, and nowhere else. So far none are, and a payload of that kind is bad at 0.
+/// What a payload says. `first` is whether it is the first one of its area: a whole state may stand
+/// there once states are written, and nowhere else. So far none are, and a payload of that kind is
+/// bad at 0.
 #[tactic(auto, unfolding(hac_model::specs::Payload::Payloads::spelled))]
 pub fn read_payload(alloc: Global, bytes: &[u8], first: bool) -> Result<Payload, CodecFault>
     ensures event { ReadsPayload result (spelled bytes.now) }
@@ -178,7 +179,8 @@ fn mark(bytes: &mut Bytes) -> Result<Kind, Fault>
 /// The mark that a byte spells.
 #[tactic(auto, unfolding(hac_model::specs::Payload::Fields::way_at))]
 fn mark_of(byte: u8) -> Option<Kind>
-    ensures { (rest : List ℕ) → way_at mark_ways byte rest ≡ option_map_or (λ kind. Ok (kind, rest)) result (Err (length rest + 1)) }
+    ensures { (rest : List ℕ) → way_at mark_ways byte rest ≡
+        option_map_or (λ kind. Ok (kind, rest)) result (Err (length rest + 1)) }
 {
     match byte {
         0 => Some(Kind::Unlinked),

@@ -10,7 +10,8 @@ use std::alloc::Global;
 /// What may still come of a query whose parts are read one by one.
 #[derive(Debug, Drop)]
 pub(crate) struct Room {
-    /// For each query that is still wanted, how many `NOT`s it may have, that of the next one on top.
+    /// For each query that is still wanted, how many `NOT`s it may have, that of the next one on
+    /// top.
     pub wanted: Pile<u64>,
     /// How many terms.
     pub terms: u64,
@@ -61,7 +62,8 @@ impl Room {
     /// Whether a term of `size` letters may come.
     fn take_term(&mut self, size: u64) -> bool
         ensures taken { result ≡ (nat_le 1 self.old.terms && nat_le size self.old.letters) }
-        ensures room { self.new ≡ if result then record self.old { terms = self.old.terms - 1; letters = self.old.letters - size } else self.old }
+        ensures room { self.new ≡ if result then record self.old
+            { terms = self.old.terms - 1; letters = self.old.letters - size } else self.old }
     {
         if self.terms == 0 || size > self.letters {
             return false;

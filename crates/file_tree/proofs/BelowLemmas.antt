@@ -5,7 +5,7 @@ use Rattle.std.specs.Option.{option_map, option_to_list}
 use Rattle.std.proofs.lemmas.Bool.{ne_eqb, cases_lt}
 use Rattle.std.proofs.lemmas.Bool.Decides.{nat_tests}
 use Rattle.std.proofs.lemmas.List.{append-nil}
-use Rattle.hac_model.specs.Tree.Events.{changed}
+use Rattle.hac_model.specs.Tree.Events.{changed_in}
 use Rattle.hac_model.specs.Tree.{entry_at}
 use Rattle.hac_model.specs.declared.states.Entry.{Entry}
 use Rattle.hac_model.proofs.ChangeLemmas.{entry_at-other, entry_at-new}
@@ -72,16 +72,16 @@ below-added k at other e told =
     rw add-one (ap (λ (es : List Entry). es ++ option_to_list (other k)) (below-same k at other (λ n low. told n ∙ ap (λ (b : Bool). cond b (Some e) (at n)) (ne_eqb k n (λ same. omega arith))))
     ∙ ap (λ (o : Option Entry). entries_below k at ++ option_to_list o) last)
 
-changed-append : (n : ℕ) (change : Entry → Entry) (xs ys : List Entry) → changed n change (xs ++ ys) ≡ changed n change xs ++ changed n change ys
+changed-append : (n : ℕ) (change : Entry → Entry) (xs ys : List Entry) → changed_in n change (xs ++ ys) ≡ changed_in n change xs ++ changed_in n change ys
 changed-append n change [] ys = refl
 changed-append n change (x ∷ xs) ys = ap (λ (es : List Entry). cond (x.number == n) (change x) x ∷ es) (changed-append n change xs ys)
 
 -- an entry is changed
-pub below-changed : (k : ℕ) (at other : ℕ → Option Entry) (m : ℕ) (change : Entry → Entry) → IsNumbered at → ((n : ℕ) → other n ≡ cond (nat_eq m n) (option_map change (at n)) (at n)) → entries_below k other ≡ changed m change (entries_below k at)
+pub below-changed : (k : ℕ) (at other : ℕ → Option Entry) (m : ℕ) (change : Entry → Entry) → IsNumbered at → ((n : ℕ) → other n ≡ cond (nat_eq m n) (option_map change (at n)) (at n)) → entries_below k other ≡ changed_in m change (entries_below k at)
 below-changed k at other m change numbered told =
-    below-made (changed m change) refl (changed-append m change) k at other (λ n low. ap (λ (o : Option Entry). option_to_list o) (told n) ∙ one n (at n) (numbered n))
+    below-made (changed_in m change) refl (changed-append m change) k at other (λ n low. ap (λ (o : Option Entry). option_to_list o) (told n) ∙ one n (at n) (numbered n))
   where
-    one : (n : ℕ) (o : Option Entry) → ((e : Entry) → o ≡ Some e → e.number ≡ n) → option_to_list (cond (nat_eq m n) (option_map change o) o) ≡ changed m change (option_to_list o)
+    one : (n : ℕ) (o : Option Entry) → ((e : Entry) → o ≡ Some e → e.number ≡ n) → option_to_list (cond (nat_eq m n) (option_map change o) o) ≡ changed_in m change (option_to_list o)
     one n None number = elim (nat_eq m n) as (λ b. option_to_list (cond {A = Option Entry} b None None) ≡ []) [ true ↦ refl | false ↦ refl ]
     one n (Some e) number =
         let own : e.number ≡ n = number e refl in

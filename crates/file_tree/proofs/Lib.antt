@@ -7,6 +7,10 @@ pub mod ListLemmas
 pub mod ShapeLemmas
 pub mod StateLemmas
 pub mod NewLemmas
-pub mod ReadyLemmas
 pub mod NextLemmas
 pub mod OrderLemmas
+pub mod DirtyLemmas
+pub mod TreeLemmas
+pub mod CountingLemmas
+pub mod ShallowLemmas
+pub mod PlacedLemmas

@@ -10,7 +10,7 @@ use Rattle.hac_model.specs.declared.states.Entry.{Entry}
 use Rattle.hac_model.specs.declared.states.State.{State}
 use Rattle.hac_model.proofs.PathLemmas.{ancestors-none, ancestors-step, extends-parent, extends-root, from_root, lineage-parent, root-none}
 use Rattle.hac_model.proofs.TreeLemmas.{Lives}
-use Rattle.file_tree.specs.Answers.{is_live}
+use Rattle.hac_model.specs.Tree.{is_live}
 
 -- one step leads from an entry to its directory
 pub ancestors-next : (steps : ℕ) (es : List Entry) (n : ℕ) (e : Entry) → 0 < steps → entry_at es n ≡ Some e → ancestors steps es n ≡ e ∷ ancestors (steps - 1) es e.parent
@@ -18,7 +18,7 @@ ancestors-next steps es n e some found =
     let more : steps ≡ suc (steps - 1) = omega arith in
     ap (λ (k : ℕ). ancestors k es n) more ∙ ancestors-step (steps - 1) es n e found
 
-lineage-steps : (es : List Entry) (n : ℕ) → ancestors (PATH_LIMIT + 1) es n ≡ lineage es n
+pub lineage-steps : (es : List Entry) (n : ℕ) → ancestors (PATH_LIMIT + 1) es n ≡ lineage es n
 unfolding lineage
 lineage-steps es n = refl
 

@@ -1,7 +1,8 @@
 -- What the calls of a tree answer.
-use Rattle.std.specs.Prelude.{◌≡◌, ⊤, ℕ, Bool, ◌==◌, ◌||◌, if◌then◌else◌, nat_le, is_some, List, [], ◌∷◌, Option, Some, None, Result, Ok, Err}
+use Rattle.std.specs.Prelude.{◌≡◌, ⊤, ℕ, Bool, false, ◌==◌, ◌||◌, if◌then◌else◌, nat_le, is_some, List, [], ◌∷◌, Option, Some, None, Result, Ok, Err}
 use Rattle.std.specs.Option.{option_map_or}
-use Rattle.hac_model.specs.Tree.{body_at, entry_at}
+use Rattle.hac_model.specs.Run.Answers.{Gives}
+use Rattle.hac_model.specs.Tree.{body_at, entry_at, is_dirty}
 use Rattle.hac_model.specs.declared.places.Place.{Place}
 use Rattle.hac_model.specs.declared.replies.Refusal.{Refusal}
 use Rattle.hac_model.specs.declared.replies.Refusal.TheVariants as refusal
@@ -13,7 +14,7 @@ use Rattle.file_tree.specs.declared.placing.Stop.TheVariants.{Missing, NotDir, L
 use Rattle.file_tree.specs.declared.tree.EntryKind.{EntryKind}
 use Rattle.file_tree.specs.declared.tree.EntryKind.TheVariants.{File, Dir, Symlink, Semantic, Mount}
 
--- the stop is for the refusal that is wanted; want of memory may come in place of any answer
+-- the stop is for the refusal that is wanted; memory may run out in place of any answer
 abbrev pub IsPlaceFault : Stop → Result Place Refusal → Type 0
 IsPlaceFault (Missing path) wanted = wanted ≡ Err (refusal.NoPath path)
 IsPlaceFault (NotDir path) wanted = wanted ≡ Err (refusal.NotDir path)
@@ -22,8 +23,7 @@ IsPlaceFault Memory wanted = ⊤
 
 -- the look-up gave what is wanted, the place or the stop
 abbrev pub Finds : Result Place Stop → Result Place Refusal → Type 0
-Finds (Ok place) wanted = wanted ≡ Ok place
-Finds (Err stop) wanted = IsPlaceFault stop wanted
+Finds result wanted = Gives IsPlaceFault result wanted
 
 abbrev pub entry_kind : Body → EntryKind
 entry_kind (body.File text dirty shown) = File
@@ -41,6 +41,6 @@ abbrev pub next_from : List Entry → ℕ → Option ℕ
 next_from [] from = None
 next_from (entry ∷ entries) from = if nat_le from entry.number then Some entry.number else next_from entries from
 
--- the root has the number, or an entry
-abbrev pub is_live : List Entry → ℕ → Bool
-is_live entries number = number == 0 || is_some (entry_at entries number)
+-- the entry of a number is a dirty file
+abbrev pub is_dirty_at : List Entry → ℕ → Bool
+is_dirty_at entries number = option_map_or is_dirty (body_at entries number) false

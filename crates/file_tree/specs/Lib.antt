@@ -4,3 +4,6 @@ pub mod Search
 pub mod Seen
 pub mod Shape
 pub mod Answers
+pub mod Counting
+pub mod Depths
+pub mod Changes

@@ -1,12 +1,14 @@
 -- The nodes of a tree, read as entries, names and lists of children.
-use Rattle.std.specs.Prelude.{ℕ, zero, suc, Bool, is_some, if◌then◌else◌, nat_eq, List, [], ◌++◌, Option, Some, None, option_and_then}
+use Rattle.std.specs.Prelude.{ℕ, zero, suc, Bool, true, is_some, if◌then◌else◌, nat_eq, List, [], ◌++◌, Option, Some, None, option_and_then}
 use Rattle.std.specs.Option.{option_map, option_map_or, option_to_list}
 use Rattle.indexmap.specs.IndexMap.{IndexMap, get}
 use Rattle.hac_model.specs.declared.states.Body.{Body}
 use Rattle.hac_model.specs.declared.states.Body.TheVariants as body
 use Rattle.hac_model.specs.declared.states.Entry.{Entry}
 use Rattle.file_tree.specs.declared.nodes.Content.{Content}
-use Rattle.file_tree.specs.declared.nodes.Content.TheVariants.{File, Dir, Symlink, Semantic, Mount}
+use Rattle.file_tree.specs.declared.nodes.Content.TheVariants.{File, Dir, Semantic}
+use Rattle.file_tree.specs.declared.nodes.NewBody.{NewBody}
+use Rattle.file_tree.specs.declared.nodes.NewBody.TheVariants as new
 use Rattle.file_tree.specs.declared.nodes.Node.{Node}
 use Rattle.file_tree.specs.declared.nodes.Shown.{Shown}
 use Rattle.file_tree.specs.declared.nodes.Shown.TheVariants.{Never, AsItIs, Older}
@@ -17,13 +19,17 @@ shown_in text Never = None
 shown_in text AsItIs = Some text
 shown_in text (Older shown) = Some shown
 
--- what the content of a node says
+-- what the content of a node says. No marks are kept in it.
 abbrev pub body_of : Content → Body
 body_of (File text dirty shown) = body.File text dirty (shown_in text shown)
 body_of Dir = body.Dir
-body_of (Symlink target) = body.Symlink target
-body_of (Semantic query permanent prohibited) = body.Semantic query permanent prohibited
-body_of (Mount space documents answers) = body.Mount space documents answers
+body_of (Semantic query) = body.Semantic query [] []
+
+-- what a new entry is: a file is dirty, and a directory has no marks
+abbrev pub body_from : NewBody → Body
+body_from (new.File text) = body.File text true None
+body_from new.Dir = body.Dir
+body_from (new.Semantic query) = body.Semantic query [] []
 
 -- a node, where it is an entry
 abbrev pub if_placed : Node → Option Node

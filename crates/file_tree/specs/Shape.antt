@@ -1,18 +1,22 @@
 -- How a tree keeps a state.
 use Rattle.std.specs.Prelude.{◌≡◌, ℕ, ◌<◌, ◌≤◌, false, List, [], ◌∷◌, ◌++◌, Option, Some, None, IsTrue}
 use Rattle.std.specs.List.{AllByRecursion}
+use Rattle.std.specs.BTreeSet.{contains}
 use Rattle.std.specs.Option.{option_map}
+use Rattle.std.specs.Ordering.{nat_cmp}
 use Rattle.indexmap.specs.IndexMap.{IndexMap}
 use Rattle.hac_model.specs.Tree.Depends.{Among}
+use Rattle.hac_model.specs.Tree.Limits.{counts}
 use Rattle.hac_model.specs.Tree.Listing.{is_before}
 use Rattle.hac_model.specs.Tree.Valid.{IsLayout}
 use Rattle.hac_model.specs.declared.states.Entry.{Entry}
 use Rattle.hac_model.specs.declared.states.State.{State}
 use Rattle.file_tree.specs.Nodes.{entries_below, entry_of, has_node, kids_of, name_of}
+use Rattle.file_tree.specs.Ready.{is_to_index}
 use Rattle.file_tree.specs.Seen.{Seen}
 use Rattle.file_tree.specs.declared.nodes.Node.{Node}
 use Rattle.file_tree.specs.declared.ready.Ready.{Ready}
-use Rattle.file_tree.specs.declared.ready.Ready.TheVariants.{Nothing, Add, Move, Edit}
+use Rattle.file_tree.specs.declared.ready.Ready.TheVariants.{Nothing, Add, Move, Text}
 use Rattle.file_tree.specs.declared.tree.Tree.TheInside.{Inside}
 
 abbrev pub state_of : Inside → State
@@ -43,17 +47,25 @@ module _ {S : Type 0} where
   -- what was prepared is in the tree: a list of children with a place for one more, and the node of a new entry
   abbrev pub HasSpare : Ready → IndexMap ℕ Node S → ℕ → List ℕ → Type 0
   HasSpare Nothing nodes next spare = Unit {0}
-  HasSpare (Add dir body) nodes next spare = (spare ≡ kids_of nodes dir ++ next ∷ []) × IsTrue (has_node nodes next) × IsTrue (has_node nodes dir) × (dir < next)
-  HasSpare (Move dir name) nodes next spare = (spare ≡ kids_of nodes dir ++ 0 ∷ []) × IsTrue (has_node nodes dir) × (dir < next)
-  HasSpare (Edit entry body) nodes next spare = Unit {0}
+  HasSpare (Add dir kind) nodes next spare = (spare ≡ kids_of nodes dir ++ next ∷ []) × IsTrue (has_node nodes next) × IsTrue (has_node nodes dir) × (dir < next)
+  HasSpare (Move dir) nodes next spare = (spare ≡ kids_of nodes dir ++ 0 ∷ []) × IsTrue (has_node nodes dir) × (dir < next)
+  HasSpare (Text file) nodes next spare = Unit {0}
 
   -- only the entries, the root, and what may be ready under the next number have nodes
   abbrev pub HasNoOther : IndexMap ℕ Node S → ℕ → Type 0
   HasNoOther nodes next = (number : ℕ) → (number ≡ 0 → ⊥) → (number ≡ next → ⊥) → entry_of nodes number ≡ None → has_node nodes number ≡ false
 
+-- the nodes are those of a state that fits together
 pub record IsShaped (tree : Inside) : Type 0 where
   pub lists : AreNested tree.next (entry_of tree.nodes) (name_of tree.nodes) (kids_of tree.nodes)
   pub layout : IsLayout (state_of tree)
   pub root : IsTrue (has_node tree.nodes 0)
   pub spare : HasSpare tree.ready tree.nodes tree.next tree.spare.items
   pub others : HasNoOther tree.nodes tree.next
+
+-- so they are, and what is kept beside them is told by them: how much there is, and which files are dirty. The set has
+-- one number more at most, that of the file that the prepared change will make dirty.
+pub record IsTree (tree : Inside) : Type 0 where
+  pub shaped : IsShaped tree
+  pub counts_are : tree.counts ≡ counts (state_of tree)
+  pub dirty_are : (number : ℕ) → contains nat_cmp tree.to_index number ≡ is_to_index (state_of tree) tree.ready number

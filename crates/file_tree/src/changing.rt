@@ -1,84 +1,106 @@
 //! Changes of the tree. Those that may want memory are prepared, and no change itself takes any.
-ghost use Rattle.std.specs.Prelude.{◌≡◌, ◌<◌, ◌-◌, ◌++◌, ◌∷◌, [], true, ℕ, List, length, remove, if◌then◌else◌, Some, None, IfOk, OnOk, OnErr, IsSome, IsTrue};
-ghost use Rattle.hac_model.specs.Tree.Events.{added, asking, changed_at, edited, indexed, plain_body, removed, reseated, rewritten};
-ghost use Rattle.hac_model.specs.Tree.{entry_at, is_directory_at, is_file};
-ghost use Rattle.hac_model.specs.Tree.Valid.{IsLayout};
-ghost use Rattle.file_tree.specs.Nodes.{entry_of, kids_of, name_of};
-ghost use Rattle.file_tree.specs.Ready.{body_in, name_in, new_query, new_text, room_in};
+ghost use Rattle.std.specs.Prelude.{◌≡◌, ◌<◌, ◌-◌, ◌++◌, ◌∷◌, ◌&&◌, ◌||◌, [], true, not, ℕ, List, length, remove, if◌then◌else◌, IfOk, OnOk, OnErr, IsSome, IsTrue, Option};
+ghost use Rattle.std.specs.BTreeSet.{contains};
+ghost use Rattle.std.specs.Ordering.{nat_cmp};
+ghost use Rattle.hac_model.specs.Tree.Events.{added, apply, asking, changed_at, edited, indexed, plain_body, removed, reseated, rewritten};
+ghost use Rattle.hac_model.specs.Tree.{entry_at, is_directory_at, is_file_at};
+ghost use Rattle.file_tree.specs.Answers.{entry_kind, is_dirty_at};
+ghost use Rattle.file_tree.specs.Changes.{GotReady, HasBecome, MayBecome};
+ghost use Rattle.file_tree.specs.Nodes.{body_from, entry_of, kids_of, name_of};
+ghost use Rattle.file_tree.specs.Ready.{is_number, is_to_index};
 ghost use Rattle.file_tree.specs.Search.{rank_in};
 ghost use Rattle.file_tree.specs.Shape.{NamesRise, parent_in};
 
-use crate::nodes::{self, Content, Nodes, children_at};
-use crate::ready::{Ready, Room};
+use crate::nodes::{self, Content, NewBody, Nodes, children_at};
+use crate::ready::{Ready, awaited};
 use crate::searching::{order_last, rank};
-use crate::tree::Tree;
-use hac_model::{Body, Memory, Name, Number};
+use crate::tree::{EntryKind, Tree};
+use hac_model::{Counts, Event, Memory, Name, Number, Query, Text};
 use std::alloc::Global;
+use std::collections::BTreeSet;
 
 impl Tree {
-    /// Prepares a new entry in a directory. The state doesn't change, whatever the answer.
-    pub fn prepare_add(&mut self, dir: Number, body: Body) -> Result<Room, Memory>
+    /// Prepares a new entry of this kind in a directory. The state doesn't change, whatever the
+    /// answer.
+    pub fn prepare_add(&mut self, dir: Number, kind: EntryKind) -> Result<(), Memory>
         requires { IsTrue (is_directory_at self.old.state.entries dir) }
-        ensures room { IfOk result (λ room. room ≡ Room.Add dir) }
-        ensures ok { OnOk result (self.new ≡ record { state = self.old.state; ready = Ready.Add dir body }) }
-        ensures err { OnErr result (self.new ≡ record { state = self.old.state; ready = Ready.Nothing }) }
+        ensures ok { OnOk result (GotReady (Ready.Add dir kind) self.old self.new) }
+        ensures err { OnErr result (GotReady Ready.Nothing self.old self.new) }
     {
-        self.ready.set(Ready::Nothing);
+        self.forget();
         nodes::prepare(self.alloc, &mut self.nodes, self.next)?;
         self.spare = children_and(self.alloc, &self.nodes, dir, self.next)?;
-        self.ready.set(Ready::Add { dir, body });
-        Ok(Room::Add { dir })
+        let ready = Ready::Add { dir, kind };
+        add_number(&mut self.to_index, awaited(self.next, &ready))?;
+        self.ready = ready;
+        Ok(())
     }
 
-    /// Prepares to move an entry to a directory, under a name. The state doesn't change, whatever the answer.
-    pub fn prepare_move(&mut self, dir: Number, name: Name) -> Result<Room, Memory>
+    /// Prepares to move an entry to a directory. The state doesn't change, whatever the answer.
+    pub fn prepare_move(&mut self, dir: Number) -> Result<(), Memory>
         requires { IsTrue (is_directory_at self.old.state.entries dir) }
-        ensures room { IfOk result (λ room. room ≡ Room.Move dir) }
-        ensures ok { OnOk result (self.new ≡ record { state = self.old.state; ready = Ready.Move dir name }) }
-        ensures err { OnErr result (self.new ≡ record { state = self.old.state; ready = Ready.Nothing }) }
+        ensures ok { OnOk result (GotReady (Ready.Move dir) self.old self.new) }
+        ensures err { OnErr result (GotReady Ready.Nothing self.old self.new) }
     {
-        self.ready.set(Ready::Nothing);
+        self.forget();
         self.spare = children_and(self.alloc, &self.nodes, dir, Number::ROOT)?;
-        self.ready.set(Ready::Move { dir, name });
-        Ok(Room::Move { dir })
+        self.ready = Ready::Move { dir };
+        Ok(())
     }
 
-    /// Prepares a new part of an entry, as a file's text. The state doesn't change, whatever the answer.
-    pub fn prepare_body(&mut self, entry: Number, body: Body) -> Result<Room, Memory>
-        ensures room { IfOk result (λ room. room ≡ Room.Edit entry) }
-        ensures ok { OnOk result (self.new ≡ record { state = self.old.state; ready = Ready.Edit entry body }) }
-        ensures err { OnErr result (self.new ≡ record { state = self.old.state; ready = Ready.Nothing }) }
+    /// Prepares a new text of a file. The state doesn't change, whatever the answer.
+    pub fn prepare_text(&mut self, file: Number) -> Result<(), Memory>
+        ensures ok { OnOk result (GotReady (Ready.Text file) self.old self.new) }
+        ensures err { OnErr result (GotReady Ready.Nothing self.old self.new) }
     {
-        self.ready.set(Ready::Edit { entry, body });
-        Ok(Room::Edit { entry })
+        self.forget();
+        add_number(&mut self.to_index, Some(file))?;
+        self.ready = Ready::Text { file };
+        Ok(())
     }
 
-    /// Adds the entry that was prepared to its directory, under a name, and gives its number.
-    pub fn add(&mut self, dir: Number, name: Name, room: Room) -> Number
-        requires room { room_in self.old.ready ≡ Some room }
-        requires place { room ≡ Room.Add dir }
-        requires layout { IsLayout (added self.old.state dir name (body_in self.old.ready)) }
-        ensures number { result ≡ self.old.state.next }
-        ensures added { self.new ≡ record { state = added self.old.state dir name (body_in self.old.ready); ready = Ready.Nothing } }
+    /// Drops what was prepared.
+    fn forget(&mut self)
+        ensures { GotReady Ready.Nothing self.old self.new }
     {
-        let body = self.ready.take_body();
+        let stale = self.stale();
+        drop_number(&mut self.to_index, stale);
+        self.ready = Ready::Nothing;
+    }
+
+    /// The file that the prepared change would make dirty, where it isn't dirty yet.
+    fn stale(&self) -> Option<Number>
+        ensures { (n : ℕ) → (is_to_index self.now.state self.now.ready n &&
+            not (is_number result n)) ≡ is_dirty_at self.now.state.entries n }
+    {
+        let file = awaited(self.next, &self.ready)?;
+        if self.dirty(file) { None } else { Some(file) }
+    }
+
+    /// Adds an entry to the directory that was prepared, under a name. How much the state then
+    /// holds is given.
+    pub fn add(&mut self, dir: Number, name: Name, body: NewBody, counts: Counts)
+        requires ready { self.old.ready ≡ Ready.Add dir (entry_kind (body_from body)) }
+        requires may { MayBecome (added self.old.state dir name (body_from body)) counts }
+        ensures { HasBecome (added self.old.state dir name (body_from body)) self.new }
+    {
+        self.ready = Ready::Nothing;
         let number = self.next;
         order_last(&self.nodes, &mut self.spare, name.as_bytes());
         nodes::put(&mut self.nodes, number, dir, name, Content::new(body));
         nodes::put_children(&mut self.nodes, dir, &mut self.spare);
         self.next = Number::new(number.get() + 1);
-        number
+        self.counts = counts;
     }
 
-    /// Moves an entry to the prepared directory and name, with everything below it.
-    pub fn move_to(&mut self, entry: Number, dir: Number, room: Room)
-        requires room { room_in self.old.ready ≡ Some room }
-        requires place { room ≡ Room.Move dir }
+    /// Moves an entry to the directory that was prepared, with everything below it.
+    pub fn move_to(&mut self, entry: Number, dir: Number, name: Name, counts: Counts)
+        requires ready { self.old.ready ≡ Ready.Move dir }
         requires there { IsSome (entry_at self.old.state.entries entry) }
-        requires layout { IsLayout (changed_at self.old.state entry (reseated dir (name_in self.old.ready))) }
-        ensures { self.new ≡ record { state = changed_at self.old.state entry (reseated dir (name_in self.old.ready)); ready = Ready.Nothing } }
+        requires may { MayBecome (changed_at self.old.state entry (reseated dir name)) counts }
+        ensures { HasBecome (changed_at self.old.state entry (reseated dir name)) self.new }
     {
-        let name = self.ready.take_name();
+        self.ready = Ready::Nothing;
         let parent = parent_at(&self.nodes, entry);
         let place = place_at(&self.nodes, parent, entry);
         nodes::drop_child(&mut self.nodes, parent, place);
@@ -86,70 +108,99 @@ impl Tree {
         order_last(&self.nodes, &mut self.spare, name.as_bytes());
         nodes::reseat(&mut self.nodes, entry, dir, name);
         nodes::put_children(&mut self.nodes, dir, &mut self.spare);
+        self.counts = counts;
     }
 
     /// Removes an entry.
-    pub fn remove(&mut self, entry: Number)
+    pub fn remove(&mut self, entry: Number, counts: Counts)
         requires there { IsSome (entry_at self.old.state.entries entry) }
-        requires layout { IsLayout (removed self.old.state entry) }
-        ensures { self.new ≡ record { state = removed self.old.state entry; ready = Ready.Nothing } }
+        requires may { MayBecome (removed self.old.state entry) counts }
+        ensures { HasBecome (removed self.old.state entry) self.new }
     {
-        self.ready.set(Ready::Nothing);
+        self.forget();
         let parent = parent_at(&self.nodes, entry);
         let place = place_at(&self.nodes, parent, entry);
         nodes::drop_child(&mut self.nodes, parent, place);
         nodes::take_out(&mut self.nodes, entry);
+        drop_number(&mut self.to_index, Some(entry));
+        self.counts = counts;
     }
 
-    /// Gives a file the text that was prepared. What was shown of the file stays shown.
-    pub fn set_text(&mut self, file: Number, room: Room)
-        requires room { room_in self.old.ready ≡ Some room }
-        requires file { room ≡ Room.Edit file }
-        requires text { IsTrue (is_file (body_in self.old.ready)) }
-        requires layout { IsLayout (changed_at self.old.state file (edited (rewritten (new_text self.old.ready)))) }
-        ensures { self.new ≡ record { state = changed_at self.old.state file (edited (rewritten (new_text self.old.ready))); ready = Ready.Nothing } }
+    /// Gives the file that was prepared another text. What was shown of the file stays shown.
+    pub fn set_text(&mut self, file: Number, text: Text, counts: Counts)
+        requires ready { self.old.ready ≡ Ready.Text file }
+        requires file { IsTrue (is_file_at self.old.state.entries file) }
+        requires may { MayBecome (changed_at self.old.state file (edited (rewritten text))) counts }
+        ensures { HasBecome (changed_at self.old.state file (edited (rewritten text))) self.new }
     {
-        let Body::File { text, .. } = self.ready.take_body() else {
-            unreachable!()
-        };
+        self.ready = Ready::Nothing;
         nodes::set_text(&mut self.nodes, file, text);
+        self.counts = counts;
     }
 
-    /// Gives a directory the query that was prepared. Its marks stay; one that had no query gets none.
-    pub fn set_query(&mut self, dir: Number, room: Room)
-        requires room { room_in self.old.ready ≡ Some room }
-        requires place { room ≡ Room.Edit dir }
-        requires asks { body_in self.old.ready ≡ Body.Semantic (new_query self.old.ready) [] [] }
-        requires layout { IsLayout (changed_at self.old.state dir (edited (asking (new_query self.old.ready)))) }
-        ensures { self.new ≡ record { state = changed_at self.old.state dir (edited (asking (new_query self.old.ready))); ready = Ready.Nothing } }
+    /// Gives a directory a query.
+    pub fn set_query(&mut self, dir: Number, query: Query<Number>, counts: Counts)
+        requires may { MayBecome (changed_at self.old.state dir (edited (asking query))) counts }
+        ensures { HasBecome (changed_at self.old.state dir (edited (asking query))) self.new }
     {
-        let Body::Semantic {
-            query,
-            permanent,
-            prohibited,
-        } = self.ready.take_body()
-        else {
-            unreachable!()
-        };
-        nodes::set_query(&mut self.nodes, dir, query, permanent, prohibited);
+        self.forget();
+        nodes::set_query(&mut self.nodes, dir, query);
+        self.counts = counts;
     }
 
     /// Makes a semantic directory a plain one.
-    pub fn clear_query(&mut self, dir: Number)
-        requires { IsLayout (changed_at self.old.state dir (edited plain_body)) }
-        ensures { self.new ≡ record { state = changed_at self.old.state dir (edited plain_body); ready = Ready.Nothing } }
+    pub fn clear_query(&mut self, dir: Number, counts: Counts)
+        requires may { MayBecome (changed_at self.old.state dir (edited plain_body)) counts }
+        ensures { HasBecome (changed_at self.old.state dir (edited plain_body)) self.new }
     {
-        self.ready.set(Ready::Nothing);
+        self.forget();
         nodes::clear_query(&mut self.nodes, dir);
+        self.counts = counts;
+    }
+
+    /// Indexes the dirty file of the least number, if a file is dirty.
+    pub fn step(&mut self)
+        ensures { HasBecome (apply self.old.state Event.Step) self.new }
+    {
+        self.forget();
+        if let Some(file) = self.next_dirty() {
+            let counts = self.with_indexed(file);
+            self.show(file, counts);
+        }
     }
 
     /// Shows the text of a file.
-    pub fn mark_clean(&mut self, file: Number)
-        requires { IsLayout (changed_at self.old.state file (edited indexed)) }
-        ensures { self.new ≡ record { state = changed_at self.old.state file (edited indexed); ready = Ready.Nothing } }
+    fn show(&mut self, file: Number, counts: Counts)
+        requires ready { self.old.ready ≡ Ready.Nothing }
+        requires may { MayBecome (changed_at self.old.state file (edited indexed)) counts }
+        ensures { HasBecome (changed_at self.old.state file (edited indexed)) self.new }
     {
-        self.ready.set(Ready::Nothing);
+        drop_number(&mut self.to_index, Some(file));
         nodes::show_text(&mut self.nodes, file);
+        self.counts = counts;
+    }
+}
+
+/// Adds a number to a set, if there is one.
+fn add_number(numbers: &mut BTreeSet<u64>, number: Option<Number>) -> Result<(), Memory>
+    ensures ok { OnOk result ((n : ℕ) → contains nat_cmp numbers.new n ≡
+        (contains nat_cmp numbers.old n || is_number number n)) }
+    ensures err { OnErr result ((n : ℕ) → contains nat_cmp numbers.new n ≡
+        contains nat_cmp numbers.old n) }
+{
+    if let Some(number) = number {
+        numbers.insert(number.get())?;
+    }
+    Ok(())
+}
+
+/// Takes a number out of a set, if there is one.
+fn drop_number(numbers: &mut BTreeSet<u64>, number: Option<Number>)
+    ensures { (n : ℕ) → contains nat_cmp numbers.new n ≡
+        (contains nat_cmp numbers.old n && not (is_number number n)) }
+{
+    if let Some(number) = number {
+        numbers.remove(&number.get());
     }
 }
 
@@ -182,7 +233,8 @@ fn parent_at(nodes: &Nodes, entry: Number) -> Number
 
 /// The place of an entry in the list of its directory.
 fn place_at(nodes: &Nodes, dir: Number, entry: Number) -> usize
-    ensures { NamesRise (name_of nodes.now) (kids_of nodes.now dir) → result ≡ rank_in (name_of nodes.now) (name_of nodes.now entry) (kids_of nodes.now dir) }
+    ensures { NamesRise (name_of nodes.now) (kids_of nodes.now dir) →
+        result ≡ rank_in (name_of nodes.now) (name_of nodes.now entry) (kids_of nodes.now dir) }
 {
     rank(nodes, children_at(nodes, dir), nodes::name_at(nodes, entry))
 }
@@ -191,7 +243,8 @@ fn place_at(nodes: &Nodes, dir: Number, entry: Number) -> usize
 fn set_last(numbers: &mut Vec<Number>, number: Number, place: usize, is_in: bool)
     requires some { 0 < length numbers.old.items }
     requires place { is_in ≡ true → place < length numbers.old.items - 1 }
-    ensures { (front : List ℕ) (last : ℕ) → numbers.old.items ≡ front ++ last ∷ [] → numbers.new.items ≡ (if is_in then remove front place else front) ++ number ∷ [] }
+    ensures { (front : List ℕ) (last : ℕ) → numbers.old.items ≡ front ++ last ∷ [] →
+        numbers.new.items ≡ (if is_in then remove front place else front) ++ number ∷ [] }
 {
     if is_in {
         numbers.remove(place);

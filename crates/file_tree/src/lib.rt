@@ -1,15 +1,19 @@
-//! The tree of files and directories as numbered nodes: where a path leads, and changes by number. It knows no
-//! line, no store and no outside.
+//! The tree of files and directories as numbered nodes: where a path leads, and changes by number.
+//! It knows no line, no store and no outside.
 #![tactic(auto)]
 
 mod changing;
+mod counting;
+mod depths;
 mod nodes;
 mod paths;
 mod placing;
 mod ready;
 mod searching;
+mod shares;
 mod tree;
 
+pub use nodes::NewBody;
 pub use placing::Stop;
-pub use ready::{Ready, Room};
+pub use ready::Ready;
 pub use tree::{EntryKind, Tree};

@@ -2,11 +2,11 @@
 ghost use Rattle.std.specs.Prelude.{◌≡◌, ℕ, ◌<◌, [], Some, None, nat_eq, if◌then◌else◌, length, remove, false, IsSome, IsTrue, OnOk};
 ghost use Rattle.std.specs.Option.{option_copied, option_map};
 ghost use Rattle.indexmap.specs.IndexMap.{get};
-ghost use Rattle.file_tree.specs.Nodes.{body_of, entry_of, has_node, kids_of, name_of, placed_at};
+ghost use Rattle.file_tree.specs.Nodes.{body_from, body_of, entry_of, has_node, kids_of, name_of, placed_at};
 ghost use Rattle.hac_model.specs.Tree.Events.{asking, edited, indexed, plain_body, reseated, rewritten};
 ghost use Rattle.hac_model.specs.Tree.{is_dirty, query_in, shown_text};
 
-use hac_model::{Answer, Body, Document, Memory, Name, Number, Query, Seq, Text};
+use hac_model::{Memory, Name, Number, Query, Text};
 use indexmap::IndexMap;
 use std::alloc::Global;
 use std::mem;
@@ -36,19 +36,21 @@ pub(crate) enum Content {
         shown: Shown,
     },
     Dir,
-    Symlink {
-        target: Text,
-    },
+    // Its marks aren't kept here.
     Semantic {
         query: Query<Number>,
-        permanent: Seq<Number>,
-        prohibited: Seq<Number>,
     },
-    Mount {
-        space: Name,
-        documents: Seq<Document>,
-        answers: Seq<Answer>,
-    },
+}
+
+/// What a new entry is.
+#[derive(Debug, Drop)]
+pub enum NewBody {
+    /// A file with this text, which was never indexed.
+    File(Text),
+    /// A plain directory.
+    Dir,
+    /// A directory with this query, and without marks.
+    Semantic(Query<Number>),
 }
 
 /// The text of a file as it was last indexed.
@@ -62,38 +64,17 @@ pub(crate) enum Shown {
 
 impl Content {
     /// What the body says.
-    pub(crate) fn new(body: Body) -> Content
-        ensures { body_of result ≡ body }
+    pub(crate) fn new(body: NewBody) -> Content
+        ensures { body_of result ≡ body_from body }
     {
         match body {
-            Body::File { text, dirty, shown } => Content::File {
+            NewBody::File(text) => Content::File {
                 text,
-                dirty,
-                shown: match shown {
-                    Some(text) => Shown::Older(text),
-                    None => Shown::Never,
-                },
+                dirty: true,
+                shown: Shown::Never,
             },
-            Body::Dir => Content::Dir,
-            Body::Symlink { target } => Content::Symlink { target },
-            Body::Semantic {
-                query,
-                permanent,
-                prohibited,
-            } => Content::Semantic {
-                query,
-                permanent,
-                prohibited,
-            },
-            Body::Mount {
-                space,
-                documents,
-                answers,
-            } => Content::Mount {
-                space,
-                documents,
-                answers,
-            },
+            NewBody::Dir => Content::Dir,
+            NewBody::Semantic(query) => Content::Semantic { query },
         }
     }
 }
@@ -146,27 +127,14 @@ impl Content {
         }
     }
 
-    /// Gives a directory a query. Where it had none, it gets no marks.
-    pub(crate) fn set_query(
-        &mut self,
-        new: Query<Number>,
-        permanent: Seq<Number>,
-        prohibited: Seq<Number>,
-    )
-        requires permanent { permanent ≡ [] }
-        requires prohibited { prohibited ≡ [] }
+    /// Gives a directory a query.
+    pub(crate) fn set_query(&mut self, new: Query<Number>)
         ensures { body_of self.new ≡ asking new (body_of self.old) }
     {
         match self {
-            Content::Semantic { query, .. } => *query = new,
-            Content::Dir => {
-                *self = Content::Semantic {
-                    query: new,
-                    permanent,
-                    prohibited,
-                };
-            }
-            _ => {}
+            Content::Semantic { query } => *query = new,
+            Content::Dir => *self = Content::Semantic { query: new },
+            Content::File { .. } => {}
         }
     }
 
@@ -230,7 +198,8 @@ pub(crate) fn prepare(alloc: Global, nodes: &mut Nodes, number: Number) -> Resul
     requires free { entry_of nodes.old number ≡ None }
     requires bare { kids_of nodes.old number ≡ [] }
     ensures there { OnOk result (IsTrue (has_node nodes.new number)) }
-    ensures others { (q : ℕ) → nat_eq number q ≡ false → has_node nodes.new q ≡ has_node nodes.old q }
+    ensures others { (q : ℕ) → nat_eq number q ≡ false →
+        has_node nodes.new q ≡ has_node nodes.old q }
     ensures entries { (q : ℕ) → entry_of nodes.new q ≡ entry_of nodes.old q }
     ensures names { (q : ℕ) → nat_eq number q ≡ false → name_of nodes.new q ≡ name_of nodes.old q }
     ensures kids { (q : ℕ) → kids_of nodes.new q ≡ kids_of nodes.old q }
@@ -250,8 +219,16 @@ pub(crate) fn prepare(alloc: Global, nodes: &mut Nodes, number: Number) -> Resul
 pub(crate) fn put(nodes: &mut Nodes, number: Number, parent: Number, name: Name, content: Content)
     requires { IsTrue (has_node nodes.old number) }
     ensures numbers { (q : ℕ) → has_node nodes.new q ≡ has_node nodes.old q }
-    ensures entries { (q : ℕ) → entry_of nodes.new q ≡ if nat_eq number q then Some (record { number = number; parent = parent; name = name; body = body_of content }) else entry_of nodes.old q }
-    ensures names { (q : ℕ) → name_of nodes.new q ≡ if nat_eq number q then name else name_of nodes.old q }
+    ensures entries { (q : ℕ) → entry_of nodes.new q ≡
+        if nat_eq number q then Some (record {
+          number = number;
+          parent = parent;
+          name = name;
+          body =
+              body_of content;
+        }) else entry_of nodes.old q }
+    ensures names { (q : ℕ) → name_of nodes.new q ≡
+        if nat_eq number q then name else name_of nodes.old q }
     ensures kids { (q : ℕ) → kids_of nodes.new q ≡ kids_of nodes.old q }
 {
     if let Some(node) = nodes.get_mut(&number.get()) {
@@ -266,8 +243,11 @@ pub(crate) fn put(nodes: &mut Nodes, number: Number, parent: Number, name: Name,
 pub(crate) fn reseat(nodes: &mut Nodes, number: Number, dir: Number, new_name: Name)
     requires { IsSome (entry_of nodes.old number) }
     ensures numbers { (q : ℕ) → has_node nodes.new q ≡ has_node nodes.old q }
-    ensures entries { (q : ℕ) → entry_of nodes.new q ≡ if nat_eq number q then option_map (reseated dir new_name) (entry_of nodes.old q) else entry_of nodes.old q }
-    ensures names { (q : ℕ) → name_of nodes.new q ≡ if nat_eq number q then new_name else name_of nodes.old q }
+    ensures entries { (q : ℕ) → entry_of nodes.new q ≡
+        if nat_eq number q then option_map (reseated dir new_name)
+        (entry_of nodes.old q) else entry_of nodes.old q }
+    ensures names { (q : ℕ) → name_of nodes.new q ≡
+        if nat_eq number q then new_name else name_of nodes.old q }
     ensures kids { (q : ℕ) → kids_of nodes.new q ≡ kids_of nodes.old q }
 {
     if let Some(node) = nodes.get_mut(&number.get()) {
@@ -278,10 +258,13 @@ pub(crate) fn reseat(nodes: &mut Nodes, number: Number, dir: Number, new_name: N
 
 /// Removes a node.
 pub(crate) fn take_out(nodes: &mut Nodes, number: Number)
-    ensures numbers { (q : ℕ) → has_node nodes.new q ≡ if nat_eq number q then false else has_node nodes.old q }
-    ensures entries { (q : ℕ) → entry_of nodes.new q ≡ if nat_eq number q then None else entry_of nodes.old q }
+    ensures numbers { (q : ℕ) → has_node nodes.new q ≡
+        if nat_eq number q then false else has_node nodes.old q }
+    ensures entries { (q : ℕ) → entry_of nodes.new q ≡
+        if nat_eq number q then None else entry_of nodes.old q }
     ensures names { (q : ℕ) → nat_eq number q ≡ false → name_of nodes.new q ≡ name_of nodes.old q }
-    ensures kids { (q : ℕ) → kids_of nodes.new q ≡ if nat_eq number q then [] else kids_of nodes.old q }
+    ensures kids { (q : ℕ) → kids_of nodes.new q ≡ if nat_eq number q then [] else kids_of nodes.old
+        q }
 {
     nodes.swap_remove(&number.get());
 }
@@ -292,7 +275,8 @@ pub(crate) fn put_children(nodes: &mut Nodes, dir: Number, children: &mut Vec<Nu
     ensures numbers { (q : ℕ) → has_node nodes.new q ≡ has_node nodes.old q }
     ensures entries { (q : ℕ) → entry_of nodes.new q ≡ entry_of nodes.old q }
     ensures names { (q : ℕ) → name_of nodes.new q ≡ name_of nodes.old q }
-    ensures kids { (q : ℕ) → kids_of nodes.new q ≡ if nat_eq dir q then children.old.items else kids_of nodes.old q }
+    ensures kids { (q : ℕ) → kids_of nodes.new q ≡ if nat_eq dir q then children.old.items else
+        kids_of nodes.old q }
 {
     if let Some(node) = nodes.get_mut(&dir.get()) {
         mem::swap(&mut node.children, children);
@@ -305,7 +289,8 @@ pub(crate) fn drop_child(nodes: &mut Nodes, dir: Number, place: usize)
     ensures numbers { (q : ℕ) → has_node nodes.new q ≡ has_node nodes.old q }
     ensures entries { (q : ℕ) → entry_of nodes.new q ≡ entry_of nodes.old q }
     ensures names { (q : ℕ) → name_of nodes.new q ≡ name_of nodes.old q }
-    ensures kids { (q : ℕ) → kids_of nodes.new q ≡ if nat_eq dir q then remove (kids_of nodes.old dir) place else kids_of nodes.old q }
+    ensures kids { (q : ℕ) → kids_of nodes.new q ≡ if nat_eq dir q then remove
+        (kids_of nodes.old dir) place else kids_of nodes.old q }
 {
     if let Some(node) = nodes.get_mut(&dir.get()) {
         node.children.remove(place);
@@ -315,7 +300,9 @@ pub(crate) fn drop_child(nodes: &mut Nodes, dir: Number, place: usize)
 /// Replaces the text of a file.
 pub(crate) fn set_text(nodes: &mut Nodes, file: Number, text: Text)
     ensures numbers { (q : ℕ) → has_node nodes.new q ≡ has_node nodes.old q }
-    ensures entries { (q : ℕ) → entry_of nodes.new q ≡ if nat_eq file q then option_map (edited (rewritten text)) (entry_of nodes.old q) else entry_of nodes.old q }
+    ensures entries { (q : ℕ) → entry_of nodes.new q ≡
+        if nat_eq file q then option_map (edited (rewritten text))
+        (entry_of nodes.old q) else entry_of nodes.old q }
     ensures names { (q : ℕ) → name_of nodes.new q ≡ name_of nodes.old q }
     ensures kids { (q : ℕ) → kids_of nodes.new q ≡ kids_of nodes.old q }
 {
@@ -327,7 +314,9 @@ pub(crate) fn set_text(nodes: &mut Nodes, file: Number, text: Text)
 /// Shows the text of a file.
 pub(crate) fn show_text(nodes: &mut Nodes, file: Number)
     ensures numbers { (q : ℕ) → has_node nodes.new q ≡ has_node nodes.old q }
-    ensures entries { (q : ℕ) → entry_of nodes.new q ≡ if nat_eq file q then option_map (edited indexed) (entry_of nodes.old q) else entry_of nodes.old q }
+    ensures entries { (q : ℕ) → entry_of nodes.new q ≡
+        if nat_eq file q then option_map (edited indexed)
+        (entry_of nodes.old q) else entry_of nodes.old q }
     ensures names { (q : ℕ) → name_of nodes.new q ≡ name_of nodes.old q }
     ensures kids { (q : ℕ) → kids_of nodes.new q ≡ kids_of nodes.old q }
 {
@@ -337,29 +326,25 @@ pub(crate) fn show_text(nodes: &mut Nodes, file: Number)
 }
 
 /// Gives a directory a query.
-pub(crate) fn set_query(
-    nodes: &mut Nodes,
-    dir: Number,
-    query: Query<Number>,
-    permanent: Seq<Number>,
-    prohibited: Seq<Number>,
-)
-    requires permanent { permanent ≡ [] }
-    requires prohibited { prohibited ≡ [] }
+pub(crate) fn set_query(nodes: &mut Nodes, dir: Number, query: Query<Number>)
     ensures numbers { (q : ℕ) → has_node nodes.new q ≡ has_node nodes.old q }
-    ensures entries { (q : ℕ) → entry_of nodes.new q ≡ if nat_eq dir q then option_map (edited (asking query)) (entry_of nodes.old q) else entry_of nodes.old q }
+    ensures entries { (q : ℕ) → entry_of nodes.new q ≡
+        if nat_eq dir q then option_map (edited (asking query))
+        (entry_of nodes.old q) else entry_of nodes.old q }
     ensures names { (q : ℕ) → name_of nodes.new q ≡ name_of nodes.old q }
     ensures kids { (q : ℕ) → kids_of nodes.new q ≡ kids_of nodes.old q }
 {
     if let Some(node) = nodes.get_mut(&dir.get()) {
-        node.content.set_query(query, permanent, prohibited);
+        node.content.set_query(query);
     }
 }
 
 /// Makes a semantic directory a plain one.
 pub(crate) fn clear_query(nodes: &mut Nodes, dir: Number)
     ensures numbers { (q : ℕ) → has_node nodes.new q ≡ has_node nodes.old q }
-    ensures entries { (q : ℕ) → entry_of nodes.new q ≡ if nat_eq dir q then option_map (edited plain_body) (entry_of nodes.old q) else entry_of nodes.old q }
+    ensures entries { (q : ℕ) → entry_of nodes.new q ≡
+        if nat_eq dir q then option_map (edited plain_body)
+        (entry_of nodes.old q) else entry_of nodes.old q }
     ensures names { (q : ℕ) → name_of nodes.new q ≡ name_of nodes.old q }
     ensures kids { (q : ℕ) → kids_of nodes.new q ≡ kids_of nodes.old q }
 {

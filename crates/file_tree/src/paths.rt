@@ -2,7 +2,7 @@
 ghost use Rattle.std.specs.Prelude.{◌≡◌, ◌==◌, ◌++◌, map, reverse, IfOk, IsTrue, OnOk};
 ghost use Rattle.std.specs.List.{list_any};
 ghost use Rattle.hac_model.specs.Tree.{ancestors, extends, path_of};
-ghost use Rattle.file_tree.specs.Answers.{is_live};
+ghost use Rattle.hac_model.specs.Tree.{is_live};
 
 use crate::nodes::entry_at;
 use crate::tree::Tree;
@@ -20,7 +20,8 @@ impl Tree {
 
     /// Goes down by the names that lead to an entry, at most `steps` of them.
     fn push_names(&self, steps: u64, entry: Number, path: &mut Path) -> Result<(), Memory>
-        ensures { OnOk result (path.new ≡ path.old ++ reverse (map (λ entry. entry.name) (ancestors steps self.now.state.entries entry))) }
+        ensures { OnOk result (path.new ≡ path.old ++
+            reverse (map (λ entry. entry.name) (ancestors steps self.now.state.entries entry))) }
     {
         if steps == 0 {
             return Ok(());
@@ -38,13 +39,14 @@ impl Tree {
         requires dir { IsTrue (is_live self.now.state.entries dir) }
         ensures { result ≡ extends (path_of self.now.state item) (path_of self.now.state dir) }
     {
-        self.keep();
+        self.know_layout();
         self.leads_up(PATH_LIMIT + 1, item, dir)
     }
 
     /// Whether at most `steps` steps over parents lead from an entry to a directory.
     fn leads_up(&self, steps: u64, item: Number, dir: Number) -> bool
-        ensures { result ≡ list_any (λ entry. entry.parent == dir) (ancestors steps self.now.state.entries item) }
+        ensures { result ≡ list_any (λ entry. entry.parent == dir)
+            (ancestors steps self.now.state.entries item) }
     {
         if steps == 0 {
             return false;

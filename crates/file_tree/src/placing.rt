@@ -45,8 +45,8 @@ impl From<AllocError> for Stop {
 }
 
 impl Tree {
-    /// Where a word leads from a directory. The last name is followed as the others are, since there are no symbolic
-    /// links.
+    /// Where a word leads from a directory. The last name is followed as the others are, since
+    /// there are no symbolic links.
     pub fn place(&self, base: Number, word: &PathWord, _follow: bool) -> Result<Place, Stop>
         requires dir { IsTrue (is_directory_at self.now.state.entries base) }
         ensures { Finds result (look self.now.state (join (path_of self.now.state base) word.now)) }
@@ -59,7 +59,8 @@ impl Tree {
     /// Where the names of a path lead on from a directory to which the first `walked` of them led.
     fn walk(&self, dir: Number, path: &[Name], walked: usize) -> Result<Place, Stop>
         requires { walked ≤ length path.now }
-        ensures { Finds result (walk self.now.state.entries dir (take walked path.now) (drop walked path.now)) }
+        ensures { Finds result (walk self.now.state.entries dir (take walked path.now)
+            (drop walked path.now)) }
     {
         if walked == path.len() {
             return Ok(Place::There(dir));

@@ -18,14 +18,16 @@ fn is_before(name: &[u8], other: &[u8]) -> bool
 /// How many of the numbers have names before this one.
 pub(crate) fn rank(nodes: &Nodes, numbers: &[Number], name: &[u8]) -> usize
     ensures within { result ≤ length numbers.now }
-    ensures rank { NamesRise (name_of nodes.now) numbers.now → result ≡ rank_in (name_of nodes.now) name.now numbers.now }
+    ensures rank { NamesRise (name_of nodes.now) numbers.now →
+        result ≡ rank_in (name_of nodes.now) name.now numbers.now }
 {
     numbers.partition_point(|number| is_before(name_at(nodes, *number), name))
 }
 
 /// The one of the numbers that has the name.
 pub(crate) fn named(nodes: &Nodes, numbers: &[Number], name: &[u8]) -> Option<Number>
-    ensures { NamesRise (name_of nodes.now) numbers.now → result ≡ first_named (name_of nodes.now) numbers.now name.now }
+    ensures { NamesRise (name_of nodes.now) numbers.now →
+        result ≡ first_named (name_of nodes.now) numbers.now name.now }
 {
     let number = *numbers.get(rank(nodes, numbers, name))?;
     if name_at(nodes, number) == name {
@@ -38,7 +40,9 @@ pub(crate) fn named(nodes: &Nodes, numbers: &[Number], name: &[u8]) -> Option<Nu
 /// Brings the last of the numbers, which is to have the name, into its place.
 pub(crate) fn order_last(nodes: &Nodes, numbers: &mut Vec<Number>, name: &[u8])
     requires { 0 < length numbers.old.items }
-    ensures { (front : List ℕ) (last : ℕ) → numbers.old.items ≡ front ++ last ∷ [] → NamesRise (name_of nodes.now) front → numbers.new.items ≡ insert front (rank_in (name_of nodes.now) name.now front) last }
+    ensures { (front : List ℕ) (last : ℕ) → numbers.old.items ≡ front ++ last ∷ [] →
+        NamesRise (name_of nodes.now) front → numbers.new.items ≡
+        insert front (rank_in (name_of nodes.now) name.now front) last }
 {
     let last = numbers.len() - 1;
     let place = rank(nodes, &numbers[..last], name);

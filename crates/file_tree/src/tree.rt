@@ -1,20 +1,23 @@
 //! The tree itself, and what it says of its entries.
-ghost use Rattle.std.specs.Prelude.{◌≡◌, ◌==◌, Some, IfOk, IsTrue, IsSome, [], false, length, map};
+ghost use Rattle.std.specs.Prelude.{◌≡◌, ◌==◌, is_some, Some, IfOk, IfSome, IsTrue, IsSome, [], length, map};
 ghost use Rattle.std.specs.Option.{option_copied, option_map, option_map_or, option_and_then};
-ghost use Rattle.hac_model.specs.Tree.Events.{is_bare};
+ghost use Rattle.hac_model.specs.Tree.Events.{is_bare, next_dirty};
+ghost use Rattle.hac_model.specs.Tree.Limits.{counts};
 ghost use Rattle.hac_model.specs.Tree.Links.{parent_of, query_at, shown_of};
 ghost use Rattle.hac_model.specs.Tree.Listing.{children};
-ghost use Rattle.hac_model.specs.Tree.{body_at, child, empty, entry_at, is_directory_at, is_dirty, is_file_at, is_made_directory, text_in};
+ghost use Rattle.hac_model.specs.Tree.{body_at, child, empty, entry_at, is_directory_at, is_file_at, is_made_directory, text_in};
 ghost use Rattle.hac_model.specs.Tree.Valid.{IsLayout};
-ghost use Rattle.file_tree.specs.Answers.{entry_kind_at, entry_kind, next_from};
+ghost use Rattle.file_tree.specs.Answers.{entry_kind_at, entry_kind, is_dirty_at, next_from};
 ghost use Rattle.file_tree.specs.Nodes.{body_of};
 
 use crate::nodes::{self, Content, Nodes, children_at};
 use crate::ready::Ready;
 use crate::searching::named;
-use hac_model::{Memory, Name, Number, Query};
+use crate::shares::of_root;
+use hac_model::{Counts, Memory, Name, Number, Query};
 use indexmap::IndexMap;
 use std::alloc::Global;
+use std::collections::BTreeSet;
 use std::marker::Model;
 
 /// The tree, seen as its state and as what it is ready for.
@@ -28,6 +31,10 @@ pub struct Tree {
     // The list of children that was prepared.
     pub(crate) spare: Vec<Number>,
     pub(crate) ready: Ready,
+    // How much the state holds.
+    pub(crate) counts: Counts,
+    // The numbers of the dirty files, and of the one that the prepared change will make dirty.
+    pub(crate) to_index: BTreeSet<u64>,
 }
 
 impl Model for Tree {
@@ -37,11 +44,11 @@ impl Model for Tree {
 
     ghost coded = { seen_code };
 
-    ghost use Rattle.file_tree.specs.Shape.{seen_of, IsShaped};
+    ghost use Rattle.file_tree.specs.Shape.{seen_of, IsTree};
 
     ghost view = { seen_of };
 
-    ghost invariant = { IsShaped };
+    ghost invariant = { IsTree };
 }
 
 /// The kind of an entry.
@@ -74,6 +81,8 @@ impl Tree {
             nodes,
             spare: Vec::new(alloc),
             ready: Ready::Nothing,
+            counts: of_root(),
+            to_index: BTreeSet::new(alloc),
         })
     }
 
@@ -86,11 +95,20 @@ impl Tree {
         self.next
     }
 
-    /// What a tree keeps: its entries fit one another.
-    pub(crate) fn keep(&self)
-        ensures { IsLayout self.now.state }
+    /// The entries fit one another. This does nothing: it is called where a proof has to know so.
+    pub fn know_layout(&self)
+        ensures layout { IsLayout self.now.state }
+        ensures sessions { self.now.state.sessions ≡ [] }
     {
         let _next = self.next;
+    }
+
+    /// How much the state holds.
+    pub fn counts(&self) -> Counts
+        ensures counts { result ≡ counts self.now.state }
+        ensures layout { IsLayout self.now.state }
+    {
+        self.counts
     }
 
     /// What a directory has under a name.
@@ -140,12 +158,28 @@ impl Tree {
 
     /// Whether a file was made or written since it was last indexed.
     pub fn dirty(&self, file: Number) -> bool
-        ensures { result ≡ option_map_or is_dirty (body_at self.now.state.entries file) false }
+        ensures { result ≡ is_dirty_at self.now.state.entries file }
     {
         match self.content(file) {
             Some(content) => content.is_dirty(),
             None => false,
         }
+    }
+
+    /// The dirty file of the least number, if a file is dirty.
+    pub fn next_dirty(&self) -> Option<Number>
+        ensures next { result ≡ next_dirty self.now.state.entries }
+        ensures dirty { IfSome result (λ file. IsTrue (is_dirty_at self.now.state.entries file)) }
+        ensures layout { IsLayout self.now.state }
+    {
+        self.know_layout();
+        for number in self.to_index.iter() {
+            let file = Number::new(*number);
+            if self.dirty(file) {
+                return Some(file);
+            }
+        }
+        None
     }
 
     /// The query of a directory, where it has one.
@@ -162,7 +196,8 @@ impl Tree {
         number == Number::ROOT || self.is_made_directory(number)
     }
 
-    fn is_made_directory(&self, number: Number) -> bool
+    /// Whether an entry of the number is a directory. The root is no entry.
+    pub fn is_made_directory(&self, number: Number) -> bool
         ensures { result ≡ is_made_directory self.now.state.entries number }
     {
         match self.content(number) {
@@ -181,7 +216,7 @@ impl Tree {
         }
     }
 
-    fn content(&self, entry: Number) -> Option<&Content>
+    pub(crate) fn content(&self, entry: Number) -> Option<&Content>
         ensures { option_map body_of (option_copied result) ≡ body_at self.now.state.entries entry }
     {
         match nodes::entry_at(&self.nodes, entry) {
@@ -190,10 +225,18 @@ impl Tree {
         }
     }
 
+    /// Whether there is an entry of the number.
+    pub fn has_entry(&self, number: Number) -> bool
+        ensures { result ≡ is_some (entry_at self.now.state.entries number) }
+    {
+        self.content(number).is_some()
+    }
+
     /// The name of an entry.
     pub fn name_of(&self, entry: Number) -> &Name
         requires { IsSome (entry_at self.now.state.entries entry) }
-        ensures { option_map (λ entry. entry.name) (entry_at self.now.state.entries entry) ≡ Some result.now }
+        ensures { option_map (λ entry. entry.name) (entry_at self.now.state.entries entry) ≡
+            Some result.now }
     {
         match nodes::entry_at(&self.nodes, entry) {
             Some(node) => &node.name,
@@ -229,8 +272,6 @@ fn entry_kind(content: &Content) -> EntryKind
     match content {
         Content::File { .. } => EntryKind::File,
         Content::Dir => EntryKind::Dir,
-        Content::Symlink { .. } => EntryKind::Symlink,
         Content::Semantic { .. } => EntryKind::Semantic,
-        Content::Mount { .. } => EntryKind::Mount,
     }
 }

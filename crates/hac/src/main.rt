@@ -1,5 +1,5 @@
-//! The program: it hands its words, its standard input and output, and a disk over a real file to the run, and
-//! ends with the number of the run's status.
+//! The program: it hands its words, its standard input and output, and a disk over a real file to
+//! the run, and ends with the number of the run's status.
 #![tactic(auto)]
 
 mod streams;

@@ -1,2 +1,7 @@
 pub mod AgreeLemmas
+pub mod ApartLemmas
+pub mod AreaLemmas
+pub mod FlipLemmas
 pub mod HeadLemmas
+pub mod RootLemmas
+pub mod WriteLemmas

@@ -1,5 +1,5 @@
-//! Which root counts. The head of a store is a gate, the format's name, and two slots, each with a gate, a
-//! generation and a start; all numbers are little-endian.
+//! Which root counts. The head of a store is a gate, the format's name, and two slots, each with a
+//! gate, a generation and a start; all numbers are little-endian.
 ghost use Rattle.std.specs.Prelude.{◌≡◌, ◌+◌, ◌≤◌, ◌^◌, IfOk, drop, length};
 ghost use Rattle.hac_outside.specs.Causes.{HasCause, Rose};
 ghost use Rattle.hac_disk.specs.Images.{IsQuiet};
@@ -18,7 +18,7 @@ const NAME: [u8; 8] = *b"HACSTOR1";
 const HEAD: usize = 43;
 
 // No area begins before this place.
-const FIRST_AREA: u64 = 64;
+pub(crate) const FIRST_AREA: u64 = 64;
 
 /// One of the two places for a root.
 #[derive(Clone, Copy, Debug, PartialEq, Eq)]
@@ -65,7 +65,7 @@ impl From<Failed> for RootFault {
     }
 }
 
-/// What speaks against a root, or against a log behind it.
+/// What is wrong with a root, or with a log behind it.
 #[derive(Clone, Copy)]
 pub enum Stop {
     /// The bytes end before all is there that is needed.
@@ -207,7 +207,7 @@ fn counting_root(image: &[u8], slot: Slot) -> Result<Root, Stop>
 }
 
 // The place of a slot's gate.
-fn gate_place(slot: Slot) -> usize
+pub(crate) fn gate_place(slot: Slot) -> usize
     ensures place { result ≡ gate_of slot }
     ensures most { result ≤ 26 }
 {

@@ -1,27 +1,32 @@
 -- What blocks a command doesn't depend on marks, so the tree alone decides it.
-use Rattle.std.proofs.Common.{◌≡◌, ℕ, true, false, cond, List, [], ◌∷◌, refl, ap}
-use Rattle.std.specs.Prelude.{Some, None}
-use Rattle.std.specs.Option.{option_map}
-use Rattle.hac_model.specs.Run.Answers.{first_cause}
+use Rattle.std.proofs.Common.{◌≡◌, ℕ, cond, List, [], ◌∷◌, subst, refl, ap, sym, ◌∙◌}
+use Rattle.std.specs.Prelude.{⊤, Option, Some, None, Result, IsTrue}
+use Rattle.hac_model.specs.Run.Answers.{Passes, Refuses, first_cause}
 use Rattle.hac_model.specs.Tree.Bare.{bare}
-use Rattle.hac_model.specs.Run.Refusals.{blocked, directory_cause, filled_cause, least_path, plain_cause, referenced_cause, root_cause, taken_cause, under_cause, written_cause}
+use Rattle.hac_model.specs.Run.Refusals.{already_cause, blocked, directory_cause, filled_cause, plain_cause, referenced_cause, root_cause, taken_cause, under_cause, unlinked_cause, unmarked_cause, written_cause}
 use Rattle.hac_model.specs.declared.places.Place.{Place}
 use Rattle.hac_model.specs.declared.places.Place.TheVariants.{There, Free}
 use Rattle.hac_model.specs.declared.replies.Refusal.TheVariants as refusal
 use Rattle.hac_model.specs.declared.resolved.Resolved.{Resolved}
-use Rattle.hac_model.specs.declared.resolved.Resolved.TheVariants.{Mkdir, Rmdir, Write, Cat, Ls, Mv, Rm, Smkdir, Setq, Unq, Query, Sls, Sln, Srm, Sforget, Find, Index, Counts}
+use Rattle.hac_model.specs.declared.resolved.Resolved.TheVariants.{Mkdir, Rmdir, Write, Cat, Mv, Rm, Smkdir, Unq, Query, Sls, Sln, Srm, Sforget}
 use Rattle.hac_model.specs.declared.states.State.{State}
-use Rattle.hac_core.specs.Blocking.{is_alone, is_linking}
-use Rattle.kept_state.proofs.StateLemmas.{same-bare, same-directory, same-inside, same-path, same-referrers, same-semantic}
+use Rattle.hac_core.specs.Blocking.{item_cause, link_cause, tree_cause}
+use Rattle.hac_model.specs.Tree.Valid.{IsLayout}
+use Rattle.hac_model.specs.Tree.{is_file_at, is_live}
+use Rattle.hac_model.specs.declared.replies.Deny.{Deny}
+use Rattle.hac_model.specs.declared.replies.Deny.TheVariants as deny
+use Rattle.hac_model.specs.declared.replies.Refusal.{Refusal}
+use Rattle.hac_model.proofs.EventLemmas.{file-there, no_cause}
+use Rattle.kept_state.proofs.StateLemmas.{same-bare, same-directory, same-inside, same-path, same-semantic}
 
 module _ (s t : State) (bares : bare s ≡ bare t) where
-  pub same-directory_cause : (n : ℕ) → directory_cause s n ≡ directory_cause t n
+  same-directory_cause : (n : ℕ) → directory_cause s n ≡ directory_cause t n
   same-directory_cause n = λ i. cond (same-directory s t bares n i) (Some (refusal.NotFile (same-path s t bares n i))) None
 
-  pub same-plain_cause : (dir : ℕ) → plain_cause s dir ≡ plain_cause t dir
+  same-plain_cause : (dir : ℕ) → plain_cause s dir ≡ plain_cause t dir
   same-plain_cause dir = λ i. cond (same-semantic s t bares dir i) None (Some (refusal.NotSemantic (same-path s t bares dir i)))
 
-  pub same-full_cause : (dir : ℕ) → filled_cause s dir ≡ filled_cause t dir
+  same-full_cause : (dir : ℕ) → filled_cause s dir ≡ filled_cause t dir
   same-full_cause dir = λ i. cond (same-bare s t bares dir i) None (Some (refusal.NotEmpty (same-path s t bares dir i)))
 
   same-written : (place : Place) → written_cause s place ≡ written_cause t place
@@ -36,46 +41,53 @@ module _ (s t : State) (bares : bare s ≡ bare t) where
   same-under entry (There number) = refl
   same-under entry (Free dir name) = λ i. cond (same-inside s t bares dir entry i) (Some (refusal.Under (same-path s t bares entry i))) None
 
-  pub same-blocked : (r : Resolved) → is_alone r ≡ true → blocked s r ≡ blocked t r
-  same-blocked (Mkdir place) alone = same-taken place
-  same-blocked (Rmdir dir) alone = absurd cc
-  same-blocked (Write place text) alone = same-written place
-  same-blocked (Cat entry) alone = same-directory_cause entry
-  same-blocked (Ls dir) alone = refl
-  same-blocked (Mv entry place) alone = λ i. first_cause (root_cause entry ∷ same-taken place i ∷ same-under entry place i ∷ [])
-  same-blocked (Rm entry) alone = λ i. first_cause (root_cause entry ∷ same-directory_cause entry i ∷ [])
-  same-blocked (Smkdir place query) alone = same-taken place
-  same-blocked (Setq dir query) alone = refl
-  same-blocked (Unq dir) alone = same-plain_cause dir
-  same-blocked (Query dir) alone = same-plain_cause dir
-  same-blocked (Sls dir) alone = same-plain_cause dir
-  same-blocked (Sln item dir) alone = absurd cc
-  same-blocked (Srm item dir) alone = absurd cc
-  same-blocked (Sforget item dir) alone = absurd cc
-  same-blocked (Find query) alone = refl
-  same-blocked Index alone = refl
-  same-blocked Counts alone = refl
+  pub same-tree : (r : Resolved) → tree_cause s r ≡ tree_cause t r
+  same-tree (Mkdir place) = same-taken place
+  same-tree (Rmdir dir) = λ i. first_cause (root_cause dir ∷ same-full_cause dir i ∷ [])
+  same-tree (Write place text) = same-written place
+  same-tree (Cat entry) = same-directory_cause entry
+  same-tree (Mv entry place) = λ i. first_cause (root_cause entry ∷ same-taken place i ∷ same-under entry place i ∷ [])
+  same-tree (Rm entry) = λ i. first_cause (root_cause entry ∷ same-directory_cause entry i ∷ [])
+  same-tree (Smkdir place query) = same-taken place
+  same-tree (Unq dir) = same-plain_cause dir
+  same-tree (Query dir) = same-plain_cause dir
+  same-tree (Sls dir) = same-plain_cause dir
+  same-tree (Sln item dir) = λ i. first_cause (same-directory_cause item i ∷ same-plain_cause dir i ∷ [])
+  same-tree (Srm item dir) = λ i. first_cause (same-directory_cause item i ∷ same-plain_cause dir i ∷ [])
+  same-tree (Sforget item dir) = λ i. first_cause (same-directory_cause item i ∷ same-plain_cause dir i ∷ [])
+  same-tree other = refl
 
-  same-referenced : (dir : ℕ) → referenced_cause s dir ≡ referenced_cause t dir
-  same-referenced dir = ap (λ (paths : List (List (List ℕ))). option_map refusal.Referenced (least_path paths)) (same-referrers s t bares dir)
+-- What blocks a command is what the tree says, and then what links, marks and other queries say.
 
-  -- so is what blocks any command that speaks of no link
-  pub same-unlinked : (r : Resolved) → is_linking r ≡ false → blocked s r ≡ blocked t r
-  same-unlinked (Rmdir dir) other = λ i. first_cause (root_cause dir ∷ same-full_cause dir i ∷ same-referenced dir i ∷ [])
-  same-unlinked (Mkdir place) other = same-blocked (Mkdir place) refl
-  same-unlinked (Write place text) other = same-blocked (Write place text) refl
-  same-unlinked (Cat entry) other = same-blocked (Cat entry) refl
-  same-unlinked (Ls dir) other = refl
-  same-unlinked (Mv entry place) other = same-blocked (Mv entry place) refl
-  same-unlinked (Rm entry) other = same-blocked (Rm entry) refl
-  same-unlinked (Smkdir place query) other = same-blocked (Smkdir place query) refl
-  same-unlinked (Setq dir query) other = refl
-  same-unlinked (Unq dir) other = same-blocked (Unq dir) refl
-  same-unlinked (Query dir) other = same-blocked (Query dir) refl
-  same-unlinked (Sls dir) other = same-blocked (Sls dir) refl
-  same-unlinked (Sln item dir) other = absurd cc
-  same-unlinked (Srm item dir) other = absurd cc
-  same-unlinked (Sforget item dir) other = absurd cc
-  same-unlinked (Find query) other = refl
-  same-unlinked Index other = refl
-  same-unlinked Counts other = refl
+alone : (o : Option Refusal) → first_cause (o ∷ None ∷ []) ≡ o
+alone None = refl
+alone (Some e) = refl
+
+joined : (a b c : Option Refusal) → first_cause (first_cause (a ∷ b ∷ []) ∷ c ∷ []) ≡ first_cause (a ∷ b ∷ c ∷ [])
+joined (Some e) b c = refl
+joined None (Some e) c = refl
+joined None None c = refl
+
+parted : (s : State) (r : Resolved) → first_cause (tree_cause s r ∷ link_cause s r ∷ []) ≡ blocked s r
+parted s (Rmdir dir) = joined (root_cause dir) (filled_cause s dir) (referenced_cause s dir)
+parted s (Sln item dir) = joined (directory_cause s item) (plain_cause s dir) (already_cause s item dir)
+parted s (Srm item dir) = joined (directory_cause s item) (plain_cause s dir) (unlinked_cause s item dir)
+parted s (Sforget item dir) = joined (directory_cause s item) (plain_cause s dir) (unmarked_cause s item dir)
+parted s other = alone (blocked s other)
+
+-- a command that the tree refuses is refused, and one that it lets pass is refused for what else blocks it
+pub blocked-early : (s : State) (r : Resolved) (deny : Deny) → Refuses deny (tree_cause s r) → Refuses deny (blocked s r)
+blocked-early s r (deny.Refused e) h = sym (parted s r) ∙ ap (λ (o : Option Refusal). first_cause (o ∷ link_cause s r ∷ [])) h
+blocked-early s r deny.Memory h = tt
+
+pub blocked-late : {A : Type 0} (s : State) (r : Resolved) (result : Result A Deny) → tree_cause s r ≡ None → Passes result (link_cause s r) → Passes result (blocked s r)
+blocked-late s r result free passes =
+    subst (λ (cause : Option Refusal). Passes result cause) (sym (ap (λ (o : Option Refusal). first_cause (o ∷ link_cause s r ∷ [])) free ∙ single (link_cause s r)) ∙ parted s r) passes
+  where
+    single : (o : Option Refusal) → first_cause (None ∷ o ∷ []) ≡ o
+    single None = refl
+    single (Some e) = refl
+
+-- an item that may be a link is a file
+pub item-file : (s : State) (item dir : ℕ) → IsLayout s → IsTrue (is_live s.entries item) → item_cause s item dir ≡ None → IsTrue (is_file_at s.entries item)
+item-file s item dir h lives free = file-there s h item lives (no_cause (directory_cause s item) (plain_cause s dir ∷ []) free).0

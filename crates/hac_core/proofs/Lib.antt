@@ -1,10 +1,4 @@
-pub mod StandingLemmas
-pub mod ShallowLemmas
-pub mod LimitingLemmas
-pub mod ListingLemmas
-pub mod DataLemmas
-pub mod MachineLemmas
-pub mod BlockingLemmas
-pub mod LedLemmas
-pub mod StandsLemmas
-pub mod FittingLemmas
+mod BlockingLemmas
+mod DraftLemmas
+mod FittingLemmas
+mod StandsLemmas

@@ -7,22 +7,22 @@ use Rattle.hac_model.specs.declared.resolved.Resolved.{Resolved}
 use Rattle.hac_model.specs.declared.resolved.Resolved.TheVariants.{Mkdir, Rmdir, Write, Cat, Ls, Mv, Rm, Smkdir, Setq, Unq, Query, Sls, Sln, Srm, Sforget, Find, Index, Counts}
 use Rattle.hac_model.specs.Tree.Bare.{bare}
 use Rattle.hac_model.specs.declared.states.State.{State}
-use Rattle.file_tree.specs.Answers.{is_live}
-use Rattle.hac_core.specs.Standing.{AllStand, StandsAt}
-use Rattle.kept_state.proofs.StateLemmas.{same-asks, same-directory, same-some}
+use Rattle.hac_model.specs.Tree.{is_live}
+use Rattle.hac_model.specs.Run.Standing.{AllStand, StandsAt}
+use Rattle.kept_state.proofs.StateLemmas.{same-asks, same-directory, same-free, same-some}
 
 module _ (s t : State) (bares : bare s ≡ bare t) where
-  pub live : (n : ℕ) → IsTrue (is_live s.entries n) → IsTrue (is_live t.entries n)
+  live : (n : ℕ) → IsTrue (is_live s.entries n) → IsTrue (is_live t.entries n)
   live n h = ap (λ (b : Bool). n == 0 || b) (sym (same-some s t bares n)) ∙ h
 
   place : (p : Place) → StandsAt s p → StandsAt t p
   place (There number) h = live number h
-  place (Free dir name) h = sym (same-directory s t bares dir) ∙ h
+  place (Free dir name) h = sym (same-free s t bares dir name) ∙ h
 
   pub stands-kept : (r : Resolved) → AllStand s r → AllStand t r
   stands-kept (Mkdir p) h = place p h
   stands-kept (Rmdir dir) h = sym (same-directory s t bares dir) ∙ h
-  stands-kept (Write p text) h = place p h
+  stands-kept (Write p text) h = (place p h.0, h.1)
   stands-kept (Cat entry) h = live entry h
   stands-kept (Ls dir) h = sym (same-directory s t bares dir) ∙ h
   stands-kept (Mv entry p) h = (live entry h.0, place p h.1)

@@ -1,16 +1,28 @@
--- Commands by what blocks them.
-use Rattle.std.specs.Prelude.{Bool, true, false, not}
+-- What blocks a command, by the part of the state that says so.
+use Rattle.std.specs.Prelude.{ℕ, List, [], ◌∷◌, Option, None}
+use Rattle.hac_model.specs.Run.Answers.{first_cause}
+use Rattle.hac_model.specs.Run.Refusals.{already_cause, blocked, directory_cause, filled_cause, plain_cause, referenced_cause, root_cause, unlinked_cause, unmarked_cause}
+use Rattle.hac_model.specs.declared.replies.Refusal.{Refusal}
 use Rattle.hac_model.specs.declared.resolved.Resolved.{Resolved}
 use Rattle.hac_model.specs.declared.resolved.Resolved.TheVariants.{Rmdir, Sln, Srm, Sforget}
+use Rattle.hac_model.specs.declared.states.State.{State}
 
--- the command speaks of a link
-abbrev pub is_linking : Resolved → Bool
-is_linking (Sln item dir) = true
-is_linking (Srm item dir) = true
-is_linking (Sforget item dir) = true
-is_linking other = false
+-- an item and a semantic directory are wanted
+abbrev pub item_cause : State → ℕ → ℕ → Option Refusal
+item_cause s item dir = first_cause (directory_cause s item ∷ plain_cause s dir ∷ [])
 
--- what blocks the command depends on no link, and on no query of another directory
-abbrev pub is_alone : Resolved → Bool
-is_alone (Rmdir dir) = false
-is_alone other = not (is_linking other)
+-- what the tree says of the command
+abbrev pub tree_cause : State → Resolved → Option Refusal
+tree_cause s (Rmdir dir) = first_cause (root_cause dir ∷ filled_cause s dir ∷ [])
+tree_cause s (Sln item dir) = item_cause s item dir
+tree_cause s (Srm item dir) = item_cause s item dir
+tree_cause s (Sforget item dir) = item_cause s item dir
+tree_cause s other = blocked s other
+
+-- what links, marks and the queries of other directories say of it
+abbrev pub link_cause : State → Resolved → Option Refusal
+link_cause s (Rmdir dir) = referenced_cause s dir
+link_cause s (Sln item dir) = already_cause s item dir
+link_cause s (Srm item dir) = unlinked_cause s item dir
+link_cause s (Sforget item dir) = unmarked_cause s item dir
+link_cause s other = None

@@ -1,30 +1,101 @@
--- Commands that a state doesn't refuse so far.
-use Rattle.std.specs.Prelude.{◌≡◌, Bool, true, false, None, Ok, IsTrue}
-use Rattle.hac_model.specs.Script.Lines.{is_spelled}
-use Rattle.hac_model.specs.Run.Refusals.{early_cause}
+-- Commands that a state doesn't refuse so far, and what they lead to.
+use Rattle.std.specs.Prelude.{◌≡◌, ⊤, ℕ, Bool, true, false, List, [], ◌∷◌, replicate, Option, None, Some, Result, Ok}
+use Rattle.std.specs.Option.{option_map}
+use Rattle.hac_model.specs.Laws.{AllHappen}
+use Rattle.hac_model.specs.Run.Answers.{first_cause}
+use Rattle.hac_model.specs.Run.Refusals.{cause, cycle_against, early_cause, event_of, events_of}
 use Rattle.hac_model.specs.Run.Resolving.{resolve}
+use Rattle.hac_model.specs.Run.Standing.{AllStand}
+use Rattle.hac_model.specs.Tree.Events.{apply, dirty}
+use Rattle.hac_model.specs.Tree.Limits.{counts, first_passed, layout_limits}
 use Rattle.hac_model.specs.declared.commands.Line.{Line}
+use Rattle.hac_model.specs.declared.events.Event.{Event}
+use Rattle.hac_model.specs.declared.events.Event.TheVariants.{Step}
+use Rattle.hac_model.specs.declared.places.Place.{Place}
+use Rattle.hac_model.specs.declared.places.Place.TheVariants.{There, Free}
+use Rattle.hac_model.specs.declared.replies.Refusal.{Refusal}
+use Rattle.hac_model.specs.declared.replies.Refusal.TheVariants.{Limit}
 use Rattle.hac_model.specs.declared.resolved.Resolved.{Resolved}
-use Rattle.hac_model.specs.declared.resolved.Resolved.TheVariants.{Cat, Ls, Query, Sls, Find, Counts}
+use Rattle.hac_model.specs.declared.resolved.Resolved.TheVariants.{Cat, Ls, Query, Sls, Find, Counts, Index}
 use Rattle.hac_model.specs.declared.states.State.{State}
+use Rattle.hac_core.specs.declared.drafts.Change.{Change}
+use Rattle.hac_core.specs.declared.drafts.Known.{Known}
+use Rattle.hac_core.specs.declared.drafts.Known.TheVariants.{Reads, Changes, Indexes}
+use Rattle.hac_core.specs.declared.drafts.Settled.{Settled}
+use Rattle.hac_core.specs.declared.drafts.Settled.TheVariants as settled
+use Rattle.hac_core.specs.declared.events.Made.{Made}
+use Rattle.hac_core.specs.declared.events.Made.TheVariants as made
+
+-- the place is vacant
+abbrev pub IsFree : Place → Type 0
+IsFree (There number) = ⊥
+IsFree (Free dir name) = ⊤
 
 -- the command only reads
-abbrev pub reads : Resolved → Bool
-reads (Cat entry) = true
-reads (Ls dir) = true
-reads (Query dir) = true
-reads (Sls dir) = true
-reads (Find query) = true
-reads Counts = true
+abbrev pub is_reading : Resolved → Bool
+is_reading (Cat entry) = true
+is_reading (Ls dir) = true
+is_reading (Query dir) = true
+is_reading (Sls dir) = true
+is_reading (Find query) = true
+is_reading Counts = true
+is_reading other = false
+
+-- the command makes this event, or so many steps, or it is this one and only reads
+abbrev pub Makes : State → Resolved → Made → Type 0
+Makes s command (made.Event event) = event_of command ≡ Some event
+Makes s command (made.Steps count) = (command ≡ Index) × (count ≡ dirty s)
+Makes s command (made.Nothing shown) = (shown ≡ command) × (is_reading command ≡ true)
+
+-- the change is counted: its counts are those of the state after its event
+abbrev pub IsCounted : State → Change → Type 0
+IsCounted s change = change.counts ≡ counts (apply s change.event)
+
+-- the event is counted
+abbrev pub IsChange : State → Event → Known → Type 0
+IsChange s event (Changes change) = (change.event ≡ event) × IsCounted s change
+IsChange s event other = ⊥
+
+-- what is known of the command
+abbrev pub Knows : State → Resolved → Known → Type 0
+Knows s command (Reads shown) = (shown ≡ command) × (is_reading command ≡ true)
+Knows s command (Changes change) = (event_of command ≡ Some change.event) × IsCounted s change
+Knows s command (Indexes count) = (command ≡ Index) × (count ≡ dirty s)
+
+-- nothing refuses the command so far: the limits that depend on what spaces answer are left
+pub record IsDraftFor (s : State) (command : Resolved) (draft : Known) : Type 0 where
+  pub stands : AllStand s command
+  pub cause : early_cause s command ≡ None
+  pub known : Knows s command draft
+
+-- the command that the line was resolved to
+abbrev pub IsDraftOf : State → Line → Known → Type 0
+IsDraftOf s line draft = (command : Resolved) × (resolve s line ≡ Ok command) × IsDraftFor s command draft
+
+-- some command
+abbrev pub IsDraft : State → Known → Type 0
+IsDraft s draft = (command : Resolved) × IsDraftFor s command draft
+
+abbrev pub reads : Known → Bool
+reads (Reads command) = true
 reads other = false
 
--- the line was resolved to the command, and nothing refuses it so far: the limits that depend on what spaces answer are
--- left
-pub record IsDraftOf (s : State) (line : Line) (draft : Resolved) : Type 0 where
-  pub spelled : IsTrue (is_spelled line.command)
-  pub resolved : resolve s line ≡ Ok draft
-  pub cause : early_cause s draft ≡ None
+-- the first cause against an event that nothing blocks: a limit on the tree itself, then a cycle
+abbrev pub change_cause : State → Event → Option Refusal
+change_cause s event = first_cause (option_map Limit (first_passed (layout_limits (counts (apply s event)))) ∷ cycle_against s event ∷ [])
 
--- some line does
-abbrev pub IsDraft : State → Resolved → Type 0
-IsDraft s draft = (line : Line) × IsDraftOf s line draft
+-- the events of an outcome, one after the other
+abbrev pub settled_events : Settled → List Event
+settled_events (settled.Change change) = change.event ∷ []
+settled_events (settled.Steps count) = replicate count Step
+
+-- they can happen to the state, and a change is counted
+abbrev pub CanSettle : State → Settled → Type 0
+CanSettle s (settled.Change change) = AllHappen s (change.event ∷ []) × IsCounted s change
+CanSettle s (settled.Steps count) = AllHappen s (replicate count Step)
+
+-- nothing refuses the command, and this is its outcome
+pub record Settles (s : State) (command : Resolved) (outcome : Settled) : Type 0 where
+  pub cause : cause s command ≡ None
+  pub events : settled_events outcome ≡ events_of s command
+  pub can : CanSettle s outcome

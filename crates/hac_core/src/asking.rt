@@ -1,12 +1,11 @@
 //! Which queries may be asked.
-ghost use Rattle.std.specs.Prelude.{◌≡◌, ◌-◌, if◌then◌else◌, length, nat_le, nat_lt};
+ghost use Rattle.std.specs.Prelude.{◌≡◌, ◌-◌, if◌then◌else◌, nat_le, nat_lt};
 ghost use Rattle.hac_model.specs.Tree.Depends.{named_in};
 ghost use Rattle.hac_model.specs.Tree.Events.{are_directories, may_ask};
-ghost use Rattle.hac_model.specs.Query.Queries.{are_terms, is_query, is_term, letter_count, not_count, term_size};
-ghost use Rattle.hac_model.specs.Query.Words.{is_word};
+ghost use Rattle.hac_model.specs.Query.Queries.{are_terms, is_query, letter_count, not_count};
 
 use file_tree::Tree;
-use hac_model::{NESTING_LIMIT, Node, Number, QUERY_LIMIT, Query, TERMS_LIMIT, Term};
+use hac_model::{NESTING_LIMIT, Node, Number, QUERY_LIMIT, Query, TERMS_LIMIT};
 use hac_words::is_word;
 use query_text::terms_left;
 
@@ -32,29 +31,21 @@ fn are_terms(query: &Query<Number>) -> bool
     ensures { result ≡ are_terms query.now }
 {
     match &query.node {
-        Node::Term(term) => is_word(letters(term)),
+        Node::Term(term) => is_word(term.letters()),
         Node::Dir(_) => true,
         Node::Not(query) => are_terms(query),
         Node::And(left, right) | Node::Or(left, right) => are_terms(left) && are_terms(right),
     }
 }
 
-/// The letters of a term.
-fn letters(term: &Term) -> &[u8]
-    ensures word { is_word result.now ≡ is_term term.now }
-    ensures size { length result.now ≡ term_size term.now }
-{
-    match term {
-        Term::Word(letters) | Term::Prefix(letters) => letters.as_bytes(),
-    }
-}
-
-/// How many letters may follow those of a query, if `most` may be there in all; None if it has more.
+/// How many letters may follow those of a query, if `most` may be there in all; None if it has
+/// more.
 fn letters_left(most: usize, query: &Query<Number>) -> Option<usize>
-    ensures { result ≡ (if nat_lt most (letter_count query.now) then None else Some (most - letter_count query.now)) }
+    ensures { result ≡ (if nat_lt most (letter_count query.now) then None else Some
+        (most - letter_count query.now)) }
 {
     match &query.node {
-        Node::Term(term) => most.checked_sub(letters(term).len()),
+        Node::Term(term) => most.checked_sub(term.letters().len()),
         Node::Dir(_) => Some(most),
         Node::Not(query) => letters_left(most, query),
         Node::And(left, right) | Node::Or(left, right) => {

@@ -1,35 +1,37 @@
 //! Each command with what its paths lead to, from left to right.
-ghost use Rattle.std.specs.Prelude.{◌≡◌, ℕ, List};
+ghost use Rattle.std.specs.Prelude.{◌≡◌, IsTrue};
 ghost use Rattle.hac_model.specs.Run.Answers.{Answers};
-ghost use Rattle.hac_model.specs.Run.Resolving.{resolve, resolved};
+ghost use Rattle.hac_model.specs.Run.Resolving.{resolved};
+ghost use Rattle.hac_model.specs.Tree.{is_directory_at};
 
 use crate::resolving::{directory, entry, listed, numbered, place};
 use file_tree::Tree;
-use hac_model::{Command, Deny, Line, PathWord, RawQuery, Refusal, Resolved, Text};
+use hac_model::{Command, Deny, Number, PathWord, RawQuery, Refusal, Resolved, Text};
 use std::alloc::Global;
 
-/// The command of a line with what its paths lead to, or the first cause against it that lies in them.
-pub fn resolve(alloc: Global, tree: &Tree, line: Line) -> Result<Resolved, Deny>
-    ensures { Answers result (resolve tree.now.state line) }
+/// The command with what its paths lead to from a directory, or the first cause against it that
+/// lies in them.
+pub fn resolve(alloc: Global, tree: &Tree, base: Number, command: Command) -> Result<Resolved, Deny>
+    requires { IsTrue (is_directory_at tree.now.state.entries base) }
+    ensures { Answers result (resolved tree.now.state base command) }
 {
-    let Line { command, .. } = line;
     match command {
-        Command::Mkdir { path } => mkdir(tree, &path),
-        Command::Rmdir { path } => rmdir(tree, &path),
-        Command::Write { path, text } => write(tree, &path, text),
-        Command::Cat { path } => cat(tree, &path),
-        Command::Ls { path } => ls(tree, &path),
-        Command::Mv { from, to } => mv(tree, &from, &to),
-        Command::Rm { path } => rm(tree, &path),
-        Command::Smkdir { path, query } => smkdir(alloc, tree, &path, query),
-        Command::Setq { path, query } => setq(alloc, tree, &path, query),
-        Command::Unq { path } => unq(tree, &path),
-        Command::Query { path } => query(tree, &path),
-        Command::Sls { path } => sls(tree, &path),
-        Command::Sln { item, dir } => sln(tree, &item, &dir),
-        Command::Srm { item, dir } => srm(tree, &item, &dir),
-        Command::Sforget { item, dir } => sforget(tree, &item, &dir),
-        Command::Find { query } => find(alloc, tree, query),
+        Command::Mkdir { path } => mkdir(tree, base, &path),
+        Command::Rmdir { path } => rmdir(tree, base, &path),
+        Command::Write { path, text } => write(tree, base, &path, text),
+        Command::Cat { path } => cat(tree, base, &path),
+        Command::Ls { path } => ls(tree, base, &path),
+        Command::Mv { from, to } => mv(tree, base, &from, &to),
+        Command::Rm { path } => rm(tree, base, &path),
+        Command::Smkdir { path, query } => smkdir(alloc, tree, base, &path, query),
+        Command::Setq { path, query } => setq(alloc, tree, base, &path, query),
+        Command::Unq { path } => unq(tree, base, &path),
+        Command::Query { path } => query(tree, base, &path),
+        Command::Sls { path } => sls(tree, base, &path),
+        Command::Sln { item, dir } => sln(tree, base, &item, &dir),
+        Command::Srm { item, dir } => srm(tree, base, &item, &dir),
+        Command::Sforget { item, dir } => sforget(tree, base, &item, &dir),
+        Command::Find { query } => find(alloc, tree, base, query),
         Command::Index => Ok(Resolved::Index),
         Command::Counts => Ok(Resolved::Counts),
         _ => Err(Deny::Refused(Refusal::BadLine)),
@@ -37,139 +39,167 @@ pub fn resolve(alloc: Global, tree: &Tree, line: Line) -> Result<Resolved, Deny>
 }
 
 /// `mkdir PATH`.
-fn mkdir(tree: &Tree, path: &PathWord) -> Result<Resolved, Deny>
-    ensures { (session : List ℕ) → Answers result (resolved tree.now.state session (Command.Mkdir path.now)) }
+fn mkdir(tree: &Tree, base: Number, path: &PathWord) -> Result<Resolved, Deny>
+    requires { IsTrue (is_directory_at tree.now.state.entries base) }
+    ensures { Answers result (resolved tree.now.state base (Command.Mkdir path.now)) }
 {
-    let place = place(tree, path)?;
+    let place = place(tree, base, path)?;
     Ok(Resolved::Mkdir { place })
 }
 
 /// `rmdir PATH`.
-fn rmdir(tree: &Tree, path: &PathWord) -> Result<Resolved, Deny>
-    ensures { (session : List ℕ) → Answers result (resolved tree.now.state session (Command.Rmdir path.now)) }
+fn rmdir(tree: &Tree, base: Number, path: &PathWord) -> Result<Resolved, Deny>
+    requires { IsTrue (is_directory_at tree.now.state.entries base) }
+    ensures { Answers result (resolved tree.now.state base (Command.Rmdir path.now)) }
 {
-    let dir = directory(tree, path)?;
+    let dir = directory(tree, base, path)?;
     Ok(Resolved::Rmdir { dir })
 }
 
 /// `write PATH TEXT`.
-fn write(tree: &Tree, path: &PathWord, text: Text) -> Result<Resolved, Deny>
-    ensures { (session : List ℕ) → Answers result (resolved tree.now.state session (Command.Write path.now text)) }
+fn write(tree: &Tree, base: Number, path: &PathWord, text: Text) -> Result<Resolved, Deny>
+    requires { IsTrue (is_directory_at tree.now.state.entries base) }
+    ensures { Answers result (resolved tree.now.state base (Command.Write path.now text)) }
 {
-    let place = place(tree, path)?;
+    let place = place(tree, base, path)?;
     Ok(Resolved::Write { place, text })
 }
 
 /// `cat PATH`.
-fn cat(tree: &Tree, path: &PathWord) -> Result<Resolved, Deny>
-    ensures { (session : List ℕ) → Answers result (resolved tree.now.state session (Command.Cat path.now)) }
+fn cat(tree: &Tree, base: Number, path: &PathWord) -> Result<Resolved, Deny>
+    requires { IsTrue (is_directory_at tree.now.state.entries base) }
+    ensures { Answers result (resolved tree.now.state base (Command.Cat path.now)) }
 {
-    let entry = entry(tree, path)?;
+    let entry = entry(tree, base, path)?;
     Ok(Resolved::Cat { entry })
 }
 
 /// `ls` with a path or without.
-fn ls(tree: &Tree, path: &Option<PathWord>) -> Result<Resolved, Deny>
-    ensures { (session : List ℕ) → Answers result (resolved tree.now.state session (Command.Ls path.now)) }
+fn ls(tree: &Tree, base: Number, path: &Option<PathWord>) -> Result<Resolved, Deny>
+    requires { IsTrue (is_directory_at tree.now.state.entries base) }
+    ensures { Answers result (resolved tree.now.state base (Command.Ls path.now)) }
 {
-    let dir = listed(tree, path)?;
+    let dir = listed(tree, base, path)?;
     Ok(Resolved::Ls { dir })
 }
 
 /// `mv FROM TO`.
-fn mv(tree: &Tree, from: &PathWord, to: &PathWord) -> Result<Resolved, Deny>
-    ensures { (session : List ℕ) → Answers result (resolved tree.now.state session (Command.Mv from.now to.now)) }
+fn mv(tree: &Tree, base: Number, from: &PathWord, to: &PathWord) -> Result<Resolved, Deny>
+    requires { IsTrue (is_directory_at tree.now.state.entries base) }
+    ensures { Answers result (resolved tree.now.state base (Command.Mv from.now to.now)) }
 {
-    let entry = entry(tree, from)?;
-    let place = place(tree, to)?;
+    let entry = entry(tree, base, from)?;
+    let place = place(tree, base, to)?;
     Ok(Resolved::Mv { entry, place })
 }
 
 /// `rm PATH`.
-fn rm(tree: &Tree, path: &PathWord) -> Result<Resolved, Deny>
-    ensures { (session : List ℕ) → Answers result (resolved tree.now.state session (Command.Rm path.now)) }
+fn rm(tree: &Tree, base: Number, path: &PathWord) -> Result<Resolved, Deny>
+    requires { IsTrue (is_directory_at tree.now.state.entries base) }
+    ensures { Answers result (resolved tree.now.state base (Command.Rm path.now)) }
 {
-    let entry = entry(tree, path)?;
+    let entry = entry(tree, base, path)?;
     Ok(Resolved::Rm { entry })
 }
 
 /// `smkdir PATH QUERY`.
-fn smkdir(alloc: Global, tree: &Tree, path: &PathWord, query: RawQuery) -> Result<Resolved, Deny>
-    ensures { (session : List ℕ) → Answers result (resolved tree.now.state session (Command.Smkdir path.now query)) }
+fn smkdir(
+    alloc: Global,
+    tree: &Tree,
+    base: Number,
+    path: &PathWord,
+    query: RawQuery,
+) -> Result<Resolved, Deny>
+    requires { IsTrue (is_directory_at tree.now.state.entries base) }
+    ensures { Answers result (resolved tree.now.state base (Command.Smkdir path.now query)) }
 {
-    let place = place(tree, path)?;
-    match numbered(alloc, tree, query) {
+    let place = place(tree, base, path)?;
+    match numbered(alloc, tree, base, query) {
         Ok(query) => Ok(Resolved::Smkdir { place, query }),
         Err(deny) => Err(deny),
     }
 }
 
 /// `setq PATH QUERY`.
-fn setq(alloc: Global, tree: &Tree, path: &PathWord, query: RawQuery) -> Result<Resolved, Deny>
-    ensures { (session : List ℕ) → Answers result (resolved tree.now.state session (Command.Setq path.now query)) }
+fn setq(
+    alloc: Global,
+    tree: &Tree,
+    base: Number,
+    path: &PathWord,
+    query: RawQuery,
+) -> Result<Resolved, Deny>
+    requires { IsTrue (is_directory_at tree.now.state.entries base) }
+    ensures { Answers result (resolved tree.now.state base (Command.Setq path.now query)) }
 {
-    let dir = directory(tree, path)?;
-    match numbered(alloc, tree, query) {
+    let dir = directory(tree, base, path)?;
+    match numbered(alloc, tree, base, query) {
         Ok(query) => Ok(Resolved::Setq { dir, query }),
         Err(deny) => Err(deny),
     }
 }
 
 /// `unq PATH`.
-fn unq(tree: &Tree, path: &PathWord) -> Result<Resolved, Deny>
-    ensures { (session : List ℕ) → Answers result (resolved tree.now.state session (Command.Unq path.now)) }
+fn unq(tree: &Tree, base: Number, path: &PathWord) -> Result<Resolved, Deny>
+    requires { IsTrue (is_directory_at tree.now.state.entries base) }
+    ensures { Answers result (resolved tree.now.state base (Command.Unq path.now)) }
 {
-    let dir = directory(tree, path)?;
+    let dir = directory(tree, base, path)?;
     Ok(Resolved::Unq { dir })
 }
 
 /// `query PATH`.
-fn query(tree: &Tree, path: &PathWord) -> Result<Resolved, Deny>
-    ensures { (session : List ℕ) → Answers result (resolved tree.now.state session (Command.Query path.now)) }
+fn query(tree: &Tree, base: Number, path: &PathWord) -> Result<Resolved, Deny>
+    requires { IsTrue (is_directory_at tree.now.state.entries base) }
+    ensures { Answers result (resolved tree.now.state base (Command.Query path.now)) }
 {
-    let dir = directory(tree, path)?;
+    let dir = directory(tree, base, path)?;
     Ok(Resolved::Query { dir })
 }
 
 /// `sls` with a path or without.
-fn sls(tree: &Tree, path: &Option<PathWord>) -> Result<Resolved, Deny>
-    ensures { (session : List ℕ) → Answers result (resolved tree.now.state session (Command.Sls path.now)) }
+fn sls(tree: &Tree, base: Number, path: &Option<PathWord>) -> Result<Resolved, Deny>
+    requires { IsTrue (is_directory_at tree.now.state.entries base) }
+    ensures { Answers result (resolved tree.now.state base (Command.Sls path.now)) }
 {
-    let dir = listed(tree, path)?;
+    let dir = listed(tree, base, path)?;
     Ok(Resolved::Sls { dir })
 }
 
 /// `sln ITEM DIR`.
-fn sln(tree: &Tree, item: &PathWord, dir: &PathWord) -> Result<Resolved, Deny>
-    ensures { (session : List ℕ) → Answers result (resolved tree.now.state session (Command.Sln item.now dir.now)) }
+fn sln(tree: &Tree, base: Number, item: &PathWord, dir: &PathWord) -> Result<Resolved, Deny>
+    requires { IsTrue (is_directory_at tree.now.state.entries base) }
+    ensures { Answers result (resolved tree.now.state base (Command.Sln item.now dir.now)) }
 {
-    let item = entry(tree, item)?;
-    let dir = directory(tree, dir)?;
+    let item = entry(tree, base, item)?;
+    let dir = directory(tree, base, dir)?;
     Ok(Resolved::Sln { item, dir })
 }
 
 /// `srm ITEM DIR`.
-fn srm(tree: &Tree, item: &PathWord, dir: &PathWord) -> Result<Resolved, Deny>
-    ensures { (session : List ℕ) → Answers result (resolved tree.now.state session (Command.Srm item.now dir.now)) }
+fn srm(tree: &Tree, base: Number, item: &PathWord, dir: &PathWord) -> Result<Resolved, Deny>
+    requires { IsTrue (is_directory_at tree.now.state.entries base) }
+    ensures { Answers result (resolved tree.now.state base (Command.Srm item.now dir.now)) }
 {
-    let item = entry(tree, item)?;
-    let dir = directory(tree, dir)?;
+    let item = entry(tree, base, item)?;
+    let dir = directory(tree, base, dir)?;
     Ok(Resolved::Srm { item, dir })
 }
 
 /// `sforget ITEM DIR`.
-fn sforget(tree: &Tree, item: &PathWord, dir: &PathWord) -> Result<Resolved, Deny>
-    ensures { (session : List ℕ) → Answers result (resolved tree.now.state session (Command.Sforget item.now dir.now)) }
+fn sforget(tree: &Tree, base: Number, item: &PathWord, dir: &PathWord) -> Result<Resolved, Deny>
+    requires { IsTrue (is_directory_at tree.now.state.entries base) }
+    ensures { Answers result (resolved tree.now.state base (Command.Sforget item.now dir.now)) }
 {
-    let item = entry(tree, item)?;
-    let dir = directory(tree, dir)?;
+    let item = entry(tree, base, item)?;
+    let dir = directory(tree, base, dir)?;
     Ok(Resolved::Sforget { item, dir })
 }
 
 /// `find QUERY`.
-fn find(alloc: Global, tree: &Tree, query: RawQuery) -> Result<Resolved, Deny>
-    ensures { (session : List ℕ) → Answers result (resolved tree.now.state session (Command.Find query)) }
+fn find(alloc: Global, tree: &Tree, base: Number, query: RawQuery) -> Result<Resolved, Deny>
+    requires { IsTrue (is_directory_at tree.now.state.entries base) }
+    ensures { Answers result (resolved tree.now.state base (Command.Find query)) }
 {
-    let query = numbered(alloc, tree, query)?;
+    let query = numbered(alloc, tree, base, query)?;
     Ok(Resolved::Find { query })
 }

@@ -1,59 +1,67 @@
-//! Commands that passed the first tests, before their outcome is known.
+//! Commands that passed the first tests, and their outcomes.
 ghost use Rattle.std.specs.Prelude.{◌≡◌};
 ghost use Rattle.hac_core.specs.Drafts.{reads};
 
-use hac_model::{Event, Resolved};
+use hac_model::{Counts, Event, Resolved};
 use std::marker::Model;
 
-/// A command that a machine's state doesn't refuse so far, its paths followed. It says nothing of later states.
+/// An event of a state, and how much the state holds once it has happened. The counts are worked
+/// out once, and kept until the event is applied.
+#[derive(Debug, Drop)]
+pub struct Change {
+    /// The event.
+    pub event: Event,
+    /// How much the state holds after it.
+    pub counts: Counts,
+}
+
+/// What is known of a command that a state doesn't refuse so far.
+#[derive(Debug, Drop)]
+pub(crate) enum Known {
+    /// It only reads.
+    Reads(Resolved),
+    /// It makes an event.
+    Changes(Change),
+    /// It indexes this many files.
+    Indexes(u64),
+}
+
+/// A command that a machine's state doesn't refuse so far, its paths followed. It says nothing of
+/// later states.
 #[derive(Drop)]
 pub struct Draft {
-    command: Resolved,
+    known: Known,
 }
 
 impl Model for Draft {
-    ghost use Rattle.hac_model.specs.declared.resolved.Resolved.{Resolved};
-    ghost use Rattle.hac_model.specs.contracts.resolved.Resolved.{the_row};
+    ghost use Rattle.hac_core.specs.declared.drafts.Known.{Known};
+    ghost use Rattle.hac_core.specs.contracts.drafts.Known.{the_row};
 
-    ghost Value = { Resolved };
+    ghost Value = { Known };
 
     ghost coded = { the_row.coded };
 
-    ghost view = { λ draft. draft.command };
+    ghost view = { λ draft. draft.known };
 }
 
 impl Draft {
-    pub(crate) fn new(command: Resolved) -> Draft
-        ensures { result ≡ command }
+    pub(crate) fn new(known: Known) -> Draft
+        ensures { result ≡ known }
     {
-        Draft { command }
+        Draft { known }
     }
 
     /// Whether the command only reads, so that it is answered by `ask` and not by `settle`.
     pub fn reads(&self) -> bool
         ensures { result ≡ reads self.now }
     {
-        matches!(
-            self.command,
-            Resolved::Cat { .. }
-                | Resolved::Ls { .. }
-                | Resolved::Query { .. }
-                | Resolved::Sls { .. }
-                | Resolved::Find { .. }
-                | Resolved::Counts
-        )
+        matches!(self.known, Known::Reads(_))
     }
 
-    pub(crate) fn command(&self) -> &Resolved
-        ensures { result.now ≡ self.now }
-    {
-        &self.command
-    }
-
-    pub(crate) fn into_command(self) -> Resolved
+    pub(crate) fn into_known(self) -> Known
         ensures { result ≡ self }
     {
-        self.command
+        self.known
     }
 }
 
@@ -61,7 +69,7 @@ impl Draft {
 #[derive(Debug, Drop)]
 pub enum Settled {
     /// One event.
-    Change(Event),
+    Change(Change),
     /// This many index steps.
     Steps(u64),
 }

@@ -1,38 +1,45 @@
-//! The outcome of a command that changes the state.
-ghost use Rattle.std.specs.Prelude.{◌≡◌, ◌∷◌, [], None, false};
+//! What a command makes: an event, index steps, or nothing.
+ghost use Rattle.std.specs.Prelude.{◌≡◌, None};
+ghost use Rattle.hac_model.specs.Run.Refusals.{blocked, marks, writes};
 ghost use Rattle.hac_model.specs.Tree.Events.{dirty};
-ghost use Rattle.hac_model.specs.Run.Refusals.{blocked, events_of, marks, writes};
-ghost use Rattle.hac_core.specs.Drafts.{reads};
-ghost use Rattle.hac_core.specs.Settling.{settled_events};
-ghost use Rattle.hac_core.specs.Standing.{IsFree};
+ghost use Rattle.hac_core.specs.Drafts.{IsFree, Makes};
 
-use crate::drafts::Settled;
 use hac_model::{Event, Kind, Mark, Name, Number, Place, Resolved, Seq, Text};
 use kept_state::KeptState;
 use std::alloc::Global;
 
-/// The outcome of a command that nothing blocks.
-pub fn events_of(alloc: Global, kept: &KeptState, command: Resolved) -> Settled
-    requires free { blocked kept.now.state command ≡ None }
-    requires changes { reads command ≡ false }
-    ensures { settled_events result ≡ events_of kept.now.state command }
+/// What a command makes.
+#[derive(Debug, Drop)]
+pub enum Made {
+    /// One event.
+    Event(Event),
+    /// This many index steps.
+    Steps(u64),
+    /// Nothing: it only reads.
+    Nothing(Resolved),
+}
+
+/// What a command makes that nothing blocks.
+pub fn made_by(alloc: Global, kept: &KeptState, command: Resolved) -> Made
+    requires { blocked kept.now.state command ≡ None }
+    ensures { Makes kept.now.state command result }
 {
     match command {
         Resolved::Mkdir { place } => {
             let (dir, name) = vacancy(place);
-            Settled::Change(Event::Mkdir { dir, name })
+            Made::Event(Event::Mkdir { dir, name })
         }
-        Resolved::Rmdir { dir } => Settled::Change(Event::Rmdir { dir }),
-        Resolved::Write { place, text } => Settled::Change(writing(place, text)),
+        Resolved::Rmdir { dir } => Made::Event(Event::Rmdir { dir }),
+        Resolved::Write { place, text } => Made::Event(writing(place, text)),
         Resolved::Mv { entry, place } => {
             let (dir, name) = vacancy(place);
-            Settled::Change(Event::Mv { entry, dir, name })
+            Made::Event(Event::Mv { entry, dir, name })
         }
-        Resolved::Rm { entry } => Settled::Change(Event::Rm { entry }),
+        Resolved::Rm { entry } => Made::Event(Event::Rm { entry }),
         Resolved::Smkdir { place, query } => {
             let (dir, name) = vacancy(place);
             let told = Seq::new(Vec::new(alloc));
-            Settled::Change(Event::Smkdir {
+            Made::Event(Event::Smkdir {
                 dir,
                 name,
                 query,
@@ -41,14 +48,14 @@ pub fn events_of(alloc: Global, kept: &KeptState, command: Resolved) -> Settled
         }
         Resolved::Setq { dir, query } => {
             let told = Seq::new(Vec::new(alloc));
-            Settled::Change(Event::Setq { dir, query, told })
+            Made::Event(Event::Setq { dir, query, told })
         }
-        Resolved::Unq { dir } => Settled::Change(Event::Unq { dir }),
-        Resolved::Sln { item, dir } => marking(item, dir, Kind::Permanent),
-        Resolved::Srm { item, dir } => marking(item, dir, Kind::Prohibited),
-        Resolved::Sforget { item, dir } => marking(item, dir, Kind::Unlinked),
-        Resolved::Index => Settled::Steps(dirty(kept)),
-        _ => unreachable!(),
+        Resolved::Unq { dir } => Made::Event(Event::Unq { dir }),
+        Resolved::Sln { item, dir } => Made::Event(marking(item, dir, Kind::Permanent)),
+        Resolved::Srm { item, dir } => Made::Event(marking(item, dir, Kind::Prohibited)),
+        Resolved::Sforget { item, dir } => Made::Event(marking(item, dir, Kind::Unlinked)),
+        Resolved::Index => Made::Steps(dirty(kept)),
+        other => Made::Nothing(other),
     }
 }
 
@@ -60,10 +67,10 @@ fn dirty(kept: &KeptState) -> u64
 }
 
 /// An item gets a mark in a directory, or loses it.
-fn marking(item: Number, dir: Number, kind: Kind) -> Settled
-    ensures { settled_events result ≡ marks item dir kind }
+fn marking(item: Number, dir: Number, kind: Kind) -> Event
+    ensures { result ≡ marks item dir kind }
 {
-    Settled::Change(Event::Mark(Mark { dir, item, kind }))
+    Event::Mark(Mark { dir, item, kind })
 }
 
 /// The directory and the name of a free place.
@@ -79,7 +86,7 @@ fn vacancy(place: Place) -> (Number, Name)
 
 /// A text is written to the file that is there, or to a new one.
 fn writing(place: Place, text: Text) -> Event
-    ensures { result ∷ [] ≡ writes place text }
+    ensures { result ≡ writes place text }
 {
     match place {
         Place::There(file) => Event::Rewrite { file, text },

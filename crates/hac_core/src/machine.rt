@@ -1,33 +1,26 @@
 //! The machine itself.
 ghost use Rattle.std.specs.Prelude.{◌≡◌, [], IfOk, IfErr, IsTrue, None, OnOk, OnErr, true, false};
-ghost use Rattle.std.specs.Option.{option_map};
-ghost use Rattle.hac_model.specs.Run.Answers.{Answers, Passes, Refuses};
-ghost use Rattle.hac_model.specs.Tree.Events.{accepted, apply_all, dirty};
-ghost use Rattle.hac_model.specs.Laws.{AllHappen};
-ghost use Rattle.hac_model.specs.Tree.Limits.{first_passed};
+ghost use Rattle.hac_model.specs.Run.Answers.{Answers, Refuses};
+ghost use Rattle.hac_model.specs.Tree.Events.{apply_all, dirty};
 ghost use Rattle.hac_model.specs.Script.Lines.{is_spelled};
-ghost use Rattle.hac_model.specs.Run.Play.{data_lines};
-ghost use Rattle.hac_model.specs.Run.Refusals.{answer_cause, blocked, cause, early_cause, layout_cause, refusal};
+ghost use Rattle.hac_model.specs.Run.Showing.{data_lines};
+ghost use Rattle.hac_model.specs.Run.Refusals.{cause, early_refusal};
 ghost use Rattle.hac_model.specs.Run.Resolving.{resolve};
 ghost use Rattle.hac_model.specs.Tree.{empty};
 ghost use Rattle.hac_model.specs.Tree.Valid.{IsValid};
-ghost use Rattle.hac_core.specs.Drafts.{IsDraft, IsDraftOf, reads};
-ghost use Rattle.hac_core.specs.Limiting.{are_texts};
-ghost use Rattle.hac_core.specs.Settling.{Settles, settled_events};
-ghost use Rattle.hac_core.specs.Standing.{AllStand};
+ghost use Rattle.hac_core.specs.Drafts.{CanSettle, IsDraft, IsDraftFor, IsDraftOf, Settles, reads, settled_events};
+ghost use Rattle.hac_core.specs.Fitting.{FitsAs};
 
 use crate::blocking::unblocked;
 use crate::commands::resolve;
-use crate::cycles::acyclic;
-use crate::drafts::{Draft, Settled};
-use crate::events::events_of;
+use crate::drafting::{drafted, settled};
+use crate::drafts::{Change, Draft, Known, Settled};
 use crate::fitting::fits;
-use crate::limiting::counts_after;
-use crate::listing::data_lines;
-use hac_model::{Deny, Event, Limit, Line, Memory, Refusal, Reply, Resolved, Seq, first_passed};
+use hac_model::{Deny, Event, Line, Memory, Number, Reply, Resolved, Seq};
 use kept_state::KeptState;
 use std::alloc::Global;
 use std::marker::Model;
+use tree_answers::data_lines;
 
 /// A state that is kept so that commands are quick, with the events for which memory was taken.
 #[derive(Drop)]
@@ -67,18 +60,18 @@ impl Machine {
         self.kept.counts().dirty
     }
 
-    /// Follows the paths of a line that spells a command, and says whether the state refuses it: for what the paths
-    /// lead to, for what blocks it, for a limit on the tree itself, or because a directory would depend on
-    /// itself, in this order.
+    /// Follows the paths of a line that spells a command, and says whether the state refuses it:
+    /// for what the paths lead to, for what blocks it, for a limit on the tree itself, or because a
+    /// directory would depend on itself, in this order.
     pub fn check(&self, line: Line) -> Result<Draft, Deny>
         requires { IsTrue (is_spelled line.command) }
         ensures draft { IfOk result (IsDraftOf self.now.state line) }
-        ensures refused { IfErr result (λ deny. Refuses deny (refusal self.now.state line)) }
+        ensures refused { IfErr result (λ deny. Refuses deny (early_refusal self.now.state line)) }
     {
         self.kept.know_valid();
         let command = followed(self.alloc, &self.kept, line)?;
-        match allowed(self.alloc, &self.kept, &command) {
-            Ok(()) => Ok(Draft::new(command)),
+        match unblocked(self.alloc, &self.kept, &command) {
+            Ok(()) => drafted(self.alloc, &self.kept, command),
             Err(deny) => {
                 drop(command);
                 Err(deny)
@@ -90,49 +83,60 @@ impl Machine {
     pub fn ask(&self, draft: Draft) -> Result<Reply, Memory>
         requires made { IsDraft self.now.state draft }
         requires reads { reads draft ≡ true }
-        ensures reply { IfOk result (λ reply. reply ≡ Reply.Lines (data_lines self.now.state draft)) }
-        ensures cause { cause self.now.state draft ≡ None }
+        ensures reply { (command : Resolved) → IsDraftFor self.now.state command draft →
+            IfOk result (λ reply. reply ≡ Reply.Lines (data_lines self.now.state command)) }
+        ensures cause { (command : Resolved) → IsDraftFor self.now.state command draft →
+            cause self.now.state command ≡ None }
     {
         self.kept.know_valid();
-        let lines = data_lines(self.alloc, &self.kept, draft.command());
-        drop(draft);
-        Ok(Reply::Lines(Seq::new(lines?)))
-    }
-
-    /// The outcome of a command that changes the state, unless it would exceed a limit that `check` leaves aside.
-    pub fn settle(&self, draft: Draft) -> Result<Settled, Deny>
-        requires made { IsDraft self.now.state draft }
-        requires changes { reads draft ≡ false }
-        ensures settled { IfOk result (Settles self.now.state draft) }
-        ensures refused { IfErr result (λ deny. Refuses deny (cause self.now.state draft)) }
-    {
-        self.kept.know_valid();
-        let command = draft.into_command();
-        match answerable(&self.kept, &command) {
-            Ok(()) => Ok(events_of(self.alloc, &self.kept, command)),
-            Err(deny) => {
+        match draft.into_known() {
+            Known::Reads(command) => {
+                let lines = data_lines(self.alloc, &self.kept, &command);
                 drop(command);
-                Err(deny)
+                Ok(Reply::Lines(Seq::new(lines?)))
             }
+            Known::Changes(_) | Known::Indexes(_) => unreachable!(),
         }
     }
 
-    /// Whether an event can happen to the state. It may be any event, as one that was read from a log.
-    pub fn fits(&self, event: &Event) -> Result<bool, Memory>
-        ensures { IfOk result (λ fits. fits ≡ accepted self.now.state event.now) }
+    /// The outcome of a command that changes the state, unless it would exceed a limit that `check`
+    /// leaves aside.
+    pub fn settle(&self, draft: Draft) -> Result<Settled, Deny>
+        requires made { IsDraft self.now.state draft }
+        requires changes { reads draft ≡ false }
+        ensures settled { (command : Resolved) → IsDraftFor self.now.state command draft →
+            IfOk result (Settles self.now.state command) }
+        ensures refused { (command : Resolved) → IsDraftFor self.now.state command draft →
+            IfErr result (λ deny. Refuses deny (cause self.now.state command)) }
+    {
+        self.kept.know_valid();
+        match draft.into_known() {
+            Known::Changes(change) => settled(change),
+            Known::Indexes(count) => Ok(Settled::Steps(count)),
+            Known::Reads(_) => unreachable!(),
+        }
+    }
+
+    /// Whether an event can happen to the state, and how much the state would hold then. It may be
+    /// any event, as one that was read from a log.
+    pub fn fits(&self, event: Event) -> Result<Option<Change>, Memory>
+        ensures { IfOk result (FitsAs self.now.state event) }
     {
         fits(self.alloc, &self.kept, event)
     }
 
-    /// Takes the memory that events want, so that `commit` can apply them. The state doesn't change, whatever the
-    /// answer, and what was prepared before is dropped.
+    /// Takes the memory that events want, so that `commit` can apply them. The state doesn't
+    /// change, whatever the answer, and what was prepared before is dropped.
     pub fn prepare(&mut self, settled: Settled) -> Result<(), Memory>
-        requires { AllHappen self.old.state (settled_events settled) }
-        ensures ok { OnOk result (self.new ≡ record { state = self.old.state; ready = settled_events settled }) }
+        requires { CanSettle self.old.state settled }
+        ensures ok { OnOk result (self.new ≡ record
+            { state = self.old.state; ready = settled_events settled }) }
         ensures err { OnErr result (self.new ≡ record { state = self.old.state; ready = [] }) }
     {
         match settled {
-            Settled::Change(event) => self.kept.prepare(self.alloc, event),
+            Settled::Change(Change { event, counts }) => {
+                self.kept.prepare(self.alloc, event, counts)
+            }
             Settled::Steps(count) => {
                 self.kept.prepare_steps(count);
                 Ok(())
@@ -148,51 +152,10 @@ impl Machine {
     }
 }
 
-/// The command of a line with what its paths lead to, or the first cause against it that lies in them.
+/// The command of a line with what its paths lead to, or the first cause against it that lies in
+/// them. All sessions stand in the root so far.
 fn followed(alloc: Global, kept: &KeptState, line: Line) -> Result<Resolved, Deny>
     ensures { Answers result (resolve kept.now.state line) }
 {
-    resolve(alloc, kept.tree(), line)
-}
-
-/// Denies a command that nothing blocks, if it would exceed a limit on what spaces answer: for the first such limit.
-fn answerable(kept: &KeptState, command: &Resolved) -> Result<(), Deny>
-    requires stands { AllStand kept.now.state command.now }
-    requires texts { IsTrue (are_texts command.now) }
-    requires free { blocked kept.now.state command.now ≡ None }
-    ensures { Passes result (answer_cause kept.now.state command.now) }
-{
-    within(&counts_after(kept.counted(), command).answer_limits())
-}
-
-/// Denies a command for what blocks it, for the first limit on the tree itself that it would exceed, or because
-/// a directory would depend on itself.
-fn allowed(alloc: Global, kept: &KeptState, command: &Resolved) -> Result<(), Deny>
-    requires stands { AllStand kept.now.state command.now }
-    requires texts { IsTrue (are_texts command.now) }
-    ensures { Passes result (early_cause kept.now.state command.now) }
-{
-    unblocked(alloc, kept, command)?;
-    limited(kept, command)?;
-    acyclic(alloc, kept, command)
-}
-
-/// Denies a command that nothing blocks, if it would exceed a limit on the tree itself: for the first such limit.
-fn limited(kept: &KeptState, command: &Resolved) -> Result<(), Deny>
-    requires stands { AllStand kept.now.state command.now }
-    requires texts { IsTrue (are_texts command.now) }
-    requires free { blocked kept.now.state command.now ≡ None }
-    ensures { Passes result (layout_cause kept.now.state command.now) }
-{
-    within(&counts_after(kept.counted(), command).layout_limits())
-}
-
-/// Denies a command for the first limit that is exceeded.
-fn within(limits: &[Limit]) -> Result<(), Deny>
-    ensures { Passes result (option_map Refusal.Limit (first_passed limits.now)) }
-{
-    match first_passed(limits) {
-        Some(word) => Err(Deny::Refused(Refusal::Limit(word))),
-        None => Ok(()),
-    }
+    resolve(alloc, kept.tree(), Number::ROOT, line.command)
 }

@@ -40,7 +40,8 @@ pub fn marked(kept: &KeptState, item: Number, dir: Number) -> Result<(), Deny>
     Err(Deny::Refused(Refusal::NoMark(kept.path_of(item)?)))
 }
 
-/// No query names a directory to be removed. Where some do, the refusal has the least path of such a directory.
+/// No query names a directory to be removed. Where some do, the refusal has the least path of such
+/// a directory.
 pub fn unreferenced(alloc: Global, kept: &KeptState, dir: Number) -> Result<(), Deny>
     ensures { Passes result (referenced_cause kept.now.state dir) }
 {

@@ -1,24 +1,21 @@
 //! Where path words lead.
-ghost use Rattle.std.specs.Prelude.{◌≡◌, ◌++◌, ◌∷◌, [], ℕ, List, IfOk, IsTrue};
+ghost use Rattle.std.specs.Prelude.{◌≡◌, ◌++◌, ◌∷◌, [], IfOk, IsTrue};
 ghost use Rattle.hac_model.specs.Run.Answers.{Answers};
 ghost use Rattle.hac_model.specs.Run.Resolving.{place, entry, directory, listed, numbered};
 ghost use Rattle.hac_model.specs.Tree.{is_directory_at, path_of};
-ghost use Rattle.hac_model.specs.Tree.Valid.{IsLayout};
-ghost use Rattle.file_tree.specs.Answers.{is_live};
 
-use file_tree::{EntryKind, Stop, Tree};
+use file_tree::{Stop, Tree};
 use hac_model::{
     Deny, Memory, Name, Node, Number, Path, PathWord, Place, Query, RawQuery, Refusal,
 };
-use kept_state::know_layout;
 use std::alloc::Global;
 
-/// Where a path word leads. A relative word goes on from the root, where all sessions stand so far.
-pub fn place(tree: &Tree, word: &PathWord) -> Result<Place, Deny>
-    ensures { (session : List ℕ) → Answers result (place tree.now.state session word.now) }
+/// Where a path word leads from a directory.
+pub fn place(tree: &Tree, base: Number, word: &PathWord) -> Result<Place, Deny>
+    requires { IsTrue (is_directory_at tree.now.state.entries base) }
+    ensures { Answers result (place tree.now.state base word.now) }
 {
-    know_layout(tree);
-    match tree.place(Number::ROOT, word, true) {
+    match tree.place(base, word, true) {
         Ok(place) => Ok(place),
         Err(Stop::Missing(path)) => Err(Deny::Refused(Refusal::NoPath(path))),
         Err(Stop::NotDir(path)) => Err(Deny::Refused(Refusal::NotDir(path))),
@@ -28,11 +25,11 @@ pub fn place(tree: &Tree, word: &PathWord) -> Result<Place, Deny>
 }
 
 /// The entry to which a path word leads, or the root.
-pub fn entry(tree: &Tree, word: &PathWord) -> Result<Number, Deny>
-    ensures entry { (session : List ℕ) → Answers result (entry tree.now.state session word.now) }
-    ensures lives { IfOk result (λ number. IsTrue (is_live tree.now.state.entries number)) }
+pub fn entry(tree: &Tree, base: Number, word: &PathWord) -> Result<Number, Deny>
+    requires { IsTrue (is_directory_at tree.now.state.entries base) }
+    ensures { Answers result (entry tree.now.state base word.now) }
 {
-    match place(tree, word)? {
+    match place(tree, base, word)? {
         Place::There(number) => Ok(number),
         Place::Free { dir, name } => Err(Deny::Refused(Refusal::NoPath(named(tree, dir, name)?))),
     }
@@ -47,60 +44,55 @@ fn named(tree: &Tree, dir: Number, name: Name) -> Result<Path, Memory>
     Ok(path)
 }
 
-/// Whether the entry of a number, or the root, is a directory of any kind.
-pub fn is_directory(tree: &Tree, number: Number) -> bool
-    requires { IsTrue (is_live tree.now.state.entries number) }
-    ensures { result ≡ is_directory_at tree.now.state.entries number }
-{
-    know_layout(tree);
-    match tree.kind(number) {
-        EntryKind::Dir | EntryKind::Semantic => true,
-        EntryKind::File | EntryKind::Symlink | EntryKind::Mount | EntryKind::Document => false,
-    }
-}
-
 /// The directory to which a path word leads.
-pub fn directory(tree: &Tree, word: &PathWord) -> Result<Number, Deny>
-    ensures { (session : List ℕ) → Answers result (directory tree.now.state session word.now) }
+pub fn directory(tree: &Tree, base: Number, word: &PathWord) -> Result<Number, Deny>
+    requires { IsTrue (is_directory_at tree.now.state.entries base) }
+    ensures { Answers result (directory tree.now.state base word.now) }
 {
-    let number = entry(tree, word)?;
-    if is_directory(tree, number) {
+    let number = entry(tree, base, word)?;
+    if tree.is_directory(number) {
         Ok(number)
     } else {
         Err(Deny::Refused(Refusal::NotDir(tree.path_of(number)?)))
     }
 }
 
-/// The directory to which a path word leads, that of the session if none is given.
-pub fn listed(tree: &Tree, word: &Option<PathWord>) -> Result<Number, Deny>
-    ensures { (session : List ℕ) → Answers result (listed tree.now.state session word.now) }
+/// The directory to which a path word leads, the one that it would go on from if none is given.
+pub fn listed(tree: &Tree, base: Number, word: &Option<PathWord>) -> Result<Number, Deny>
+    requires { IsTrue (is_directory_at tree.now.state.entries base) }
+    ensures { Answers result (listed tree.now.state base word.now) }
 {
-    know_layout(tree);
     match word {
-        Some(word) => directory(tree, word),
-        None => Ok(Number::ROOT),
+        Some(word) => directory(tree, base, word),
+        None => Ok(base),
     }
 }
 
 /// The query with each directory by its number. It goes down as deep as the query does.
-pub fn numbered(alloc: Global, tree: &Tree, query: RawQuery) -> Result<Query<Number>, Deny>
-    ensures { (session : List ℕ) → Answers result (numbered tree.now.state session query) }
+pub fn numbered(
+    alloc: Global,
+    tree: &Tree,
+    base: Number,
+    query: RawQuery,
+) -> Result<Query<Number>, Deny>
+    requires { IsTrue (is_directory_at tree.now.state.entries base) }
+    ensures { Answers result (numbered tree.now.state base query) }
 {
     match query.node {
         Node::Term(term) => Ok(Query::term(term)),
-        Node::Dir(word) => Ok(Query::dir(directory(tree, &word)?)),
+        Node::Dir(word) => Ok(Query::dir(directory(tree, base, &word)?)),
         Node::Not(query) => {
-            let inner = numbered(alloc, tree, Box::into_inner(query))?;
+            let inner = numbered(alloc, tree, base, Box::into_inner(query))?;
             Ok(Query::negation(alloc, inner)?)
         }
         Node::And(left, right) => {
-            let first = numbered(alloc, tree, Box::into_inner(left))?;
-            let second = numbered(alloc, tree, Box::into_inner(right))?;
+            let first = numbered(alloc, tree, base, Box::into_inner(left))?;
+            let second = numbered(alloc, tree, base, Box::into_inner(right))?;
             Ok(Query::both(alloc, first, second)?)
         }
         Node::Or(left, right) => {
-            let first = numbered(alloc, tree, Box::into_inner(left))?;
-            let second = numbered(alloc, tree, Box::into_inner(right))?;
+            let first = numbered(alloc, tree, base, Box::into_inner(left))?;
+            let second = numbered(alloc, tree, base, Box::into_inner(right))?;
             Ok(Query::either(alloc, first, second)?)
         }
     }

@@ -7,11 +7,12 @@ ghost use Rattle.hac_disk.specs.Told.{Attaches, HasLength, IsSettled, RangeWithi
 
 use hac_outside::Failed;
 
-/// One file of bytes. Between two syncs each written range, and the file past its old end, may hold any bytes
-/// after a crash; the bytes outside stay. After a sync that went well a crash leaves what a read gives.
+/// One file of bytes. Between two syncs each written range, and the file past its old end, may hold
+/// any bytes after a crash; the bytes outside stay. After a sync that went well a crash leaves what
+/// a read gives.
 ///
-/// An image is what a crash leaves. A disk over a real file tells neither its bytes nor its images, and then
-/// no condition on a place binds: it answers a range outside its file with a fault.
+/// An image is what a crash leaves. A disk over a real file tells neither its bytes nor its images,
+/// and then no condition on a place binds: it answers a range outside its file with a fault.
 pub trait Disk {
     // The bytes that a read gives, if the disk tells them. A call never changes whether it does.
     ghost seen: { Self → Option (List ℕ) };
@@ -31,8 +32,8 @@ pub trait Disk {
     // How many faults there were. At the end of its type the count stays as it is.
     ghost faults: { Self → ℕ };
 
-    /// Binds the disk to the file of that name. A file that is missing is made where `make` says so, else it
-    /// is a fault.
+    /// Binds the disk to the file of that name. A file that is missing is made where `make` says
+    /// so, else it is a fault.
     fn attach(&mut self, name: &str, make: bool) -> Result<(), Failed>
         ensures attached { Attaches (attached self.old) name.now make result (attached self.new) }
         ensures quiet { IsQuiet seen image moment image_since self.old self.new }
@@ -45,7 +46,8 @@ pub trait Disk {
         ensures quiet { IsQuiet seen image moment image_since self.old self.new }
         ensures cause { HasCause (faults self.old) (faults self.new) result };
 
-    /// Fills `into` with the bytes from that place on. After a failure nothing is known of what `into` holds.
+    /// Fills `into` with the bytes from that place on. After a failure nothing is known of what
+    /// `into` holds.
     fn read_at(&mut self, at: u64, into: &mut [u8]) -> Result<(), Failed>
         requires { RangeWithin (seen self.old) at (length into.old) }
         ensures read { OnOk result (StandAt (seen self.old) at into.new) }
@@ -53,14 +55,16 @@ pub trait Disk {
         ensures quiet { IsQuiet seen image moment image_since self.old self.new }
         ensures cause { HasCause (faults self.old) (faults self.new) result };
 
-    /// Writes over what is there, and past the end. Until a sync a crash may leave any bytes in the range, also
-    /// after a failure.
+    /// Writes over what is there, and past the end. Until a sync a crash may leave any bytes in the
+    /// range, also after a failure.
     fn write_at(&mut self, at: u64, bytes: &[u8]) -> Result<(), Failed>
         requires { StartsWithin (seen self.old) at }
         ensures written { OnOk result (Written (seen self.old) at bytes.now (seen self.new)) }
-        ensures in_part { OnErr result (WrittenInPart (seen self.old) at (length bytes.now) (seen self.new)) }
+        ensures in_part { OnErr result (WrittenInPart (seen self.old) at (length bytes.now)
+            (seen self.new)) }
         ensures images { Follows (Torn at (length bytes.now)) (image self.old) (image self.new) }
-        ensures time { Elapses (moment self.old) (moment self.new) (image_since self.old) (image_since self.new) (image self.new) }
+        ensures time { Elapses (moment self.old) (moment self.new) (image_since self.old)
+            (image_since self.new) (image self.new) }
         ensures attached { attached self.new ≡ attached self.old }
         ensures cause { HasCause (faults self.old) (faults self.new) result };
 

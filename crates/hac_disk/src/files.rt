@@ -7,9 +7,9 @@ use super::locked::LockedFile;
 use hac_outside::Failed;
 use std::io::{self, ErrorKind};
 
-/// A disk over the file that `attach` opens and locks. A file that another run has open can't be attached, and one
-/// that is attached is let go of first. Each error of the system is a fault, and so is a call before a file is
-/// attached, and one on a range outside the file. `sync` is `fsync`.
+/// A disk over the file that `attach` opens and locks. A file that another run has open can't be
+/// attached, and one that is attached is let go of first. Each error of the system is a fault, and
+/// so is a call before a file is attached, and one on a range outside the file. `sync` is `fsync`.
 #[derive(Drop)]
 pub struct FileDisk<'a> {
     rt: &'a HostRuntime,
@@ -101,7 +101,7 @@ fn attached(file: &Option<LockedFile>) -> io::Result<&LockedFile> {
     }
 }
 
-// The same of a file that is to be changed.
+// The file to change, or an error where none is attached.
 fn attached_mut(file: &mut Option<LockedFile>) -> io::Result<&mut LockedFile> {
     match file {
         Some(file) => Ok(file),

@@ -9,8 +9,8 @@ ghost use Rattle.hac_disk.specs.Told.{Attaches, HasLength, IsSettled, RangeWithi
 use super::disks::Disk;
 use hac_outside::Failed;
 
-/// Passes its first calls on to a disk, and fails every later one without passing it on: so a program over it
-/// stops between two calls of the disk, as at a crash.
+/// Passes its first calls on to a disk, and fails every later one without passing it on: so a
+/// program over it stops between two calls of the disk, as at a crash.
 #[derive(Drop)]
 pub struct FuseDisk<D: Disk> {
     disk: D,
@@ -43,7 +43,8 @@ impl<D: Disk> FuseDisk<D> {
     fn burn(&mut self) -> Result<(), Failed>
         ensures fails { IsErr result ↔ (self.old.calls ≡ 0) }
         ensures calls { self.new.calls ≡ self.old.calls - 1 }
-        ensures blown { self.new.blown ≡ (if is_ok result then self.old.blown else next_number self.old.blown) }
+        ensures blown { self.new.blown ≡ (if is_ok result then self.old.blown else next_number
+            self.old.blown) }
         ensures disk { self.new.disk ≡ self.old.disk }
         ensures cause { HasCause (D.faults self.old.disk + self.old.blown)
             (D.faults self.new.disk + self.new.blown) result }
@@ -84,8 +85,8 @@ impl<D: Disk> Disk for FuseDisk<D> {
             self.old self.new }
         ensures cause { HasCause (D.faults self.old.disk + self.old.blown)
             (D.faults self.new.disk + self.new.blown) result }
-        ensures passes { Burns D.faults self.old.calls self.old.disk self.new.disk result }
-        ensures calls { self.new.calls ≡ self.old.calls - 1 }
+        ensures passes { Burns D.faults self.old.calls self.new.calls self.old.disk self.new.disk
+            result }
     {
         self.burn()?;
         self.disk.attach(name, make)
@@ -99,8 +100,8 @@ impl<D: Disk> Disk for FuseDisk<D> {
             self.old self.new }
         ensures cause { HasCause (D.faults self.old.disk + self.old.blown)
             (D.faults self.new.disk + self.new.blown) result }
-        ensures passes { Burns D.faults self.old.calls self.old.disk self.new.disk result }
-        ensures calls { self.new.calls ≡ self.old.calls - 1 }
+        ensures passes { Burns D.faults self.old.calls self.new.calls self.old.disk self.new.disk
+            result }
     {
         self.burn()?;
         self.disk.len()
@@ -115,8 +116,8 @@ impl<D: Disk> Disk for FuseDisk<D> {
             self.old self.new }
         ensures cause { HasCause (D.faults self.old.disk + self.old.blown)
             (D.faults self.new.disk + self.new.blown) result }
-        ensures passes { Burns D.faults self.old.calls self.old.disk self.new.disk result }
-        ensures calls { self.new.calls ≡ self.old.calls - 1 }
+        ensures passes { Burns D.faults self.old.calls self.new.calls self.old.disk self.new.disk
+            result }
     {
         self.burn()?;
         self.disk.read_at(at, into)
@@ -135,8 +136,8 @@ impl<D: Disk> Disk for FuseDisk<D> {
         ensures attached { D.attached self.new.disk ≡ D.attached self.old.disk }
         ensures cause { HasCause (D.faults self.old.disk + self.old.blown)
             (D.faults self.new.disk + self.new.blown) result }
-        ensures passes { Burns D.faults self.old.calls self.old.disk self.new.disk result }
-        ensures calls { self.new.calls ≡ self.old.calls - 1 }
+        ensures passes { Burns D.faults self.old.calls self.new.calls self.old.disk self.new.disk
+            result }
     {
         self.burn()?;
         self.disk.write_at(at, bytes)
@@ -150,8 +151,8 @@ impl<D: Disk> Disk for FuseDisk<D> {
             self.old self.new }
         ensures cause { HasCause (D.faults self.old.disk + self.old.blown)
             (D.faults self.new.disk + self.new.blown) result }
-        ensures passes { Burns D.faults self.old.calls self.old.disk self.new.disk result }
-        ensures calls { self.new.calls ≡ self.old.calls - 1 }
+        ensures passes { Burns D.faults self.old.calls self.new.calls self.old.disk self.new.disk
+            result }
     {
         self.burn()?;
         self.disk.sync()

@@ -1,5 +1,5 @@
-//! Disks: one file that is read, written and synced in places. This crate says what a crash may leave of it,
-//! and knows nothing of what the bytes mean.
+//! Disks: one file that is read, written and synced in places. This crate says what a crash may
+//! leave of it, and knows nothing of what the bytes mean.
 #![tactic(auto)]
 
 mod disks;

@@ -1,4 +1,5 @@
-//! A file that one run has for itself: it is locked while it is open, so its length is known without asking.
+//! A file that one run has for itself: it is locked while it is open, so its length is known
+//! without asking.
 ghost use Rattle.std.specs.Prelude.{◌≡◌, ◌+◌, IfOk, IfSome, None, Ok, OnOk, Some, length, max};
 
 use std::fs::{File, OpenFile, OpenOptions};
@@ -10,9 +11,9 @@ use std::path::Path;
 /// The greatest number that the system gives to a standard stream.
 const STANDARD_STREAM_MAX: i32 = 2;
 
-/// An open file with a lock that no other run gets meanwhile. The system takes the lock back when the file is
-/// closed, also where the run is killed. Programs that ask for no lock, such as one that copies the file, aren't
-/// hindered.
+/// An open file with a lock that no other run gets meanwhile. The system takes the lock back when
+/// the file is closed, also where the run is killed. Programs that ask for no lock, such as one
+/// that copies the file, aren't hindered.
 #[derive(Drop)]
 pub struct LockedFile {
     file: File,
@@ -21,8 +22,8 @@ pub struct LockedFile {
 }
 
 impl LockedFile {
-    /// Opens a file to read and write. One that may be made is made durable in its folder too, so that a crash
-    /// doesn't take its name away.
+    /// Opens a file to read and write. One that may be made is made durable in its folder too, so
+    /// that a crash doesn't take its name away.
     pub fn open(rt: &HostRuntime, name: &str, make: bool) -> io::Result<LockedFile>
         ensures unasked { IfOk result (λ file. file.len ≡ None) }
     {
@@ -55,7 +56,8 @@ impl LockedFile {
         self.file.read_exact_at(into, at)
     }
 
-    /// Writes bytes. A place behind the end is an error, as the system would write there and leave a hole.
+    /// Writes bytes. A place behind the end is an error, as the system would write there and leave
+    /// a hole.
     pub fn write_at(&mut self, at: u64, bytes: &[u8]) -> io::Result<()>
         ensures grown { OnOk result (IfSome self.old.len (λ len.
             self.new.len ≡ Some (max len (at + length bytes.now)))) }
@@ -76,7 +78,8 @@ impl LockedFile {
     }
 }
 
-// Where bytes end that are written at a place. There is no such end where the place lies behind the file's.
+// Where bytes end that are written at a place. There is no such end where the place lies behind the
+// file's.
 fn end_within(len: u64, at: u64, bytes: &[u8]) -> Option<u64>
     ensures { IfSome result (λ end. end ≡ at + length bytes.now) }
 {

@@ -1,5 +1,5 @@
-//! A disk in memory. It keeps what it held at first and each call since, so that it can tell what a crash may
-//! leave; and it fails at chosen calls.
+//! A disk in memory. It keeps what it held at first and each call since, so that it can tell what a
+//! crash may leave; and it fails at chosen calls.
 ghost use Rattle.std.specs.Prelude.{◌≡◌, ◌⊎◌, ◌-◌, ◌<◌, ◌↔◌, ◌==◌, [], IfOk, IsErr, OnErr, OnOk, if◌then◌else◌, is_ok, length};
 ghost use Rattle.hac_outside.specs.Causes.{HasCause};
 ghost use Rattle.hac_disk.specs.Images.{Elapses, Follows, IsQuiet, Torn};
@@ -13,8 +13,8 @@ use hac_outside::{Calls, Failed};
 use std::alloc::{AllocError, Global};
 use std::marker::Model;
 
-/// A disk over a file in memory. A call that is to fail, that passes the room, or that writes into the gap is
-/// a fault; it changes nothing but the counts.
+/// A disk over a file in memory. A call that is to fail, that passes the room, or that writes into
+/// the gap is a fault; it changes nothing but the counts.
 #[derive(Drop)]
 pub struct MemoryDisk {
     first_head: Vec<u8>,
@@ -29,8 +29,8 @@ pub struct MemoryDisk {
     calls: Calls,
 }
 
-// A call that went well: a write with its place and length, a sync, or an attached name with its length.
-// The bytes are in `kept`, those of one step behind those of the other.
+// A call that went well: a write with its place and length, a sync, or an attached name with its
+// length. The bytes are in `kept`, those of one step behind those of the other.
 #[derive(Clone, Copy, Drop)]
 enum Step {
     Write(u64, u64),
@@ -51,9 +51,10 @@ impl Model for MemoryDisk {
 }
 
 impl MemoryDisk {
-    /// A disk that holds `head`, `gap` zeros and `tail`, with nothing pending and nothing attached. It has room for
-    /// `bytes` bytes, written or in names, and for `calls` calls. A call whose number, from 1, is in `failing` is a
-    /// fault. The gap takes no memory. If 64 bits can't count all of it, the answer is want of memory.
+    /// A disk that holds `head`, `gap` zeros and `tail`, with nothing pending and nothing attached.
+    /// It has room for `bytes` bytes, written or in names, and for `calls` calls. A call whose
+    /// number, from 1, is in `failing` is a fault. The gap takes no memory. If 64 bits can't count
+    /// all of it, the answer is `Memory`.
     pub fn new(
         alloc: Global,
         head: &[u8],
@@ -66,7 +67,8 @@ impl MemoryDisk {
         ensures first { IfOk result (λ disk. disk.first ≡ contents head.now gap tail.now) }
         ensures done { IfOk result (λ disk. disk.done ≡ []) }
         ensures gap { IfOk result (λ disk. disk.gap ≡ gap) }
-        ensures gap_at { IfOk result (λ disk. disk.gap_at ≡ (if gap == 0 then 0 else length head.now)) }
+        ensures gap_at { IfOk result (λ disk. disk.gap_at ≡
+            (if gap == 0 then 0 else length head.now)) }
         ensures room { IfOk result (λ disk. disk.room ≡ bytes) }
         ensures last_call { IfOk result (λ disk. disk.last_call ≡ calls) }
         ensures failing { IfOk result (λ disk. disk.failing ≡ failing.now) }
@@ -125,14 +127,16 @@ impl Disk for MemoryDisk {
     ghost only_now = { λ disk c left. image_only_now disk.first disk.done c left };
 
     fn attach(&mut self, name: &str, make: bool) -> Result<(), Failed>
-        ensures attached { Attaches (attached_to self.old) name.now make result (attached_to self.new) }
+        ensures attached { Attaches (attached_to self.old) name.now make result
+            (attached_to self.new) }
         ensures quiet { IsQuiet told_by left_after moment_of left_since self.old self.new }
         ensures cause { HasCause self.old.faults self.new.faults result }
 
         // Which calls fail, and what the others change.
         ensures fails { IsErr result ↔ (IsFailing self.old ⊎ (self.old.room < length name.now)) }
         ensures done { self.new.done ≡ with_call result (Attached name.now make) self.old.done }
-        ensures room { self.new.room ≡ (if is_ok result then self.old.room - length name.now else self.old.room) }
+        ensures room { self.new.room ≡ (if is_ok result then self.old.room - length name.now else
+            self.old.room) }
         ensures plan { IsNextCall self.old self.new result }
     {
         self.calls.begin_within(self.last_call)?;
@@ -181,14 +185,19 @@ impl Disk for MemoryDisk {
     fn write_at(&mut self, at: u64, bytes: &[u8]) -> Result<(), Failed>
         requires { StartsWithin (told_by self.old) at }
         ensures written { OnOk result (Written (told_by self.old) at bytes.now (told_by self.new)) }
-        ensures in_part { OnErr result (WrittenInPart (told_by self.old) at (length bytes.now) (told_by self.new)) }
-        ensures images { Follows (Torn at (length bytes.now)) (left_after self.old) (left_after self.new) }
-        ensures time { Elapses (moment_of self.old) (moment_of self.new) (left_since self.old) (left_since self.new) (left_after self.new) }
+        ensures in_part { OnErr result (WrittenInPart (told_by self.old) at (length bytes.now)
+            (told_by self.new)) }
+        ensures images { Follows (Torn at (length bytes.now)) (left_after self.old)
+            (left_after self.new) }
+        ensures time { Elapses (moment_of self.old) (moment_of self.new) (left_since self.old)
+            (left_since self.new) (left_after self.new) }
         ensures attached { attached_to self.new ≡ attached_to self.old }
         ensures cause { HasCause self.old.faults self.new.faults result }
-        ensures fails { IsErr result ↔ (IsFailing self.old ⊎ ((self.old.room < length bytes.now) ⊎ TouchesGap self.old at (length bytes.now))) }
+        ensures fails { IsErr result ↔ (IsFailing self.old ⊎
+            ((self.old.room < length bytes.now) ⊎ TouchesGap self.old at (length bytes.now))) }
         ensures done { self.new.done ≡ with_call result (Wrote at bytes.now) self.old.done }
-        ensures room { self.new.room ≡ (if is_ok result then self.old.room - length bytes.now else self.old.room) }
+        ensures room { self.new.room ≡ (if is_ok result then self.old.room - length bytes.now else
+            self.old.room) }
         ensures plan { IsNextCall self.old self.new result }
     {
         self.calls.begin_within(self.last_call)?;

@@ -52,9 +52,12 @@ pub(crate) fn write_parts(
     requires size { vec_len head.old + gap + vec_len tail.old + length bytes.now < 2 ^ 64 }
     requires starts { at ≤ vec_len head.old + gap + vec_len tail.old }
     requires room { vec_len tail.old + length bytes.now ≤ vec_capacity tail.old }
-    ensures touches { result ≡ false ↔ ((vec_len head.old < at + length bytes.now) × (at < vec_len head.old + gap)) }
-    ensures written { result ≡ true → contents head.new.items gap tail.new.items ≡ overlaid at bytes.now (contents head.old.items gap tail.old.items) }
-    ensures left { result ≡ false → (head.new.items ≡ head.old.items) × (tail.new.items ≡ tail.old.items) }
+    ensures touches { result ≡ false ↔ ((vec_len head.old < at + length bytes.now) ×
+        (at < vec_len head.old + gap)) }
+    ensures written { result ≡ true → contents head.new.items gap tail.new.items ≡
+        overlaid at bytes.now (contents head.old.items gap tail.old.items) }
+    ensures left { result ≡ false → (head.new.items ≡ head.old.items) ×
+        (tail.new.items ≡ tail.old.items) }
     ensures head_len { vec_len head.new ≡ vec_len head.old }
     ensures tail_len { vec_len tail.new ≤ vec_len tail.old + length bytes.now }
     ensures tail_kept { result ≡ false → vec_len tail.new ≡ vec_len tail.old }
@@ -75,7 +78,8 @@ pub(crate) fn write_parts(
 // Writes over what is there, and past the end.
 fn overlay(bytes: &mut Vec<u8>, at: usize, new: &[u8])
     requires starts { at ≤ vec_len bytes.old }
-    requires room { (at + length new.now ≤ vec_len bytes.old) ⊎ (vec_len bytes.old + length new.now ≤ vec_capacity bytes.old) }
+    requires room { (at + length new.now ≤ vec_len bytes.old) ⊎
+        (vec_len bytes.old + length new.now ≤ vec_capacity bytes.old) }
     ensures items { bytes.new.items ≡ overlaid at new.now bytes.old.items }
     ensures len { vec_len bytes.new ≡ max (vec_len bytes.old) (at + length new.now) }
     ensures capacity { vec_capacity bytes.old ≤ vec_capacity bytes.new }

@@ -11,10 +11,12 @@ use hac_outside::Failed;
 pub fn write_stable<D: Disk>(disk: &mut D, at: u64, bytes: &[u8]) -> Result<(), Failed>
     requires { StartsWithin (D.seen disk.old) at }
     ensures written { OnOk result (Written (D.seen disk.old) at bytes.now (D.seen disk.new)) }
-    ensures in_part { OnErr result (WrittenInPart (D.seen disk.old) at (length bytes.now) (D.seen disk.new)) }
+    ensures in_part { OnErr result (WrittenInPart (D.seen disk.old) at (length bytes.now)
+        (D.seen disk.new)) }
     ensures settled { OnOk result (IsSettled (D.seen disk.new) (D.image disk.new)) }
     ensures images { Follows (Torn at (length bytes.now)) (D.image disk.old) (D.image disk.new) }
-    ensures any_moment { LeavesOnly D.moment D.image_since disk.old disk.new (TornFrom at (length bytes.now) (D.image disk.old)) }
+    ensures any_moment { LeavesOnly D.moment D.image_since disk.old disk.new
+        (TornFrom at (length bytes.now) (D.image disk.old)) }
     ensures attached { D.attached disk.new ≡ D.attached disk.old }
     ensures cause { HasCause (D.faults disk.old) (D.faults disk.new) result }
 {

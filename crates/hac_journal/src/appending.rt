@@ -11,10 +11,10 @@ use super::records::{OPEN, log_bytes, log_end};
 use hac_disk::{Disk, write_stable};
 use std::alloc::Global;
 
-/// Puts records of these payloads behind the log that ends at `end`, and answers the log's new end. All but the
-/// first gate is written and synced behind the gate that is closed; then the first gate is opened and synced: so
-/// a crash leaves none of the records, or all. `Full` and `Memory` come before any write. The log and the closed
-/// gate behind it end within `limit` bytes.
+/// Puts records of these payloads behind the log that ends at `end`, and answers the log's new end.
+/// All but the first gate is written and synced behind the gate that is closed; then the first gate
+/// is opened and synced: so a crash leaves none of the records, or all. `Full` and `Memory` come
+/// before any write. The log and the closed gate behind it end within `limit` bytes.
 pub fn append<D: Disk>(
     alloc: Global,
     disk: &mut D,
@@ -35,7 +35,8 @@ pub fn append<D: Disk>(
     ensures unwritten { (IsErrOf result JournalFault.Full ⊎ IsErrOf result JournalFault.Memory) →
         disk.new ≡ disk.old }
 
-    // At each moment a crash leaves an image from before the call, with none of the records or with all.
+    // At each moment a crash leaves an image from before the call, with none of the records or with
+    // all.
     ensures any_moment { IfSome (D.seen disk.old) (λ _.
         ((c : List ℕ) → D.image disk.old c → ClosedAt end c)
         → LeavesOnly D.moment D.image_since disk.old disk.new (Appending end (log_of (contents_of payloads.now)) (D.image disk.old))) }

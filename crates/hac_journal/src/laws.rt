@@ -13,7 +13,8 @@ pub fn closed_gates_end_a_log()
     ensures only { FoundIsClosed }
 {}
 
-/// A record that is found is whole before the next gate, and is found in each file that agrees up to there.
+/// A record that is found is whole before the next gate, and is found in each file that agrees up
+/// to there.
 pub fn found_records_are_whole()
     ensures whole { FoundIsWhole }
     ensures along { FoundAlong }

@@ -1,5 +1,5 @@
-//! A journal: records one behind the other in a file, each behind a gate, the last before a closed gate. This
-//! crate knows what a crash may leave of them, and nothing of what a payload means.
+//! A journal: records one behind the other in a file, each behind a gate, the last before a closed
+//! gate. This crate knows what a crash may leave of them, and nothing of what a payload means.
 #![tactic(auto)]
 
 mod appending;

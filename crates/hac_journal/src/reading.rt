@@ -14,7 +14,8 @@ use std::marker::Model;
 // How many bytes are read at once, where the file has them and no record is longer.
 const PIECE: u64 = 65_536;
 
-/// Reads a log in pieces. It holds some bytes of the file, so it is of use only while the file stays as it is.
+/// Reads a log in pieces. It holds some bytes of the file, so it is of use only while the file
+/// stays as it is.
 #[derive(Drop)]
 pub struct LogReader {
     alloc: Global,
@@ -45,8 +46,8 @@ impl LogReader {
         }
     }
 
-    /// What is at a place of the log. If the reader doesn't hold all of the record, it reads a piece of the
-    /// file from that place on, or the whole record where that is longer.
+    /// What is at a place of the log. If the reader doesn't hold all of the record, it reads a
+    /// piece of the file from that place on, or the whole record where that is longer.
     pub fn next<D: Disk>(&mut self, disk: &mut D, at: u64) -> Result<Next, JournalFault>
         requires { StandAt (D.seen disk.old) self.old.start self.old.bytes }
         ensures held { StandAt (D.seen disk.new) self.new.start self.new.bytes }
@@ -107,7 +108,8 @@ impl LogReader {
         Vec::from_slice(self.alloc, &self.from(at)[5..5 + size])
     }
 
-    // Reads `need` bytes or more from a place on. If the file hasn't as many, it gives the file's length.
+    // Reads `need` bytes or more from a place on. If the file hasn't as many, it gives the file's
+    // length.
     fn fill<D: Disk>(
         &mut self,
         disk: &mut D,
@@ -147,7 +149,8 @@ impl LogReader {
     }
 }
 
-/// What is at a place of the log, by a reader of its own: for one look. To go over a log, keep a `LogReader`.
+/// What is at a place of the log, by a reader of its own: for one look. To go over a log, keep a
+/// `LogReader`.
 pub fn next<D: Disk>(alloc: Global, disk: &mut D, at: u64) -> Result<Next, JournalFault>
     ensures next { IfOk result (λ next. TellsAt next at (D.seen disk.old)) }
     ensures ahead { IfOk result (λ next. GoesAhead next at) }

@@ -10,7 +10,8 @@ pub const OPEN: u8 = 1;
 /// The byte that is written for a closed gate.
 pub const CLOSED: u8 = 0;
 
-// Where the records end that begin at `end`, or none where they and the gate behind them exceed the limit.
+// Where the records end that begin at `end`, or none where they and the gate behind them exceed the
+// limit.
 pub(crate) fn log_end(limit: u64, end: u64, payloads: &[Vec<u8>]) -> Option<u64>
     ensures { MatchOption result (limit < end + length (log_of (contents_of payloads.now)))
         (λ new. (new ≡ end + length (records_of (contents_of payloads.now))) × (new < limit)) }

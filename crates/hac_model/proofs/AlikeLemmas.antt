@@ -9,7 +9,7 @@ use Rattle.hac_model.specs.Tree.Depends.{depends, named_in, names_directory, ref
 use Rattle.hac_model.specs.Tree.Events.{are_directories, dirty, edited, is_bare, is_free, is_inside, may_ask}
 use Rattle.hac_model.specs.Query.Formula.{Formula}
 use Rattle.hac_model.specs.Query.Formula as query
-use Rattle.hac_model.specs.Tree.Limits.{answer_limits, layout_limits, counts, first_passed, passed, weight}
+use Rattle.hac_model.specs.Tree.Limits.{answer_limits, layout_limits, counts, first_passed, passed, file_bytes}
 use Rattle.hac_model.specs.Tree.Links.{has, parent_of, query_at}
 use Rattle.hac_model.specs.Tree.Listing.{children, entry_line, in_order, is_before, letter, put_in_order}
 use Rattle.hac_model.specs.Tree.Looks.{look, stands_at, stop_at, ways}
@@ -17,7 +17,6 @@ use Rattle.hac_model.specs.Tree.Names.{is_name}
 use Rattle.hac_model.specs.Tree.Paths.{join, without_last}
 use Rattle.hac_model.specs.Query.Queries.{is_query}
 use Rattle.hac_model.specs.Run.Resolving.{directory, entry, item_and_dir, listed, numbered, place, resolved, standing}
-use Rattle.hac_model.specs.Tree.Sessions.{base_of, stands_in}
 use Rattle.hac_model.specs.Tree.{body_at, child, entry_at, extends, is_directory, is_directory_at, is_dirty, is_file, is_file_at, path_of, query_in, text_in}
 use Rattle.hac_model.specs.Tree.Valid.{IsLayout, IsSound, NamesDiffer, NumbersRise}
 use Rattle.hac_model.specs.declared.commands.Command.{Command}
@@ -31,7 +30,6 @@ use Rattle.hac_model.specs.declared.resolved.Resolved.TheVariants as done
 use Rattle.hac_model.specs.declared.states.Body.{Body}
 use Rattle.hac_model.specs.declared.states.Body.TheVariants.{Semantic, Mount}
 use Rattle.hac_model.specs.declared.states.Entry.{Entry}
-use Rattle.hac_model.specs.declared.states.Session.{Session}
 use Rattle.hac_model.specs.declared.states.State.{State}
 use Rattle.hac_model.proofs.CountLemmas.{is_queried, measured, measured-cons, one_if}
 use Rattle.hac_model.proofs.MapLemmas.{KeepsMeasures, mapped, mapped-layout, child-mapped, directory-mapped, entry_at-mapped, lineage-mapped, paths-mapped, test-mapped}
@@ -64,7 +62,7 @@ bare-dirty (Semantic query permanent prohibited) = refl
 bare-dirty (Mount space documents answers) = refl
 bare-dirty other = refl
 
-bare-weight : (body : Body) → weight (bare_body body) ≡ weight body
+bare-weight : (body : Body) → file_bytes (bare_body body) ≡ file_bytes body
 bare-weight (Semantic query permanent prohibited) = refl
 bare-weight (Mount space documents answers) = refl
 bare-weight other = refl
@@ -182,39 +180,36 @@ look-bare s path = λ i.
     stop : stop_at (bare s) ≡ stop_at s
     stop = λ i way. option_map_or (λ number. cond (file-bare s number i) (Some (NotDir way)) None) (stands_at-bare s 0 way i) (Some (NoPath way))
 
-module _ (s : State) (h : s.sessions ≡ []) (session : List ℕ) where
-  place-bare : (word : PathWord) → place (bare s) session word ≡ place s session word
-  place-bare word = ap (λ (n : List (List ℕ)). look (bare s) (join n word)) base ∙ look-bare s (join (base_of s session) word)
-    where
-      base : base_of (bare s) session ≡ base_of s session
-      base = path_of-bare s 0 ∙ ap (λ (sessions : List Session). path_of s (stands_in sessions session)) (sym h)
+module _ (s : State) (base : ℕ) where
+  place-bare : (word : PathWord) → place (bare s) base word ≡ place s base word
+  place-bare word = ap (λ (path : List (List ℕ)). look (bare s) (join path word)) (path_of-bare s base) ∙ look-bare s (join (path_of s base) word)
 
   standing-bare : (found : Place) → standing (bare s) found ≡ standing s found
   standing-bare (There number) = refl
   standing-bare (Free dir name) = ap (λ (path : List (List ℕ)). Err (NoPath (path ++ name ∷ []))) (path_of-bare s dir)
 
-  entry-bare : (word : PathWord) → entry (bare s) session word ≡ entry s session word
+  entry-bare : (word : PathWord) → entry (bare s) base word ≡ entry s base word
   entry-bare word = λ i. and_then (λ found. standing-bare found i) (place-bare word i)
 
-  directory-leads : (word : PathWord) → directory (bare s) session word ≡ directory s session word
+  directory-leads : (word : PathWord) → directory (bare s) base word ≡ directory s base word
   directory-leads word = λ i. and_then (λ number. cond (directory-bare s number i) (Ok number) (Err (NotDir (path_of-bare s number i)))) (entry-bare word i)
 
-  listed-bare : (word : Option PathWord) → listed (bare s) session word ≡ listed s session word
-  listed-bare None = ap (λ (sessions : List Session). Ok (stands_in sessions session)) (sym h)
+  listed-bare : (word : Option PathWord) → listed (bare s) base word ≡ listed s base word
+  listed-bare None = refl
   listed-bare (Some word) = directory-leads word
 
-  numbered-bare : (raw : Formula PathWord) → numbered (bare s) session raw ≡ numbered s session raw
+  numbered-bare : (raw : Formula PathWord) → numbered (bare s) base raw ≡ numbered s base raw
   numbered-bare (query.Term term) = refl
   numbered-bare (query.Dir word) = ap (and_then (λ dir. Ok (query.Dir dir))) (directory-leads word)
   numbered-bare (query.Not raw) = ap (and_then (λ inner. Ok (query.Not inner))) (numbered-bare raw)
   numbered-bare (query.And left right) = λ i. and_then (λ first. and_then (λ second. Ok (query.And first second)) (numbered-bare right i)) (numbered-bare left i)
   numbered-bare (query.Or left right) = λ i. and_then (λ first. and_then (λ second. Ok (query.Or first second)) (numbered-bare right i)) (numbered-bare left i)
 
-  item_and_dir-bare : (make : ℕ → ℕ → Resolved) (item dir : PathWord) → item_and_dir make (bare s) session item dir ≡ item_and_dir make s session item dir
+  item_and_dir-bare : (make : ℕ → ℕ → Resolved) (item dir : PathWord) → item_and_dir make (bare s) base item dir ≡ item_and_dir make s base item dir
   item_and_dir-bare make item dir = λ i. and_then (λ first. and_then (λ second. Ok (make first second)) (directory-leads dir i)) (entry-bare item i)
 
   -- the outcome of a command
-  pub resolved-bare : (c : Command) → resolved (bare s) session c ≡ resolved s session c
+  pub resolved-bare : (c : Command) → resolved (bare s) base c ≡ resolved s base c
   resolved-bare (command.Mkdir path) = ap (and_then (λ found. Ok (done.Mkdir found))) (place-bare path)
   resolved-bare (command.Rmdir path) = ap (and_then (λ dir. Ok (done.Rmdir dir))) (directory-leads path)
   resolved-bare (command.Write path text) = ap (and_then (λ found. Ok (done.Write found text))) (place-bare path)
@@ -246,7 +241,7 @@ dirty-same s = measured-bare (one_if is_dirty) s.entries (λ body. ap (λ (b : B
 
 pub counts-bare : (s : State) → counts (bare s) ≡ counts s
 counts-bare s = λ i. record {
-  bytes = measured-bare weight s.entries bare-weight i;
+  bytes = measured-bare file_bytes s.entries bare-weight i;
   directories = ones is_directory bare-kind i + 1;
   semantics = ones is_queried (λ body. ap (λ (o : Option (Formula ℕ)). is_some o) (bare-query body)) i;
   files = ones is_file bare-file i;

@@ -4,7 +4,7 @@ use Rattle.std.specs.Prelude.{◌==◌, not, filter, map, Option, Some, None}
 use Rattle.std.specs.Option.{option_map_or}
 use Rattle.std.proofs.lemmas.List.{map-append}
 use Rattle.hac_model.specs.Tree.Bare.{bare, bare_body}
-use Rattle.hac_model.specs.Tree.Events.{added, apply, asking, changed, changed_at, edited, forgetting, forgotten, indexed, marked, next_dirty, plain_body, removed, reseated, rewritten}
+use Rattle.hac_model.specs.Tree.Events.{added, apply, asking, changed_in, changed_at, edited, forgetting, forgotten, indexed, marked, next_dirty, plain_body, removed, reseated, rewritten}
 use Rattle.hac_model.specs.Query.Formula.{Formula}
 use Rattle.hac_model.specs.Tree.{is_dirty}
 use Rattle.hac_model.specs.declared.events.Event.{Event}
@@ -31,7 +31,7 @@ entries-again (e ∷ es) = λ i. record e { body = bare-again e.body i } ∷ ent
 abbrev Passes : (Entry → Entry) → Type 0
 Passes change = (e : Entry) → edited bare_body (change e) ≡ edited bare_body (change (edited bare_body e))
 
-changed-bare : (n : ℕ) (change : Entry → Entry) (es : List Entry) → Passes change → map (edited bare_body) (changed n change es) ≡ map (edited bare_body) (changed n change (map (edited bare_body) es))
+changed-bare : (n : ℕ) (change : Entry → Entry) (es : List Entry) → Passes change → map (edited bare_body) (changed_in n change es) ≡ map (edited bare_body) (changed_in n change (map (edited bare_body) es))
 changed-bare n change [] passes = refl
 changed-bare n change (e ∷ es) passes = λ i. one i ∷ changed-bare n change es passes i
   where
@@ -42,7 +42,7 @@ changed-bare n change (e ∷ es) passes = λ i. one i ∷ changed-bare n change 
     ]
 
 -- an edit of what isn't bare changes nothing
-pub changed-kept : (n : ℕ) (edit : Body → Body) (es : List Entry) → ((body : Body) → bare_body (edit body) ≡ bare_body body) → map (edited bare_body) (changed n (edited edit) es) ≡ map (edited bare_body) es
+pub changed-kept : (n : ℕ) (edit : Body → Body) (es : List Entry) → ((body : Body) → bare_body (edit body) ≡ bare_body body) → map (edited bare_body) (changed_in n (edited edit) es) ≡ map (edited bare_body) es
 changed-kept n edit [] same = refl
 changed-kept n edit (e ∷ es) same = λ i. one (e.number == n) i ∷ changed-kept n edit es same i
   where
@@ -145,7 +145,7 @@ added-bare s dir name body = alike (s.next + 1) (s.entries ++ new ∷ []) (map (
     new = record { number = s.next; parent = dir; name = name; body = body }
 
 changed_at-bare : (s : State) (n : ℕ) (change : Entry → Entry) → Passes change → bare (changed_at s n change) ≡ bare (changed_at (bare s) n change)
-changed_at-bare s n change passes = alike s.next (changed n change s.entries) (changed n change (map (edited bare_body) s.entries)) s (bare s) (changed-bare n change s.entries passes)
+changed_at-bare s n change passes = alike s.next (changed_in n change s.entries) (changed_in n change (map (edited bare_body) s.entries)) s (bare s) (changed-bare n change s.entries passes)
 
 removed-bare : (s : State) (n : ℕ) → bare (removed s n) ≡ bare (removed (bare s) n)
 removed-bare s n = alike s.next (filter (is_kept n) s.entries) (filter (is_kept n) (map (edited bare_body) s.entries)) s (bare s) (kept-bare n s.entries)

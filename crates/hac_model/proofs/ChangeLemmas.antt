@@ -7,7 +7,7 @@ use Rattle.std.specs.Str.{bytes_eq}
 use Rattle.std.specs.Cmp.{nat_eq_equiv}
 use Rattle.std.specs.Cmp.Lexicographic.{nat_list_eq_equiv}
 use Rattle.std.proofs.lemmas.Bool.{eqb-true, ne_eqb}
-use Rattle.hac_model.specs.Tree.Events.{changed, edited, reseated}
+use Rattle.hac_model.specs.Tree.Events.{changed_in, edited, reseated}
 use Rattle.hac_model.specs.Tree.{body_at, child, entry_at, is_directory, is_directory_at, is_made_directory}
 use Rattle.hac_model.specs.Tree.Valid.{NamesDiffer, NumbersRise}
 use Rattle.hac_model.specs.declared.states.Body.{Body}
@@ -87,15 +87,15 @@ KeepsNumbers change = (e : Entry) → (change e).number ≡ e.number
 pub touched-keeps : {X : Type 0} (part : Entry → X) (n : ℕ) (change : Entry → Entry) (e : Entry) → part (change e) ≡ part e → part (touched n change e) ≡ part e
 touched-keeps part n change e same = elim (e.number == n) as (λ b. part (cond b (change e) e) ≡ part e) [ true ↦ same | false ↦ refl ]
 
-pub entry_at-changed : (n : ℕ) (change : Entry → Entry) (es : List Entry) (m : ℕ) → KeepsNumbers change → entry_at (changed n change es) m ≡ option_map (touched n change) (entry_at es m)
+pub entry_at-changed : (n : ℕ) (change : Entry → Entry) (es : List Entry) (m : ℕ) → KeepsNumbers change → entry_at (changed_in n change es) m ≡ option_map (touched n change) (entry_at es m)
 entry_at-changed n change [] m keeps = refl
 entry_at-changed n change (e ∷ es) m keeps =
-    ap (λ (k : ℕ). cond (k == m) (Some (touched n change e)) (entry_at (changed n change es) m)) (touched-keeps (λ e. e.number) n change e (keeps e))
+    ap (λ (k : ℕ). cond (k == m) (Some (touched n change e)) (entry_at (changed_in n change es) m)) (touched-keeps (λ e. e.number) n change e (keeps e))
     ∙ ap (λ (o : Option Entry). cond (e.number == m) (Some (touched n change e)) o) (entry_at-changed n change es m keeps)
     ∙ (elim (e.number == m) as (λ b. cond b (Some (touched n change e)) (option_map (touched n change) (entry_at es m)) ≡ option_map (touched n change) (cond b (Some e) (entry_at es m))) [ true ↦ refl | false ↦ refl ])
 
 -- a test of bodies that the change leaves as it is
-pub test-changed : (test : Body → Bool) (n : ℕ) (change : Entry → Entry) (es : List Entry) (m : ℕ) → KeepsNumbers change → ((e : Entry) → test (change e).body ≡ test e.body) → option_map_or test (body_at (changed n change es) m) false ≡ option_map_or test (body_at es m) false
+pub test-changed : (test : Body → Bool) (n : ℕ) (change : Entry → Entry) (es : List Entry) (m : ℕ) → KeepsNumbers change → ((e : Entry) → test (change e).body ≡ test e.body) → option_map_or test (body_at (changed_in n change es) m) false ≡ option_map_or test (body_at es m) false
 test-changed test n change es m keeps same =
     ap (λ (o : Option Entry). option_map_or test (option_map (λ (e : Entry). e.body) o) false) (entry_at-changed n change es m keeps)
     ∙ (elim (entry_at es m) as (λ o. option_map_or test (option_map (λ (e : Entry). e.body) (option_map (touched n change) o)) false ≡ option_map_or test (option_map (λ (e : Entry). e.body) o) false) [
@@ -103,64 +103,64 @@ test-changed test n change es m keeps same =
       | Some e ↦ touched-keeps (λ e. test e.body) n change e (same e)
     ])
 
-pub directory-changed : (n : ℕ) (change : Entry → Entry) (es : List Entry) (d : ℕ) → KeepsNumbers change → ((e : Entry) → is_directory (change e).body ≡ is_directory e.body) → is_directory_at (changed n change es) d ≡ is_directory_at es d
+pub directory-changed : (n : ℕ) (change : Entry → Entry) (es : List Entry) (d : ℕ) → KeepsNumbers change → ((e : Entry) → is_directory (change e).body ≡ is_directory e.body) → is_directory_at (changed_in n change es) d ≡ is_directory_at es d
 directory-changed n change es d keeps same = ap (λ (b : Bool). d == 0 || b) (test-changed is_directory n change es d keeps same)
 
-pub numbers-changed : (n : ℕ) (change : Entry → Entry) (above : ℕ) (es : List Entry) (next : ℕ) → KeepsNumbers change → NumbersRise above es next → NumbersRise above (changed n change es) next
+pub numbers-changed : (n : ℕ) (change : Entry → Entry) (above : ℕ) (es : List Entry) (next : ℕ) → KeepsNumbers change → NumbersRise above es next → NumbersRise above (changed_in n change es) next
 numbers-changed n change above [] next keeps h = h
 numbers-changed n change above (e ∷ es) next keeps h =
     let same : (touched n change e).number ≡ e.number = touched-keeps (λ e. e.number) n change e (keeps e) in (
       subst (λ (k : ℕ). above < k) (sym same) h.0,
-      subst (λ (k : ℕ). NumbersRise k (changed n change es) next) (sym same) (numbers-changed n change e.number es next keeps h.1),
+      subst (λ (k : ℕ). NumbersRise k (changed_in n change es) next) (sym same) (numbers-changed n change e.number es next keeps h.1),
     )
 
-pub all-changed : (P : Entry → Type 0) (n : ℕ) (change : Entry → Entry) (es : List Entry) → ((e : Entry) → P e → P (change e)) → AllByRecursion P es → AllByRecursion P (changed n change es)
+pub all-changed : (P : Entry → Type 0) (n : ℕ) (change : Entry → Entry) (es : List Entry) → ((e : Entry) → P e → P (change e)) → AllByRecursion P es → AllByRecursion P (changed_in n change es)
 all-changed P n change [] keeps h = tt
 all-changed P n change (e ∷ es) keeps h = (elim (e.number == n) as (λ b. P (cond b (change e) e)) [ true ↦ keeps e h.0 | false ↦ h.0 ], all-changed P n change es keeps h.1)
 
 -- a number that no entry has changes none
-pub changed-low : (n : ℕ) (change : Entry → Entry) (above : ℕ) (es : List Entry) (next : ℕ) → NumbersRise above es next → n ≤ above → changed n change es ≡ es
+pub changed-low : (n : ℕ) (change : Entry → Entry) (above : ℕ) (es : List Entry) (next : ℕ) → NumbersRise above es next → n ≤ above → changed_in n change es ≡ es
 changed-low n change above [] next h low = refl
 changed-low n change above (e ∷ es) next h low =
     let first : above < e.number = h.0 in
     let head : (e.number == n) ≡ false = ne_eqb e.number n (λ same. omega arith) in
-    let tail : changed n change es ≡ es = changed-low n change e.number es next h.1 (omega arith) in
+    let tail : changed_in n change es ≡ es = changed-low n change e.number es next h.1 (omega arith) in
     λ i. cond (head i) (change e) e ∷ tail i
 
 -- an edit of a body leaves places as they are
-pub child-edited : (n : ℕ) (edit : Body → Body) (es : List Entry) (dir : ℕ) (name : List ℕ) → child (changed n (edited edit) es) dir name ≡ child es dir name
+pub child-edited : (n : ℕ) (edit : Body → Body) (es : List Entry) (dir : ℕ) (name : List ℕ) → child (changed_in n (edited edit) es) dir name ≡ child es dir name
 child-edited n edit [] dir name = refl
 child-edited n edit (e ∷ es) dir name =
     ap (λ (rest : Option ℕ). cond ((touched n (edited edit) e).parent == dir && bytes_eq (touched n (edited edit) e).name name) (Some (touched n (edited edit) e).number) rest) (child-edited n edit es dir name)
     ∙ touched-keeps (λ e. cond (e.parent == dir && bytes_eq e.name name) (Some e.number) (child es dir name)) n (edited edit) e refl
 
-pub differ-edited : (n : ℕ) (edit : Body → Body) (es : List Entry) → NamesDiffer es → NamesDiffer (changed n (edited edit) es)
+pub differ-edited : (n : ℕ) (edit : Body → Body) (es : List Entry) → NamesDiffer es → NamesDiffer (changed_in n (edited edit) es)
 differ-edited n edit [] h = tt
 differ-edited n edit (e ∷ es) h = (
-  touched-keeps (λ x. child (changed n (edited edit) es) x.parent x.name) n (edited edit) e refl ∙ child-edited n edit es e.parent e.name ∙ h.0,
+  touched-keeps (λ x. child (changed_in n (edited edit) es) x.parent x.name) n (edited edit) e refl ∙ child-edited n edit es e.parent e.name ∙ h.0,
   differ-edited n edit es h.1,
 )
 
 -- an entry that goes to another place leaves a free place free
-pub child-reseated : (n dir : ℕ) (name : List ℕ) (es : List Entry) (d : ℕ) (x : List ℕ) → child es d x ≡ None → (dir == d && bytes_eq name x) ≡ false → child (changed n (reseated dir name) es) d x ≡ None
+pub child-reseated : (n dir : ℕ) (name : List ℕ) (es : List Entry) (d : ℕ) (x : List ℕ) → child es d x ≡ None → (dir == d && bytes_eq name x) ≡ false → child (changed_in n (reseated dir name) es) d x ≡ None
 child-reseated n dir name [] d x h other = refl
 child-reseated n dir name (e ∷ es) d x h other =
     let parts = first_apart (e.parent == d && bytes_eq e.name x) e.number (child es d x) h in
-    let rest : child (changed n (reseated dir name) es) d x ≡ None = child-reseated n dir name es d x parts.1 other in
-    elim (e.number == n) as (λ b. (let moved : Entry = cond b (reseated dir name e) e in cond (moved.parent == d && bytes_eq moved.name x) (Some moved.number) (child (changed n (reseated dir name) es) d x)) ≡ None) [
-      | true ↦ ap (λ (b : Bool). cond b (Some e.number) (child (changed n (reseated dir name) es) d x)) other ∙ rest
-      | false ↦ ap (λ (b : Bool). cond b (Some e.number) (child (changed n (reseated dir name) es) d x)) parts.0 ∙ rest
+    let rest : child (changed_in n (reseated dir name) es) d x ≡ None = child-reseated n dir name es d x parts.1 other in
+    elim (e.number == n) as (λ b. (let moved : Entry = cond b (reseated dir name e) e in cond (moved.parent == d && bytes_eq moved.name x) (Some moved.number) (child (changed_in n (reseated dir name) es) d x)) ≡ None) [
+      | true ↦ ap (λ (b : Bool). cond b (Some e.number) (child (changed_in n (reseated dir name) es) d x)) other ∙ rest
+      | false ↦ ap (λ (b : Bool). cond b (Some e.number) (child (changed_in n (reseated dir name) es) d x)) parts.0 ∙ rest
     ]
 
 -- to a free place
-pub differ-reseated : (n dir : ℕ) (name : List ℕ) (above : ℕ) (es : List Entry) (next : ℕ) → NumbersRise above es next → child es dir name ≡ None → NamesDiffer es → NamesDiffer (changed n (reseated dir name) es)
+pub differ-reseated : (n dir : ℕ) (name : List ℕ) (above : ℕ) (es : List Entry) (next : ℕ) → NumbersRise above es next → child es dir name ≡ None → NamesDiffer es → NamesDiffer (changed_in n (reseated dir name) es)
 differ-reseated n dir name above [] next rise free h = tt
 differ-reseated n dir name above (e ∷ es) next rise free h =
     let parts = first_apart (e.parent == dir && bytes_eq e.name name) e.number (child es dir name) free in
-    elim (e.number == n) as (λ b. (e.number == n) ≡ b → NamesDiffer (cond b (reseated dir name e) e ∷ changed n (reseated dir name) es)) [
+    elim (e.number == n) as (λ b. (e.number == n) ≡ b → NamesDiffer (cond b (reseated dir name e) e ∷ changed_in n (reseated dir name) es)) [
       | true ↦ (λ here.
           let low : n ≤ e.number = (let same : e.number ≡ n = eqb-true e.number n here in omega arith) in
-          let rest : changed n (reseated dir name) es ≡ es = changed-low n (reseated dir name) e.number es next rise.1 low in
+          let rest : changed_in n (reseated dir name) es ≡ es = changed-low n (reseated dir name) e.number es next rise.1 low in
           (ap (λ (es : List Entry). child es dir name) rest ∙ parts.1, subst (λ (es : List Entry). NamesDiffer es) (sym rest) h.1))
       | false ↦ (λ other. (child-reseated n dir name es e.parent e.name h.0 (apart e.parent dir e.name name parts.0), differ-reseated n dir name e.number es next rise.1 parts.1 h.1))
     ] refl

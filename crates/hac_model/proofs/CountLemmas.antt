@@ -3,8 +3,8 @@ use Rattle.std.proofs.Common.{◌≡◌, ℕ, ◌+◌, ◌<◌, ◌≤◌, Bool,
 use Rattle.std.specs.Prelude.{◌==◌, not, filter, sum_by, Some, is_some}
 use Rattle.std.proofs.lemmas.Bool.{eqb-true, ne_eqb}
 use Rattle.std.proofs.lemmas.List.Sums.{sum_by-cons, sum_by_push}
-use Rattle.hac_model.specs.Tree.Events.{changed, changed_at, edited, indexed, reseated, rewritten}
-use Rattle.hac_model.specs.Tree.Limits.{directory_count, dirty_count, file_count, semantic_count, text_size, weight}
+use Rattle.hac_model.specs.Tree.Events.{changed_in, changed_at, edited, indexed, reseated, rewritten}
+use Rattle.hac_model.specs.Tree.Limits.{directory_count, dirty_count, file_count, semantic_count, text_size, file_bytes}
 use Rattle.hac_model.specs.Tree.{entry_at, is_directory, is_dirty, is_file, query_in}
 use Rattle.hac_model.specs.Tree.Valid.{NumbersRise}
 use Rattle.hac_model.specs.declared.states.Body.{Body}
@@ -31,33 +31,33 @@ pub measured-added : (f : Body → ℕ) (es : List Entry) (e : Entry) → measur
 measured-added f es e = sum_by_push (λ (e : Entry). f e.body) es e
 
 -- the measure after a change of one entry
-pub measured-changed : (f : Body → ℕ) (n : ℕ) (change : Entry → Entry) (above : ℕ) (es : List Entry) (next : ℕ) (e : Entry) → NumbersRise above es next → entry_at es n ≡ Some e → measured f (changed n change es) + f e.body ≡ measured f es + f (change e).body
+pub measured-changed : (f : Body → ℕ) (n : ℕ) (change : Entry → Entry) (above : ℕ) (es : List Entry) (next : ℕ) (e : Entry) → NumbersRise above es next → entry_at es n ≡ Some e → measured f (changed_in n change es) + f e.body ≡ measured f es + f (change e).body
 measured-changed f n change above [] next e h found = absurd cc
 measured-changed f n change above (x ∷ es) next e h found =
-    elim (x.number == n) as (λ b. (x.number == n) ≡ b → cond b (Some x) (entry_at es n) ≡ Some e → measured f (cond b (change x) x ∷ changed n change es) + f e.body ≡ measured f (x ∷ es) + f (change e).body) [
+    elim (x.number == n) as (λ b. (x.number == n) ≡ b → cond b (Some x) (entry_at es n) ≡ Some e → measured f (cond b (change x) x ∷ changed_in n change es) + f e.body ≡ measured f (x ∷ es) + f (change e).body) [
       | true ↦ (λ here found.
           let same : x ≡ e = cc in
           let low : n ≤ x.number = (let number : x.number ≡ n = eqb-true x.number n here in omega arith) in
-          let rest : measured f (changed n change es) ≡ measured f es = ap (measured f) (changed-low n change x.number es next h.1 low) in
+          let rest : measured f (changed_in n change es) ≡ measured f es = ap (measured f) (changed-low n change x.number es next h.1 low) in
           let old : f x.body ≡ f e.body = ap (λ (y : Entry). f y.body) same in
           let new : f (change x).body ≡ f (change e).body = ap (λ (y : Entry). f (change y).body) same in
-          omega (arith, measured-cons f (change x) (changed n change es), measured-cons f x es, rest, old, new))
-      | false ↦ (λ other found. omega (arith, measured-cons f x (changed n change es), measured-cons f x es, measured-changed f n change x.number es next e h.1 found))
+          omega (arith, measured-cons f (change x) (changed_in n change es), measured-cons f x es, rest, old, new))
+      | false ↦ (λ other found. omega (arith, measured-cons f x (changed_in n change es), measured-cons f x es, measured-changed f n change x.number es next e h.1 found))
     ] refl found
 
 -- a change that leaves the measure of each entry leaves that of all
-pub measured-same : (f : Body → ℕ) (n : ℕ) (change : Entry → Entry) (es : List Entry) → ((e : Entry) → f (change e).body ≡ f e.body) → measured f (changed n change es) ≡ measured f es
+pub measured-same : (f : Body → ℕ) (n : ℕ) (change : Entry → Entry) (es : List Entry) → ((e : Entry) → f (change e).body ≡ f e.body) → measured f (changed_in n change es) ≡ measured f es
 measured-same f n change [] same = refl
 measured-same f n change (e ∷ es) same =
     let here : f (touched n change e).body ≡ f e.body = elim (e.number == n) as (λ b. f (cond b (change e) e).body ≡ f e.body) [ true ↦ same e | false ↦ refl ] in
-    omega (arith, measured-cons f (touched n change e) (changed n change es), measured-cons f e es, here, measured-same f n change es same)
+    omega (arith, measured-cons f (touched n change e) (changed_in n change es), measured-cons f e es, here, measured-same f n change es same)
 
 -- one that makes none greater makes the sum no greater
-pub measured-less : (f : Body → ℕ) (n : ℕ) (change : Entry → Entry) (es : List Entry) → ((e : Entry) → f (change e).body ≤ f e.body) → measured f (changed n change es) ≤ measured f es
+pub measured-less : (f : Body → ℕ) (n : ℕ) (change : Entry → Entry) (es : List Entry) → ((e : Entry) → f (change e).body ≤ f e.body) → measured f (changed_in n change es) ≤ measured f es
 measured-less f n change [] less = omega arith
 measured-less f n change (e ∷ es) less =
     let here : f (touched n change e).body ≤ f e.body = elim (e.number == n) as (λ b. f (cond b (change e) e).body ≤ f e.body) [ true ↦ less e | false ↦ omega arith ] in
-    omega (arith, measured-cons f (touched n change e) (changed n change es), measured-cons f e es, here, measured-less f n change es less)
+    omega (arith, measured-cons f (touched n change e) (changed_in n change es), measured-cons f e es, here, measured-less f n change es less)
 
 -- a number that no entry has takes none away
 pub kept-low : (n above : ℕ) (es : List Entry) (next : ℕ) → NumbersRise above es next → n ≤ above → filter (is_kept n) es ≡ es
@@ -111,8 +111,8 @@ dirty_count-is es = refl
 
 -- After a body was edited. Counts of kinds stay where the edit keeps the kind, as those of texts do.
 
-pub weight-within : (s : State) (n : ℕ) (e : Entry) → entry_at s.entries n ≡ Some e → weight e.body ≤ text_size s.entries
-weight-within s n e found = measured-holds weight s.entries n e found
+pub weight-within : (s : State) (n : ℕ) (e : Entry) → entry_at s.entries n ≡ Some e → file_bytes e.body ≤ text_size s.entries
+weight-within s n e found = measured-holds file_bytes s.entries n e found
 
 -- the edit leaves files files, and queries as they are
 pub record KeepsKind (edit : Body → Body) : Type 0 where
@@ -144,12 +144,12 @@ pub file_count-edited : (s : State) (n : ℕ) (edit : Body → Body) → KeepsKi
 file_count-edited s n edit keeps = measured-same (one_if is_file) n (edited edit) s.entries (λ e. ap (λ (b : Bool). cond {A = ℕ} b 1 0) (keeps.files e.body))
 
 -- a text that is shown weighs no more than before
-pub indexed-lighter : (body : Body) → weight (indexed body) ≤ weight body
+pub indexed-lighter : (body : Body) → file_bytes (indexed body) ≤ file_bytes body
 indexed-lighter (File text dirty shown) = grind arith
 indexed-lighter other = omega arith
 
 pub text_size-indexed : (s : State) (n : ℕ) → text_size (changed_at s n (edited indexed)).entries ≤ text_size s.entries
-text_size-indexed s n = measured-less weight n (edited indexed) s.entries (λ e. indexed-lighter e.body)
+text_size-indexed s n = measured-less file_bytes n (edited indexed) s.entries (λ e. indexed-lighter e.body)
 
 -- After an entry went to another place all counts are as before.
 

@@ -5,7 +5,7 @@ use Rattle.std.specs.Option.{option_map}
 use Rattle.std.specs.List.{AllByRecursion, list_all}
 use Rattle.std.proofs.lemmas.Bool.{and_from, and_parts, eqb-false}
 use Rattle.std.proofs.lemmas.List.{length-map}
-use Rattle.hac_model.specs.Tree.Events.{changed, edited}
+use Rattle.hac_model.specs.Tree.Events.{changed_in, edited}
 use Rattle.hac_model.specs.Tree.Limits.{are_paths_short}
 use Rattle.hac_model.specs.Tree.{ancestors, entry_at, is_path_short, lineage}
 use Rattle.hac_model.specs.Tree.Valid.{IsLayout}
@@ -42,34 +42,34 @@ pub record KeepsPlace (change : Entry → Entry) : Type 0 where
 pub edited-keeps : (edit : Body → Body) → KeepsPlace (edited edit)
 edited-keeps edit = record { numbers = λ e. refl; parents = λ e. refl; names = λ e. refl }
 
-ancestors-placed : (steps n : ℕ) (change : Entry → Entry) (es : List Entry) (m : ℕ) → KeepsPlace change → names_of (ancestors steps (changed n change es) m) ≡ names_of (ancestors steps es m)
+ancestors-placed : (steps n : ℕ) (change : Entry → Entry) (es : List Entry) (m : ℕ) → KeepsPlace change → names_of (ancestors steps (changed_in n change es) m) ≡ names_of (ancestors steps es m)
 ancestors-placed zero n change es m keeps = refl
 ancestors-placed (suc steps) n change es m keeps =
-    ap (λ (o : Option Entry). names_of (ancestors_by steps (changed n change es) o)) (entry_at-changed n change es m keeps.numbers)
-    ∙ (elim (entry_at es m) as (λ o. names_of (ancestors_by steps (changed n change es) (option_map (touched n change) o)) ≡ names_of (ancestors_by steps es o)) [
+    ap (λ (o : Option Entry). names_of (ancestors_by steps (changed_in n change es) o)) (entry_at-changed n change es m keeps.numbers)
+    ∙ (elim (entry_at es m) as (λ o. names_of (ancestors_by steps (changed_in n change es) (option_map (touched n change) o)) ≡ names_of (ancestors_by steps es o)) [
       | None ↦ refl
       | Some e ↦
-          ap (λ (p : ℕ). (touched n change e).name ∷ names_of (ancestors steps (changed n change es) p)) (touched-keeps (λ e. e.parent) n change e (keeps.parents e))
+          ap (λ (p : ℕ). (touched n change e).name ∷ names_of (ancestors steps (changed_in n change es) p)) (touched-keeps (λ e. e.parent) n change e (keeps.parents e))
           ∙ ap (λ (names : List (List ℕ)). (touched n change e).name ∷ names) (ancestors-placed steps n change es e.parent keeps)
           ∙ ap (λ (x : List ℕ). x ∷ names_of (ancestors steps es e.parent)) (touched-keeps (λ e. e.name) n change e (keeps.names e))
     ])
 
-lineage-edited : (es : List Entry) (n : ℕ) (edit : Body → Body) (m : ℕ) → names_of (lineage (changed n (edited edit) es) m) ≡ names_of (lineage es m)
+lineage-edited : (es : List Entry) (n : ℕ) (edit : Body → Body) (m : ℕ) → names_of (lineage (changed_in n (edited edit) es) m) ≡ names_of (lineage es m)
 lineage-edited es n edit m =
-    ap names_of (lineage-is (changed n (edited edit) es) m) ∙ ancestors-placed (suc limit) n (edited edit) es m (edited-keeps edit) ∙ ap names_of (sym (lineage-is es m))
+    ap names_of (lineage-is (changed_in n (edited edit) es) m) ∙ ancestors-placed (suc limit) n (edited edit) es m (edited-keeps edit) ∙ ap names_of (sym (lineage-is es m))
 
-short-edited : (es : List Entry) (n : ℕ) (edit : Body → Body) (m : ℕ) → is_path_short (changed n (edited edit) es) m ≡ is_path_short es m
-short-edited es n edit m = short-names (changed n (edited edit) es) es m m (ap length (lineage-edited es n edit m))
+short-edited : (es : List Entry) (n : ℕ) (edit : Body → Body) (m : ℕ) → is_path_short (changed_in n (edited edit) es) m ≡ is_path_short es m
+short-edited es n edit m = short-names (changed_in n (edited edit) es) es m m (ap length (lineage-edited es n edit m))
 
 -- so all are short where they were
-pub paths-edited : (es : List Entry) (n : ℕ) (edit : Body → Body) → are_paths_short (changed n (edited edit) es) ≡ are_paths_short es
+pub paths-edited : (es : List Entry) (n : ℕ) (edit : Body → Body) → are_paths_short (changed_in n (edited edit) es) ≡ are_paths_short es
 paths-edited es n edit = each es
   where
-    each : (rest : List Entry) → list_all (λ e. is_path_short (changed n (edited edit) es) e.number) (changed n (edited edit) rest) ≡ list_all (λ e. is_path_short es e.number) rest
+    each : (rest : List Entry) → list_all (λ e. is_path_short (changed_in n (edited edit) es) e.number) (changed_in n (edited edit) rest) ≡ list_all (λ e. is_path_short es e.number) rest
     each [] = refl
     each (e ∷ rest) =
-        ap (λ (k : ℕ). is_path_short (changed n (edited edit) es) k && list_all (λ e. is_path_short (changed n (edited edit) es) e.number) (changed n (edited edit) rest)) (number e)
-        ∙ ap (λ (b : Bool). b && list_all (λ e. is_path_short (changed n (edited edit) es) e.number) (changed n (edited edit) rest)) (short-edited es n edit e.number)
+        ap (λ (k : ℕ). is_path_short (changed_in n (edited edit) es) k && list_all (λ e. is_path_short (changed_in n (edited edit) es) e.number) (changed_in n (edited edit) rest)) (number e)
+        ∙ ap (λ (b : Bool). b && list_all (λ e. is_path_short (changed_in n (edited edit) es) e.number) (changed_in n (edited edit) rest)) (short-edited es n edit e.number)
         ∙ ap (λ (b : Bool). is_path_short es e.number && b) (each rest)
       where
         number : (e : Entry) → (touched n (edited edit) e).number ≡ e.number

@@ -1,14 +1,13 @@
 -- What an event does to the facts of each number.
 use Rattle.std.proofs.Common.{◌≡◌, ℕ, Bool, true, false, cond, List, [], ◌∷◌, refl, ap, sym, ◌∙◌}
-use Rattle.std.specs.Prelude.{◌==◌, ◌&&◌, filter, Option, Some, None, is_some, option_and_then}
+use Rattle.std.specs.Prelude.{◌==◌, filter, Option, Some, None, is_some, option_and_then}
 use Rattle.std.specs.Option.{option_map, option_map_or}
-use Rattle.std.proofs.lemmas.Bool.{and_parts, eqb-true}
+use Rattle.std.proofs.lemmas.Bool.{eqb-true}
 use Rattle.hac_model.specs.Tree.Bare.{bare}
 use Rattle.hac_model.specs.Tree.Depends.{depends, named_in}
-use Rattle.hac_model.specs.Tree.Events.{apply, asking, changed_at, edited, forgetting, indexed, is_possible, marked, may_mark, next_dirty, plain_body, reseated, rewritten}
+use Rattle.hac_model.specs.Tree.Events.{apply, asking, changed_at, edited, forgetting, indexed, is_possible, marked, next_dirty, plain_body, reseated, rewritten}
 use Rattle.hac_model.specs.Tree.Facts.{Facts, edges_to, facts_after, facts_at, facts_in, facts_of, no_facts, put_at, with_mark, without_item}
 use Rattle.hac_model.specs.Query.Formula.{Formula}
-use Rattle.hac_model.specs.Tree.Links.{is_item, is_semantic}
 use Rattle.hac_model.specs.Tree.{entry_at, is_directory, is_file, query_in}
 use Rattle.hac_model.specs.Tree.Valid.{NumbersRise}
 use Rattle.hac_model.specs.declared.events.Event.{Event}
@@ -23,7 +22,7 @@ use Rattle.hac_model.proofs.AlikeLemmas.{parent_of-bare, query_at-bare}
 use Rattle.hac_model.proofs.ChangeLemmas.{is_kept}
 use Rattle.hac_model.proofs.CycleLemmas.{depends-is, edges_in}
 use Rattle.hac_model.proofs.MapLemmas.{entry_at-mapped}
-use Rattle.hac_model.proofs.ValidLemmas.{setq-parts}
+use Rattle.hac_model.proofs.ValidLemmas.{setq-parts, mark-parts}
 use Rattle.hac_model.proofs.ViewLemmas.{seen-added, seen-changed, seen-kept, seen-plain, seen-removed}
 
 -- what is depended on is told
@@ -147,10 +146,8 @@ facts-law s (Unq dir) rise ok n =
     seen-changed facts_at s.entries dir (edited plain_body) (λ e. refl) n
     ∙ ap (λ (new : Facts). put_at (facts_of s) dir new n) (plain-facts (entry_at s.entries dir) ok)
 facts-law s (Mark mark) rise ok n =
-    let fits = and_parts (is_item s mark.item && is_semantic s mark.dir) (may_mark s mark.dir mark.item mark.kind) ok in
-    let semantic = and_parts (is_item s mark.item) (is_semantic s mark.dir) fits.0 in
     seen-changed facts_at s.entries mark.dir (edited (marked mark.item mark.kind)) (λ e. refl) n
-    ∙ ap (λ (new : Facts). put_at (facts_of s) mark.dir new n) (marked-facts mark.item mark.kind (entry_at s.entries mark.dir) semantic.1)
+    ∙ ap (λ (new : Facts). put_at (facts_of s) mark.dir new n) (marked-facts mark.item mark.kind (entry_at s.entries mark.dir) (mark-parts s mark.dir mark.item mark.kind ok).1)
 facts-law s (Mv entry dir name) rise ok n =
     seen-changed facts_at s.entries entry (reseated dir name) (λ e. refl) n
     ∙ ap (λ (new : Facts). put_at (facts_of s) entry new n) (reseated-facts dir name (entry_at s.entries entry))

@@ -20,6 +20,7 @@ pub mod SpellingLemmas
 pub mod FrontLemmas
 pub mod ScriptLemmas
 pub mod JoinLemmas
+pub mod StandLemmas
 pub mod EventLemmas
 pub mod SpelledLemmas
 pub mod PlayLemmas
@@ -38,3 +39,4 @@ pub mod ViewLemmas
 pub mod FillLemmas
 pub mod FactLemmas
 pub mod NextLemmas
+mod MarkLawLemmas

@@ -1,6 +1,7 @@
 -- Where look-ups lead.
-use Rattle.std.proofs.Common.{◌≡◌, ℕ, zero, suc, ◌-◌, Bool, true, false, cond, List, [], ◌∷◌, ◌++◌, subst, refl, ap, sym, ◌∙◌, eq-eqb, inl, inr, append_assoc}
-use Rattle.std.specs.Prelude.{◌==◌, ◌&&◌, ◌||◌, not, take, Option, Some, None, Result, Ok, Err, is_some, is_none}
+use Rattle.std.proofs.lemmas.List.Folds.{list_all-append}
+use Rattle.std.proofs.Common.{◌≡◌, ℕ, zero, suc, ◌-◌, Bool, true, false, cond, List, [], ◌∷◌, ◌++◌, subst, refl, ap, sym, ◌∙◌, eq-eqb, inl, inr, append_assoc, length}
+use Rattle.std.specs.Prelude.{◌==◌, ◌&&◌, ◌||◌, not, take, Option, Some, None, Result, Ok, Err, is_some, is_none, if◌then◌else◌, IsTrue}
 use Rattle.std.specs.Option.{option_map, option_map_or}
 use Rattle.std.specs.Str.{bytes_eq}
 use Rattle.std.proofs.lemmas.Bool.{and_from, and_parts}
@@ -8,9 +9,9 @@ use Rattle.std.proofs.lemmas.List.{append-nil}
 use Rattle.hac_model.specs.Tree.Events.{is_free}
 use Rattle.hac_model.specs.Tree.Looks.{has_names, look}
 use Rattle.hac_model.specs.Tree.Names.{is_name}
-use Rattle.hac_model.specs.Tree.Paths.{are_names, join, without_last}
+use Rattle.hac_model.specs.Tree.Paths.{are_names, join, without_last, origin}
 use Rattle.hac_model.specs.Run.Resolving.{place}
-use Rattle.hac_model.specs.Tree.Sessions.{base_of, stands_in}
+use Rattle.hac_model.specs.Tree.Sessions.{stands_in}
 use Rattle.hac_model.specs.Tree.{child, entry_at, is_directory, is_directory_at, is_file, is_file_at, is_made_directory, path_of}
 use Rattle.hac_model.specs.Tree.Valid.{IsLayout, IsSound, IsValid}
 use Rattle.hac_model.specs.declared.paths.PathWord.{PathWord}
@@ -23,7 +24,7 @@ use Rattle.hac_model.specs.declared.states.Body.TheVariants.{File, Dir, Symlink,
 use Rattle.hac_model.specs.declared.states.Entry.{Entry}
 use Rattle.hac_model.specs.declared.states.Session.{Session}
 use Rattle.hac_model.specs.declared.states.State.{State}
-use Rattle.hac_model.proofs.PathLemmas.{path_of-parent, path_of-root}
+use Rattle.hac_model.proofs.PathLemmas.{path_of-parent, path_of-root, from_root}
 use Rattle.hac_model.proofs.TreeLemmas.{Lives, child-entry, entry_at-all, entry_at-cases}
 use Rattle.hac_model.proofs.Walks.{look-walk, walk}
 
@@ -135,17 +136,6 @@ walk-free s dir walked (name ∷ names) d x layout directory named h =
     further [] m lives goes h on_from = absurd cc
     further (y ∷ rest) m lives goes h on_from = on_from (directory-or_file s m layout lives goes)
 
--- from the root no name is above
-take-nothing : (k : ℕ) → take {A = List ℕ} k [] ≡ []
-take-nothing zero = refl
-take-nothing (suc k) = refl
-
-pub join-root : (word : PathWord) → join [] word ≡ word.names
-join-root word = elim word.absolute as (λ b. cond b [] (without_last word.ups []) ++ word.names ≡ word.names) [
-  | true ↦ refl
-  | false ↦ ap (λ (front : List (List ℕ)). front ++ word.names) (take-nothing (0 - word.ups))
-]
-
 -- what a path leads to lives
 pub look-lives : (s : State) (path : List (List ℕ)) (n : ℕ) → look s path ≡ Ok (There n) → Lives s.entries n
 look-lives s path n h = walk-lives s.entries 0 [] path n (inl refl) (sym (look-walk s path) ∙ h)
@@ -158,24 +148,44 @@ look-free s path dir name layout named h = walk-free s 0 [] path dir name layout
 pub session-root : (s : State) (session : List ℕ) → IsValid s → stands_in s.sessions session ≡ 0
 session-root s session h = ap (λ (sessions : List Session). stands_in sessions session) h.sessions
 
-pub base-root : (s : State) (session : List ℕ) → IsValid s → base_of s session ≡ []
-base-root s session h = ap (λ (n : ℕ). path_of s n) (session-root s session h) ∙ path_of-root s h.layout
-
--- so a path word leads where its names lead
-pub place-names : (s : State) (session : List ℕ) (word : PathWord) → IsValid s → place s session word ≡ look s word.names
-place-names s session word h = ap (λ (base : List (List ℕ)). look s (join base word)) (base-root s session h) ∙ ap (look s) (join-root word)
-
 -- what a path word leads to lives
-pub place-lives : (s : State) (session : List ℕ) (word : PathWord) (n : ℕ) → place s session word ≡ Ok (There n) → Lives s.entries n
-place-lives s session word n h = look-lives s (join (base_of s session) word) n h
+pub place-lives : (s : State) (base : ℕ) (word : PathWord) (n : ℕ) → place s base word ≡ Ok (There n) → Lives s.entries n
+place-lives s base word n h = look-lives s (join (path_of s base) word) n h
 
--- what it leads to and is missing is a free place
-pub place-free : (s : State) (session : List ℕ) (word : PathWord) (dir : ℕ) (name : List ℕ) → IsValid s → are_names word.names ≡ true → place s session word ≡ Ok (Free dir name) → IsFreePlace s.entries dir name
-place-free s session word dir name h named leads = look-free s word.names dir name h.layout named (sym (place-names s session word h) ∙ leads)
+-- the names of a path are names
+path-named : (s : State) (n : ℕ) → IsLayout s → Lives s.entries n → are_names (path_of s n) ≡ true
+path-named s n h lives = from_root s (λ n. are_names (path_of s n) ≡ true) h (ap are_names (path_of-root s h)) below n lives
+  where
+    below : (n : ℕ) (e : Entry) → entry_at s.entries n ≡ Some e → are_names (path_of s e.parent) ≡ true → are_names (path_of s n) ≡ true
+    below n e found above =
+        ap are_names (path_of-parent s n e h found)
+        ∙ list_all-append is_name (path_of s e.parent) (e.name ∷ [])
+        ∙ and_from (are_names (path_of s e.parent)) (is_name e.name && true) above (and_from (is_name e.name) true (entry_at-all (λ e. IsTrue (is_name e.name)) s.entries n e h.names found) refl)
 
-pub free-is : (s : State) (dir : ℕ) (name : List ℕ) → IsFreePlace s.entries dir name → is_free s dir name ≡ true
+take-named : (n : ℕ) (path : List (List ℕ)) → are_names path ≡ true → are_names (take n path) ≡ true
+take-named zero path h = refl
+take-named (suc n) [] h = refl
+take-named (suc n) (name ∷ path) h =
+    let parts = and_parts (is_name name) (are_names path) h in
+    and_from (is_name name) (are_names (take n path)) parts.0 (take-named n path parts.1)
+
+join-named : (base : List (List ℕ)) (word : PathWord) → are_names base ≡ true → are_names word.names ≡ true → are_names (join base word) ≡ true
+join-named base word above named =
+    list_all-append is_name (origin base word) word.names
+    ∙ and_from (are_names (origin base word)) (are_names word.names) (front word.absolute) named
+  where
+    front : (absolute : Bool) → are_names (if absolute then [] else without_last word.ups base) ≡ true
+    front true = refl
+    front false = take-named (length base - word.ups) base above
+
+free-is : (s : State) (dir : ℕ) (name : List ℕ) → IsFreePlace s.entries dir name → is_free s dir name ≡ true
 free-is s dir name h =
     and_from (is_directory_at s.entries dir && is_name name) (is_none (child s.entries dir name)) (and_from (is_directory_at s.entries dir) (is_name name) h.directory h.named) (ap (λ (o : Option ℕ). is_none o) h.empty)
+
+-- what it leads to and is missing is a free place
+pub place-free : (s : State) (base : ℕ) (word : PathWord) (dir : ℕ) (name : List ℕ) → IsLayout s → Lives s.entries base → are_names word.names ≡ true → place s base word ≡ Ok (Free dir name) → is_free s dir name ≡ true
+place-free s base word dir name h lives named leads =
+    free-is s dir name (look-free s (join (path_of s base) word) dir name h (join-named (path_of s base) word (path-named s base h lives) named) leads)
 
 -- In a valid state what is found has the path that was looked up.
 

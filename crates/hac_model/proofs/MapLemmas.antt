@@ -5,7 +5,7 @@ use Rattle.std.specs.Option.{option_map, option_map_or}
 use Rattle.std.specs.List.{AllByRecursion, list_all}
 use Rattle.std.specs.Str.{bytes_eq}
 use Rattle.hac_model.specs.Tree.Events.{edited}
-use Rattle.hac_model.specs.Tree.Limits.{answer_limits, are_paths_short, counts, directory_count, file_count, first_passed, layout_limits, long_paths, passed, semantic_count, text_size, weight}
+use Rattle.hac_model.specs.Tree.Limits.{answer_limits, are_paths_short, counts, directory_count, file_count, first_passed, layout_limits, long_paths, passed, semantic_count, text_size, file_bytes}
 use Rattle.hac_model.specs.Tree.Limits as limits_of
 use Rattle.hac_model.specs.Tree.Names.{is_name}
 use Rattle.hac_model.specs.Tree.{ancestors, body_at, child, entry_at, is_directory, is_directory_at, is_file, is_path_short, lineage, path_of, query_in}
@@ -88,7 +88,7 @@ pub record KeepsMeasures (edit : Body → Body) : Type 0 where
   pub kind : (body : Body) → is_directory (edit body) ≡ is_directory body
   pub file : (body : Body) → is_file (edit body) ≡ is_file body
   pub queried : (body : Body) → is_some (query_in (edit body)) ≡ is_some (query_in body)
-  pub texts : (body : Body) → weight (edit body) ≡ weight body
+  pub texts : (body : Body) → file_bytes (edit body) ≡ file_bytes body
 
 measured-mapped : (f : Body → ℕ) (edit : Body → Body) (es : List Entry) → ((body : Body) → f (edit body) ≡ f body) → measured f (map (edited edit) es) ≡ measured f es
 measured-mapped f edit [] same = refl
@@ -109,7 +109,7 @@ counts-mapped edit s keeps = λ i. first_passed (
     ones test same = measured-mapped (one_if test) edit es (λ body. ap (λ (b : Bool). cond {A = ℕ} b 1 0) (same body))
 
     texts : text_size (map (edited edit) es) ≡ text_size es
-    texts = measured-mapped weight edit es keeps.texts
+    texts = measured-mapped file_bytes edit es keeps.texts
 
     dirs : directory_count (map (edited edit) es) ≡ directory_count es
     dirs = omega (arith, ones is_directory keeps.kind, directory_count-is es, directory_count-is (map (edited edit) es))

@@ -9,7 +9,7 @@ use Rattle.std.proofs.lemmas.Bool.Decides.{nat_tests}
 use Rattle.std.proofs.lemmas.List.{drop-append-le, length-map, length-reverse, length-take, reverse-append, reverse-reverse, take_all}
 use Rattle.std.proofs.lemmas.List.Folds.{list_all-append}
 use Rattle.std.proofs.Math.Seq.{drop-length}
-use Rattle.hac_model.specs.Tree.Events.{accepted, added, apply, changed, changed_at, is_inside, is_possible, renamed, reseated}
+use Rattle.hac_model.specs.Tree.Events.{accepted, added, apply, changed_in, changed_at, is_inside, is_possible, renamed, reseated}
 use Rattle.hac_model.specs.Tree.Limits.{are_paths_short, passed}
 use Rattle.hac_model.specs.Tree.{ancestors, entry_at, extends, is_path_short, lineage, path_of}
 use Rattle.hac_model.specs.Tree.Valid.{IsLayout}
@@ -98,14 +98,14 @@ inside-root s n e h found =
     ∙ extends-root s (path_of s n) h
 
 -- what is no entry that moves is looked up as before
-entry_at-still : (s : State) (n dir : ℕ) (name : List ℕ) (m : ℕ) (f : Entry) → (m ≡ n → ⊥) → entry_at s.entries m ≡ Some f → entry_at (changed n (reseated dir name) s.entries) m ≡ Some f
+entry_at-still : (s : State) (n dir : ℕ) (name : List ℕ) (m : ℕ) (f : Entry) → (m ≡ n → ⊥) → entry_at s.entries m ≡ Some f → entry_at (changed_in n (reseated dir name) s.entries) m ≡ Some f
 entry_at-still s n dir name m f other found =
     let number : f.number ≡ m = entry_at-number s.entries m f found in
     entry_at-changed n (reseated dir name) s.entries m (λ e. refl)
     ∙ ap (λ (o : Option Entry). option_map (touched n (reseated dir name)) o) found
     ∙ ap (λ (b : Bool). Some (cond b (reseated dir name f) f)) (ne_eqb f.number n (λ same. other (sym number ∙ same)))
 
-entry_at-moved : (s : State) (n dir : ℕ) (name : List ℕ) (e : Entry) → entry_at s.entries n ≡ Some e → entry_at (changed n (reseated dir name) s.entries) n ≡ Some (reseated dir name e)
+entry_at-moved : (s : State) (n dir : ℕ) (name : List ℕ) (e : Entry) → entry_at s.entries n ≡ Some e → entry_at (changed_in n (reseated dir name) s.entries) n ≡ Some (reseated dir name e)
 entry_at-moved s n dir name e found =
     entry_at-changed n (reseated dir name) s.entries n (λ e. refl)
     ∙ ap (λ (o : Option Entry). option_map (touched n (reseated dir name)) o) found
@@ -156,7 +156,7 @@ renamed-parent s n dir name m f h lives other found =
     path = path_of-parent s m f h found
 
 -- what isn't there is not there after a move
-entry_at-none : (s : State) (n dir : ℕ) (name : List ℕ) (m : ℕ) → entry_at s.entries m ≡ None → entry_at (changed n (reseated dir name) s.entries) m ≡ None
+entry_at-none : (s : State) (n dir : ℕ) (name : List ℕ) (m : ℕ) → entry_at s.entries m ≡ None → entry_at (changed_in n (reseated dir name) s.entries) m ≡ None
 entry_at-none s n dir name m none = entry_at-changed n (reseated dir name) s.entries m (λ e. refl) ∙ ap (option_map (touched n (reseated dir name))) none
 
 -- the last name of a path is the first one from below
@@ -168,81 +168,81 @@ none-taken zero names none = refl
 none-taken (suc k) names none = ap (λ (names : List (List ℕ)). take (suc k) (reverse names)) none
 
 -- the names above what is outside stay
-names-outside : (s : State) (n dir : ℕ) (name : List ℕ) (e : Entry) (m : ℕ) → IsLayout s → entry_at s.entries n ≡ Some e → Lives s.entries m → is_inside s m n ≡ false → (steps : ℕ) → names_of (ancestors steps (changed n (reseated dir name) s.entries) m) ≡ take steps (reverse (path_of s m))
-names-outside s n dir name e m h there lives outside = from_root s (λ m. is_inside s m n ≡ false → (steps : ℕ) → names_of (ancestors steps (changed n (reseated dir name) s.entries) m) ≡ take steps (reverse (path_of s m))) h root step m lives outside
+names-outside : (s : State) (n dir : ℕ) (name : List ℕ) (e : Entry) (m : ℕ) → IsLayout s → entry_at s.entries n ≡ Some e → Lives s.entries m → is_inside s m n ≡ false → (steps : ℕ) → names_of (ancestors steps (changed_in n (reseated dir name) s.entries) m) ≡ take steps (reverse (path_of s m))
+names-outside s n dir name e m h there lives outside = from_root s (λ m. is_inside s m n ≡ false → (steps : ℕ) → names_of (ancestors steps (changed_in n (reseated dir name) s.entries) m) ≡ take steps (reverse (path_of s m))) h root step m lives outside
   where
-    root : is_inside s 0 n ≡ false → (steps : ℕ) → names_of (ancestors steps (changed n (reseated dir name) s.entries) 0) ≡ take steps (reverse (path_of s 0))
-    root outside steps = ap names_of (ancestors-none steps (changed n (reseated dir name) s.entries) 0 (entry_at-none s n dir name 0 (root-none s h))) ∙ sym (none-taken steps (path_of s 0) (path_of-root s h))
+    root : is_inside s 0 n ≡ false → (steps : ℕ) → names_of (ancestors steps (changed_in n (reseated dir name) s.entries) 0) ≡ take steps (reverse (path_of s 0))
+    root outside steps = ap names_of (ancestors-none steps (changed_in n (reseated dir name) s.entries) 0 (entry_at-none s n dir name 0 (root-none s h))) ∙ sym (none-taken steps (path_of s 0) (path_of-root s h))
 
-    step : (m : ℕ) (f : Entry) → entry_at s.entries m ≡ Some f → (is_inside s f.parent n ≡ false → (steps : ℕ) → names_of (ancestors steps (changed n (reseated dir name) s.entries) f.parent) ≡ take steps (reverse (path_of s f.parent))) → is_inside s m n ≡ false → (steps : ℕ) → names_of (ancestors steps (changed n (reseated dir name) s.entries) m) ≡ take steps (reverse (path_of s m))
+    step : (m : ℕ) (f : Entry) → entry_at s.entries m ≡ Some f → (is_inside s f.parent n ≡ false → (steps : ℕ) → names_of (ancestors steps (changed_in n (reseated dir name) s.entries) f.parent) ≡ take steps (reverse (path_of s f.parent))) → is_inside s m n ≡ false → (steps : ℕ) → names_of (ancestors steps (changed_in n (reseated dir name) s.entries) m) ≡ take steps (reverse (path_of s m))
     step m f found known outside zero = refl
     step m f found known outside (suc steps) =
         let other : m ≡ n → ⊥ = λ same. let apart = (or_parts (m == n) (extends (path_of s m) (path_of s n)) outside).0 in let here : (m == n) ≡ true = eq-eqb m n same in cc in
-        ap names_of (ancestors-step steps (changed n (reseated dir name) s.entries) m f (entry_at-still s n dir name m f other found))
+        ap names_of (ancestors-step steps (changed_in n (reseated dir name) s.entries) m f (entry_at-still s n dir name m f other found))
         ∙ ap (λ (names : List (List ℕ)). f.name ∷ names) (known (sym (inside-parent s n m f h (inr (e, there)) other found) ∙ outside) steps)
         ∙ sym (ap (λ (p : List (List ℕ)). take (suc steps) (reverse p)) (path_of-parent s m f h found) ∙ ap (take (suc steps)) (last-first (path_of s f.parent) f.name))
 
 -- after the move the names above each are those of its new path
-names-moved : (s : State) (n dir : ℕ) (name : List ℕ) (e : Entry) (m : ℕ) → IsLayout s → IsMove s n dir e → Lives s.entries m → (steps : ℕ) → names_of (ancestors steps (changed n (reseated dir name) s.entries) m) ≡ take steps (reverse (renamed s n dir name m))
-names-moved s n dir name e m h move lives = from_root s (λ m. (steps : ℕ) → names_of (ancestors steps (changed n (reseated dir name) s.entries) m) ≡ take steps (reverse (renamed s n dir name m))) h root step m lives
+names-moved : (s : State) (n dir : ℕ) (name : List ℕ) (e : Entry) (m : ℕ) → IsLayout s → IsMove s n dir e → Lives s.entries m → (steps : ℕ) → names_of (ancestors steps (changed_in n (reseated dir name) s.entries) m) ≡ take steps (reverse (renamed s n dir name m))
+names-moved s n dir name e m h move lives = from_root s (λ m. (steps : ℕ) → names_of (ancestors steps (changed_in n (reseated dir name) s.entries) m) ≡ take steps (reverse (renamed s n dir name m))) h root step m lives
   where
-    root : (steps : ℕ) → names_of (ancestors steps (changed n (reseated dir name) s.entries) 0) ≡ take steps (reverse (renamed s n dir name 0))
+    root : (steps : ℕ) → names_of (ancestors steps (changed_in n (reseated dir name) s.entries) 0) ≡ take steps (reverse (renamed s n dir name 0))
     root steps =
-        ap names_of (ancestors-none steps (changed n (reseated dir name) s.entries) 0 (entry_at-none s n dir name 0 (root-none s h)))
+        ap names_of (ancestors-none steps (changed_in n (reseated dir name) s.entries) 0 (entry_at-none s n dir name 0 (root-none s h)))
         ∙ sym (none-taken steps (renamed s n dir name 0) (renamed-outside s n dir name 0 (inside-root s n e h move.there) ∙ path_of-root s h))
 
-    itself : (steps : ℕ) → names_of (ancestors steps (changed n (reseated dir name) s.entries) n) ≡ take steps (reverse (renamed s n dir name n))
+    itself : (steps : ℕ) → names_of (ancestors steps (changed_in n (reseated dir name) s.entries) n) ≡ take steps (reverse (renamed s n dir name n))
     itself zero = refl
     itself (suc steps) =
-        ap names_of (ancestors-step steps (changed n (reseated dir name) s.entries) n (reseated dir name e) (entry_at-moved s n dir name e move.there))
+        ap names_of (ancestors-step steps (changed_in n (reseated dir name) s.entries) n (reseated dir name e) (entry_at-moved s n dir name e move.there))
         ∙ ap (λ (names : List (List ℕ)). name ∷ names) (names-outside s n dir name e dir h move.there move.lives move.outside steps)
         ∙ sym (ap (λ (p : List (List ℕ)). take (suc steps) (reverse p)) (renamed-itself s n dir name) ∙ ap (take (suc steps)) (last-first (path_of s dir) name))
 
-    others : (m : ℕ) (f : Entry) → entry_at s.entries m ≡ Some f → ((steps : ℕ) → names_of (ancestors steps (changed n (reseated dir name) s.entries) f.parent) ≡ take steps (reverse (renamed s n dir name f.parent))) → (m ≡ n → ⊥) → (steps : ℕ) → names_of (ancestors steps (changed n (reseated dir name) s.entries) m) ≡ take steps (reverse (renamed s n dir name m))
+    others : (m : ℕ) (f : Entry) → entry_at s.entries m ≡ Some f → ((steps : ℕ) → names_of (ancestors steps (changed_in n (reseated dir name) s.entries) f.parent) ≡ take steps (reverse (renamed s n dir name f.parent))) → (m ≡ n → ⊥) → (steps : ℕ) → names_of (ancestors steps (changed_in n (reseated dir name) s.entries) m) ≡ take steps (reverse (renamed s n dir name m))
     others m f found known other zero = refl
     others m f found known other (suc steps) =
-        ap names_of (ancestors-step steps (changed n (reseated dir name) s.entries) m f (entry_at-still s n dir name m f other found))
+        ap names_of (ancestors-step steps (changed_in n (reseated dir name) s.entries) m f (entry_at-still s n dir name m f other found))
         ∙ ap (λ (names : List (List ℕ)). f.name ∷ names) (known steps)
         ∙ sym (ap (λ (p : List (List ℕ)). take (suc steps) (reverse p)) (renamed-parent s n dir name m f h (inr (e, move.there)) other found) ∙ ap (take (suc steps)) (last-first (renamed s n dir name f.parent) f.name))
 
-    step : (m : ℕ) (f : Entry) → entry_at s.entries m ≡ Some f → ((steps : ℕ) → names_of (ancestors steps (changed n (reseated dir name) s.entries) f.parent) ≡ take steps (reverse (renamed s n dir name f.parent))) → (steps : ℕ) → names_of (ancestors steps (changed n (reseated dir name) s.entries) m) ≡ take steps (reverse (renamed s n dir name m))
+    step : (m : ℕ) (f : Entry) → entry_at s.entries m ≡ Some f → ((steps : ℕ) → names_of (ancestors steps (changed_in n (reseated dir name) s.entries) f.parent) ≡ take steps (reverse (renamed s n dir name f.parent))) → (steps : ℕ) → names_of (ancestors steps (changed_in n (reseated dir name) s.entries) m) ≡ take steps (reverse (renamed s n dir name m))
     step m f found known steps =
-        elim (m == n) as (λ b. (m == n) ≡ b → names_of (ancestors steps (changed n (reseated dir name) s.entries) m) ≡ take steps (reverse (renamed s n dir name m))) [
-          | true ↦ (λ here. subst (λ (j : ℕ). names_of (ancestors steps (changed n (reseated dir name) s.entries) j) ≡ take steps (reverse (renamed s n dir name j))) (sym (eqb-true m n here)) (itself steps))
+        elim (m == n) as (λ b. (m == n) ≡ b → names_of (ancestors steps (changed_in n (reseated dir name) s.entries) m) ≡ take steps (reverse (renamed s n dir name m))) [
+          | true ↦ (λ here. subst (λ (j : ℕ). names_of (ancestors steps (changed_in n (reseated dir name) s.entries) j) ≡ take steps (reverse (renamed s n dir name j))) (sym (eqb-true m n here)) (itself steps))
           | false ↦ (λ apart. others m f found known (λ same. let here : (m == n) ≡ true = eq-eqb m n same in cc) steps)
         ] refl
 
 -- the lineage after a move, by its names
-lineage-moved : (s : State) (n dir : ℕ) (name : List ℕ) (e : Entry) (m : ℕ) → IsLayout s → IsMove s n dir e → Lives s.entries m → names_of (lineage (changed n (reseated dir name) s.entries) m) ≡ take (suc limit) (reverse (renamed s n dir name m))
-lineage-moved s n dir name e m h move lives = ap names_of (lineage-is (changed n (reseated dir name) s.entries) m) ∙ names-moved s n dir name e m h move lives (suc limit)
+lineage-moved : (s : State) (n dir : ℕ) (name : List ℕ) (e : Entry) (m : ℕ) → IsLayout s → IsMove s n dir e → Lives s.entries m → names_of (lineage (changed_in n (reseated dir name) s.entries) m) ≡ take (suc limit) (reverse (renamed s n dir name m))
+lineage-moved s n dir name e m h move lives = ap names_of (lineage-is (changed_in n (reseated dir name) s.entries) m) ∙ names-moved s n dir name e m h move lives (suc limit)
 
 -- as many of them as the new path has names, or one more than it may have
-length-moved : (s : State) (n dir : ℕ) (name : List ℕ) (e : Entry) (m : ℕ) → IsLayout s → IsMove s n dir e → Lives s.entries m → length (lineage (changed n (reseated dir name) s.entries) m) ≡ min (suc limit) (length (renamed s n dir name m))
+length-moved : (s : State) (n dir : ℕ) (name : List ℕ) (e : Entry) (m : ℕ) → IsLayout s → IsMove s n dir e → Lives s.entries m → length (lineage (changed_in n (reseated dir name) s.entries) m) ≡ min (suc limit) (length (renamed s n dir name m))
 length-moved s n dir name e m h move lives =
-    sym (length-map (lineage (changed n (reseated dir name) s.entries) m) (λ (e : Entry). e.name))
+    sym (length-map (lineage (changed_in n (reseated dir name) s.entries) m) (λ (e : Entry). e.name))
     ∙ ap length (lineage-moved s n dir name e m h move lives)
     ∙ length-take (suc limit) (reverse (renamed s n dir name m))
     ∙ ap (λ (k : ℕ). min (suc limit) k) (length-reverse (renamed s n dir name m))
 
-short-moved : (s : State) (n dir : ℕ) (name : List ℕ) (e : Entry) (m : ℕ) → IsLayout s → IsMove s n dir e → Lives s.entries m → is_path_short (changed n (reseated dir name) s.entries) m ≡ nat_le (length (renamed s n dir name m)) PATH_LIMIT
+short-moved : (s : State) (n dir : ℕ) (name : List ℕ) (e : Entry) (m : ℕ) → IsLayout s → IsMove s n dir e → Lives s.entries m → is_path_short (changed_in n (reseated dir name) s.entries) m ≡ nat_le (length (renamed s n dir name m)) PATH_LIMIT
 unfolding limit
 short-moved s n dir name e m h move lives =
-    short-is (changed n (reseated dir name) s.entries) m
+    short-is (changed_in n (reseated dir name) s.entries) m
     ∙ ap (λ (k : ℕ). nat_le k limit) (length-moved s n dir name e m h move lives)
     ∙ grind (arith, nat_tests)
 
 -- all paths are short after a move just where each new one is
 pub paths-moved : (s : State) (n dir : ℕ) (name : List ℕ) (e : Entry) → IsLayout s → IsMove s n dir e → are_paths_short (changed_at s n (reseated dir name)).entries ≡ list_all (λ f. nat_le (length (renamed s n dir name f.number)) PATH_LIMIT) s.entries
-paths-moved s n dir name e h move = each s.entries (all-entries (λ f. is_path_short (changed n (reseated dir name) s.entries) f.number ≡ nat_le (length (renamed s n dir name f.number)) PATH_LIMIT) 0 s.entries s.next h.numbers (λ f found. short-moved s n dir name e f.number h move (inr (f, found))))
+paths-moved s n dir name e h move = each s.entries (all-entries (λ f. is_path_short (changed_in n (reseated dir name) s.entries) f.number ≡ nat_le (length (renamed s n dir name f.number)) PATH_LIMIT) 0 s.entries s.next h.numbers (λ f found. short-moved s n dir name e f.number h move (inr (f, found))))
   where
     number : (f : Entry) → (touched n (reseated dir name) f).number ≡ f.number
     number f = elim (f.number == n) as (λ b. (cond b (reseated dir name f) f).number ≡ f.number) [ true ↦ refl | false ↦ refl ]
 
-    each : (es : List Entry) → AllByRecursion (λ f. is_path_short (changed n (reseated dir name) s.entries) f.number ≡ nat_le (length (renamed s n dir name f.number)) PATH_LIMIT) es → list_all (λ f. is_path_short (changed n (reseated dir name) s.entries) f.number) (changed n (reseated dir name) es) ≡ list_all (λ f. nat_le (length (renamed s n dir name f.number)) PATH_LIMIT) es
+    each : (es : List Entry) → AllByRecursion (λ f. is_path_short (changed_in n (reseated dir name) s.entries) f.number ≡ nat_le (length (renamed s n dir name f.number)) PATH_LIMIT) es → list_all (λ f. is_path_short (changed_in n (reseated dir name) s.entries) f.number) (changed_in n (reseated dir name) es) ≡ list_all (λ f. nat_le (length (renamed s n dir name f.number)) PATH_LIMIT) es
     each [] same = refl
     each (f ∷ es) same =
-        ap (λ (k : ℕ). is_path_short (changed n (reseated dir name) s.entries) k && list_all (λ f. is_path_short (changed n (reseated dir name) s.entries) f.number) (changed n (reseated dir name) es)) (number f)
-        ∙ ap (λ (b : Bool). b && list_all (λ f. is_path_short (changed n (reseated dir name) s.entries) f.number) (changed n (reseated dir name) es)) same.0
+        ap (λ (k : ℕ). is_path_short (changed_in n (reseated dir name) s.entries) k && list_all (λ f. is_path_short (changed_in n (reseated dir name) s.entries) f.number) (changed_in n (reseated dir name) es)) (number f)
+        ∙ ap (λ (b : Bool). b && list_all (λ f. is_path_short (changed_in n (reseated dir name) s.entries) f.number) (changed_in n (reseated dir name) es)) same.0
         ∙ ap (λ (b : Bool). nat_le (length (renamed s n dir name f.number)) PATH_LIMIT && b) (each es same.1)
 
 -- so only what moves has to be looked at, whose paths grow by what the new place is deeper
@@ -267,7 +267,7 @@ paths-moved-inside s n dir name e h move =
     each (f ∷ es) same = λ i. same.0 i && each es same.1 i
 
 -- the paths after a move, where all are short
-path_of-moved : (s t : State) (n dir : ℕ) (name : List ℕ) (e : Entry) (m : ℕ) → IsLayout s → IsLayout t → t.entries ≡ changed n (reseated dir name) s.entries → IsMove s n dir e → Lives s.entries m → Lives t.entries m → path_of t m ≡ renamed s n dir name m
+path_of-moved : (s t : State) (n dir : ℕ) (name : List ℕ) (e : Entry) (m : ℕ) → IsLayout s → IsLayout t → t.entries ≡ changed_in n (reseated dir name) s.entries → IsMove s n dir e → Lives s.entries m → Lives t.entries m → path_of t m ≡ renamed s n dir name m
 path_of-moved s t n dir name e m h k is move lives still =
     let few : length (lineage t.entries m) ≤ limit = few-ancestors t m k still in
     let long : length (lineage t.entries m) ≡ min (suc limit) (length (renamed s n dir name m)) = ap (λ (es : List Entry). length (lineage es m)) is ∙ length-moved s n dir name e m h move lives in
@@ -292,7 +292,7 @@ accepted-move s n dir name ok =
     (found.0, record { there = found.1; lives = directory-lives s.entries dir (free-parts s dir name move.1).0; outside = move.2 })
 
 -- what lives before a move lives after it
-still-lives : (s : State) (n dir : ℕ) (name : List ℕ) (e : Entry) (m : ℕ) → entry_at s.entries n ≡ Some e → Lives s.entries m → Lives (changed n (reseated dir name) s.entries) m
+still-lives : (s : State) (n dir : ℕ) (name : List ℕ) (e : Entry) (m : ℕ) → entry_at s.entries n ≡ Some e → Lives s.entries m → Lives (changed_in n (reseated dir name) s.entries) m
 still-lives s n dir name e m there (inl root) = inl root
 still-lives s n dir name e m there (inr (f, found)) = inr (touched n (reseated dir name) f, entry_at-changed n (reseated dir name) s.entries m (λ e. refl) ∙ ap (option_map (touched n (reseated dir name))) found)
 

@@ -5,7 +5,7 @@ use Rattle.std.specs.Option.{option_map_or}
 use Rattle.std.specs.List.{AllByRecursion}
 use Rattle.std.proofs.lemmas.Bool.{ltb-false, le-ltb}
 use Rattle.hac_model.specs.Tree.Events.{apply, changed_at, edited, forgetting, indexed, is_bare, next_dirty, removed}
-use Rattle.hac_model.specs.Tree.Limits.{directory_count, passed, text_size, weight}
+use Rattle.hac_model.specs.Tree.Limits.{directory_count, passed, text_size, file_bytes}
 use Rattle.hac_model.specs.Tree.{is_directory, is_file, is_file_at}
 use Rattle.hac_model.specs.Tree.Valid.{IsLayout}
 use Rattle.hac_model.specs.declared.events.Event.TheVariants.{Rm, Rmdir, Step}
@@ -48,7 +48,7 @@ pub removed-passes : (s : State) (n : ℕ) → IsLayout s → AllByRecursion (λ
 removed-passes s n h bare =
     let old : IsWithinLimits s = limits-within s h.limits in
     limits-none (removed s n) (record {
-      texts = smaller _ _ _ (measured-fewer weight n s.entries) old.texts;
+      texts = smaller _ _ _ (measured-fewer file_bytes n s.entries) old.texts;
       dirs = smaller DIRS_LIMIT (directory_count (filter (is_kept n) s.entries)) (directory_count s.entries) (omega (arith, measured-fewer (one_if is_directory) n s.entries, directory_count-is s.entries, directory_count-is (filter (is_kept n) s.entries))) old.dirs;
       semantics = smaller _ _ _ (measured-fewer (one_if is_queried) n s.entries) old.semantics;
       paths = paths-removed s.entries n bare old.paths;

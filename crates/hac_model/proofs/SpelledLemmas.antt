@@ -1,26 +1,26 @@
 -- Each event that can happen to a valid state has a spelling: its numbers have four bytes, and its names, texts and
 -- queries are no longer than such may be.
 use Rattle.std.proofs.Common.{inl, inr, ◌≡◌, ℕ, ◌<◌, ◌≤◌, Bool, true, false, List, [], ◌∷◌, ◌++◌, length, refl, ap, sym, ◌∙◌, arith}
-use Rattle.std.specs.Prelude.{codes, not, option_and_then, ◌&&◌, ◌==◌, nat_le, Option, Some, None, IsTrue, is_none, is_some}
+use Rattle.std.specs.Prelude.{codes, not, option_and_then, ◌&&◌, ◌==◌, nat_le, Option, Some, None, IsTrue, is_some}
 use Rattle.std.proofs.lemmas.Bool.{and_from, and_parts, eqb-true}
 use Rattle.std.proofs.lemmas.Bool.Decides.{nat_tests}
 use Rattle.std.proofs.lemmas.List.Folds.{list_all-append}
 use Rattle.std.specs.List.{list_all}
 use Rattle.std.specs.Option.{option_map, option_map_or}
 use Rattle.std.specs.Str.{bytes_eq}
-use Rattle.hac_model.specs.Tree.Depends.{cycle_over, named_in}
+use Rattle.hac_model.specs.Tree.Depends.{named_in}
 use Rattle.hac_model.specs.Tree.Events.{accepted, apply, are_directories, is_free, is_possible, may_ask, may_mark}
 use Rattle.hac_model.specs.Payload.Fields.{num}
 use Rattle.hac_model.specs.Query.Formula.{Formula}
 use Rattle.hac_model.specs.Query.Formula as formula
 use Rattle.hac_model.specs.Tree.Limits.{is_text, passed}
-use Rattle.hac_model.specs.Tree.Links.{is_item, is_semantic, parent_of}
+use Rattle.hac_model.specs.Tree.Links.{is_semantic}
 use Rattle.hac_model.specs.Tree.Names.{is_name, is_name_byte}
 use Rattle.hac_model.specs.Payload.Payloads.{is_spellable, mark_field, name_field, text_field, told_field}
 use Rattle.hac_model.specs.Query.Queries.{is_query}
 use Rattle.hac_model.specs.Payload.QueryFields.{are_nums, query_field}
 use Rattle.hac_model.specs.Tree.Sessions.{stored}
-use Rattle.hac_model.specs.Tree.{body_at, entry_at, is_directory, is_directory_at, is_file, is_file_at, is_made_directory, query_in}
+use Rattle.hac_model.specs.Tree.{body_at, entry_at, is_directory, is_directory_at, is_file, is_file_at, query_in}
 use Rattle.hac_model.specs.Tree.Valid.{IsValid}
 use Rattle.hac_model.specs.declared.events.Event.{Event}
 use Rattle.hac_model.specs.declared.events.Event.TheVariants.{Mkdir, NewFile, Rewrite, Ln, Mv, Rm, Rmdir, Smkdir, Setq, Unq, Mark, Smount, Ssync, Sumount, Step, Cd}
@@ -34,7 +34,7 @@ use Rattle.hac_model.specs.declared.states.State.{State}
 use Rattle.hac_model.proofs.AcyclicLemmas.{apply-valid}
 use Rattle.hac_model.proofs.LimitLemmas.{IsWithinLimits, limits-within}
 use Rattle.hac_model.proofs.TreeLemmas.{Lives, directory-lives, entry_at-below}
-use Rattle.hac_model.proofs.ValidLemmas.{accepted-parts, free-parts, mark-parts, move-parts, rmdir-parts, setq-parts}
+use Rattle.hac_model.proofs.ValidLemmas.{accepted-parts, free-parts, mark-parts, move-parts, rmdir-parts, setq-parts, smkdir-parts}
 
 module _ (s : State) (h : IsValid s) where
   -- the numbers of a valid state have four bytes
@@ -130,19 +130,16 @@ module _ (s : State) (h : IsValid s) where
       let parts = and_parts (is_file_at s.entries file) (is_text text) is in
       and_from (num.fits file) (text_field.fits text) (tested-fits file is_file parts.0) (text-fits text parts.1)
   possible-spelled (Smkdir dir name query told) is =
-      let parts = and_parts (is_free s dir name && may_ask s query) (length told == 0) is in
-      let asks = and_parts (is_free s dir name) (may_ask s query) parts.0 in
-      let place = place-fits dir name asks.0 in
-      and_from (num.fits dir) _ place.0 (and_from (name_field.fits name) _ place.1 (and_from (query_field.fits query) (told_field.fits told) (query-fits query asks.1) (told-fits told parts.1)))
+      let parts = smkdir-parts s dir name query told is in
+      let place = place-fits dir name parts.0 in
+      and_from (num.fits dir) _ place.0 (and_from (name_field.fits name) _ place.1 (and_from (query_field.fits query) (told_field.fits told) (query-fits query parts.1) (told-fits told parts.2)))
   possible-spelled (Setq dir query told) is =
       let parts = setq-parts s dir query told is in
-      let none = and_parts (is_made_directory s.entries dir && may_ask s query && is_none (cycle_over s dir (parent_of s dir) query)) (length told == 0) is in
-      and_from (num.fits dir) _ (tested-fits dir is_directory parts.0) (and_from (query_field.fits query) (told_field.fits told) (query-fits query parts.1) (told-fits told none.1))
+      and_from (num.fits dir) _ (tested-fits dir is_directory parts.0) (and_from (query_field.fits query) (told_field.fits told) (query-fits query parts.1) (told-fits told parts.3))
   possible-spelled (Unq dir) is = semantic-fits dir is
   possible-spelled (Mark set) is =
       let parts = mark-parts s set.dir set.item set.kind is in
-      let may = and_parts (is_item s set.item && is_semantic s set.dir) (may_mark s set.dir set.item set.kind) is in
-      and_from (num.fits set.dir) _ (semantic-fits set.dir parts.1) (and_from (num.fits set.item) (mark_field.fits set.kind) (tested-fits set.item is_file parts.0) (mark-fits set.dir set.item set.kind may.1))
+      and_from (num.fits set.dir) _ (semantic-fits set.dir parts.1) (and_from (num.fits set.item) (mark_field.fits set.kind) (tested-fits set.item is_file parts.0) (mark-fits set.dir set.item set.kind parts.2))
   possible-spelled (Mv entry dir name) is =
       let parts = move-parts s entry dir name is in
       let place = place-fits dir name parts.1 in

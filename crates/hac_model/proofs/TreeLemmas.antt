@@ -1,12 +1,12 @@
 -- Look-ups among entries: by number, and by directory and name.
 use Rattle.std.proofs.Common.{◌≡◌, ℕ, zero, suc, ◌<◌, ◌≤◌, Bool, true, false, cond, List, [], ◌∷◌, length, get_or, subst, refl, ap, sym, ◌∙◌, arith, eq-eqb, inl, inr}
-use Rattle.std.specs.Prelude.{◌⊎◌, ◌==◌, ◌&&◌, ◌||◌, Option, Some, None}
+use Rattle.std.specs.Prelude.{◌⊎◌, ◌==◌, ◌&&◌, ◌||◌, Option, Some, None, is_some}
 use Rattle.std.specs.Option.{option_map, option_map_or}
 use Rattle.std.specs.List.{AllByRecursion}
 use Rattle.std.specs.Str.{bytes_eq}
 use Rattle.std.proofs.lemmas.Bool.{and_from, and_parts, cases_lt, eqb-true, ne_eqb}
 use Rattle.std.proofs.lemmas.Slice.Eq.{bytes_eq-Decides}
-use Rattle.hac_model.specs.Tree.{child, entry_at, is_directory, is_directory_at, is_file, is_file_at, is_made_directory}
+use Rattle.hac_model.specs.Tree.{child, entry_at, is_directory, is_directory_at, is_file, is_file_at, is_made_directory, is_live}
 use Rattle.hac_model.specs.Tree.Valid.{NamesDiffer, NumbersRise}
 use Rattle.hac_model.specs.declared.states.Body.{Body}
 use Rattle.hac_model.specs.declared.states.Body.TheVariants.{File, Dir, Symlink, Semantic, Mount}
@@ -150,6 +150,25 @@ entry_at-cases es n = elim (entry_at es n) as (λ o. entry_at es n ≡ o → (en
 -- an entry where a test of it is passed
 pub entry_of : (es : List Entry) (n : ℕ) (p : Entry → Bool) → option_map_or p (entry_at es n) false ≡ true → (e : Entry) × (entry_at es n ≡ Some e) × (p e ≡ true)
 entry_of es n p h = elim (entry_at es n) as (λ o. entry_at es n ≡ o → option_map_or p o false ≡ true → (e : Entry) × (entry_at es n ≡ Some e) × (p e ≡ true)) [ None ↦ (λ found h. absurd cc) | Some e ↦ (λ found h. (e, found, h)) ] refl h
+
+-- the test says so
+pub live-is : (es : List Entry) (n : ℕ) → Lives es n → is_live es n ≡ true
+live-is es n (inl root) = ap (λ (b : Bool). b || is_some (entry_at es n)) (eq-eqb n 0 root)
+live-is es n (inr found) = ap (λ (o : Option Entry). (n == 0) || is_some o) found.1 ∙ or-true (n == 0)
+  where
+    or-true : (b : Bool) → (b || true) ≡ true
+    or-true true = refl
+    or-true false = refl
+
+pub is-live : (es : List Entry) (n : ℕ) → is_live es n ≡ true → Lives es n
+is-live es n h =
+    elim (n == 0) as (λ b. (n == 0) ≡ b → (b || is_some (entry_at es n)) ≡ true → Lives es n) [
+      | true ↦ (λ same h. inl (eqb-true n 0 same))
+      | false ↦ (λ other h. elim (entry_at es n) as (λ o. entry_at es n ≡ o → is_some o ≡ true → Lives es n) [
+        | None ↦ (λ found h. absurd cc)
+        | Some e ↦ (λ found h. inr (e, found))
+      ] refl h)
+    ] refl h
 
 -- a directory lives
 pub directory-lives : (es : List Entry) (d : ℕ) → is_directory_at es d ≡ true → Lives es d

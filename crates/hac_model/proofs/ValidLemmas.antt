@@ -4,10 +4,10 @@ use Rattle.std.specs.Prelude.{◌&&◌, ◌==◌, not, Option, Some, None, IsTru
 use Rattle.std.specs.Option.{option_map_or}
 use Rattle.std.specs.List.{AllByRecursion}
 use Rattle.std.proofs.lemmas.Bool.{and_parts, eqb-false, not-true}
-use Rattle.hac_model.specs.Tree.Events.{accepted, added, apply, asking, changed, changed_at, edited, forgetting, forgotten, indexed, is_bare, is_free, is_inside, is_possible, is_unreferenced, marked, may_ask, may_mark, next_dirty, plain_body, removed, reseated, rewritten}
+use Rattle.hac_model.specs.Tree.Events.{accepted, added, apply, asking, changed_in, changed_at, edited, forgetting, forgotten, indexed, is_bare, is_free, is_inside, is_possible, is_unreferenced, marked, may_ask, may_mark, next_dirty, plain_body, removed, reseated, rewritten, is_placed}
 use Rattle.hac_model.specs.Tree.Depends.{cycle_of_move, cycle_over}
 use Rattle.hac_model.specs.Query.Formula.{Formula}
-use Rattle.hac_model.specs.Tree.Limits.{first_passed, is_text, passed, weight}
+use Rattle.hac_model.specs.Tree.Limits.{first_passed, is_text, passed, file_bytes}
 use Rattle.hac_model.specs.Tree.Links.{is_item, is_semantic, parent_of}
 use Rattle.hac_model.specs.Tree.Names.{is_name}
 use Rattle.hac_model.specs.Tree.{child, empty, entry_at, is_directory, is_directory_at, is_file, is_file_at, is_made_directory, query_in}
@@ -60,11 +60,11 @@ added-layout s dir name body h free sound limits =
 pub edited-layout : (s : State) (n : ℕ) (edit : Body → Body) → ((body : Body) → is_directory (edit body) ≡ is_directory body) → ((body : Body) → IsSound body → IsSound (edit body)) → IsLayout s → passed (changed_at s n (edited edit)) ≡ None → IsLayout (changed_at s n (edited edit))
 edited-layout s n edit kind sound h limits =
     let change : Entry → Entry = edited edit in
-    let same : (d : ℕ) → is_directory_at (changed n change s.entries) d ≡ is_directory_at s.entries d = λ d. directory-changed n change s.entries d (λ e. refl) (λ e. kind e.body) in
+    let same : (d : ℕ) → is_directory_at (changed_in n change s.entries) d ≡ is_directory_at s.entries d = λ d. directory-changed n change s.entries d (λ e. refl) (λ e. kind e.body) in
     record {
       numbers = numbers-changed n change 0 s.entries s.next (λ e. refl) h.numbers;
       names = all-changed (λ e. IsTrue (is_name e.name)) n change s.entries (λ e there. there) h.names;
-      parents = all-changed (λ e. IsTrue (is_directory_at (changed n change s.entries) e.parent)) n change s.entries (λ e there. there) (all-weaker (λ e. IsTrue (is_directory_at s.entries e.parent)) (λ e. IsTrue (is_directory_at (changed n change s.entries) e.parent)) s.entries (λ e there. same e.parent ∙ there) h.parents);
+      parents = all-changed (λ e. IsTrue (is_directory_at (changed_in n change s.entries) e.parent)) n change s.entries (λ e there. there) (all-weaker (λ e. IsTrue (is_directory_at s.entries e.parent)) (λ e. IsTrue (is_directory_at (changed_in n change s.entries) e.parent)) s.entries (λ e there. same e.parent ∙ there) h.parents);
       differ = differ-edited n edit s.entries h.differ;
       bodies = all-changed (λ e. IsSound e.body) n change s.entries (λ e there. sound e.body there) h.bodies;
       limits = limits;
@@ -75,11 +75,11 @@ pub reseated-layout : (s : State) (n dir : ℕ) (name : List ℕ) → IsLayout s
 reseated-layout s n dir name h free limits =
     let parts = free-parts s dir name free in
     let change : Entry → Entry = reseated dir name in
-    let same : (d : ℕ) → is_directory_at (changed n change s.entries) d ≡ is_directory_at s.entries d = λ d. directory-changed n change s.entries d (λ e. refl) (λ e. refl) in
+    let same : (d : ℕ) → is_directory_at (changed_in n change s.entries) d ≡ is_directory_at s.entries d = λ d. directory-changed n change s.entries d (λ e. refl) (λ e. refl) in
     record {
       numbers = numbers-changed n change 0 s.entries s.next (λ e. refl) h.numbers;
       names = all-changed (λ e. IsTrue (is_name e.name)) n change s.entries (λ e there. parts.1) h.names;
-      parents = all-changed (λ e. IsTrue (is_directory_at (changed n change s.entries) e.parent)) n change s.entries (λ e there. same dir ∙ parts.0) (all-weaker (λ e. IsTrue (is_directory_at s.entries e.parent)) (λ e. IsTrue (is_directory_at (changed n change s.entries) e.parent)) s.entries (λ e there. same e.parent ∙ there) h.parents);
+      parents = all-changed (λ e. IsTrue (is_directory_at (changed_in n change s.entries) e.parent)) n change s.entries (λ e there. same dir ∙ parts.0) (all-weaker (λ e. IsTrue (is_directory_at s.entries e.parent)) (λ e. IsTrue (is_directory_at (changed_in n change s.entries) e.parent)) s.entries (λ e there. same e.parent ∙ there) h.parents);
       differ = differ-reseated n dir name 0 s.entries s.next h.numbers parts.2 h.differ;
       bodies = all-changed (λ e. IsSound e.body) n change s.entries (λ e there. there) h.bodies;
       limits = limits;
@@ -167,7 +167,7 @@ forgetting-measures n = record { kind = kind; file = file; queried = queried; te
     queried (Semantic query permanent prohibited) = refl
     queried other = refl
 
-    texts : (body : Body) → weight (forgetting n body) ≡ weight body
+    texts : (body : Body) → file_bytes (forgetting n body) ≡ file_bytes body
     texts (Semantic query permanent prohibited) = refl
     texts other = refl
 
@@ -201,35 +201,37 @@ passed-forgotten s n h = measures-passed (forgetting n) s (forgetting-measures n
 
 -- What an event that is possible speaks of.
 
-pub smkdir-parts : (s : State) (dir : ℕ) (name : List ℕ) (query : Formula ℕ) (told : List (List ℕ)) → is_possible s (Smkdir dir name query told) ≡ true → (is_free s dir name ≡ true) × (may_ask s query ≡ true)
+pub smkdir-parts : (s : State) (dir : ℕ) (name : List ℕ) (query : Formula ℕ) (told : List (List ℕ)) → is_possible s (Smkdir dir name query told) ≡ true → (is_free s dir name ≡ true) × (may_ask s query ≡ true) × ((length told == 0) ≡ true)
 smkdir-parts s dir name query told h =
-    let fits = and_parts (is_free s dir name && may_ask s query) (length told == 0) h in
-    and_parts (is_free s dir name) (may_ask s query) fits.0
+    let fits = and_parts (is_free s dir name) (may_ask s query && length told == 0) h in
+    let asks = and_parts (may_ask s query) (length told == 0) fits.1 in
+    (fits.0, asks.0, asks.1)
 
-pub setq-parts : (s : State) (dir : ℕ) (query : Formula ℕ) (told : List (List ℕ)) → is_possible s (Setq dir query told) ≡ true → (is_made_directory s.entries dir ≡ true) × (may_ask s query ≡ true) × (cycle_over s dir (parent_of s dir) query ≡ None)
+pub setq-parts : (s : State) (dir : ℕ) (query : Formula ℕ) (told : List (List ℕ)) → is_possible s (Setq dir query told) ≡ true → (is_made_directory s.entries dir ≡ true) × (may_ask s query ≡ true) × (cycle_over s dir (parent_of s dir) query ≡ None) × ((length told == 0) ≡ true)
 setq-parts s dir query told h =
-    let told_none = and_parts (is_made_directory s.entries dir && may_ask s query && is_none (cycle_over s dir (parent_of s dir) query)) (length told == 0) h in
-    let way = and_parts (is_made_directory s.entries dir && may_ask s query) (is_none (cycle_over s dir (parent_of s dir) query)) told_none.0 in
-    let asks = and_parts (is_made_directory s.entries dir) (may_ask s query) way.0 in
-    (asks.0, asks.1, none_from (cycle_over s dir (parent_of s dir) query) way.1)
+    let way = and_parts (is_none (cycle_over s dir (parent_of s dir) query)) (is_placed s (Setq dir query told)) h in
+    let fits = and_parts (is_made_directory s.entries dir) (may_ask s query && length told == 0) way.1 in
+    let asks = and_parts (may_ask s query) (length told == 0) fits.1 in
+    (fits.0, asks.0, none_from (cycle_over s dir (parent_of s dir) query) way.0, asks.1)
 
-pub mark-parts : (s : State) (dir item : ℕ) (kind : Kind) → is_possible s (Mark (record { dir = dir; item = item; kind = kind })) ≡ true → (is_item s item ≡ true) × (is_semantic s dir ≡ true)
+pub mark-parts : (s : State) (dir item : ℕ) (kind : Kind) → is_possible s (Mark (record { dir = dir; item = item; kind = kind })) ≡ true → (is_item s item ≡ true) × (is_semantic s dir ≡ true) × (may_mark s dir item kind ≡ true)
 mark-parts s dir item kind h =
-    let may = and_parts (is_item s item && is_semantic s dir) (may_mark s dir item kind) h in
-    and_parts (is_item s item) (is_semantic s dir) may.0
+    let may = and_parts (may_mark s dir item kind) (is_item s item && is_semantic s dir) h in
+    let there = and_parts (is_item s item) (is_semantic s dir) may.1 in
+    (there.0, there.1, may.0)
 
 pub move-parts : (s : State) (entry dir : ℕ) (name : List ℕ) → is_possible s (Mv entry dir name) ≡ true → (is_some (entry_at s.entries entry) ≡ true) × (is_free s dir name ≡ true) × (is_inside s dir entry ≡ false) × (cycle_of_move s entry dir ≡ None)
 move-parts s entry dir name h =
-    let way = and_parts (is_some (entry_at s.entries entry) && is_free s dir name && not (is_inside s dir entry)) (is_none (cycle_of_move s entry dir)) h in
-    let there = and_parts (is_some (entry_at s.entries entry) && is_free s dir name) (not (is_inside s dir entry)) way.0 in
+    let way = and_parts (is_none (cycle_of_move s entry dir)) (is_placed s (Mv entry dir name)) h in
+    let there = and_parts (is_some (entry_at s.entries entry) && is_free s dir name) (not (is_inside s dir entry)) way.1 in
     let free = and_parts (is_some (entry_at s.entries entry)) (is_free s dir name) there.0 in
-    (free.0, free.1, not-true (is_inside s dir entry) there.1, none_from (cycle_of_move s entry dir) way.1)
+    (free.0, free.1, not-true (is_inside s dir entry) there.1, none_from (cycle_of_move s entry dir) way.0)
 
 pub rmdir-parts : (s : State) (dir : ℕ) → is_possible s (Rmdir dir) ≡ true → (is_made_directory s.entries dir ≡ true) × (is_bare s.entries dir ≡ true) × (is_unreferenced s dir ≡ true)
 rmdir-parts s dir h =
-    let named = and_parts (is_made_directory s.entries dir && is_bare s.entries dir) (is_unreferenced s dir) h in
-    let bare = and_parts (is_made_directory s.entries dir) (is_bare s.entries dir) named.0 in
-    (bare.0, bare.1, named.1)
+    let named = and_parts (is_unreferenced s dir) (is_placed s (Rmdir dir)) h in
+    let bare = and_parts (is_made_directory s.entries dir) (is_bare s.entries dir) named.1 in
+    (bare.0, bare.1, named.0)
 
 -- an event that is accepted fits, and leads to a state that exceeds no limit
 pub accepted-parts : (possible : Bool) (passes : Option LimitWord) → (possible && is_none passes) ≡ true → (possible ≡ true) × (passes ≡ None)

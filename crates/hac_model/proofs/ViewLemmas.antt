@@ -3,7 +3,7 @@ use Rattle.std.proofs.Common.{◌≡◌, ℕ, Bool, true, false, cond, List, [],
 use Rattle.std.specs.Prelude.{◌==◌, filter, Option, Some, None}
 use Rattle.std.specs.Option.{option_map}
 use Rattle.std.proofs.lemmas.Bool.{eqb-false, eqb-true, ne_eqb}
-use Rattle.hac_model.specs.Tree.Events.{changed}
+use Rattle.hac_model.specs.Tree.Events.{changed_in}
 use Rattle.hac_model.specs.Tree.Facts.{put_at}
 use Rattle.hac_model.specs.Tree.{entry_at}
 use Rattle.hac_model.specs.Tree.Valid.{NumbersRise}
@@ -34,7 +34,7 @@ module _ {X : Type 0} where
       other None apart = refl
       other (Some e) apart = ap (λ (b : Bool). Some (cond b (change e) e)) (ne_eqb e.number n (apart e refl))
 
-      pub seen-changed : (q : ℕ) → view (entry_at (changed n change es) q) ≡ put_at seen n (view (option_map change (entry_at es n))) q
+      pub seen-changed : (q : ℕ) → view (entry_at (changed_in n change es) q) ≡ put_at seen n (view (option_map change (entry_at es n))) q
       seen-changed q = ap view (entry_at-changed n change es q numbers) ∙ at (q == n) refl
         where
           at : (b : Bool) → (q == n) ≡ b → view (option_map (touched n change) (entry_at es q)) ≡ cond b (view (option_map change (entry_at es n))) (seen q)
@@ -44,7 +44,7 @@ module _ {X : Type 0} where
           at false is = ap view (other (entry_at es q) (λ e found same. eqb-false q n is (sym (entry_at-number es q e found) ∙ same)))
 
       -- in what isn't seen
-      pub seen-kept : ((e : Entry) → view (Some (change e)) ≡ view (Some e)) → (q : ℕ) → view (entry_at (changed n change es) q) ≡ seen q
+      pub seen-kept : ((e : Entry) → view (Some (change e)) ≡ view (Some e)) → (q : ℕ) → view (entry_at (changed_in n change es) q) ≡ seen q
       seen-kept same q = seen-changed q ∙ put-same seen n (view (option_map change (entry_at es n))) q (still (entry_at es n))
         where
           still : (o : Option Entry) → view (option_map change o) ≡ view o

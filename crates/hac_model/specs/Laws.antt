@@ -9,10 +9,11 @@ use Rattle.hac_model.specs.Tree.Events.{accepted, apply, apply_all, dirty, renam
 use Rattle.hac_model.specs.Tree.Facts.{facts_after, facts_of}
 use Rattle.hac_model.specs.Script.LineWords.{first_word, is_word_end, quoted_word}
 use Rattle.hac_model.specs.Script.Lines.{Item, is_spelled, item_of}
-use Rattle.hac_model.specs.Tree.Links.{links, round}
+use Rattle.hac_model.specs.Tree.Links.{column, found_by, has, is_below, is_permanent, is_prohibited, is_semantic, links, provide, round, shown_of}
+use Rattle.hac_model.specs.Tree.Kinds as kinds
 use Rattle.hac_model.specs.Tree.Looks.{look, plain}
 use Rattle.hac_model.specs.Script.Printed.{ended, text}
-use Rattle.hac_model.specs.Run.Refusals.{cause, events_of, led_to}
+use Rattle.hac_model.specs.Run.Refusals.{cause, events_of, led_to, marks}
 use Rattle.hac_model.specs.Run.Resolving.{resolve}
 use Rattle.hac_model.specs.Script.{due, whole}
 use Rattle.hac_model.specs.Tree.Sessions.{stored}
@@ -23,7 +24,9 @@ use Rattle.hac_model.specs.Tree.{empty, entry_at, path_of}
 use Rattle.hac_model.specs.Tree.Valid.{IsValid}
 use Rattle.hac_model.specs.declared.commands.Line.{Line}
 use Rattle.hac_model.specs.declared.events.Event.{Event}
-use Rattle.hac_model.specs.declared.events.Event.TheVariants.{Mv, Step}
+use Rattle.hac_model.specs.declared.events.Event.TheVariants.{Mv, Setq, Step, Unq}
+use Rattle.hac_model.specs.declared.marks.Kind.{Kind}
+use Rattle.hac_model.specs.Query.Formula.{Formula}
 use Rattle.hac_model.specs.declared.places.Place.TheVariants.{There}
 use Rattle.hac_model.specs.declared.resolved.Resolved.{Resolved}
 use Rattle.hac_model.specs.declared.resolved.Resolved.TheVariants.{Index}
@@ -108,9 +111,11 @@ IndexCleans = (s : State) → IsValid s → dirty (led_to s Index) ≡ 0
 abbrev pub ScriptsKeepValid : Type 0
 ScriptsKeepValid = (setting : Setting) (bytes : List ℕ) → IsValid setting.state → IsValid (left_by setting (play setting bytes)).state
 
--- the state after lines is what their events make of the first state, one after the other
+-- what is stored of the state after lines is what their events make of what was stored, one after the other
 abbrev pub EventsLead : Type 0
-EventsLead = (setting : Setting) (items : List Item) → (left_by setting (turns setting items)).state ≡ apply_all setting.state (all_events (turns setting items))
+EventsLead =
+    (setting : Setting) (items : List Item) →
+    stored (left_by setting (turns setting items)).state ≡ apply_all (stored setting.state) (all_events (turns setting items))
 
 -- and the store then ends behind the records of these events
 abbrev pub EventsEnd : Type 0
@@ -136,6 +141,55 @@ LinksAreOnly = (s : State) → IsAcyclic s → (known : ℕ → List ℕ) → ro
 -- in a valid state no directory depends on itself
 abbrev pub ValidIsAcyclic : Type 0
 ValidIsAcyclic = (s : State) → IsValid s → IsAcyclic s
+
+-- an item has in a directory the mark that it was given there, and no other
+abbrev pub MarksAreSet : Type 0
+MarksAreSet =
+    (s : State) (dir item : ℕ) (kind : Kind) → IsValid s → IsTrue (accepted s (marks item dir kind)) →
+    (is_permanent (apply s (marks item dir kind)) dir item ≡ kinds.is_permanent kind)
+    × (is_prohibited (apply s (marks item dir kind)) dir item ≡ kinds.is_prohibited kind)
+
+-- the directory has the same marks on the item in both states
+abbrev pub SameMarks : State → State → ℕ → ℕ → Type 0
+SameMarks s t dir item = (is_permanent t dir item ≡ is_permanent s dir item) × (is_prohibited t dir item ≡ is_prohibited s dir item)
+
+-- all other marks stay
+abbrev pub MarksStay : Type 0
+MarksStay =
+    (s : State) (dir item : ℕ) (kind : Kind) (other_dir other : ℕ) → IsValid s → IsTrue (accepted s (marks item dir kind)) →
+    (other_dir ≡ dir → other ≡ item → ⊥) → SameMarks s (apply s (marks item dir kind)) other_dir other
+
+-- so do all marks where a directory gets another query
+abbrev pub QueriesLeaveMarks : Type 0
+QueriesLeaveMarks =
+    (s : State) (asking : ℕ) (query : Formula ℕ) (told : List (List ℕ)) (dir item : ℕ) → IsValid s →
+    IsTrue (accepted s (Setq asking query told)) → SameMarks s (apply s (Setq asking query told)) dir item
+
+-- a directory without its query has no marks either
+abbrev pub MarksGo : Type 0
+MarksGo =
+    (s : State) (dir item : ℕ) → IsValid s → IsTrue (accepted s (Unq dir)) →
+    (is_permanent (apply s (Unq dir)) dir item ≡ false) × (is_prohibited (apply s (Unq dir)) dir item ≡ false)
+
+-- what is found in a directory was indexed, and the user neither added nor removed it there
+abbrev pub LinksAreUnmarked : Type 0
+LinksAreUnmarked =
+    (s : State) (dir item : ℕ) → IsValid s → has (links s dir) item ≡ true →
+    (is_some (shown_of s item) ≡ true) × (is_permanent s dir item ≡ false) × (is_prohibited s dir item ≡ false)
+
+-- what a query finds anywhere was indexed
+abbrev pub FoundAreIndexed : Type 0
+FoundAreIndexed = (s : State) (query : Formula ℕ) (item : ℕ) → has (found_by s query) item ≡ true → is_some (shown_of s item) ≡ true
+
+-- a directory provides what the user added to it
+abbrev pub AddedAreProvided : Type 0
+AddedAreProvided =
+    (s : State) (dir item : ℕ) → is_semantic s dir ≡ true → is_permanent s dir item ≡ true → provide s (column (links s) item) dir item ≡ true
+
+-- and what the user removed from it only if it is stored below it
+abbrev pub RemovedAreNotProvided : Type 0
+RemovedAreNotProvided =
+    (s : State) (dir item : ℕ) → IsValid s → is_prohibited s dir item ≡ true → provide s (column (links s) item) dir item ≡ is_below s dir item
 
 -- valid states that show the same tree, and would go on with the same number, are equal
 abbrev pub PlainTellsState : Type 0

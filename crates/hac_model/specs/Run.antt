@@ -1,5 +1,8 @@
 -- A run: what commands lead to, why they are refused, and the turns of a script.
 pub mod Answers
 pub mod Resolving
+pub mod Standing
 pub mod Refusals
+pub mod Showing
+pub mod Settings
 pub mod Play

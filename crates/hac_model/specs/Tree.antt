@@ -12,7 +12,7 @@ pub mod Limits
 pub mod Events
 pub mod Facts
 pub mod Sessions
-use Rattle.std.specs.Prelude.{ℕ, zero, suc, ◌+◌, Bool, true, false, ◌==◌, ◌&&◌, ◌||◌, if◌then◌else◌, nat_le, List, [], ◌∷◌, length, map, reverse, Option, Some, None}
+use Rattle.std.specs.Prelude.{ℕ, zero, suc, ◌+◌, Bool, true, false, ◌==◌, ◌&&◌, ◌||◌, if◌then◌else◌, nat_le, List, [], ◌∷◌, length, map, reverse, Option, Some, None, is_some}
 use Rattle.std.specs.Option.{option_map, option_map_or}
 use Rattle.std.specs.Str.{bytes_eq}
 use Rattle.hac_model.specs.declared.limits.TheConstants.{PATH_LIMIT}
@@ -114,6 +114,10 @@ is_made_directory entries number = option_map_or is_directory (body_at entries n
 -- a directory has the number: the root, or one that was made
 abbrev pub is_directory_at : List Entry → ℕ → Bool
 is_directory_at entries number = number == 0 || is_made_directory entries number
+
+-- the root, or an entry, has the number
+abbrev pub is_live : List Entry → ℕ → Bool
+is_live entries number = number == 0 || is_some (entry_at entries number)
 
 -- the path goes on from the other one, by a name at least
 abbrev pub extends : List (List ℕ) → List (List ℕ) → Bool

@@ -1,6 +1,7 @@
 //! How much a state holds of what limits count.
 
-/// How much a state holds of each thing that a limit or the program counts, as `counts` of the specs says.
+/// How much a state holds of each thing that a limit or the program counts, as `counts` of the
+/// specs says.
 #[derive(Clone, Copy, Debug, PartialEq, Eq)]
 pub struct Counts {
     /// Bytes of all files together, of each the longer of its text and its shown text.

@@ -4,7 +4,8 @@ use crate::marks::Mark;
 use crate::numbers::Number;
 use crate::queries::Query;
 
-/// A change of the state. `accepted` of the specs says which events a state accepts, and `apply` what they do to it.
+/// A change of the state. `accepted` of the specs says which events a state accepts, and `apply`
+/// what they do to it.
 #[derive(Debug, Drop)]
 pub enum Event {
     /// A plain directory is created.

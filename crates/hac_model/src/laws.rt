@@ -1,9 +1,9 @@
 //! Theorems over the definitions alone. Each is the contract of a function that does nothing.
-ghost use Rattle.hac_model.specs.Laws.{ScriptsJoin, WholeIsLines, WholeIsFront, WholeIsLongest, EmptyIsValid, EventsKeepValid, BareCommutes, FactsFollow, PartsTellState, LinesSpell, CommandsHappen, StepsAreDue, StepsClean, IndexCleans, ScriptsKeepValid, EventsLead, EventsEnd, AcceptedAreSpelled, SessionsAreNotStored, FullStore, FirstEnd, FirstCommandLines, NoCommandLines, LinksStay, LinksAreOnly, ValidIsAcyclic, PlainTellsState, LooksFind, LooksTell, MovesRename, PrintedTextIsRead, PrintedTextIsOneLine, QuotedWordIsRead, QuotesAreOneSpelling, FirstListings, MovedListings};
+ghost use Rattle.hac_model.specs.Laws.{MarksAreSet, MarksStay, QueriesLeaveMarks, MarksGo, LinksAreUnmarked, FoundAreIndexed, AddedAreProvided, RemovedAreNotProvided, ScriptsJoin, WholeIsLines, WholeIsFront, WholeIsLongest, EmptyIsValid, EventsKeepValid, BareCommutes, FactsFollow, PartsTellState, LinesSpell, CommandsHappen, StepsAreDue, StepsClean, IndexCleans, ScriptsKeepValid, EventsLead, EventsEnd, AcceptedAreSpelled, SessionsAreNotStored, FullStore, FirstEnd, FirstCommandLines, NoCommandLines, LinksStay, LinksAreOnly, ValidIsAcyclic, PlainTellsState, LooksFind, LooksTell, MovesRename, PrintedTextIsRead, PrintedTextIsOneLine, QuotedWordIsRead, QuotesAreOneSpelling, FirstListings, MovedListings};
 
-/// Two joined scripts are played one after the other, where the first one consists of whole lines, each with its end
-/// and the bytes that belong to it. No line looks further ahead, and none looks back except at the state that the lines
-/// before it left.
+/// Two joined scripts are played one after the other, where the first one consists of whole lines,
+/// each with its end and the bytes that belong to it. No line looks further ahead, and none looks
+/// back except at the state that the lines before it left.
 pub fn scripts_join()
     ensures { ScriptsJoin }
 {}
@@ -30,7 +30,8 @@ pub fn bare_commutes()
     ensures { BareCommutes }
 {}
 
-/// What an event does to the facts of each number depends on these facts and on the tree. So a state is known by both.
+/// What an event does to the facts of each number depends on these facts and on the tree. So a
+/// state is known by both.
 pub fn facts_follow()
     ensures follow { FactsFollow }
     ensures tell { PartsTellState }
@@ -58,8 +59,8 @@ pub fn scripts_keep_valid()
     ensures { ScriptsKeepValid }
 {}
 
-/// The state after a run is what its events make of the state before it. So the number of events that happened
-/// identifies each tree of a run.
+/// The state after a run is what its events make of the state before it. So the number of events
+/// that happened identifies each tree of a run.
 pub fn events_lead()
     ensures state { EventsLead }
     ensures end { EventsEnd }
@@ -75,12 +76,30 @@ pub fn sessions_are_not_stored()
     ensures { SessionsAreNotStored }
 {}
 
-/// Where no directory depends on itself, as in every valid state, the links are the only ones that one more round
-/// leaves as they are.
+/// Where no directory depends on itself, as in every valid state, the links are the only ones that
+/// one more round leaves as they are.
 pub fn links_are_fixed()
     ensures stay { LinksStay }
     ensures only { LinksAreOnly }
     ensures valid { ValidIsAcyclic }
+{}
+
+/// An item has the mark that it was given last. Marks stay when a directory gets another query, and
+/// go with its query.
+pub fn marks_are_kept()
+    ensures set { MarksAreSet }
+    ensures stay { MarksStay }
+    ensures queries { QueriesLeaveMarks }
+    ensures go { MarksGo }
+{}
+
+/// What is found was indexed, and the user said nothing of it. A directory provides what the user
+/// added to it, and what the user removed from it only from below.
+pub fn links_are_told()
+    ensures unmarked { LinksAreUnmarked }
+    ensures found { FoundAreIndexed }
+    ensures added { AddedAreProvided }
+    ensures removed { RemovedAreNotProvided }
 {}
 
 /// A valid state is determined by its plain tree and its next number.
@@ -88,13 +107,15 @@ pub fn plain_tells_state()
     ensures { PlainTellsState }
 {}
 
-/// A look-up by the path of an entry finds that entry, and what a look-up finds has the path that was looked up.
+/// A look-up by the path of an entry finds that entry, and what a look-up finds has the path that
+/// was looked up.
 pub fn looks_find()
     ensures find { LooksFind }
     ensures tell { LooksTell }
 {}
 
-/// A move replaces the old path by the new one for the entry and everything below it, and leaves each other path.
+/// A move replaces the old path by the new one for the entry and everything below it, and leaves
+/// each other path.
 pub fn moves_rename()
     ensures { MovesRename }
 {}
@@ -111,7 +132,8 @@ pub fn quoted_words_are_read()
     ensures only { QuotesAreOneSpelling }
 {}
 
-/// A small run, from script bytes to reply bytes: files with the word are listed, and no directory is overwritten.
+/// A small run, from script bytes to reply bytes: files with the word are listed, and no directory
+/// is overwritten.
 pub fn first_listings()
     ensures { FirstListings }
 {}

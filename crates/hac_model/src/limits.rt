@@ -25,7 +25,8 @@ pub const NESTING_LIMIT: u64 = 32;
 /// The most bytes of a script.
 pub const SCRIPT_LIMIT: u64 = 268_435_456;
 
-/// The most bytes of all files together. A file counts with the longer of its text and its shown text.
+/// The most bytes of all files together. A file counts with the longer of its text and its shown
+/// text.
 pub const TEXTS_LIMIT: u64 = 67_108_864;
 
 /// The most directories of any kind, with the root.
@@ -46,8 +47,8 @@ pub const NUMBERS_LIMIT: u64 = 4_294_967_295;
 /// The most bytes of a store, up to the closed gate behind its log.
 pub const STORE_LIMIT: u64 = 4_294_967_296;
 
-/// What a limit counts. A command that would exceed a limit is refused with its word. Some of them no command of today
-/// can exceed.
+/// What a limit counts. A command that would exceed a limit is refused with its word. Some of them
+/// no command of today can exceed.
 #[derive(Clone, Copy, Debug, PartialEq, Eq)]
 pub enum LimitWord {
     /// Bytes of a line without its end.

@@ -61,6 +61,7 @@ pub struct Mark {
     pub dir: Number,
     /// The item.
     pub item: Number,
-    /// What the item is there from now on: permanent or prohibited, or unlinked where its mark is removed.
+    /// What the item is there from now on: permanent or prohibited, or unlinked where its mark is
+    /// removed.
     pub kind: Kind,
 }

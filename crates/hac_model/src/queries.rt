@@ -9,7 +9,8 @@ use crate::terms::Term;
 use std::alloc::Global;
 use std::marker::Model;
 
-/// A condition on a file or a document, which names directories by a `D`. `holds` of the specs says what satisfies it.
+/// A condition on a file or a document, which names directories by a `D`. `holds` of the specs says
+/// what satisfies it.
 #[cycle(query)]
 #[derive(Debug, Drop)]
 pub struct Query<D> {

@@ -1,5 +1,5 @@
-//! How far a query was read, byte by byte: what comes before the next byte. `step` of the specs says what a byte makes
-//! of it.
+//! How far a query was read, byte by byte: what comes before the next byte. `step` of the specs
+//! says what a byte makes of it.
 use crate::bytes::{Name, Pile, Text};
 use crate::queries::Query;
 

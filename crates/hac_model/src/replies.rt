@@ -38,7 +38,8 @@ pub enum Refusal {
     Under(Path),
     /// The root can't be removed or moved.
     Root,
-    /// The bytes aren't a query: the least place, counted from 1, such that no query begins with the bytes up to it.
+    /// The bytes aren't a query: the least place, counted from 1, such that no query begins with
+    /// the bytes up to it.
     BadQuery(u64),
     /// The directory would depend on itself through this one.
     Cycle(Path),

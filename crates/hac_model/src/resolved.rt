@@ -4,8 +4,8 @@ use crate::numbers::Number;
 use crate::places::Place;
 use crate::queries::Query;
 
-/// A command whose paths were followed in a state, as `resolve` of the specs says. What the command does and shows
-/// depends on this and the state alone.
+/// A command whose paths were followed in a state, as `resolve` of the specs says. What the command
+/// does and shows depends on this and the state alone.
 #[derive(Debug, Drop)]
 pub enum Resolved {
     /// Creates a plain directory.

@@ -7,7 +7,8 @@ use crate::bytes::{Name, Seq};
 /// Something that a text has or lacks, as `has_term` of the specs says.
 #[derive(Clone, Debug, Drop, PartialEq, Eq)]
 pub enum Term {
-    /// One of the text's words is these letters. Words have no capitals, so no text has a term with one.
+    /// One of the text's words is these letters. Words have no capitals, so no text has a term with
+    /// one.
     Word(Name),
     /// One of the text's words begins with these letters.
     Prefix(Name),
@@ -26,7 +27,8 @@ impl Term {
         }
     }
 
-    /// Whether the one term comes before the other: by their letters, and a word before a prefix of the same letters.
+    /// Whether the one term comes before the other: by their letters, and a word before a prefix of
+    /// the same letters.
     pub fn is_before(&self, other: &Term) -> bool
         ensures { result ≡ is_term_before self.now other.now }
     {

@@ -1,5 +1,5 @@
-//! Names, path words, paths and texts: how they are read and printed, and where a word leads. It knows
-//! no tree, so that what a path leads to is for others to say.
+//! Names, path words, paths and texts: how they are read and printed, and where a word leads. It
+//! knows no tree, so that what a path leads to is for others to say.
 #![tactic(auto)]
 
 mod joining;

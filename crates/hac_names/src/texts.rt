@@ -1,5 +1,5 @@
-//! Texts as they are printed, and as they are read where a command spells one. What a text says is not
-//! known here.
+//! Texts as they are printed, and as they are read where a command spells one. What a text says is
+//! not known here.
 ghost use Rattle.std.specs.Prelude.{◌≡◌, ◌++◌, ◌<◌, ◌&&◌, ◌+◌, ◌*◌, length, is_some, IfSome, IfOk, OnOk};
 ghost use Rattle.std.specs.Char.{digit_char, digit_value, is_digit};
 ghost use Rattle.std.specs.Option.{option_map};
@@ -9,7 +9,8 @@ ghost use Rattle.hac_names.specs.Spelling.{SpellsFirst};
 use hac_model::Memory;
 use std::alloc::Global;
 
-/// A text as it is printed, on one line: line ends, tabs, backslashes and other control bytes are escaped.
+/// A text as it is printed, on one line: line ends, tabs, backslashes and other control bytes are
+/// escaped.
 pub fn print_text(alloc: Global, text: &[u8]) -> Result<Vec<u8>, Memory>
     ensures { IfOk result (λ printed. printed.items ≡ escaped_text text.now) }
 {

@@ -72,7 +72,8 @@ pub struct StdSink<W: Write> {
 }
 
 impl<W: Write> StdSink<W> {
-    /// The sink over a writer, with no faults so far. What the writer holds back already isn't counted.
+    /// The sink over a writer, with no faults so far. What the writer holds back already isn't
+    /// counted.
     pub fn new(inner: W) -> StdSink<W>
         ensures inner { result.inner ≡ inner }
         ensures held { result.held_back ≡ 0 }
@@ -96,11 +97,13 @@ impl<W: Write> Sink for StdSink<W> {
     fn write(&mut self, bytes: &[u8]) -> Result<usize, Failed>
         ensures bound { WritesAtMost result bytes.now }
         ensures some { 0 < length bytes.now → result ≢ Ok 0 }
-        ensures bytes { WriteAppends (W.contents self.old.inner) (W.contents self.new.inner) result bytes.now }
+        ensures bytes { WriteAppends (W.contents self.old.inner)
+            (W.contents self.new.inner) result bytes.now }
         ensures held { HoldsMore self.old.held_back self.new.held_back result }
         ensures cause { HasCause self.old.faults self.new.faults result }
 
-        // Whatever the writer is, each byte counts as held back until it is flushed, up to the end of the type.
+        // Whatever the writer is, each byte counts as held back until it is flushed, up to the end
+        // of the type.
         ensures counted { IfOk result (λ count. self.new.held_back ≡
             min (self.old.held_back + count) (2 ^ 64 - 1)) }
         ensures failed { OnErr result (self.new.held_back ≡ self.old.held_back) }

@@ -5,7 +5,8 @@ ghost use Rattle.hac_outside.specs.Calls.{IsFailingCall, next_number};
 use super::fault::Failed;
 use std::alloc::{AllocError, Global};
 
-/// How many calls were made of an object, and which are to fail. At the end of their type its counts stay as they are.
+/// How many calls were made of an object, and which are to fail. At the end of their type its
+/// counts stay as they are.
 #[derive(Drop)]
 pub struct Calls {
     /// The numbers, from 1, of the calls that are to fail.
@@ -33,7 +34,8 @@ impl Calls {
     /// Numbers the call that begins. One that is to fail is a fault.
     pub fn begin(&mut self) -> Result<(), Failed>
         ensures fails { IsErr result ↔ Contains self.old.failing.items (next_number self.old.made) }
-        ensures faults { self.new.faults ≡ (if is_ok result then self.old.faults else next_number self.old.faults) }
+        ensures faults { self.new.faults ≡ (if is_ok result then self.old.faults else next_number
+            self.old.faults) }
         ensures made { self.new.made ≡ next_number self.old.made }
         ensures failing { self.new.failing.items ≡ self.old.failing.items }
     {
@@ -47,7 +49,8 @@ impl Calls {
     /// The same, where a call past the last one is a fault too.
     pub fn begin_within(&mut self, last: u64) -> Result<(), Failed>
         ensures fails { IsErr result ↔ IsFailingCall last self.old.failing.items self.old.made }
-        ensures faults { self.new.faults ≡ (if is_ok result then self.old.faults else next_number self.old.faults) }
+        ensures faults { self.new.faults ≡ (if is_ok result then self.old.faults else next_number
+            self.old.faults) }
         ensures made { self.new.made ≡ next_number self.old.made }
         ensures failing { self.new.failing.items ≡ self.old.failing.items }
     {

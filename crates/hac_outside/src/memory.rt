@@ -83,7 +83,8 @@ impl Source for MemorySource {
 
         // Which reads fail, and how much the others give.
         ensures fails { IsErr result ↔ Contains self.old.failing (next_number self.old.calls) }
-        ensures count { IfOk result (λ count. count ≡ cut_to (slice_get self.old.pieces self.old.calls)
+        ensures count { IfOk result (λ count. count ≡
+            cut_to (slice_get self.old.pieces self.old.calls)
             (min (length into.new) (length self.old.left))) }
         ensures counted { OnErr result (self.new.faults ≡ next_number self.old.faults) }
 
@@ -212,12 +213,15 @@ impl Sink for MemorySink {
     fn write(&mut self, bytes: &[u8]) -> Result<usize, Failed>
         ensures bound { WritesAtMost result bytes.now }
         ensures some { 0 < length bytes.now → result ≢ Ok 0 }
-        ensures bytes { WriteAppends (Some self.old.written) (Some self.new.written) result bytes.now }
-        ensures held { HoldsMore (length self.old.written - self.old.flushed) (length self.new.written - self.new.flushed) result }
+        ensures bytes { WriteAppends (Some self.old.written)
+            (Some self.new.written) result bytes.now }
+        ensures held { HoldsMore (length self.old.written - self.old.flushed)
+            (length self.new.written - self.new.flushed) result }
         ensures cause { HasCause self.old.faults self.new.faults result }
 
         // Which writes fail, and how much the others take.
-        ensures fails { IsErr result ↔ (IsFailing self.old ⊎ ((0 < length bytes.now) × (self.old.room ≡ 0))) }
+        ensures fails { IsErr result ↔ (IsFailing self.old ⊎
+            ((0 < length bytes.now) × (self.old.room ≡ 0))) }
         ensures count { IfOk result (λ count. count ≡ min (length bytes.now) self.old.room) }
         ensures counted { OnErr result (self.new.faults ≡ next_number self.old.faults) }
 
@@ -240,7 +244,8 @@ impl Sink for MemorySink {
     fn flush(&mut self) -> Result<(), Failed>
         ensures bytes { Keeps (Some self.old.written) (Some self.new.written) }
         ensures passed { OnOk result (length self.new.written - self.new.flushed ≡ 0) }
-        ensures held { length self.new.written - self.new.flushed ≤ length self.old.written - self.old.flushed }
+        ensures held { length self.new.written - self.new.flushed ≤ length self.old.written -
+            self.old.flushed }
         ensures cause { HasCause self.old.faults self.new.faults result }
         ensures fails { IsErr result ↔ IsFailing self.old }
         ensures counted { OnErr result (self.new.faults ≡ next_number self.old.faults) }

@@ -9,16 +9,17 @@ use super::fault::Failed;
 
 /// A place that bytes are written to, with a count of its faults.
 pub trait Sink {
-    // A sink that tells its bytes goes on telling them; one that doesn't may begin to. At the end of its
-    // type the count of faults stays as it is.
+    // A sink that tells its bytes goes on telling them; one that doesn't may begin to. At the end
+    // of its type the count of faults stays as it is.
     ghost seen: { Self → SinkSeen };
 
-    /// Takes some bytes from the front of `bytes`, and says how many. Where there are any, it takes one at
-    /// least, or fails. It may hold them back.
+    /// Takes some bytes from the front of `bytes`, and says how many. Where there are any, it takes
+    /// one at least, or fails. It may hold them back.
     fn write(&mut self, bytes: &[u8]) -> Result<usize, Failed>
         ensures bound { WritesAtMost result bytes.now }
         ensures some { 0 < length bytes.now → result ≢ Ok 0 }
-        ensures bytes { WriteAppends (seen self.old).written (seen self.new).written result bytes.now }
+        ensures bytes { WriteAppends (seen self.old).written
+            (seen self.new).written result bytes.now }
         ensures held { HoldsMore (seen self.old).held_back (seen self.new).held_back result }
         ensures cause { HasCause (seen self.old).faults (seen self.new).faults result };
 

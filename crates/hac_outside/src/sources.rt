@@ -9,8 +9,8 @@ use super::fault::Failed;
 
 /// A place that bytes are read from, with a count of its faults. Its end is given once.
 pub trait Source {
-    // A source that tells its bytes goes on telling them; one that doesn't may begin to. At the end of
-    // its type the count of faults stays as it is.
+    // A source that tells its bytes goes on telling them; one that doesn't may begin to. At the end
+    // of its type the count of faults stays as it is.
     ghost seen: { Self → SourceSeen };
 
     /// Reads some bytes to the front of `into`, and says how many. 0 at a place that isn't empty

@@ -1,5 +1,6 @@
 -- What is left of a store whose log gets the records of events.
-use Rattle.std.proofs.Common.{◌≡◌, inl, ⊎_elim, Bool, ℕ, ◌+◌, ◌<◌, List, [], ◌∷◌, length, map, None, Some, IfSome, Ok, refl, sym, ◌∙◌, ap, subst, arith, Vec}
+use Rattle.std.proofs.Common.{◌≡◌, inl, ⊎_elim, Bool, false, ℕ, ◌+◌, ◌<◌, List, [], ◌∷◌, length, map, None, Some, IfSome, Result, Ok, Err, refl, sym, ◌∙◌, ap, subst, arith, Vec}
+use Rattle.std.specs.Prelude.{IsTrue}
 use Rattle.std.specs.declared.alloc.Global.{Global}
 use Rattle.std.specs.declared.option.Option.{Option}
 use Rattle.std.proofs.lemmas.Bool.{cases_lt}
@@ -10,8 +11,14 @@ use Rattle.hac_disk.proofs.ToldLemmas.{told-settled}
 use Rattle.hac_checkpoint.specs.declared.heads.Slot.{Slot}
 use Rattle.hac_journal.specs.Appending.{Appending, ClosedAt}
 use Rattle.hac_journal.specs.Records.{contents_of, log_of}
-use Rattle.hac_model.specs.Tree.Events.{apply, apply_all}
+use Rattle.hac_model.specs.Tree.Events.{accepted, apply, apply_all}
+use Rattle.hac_model.specs.Tree.Limits.{counts}
 use Rattle.hac_model.specs.Laws.{AllHappen}
+use Rattle.hac_core.specs.Drafts.{CanSettle, settled_events}
+use Rattle.hac_core.specs.Fitting.{FitsAs}
+use Rattle.hac_core.specs.declared.drafts.Change.{Change}
+use Rattle.hac_core.specs.declared.drafts.Settled.{Settled}
+use Rattle.hac_core.specs.declared.drafts.Settled.TheVariants as settled
 use Rattle.hac_model.specs.Payload.Payloads.{event_text}
 use Rattle.hac_model.specs.Run.Play.{Setting, after_events, end_behind}
 use Rattle.hac_model.specs.Tree.Valid.{IsValid}
@@ -21,11 +28,24 @@ use Rattle.hac_model.specs.declared.states.State.{State}
 use Rattle.hac_model.proofs.AcyclicLemmas.{apply-valid}
 use Rattle.hac_model.proofs.SpelledLemmas.{accepted-spelled}
 use Rattle.hac_core.specs.Seen.{Seen as Kept}
+use Rattle.hac_outside.specs.Causes.{TellsFault}
+use Rattle.hac_store.specs.Faults.{is_disk_fault}
 use Rattle.hac_store.specs.Held.{held}
+use Rattle.hac_store.specs.Storing.{StoresEvents, StoringEnds}
+use Rattle.hac_store.specs.declared.fault.StoreFault.{StoreFault}
 use Rattle.hac_store.specs.Stores.{HeldBetween, Seen, Stands, store_after}
 use Rattle.hac_store.proofs.HeldLemmas.{held-appending, held-gate, held-overlaid}
 use Rattle.hac_store.proofs.LogLemmas.{AreStored}
 use Rattle.hac_store.proofs.RoomLemmas.{within-limit}
+
+-- what a settled outcome stands for can happen
+pub can-happen : (s : State) (outcome : Settled) → CanSettle s outcome → AllHappen s (settled_events outcome)
+can-happen s (settled.Change change) can = can.0
+can-happen s (settled.Steps count) can = can
+
+-- an event that fits can be settled with its counts
+pub fits-settles : (s : State) (event : Event) (change : Change) → FitsAs s event (Some change) → CanSettle s (settled.Change change)
+fits-settles s event change fits = ((subst (λ (e : Event). IsTrue (accepted s e)) (sym fits.1) fits.0, tt), fits.2 ∙ ap (λ (e : Event). counts (apply s e)) (sym fits.1))
 
 -- events that can happen one after the other have spellings
 pub all-stored : (events : List Event) (s : State) → IsValid s → AllHappen s events → AreStored s events
@@ -48,7 +68,7 @@ pub put-state : (old ready new : Kept) (events : List Event) → ready ≡ recor
 put-state old ready new events made gone = ap (λ (m : Kept). m.state) gone ∙ ap (λ (m : Kept). apply_all m.state m.ready) made
 
 -- what a store rests on
-stands-each : (seen : Option (List ℕ)) (image : List ℕ → Type 0) (z : Setting) → Stands seen image z → (c : List ℕ) → image c → held c ≡ Ok z
+pub stands-each : (seen : Option (List ℕ)) (image : List ℕ → Type 0) (z : Setting) → Stands seen image z → (c : List ℕ) → image c → held c ≡ Ok z
 stands-each None image z stands = absurd stands
 stands-each (Some file) image z stands = stands
 
@@ -94,3 +114,16 @@ module _ {D : Type 0} (seen : D → Option (List ℕ)) (image : D → List ℕ �
       weaken moment image_since old new (Appending z.end (log_of (contents_of vs)) (image old)) (HeldBetween z events)
       (λ c left. held-appending (image old) z events each stored (within-limit vs events z.end texts fits) c (subst (λ l. Appending z.end (log_of l) (image old) c) texts left)) run)
       (cases_lt STORE_LIMIT (z.end + length (log_of (contents_of vs))))
+
+-- nothing was touched
+pub none-stored : {D : Type 0} {seen : D → Option (List ℕ)} {image : D → List ℕ → Type 0} {moment : D → ℕ} {image_since : D → ℕ → List ℕ → Type 0} {attached : D → Option (List (List ℕ × Bool))} {faults : D → ℕ} {old new : D} {before after : Seen} {events : List Event} {fault : StoreFault}
+    → ((disk : D) (c : List ℕ) → image_since disk (moment disk) c → image disk c) → new ≡ old → StoringEnds seen image old new before after events (Err fault) → (let answer : Result (Unit {0}) StoreFault = Err fault in is_disk_fault answer ≡ false)
+    → StoresEvents seen image moment image_since attached faults old new before after events (Err fault)
+none-stored {seen = seen} {image = image} {moment = moment} {image_since = image_since} {attached = attached} {faults = faults} {old = old} {new = new} {before = before} {events = events} only_now same ends no_disk =
+    record {
+      ends = ends;
+      stands = λ _. tt;
+      moments = λ stands. subst (λ d. LeavesOnly moment image_since old d (HeldBetween before.setting events)) (sym same) (none-put seen image moment image_since only_now old before.setting events stands);
+      names = ap attached same;
+      told = subst (λ (b : Bool). TellsFault b (faults old) (faults new)) (sym no_disk) (ap faults same);
+    }

@@ -21,7 +21,7 @@ pub step-spellable : IsTrue (is_spellable Step)
 unfolding is_spellable
 step-spellable = refl
 
-end-steps : (count end : ℕ) → end_behind end (replicate count Step) ≡ end + count * 7
+pub end-steps : (count end : ℕ) → end_behind end (replicate count Step) ≡ end + count * 7
 end-steps zero end = omega arith
 end-steps (suc count) end =
     end-steps count (end + 5 + length (event_text Step)) ∙ omega (arith, ap length step-text)

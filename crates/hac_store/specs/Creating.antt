@@ -6,7 +6,7 @@ use Rattle.hac_store.specs.declared.fault.StoreFault.{StoreFault}
 use Rattle.hac_store.specs.declared.fault.StoreFault.TheVariants.{NotStore, AlreadyStore}
 use Rattle.hac_store.specs.declared.creating.TheConstants.{NEW}
 
--- what speaks against making a store, given why none was read
+-- why no store is made, given why none was read
 abbrev pub none_in : Option StoreFault → Result Unit StoreFault
 none_in None = Err AlreadyStore
 none_in (Some (NotStore at)) = Ok tt

@@ -1,4 +1,5 @@
 -- The faults of the crates below, as those of a store.
+use Rattle.std.specs.Prelude.{Bool, true, false, Result, Err}
 use Rattle.hac_checkpoint.specs.declared.heads.RootFault.{RootFault}
 use Rattle.hac_checkpoint.specs.declared.heads.RootFault.TheVariants as root
 use Rattle.hac_journal.specs.declared.fault.JournalFault.{JournalFault}
@@ -14,3 +15,8 @@ abbrev pub of_journal : JournalFault → StoreFault
 of_journal journal.Disk = Disk
 of_journal journal.Full = Full
 of_journal journal.Memory = Memory
+
+-- the answer says that a call of the disk failed
+abbrev pub is_disk_fault : {T : Type 0} → Result T StoreFault → Bool
+is_disk_fault (Err Disk) = true
+is_disk_fault other = false

@@ -1,5 +1,4 @@
--- What an image of a store holds: the tree to which its log leads, or the place of the first byte that speaks against
--- it.
+-- What an image of a store holds: the tree to which its log leads, or the place of the first wrong byte.
 use Rattle.std.specs.Prelude.{ℕ, zero, suc, ◌+◌, if◌then◌else◌, List, length, Result, Ok, Err}
 use Rattle.hac_checkpoint.specs.Roots.{placed, root_of}
 use Rattle.hac_checkpoint.specs.declared.heads.Root.{Root}
@@ -54,6 +53,6 @@ abbrev pub from_root : List ℕ → Result Root Stop → Result Setting Stop
 from_root file (Err stop) = Err stop
 from_root file (Ok root) = with_root root (log empty root.start file)
 
--- the store that a file holds, or the place of the first byte that speaks against it
+-- the store that a file holds, or the place of the first wrong byte
 unfoldable pub held : List ℕ → Result Setting ℕ
 held file = placed file (from_root file (root_of file))

@@ -4,3 +4,4 @@ pub mod Held
 pub mod Laws
 pub mod Reading
 pub mod Stores
+pub mod Storing

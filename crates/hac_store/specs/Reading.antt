@@ -8,14 +8,14 @@ use Rattle.hac_store.specs.Held.{Log}
 use Rattle.hac_store.specs.declared.fault.StoreFault.{StoreFault}
 use Rattle.hac_store.specs.declared.fault.StoreFault.TheVariants.{NotStore, Memory}
 
--- the record led to this state, or the fault is for it; want of memory may come in place of anything
+-- the record led to this state, or the fault is for it; memory may run out in place of anything
 abbrev pub Judges : Result Unit StoreFault → State → Result State Stop → Type 0
 Judges (Ok _) new wanted = wanted ≡ Ok new
 Judges (Err (NotStore at)) new wanted = wanted ≡ Err (stop.BadAt at)
 Judges (Err Memory) new wanted = ⊤
 Judges (Err other) new wanted = ⊥
 
--- the log led to this state and ends there, or this place speaks against it
+-- the log led to this state and ends there, or its first wrong byte is at this place
 abbrev pub ReadsLog : Result ℕ StoreFault → State → List ℕ → Result Log Stop → Type 0
 ReadsLog (Ok end) new file wanted = wanted ≡ Ok (record { state = new; end = end })
 ReadsLog (Err (NotStore at)) new file wanted = placed file wanted ≡ Err at

@@ -1,11 +1,12 @@
 //! Making a new store: all of it is written behind a closed gate, which is then opened.
-ghost use Rattle.std.specs.Prelude.{◌≡◌, ◌⊎◌, ◌≤◌, Err, IfOk, IfSome, IsErr, IsErrOf, IsOk, OnOk, ℕ};
-ghost use Rattle.hac_outside.specs.Causes.{HasCause, Rose};
+ghost use Rattle.std.specs.Prelude.{◌≡◌, ◌⊎◌, Err, IfOk, IfSome, IsErr, IsOk, OnOk, ℕ};
+ghost use Rattle.hac_outside.specs.Causes.{HasCause, TellsFault};
 ghost use Rattle.hac_disk.specs.Images.{IsQuiet, LeavesOnly};
 ghost use Rattle.hac_disk.specs.Told.{HasByteAt, IsSettled};
 ghost use Rattle.hac_journal.specs.Appending.{ClosedAt};
 ghost use Rattle.hac_model.specs.Run.Play.{new_setting};
 ghost use Rattle.hac_store.specs.Creating.{Becomes, IsReady, IsUnheld, none_in};
+ghost use Rattle.hac_store.specs.Faults.{is_disk_fault};
 ghost use Rattle.hac_store.specs.Held.{held};
 ghost use Rattle.hac_store.specs.Stores.{Bears, IsNewOrNone, Stands, first_store};
 
@@ -19,8 +20,8 @@ use hac_journal::{CLOSED, OPEN};
 use hac_outside::Failed;
 use std::alloc::Global;
 
-// A closed gate, the format's name, slot A with the first generation and the place 64, slot B with nothing, 21 bytes
-// that tell nothing, and an empty log.
+// A closed gate, the format's name, slot A with the first generation and the place 64, slot B with
+// nothing, 21 bytes that tell nothing, and an empty log.
 const NEW: [u8; 65] =
     *b"\0HACSTOR1\x01\x01\0\0\0\0\0\0\0\x40\0\0\0\0\0\0\0\0\0\0\0\0\0\0\0\0\0\0\0\0\0\0\0\0\0\0\0\0\0\0\0\0\0\0\0\0\0\0\0\0\0\0\0\0\0\0";
 
@@ -36,18 +37,15 @@ impl Store {
         ensures place { IfOk result (λ store. Bears (D.seen disk.new) store) }
         ensures quiet { IfSome (D.seen disk.old) (λ file. IsOk (held file) →
             IsQuiet D.seen D.image D.moment D.image_since disk.old disk.new) }
-        // At each moment a crash leaves what it might have left before, or the root alone, or no store.
+        // At each moment a crash leaves what it might have left before, or the root alone, or no
+        // store.
         ensures any_moment { IfSome (D.seen disk.old) (λ file. IsErr (held file) →
             LeavesOnly D.moment D.image_since disk.old disk.new
             (λ c. D.image disk.old c ⊎ IsNewOrNone c)) }
         ensures kind { ((at : ℕ) → result ≡ Err (StoreFault.NotStore at) → ⊥) ×
             (result ≡ Err StoreFault.Full → ⊥) }
         ensures attached { D.attached disk.new ≡ D.attached disk.old }
-        ensures later { D.faults disk.old ≤ D.faults disk.new }
-        ensures cause { IsErrOf result StoreFault.Disk →
-            Rose (D.faults disk.old) (D.faults disk.new) }
-        ensures none { (IsErrOf result StoreFault.Disk → ⊥) →
-            D.faults disk.new ≡ D.faults disk.old }
+        ensures faults { TellsFault (is_disk_fault result) (D.faults disk.old) (D.faults disk.new) }
     {
         disk.sync()?;
         none(read_store(alloc, disk).err())?;
@@ -79,9 +77,7 @@ fn new_store<D: Disk>(alloc: Global, disk: &mut D) -> Result<Store, StoreFault>
     ensures kind { ((at : ℕ) → result ≡ Err (StoreFault.NotStore at) → ⊥) ×
         (result ≡ Err StoreFault.AlreadyStore → ⊥) × (result ≡ Err StoreFault.Full → ⊥) }
     ensures attached { D.attached disk.new ≡ D.attached disk.old }
-    ensures later { D.faults disk.old ≤ D.faults disk.new }
-    ensures cause { IsErrOf result StoreFault.Disk → Rose (D.faults disk.old) (D.faults disk.new) }
-    ensures none { (IsErrOf result StoreFault.Disk → ⊥) → D.faults disk.new ≡ D.faults disk.old }
+    ensures faults { TellsFault (is_disk_fault result) (D.faults disk.old) (D.faults disk.new) }
 {
     let machine = Machine::new(alloc)?;
     match write_new(disk) {

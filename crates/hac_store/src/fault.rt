@@ -14,7 +14,8 @@ pub enum StoreFault {
     /// The file holds no store.
     #[error("no store: byte {at}")]
     NotStore {
-        /// The place of the first byte that speaks against it, or the file's length where it ends too early.
+        /// The place of the first wrong byte, or the file's length where it ends
+        /// too early.
         at: u64,
     },
     /// The file holds a store already.

@@ -1,5 +1,6 @@
-//! A tree that lives in a store: each event is a record of a log before it happens, and a crash loses none that was
-//! answered. This crate joins the machine to the disk, and knows nothing of lines and replies.
+//! A tree that lives in a store: each event is a record of a log before it happens, and a crash
+//! loses none that was answered. This crate joins the machine to the disk, and knows nothing of
+//! lines and replies.
 #![tactic(auto)]
 
 mod appending;

@@ -1,12 +1,14 @@
 //! Opening a store: its log is read, and its events happen one by one.
-ghost use Rattle.std.specs.Prelude.{◌≡◌, ◌+◌, ◌<◌, ◌≤◌, ◌^◌, false, length, Ok, Err, IfOk, IfSome, IsErrOf, IsTrue, OnOk};
-ghost use Rattle.hac_outside.specs.Causes.{Rose};
+ghost use Rattle.std.specs.Prelude.{◌≡◌, ◌+◌, ◌<◌, ◌^◌, false, length, Ok, Err, IfOk, IfSome, OnOk};
+ghost use Rattle.hac_outside.specs.Causes.{TellsFault};
 ghost use Rattle.hac_disk.specs.Images.{IsQuiet};
 ghost use Rattle.hac_disk.specs.Told.{HasByteAt, IsSettled};
-ghost use Rattle.hac_model.specs.Tree.Events.{accepted, apply};
+ghost use Rattle.hac_model.specs.Tree.Events.{apply};
 ghost use Rattle.hac_model.specs.Payload.Payloads.{spelled};
 ghost use Rattle.hac_model.specs.Tree.Valid.{IsValid};
 ghost use Rattle.hac_checkpoint.specs.Roots.{root_of};
+ghost use Rattle.hac_core.specs.Drafts.{CanSettle};
+ghost use Rattle.hac_store.specs.Faults.{is_disk_fault};
 ghost use Rattle.hac_store.specs.Held.{held, after_payload, log};
 ghost use Rattle.hac_store.specs.Reading.{Judges, ReadsLog};
 ghost use Rattle.hac_store.specs.Stores.{Bears, Opens, Stands, root_by};
@@ -15,7 +17,7 @@ use crate::fault::StoreFault;
 use crate::store::Store;
 use event_codec::{CodecFault, Payload, read_payload};
 use hac_checkpoint::roots;
-use hac_core::{Machine, Settled};
+use hac_core::{Change, Machine, Settled};
 use hac_disk::Disk;
 use hac_journal::{LogReader, Next};
 use hac_model::{Event, Memory};
@@ -37,11 +39,7 @@ impl Store {
         ensures kind { (result ≡ Err StoreFault.AlreadyStore → ⊥) ×
             (result ≡ Err StoreFault.Full → ⊥) }
         ensures attached { D.attached disk.new ≡ D.attached disk.old }
-        ensures later { D.faults disk.old ≤ D.faults disk.new }
-        ensures cause { IsErrOf result StoreFault.Disk →
-            Rose (D.faults disk.old) (D.faults disk.new) }
-        ensures none { (IsErrOf result StoreFault.Disk → ⊥) →
-            D.faults disk.new ≡ D.faults disk.old }
+        ensures faults { TellsFault (is_disk_fault result) (D.faults disk.old) (D.faults disk.new) }
     {
         disk.sync()?;
         read_store(alloc, disk)
@@ -58,9 +56,7 @@ pub(crate) fn read_store<D: Disk>(alloc: Global, disk: &mut D) -> Result<Store, 
     ensures quiet { IsQuiet D.seen D.image D.moment D.image_since disk.old disk.new }
     ensures kind { (result ≡ Err StoreFault.AlreadyStore → ⊥) × (result ≡ Err StoreFault.Full → ⊥) }
     ensures attached { D.attached disk.new ≡ D.attached disk.old }
-    ensures later { D.faults disk.old ≤ D.faults disk.new }
-    ensures cause { IsErrOf result StoreFault.Disk → Rose (D.faults disk.old) (D.faults disk.new) }
-    ensures none { (IsErrOf result StoreFault.Disk → ⊥) → D.faults disk.new ≡ D.faults disk.old }
+    ensures faults { TellsFault (is_disk_fault result) (D.faults disk.old) (D.faults disk.new) }
 {
     let root = roots(disk)?;
     let mut machine = Machine::new(alloc)?;
@@ -96,9 +92,7 @@ fn read_log<D: Disk>(
     ensures quiet { IsQuiet D.seen D.image D.moment D.image_since disk.old disk.new }
     ensures kind { (result ≡ Err StoreFault.AlreadyStore → ⊥) × (result ≡ Err StoreFault.Full → ⊥) }
     ensures attached { D.attached disk.new ≡ D.attached disk.old }
-    ensures later { D.faults disk.old ≤ D.faults disk.new }
-    ensures cause { IsErrOf result StoreFault.Disk → Rose (D.faults disk.old) (D.faults disk.new) }
-    ensures none { (IsErrOf result StoreFault.Disk → ⊥) → D.faults disk.new ≡ D.faults disk.old }
+    ensures faults { TellsFault (is_disk_fault result) (D.faults disk.old) (D.faults disk.new) }
 {
     let mut reader = LogReader::new(alloc);
     let mut at = start;
@@ -114,7 +108,8 @@ fn read_log<D: Disk>(
     }
 }
 
-// Applies what the payload of a record says, given the place of its gate, and whether it is the log's first.
+// Applies what the payload of a record says, given the place of its gate, and whether it is the
+// log's first.
 fn replay(
     alloc: Global,
     machine: &mut Machine,
@@ -129,7 +124,7 @@ fn replay(
     ensures valid { OnOk result (IsValid machine.new.state) }
 {
     match read_payload(alloc, payload, first) {
-        Ok(Payload::Event(event)) => happen(machine, at, event),
+        Ok(Payload::Event(event)) => accept(machine, at, event),
         Err(CodecFault::Bad { at: offset }) => Err(StoreFault::NotStore {
             at: at + 5 + offset,
         }),
@@ -138,34 +133,27 @@ fn replay(
 }
 
 // Applies the event of a record, if the state accepts it.
-fn happen(machine: &mut Machine, at: u64, event: Event) -> Result<(), StoreFault>
+fn accept(machine: &mut Machine, at: u64, event: Event) -> Result<(), StoreFault>
     requires valid { IsValid machine.old.state }
     requires place { at + 5 < 2 ^ 64 }
     ensures judged { Judges result machine.new.state
         (after_payload machine.old.state at (Ok event)) }
     ensures valid { OnOk result (IsValid machine.new.state) }
 {
-    match machine.fits(&event) {
-        Ok(true) => Ok(apply(machine, event)?),
-        Ok(false) => {
-            drop(event);
-            Err(StoreFault::NotStore { at: at + 5 })
-        }
-        Err(Memory) => {
-            drop(event);
-            Err(StoreFault::Memory)
-        }
+    match machine.fits(event)? {
+        Some(change) => Ok(apply(machine, change)?),
+        None => Err(StoreFault::NotStore { at: at + 5 }),
     }
 }
 
-// Applies an event that can happen.
-fn apply(machine: &mut Machine, event: Event) -> Result<(), Memory>
+// Applies a change that can happen.
+fn apply(machine: &mut Machine, change: Change) -> Result<(), Memory>
     requires valid { IsValid machine.old.state }
-    requires happens { IsTrue (accepted machine.old.state event) }
-    ensures state { OnOk result (machine.new.state ≡ apply machine.old.state event) }
+    requires can { CanSettle machine.old.state (Settled.Change change) }
+    ensures state { OnOk result (machine.new.state ≡ apply machine.old.state change.event) }
     ensures valid { OnOk result (IsValid machine.new.state) }
 {
-    machine.prepare(Settled::Change(event))?;
+    machine.prepare(Settled::Change(change))?;
     machine.commit();
     Ok(())
 }

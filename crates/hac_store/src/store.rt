@@ -29,7 +29,12 @@ impl Model for Store {
     ghost coded = { seen_code };
 
     ghost view = { λ store. record {
-      setting = record { state = store.machine.state; start = store.start; end = store.end; generation = store.generation };
+      setting = record {
+        state = store.machine.state;
+        start = store.start;
+        end = store.end;
+        generation = store.generation;
+      };
       slot = store.slot;
       broken = store.broken;
     } };

@@ -1,7 +1,9 @@
 -- What a crash leaves as a run goes on, counted by the events of what was answered.
-use Rattle.std.proofs.Common.{◌≡◌, ℕ, zero, suc, ◌+◌, ◌<◌, ◌≤◌, true, false, Bool, List, [], ◌∷◌, ◌++◌, length, take, refl, ap, sym, subst, ◌∙◌, arith, append-nil, length-append}
+use Rattle.std.proofs.Common.{◌≡◌, ℕ, suc, ◌+◌, ◌<◌, ◌≤◌, true, false, Bool, List, [], ◌∷◌, ◌++◌, length, take, refl, ap, sym, subst, ◌∙◌, arith, append-nil, length-append}
 use Rattle.std.specs.Prelude.{None, Some, Result, Ok, Err}
 use Rattle.std.specs.Option.{option_map_or}
+use Rattle.std.proofs.Math.Seq.{take-append-add, take-length}
+use Rattle.std.proofs.lemmas.List.{take-append-le}
 use Rattle.std.proofs.lemmas.Grind.{flat_map-append}
 use Rattle.hac_model.specs.Run.Answers.{first_cause}
 use Rattle.hac_model.specs.Tree.Events.{apply_all}
@@ -56,28 +58,19 @@ before-next (first ∷ done) rest turn = omega (arith, before-next done rest tur
 
 -- some of the events behind others
 taken-behind : (xs ys zs : List Event) (n : ℕ) → n ≤ length ys → take (length xs + n) (xs ++ (ys ++ zs)) ≡ xs ++ take n ys
-taken-behind [] ys zs n few = ap (λ (m : ℕ). take m (ys ++ zs)) (omega arith) ∙ front ys n few
-  where
-    front : (ys : List Event) (n : ℕ) → n ≤ length ys → take n (ys ++ zs) ≡ take n ys
-    front ys zero few = refl
-    front [] (suc n) few = absurd (omega (arith, few))
-    front (y ∷ ys) (suc n) few = ap (λ (more : List Event). y ∷ more) (front ys n (omega (arith, few)))
-taken-behind (x ∷ xs) ys zs n few =
-    let count : length (x ∷ xs) + n ≡ suc (length xs + n) = omega arith in
-    ap (λ (m : ℕ). take m (x ∷ (xs ++ (ys ++ zs)))) count ∙ ap (λ (more : List Event). x ∷ more) (taken-behind xs ys zs n few)
+taken-behind xs ys zs n few = take-append-add xs (ys ++ zs) n ∙ ap (λ (more : List Event). xs ++ more) (take-append-le n ys zs few)
 
--- a tree behind some turns is one of all turns
-tree-behind : (s t now : State) (done here rest : List Turn) (n : ℕ) → t ≡ apply_all s (all_events done) → n ≤ length (all_events here) → now ≡ apply_all t (take n (all_events here)) →
-    now ≡ apply_all s (take (length (all_events done) + n) (all_events (done ++ (here ++ rest))))
-tree-behind s t now done here rest n led few is =
-    is ∙ ap (λ (state : State). apply_all state (take n (all_events here))) led ∙ sym (apply_all-append (all_events done) (take n (all_events here)) s)
-    ∙ ap (apply_all s) (sym (
-    ap (take (length (all_events done) + n)) (all_events-append done (here ++ rest) ∙ ap (λ (more : List Event). all_events done ++ more) (all_events-append here rest))
-    ∙ taken-behind (all_events done) (all_events here) (all_events rest) n few))
-
-count-within : (done here rest : List Turn) (n : ℕ) → n ≤ length (all_events here) → length (all_events done) + n ≤ length (all_events (done ++ (here ++ rest)))
-count-within done here rest n few =
-    omega (arith, few, ap length (all_events-append done (here ++ rest)), length-append (all_events done) (all_events (here ++ rest)), ap length (all_events-append here rest), length-append (all_events here) (all_events rest))
+-- a tree after some of the events that follow others
+abbrev tree-behind : (s t now : State) (done here rest : List Turn) → t ≡ apply_all s (all_events done) → IsTreeAfter t (all_events here) now → IsTreeAfter s (all_events (done ++ (here ++ rest))) now
+tree-behind s t now done here rest led tree =
+    let all_is : all_events (done ++ (here ++ rest)) ≡ all_events done ++ (all_events here ++ all_events rest) = all_events-append done (here ++ rest) ∙ ap (λ (more : List Event). all_events done ++ more) (all_events-append here rest) in
+    record {
+      count = length (all_events done) + tree.count;
+      within = omega (arith, tree.within, ap length all_is, length-append (all_events done) (all_events here ++ all_events rest), length-append (all_events here) (all_events rest));
+      is =
+          tree.is ∙ ap (λ (state : State). apply_all state (take tree.count (all_events here))) led ∙ sym (apply_all-append (all_events done) (take tree.count (all_events here)) s)
+          ∙ ap (apply_all s) (sym (ap (take (length (all_events done) + tree.count)) all_is ∙ taken-behind (all_events done) (all_events here) (all_events rest) tree.count tree.within));
+    }
 
 -- What a crash leaves.
 
@@ -93,29 +86,19 @@ reopens true P image holds = λ kept is. subst P (ap (λ (setting : Setting). se
     same : (kept : Setting) → held image ≡ Ok kept → holds.kept ≡ kept
     same kept is = let both : Ok holds.kept ≡ Ok kept = sym holds.is ∙ is in cc
 
--- all that was answered is there, and nothing else, where nothing is in hand
-pub all-answered : (s now : State) (all done rest : List Turn) → all ≡ done ++ rest → now ≡ apply_all s (all_events done) → IsTreeOfAnswered s all (length done) now
-all-answered s now all done rest is led =
-    subst (λ (ts : List Turn). IsTreeOfAnswered s ts (length done) now) (sym is) (record {
-      count = length (all_events done) + 0;
-      within = count-within done [] rest 0 (omega arith);
-      is = tree-behind s now now done [] rest 0 led (omega arith) refl;
-      answered = omega (arith, before-last done rest);
-      no_further = further rest;
-    })
-  where
-    further : (rest : List Turn) → length done < length (done ++ rest) → length (all_events done) + 0 ≤ events_before (suc (length done)) (done ++ rest)
-    further [] more = absurd (omega (arith, more, length-append done []))
-    further (turn ∷ rest) more = omega (arith, before-next done rest turn)
+-- a tree after all of the events
+pub tree-all : (s now : State) (events : List Event) → now ≡ apply_all s events → IsTreeAfter s events now
+tree-all s now events is = record { count = length events; within = omega arith; is = is ∙ ap (apply_all s) (sym (take-length events)) }
 
--- some of what is in hand is there too
+-- all that was answered is there, and some of what is in hand
 pub some-answered : (s t now : State) (setting : Setting) (all done : List Turn) (items : List Item) (rest : List Turn) → all ≡ done ++ (turns setting items ++ rest) → length (turns setting items) ≤ 1 →
     t ≡ apply_all s (all_events done) → IsTreeAfter t (all_events (turns setting items)) now → IsTreeOfAnswered s all (length done) now
 some-answered s t now setting all done items rest is few led tree =
+    let behind = tree-behind s t now done (turns setting items) rest led tree in
     subst (λ (ts : List Turn). IsTreeOfAnswered s ts (length done) now) (sym is) (record {
       count = length (all_events done) + tree.count;
-      within = count-within done (turns setting items) rest tree.count tree.within;
-      is = tree-behind s t now done (turns setting items) rest tree.count led tree.within tree.is;
+      within = behind.within;
+      is = behind.is;
       answered = omega (arith, before-last done (turns setting items ++ rest));
       no_further = further items rest few tree.within;
     })
@@ -127,11 +110,10 @@ some-answered s t now setting all done items rest is few led tree =
     further (item ∷ []) rest few within more = omega (arith, within, before-next done rest (item_turn setting item), ap length (one-turn setting item))
     further (item ∷ other ∷ items) rest few within more = absurd (omega (arith, few))
 
+-- nothing else is there, where nothing is in hand
+pub all-answered : (s now : State) (setting : Setting) (all done rest : List Turn) → all ≡ done ++ rest → now ≡ apply_all s (all_events done) → IsTreeOfAnswered s all (length done) now
+all-answered s now setting all done rest is led = some-answered s now now setting all done [] rest is (omega arith) led (record { count = 0; within = omega arith; is = refl })
+
 -- a tree of what is in hand is one of all
 pub tree-of-all : (s t now : State) (all done here rest : List Turn) → all ≡ done ++ (here ++ rest) → t ≡ apply_all s (all_events done) → IsTreeAfter t (all_events here) now → IsTreeAfter s (all_events all) now
-tree-of-all s t now all done here rest is led tree =
-    subst (λ (ts : List Turn). IsTreeAfter s (all_events ts) now) (sym is) (record {
-      count = length (all_events done) + tree.count;
-      within = count-within done here rest tree.count tree.within;
-      is = tree-behind s t now done here rest tree.count led tree.within tree.is;
-    })
+tree-of-all s t now all done here rest is led tree = subst (λ (ts : List Turn). IsTreeAfter s (all_events ts) now) (sym is) (tree-behind s t now done here rest led tree)

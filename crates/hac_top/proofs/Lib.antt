@@ -1,14 +1,10 @@
-pub mod WrittenLemmas
 pub mod CrashLemmas
+pub mod DecidingLemmas
 pub mod StoringLemmas
-pub mod StepLemmas
-pub mod ObeyLemmas
 pub mod TakenLemmas
-pub mod GoesOn
 pub mod TellingLemmas
-pub mod EndLemmas
+pub mod GoesOn
 pub mod RunLemmas
-pub mod MomentLemmas
-pub mod OpenLemmas
+pub mod LineLemmas
 pub mod OpenedLemmas
 pub mod WordLemmas

@@ -1,108 +1,280 @@
--- What becomes of the disk as a store goes on by events, one call after another.
-use Rattle.std.proofs.Common.{◌≡◌, ◌⊎◌, ℕ, ◌≤◌, true, false, Bool, cond, List, [], length, refl, ap, sym, subst, ◌∙◌, arith, inl, inr}
-use Rattle.std.specs.Prelude.{IsErrOf, Option, None, Some, Result, Ok, Err}
+-- What becomes of the store and its disk as turns are stored, one call after another.
+use Rattle.std.proofs.Common.{◌≡◌, ℕ, true, false, Bool, List, [], ◌∷◌, ◌++◌, length, refl, ap, sym, subst, ◌∙◌, append-nil, arith, inl, inr, zero, suc, ◌+◌, ◌*◌, ◌<◌, ◌≤◌}
+use Rattle.std.specs.Prelude.{if◌then◌else◌, Option, Result, Ok, Err, IfErr, OnOk, ◌==◌, replicate}
 use Rattle.std.proofs.Math.Seq.{take-length}
 use Rattle.hac_disk.specs.Images.{LeavesOnly}
-use Rattle.hac_disk.proofs.Moments.{started, weaken}
-use Rattle.hac_model.specs.Tree.Events.{apply_all}
-use Rattle.hac_model.specs.Run.Play.{Setting, after_events, have_room}
+use Rattle.hac_disk.proofs.Moments.{started, weaken, then_run}
+use Rattle.hac_model.specs.Tree.Events.{apply_all, apply}
+use Rattle.hac_model.specs.Run.Play.{Setting, Turn, after_events, all_events, have_room, left_by, refused, end_behind}
 use Rattle.hac_model.specs.declared.events.Event.{Event}
-use Rattle.hac_outside.specs.Causes.{Rose}
+use Rattle.hac_model.specs.declared.limits.LimitWord.TheVariants.{Store}
+use Rattle.hac_model.specs.declared.replies.Refusal.TheVariants.{Limit}
+use Rattle.hac_model.specs.declared.replies.Reply.{Reply}
+use Rattle.hac_model.specs.declared.replies.Reply.TheVariants.{Lines, Refused}
+use Rattle.hac_outside.specs.Causes.{TellsFault}
+use Rattle.hac_outside.specs.Seen.{SinkSeen, WritesSome}
+use Rattle.hac_model.specs.declared.replies.Refusal.{Refusal}
+use Rattle.hac_top.specs.Told.{StopsTelling, Tells, told_text}
+use Rattle.hac_top.specs.declared.status.Status.{Status}
 use Rattle.hac_store.specs.Held.{held}
-use Rattle.hac_store.specs.Stores.{HeldBetween, Stands}
+use Rattle.hac_store.specs.Storing.{StoresEvents}
+use Rattle.hac_store.specs.Stores.{Bears, HeldBetween, IsHeldAs, Seen, Stands, fit_behind, store_after}
 use Rattle.hac_store.specs.declared.fault.StoreFault.{StoreFault}
 use Rattle.hac_store.specs.declared.fault.StoreFault.TheVariants as fault
-use Rattle.hac_top.specs.Obeying.{is_disk_fault, kept_events}
-use Rattle.hac_top.specs.Stops.{is_disk_stop}
-use Rattle.hac_top.specs.declared.stops.Stop.{Stop}
-use Rattle.hac_top.specs.declared.stops.Stop.TheVariants.{Memory}
-use Rattle.hac_top.specs.Crashes.{Holds, IsTreeAfter, Stores}
-
--- all that a crash may leave holds what is on a disk
-pub stands-held : (seen : Option (List ℕ)) (image : List ℕ → Type 0) (setting : Setting) → Stands seen image setting → (c : List ℕ) → image c → held c ≡ Ok setting
-stands-held None image setting stands = absurd stands
-stands-held (Some file) image setting stands = stands
+use Rattle.hac_store.proofs.PutLemmas.{stands-each}
+use Rattle.hac_top.specs.Crashes.{Holds, IsTreeAfter}
+use Rattle.hac_top.specs.Deciding.{storing_turn, turn_with}
+use Rattle.hac_top.specs.Storing.{AnswersLine, StopsAnswer, Stores, StoresTurn, storing_reply}
+use Rattle.hac_top.specs.declared.status.Status.TheVariants.{WriteFault, Memory}
+use Rattle.std.proofs.lemmas.Bool.Decides.{nat_tests}
+use Rattle.std.proofs.lemmas.List.{length-replicate, replicate-append-replicate, take-replicate}
+use Rattle.hac_model.specs.Laws.{AllHappen}
+use Rattle.hac_model.specs.declared.events.Event.TheVariants.{Step}
+use Rattle.hac_model.specs.declared.limits.TheConstants.{STORE_LIMIT}
+use Rattle.hac_model.specs.declared.states.State.{State}
+use Rattle.hac_model.proofs.PlayLemmas.{apply_all-append, end_behind-append}
+use Rattle.hac_store.proofs.RoomLemmas.{end-steps, steps-have-room}
 
 -- nothing of the events has happened
 pub held-before : (setting : Setting) (events : List Event) (c : List ℕ) → held c ≡ Ok setting → Holds (IsTreeAfter setting.state events) c
 held-before setting events c is = record { kept = setting; is = is; state = record { count = 0; within = omega arith; is = refl } }
 
--- all of them
-pub held-after : (setting : Setting) (events : List Event) (c : List ℕ) → held c ≡ Ok (after_events setting events) → Holds (IsTreeAfter setting.state events) c
-held-after setting events c is =
-    record { kept = after_events setting events; is = is; state = record { count = length events; within = omega arith; is = ap (apply_all setting.state) (sym (take-length events)) } }
-
-pub held-between : (setting : Setting) (events : List Event) (c : List ℕ) → HeldBetween setting events c → Holds (IsTreeAfter setting.state events) c
+-- some of them, or all
+held-between : (setting : Setting) (events : List Event) (c : List ℕ) → HeldBetween setting events c → Holds (IsTreeAfter setting.state events) c
 held-between setting events c (inl before) = held-before setting events c before
-held-between setting events c (inr after) = held-after setting events c after
+held-between setting events c (inr after) =
+    record { kept = after_events setting events; is = after; state = record { count = length events; within = omega arith; is = ap (apply_all setting.state) (sym (take-length events)) } }
 
-module _ {D : Type 0} (seen : D → Option (List ℕ)) (image : D → List ℕ → Type 0) (moment : D → ℕ) (image_since : D → ℕ → List ℕ → Type 0) (attached : D → Option (List (List ℕ × Bool))) (faults : D → ℕ) where
+-- the turn that stores events, given whether there is room for them
+pub storing-turn : (setting : Setting) (events : List Event) (room : Bool) → have_room setting events ≡ room → storing_turn setting events ≡ (if room then turn_with setting (Lines []) events else refused setting (Limit Store))
+storing-turn setting events room is = ap (λ (b : Bool). if b then turn_with setting (Lines []) events else refused setting (Limit Store)) is
+
+pub turn-events : (setting : Setting) (events : List Event) → have_room setting events ≡ true → all_events (storing_turn setting events ∷ []) ≡ events
+turn-events setting events room = ap (λ (turn : Turn). all_events (turn ∷ [])) (storing-turn setting events true room) ∙ append-nil (events ++ []) ∙ append-nil events
+
+module _ {D : Type 0} {seen : D → Option (List ℕ)} {image : D → List ℕ → Type 0} {moment : D → ℕ} {image_since : D → ℕ → List ℕ → Type 0} {attached : D → Option (List (List ℕ × Bool))} {faults : D → ℕ}
+    (only_now : (disk : D) (c : List ℕ) → image_since disk (moment disk) c → image disk c) where
   -- the disk isn't touched
-  pub stores-nothing : ((disk : D) (c : List ℕ) → image_since disk (moment disk) c → image disk c) → (disk : D) (setting : Setting) (events : List Event) (failed : Bool) → failed ≡ false →
-      Stores seen image moment image_since attached faults disk disk setting events failed
-  stores-nothing only_now disk setting events failed none =
+  pub stores-nothing : (disk : D) (setting : Setting) (events : List Event) → Stores seen image moment image_since attached faults disk disk setting events false
+  stores-nothing disk setting events =
       record {
         moments = λ stands.
-            started moment image_since disk (Holds (IsTreeAfter setting.state events)) (λ c left. held-before setting events c (stands-held (seen disk) (image disk) setting stands c (only_now disk c left)));
+            started moment image_since disk (Holds (IsTreeAfter setting.state events)) (λ c left. held-before setting events c (stands-each (seen disk) (image disk) setting stands c (only_now disk c left)));
         names = refl;
-        later = omega arith;
-        cause = λ fails. absurd (let never : true ≡ false = sym fails ∙ none in cc);
-        none = λ _. refl;
+        told = refl;
       }
 
-  -- the same disk, said in another way
-  pub stores-same : (old new : D) (setting : Setting) (events others : List Event) (failed other : Bool) → others ≡ events → other ≡ failed →
-      Stores seen image moment image_since attached faults old new setting events failed → Stores seen image moment image_since attached faults old new setting others other
-  stores-same old new setting events others failed other is same stores =
-      subst (λ (b : Bool). Stores seen image moment image_since attached faults old new setting others b) (sym same)
-      (subst (λ (es : List Event). Stores seen image moment image_since attached faults old new setting es failed) (sym is) stores)
+  -- a reply without events
+  pub answers-only : (disk : D) (store : Seen) (reply : Reply) → Bears (seen disk) store → StoresTurn seen image moment image_since attached faults disk disk store store (turn_with store.setting reply []) (Ok reply)
+  answers-only disk store reply place =
+      record { ok = record { reply_is = refl; store = refl; place = place; stands = λ stands. stands }; err = tt; stores = stores-nothing disk store.setting [] }
+
+  -- memory runs out before anything is stored
+  pub stops-first : (disk : D) (store : Seen) (turn : Turn) → StoresTurn seen image moment image_since attached faults disk disk store store turn (Err Memory)
+  stops-first disk store turn = record { ok = tt; err = tt; stores = stores-nothing disk store.setting (all_events (turn ∷ [])) }
+
+  -- the store is full
+  pub full-turn : (disk : D) (store : Seen) (events : List Event) → Bears (seen disk) store → have_room store.setting events ≡ false →
+      StoresTurn seen image moment image_since attached faults disk disk store store (storing_turn store.setting events) (Ok (Refused (Limit Store)))
+  full-turn disk store events place full =
+      subst (λ (turn : Turn). StoresTurn seen image moment image_since attached faults disk disk store store turn (Ok (Refused (Limit Store)))) (sym (storing-turn store.setting events false full))
+      (answers-only disk store (Refused (Limit Store)) place)
+
+  -- a reply that is told once its turn is stored
+  pub stops-told : (old new : D) (setting : Setting) (sink sink_after : SinkSeen) (answered : List Turn) (bytes : List ℕ) (result : Result (Unit {0}) Status) → bytes ≡ told_text answered → Stores seen image moment image_since attached faults old new setting (all_events answered) false →
+      (Stands (seen old) (image old) setting → (c : List ℕ) → image new c → IsHeldAs c (left_by setting answered)) → IfErr result (λ status. StopsTelling status sink sink_after bytes) →
+      IfErr result (StopsAnswer seen image moment image_since attached faults old new setting sink sink_after answered)
+  stops-told old new setting sink sink_after answered bytes (Ok done) same stores stored told = tt
+  stops-told old new setting sink sink_after answered bytes (Err WriteFault) same stores stored told =
+      record { replies = subst (λ (xs : List ℕ). WritesSome sink sink_after xs × TellsFault true sink.faults sink_after.faults) same told; stored = λ _. stored; stores = stores }
+  stops-told old new setting sink sink_after answered bytes (Err Memory) same stores stored told = record { replies = told; stored = λ write. cc; stores = stores }
+  stops-told old new setting sink sink_after answered bytes (Err other) same stores stored told = absurd told
+
+  -- a line that is refused stores nothing
+  pub refused-told : (disk : D) (store now : Seen) (sink sink_after : SinkSeen) (refusal : Refusal) (result : Result (Unit {0}) Status) → now ≡ store → Bears (seen disk) store → Stores seen image moment image_since attached faults disk disk store.setting [] false →
+      OnOk result (Tells sink sink_after (told_text (refused store.setting refusal ∷ []))) → OnOk result (AnswersLine seen image moment image_since attached faults disk disk store now sink sink_after (refused store.setting refusal ∷ []))
+  refused-told disk store now sink sink_after refusal (Ok done) same place stores told =
+      record {
+        replies = told;
+        store = same;
+        place = subst (λ (z : Seen). Bears (seen disk) z) (sym same) place;
+        stands = λ stands. subst (λ (z : Seen). Stands (seen disk) (image disk) z.setting) (sym same) stands;
+        stores = stores;
+      }
+  refused-told disk store now sink sink_after refusal (Err status) same place stores told = tt
 
   -- one call, before and after which the store is held
-  pub stores-once : (old new : D) (setting : Setting) (events : List Event) (failed : Bool) → (Stands (seen old) (image old) setting → LeavesOnly moment image_since old new (HeldBetween setting events)) →
-      attached new ≡ attached old → faults old ≤ faults new → (failed ≡ true → Rose (faults old) (faults new)) → (failed ≡ false → faults new ≡ faults old) → Stores seen image moment image_since attached faults old new setting events failed
-  stores-once old new setting events failed moments same later cause none =
+  once : (old new : D) (before : Seen) (events : List Event) (failed : Bool) → have_room before.setting events ≡ true → (Stands (seen old) (image old) before.setting → LeavesOnly moment image_since old new (HeldBetween before.setting events)) → attached new ≡ attached old →
+      TellsFault failed (faults old) (faults new) → Stores seen image moment image_since attached faults old new before.setting (all_events (storing_turn before.setting events ∷ [])) failed
+  once old new before events failed room moments names told =
       record {
-        moments = λ stands. weaken moment image_since old new (HeldBetween setting events) (Holds (IsTreeAfter setting.state events)) (held-between setting events) (moments stands);
-        names = same;
-        later = later;
-        cause = cause;
-        none = none;
+        moments = λ stands.
+            subst (λ (es : List Event). LeavesOnly moment image_since old new (Holds (IsTreeAfter before.setting.state es))) (sym (turn-events before.setting events room))
+            (weaken moment image_since old new (HeldBetween before.setting events) (Holds (IsTreeAfter before.setting.state events)) (held-between before.setting events) (moments stands));
+        names = names;
+        told = told;
       }
 
-  -- the events that are kept: all, or none where the store is full and nothing was written
-  pub stores-kept : ((disk : D) (c : List ℕ) → image_since disk (moment disk) c → image disk c) → (old new : D) (setting : Setting) (events : List Event) (failed other : Bool) → other ≡ failed →
-      (have_room setting events ≡ false → (new ≡ old) × (failed ≡ false)) → Stores seen image moment image_since attached faults old new setting events failed →
-      Stores seen image moment image_since attached faults old new setting (kept_events setting events) other
-  stores-kept only_now old new setting events failed other is none stores =
-      elim (have_room setting events) as (λ b. have_room setting events ≡ b → Stores seen image moment image_since attached faults old new setting (cond b events []) other) [
-        | true ↦ (λ _. stores-same old new setting events events failed other refl is stores)
-        | false ↦ (λ full.
-            let same = none full in
-            subst (λ (disk : D). Stores seen image moment image_since attached faults old disk setting [] other) (sym same.0) (stores-nothing only_now old setting [] other (is ∙ same.1)))
-      ] refl
-
--- a store that failed, by its disk
-pub disk-cause : {T : Type 0} (result : Result T StoreFault) (R : Type 0) → ((at : ℕ) → result ≡ Err (fault.NotStore at) → ⊥) × (result ≡ Err fault.AlreadyStore → ⊥) → (IsErrOf result fault.Disk → R) → is_disk_fault result ≡ true → R
-disk-cause (Ok value) R kind cause fails = absurd cc
-disk-cause (Err fault.Disk) R kind cause fails = cause refl
-disk-cause (Err (fault.NotStore at)) R kind cause fails = absurd (kind.0 at refl)
-disk-cause (Err fault.AlreadyStore) R kind cause fails = absurd (kind.1 refl)
-disk-cause (Err fault.Full) R kind cause fails = absurd cc
-disk-cause (Err fault.Memory) R kind cause fails = absurd cc
-
--- a store that no disk failed
-pub disk-none : {T : Type 0} (result : Result T StoreFault) (R : Type 0) → ((IsErrOf result fault.Disk → ⊥) → R) → is_disk_fault result ≡ false → R
-disk-none result R none told = none (λ fails. let never : true ≡ false = sym (ap is_disk_fault fails) ∙ told in cc)
+  module _ {old new : D} {before after : Seen} {events : List Event} where
+    pub stores-once : (result : Result (Unit {0}) StoreFault) → Bears (seen old) before → StoresEvents seen image moment image_since attached faults old new before after events result →
+        StoresTurn seen image moment image_since attached faults old new before after (storing_turn before.setting events) (storing_reply result)
+    stores-once (Ok done) place stored =
+        let turn = storing-turn before.setting events true stored.ends.room in
+        record {
+          ok = record {
+            reply_is = ap (λ (t : Turn). t.reply) (sym turn);
+            store = stored.ends.store ∙ ap (λ (t : Turn). record before { setting = t.after }) (sym turn);
+            place = stored.ends.place;
+            stands = stored.stands;
+          };
+          err = tt;
+          stores = once old new before events false stored.ends.room stored.moments stored.names stored.told;
+        }
+    stores-once (Err fault.Full) place stored =
+        subst (λ (store : Seen). StoresTurn seen image moment image_since attached faults old new before store (storing_turn before.setting events) (Ok (Refused (Limit Store)))) (sym stored.ends.1.0)
+        (subst (λ (disk : D). StoresTurn seen image moment image_since attached faults old disk before before (storing_turn before.setting events) (Ok (Refused (Limit Store)))) (sym stored.ends.1.1)
+        (full-turn old before events place stored.ends.0))
+    stores-once (Err fault.Memory) place stored =
+        subst (λ (store : Seen). StoresTurn seen image moment image_since attached faults old new before store (storing_turn before.setting events) (Err Memory)) (sym stored.ends.0)
+        (subst (λ (disk : D). StoresTurn seen image moment image_since attached faults old disk before before (storing_turn before.setting events) (Err Memory)) (sym stored.ends.1)
+        (stops-first old before (storing_turn before.setting events)))
+    stores-once (Err fault.Disk) place stored = record { ok = tt; err = tt; stores = once old new before events true stored.ends.0 stored.moments stored.names stored.told }
+    stores-once (Err (fault.NotStore at)) place stored = absurd stored.ends
+    stores-once (Err fault.AlreadyStore) place stored = absurd stored.ends
 
 -- a count that rose since a later moment rose since an earlier one
-pub rose-since : (a b c : ℕ) → a ≤ b → Rose b c → Rose a c
-rose-since a b c later rose = omega (arith, later, rose)
+pub told-since : (failed : Bool) (a b c : ℕ) → b ≡ a → TellsFault failed b c → TellsFault failed a c
+told-since failed a b c same told = subst (λ (n : ℕ). TellsFault failed n c) same told
 
--- a store that is full, or without memory, isn't failed by the disk
-pub no-disk-fault : {T : Type 0} (result : Result T StoreFault) → (IsErrOf result fault.Full ⊎ IsErrOf result fault.Memory) → is_disk_fault result ≡ false
-no-disk-fault result (inl full) = ap is_disk_fault full
-no-disk-fault result (inr memory) = ap is_disk_fault memory
+-- Index steps that are stored in parts.
 
--- want of memory isn't a failure of the disk
-pub no-disk-stop : {T : Type 0} (result : Result T Stop) (stop : Stop) → result ≡ Err stop → stop ≡ Memory → is_disk_stop result ≡ false
-no-disk-stop result stop is memory = ap is_disk_stop (is ∙ ap Err memory)
+abbrev pub steps : ℕ → List Event
+steps count = replicate count Step
+
+-- what steps lead to, and then more steps, all of them lead to
+after-steps : (setting : Setting) (n m : ℕ) → after_events (after_events setting (steps n)) (steps m) ≡ after_events setting (steps (n + m))
+after-steps setting n m = λ i. record setting {
+  state = (sym (apply_all-append (steps n) (steps m) setting.state) ∙ ap (apply_all setting.state) (replicate-append-replicate n m Step)) i;
+  end = (sym (end_behind-append (steps n) (steps m) setting.end) ∙ ap (end_behind setting.end) (replicate-append-replicate n m Step)) i;
+}
+
+-- those behind the first of some steps can happen once these have
+happen-behind : (s : State) (n m k : ℕ) → n + m ≤ k → AllHappen s (steps k) → AllHappen (apply_all s (steps n)) (steps m)
+happen-behind s zero zero k few happen = tt
+happen-behind s zero (suc m) zero few happen = absurd (omega (arith, few))
+happen-behind s zero (suc m) (suc k) few happen = (happen.0, happen-behind (apply s Step) zero m k (omega (arith, few)) happen.1)
+happen-behind s (suc n) m zero few happen = absurd (omega (arith, few))
+happen-behind s (suc n) m (suc k) few happen = happen-behind (apply s Step) n m k (omega (arith, few)) happen.1
+
+-- the first of some steps, as a tree after all
+part-tree : (s : State) (n k : ℕ) → n ≤ k → IsTreeAfter s (steps k) (apply_all s (steps n))
+part-tree s n k few = record { count = n; within = omega (arith, few, length-replicate k Step); is = ap (apply_all s) (sym (take-replicate n k Step few)) }
+
+-- the steps of one part are some of all, where they happen behind the first ones
+part-held : (setting : Setting) (done batch count : ℕ) (c : List ℕ) → done + batch ≤ count → HeldBetween (after_events setting (steps done)) (steps batch) c → Holds (IsTreeAfter setting.state (steps count)) c
+part-held setting done batch count c few (inl before) = record { kept = after_events setting (steps done); is = before; state = part-tree setting.state done count (omega (arith, few)) }
+part-held setting done batch count c few (inr after) =
+    record {
+      kept = after_events setting (steps (done + batch));
+      is = after ∙ ap Ok (after-steps setting done batch);
+      state = part-tree setting.state (done + batch) count few;
+    }
+
+-- the tree after some of the events of the turn that stores steps
+abbrev HoldsSome : Setting → ℕ → List ℕ → Type 0
+HoldsSome setting count c = Holds (IsTreeAfter setting.state (all_events (storing_turn setting (steps count) ∷ []))) c
+
+-- where all steps have room, so does a part behind the first ones
+part-room : (end done batch count : ℕ) → done + batch ≤ count → 0 < batch → fit_behind end count 2 ≡ true → fit_behind (end_behind end (steps done)) batch 2 ≡ true
+part-room end done batch count few some fits =
+    let at : end_behind end (steps done) ≡ end + done * 7 = end-steps done end in
+    let more : (count == 0) ≡ false = grind (arith, nat_tests, few, some) in
+    let below : end + count * 7 < STORE_LIMIT = grind (arith, nat_tests, fits, more) in
+    grind (arith, nat_tests, at, below, few)
+
+-- of all steps, for which there is room, the first ones have happened; a crash since then leaves some of all
+pub record Stepped {D : Type 0} (seen : D → Option (List ℕ)) (image : D → List ℕ → Type 0) (moment : D → ℕ) (image_since : D → ℕ → List ℕ → Type 0) (attached : D → Option (List (List ℕ × Bool))) (faults : D → ℕ) (old now : D) (first store : Seen) (done count : ℕ) : Type 0 where
+  pub room : fit_behind first.setting.end count 2 ≡ true
+  pub store_is : store ≡ store_after first (steps done)
+  pub place : Bears (seen now) store
+  pub stands : Stands (seen old) (image old) first.setting → Stands (seen now) (image now) store.setting
+  pub moments : Stands (seen old) (image old) first.setting → LeavesOnly moment image_since old now (HoldsSome first.setting count)
+  pub names : attached now ≡ attached old
+  pub quiet : faults now ≡ faults old
+
+module _ {D : Type 0} {seen : D → Option (List ℕ)} {image : D → List ℕ → Type 0} {moment : D → ℕ} {image_since : D → ℕ → List ℕ → Type 0} {attached : D → Option (List (List ℕ × Bool))} {faults : D → ℕ} where
+  -- none has happened yet
+  pub none-stepped : ((disk : D) (c : List ℕ) → image_since disk (moment disk) c → image disk c) → (disk : D) (first : Seen) (done count : ℕ) → done ≡ 0 → fit_behind first.setting.end count 2 ≡ true → Bears (seen disk) first → Stepped seen image moment image_since attached faults disk disk first first done count
+  none-stepped only_now disk first done count none room place =
+      let events = all_events (storing_turn first.setting (steps count) ∷ []) in
+      let nothing : Stores seen image moment image_since attached faults disk disk first.setting events false = stores-nothing only_now disk first.setting events in
+      record {
+        room = room;
+        store_is = ap (λ (n : ℕ). store_after first (steps n)) (sym none);
+        place = place;
+        stands = λ stands. stands;
+        moments = nothing.moments;
+        names = refl;
+        quiet = refl;
+      }
+
+  module _ {old now : D} {first store : Seen} {done count : ℕ} (was : Stepped seen image moment image_since attached faults old now first store done count) where
+    pub part-happens : (batch : ℕ) → done + batch ≤ count → AllHappen first.setting.state (steps count) → AllHappen store.setting.state (steps batch)
+    part-happens batch few happen =
+        subst (λ (z : Seen). AllHappen z.setting.state (steps batch)) (sym was.store_is) (happen-behind first.setting.state done batch count few happen)
+
+    -- all have happened
+    pub all-stepped : done ≡ count → StoresTurn seen image moment image_since attached faults old now first store (storing_turn first.setting (steps count)) (storing_reply (Ok tt))
+    all-stepped all =
+        let room : have_room first.setting (steps count) ≡ true = steps-have-room first.setting count ∙ was.room in
+        let turn = storing-turn first.setting (steps count) true room in
+        record {
+          ok = record {
+            reply_is = ap (λ (t : Turn). t.reply) (sym turn);
+            store = was.store_is ∙ ap (λ (n : ℕ). store_after first (steps n)) all ∙ ap (λ (t : Turn). record first { setting = t.after }) (sym turn);
+            place = was.place;
+            stands = was.stands;
+          };
+          err = tt;
+          stores = record { moments = was.moments; names = was.names; told = was.quiet };
+        }
+
+    module _ {new : D} {after : Seen} (batch : ℕ) (few : done + batch ≤ count) where
+      part-moments : (result : Result (Unit {0}) StoreFault) → StoresEvents seen image moment image_since attached faults now new store after (steps batch) result → Stands (seen old) (image old) first.setting → LeavesOnly moment image_since old new (HoldsSome first.setting count)
+      part-moments result stored stands =
+          then_run moment image_since old now new (HoldsSome first.setting count) (was.moments stands)
+          (weaken moment image_since now new (HeldBetween store.setting (steps batch)) (HoldsSome first.setting count)
+          (λ c between.
+          subst (λ (es : List Event). Holds (IsTreeAfter first.setting.state es) c) (sym (turn-events first.setting (steps count) (steps-have-room first.setting count ∙ was.room)))
+          (part-held first.setting done batch count c few (subst (λ (z : Seen). HeldBetween z.setting (steps batch) c) was.store_is between))) (stored.moments (was.stands stands)))
+
+      -- one part more
+      pub part-stepped : StoresEvents seen image moment image_since attached faults now new store after (steps batch) (Ok tt) → (next : ℕ) → done + batch ≡ next → Stepped seen image moment image_since attached faults old new first after next count
+      part-stepped stored next is =
+          record {
+            room = was.room;
+            store_is = stored.ends.store ∙ ap (λ (z : Seen). store_after z (steps batch)) was.store_is ∙ ap (λ (z : Setting). record first { setting = z }) (after-steps first.setting done batch ∙ ap (λ (n : ℕ). after_events first.setting (steps n)) is);
+            place = stored.ends.place;
+            stands = λ stands. stored.stands (was.stands stands);
+            moments = part-moments (Ok tt) stored;
+            names = stored.names ∙ was.names;
+            quiet = stored.told ∙ was.quiet;
+          }
+
+      stopped : (failed : Bool) (reason : StoreFault) → StoresEvents seen image moment image_since attached faults now new store after (steps batch) (Err reason) → TellsFault failed (faults now) (faults new) →
+          Stores seen image moment image_since attached faults old new first.setting (all_events (storing_turn first.setting (steps count) ∷ [])) failed
+      stopped failed reason stored told =
+          record { moments = part-moments (Err reason) stored; names = stored.names ∙ was.names; told = told-since failed (faults old) (faults now) (faults new) was.quiet told }
+
+      -- or none, and then the disk failed or memory ran out, as there is room for all
+      pub part-stopped : 0 < batch → (reason : StoreFault) → StoresEvents seen image moment image_since attached faults now new store after (steps batch) (Err reason) →
+          StoresTurn seen image moment image_since attached faults old new first after (storing_turn first.setting (steps count)) (storing_reply (Err reason))
+      part-stopped some fault.Disk stored = record { ok = tt; err = tt; stores = stopped true fault.Disk stored stored.told }
+      part-stopped some fault.Memory stored = record { ok = tt; err = tt; stores = stopped false fault.Memory stored stored.told }
+      part-stopped some fault.Full stored =
+          let fits : fit_behind store.setting.end batch 2 ≡ true =
+          subst (λ (z : Seen). fit_behind z.setting.end batch 2 ≡ true) (sym was.store_is) (part-room first.setting.end done batch count few some was.room) in
+          let never : false ≡ true = sym stored.ends.0 ∙ steps-have-room store.setting batch ∙ fits in
+          absurd cc
+      part-stopped some (fault.NotStore at) stored = absurd stored.ends
+      part-stopped some fault.AlreadyStore stored = absurd stored.ends

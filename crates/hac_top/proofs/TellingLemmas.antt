@@ -1,19 +1,51 @@
 -- The replies to some turns that were written, whole and in part.
-use Rattle.std.proofs.Common.{◌≡◌, ℕ, ◌-◌, ◌<◌, ◌≤◌, true, false, List, [], ◌∷◌, ◌++◌, length, take, drop, refl, ap, sym, ◌∙◌, arith, append_assoc, length-append, append-nil, length-drop, subst, inl, inr}
-use Rattle.std.specs.Prelude.{◌⊎◌, codes, nat_le}
+use Rattle.std.proofs.Common.{◌≡◌, ℕ, ◌-◌, ◌<◌, ◌≤◌, true, false, List, [], ◌∷◌, ◌++◌, length, take, drop, refl, ap, sym, ◌∙◌, arith, append_assoc, length-append, append-nil, length-drop, subst, inl, inr, rules, Option, Some, None}
+use Rattle.std.specs.Prelude.{◌⊎◌, codes, nat_le, Result, Ok, Err, OnErr}
 use Rattle.std.specs.List.{flat_map}
-use Rattle.std.specs.Io.KnownBytes.{Appends}
-use Rattle.std.proofs.Math.Seq.{take-append_seam, drop-append_seam}
+use Rattle.std.specs.Io.KnownBytes.{Appends, Keeps}
+use Rattle.std.proofs.Math.Seq.{take-append_seam, take-length, drop-append_seam}
 use Rattle.std.proofs.lemmas.Grind.{common_steps}
 use Rattle.std.proofs.lemmas.List.{take-append-drop, take_all}
-use Rattle.hac_outside.specs.Seen.{SinkSeen, Writes}
+use Rattle.hac_outside.specs.Seen.{SinkSeen, Writes, WritesSome}
 use Rattle.hac_model.specs.declared.replies.Reply.{Reply}
 use Rattle.hac_model.specs.declared.replies.Reply.TheVariants as reply
 use Rattle.hac_model.specs.Run.Play.{Turn, turns}
 use Rattle.hac_model.specs.Script.Printed.{ended, refusal_text, reply_text}
 use Rattle.hac_top.specs.Told.{IsBeginning, Told, last_written, told_text}
 use Rattle.hac_store.specs.Held.{held}
-use Rattle.hac_top.proofs.WrittenLemmas.{appends-then}
+use Rattle.hac_top.specs.Run.{AppendsSome}
+
+-- bytes and then more bytes are all of them
+pub appends-then : (a b c : Option (List ℕ)) (xs ys : List ℕ) → Appends a b xs → Appends b c ys → Appends a c (xs ++ ys)
+appends-then None b c xs ys first second = search rules
+appends-then (Some x) None c xs ys first second = absurd first
+appends-then (Some x) (Some y) None xs ys first second = absurd second
+appends-then (Some x) (Some y) (Some z) xs ys first second = second ∙ ap (λ (all : List ℕ). all ++ ys) first ∙ append_assoc x xs ys
+
+-- a sink that keeps what it holds holds no less
+pub appends-keeps : (a b c : Option (List ℕ)) (bytes : List ℕ) → Appends a b bytes → Keeps b c → Appends a c bytes
+appends-keeps None b c bytes first second = search rules
+appends-keeps (Some x) None c bytes first second = absurd first
+appends-keeps (Some x) (Some y) None bytes first second = absurd second
+appends-keeps (Some x) (Some y) (Some z) bytes first second = second ∙ first
+
+-- nothing was written
+pub appends-nothing : (a : Option (List ℕ)) → Appends a a []
+appends-nothing None = search rules
+appends-nothing (Some x) = sym (append-nil x)
+
+-- all bytes were written, and the flush failed or not
+pub some-flushed : {E : Type 0} (result : Result (Unit {0}) E) (a b c : SinkSeen) (bytes : List ℕ) → Writes a b bytes → Keeps b.written c.written → c.held_back ≤ b.held_back → OnErr result (WritesSome a c bytes)
+some-flushed (Ok done) a b c bytes writes keeps less = search rules
+some-flushed (Err fault) a b c bytes writes keeps less =
+    record {
+      count = length bytes;
+      within = omega arith;
+      front = subst (λ (xs : List ℕ). Writes a c xs) (sym (take-length bytes)) (record { written = appends-keeps a.written b.written c.written bytes writes.written keeps; held = omega (arith, writes.held, less) });
+    }
+
+pub some-all : (a b : Option (List ℕ)) (bytes : List ℕ) → Appends a b bytes → AppendsSome a b bytes
+some-all a b bytes all = (length bytes, subst (λ (xs : List ℕ). Appends a b xs) (sym (take-length bytes)) all)
 
 pub text-append : (xs ys : List Turn) → told_text (xs ++ ys) ≡ told_text xs ++ told_text ys
 text-append [] ys = refl
@@ -55,70 +87,60 @@ last-turn done turn =
     ap (λ (n : ℕ). drop n (done ++ turn ∷ [])) count ∙ drop-append_seam done (turn ∷ [])
 
 -- a run that stops while it writes what comes behind the answered turns
-pub record StopsTelling (all done now : List Turn) (before after : SinkSeen) (count : ℕ) : Type 0 where
+pub record StopsWithin (all done now : List Turn) (before after : SinkSeen) : Type 0 where
   pub told : Told all before after
   pub front : (k : ℕ) × (take told.done all ≡ done ++ take k now)
-  pub whole : count ≡ 0 → told.cut ≡ []
   -- none of them was written whole, or all, which is one at most
   pub place : (told.done ≡ length done) ⊎ (told.done ≡ length (done ++ now))
-  pub none : count ≡ 0 → told.done ≡ length done
 
 begins : (cut : List ℕ) (turns rest : List Turn) (turn : Turn) (more : List ℕ) → turns ≡ turn ∷ rest → 0 < length more → reply_text turn.reply ≡ cut ++ more → IsBeginning cut turns
 begins cut turns rest turn more is some text_is = subst (λ (ts : List Turn). IsBeginning cut ts) (sym is) (more, some, text_is)
 
-pub stops-telling : (all done now rest : List Turn) (before mid after : SinkSeen) (count : ℕ) → all ≡ done ++ (now ++ rest) → length now ≤ 1 → Appends before.written mid.written (told_text done) →
-    (before.held_back ≡ 0 → mid.held_back ≡ 0) → count ≤ length (told_text now) → Writes mid after (take count (told_text now)) → StopsTelling all done now before after count
-stops-telling all done [] rest before mid after count is few written passed within writes =
-    let nothing : take count (told_text []) ≡ [] = take_all count (told_text []) (omega arith) in
-    let same : told_text done ++ take count (told_text []) ≡ told_text done = ap (λ (xs : List ℕ). told_text done ++ xs) nothing ∙ append-nil (told_text done) in
-    let all_written : Appends before.written after.written (told_text done) =
-    subst (λ (xs : List ℕ). Appends before.written after.written xs) same (appends-then before.written mid.written after.written (told_text done) (take count (told_text [])) written writes.written) in
-    record {
-      told = told-whole all done rest before after is all_written (λ none. omega (arith, passed none, writes.held, ap length nothing));
-      front = (0, front-turns all done rest is ∙ sym (append-nil done));
-      whole = λ _. refl;
-      place = inl refl;
-      none = λ _. refl;
-    }
-stops-telling all done (turn ∷ []) rest before mid after count is few written passed within writes =
+-- the last of what was written is no shorter than the text of one turn
+last-text : (done now : List Turn) → length now ≤ 1 → length (told_text now) ≤ length (last_written [] (done ++ now))
+last-text done [] few = omega arith
+last-text done (turn ∷ []) few = omega (arith, ap (λ (ts : List Turn). length (told_text ts)) (last-turn done turn))
+last-text done (turn ∷ other ∷ now) few = absurd (omega (arith, few))
+
+-- some bytes of one reply were written, and not all
+cut-within : (all done now rest : List Turn) (before mid after : SinkSeen) (count : ℕ) → all ≡ done ++ (now ++ rest) → length now ≤ 1 → Appends before.written mid.written (told_text done) →
+    (before.held_back ≡ 0 → mid.held_back ≡ 0) → count < length (told_text now) → Writes mid after (take count (told_text now)) → StopsWithin all done now before after
+cut-within all done [] rest before mid after count is few written passed fewer writes = absurd (omega (arith, fewer))
+cut-within all done (turn ∷ other ∷ now) rest before mid after count is few written passed fewer writes = absurd (omega (arith, few))
+cut-within all done (turn ∷ []) rest before mid after count is few written passed fewer writes =
     let text_is : told_text (turn ∷ []) ≡ reply_text turn.reply = append-nil (reply_text turn.reply) in
-    elim (nat_le (length (told_text (turn ∷ []))) count) as (λ b. nat_le (length (told_text (turn ∷ []))) count ≡ b → StopsTelling all done (turn ∷ []) before after count) [
+    let rest_is : drop (length done) all ≡ turn ∷ rest = ap (λ (ts : List Turn). drop (length done) ts) is ∙ drop-append_seam done (turn ∷ rest) in
+    record {
+      told = record {
+        done = length done;
+        within = omega (arith, ap length is, length-append done (turn ∷ rest));
+        cut = take count (told_text (turn ∷ []));
+        short =
+            begins (take count (told_text (turn ∷ []))) (drop (length done) all) rest turn (drop count (told_text (turn ∷ []))) rest_is (omega (arith, length-drop count (told_text (turn ∷ [])), fewer))
+            (sym text_is ∙ sym (take-append-drop count (told_text (turn ∷ []))));
+        written =
+            subst (λ (ts : List Turn). Appends before.written after.written (told_text ts ++ take count (told_text (turn ∷ [])))) (sym (front-turns all done (turn ∷ rest) is))
+            (appends-then before.written mid.written after.written (told_text done) (take count (told_text (turn ∷ []))) written writes.written);
+        held = λ none. omega (arith, passed none, writes.held, no-less (take count (told_text (turn ∷ []))) (take (length done) all));
+      };
+      front = (0, front-turns all done (turn ∷ rest) is ∙ sym (append-nil done));
+      place = inl refl;
+    }
+
+pub cuts-telling : (all done now rest : List Turn) (before mid after : SinkSeen) (count : ℕ) → all ≡ done ++ (now ++ rest) → length now ≤ 1 → Appends before.written mid.written (told_text done) →
+    (before.held_back ≡ 0 → mid.held_back ≡ 0) → Writes mid after (take count (told_text now)) → StopsWithin all done now before after
+cuts-telling all done now rest before mid after count is few written passed writes =
+    elim (nat_le (length (told_text now)) count) as (λ b. nat_le (length (told_text now)) count ≡ b → StopsWithin all done now before after) [
       | true ↦ (λ test.
-          let enough : length (told_text (turn ∷ [])) ≤ count = grind (arith, common_steps, test) in
-          let whole_text : take count (told_text (turn ∷ [])) ≡ told_text (turn ∷ []) = take_all count (told_text (turn ∷ [])) enough in
-          let more = done ++ turn ∷ [] in
-          let all_is : all ≡ (done ++ turn ∷ []) ++ rest = is ∙ sym (append_assoc done (turn ∷ []) rest) in
-          let told_is : told_text done ++ take count (told_text (turn ∷ [])) ≡ told_text (done ++ turn ∷ []) = ap (λ (xs : List ℕ). told_text done ++ xs) whole_text ∙ sym (text-append done (turn ∷ [])) in
-          let all_written : Appends before.written after.written (told_text (done ++ turn ∷ [])) =
-          subst (λ (xs : List ℕ). Appends before.written after.written xs) told_is (appends-then before.written mid.written after.written (told_text done) (take count (told_text (turn ∷ []))) written writes.written) in
-          let last_is : length (last_written [] (done ++ turn ∷ [])) ≡ length (told_text (turn ∷ [])) = ap (λ (ts : List Turn). length (told_text ts)) (last-turn done turn) in
+          let whole_text : take count (told_text now) ≡ told_text now = take_all count (told_text now) (grind (arith, common_steps, test)) in
+          let all_is : all ≡ (done ++ now) ++ rest = is ∙ sym (append_assoc done now rest) in
+          let all_written : Appends before.written after.written (told_text (done ++ now)) =
+          subst (λ (xs : List ℕ). Appends before.written after.written xs) (ap (λ (xs : List ℕ). told_text done ++ xs) whole_text ∙ sym (text-append done now))
+          (appends-then before.written mid.written after.written (told_text done) (take count (told_text now)) written writes.written) in
           record {
-            told = told-whole all more rest before after all_is all_written (λ none. omega (arith, passed none, writes.held, ap length whole_text, last_is));
-            front = (1, front-turns all more rest all_is);
-            whole = λ _. refl;
+            told = told-whole all (done ++ now) rest before after all_is all_written (λ none. omega (arith, passed none, writes.held, ap length whole_text, last-text done now few));
+            front = (length now, front-turns all (done ++ now) rest all_is ∙ ap (λ (ts : List Turn). done ++ ts) (sym (take-length now)));
             place = inr refl;
-            none = λ none. absurd (omega (arith, none, enough, ap length text_is, text-some turn.reply));
           })
-      | false ↦ (λ test.
-          let fewer : count < length (told_text (turn ∷ [])) = grind (arith, common_steps, test) in
-          let cut = take count (told_text (turn ∷ [])) in
-          let behind = drop count (told_text (turn ∷ [])) in
-          let rest_is : drop (length done) all ≡ turn ∷ rest = ap (λ (ts : List Turn). drop (length done) ts) is ∙ drop-append_seam done (turn ∷ rest) in
-          record {
-            told = record {
-              done = length done;
-              within = omega (arith, ap length is, length-append done (turn ∷ rest));
-              cut = take count (told_text (turn ∷ []));
-              short = begins cut (drop (length done) all) rest turn behind rest_is (omega (arith, length-drop count (told_text (turn ∷ [])), fewer)) (sym text_is ∙ sym (take-append-drop count (told_text (turn ∷ []))));
-              written =
-                  subst (λ (ts : List Turn). Appends before.written after.written (told_text ts ++ take count (told_text (turn ∷ [])))) (sym (front-turns all done (turn ∷ rest) is))
-                  (appends-then before.written mid.written after.written (told_text done) (take count (told_text (turn ∷ []))) written writes.written);
-              held = λ none. omega (arith, passed none, writes.held, no-less cut (take (length done) all));
-            };
-            front = (0, front-turns all done (turn ∷ rest) is ∙ sym (append-nil done));
-            whole = λ none. ap (λ (n : ℕ). take n (told_text (turn ∷ []))) none;
-            place = inl refl;
-            none = λ _. refl;
-          })
+      | false ↦ (λ test. cut-within all done now rest before mid after count is few written passed (grind (arith, common_steps, test)) writes)
     ] refl
-stops-telling all done (turn ∷ other ∷ now) rest before mid after count is few written passed within writes = absurd (omega (arith, few))

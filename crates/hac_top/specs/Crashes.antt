@@ -1,16 +1,13 @@
 -- What a crash leaves of the store in which a run keeps its tree.
-use Rattle.std.specs.Prelude.{◌≡◌, ◌⊎◌, ⊤, ℕ, suc, ◌<◌, ◌≤◌, Bool, true, false, List, length, take, Result, Ok, Err}
-use Rattle.std.specs.declared.option.Option.{Option}
-use Rattle.hac_disk.specs.Images.{LeavesOnly}
-use Rattle.hac_outside.specs.Causes.{Rose}
+use Rattle.std.specs.Prelude.{◌≡◌, ⊤, ℕ, suc, ◌<◌, ◌≤◌, Bool, true, false, List, length, take, Result, Ok, Err}
 use Rattle.hac_model.specs.Tree.Events.{apply_all}
 use Rattle.hac_model.specs.Run.Play.{Setting, Turn, all_events, events_before, new_setting, tree_after}
 use Rattle.hac_model.specs.declared.events.Event.{Event}
 use Rattle.hac_model.specs.declared.states.State.{State}
 use Rattle.hac_store.specs.Held.{held}
-use Rattle.hac_store.specs.Stores.{Seen, Stands}
+use Rattle.hac_store.specs.Stores.{Seen}
 use Rattle.hac_store.specs.declared.fault.StoreFault.{StoreFault}
-use Rattle.hac_store.specs.declared.fault.StoreFault.TheVariants as fault
+use Rattle.hac_top.specs.Ends.{store_status}
 use Rattle.hac_top.specs.declared.status.Status.{Status}
 use Rattle.hac_top.specs.declared.status.Status.TheVariants.{DiskFault, NotStore, Memory, AlreadyStore}
 
@@ -33,21 +30,16 @@ abbrev pub IsOpened : Result Seen Status → Result Setting Status → Type 0
 IsOpened (Ok store) wanted = wanted ≡ Ok store.setting
 IsOpened (Err status) wanted = TellsFile status → wanted ≡ Err status
 
--- the status of a run whose store isn't opened
-abbrev pub opening_status : StoreFault → Status
-opening_status fault.Disk = DiskFault
-opening_status (fault.NotStore at) = NotStore at
-opening_status fault.AlreadyStore = AlreadyStore
-opening_status fault.Full = Memory
-opening_status fault.Memory = Memory
-
+-- the same answer with the fault of a store as a status
 abbrev pub opening_result : Result Seen StoreFault → Result Seen Status
 opening_result (Ok store) = Ok store
-opening_result (Err fault) = Err (opening_status fault)
+opening_result (Err fault) = Err (store_status fault)
 
--- that status: it says what the file holds, or that a call failed
+-- a store isn't opened where the file holds something else, or where a call fails
 abbrev pub StopsOpening : Status → Type 0
-StopsOpening status = (status ≡ DiskFault) ⊎ ((status ≡ Memory) ⊎ TellsFile status)
+StopsOpening DiskFault = ⊤
+StopsOpening Memory = ⊤
+StopsOpening status = TellsFile status
 
 -- the state after some of these events, the first ones in order
 pub record IsTreeAfter (s : State) (events : List Event) (now : State) : Type 0 where
@@ -74,16 +66,3 @@ pub record IsTreeOfAnswered (s : State) (turns : List Turn) (done : ℕ) (now : 
   pub is : now ≡ tree_after count s turns
   pub answered : events_before done turns ≤ count
   pub no_further : done < length turns → count ≤ events_before (suc done) turns
-
--- What became of the disk while a store went on by events: a crash at any moment leaves the tree after some of them,
--- and its count of faults rose where a call of the disk failed, and there alone.
-pub record Stores {D : Type 0} (seen : D → Option (List ℕ)) (image : D → List ℕ → Type 0)
-    (moment : D → ℕ) (image_since : D → ℕ → List ℕ → Type 0)
-    (attached : D → Option (List (List ℕ × Bool))) (faults : D → ℕ) (old new : D)
-    (setting : Setting) (events : List Event) (failed : Bool) : Type 0 where
-  pub moments : Stands (seen old) (image old) setting →
-      LeavesOnly moment image_since old new (Holds (IsTreeAfter setting.state events))
-  pub names : attached new ≡ attached old
-  pub later : faults old ≤ faults new
-  pub cause : failed ≡ true → Rose (faults old) (faults new)
-  pub none : failed ≡ false → faults new ≡ faults old

@@ -1,39 +1,43 @@
 -- What is decided about a line before the store is touched.
-use Rattle.std.specs.Prelude.{◌≡◌, List, [], IsErr, Result, Ok}
-use Rattle.hac_core.specs.Settling.{settled_events}
-use Rattle.hac_model.specs.Laws.{AllHappen}
-use Rattle.hac_model.specs.Run.Play.{Setting, Turn, after_events}
+use Rattle.std.specs.Prelude.{◌≡◌, ⊤, if◌then◌else◌, List, [], IsErr, Result, Ok}
+use Rattle.hac_core.specs.Drafts.{CanSettle, settled_events}
+use Rattle.hac_model.specs.Run.Play.{Setting, Turn, after_events, have_room, refused}
 use Rattle.hac_model.specs.declared.events.Event.{Event}
+use Rattle.hac_model.specs.declared.limits.LimitWord.TheVariants.{Store}
 use Rattle.hac_model.specs.declared.memory.Memory.{Memory}
 use Rattle.hac_model.specs.declared.replies.Deny.{Deny}
 use Rattle.hac_model.specs.declared.replies.Deny.TheVariants as deny
+use Rattle.hac_model.specs.declared.replies.Refusal.TheVariants.{Limit}
 use Rattle.hac_model.specs.declared.replies.Reply.{Reply}
-use Rattle.hac_model.specs.declared.replies.Reply.TheVariants.{Refused}
+use Rattle.hac_model.specs.declared.replies.Reply.TheVariants.{Lines, Refused}
 use Rattle.hac_model.specs.declared.states.State.{State}
-use Rattle.hac_top.specs.Obeying.{kept_events, kept_reply}
 use Rattle.hac_top.specs.declared.deciding.Decision.{Decision}
 use Rattle.hac_top.specs.declared.deciding.Decision.TheVariants.{Answer, Change}
 
--- a turn that gives this reply, and changes nothing
-pub record OnlyAnswers (turn : Turn) (setting : Setting) (shown : Reply) : Type 0 where
-  pub reply : turn.reply ≡ shown
-  pub events : turn.events ≡ []
-  pub after : turn.after ≡ setting
+-- a turn that gives this reply, stores these events, and has no index steps behind it
+abbrev pub turn_with : Setting → Reply → List Event → Turn
+turn_with setting reply events = record { reply = reply; events = events; steps = []; after = after_events setting events }
 
--- a turn that stores these events, or is refused where the store has no room for them
-pub record KeepsEvents (turn : Turn) (setting : Setting) (made : List Event) : Type 0 where
-  pub reply : turn.reply ≡ kept_reply setting made
-  pub events : turn.events ≡ kept_events setting made
-  pub after : turn.after ≡ after_events setting (kept_events setting made)
+-- the turn that stores events, or is refused where the store has no room for them
+abbrev pub storing_turn : Setting → List Event → Turn
+storing_turn setting events = if have_room setting events then turn_with setting (Lines []) events else refused setting (Limit Store)
 
--- what the turn of any store with this state does
-abbrev pub Decides : State → (Setting → Turn) → Decision → Type 0
-Decides s turn (Answer shown) = (setting : Setting) → setting.state ≡ s → OnlyAnswers (turn setting) setting shown
-Decides s turn (Change settled) =
-    AllHappen s (settled_events settled)
-    × ((setting : Setting) → setting.state ≡ s → KeepsEvents (turn setting) setting (settled_events settled))
+-- the turn that a decision leads to
+abbrev pub decided_turn : Setting → Decision → Turn
+decided_turn setting (Answer reply) = turn_with setting reply []
+decided_turn setting (Change settled) = storing_turn setting (settled_events settled)
 
--- what is denied is refused, and only a want of memory has no reply
+-- the events that are to be stored can happen
+abbrev pub CanHappen : State → Decision → Type 0
+CanHappen s (Answer reply) = ⊤
+CanHappen s (Change settled) = CanSettle s settled
+
+-- the decision leads to the turn of any store with this state
+pub record Decides (s : State) (turn : Setting → Turn) (decision : Decision) : Type 0 where
+  pub happen : CanHappen s decision
+  pub leads : (setting : Setting) → setting.state ≡ s → turn setting ≡ decided_turn setting decision
+
+-- what is denied is refused, and there is no reply only if memory ran out
 abbrev pub IsDenial : Deny → Result Decision Memory → Type 0
 IsDenial (deny.Refused refusal) result = result ≡ Ok (Answer (Refused refusal))
 IsDenial deny.Memory result = IsErr result

@@ -1,7 +1,9 @@
 -- The statuses of a run.
-use Rattle.std.specs.Prelude.{◌≡◌, ◌⊎◌, ℕ, Bool, true, false, if◌then◌else◌, Result, Ok, Err}
-use Rattle.hac_top.specs.declared.stops.Stop.{Stop}
-use Rattle.hac_top.specs.declared.stops.Stop.TheVariants as stop
+use Rattle.std.specs.Prelude.{ℕ, Bool, true, false, ⊤, if◌then◌else◌, Result, Ok, Err}
+use Rattle.hac_store.specs.declared.fault.StoreFault.{StoreFault}
+use Rattle.hac_store.specs.declared.fault.StoreFault.TheVariants as store
+use Rattle.shell_lang.specs.declared.reading.LineFault.{LineFault}
+use Rattle.shell_lang.specs.declared.reading.LineFault.TheVariants as line
 use Rattle.hac_top.specs.declared.status.Status.{Status}
 use Rattle.hac_top.specs.declared.status.Status.TheVariants.{Done, SomeRefused, Usage, ReadFault, WriteFault, DiskFault, NotStore, Memory, TooLong, AlreadyStore}
 
@@ -21,22 +23,37 @@ status_number AlreadyStore = 10
 abbrev pub finished_status : Bool → Status
 finished_status refused = if refused then SomeRefused else Done
 
--- the status of a run that stopped
-abbrev pub stopped_status : Stop → Status
-stopped_status stop.ReadFault = ReadFault
-stopped_status stop.WriteFault = WriteFault
-stopped_status stop.DiskFault = DiskFault
-stopped_status stop.Memory = Memory
-stopped_status stop.TooLong = TooLong
-
 -- the status of a run, given whether some command was refused, or why it stopped
-abbrev pub end_status : Result Bool Stop → Status
+abbrev pub end_status : Result Bool Status → Status
 end_status (Ok refused) = finished_status refused
-end_status (Err why) = stopped_status why
+end_status (Err status) = status
+
+-- a fault of the reader, as a status
+abbrev pub line_status : LineFault → Status
+line_status line.Read = ReadFault
+line_status line.Memory = Memory
+line_status line.TooLong = TooLong
+
+-- a fault of the store, as a status. Where a store is full this is no status: there it has a reply.
+abbrev pub store_status : StoreFault → Status
+store_status store.Disk = DiskFault
+store_status (store.NotStore at) = NotStore at
+store_status store.AlreadyStore = AlreadyStore
+store_status store.Full = Memory
+store_status store.Memory = Memory
 
 -- the script was read to its end
 abbrev pub IsFinished : Status → Type 0
-IsFinished status = (status ≡ Done) ⊎ (status ≡ SomeRefused)
+IsFinished Done = ⊤
+IsFinished SomeRefused = ⊤
+IsFinished other = ⊥
+
+-- the run ended once its store was open
+abbrev pub IsOpenStatus : Status → Type 0
+IsOpenStatus Usage = ⊥
+IsOpenStatus (NotStore at) = ⊥
+IsOpenStatus AlreadyStore = ⊥
+IsOpenStatus other = ⊤
 
 -- the run reports a read that failed
 abbrev pub is_read_fault : Status → Bool
@@ -47,3 +64,13 @@ is_read_fault other = false
 abbrev pub is_write_fault : Status → Bool
 is_write_fault WriteFault = true
 is_write_fault other = false
+
+-- the run reports a call of the disk that failed
+abbrev pub is_disk_fault : Status → Bool
+is_disk_fault DiskFault = true
+is_disk_fault other = false
+
+-- the answer is a status that reports one
+abbrev pub tells_disk : {T : Type 0} → Result T Status → Bool
+tells_disk (Ok value) = false
+tells_disk (Err status) = is_disk_fault status

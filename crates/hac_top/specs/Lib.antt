@@ -2,9 +2,8 @@ pub mod Attaching
 pub mod Crashes
 pub mod Deciding
 pub mod Ends
-pub mod Obeying
-pub mod Stops
 pub mod TakenLines
 pub mod Told
 pub mod Run
+pub mod Storing
 pub mod Words

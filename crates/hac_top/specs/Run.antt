@@ -1,9 +1,11 @@
 -- What a run promises. Most of it depends on the script, which its source may tell.
-use Rattle.std.specs.Prelude.{◌≡◌, ◌⊎◌, ℕ, ◌+◌, ◌<◌, ◌≤◌, ⊤, Bool, List, [], ◌++◌, length, take, drop, codes, Option, None, Some, IfOk}
+use Rattle.std.specs.Prelude.{◌≡◌, ◌⊎◌, ℕ, ◌+◌, ◌<◌, ◌≤◌, ⊤, Bool, false, List, [], ◌++◌, length, take, drop, codes, Option, Some, IfOk}
 use Rattle.std.specs.Option.{IfSome}
 use Rattle.std.specs.Io.KnownBytes.{Appends}
 use Rattle.hac_outside.specs.Causes.{Rose, TellsFault}
+use Rattle.hac_outside.specs.Known.{Known}
 use Rattle.hac_outside.specs.Seen.{SourceSeen, SinkSeen}
+use Rattle.hac_disk.specs.Images.{LeavesOnly}
 use Rattle.hac_model.specs.Script.CommandLine.{Options}
 use Rattle.hac_model.specs.Run.Play.{Setting, all_events, has_refusal, left_by, play, turns}
 use Rattle.hac_model.specs.Script.Printed.{ended}
@@ -11,12 +13,12 @@ use Rattle.hac_model.specs.Script.{after_item, first_items, whole}
 use Rattle.hac_model.specs.declared.limits.TheConstants.{SCRIPT_LIMIT}
 use Rattle.hac_model.specs.declared.states.State.{State}
 use Rattle.hac_store.specs.Held.{held}
-use Rattle.hac_store.specs.Stores.{IsHeldAs}
+use Rattle.hac_store.specs.Stores.{IsHeldAs, Stands}
 use Rattle.hac_top.specs.Crashes.{Holds, IsTreeAfter, IsTreeOfAnswered, Reopens, opening_outcome}
-use Rattle.hac_top.specs.Ends.{IsFinished, finished_status, is_read_fault, is_write_fault}
+use Rattle.hac_top.specs.Ends.{IsFinished, IsOpenStatus, finished_status, is_disk_fault, is_read_fault, is_write_fault}
 use Rattle.hac_top.specs.Told.{Told}
 use Rattle.hac_top.specs.declared.status.Status.{Status}
-use Rattle.hac_top.specs.declared.status.Status.TheVariants.{Usage, ReadFault, WriteFault, DiskFault, Memory, TooLong}
+use Rattle.hac_top.specs.declared.status.Status.TheVariants.{Done, SomeRefused, Usage, ReadFault, WriteFault, DiskFault, Memory, TooLong}
 use Rattle.shell_lang.specs.Reading.{piece_size}
 
 -- what a run works on, as it is seen
@@ -44,9 +46,7 @@ pub record RefusesWords (status : Status) (before after : Outside) : Type 0 wher
 
 -- at most one byte more than the limit of a script was taken
 abbrev pub TakesWithin : Option (List ℕ) → Option (List ℕ) → Type 0
-TakesWithin None new = ⊤
-TakesWithin (Some old) None = ⊥
-TakesWithin (Some old) (Some new) = length old ≤ length new + (SCRIPT_LIMIT + 1)
+TakesWithin old new = Known (λ before after. length before ≤ length after + (SCRIPT_LIMIT + 1)) old new
 
 -- What any run says of its source and sink. A fault that happened is reported, and no other is. Unless the sink failed,
 -- it has passed on all that it was written, if it had before.
@@ -98,6 +98,14 @@ pub record AnswersPromptly (setting : Setting) (script : List ℕ) (done : ℕ)
   pub all : (k : ℕ) × (take done (play setting script) ≡ play setting answered ++ take k
       (turns (left_by setting (play setting answered)) (first_items line)))
 
+-- which replies were written, by how the run ended
+abbrev pub AnswersBy : Status → Setting → List ℕ → ℕ → Option (List ℕ) → Type 0
+AnswersBy Done setting script done left = AnswersAll Done setting script done left
+AnswersBy SomeRefused setting script done left = AnswersAll SomeRefused setting script done left
+AnswersBy ReadFault setting script done left = AnswersTaken setting script done left
+AnswersBy TooLong setting script done left = AnswersWithin setting script done left
+AnswersBy other setting script done left = ⊤
+
 -- However the run ends, the replies are those of the plain tree, none ahead of time and none late. A reply is cut off
 -- only where the sink failed.
 pub record Plays (status : Status) (setting : Setting) (script : List ℕ)
@@ -105,9 +113,7 @@ pub record Plays (status : Status) (setting : Setting) (script : List ℕ)
   pub told : Told (play setting script) before.sink after.sink
   pub whole : (status ≡ WriteFault → ⊥) → told.cut ≡ []
   pub prompt : AnswersPromptly setting script told.done after.source.left
-  pub finished : IsFinished status → AnswersAll status setting script told.done after.source.left
-  pub read_fault : status ≡ ReadFault → AnswersTaken setting script told.done after.source.left
-  pub too_long : status ≡ TooLong → AnswersWithin setting script told.done after.source.left
+  pub answers : AnswersBy status setting script told.done after.source.left
 
 -- How a script is played from a store. Its replies are those of the plain tree. Where nothing was pending on
 -- the disk as it began, a crash leaves the tree with the events of each answered command, and at most those of the
@@ -136,6 +142,21 @@ pub record Completes (status : Status) (script : List ℕ) : Type 0 where
 -- the tree after some of the events of a script, the first ones in order
 abbrev pub IsTreeOf : Setting → List ℕ → State → Type 0
 IsTreeOf setting script now = IsTreeAfter setting.state (all_events (play setting script)) now
+
+-- How the script is played from a store that was opened, whatever source and disk tell. A crash at each moment leaves
+-- the tree after some of the events. A call of the disk that failed is told, and no other.
+pub record PlaysStore {D : Type 0} (seen : D → Option (List ℕ)) (image : D → List ℕ → Type 0)
+    (moment : D → ℕ) (image_since : D → ℕ → List ℕ → Type 0)
+    (attached : D → Option (List (List ℕ × Bool))) (faults : D → ℕ) (old new : D)
+    (setting : Setting) (before after : Outside) (status : Status) : Type 0 where
+  pub opened : IsOpenStatus status
+  pub played : IfSome before.source.left (λ script.
+      Played false status setting script before after (Stands (seen old) (image old) setting) (image new))
+  pub moments : IfSome before.source.left (λ script. Stands (seen old) (image old) setting →
+      LeavesOnly moment image_since old new (Holds (IsTreeOf setting script)))
+  pub ends : Ends status before after
+  pub names : attached new ≡ attached old
+  pub told : TellsFault (is_disk_fault status) (faults old) (faults new)
 
 -- The outcome of a run that goes on from a store. Where nothing was pending on the disk as it began, a crash at each
 -- moment leaves that tree after some of the events of the script; once it has begun to take the script, a crash leaves

@@ -1,9 +1,29 @@
 -- What a run has written of its replies.
-use Rattle.std.specs.Prelude.{◌≡◌, ℕ, ◌-◌, ◌<◌, ◌≤◌, List, [], ◌∷◌, ◌++◌, length, take, drop}
+use Rattle.std.specs.Prelude.{◌≡◌, ℕ, ◌-◌, ◌<◌, ◌≤◌, true, List, [], ◌∷◌, ◌++◌, length, take, drop}
 use Rattle.std.specs.Io.KnownBytes.{Appends}
-use Rattle.hac_outside.specs.Seen.{SinkSeen}
+use Rattle.hac_outside.specs.Causes.{TellsFault}
+use Rattle.hac_outside.specs.Seen.{SinkSeen, WritesSome}
 use Rattle.hac_model.specs.Run.Play.{Turn, replies}
 use Rattle.hac_model.specs.Script.Printed.{reply_text, text}
+use Rattle.hac_top.specs.declared.status.Status.{Status}
+use Rattle.hac_top.specs.declared.status.Status.TheVariants.{WriteFault, DiskFault, Memory}
+
+-- these bytes were written, and all was passed on, if it was before; no call failed
+pub record Tells (before after : SinkSeen) (bytes : List ℕ) : Type 0 where
+  pub written : Appends before.written after.written bytes
+  pub passed : before.held_back ≡ 0 → after.held_back ≡ 0
+  pub faults : after.faults ≡ before.faults
+
+-- the sink failed when some of the bytes were written, or memory ran out before any was
+abbrev pub StopsTelling : Status → SinkSeen → SinkSeen → List ℕ → Type 0
+StopsTelling WriteFault before after bytes = WritesSome before after bytes × TellsFault true before.faults after.faults
+StopsTelling Memory before after bytes = after ≡ before
+StopsTelling other before after bytes = ⊥
+
+-- the same, or the disk failed before any was written
+abbrev pub CutsTelling : Status → SinkSeen → SinkSeen → List ℕ → Type 0
+CutsTelling DiskFault before after bytes = after ≡ before
+CutsTelling other before after bytes = StopsTelling other before after bytes
 
 -- the replies of turns, as they are printed
 abbrev pub told_text : List Turn → List ℕ

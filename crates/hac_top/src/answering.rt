@@ -1,19 +1,18 @@
-//! Answering: a command is carried out, and its reply is written and flushed.
-ghost use Rattle.std.specs.Prelude.{◌≡◌, ◌||◌, false, Err, IfOk, IfErr, List, ℕ, Ok, OnOk, OnErr};
+//! Answering: what a line changes is stored, and then its reply is written and flushed.
+ghost use Rattle.std.specs.Prelude.{◌≡◌, ◌||◌, ◌∷◌, [], false, IfErr, OnErr, OnOk};
 ghost use Rattle.std.specs.Io.KnownBytes.{Appends};
-ghost use Rattle.hac_outside.specs.Causes.{HasCause, TellsFault};
+ghost use Rattle.hac_outside.specs.Causes.{HasCause};
 ghost use Rattle.hac_outside.specs.Seen.{WritesSome};
-ghost use Rattle.hac_model.specs.Run.Play.{all_events, item_turn, turns, left_by, is_refused, has_refusal};
-ghost use Rattle.hac_model.specs.Script.Printed.{reply_text};
-ghost use Rattle.hac_store.specs.Stores.{Bears, IsHeldAs, Stands};
-ghost use Rattle.hac_top.specs.Crashes.{Stores};
-ghost use Rattle.hac_top.specs.Stops.{CutsAnswer, StopsAnswer, StopsTelling, is_disk_stop, is_write_stop};
-ghost use Rattle.hac_top.specs.TakenLines.{items_of_taken};
-ghost use Rattle.hac_top.specs.Told.{told_text};
+ghost use Rattle.hac_model.specs.Run.Play.{item_turn, turns, is_refused, has_refusal};
 ghost use Rattle.hac_model.specs.Script.Lines.{item_taken};
+ghost use Rattle.hac_model.specs.Script.Printed.{text};
+ghost use Rattle.hac_store.specs.Stores.{Bears};
+ghost use Rattle.hac_top.specs.Storing.{AnswersLine, StopsAnswer};
+ghost use Rattle.hac_top.specs.TakenLines.{items_of_taken};
+ghost use Rattle.hac_top.specs.Told.{StopsTelling, Tells};
 
-use crate::obeying::carry_out;
-use crate::stops::Stop;
+use crate::status::Status;
+use crate::storing::store_line;
 use crate::taking::TakenLine;
 use hac_disk::Disk;
 use hac_model::{LimitWord, Refusal, Reply, Taken, Text};
@@ -33,44 +32,27 @@ pub struct Player {
 }
 
 impl Player {
-    /// Carries out what a line of the script asks for, and gives the reply, if there is one. What the line changes is
-    /// in the store before anything of its reply is written.
+    /// Answers a line of the script, with the bytes that belong to it. What it changes is in the
+    /// store before anything of its reply is written.
     pub fn answer<K: Sink, D: Disk>(
         &mut self,
         output: &mut K,
         disk: &mut D,
         line: TakenLine,
-    ) -> Result<(), Stop>
+    ) -> Result<(), Status>
         requires intact { self.old.store.broken ≡ false }
         requires place { Bears (D.seen disk.old) self.old.store }
-        ensures store { OnOk result (self.new.store
-            ≡ record self.old.store {
-              setting = left_by self.old.store.setting
-                  (turns self.old.store.setting (items_of_taken line));
-            }) }
         ensures refused { OnOk result (self.new.refused ≡
             (self.old.refused || has_refusal (turns self.old.store.setting
             (items_of_taken line)))) }
-        ensures written { OnOk result (Appends (K.seen output.old).written
-            (K.seen output.new).written (told_text
-            (turns self.old.store.setting (items_of_taken line)))) }
-        ensures passed { OnOk result ((K.seen output.old).held_back ≡ 0 →
-            (K.seen output.new).held_back ≡ 0) }
-        ensures cut { IfErr result (λ stop. CutsAnswer stop (K.seen output.old) (K.seen output.new)
-            (told_text (turns self.old.store.setting (items_of_taken line)))) }
-        ensures stops { IfErr result StopsAnswer }
-        ensures faults { TellsFault (is_write_stop result) (K.seen output.old).faults
-            (K.seen output.new).faults }
-        ensures place { OnOk result (Bears (D.seen disk.new) self.new.store) }
-        ensures stands { Stands (D.seen disk.old) (D.image disk.old) self.old.store.setting →
-            OnOk result (Stands (D.seen disk.new) (D.image disk.new) self.new.store.setting) }
-        ensures stored { result ≡ Err Stop.WriteFault →
-            Stands (D.seen disk.old) (D.image disk.old) self.old.store.setting →
-            (c : List ℕ) → D.image disk.new c → IsHeldAs c (left_by self.old.store.setting
+        ensures ok { OnOk result (AnswersLine D.seen D.image D.moment D.image_since D.attached
+            D.faults disk.old disk.new self.old.store self.new.store
+            (K.seen output.old) (K.seen output.new)
             (turns self.old.store.setting (items_of_taken line))) }
-        ensures stores { Stores D.seen D.image D.moment D.image_since D.attached D.faults disk.old disk.new self.old.store.setting
-            (all_events (turns self.old.store.setting (items_of_taken line)))
-            (is_disk_stop result) }
+        ensures err { IfErr result (StopsAnswer D.seen D.image D.moment D.image_since D.attached
+            D.faults disk.old disk.new self.old.store.setting
+            (K.seen output.old) (K.seen output.new)
+            (turns self.old.store.setting (items_of_taken line))) }
     {
         let TakenLine { piece, taken } = line;
         match piece {
@@ -80,65 +62,47 @@ impl Player {
         }
     }
 
+    // Answers a line that spells a command.
     fn answer_line<K: Sink, D: Disk>(
         &mut self,
         output: &mut K,
         disk: &mut D,
         line: Text,
         taken: Option<Taken>,
-    ) -> Result<(), Stop>
+    ) -> Result<(), Status>
         requires intact { self.old.store.broken ≡ false }
         requires place { Bears (D.seen disk.old) self.old.store }
-        ensures store { OnOk result (self.new.store
-            ≡ record self.old.store {
-              setting = (item_turn self.old.store.setting
-                  (item_taken line taken)).after;
-            }) }
-        ensures refused { OnOk result (self.new.refused ≡
-            (self.old.refused || is_refused (item_turn self.old.store.setting
-            (item_taken line taken)).reply)) }
-        ensures written { OnOk result (Appends (K.seen output.old).written
-            (K.seen output.new).written (reply_text
-            (item_turn self.old.store.setting (item_taken line taken)).reply)) }
-        ensures passed { OnOk result ((K.seen output.new).held_back ≡ 0) }
-        ensures cut { IfErr result (λ stop. CutsAnswer stop (K.seen output.old) (K.seen output.new)
-            (reply_text (item_turn self.old.store.setting (item_taken line taken)).reply)) }
-        ensures stops { IfErr result StopsAnswer }
-        ensures faults { TellsFault (is_write_stop result) (K.seen output.old).faults
-            (K.seen output.new).faults }
-        ensures place { OnOk result (Bears (D.seen disk.new) self.new.store) }
-        ensures stands { Stands (D.seen disk.old) (D.image disk.old) self.old.store.setting →
-            OnOk result (Stands (D.seen disk.new) (D.image disk.new) self.new.store.setting) }
-        ensures stored { result ≡ Err Stop.WriteFault →
-            Stands (D.seen disk.old) (D.image disk.old) self.old.store.setting →
-            (c : List ℕ) → D.image disk.new c → IsHeldAs c (item_turn self.old.store.setting
-            (item_taken line taken)).after }
-        ensures stores { Stores D.seen D.image D.moment D.image_since D.attached D.faults disk.old disk.new self.old.store.setting
-            (item_turn self.old.store.setting (item_taken line taken)).events
-            (is_disk_stop result) }
+        ensures refused { OnOk result (self.new.refused ≡ (self.old.refused || has_refusal
+            (item_turn self.old.store.setting (item_taken line taken) ∷ []))) }
+        ensures ok { OnOk result (AnswersLine D.seen D.image D.moment D.image_since D.attached
+            D.faults disk.old disk.new self.old.store self.new.store
+            (K.seen output.old) (K.seen output.new)
+            (item_turn self.old.store.setting (item_taken line taken) ∷ [])) }
+        ensures err { IfErr result (StopsAnswer D.seen D.image D.moment D.image_since D.attached
+            D.faults disk.old disk.new self.old.store.setting
+            (K.seen output.old) (K.seen output.new)
+            (item_turn self.old.store.setting (item_taken line taken) ∷ [])) }
     {
-        let reply = carry_out(self.alloc, &mut self.store, disk, line, taken)?;
+        let reply = store_line(self.alloc, &mut self.store, disk, line, taken)?;
         self.tell(output, reply)
     }
 
-    /// Writes a reply, and flushes it.
-    fn tell<K: Sink>(&mut self, output: &mut K, reply: Reply) -> Result<(), Stop>
+    // Writes a reply, and flushes it.
+    fn tell<K: Sink>(&mut self, output: &mut K, reply: Reply) -> Result<(), Status>
         ensures store { self.new.store ≡ self.old.store }
         ensures refused { OnOk result (self.new.refused ≡ (self.old.refused || is_refused reply)) }
-        ensures written { OnOk result (Appends (K.seen output.old).written
-            (K.seen output.new).written (reply_text reply)) }
-        ensures passed { OnOk result ((K.seen output.new).held_back ≡ 0) }
-        ensures cut { IfErr result (λ stop. CutsAnswer stop (K.seen output.old) (K.seen output.new)
-            (reply_text reply)) }
-        ensures stops { IfErr result StopsTelling }
-        ensures faults { TellsFault (is_write_stop result) (K.seen output.old).faults
-            (K.seen output.new).faults }
+        ensures ok { OnOk result (Tells (K.seen output.old) (K.seen output.new)
+            (text (reply ∷ []))) }
+        ensures err { IfErr result (λ status. StopsTelling status (K.seen output.old)
+            (K.seen output.new) (text (reply ∷ []))) }
     {
         let bytes = print_reply(self.alloc, &reply);
         self.refused = self.refused | is_refused(&reply);
         drop(reply);
-        tell_bytes(output, &bytes?)?;
-        Ok(())
+        match tell_bytes(output, &bytes?) {
+            Ok(()) => Ok(()),
+            Err(Failed) => Err(Status::WriteFault),
+        }
     }
 }
 

@@ -1,6 +1,7 @@
 //! Deciding: what a line asks of the tree, by the machine alone, before the store is touched.
 ghost use Rattle.std.specs.Prelude.{IfOk, IsTrue, Ok};
-ghost use Rattle.hac_core.specs.Drafts.{IsDraft};
+ghost use Rattle.hac_core.specs.Drafts.{IsDraft, IsDraftFor};
+ghost use Rattle.hac_model.specs.declared.resolved.Resolved.{Resolved};
 ghost use Rattle.hac_model.specs.Script.Lines.{is_spelled};
 ghost use Rattle.hac_model.specs.Run.Play.{command_turn, item_turn};
 ghost use Rattle.hac_top.specs.Deciding.{Decides, IsDenial};
@@ -50,7 +51,8 @@ fn decide_line(machine: &Machine, line: Line) -> Result<Decision, Memory>
 // What is to be done about a command that the tree doesn't refuse so far.
 fn decide_draft(machine: &Machine, draft: Draft) -> Result<Decision, Memory>
     requires { IsDraft machine.now.state draft }
-    ensures { IfOk result (Decides machine.now.state (λ setting. command_turn setting (Ok draft))) }
+    ensures { (command : Resolved) → IsDraftFor machine.now.state command draft →
+        IfOk result (Decides machine.now.state (λ setting. command_turn setting (Ok command))) }
 {
     if draft.reads() {
         let reply = machine.ask(draft)?;

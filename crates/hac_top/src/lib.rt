@@ -1,14 +1,13 @@
-//! The whole of the program but its last edge: it takes words, a script and a store, and gives replies and a status.
-//! It knows its source, its sink and its disk by their contracts alone.
+//! The whole of the program but its last edge: it takes words, a script and a store, and gives
+//! replies and a status. It knows its source, its sink and its disk by their contracts alone.
 #![tactic(auto)]
 
 mod answering;
 mod deciding;
-mod obeying;
 mod opening;
 mod running;
 mod status;
-mod stops;
+mod storing;
 mod taking;
 mod words;
 

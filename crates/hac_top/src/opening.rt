@@ -1,15 +1,18 @@
-//! Opening: the file of the store is attached, and the store that it holds is loaded, or a new one is made.
-ghost use Rattle.std.specs.Prelude.{◌≡◌, ◌≤◌, false, Err, IfOk, IfErr, IfSome, IsErrOf};
+//! Opening: the file of the store is attached, and the store that it holds is loaded, or a new one
+//! is made.
+ghost use Rattle.std.specs.Prelude.{◌≡◌, false, Err, IfOk, IfErr, IfSome};
 ghost use Rattle.hac_disk.specs.Images.{IsQuiet, LeavesOnly};
 ghost use Rattle.hac_disk.specs.Told.{IsSettled};
-ghost use Rattle.hac_outside.specs.Causes.{Rose};
+ghost use Rattle.hac_outside.specs.Causes.{TellsFault};
+ghost use Rattle.hac_store.specs.Faults.{is_disk_fault};
 ghost use Rattle.hac_store.specs.Held.{held};
 ghost use Rattle.hac_store.specs.Stores.{Bears, Stands};
 ghost use Rattle.hac_top.specs.Attaching.{AttachesStore, MayAttach};
-ghost use Rattle.hac_top.specs.Crashes.{IsOpened, Reopens, StopsOpening, opening_outcome, opening_result, opening_status};
+ghost use Rattle.hac_top.specs.Crashes.{IsOpened, Reopens, StopsOpening, opening_outcome, opening_result};
+ghost use Rattle.hac_top.specs.Ends.{tells_disk};
 ghost use Rattle.hac_top.specs.Words.{asked_of};
 
-use crate::status::Status;
+use crate::status::{Status, store_status};
 use crate::words::Options;
 use hac_disk::Disk;
 use hac_store::{Store, StoreFault};
@@ -45,17 +48,12 @@ pub fn open_store<D: Disk>(
         (D.attached disk.new) }
     ensures attaches { (result ≡ Err Status.DiskFault → ⊥) →
         AttachesStore (D.attached disk.old) (asked_of options.entry) (D.attached disk.new) }
-    ensures later { D.faults disk.old ≤ D.faults disk.new }
-    ensures cause { result ≡ Err Status.DiskFault → Rose (D.faults disk.old) (D.faults disk.new) }
-    ensures none { (result ≡ Err Status.DiskFault → ⊥) → D.faults disk.new ≡ D.faults disk.old }
+    ensures faults { TellsFault (tells_disk result) (D.faults disk.old) (D.faults disk.new) }
 {
     if disk.attach(options.store, options.fresh).is_err() {
         return Err(Status::DiskFault);
     }
-    match load_or_create(alloc, options.fresh, disk) {
-        Ok(store) => Ok(store),
-        Err(fault) => Err(status_of(fault)),
-    }
+    opening_result(load_or_create(alloc, options.fresh, disk))
 }
 
 // Loads the store of the disk, or makes a new one.
@@ -73,9 +71,7 @@ fn load_or_create<D: Disk>(alloc: Global, fresh: bool, disk: &mut D) -> Result<S
     ensures quiet { IfSome (D.seen disk.old) (λ file. IfErr (opening_outcome fresh (held file))
         (λ _. IsQuiet D.seen D.image D.moment D.image_since disk.old disk.new)) }
     ensures attached { D.attached disk.new ≡ D.attached disk.old }
-    ensures later { D.faults disk.old ≤ D.faults disk.new }
-    ensures cause { IsErrOf result StoreFault.Disk → Rose (D.faults disk.old) (D.faults disk.new) }
-    ensures none { (IsErrOf result StoreFault.Disk → ⊥) → D.faults disk.new ≡ D.faults disk.old }
+    ensures faults { TellsFault (is_disk_fault result) (D.faults disk.old) (D.faults disk.new) }
 {
     if fresh {
         Store::create(alloc, disk)
@@ -84,14 +80,12 @@ fn load_or_create<D: Disk>(alloc: Global, fresh: bool, disk: &mut D) -> Result<S
     }
 }
 
-// The status of a run whose store isn't opened. No store is full as it is opened.
-fn status_of(fault: StoreFault) -> Status
-    ensures { result ≡ opening_status fault }
+// The same answer with the fault of a store as a status.
+fn opening_result(opened: Result<Store, StoreFault>) -> Result<Store, Status>
+    ensures { result ≡ opening_result opened }
 {
-    match fault {
-        StoreFault::Disk => Status::DiskFault,
-        StoreFault::NotStore { at } => Status::NotStore { at },
-        StoreFault::AlreadyStore => Status::AlreadyStore,
-        StoreFault::Full | StoreFault::Memory => Status::Memory,
+    match opened {
+        Ok(store) => Ok(store),
+        Err(fault) => Err(store_status(fault)),
     }
 }

@@ -1,22 +1,21 @@
-//! The run: the store is opened, the script is taken line by line, and each line is answered before the next is taken.
-ghost use Rattle.std.specs.Prelude.{◌≡◌, ◌⊎◌, ℕ, ◌≤◌, ◌<◌, false, IfErr, IfSome, List, None, Ok, map, string_bytes};
+//! The run: the store is opened, the script is taken line by line, and each line is answered before
+//! the next is taken.
+ghost use Rattle.std.specs.Prelude.{◌≡◌, ◌⊎◌, false, IfErr, IfSome, None, map, string_bytes};
 ghost use Rattle.std.specs.Io.KnownBytes.{Appends};
 ghost use Rattle.hac_disk.specs.Images.{IsQuiet, LeavesOnly};
 ghost use Rattle.hac_disk.specs.Told.{IsSettled};
 ghost use Rattle.hac_model.specs.Script.CommandLine.{options};
-ghost use Rattle.hac_model.specs.Run.Play.{all_events, play};
-ghost use Rattle.hac_outside.specs.Causes.{Rose, TellsFault};
+ghost use Rattle.hac_outside.specs.Causes.{TellsFault};
 ghost use Rattle.hac_store.specs.Held.{held};
-ghost use Rattle.hac_store.specs.Stores.{Bears, Stands};
+ghost use Rattle.hac_store.specs.Stores.{Bears};
 ghost use Rattle.hac_top.specs.Attaching.{AttachesStore, MayAttach};
-ghost use Rattle.hac_top.specs.Crashes.{Holds, IsTreeAfter, TellsFile, opening_outcome};
-ghost use Rattle.hac_top.specs.Ends.{end_status, is_write_fault};
-ghost use Rattle.hac_top.specs.Run.{AppendsSome, Ends, EndsSo, IfOpens, IsFaultless, Played, Ran, RefusesWords, outside, usage_line};
+ghost use Rattle.hac_top.specs.Crashes.{TellsFile, opening_outcome};
+ghost use Rattle.hac_top.specs.Ends.{end_status, is_disk_fault, is_write_fault};
+ghost use Rattle.hac_top.specs.Run.{AppendsSome, Ends, EndsSo, IfOpens, IsFaultless, PlaysStore, Ran, RefusesWords, outside, usage_line};
 
 use crate::answering::{Player, tell_bytes};
 use crate::opening::open_store;
 use crate::status::Status;
-use crate::stops::Stop;
 use crate::taking::take_line;
 use crate::words::read_words;
 use hac_disk::Disk;
@@ -25,13 +24,14 @@ use hac_store::Store;
 use shell_lang::Reader;
 use std::alloc::Global;
 
-/// Opens the store that the words name, plays the script that the source gives, and writes the reply to each command to
-/// the sink.
+/// Opens the store that the words name, plays the script that the source gives, and writes the
+/// reply to each command to the sink.
 ///
-/// `words` are those of the program behind its own name: `[--new] STORE`. The disk is bound to the file STORE, which is
-/// made where it is missing and `--new` is given. The source is read in pieces, and no line is carried out before the
-/// reply to the line before it was written and flushed; what a line changes is stored before its reply is written. A
-/// `put` is carried out with the bytes that follow its line.
+/// `words` are those of the program behind its own name: `[--new] STORE`. The disk is bound to the
+/// file STORE, which is made where it is missing and `--new` is given. The source is read in
+/// pieces, and no line is carried out before the reply to the line before it was written and
+/// flushed; what a line changes is stored before its reply is written. A `put` is carried out with
+/// the bytes that follow its line.
 pub fn run<S: Source, K: Sink, D: Disk>(
     alloc: Global,
     words: &[String],
@@ -47,8 +47,9 @@ pub fn run<S: Source, K: Sink, D: Disk>(
         RefusesWords result (outside (S.seen input.old) (K.seen output.old))
         (outside (S.seen input.new) (K.seen output.new)) × (disk.new ≡ disk.old) }
 
-    // The replies are those of the tree that the store held, a crash at any moment leaves that tree after some of the
-    // events, at the end those of what was answered, and without a fault the script is played.
+    // The replies are those of the tree that the store held, a crash at any moment leaves that tree
+    // after some of the events, at the end those of what was answered, and without a fault the
+    // script is played.
     ensures ran { IfOpens (options (map string_bytes words.now)) (D.seen disk.old)
         (S.seen input.old).left
         (λ fresh setting script. Ran fresh result setting script
@@ -60,7 +61,8 @@ pub fn run<S: Source, K: Sink, D: Disk>(
         (outside (S.seen input.new) (K.seen output.new))
         (D.faults disk.old) (D.faults disk.new))) }
 
-    // Where the file holds no store, or one though a new one was asked for, it says so and does nothing else.
+    // Where the file holds no store, or one though a new one was asked for, it says so and does
+    // nothing else.
     ensures unopened { IfSome (options (map string_bytes words.now))
         (λ asked. IfSome (D.seen disk.old) (λ file. IfErr (opening_outcome asked.fresh (held file))
         (λ wanted.
@@ -79,23 +81,14 @@ pub fn run<S: Source, K: Sink, D: Disk>(
     // Each fault is reported, and nothing is left unflushed in the sink.
     ensures ends { Ends result (outside (S.seen input.old) (K.seen output.old))
         (outside (S.seen input.new) (K.seen output.new)) }
-    ensures read_told { (S.seen input.old).faults < (S.seen input.new).faults →
-        result ≡ Status.ReadFault }
-    ensures write_told { (K.seen output.old).faults < (K.seen output.new).faults →
-        result ≡ Status.WriteFault }
-    ensures read_cause { result ≡ Status.ReadFault →
-        Rose (S.seen input.old).faults (S.seen input.new).faults }
-    ensures write_cause { result ≡ Status.WriteFault →
-        Rose (K.seen output.old).faults (K.seen output.new).faults }
-    ensures disk_later { D.faults disk.old ≤ D.faults disk.new }
-    ensures disk_cause { result ≡ Status.DiskFault → Rose (D.faults disk.old) (D.faults disk.new) }
-    ensures disk_told { (result ≡ Status.DiskFault → ⊥) → D.faults disk.new ≡ D.faults disk.old }
+    ensures disk_faults { TellsFault (is_disk_fault result) (D.faults disk.old)
+        (D.faults disk.new) }
 {
     let Some(options) = read_words(words) else {
         return tell_usage(output);
     };
     match open_store(alloc, options, disk) {
-        Ok(store) => status_of(play_store(alloc, store, input, output, disk)),
+        Ok(store) => play_store(alloc, store, input, output, disk),
         Err(status) => status,
     }
 }
@@ -115,34 +108,20 @@ fn tell_usage<K: Sink>(output: &mut K) -> Status
     }
 }
 
-/// Plays the script on a store that was opened, and says whether some command was refused.
+// Plays the script on a store that was opened.
 fn play_store<S: Source, K: Sink, D: Disk>(
     alloc: Global,
     store: Store,
     input: &mut S,
     output: &mut K,
     disk: &mut D,
-) -> Result<bool, Stop>
+) -> Status
     requires source { (S.seen input.old).ended ≡ false }
     requires intact { store.broken ≡ false }
     requires place { Bears (D.seen disk.old) store }
-    ensures ran { IfSome (S.seen input.old).left (λ script.
-        Played false (end_status result) store.setting script
-        (outside (S.seen input.old) (K.seen output.old))
-        (outside (S.seen input.new) (K.seen output.new))
-        (Stands (D.seen disk.old) (D.image disk.old) store.setting) (D.image disk.new)) }
-    ensures any_moment { IfSome (S.seen input.old).left
-        (λ script. Stands (D.seen disk.old) (D.image disk.old) store.setting →
-        LeavesOnly D.moment D.image_since disk.old disk.new
-        (Holds (IsTreeAfter store.setting.state (all_events (play store.setting script))))) }
-    ensures ends { Ends (end_status result) (outside (S.seen input.old) (K.seen output.old))
-        (outside (S.seen input.new) (K.seen output.new)) }
-    ensures attached { D.attached disk.new ≡ D.attached disk.old }
-    ensures later { D.faults disk.old ≤ D.faults disk.new }
-    ensures cause { end_status result ≡ Status.DiskFault →
-        Rose (D.faults disk.old) (D.faults disk.new) }
-    ensures none { (end_status result ≡ Status.DiskFault → ⊥) →
-        D.faults disk.new ≡ D.faults disk.old }
+    ensures { PlaysStore D.seen D.image D.moment D.image_since D.attached D.faults disk.old disk.new
+        store.setting (outside (S.seen input.old) (K.seen output.old))
+        (outside (S.seen input.new) (K.seen output.new)) result }
 {
     let mut player = Player {
         alloc,
@@ -151,39 +130,24 @@ fn play_store<S: Source, K: Sink, D: Disk>(
     };
     let played = play_script(alloc, &mut player, input, output, disk);
     drop(player);
-    played
+    end_status(played)
 }
 
-/// Plays the script to its end, and says whether some command was refused.
+// Plays the script to its end, and says whether some command was refused.
 fn play_script<S: Source, K: Sink, D: Disk>(
     alloc: Global,
     player: &mut Player,
     input: &mut S,
     output: &mut K,
     disk: &mut D,
-) -> Result<bool, Stop>
+) -> Result<bool, Status>
     requires source { (S.seen input.old).ended ≡ false }
     requires begun { player.old.refused ≡ false }
     requires intact { player.old.store.broken ≡ false }
     requires place { Bears (D.seen disk.old) player.old.store }
-    ensures ran { IfSome (S.seen input.old).left (λ script.
-        Played false (end_status result) player.old.store.setting script
-        (outside (S.seen input.old) (K.seen output.old))
-        (outside (S.seen input.new) (K.seen output.new))
-        (Stands (D.seen disk.old) (D.image disk.old) player.old.store.setting) (D.image disk.new)) }
-    ensures any_moment { IfSome (S.seen input.old).left
-        (λ script. Stands (D.seen disk.old) (D.image disk.old) player.old.store.setting →
-        LeavesOnly D.moment D.image_since disk.old disk.new
-        (Holds (IsTreeAfter player.old.store.setting.state
-        (all_events (play player.old.store.setting script))))) }
-    ensures ends { Ends (end_status result) (outside (S.seen input.old) (K.seen output.old))
-        (outside (S.seen input.new) (K.seen output.new)) }
-    ensures attached { D.attached disk.new ≡ D.attached disk.old }
-    ensures later { D.faults disk.old ≤ D.faults disk.new }
-    ensures cause { end_status result ≡ Status.DiskFault →
-        Rose (D.faults disk.old) (D.faults disk.new) }
-    ensures none { (end_status result ≡ Status.DiskFault → ⊥) →
-        D.faults disk.new ≡ D.faults disk.old }
+    ensures { PlaysStore D.seen D.image D.moment D.image_since D.attached D.faults disk.old disk.new
+        player.old.store.setting (outside (S.seen input.old) (K.seen output.old))
+        (outside (S.seen input.new) (K.seen output.new)) (end_status result) }
 {
     let mut reader = Reader::new(alloc)?;
     'lines: loop {
@@ -195,16 +159,12 @@ fn play_script<S: Source, K: Sink, D: Disk>(
 }
 
 // The status of a script that was played.
-fn status_of(played: Result<bool, Stop>) -> Status
+fn end_status(played: Result<bool, Status>) -> Status
     ensures { result ≡ end_status played }
 {
     match played {
         Ok(false) => Status::Done,
         Ok(true) => Status::SomeRefused,
-        Err(Stop::ReadFault) => Status::ReadFault,
-        Err(Stop::WriteFault) => Status::WriteFault,
-        Err(Stop::DiskFault) => Status::DiskFault,
-        Err(Stop::Memory) => Status::Memory,
-        Err(Stop::TooLong) => Status::TooLong,
+        Err(status) => status,
     }
 }

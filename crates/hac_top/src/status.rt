@@ -1,6 +1,10 @@
 //! How a run ends.
 ghost use Rattle.std.specs.Prelude.{◌≡◌};
-ghost use Rattle.hac_top.specs.Ends.{status_number};
+ghost use Rattle.hac_top.specs.Ends.{status_number, store_status};
+
+use hac_model::Memory;
+use hac_store::StoreFault;
+use shell_lang::LineFault;
 
 /// How a run ended.
 #[derive(Clone, Copy, Debug, PartialEq, Eq)]
@@ -19,7 +23,7 @@ pub enum Status {
     DiskFault,
     /// The file holds no store.
     NotStore {
-        /// The place of the first byte that speaks against it.
+        /// The place of the first wrong byte.
         at: u64,
     },
     /// Memory ran out.
@@ -47,5 +51,44 @@ impl Status {
             Status::TooLong => 9,
             Status::AlreadyStore => 10,
         }
+    }
+}
+
+impl From<LineFault> for Status {
+    ghost use Rattle.std.specs.Prelude.{◌≡◌};
+    ghost use Rattle.hac_top.specs.Ends.{line_status};
+
+    ghost from_gives = { λ fault status. status ≡ line_status fault };
+
+    fn from(fault: LineFault) -> Status {
+        match fault {
+            LineFault::Read => Status::ReadFault,
+            LineFault::Memory => Status::Memory,
+            LineFault::TooLong => Status::TooLong,
+        }
+    }
+}
+
+impl From<Memory> for Status {
+    ghost use Rattle.std.specs.Prelude.{◌≡◌};
+    ghost use Rattle.hac_top.specs.declared.status.Status.TheVariants as status;
+
+    ghost from_gives = { λ _ made. made ≡ status.Memory };
+
+    fn from(_memory: Memory) -> Status {
+        Status::Memory
+    }
+}
+
+/// The status of a run whose store failed. A store that is full has a reply, and no store is full
+/// as it is opened.
+pub(crate) fn store_status(fault: StoreFault) -> Status
+    ensures { result ≡ store_status fault }
+{
+    match fault {
+        StoreFault::Disk => Status::DiskFault,
+        StoreFault::NotStore { at } => Status::NotStore { at },
+        StoreFault::AlreadyStore => Status::AlreadyStore,
+        StoreFault::Full | StoreFault::Memory => Status::Memory,
     }
 }

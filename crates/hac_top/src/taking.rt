@@ -1,13 +1,11 @@
 //! Taking the next line of the script, with the bytes that belong to it.
-ghost use Rattle.std.specs.Prelude.{◌≡◌, ◌≤◌, ◌+◌, true, false, Err, IfOk, IfErr, OnOk, OnErr};
+ghost use Rattle.std.specs.Prelude.{◌≡◌, ◌≤◌, IfOk, IfErr};
 ghost use Rattle.std.specs.Option.{unwrap_or};
-ghost use Rattle.hac_outside.specs.Causes.{TellsFault};
-ghost use Rattle.shell_lang.specs.Reading.{pending, given, IsReading, IsReaderBehind, IsReaderOf, LeavesReader, SameTotal};
+ghost use Rattle.shell_lang.specs.Reading.{given, IsReading, IsReaderBehind, IsReaderOf, LeavesReader};
 ghost use Rattle.shell_lang.specs.Takes.{FallsShort};
-ghost use Rattle.hac_top.specs.Stops.{is_read_stop};
-ghost use Rattle.hac_top.specs.TakenLines.{Gives, GivesDue, Advances, Cuts, StopsAt, due_of_piece};
+ghost use Rattle.hac_top.specs.TakenLines.{GivesDue, StopsTaking, TakesLine, due_of_piece};
 
-use crate::stops::Stop;
+use crate::status::Status;
 use hac_model::{SCRIPT_LIMIT, Taken};
 use hac_outside::Source;
 use shell_lang::{LineFault, Piece, Reader, put_length};
@@ -20,32 +18,12 @@ pub struct TakenLine {
 }
 
 /// Takes the next line, with the bytes that belong to it. None at the end of the script.
-pub fn take_line<S: Source>(reader: &mut Reader, input: &mut S) -> Result<Option<TakenLine>, Stop>
+pub fn take_line<S: Source>(reader: &mut Reader, input: &mut S) -> Result<Option<TakenLine>, Status>
     requires { IsReaderOf reader.old (S.seen input.old) }
-
-    ensures line { IfOk result (λ line. Gives line reader.new.ended
-        (pending reader.old (S.seen input.old).left) (pending reader.new (S.seen input.new).left)) }
-    ensures advances { IfOk result (λ line. Advances line reader.old reader.new) }
-
-    // A run that stops here has taken no whole line more, or has no memory for the one that it took.
-    ensures stops { OnErr result (StopsAt (pending reader.old (S.seen input.old).left)
-        (S.seen input.new).left) }
-    ensures read_fault { result ≡ Err Stop.ReadFault →
-        (reader.new.ended ≡ false) × Cuts 0 (pending reader.old (S.seen input.old).left)
-        (S.seen input.new).left }
-    ensures too_long { result ≡ Err Stop.TooLong →
-        (reader.new.ended ≡ false) × (reader.new.taken ≡ SCRIPT_LIMIT + 1)
-        × Cuts 1 (pending reader.old (S.seen input.old).left) (S.seen input.new).left }
-    ensures answers { result ≡ Err Stop.WriteFault → ⊥ }
-    ensures disk { result ≡ Err Stop.DiskFault → ⊥ }
-    ensures faults { TellsFault (is_read_stop result) (S.seen input.old).faults
-        (S.seen input.new).faults }
-
-    ensures source { OnOk result (IsReaderOf reader.new (S.seen input.new)) }
-    ensures stays { reader.old.ended ≡ true → reader.new.ended ≡ true }
-    ensures total { SameTotal reader.old.taken (S.seen input.old).left reader.new.taken
-        (S.seen input.new).left }
-    ensures limit { reader.new.taken ≤ SCRIPT_LIMIT + 1 }
+    ensures line { IfOk result (TakesLine reader.old reader.new (S.seen input.old)
+        (S.seen input.new)) }
+    ensures stops { IfErr result (StopsTaking reader.old reader.new (S.seen input.old)
+        (S.seen input.new)) }
 {
     match reader.next_line(input)? {
         Piece::End => Ok(None),
@@ -53,7 +31,7 @@ pub fn take_line<S: Source>(reader: &mut Reader, input: &mut S) -> Result<Option
             Ok(taken) => Ok(Some(TakenLine { piece, taken })),
             Err(fault) => {
                 drop(piece);
-                Err(Stop::from(fault))
+                Err(Status::from(fault))
             }
         },
     }

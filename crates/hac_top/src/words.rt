@@ -1,4 +1,5 @@
-//! Reading the words of the program: the name of its store, and whether that is to be a new one. It knows no device.
+//! Reading the words of the program: the name of its store, and whether that is to be a new one. It
+//! knows no device.
 ghost use Rattle.std.specs.Prelude.{◌≡◌, ◌∷◌, [], false, List, ℕ, map, string_bytes};
 ghost use Rattle.std.specs.Option.{option_map};
 ghost use Rattle.hac_model.specs.Script.CommandLine.{options, is_option};
@@ -41,7 +42,8 @@ struct Asked<'a> {
 impl<'a> Asked<'a> {
     /// What is asked for with one word more. None where no command line begins so.
     fn with(self, word: &'a str) -> Option<Asked<'a>>
-        ensures { (rest : List (List ℕ)) → asked_after result rest ≡ asked_on self.entry (word.now ∷ rest) }
+        ensures { (rest : List (List ℕ)) →
+            asked_after result rest ≡ asked_on self.entry (word.now ∷ rest) }
     {
         if self.ended {
             return self.with_name(word);
@@ -60,7 +62,8 @@ impl<'a> Asked<'a> {
 
     fn with_option(self, word: &str) -> Option<Asked<'a>>
         requires { self.ended ≡ false }
-        ensures { (rest : List (List ℕ)) → asked_after result rest ≡ asked_with_option self.entry word.now rest }
+        ensures { (rest : List (List ℕ)) →
+            asked_after result rest ≡ asked_with_option self.entry word.now rest }
     {
         if self.fresh || word != "--new" {
             return None;
@@ -72,7 +75,8 @@ impl<'a> Asked<'a> {
     }
 
     fn with_name(self, word: &'a str) -> Option<Asked<'a>>
-        ensures { (rest : List (List ℕ)) → asked_after result rest ≡ asked_with_name self.entry word.now rest }
+        ensures { (rest : List (List ℕ)) →
+            asked_after result rest ≡ asked_with_name self.entry word.now rest }
     {
         if self.store.is_some() {
             return None;

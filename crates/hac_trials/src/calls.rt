@@ -93,16 +93,13 @@ fn which_happen(alloc: Global, machine: &mut Machine) -> Result<[bool; 6], Memor
 
 /// Whether an event fits. If so, it happens.
 fn happens(machine: &mut Machine, event: Event) -> Result<bool, Memory> {
-    match machine.fits(&event) {
-        Ok(true) => {
-            machine.prepare(Settled::Change(event))?;
+    match machine.fits(event)? {
+        Some(change) => {
+            machine.prepare(Settled::Change(change))?;
             machine.commit();
             Ok(true)
         }
-        other => {
-            drop(event);
-            other
-        }
+        None => Ok(false),
     }
 }
 

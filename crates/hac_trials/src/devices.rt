@@ -1,5 +1,5 @@
-//! Runs over sources and sinks in memory that give their bytes in pieces, fail at chosen calls, or hold more than a
-//! file can say.
+//! Runs over sources and sinks in memory that give their bytes in pieces, fail at chosen calls, or
+//! hold more than a file can say.
 use crate::runs::{NEW, ROOM, Trial, expect_play, failing_disk, run_with, trial_of};
 use hac_model::{SCRIPT_LIMIT, TEXT_LIMIT};
 use hac_outside::{Failed, MemorySink, MemorySource, Source};
@@ -79,8 +79,8 @@ fn expect_usage(
     Ok(())
 }
 
-/// A source that makes the bytes of a script of a given length: each read gives a comment, and one read near the
-/// limit begins with a command.
+/// A source that makes the bytes of a script of a given length: each read gives a comment, and one
+/// read near the limit begins with a command.
 #[derive(Drop)]
 struct LongScript<'a> {
     command: &'a [u8],

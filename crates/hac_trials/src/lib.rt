@@ -1,7 +1,10 @@
-//! Trials of what no transcript can say: devices that fail, scripts that come in pieces, and calls that the program
-//! doesn't make yet, once each with ample memory. There is nothing here for other crates.
+//! Trials of what no transcript can say: devices that fail, scripts that come in pieces, and calls
+//! that the program doesn't make yet, once each with ample memory. There is nothing here for other
+//! crates.
 #![tactic(auto)]
 
+#[cfg(test)]
+mod areas;
 #[cfg(test)]
 mod calls;
 #[cfg(test)]

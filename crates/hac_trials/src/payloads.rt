@@ -86,7 +86,8 @@ fn expect_event(rt: &impl Abort, alloc: Global, bytes: &[u8], shown: &str) -> Re
 fn faults_are_told_with_their_place(rt: HostRuntime) -> Result<(), Fail> {
     let alloc = rt.alloc();
     let rows: [(&[u8], u64); 32] = [
-        // The payload and its kind: none, one of a state, one of no event, and a byte behind an event.
+        // The payload and its kind: none, one of a state, one of no event, and a byte behind an
+        // event.
         (b"", 0),
         (b"\x02\x01\0\0\0\0\0\0\0", 0),
         (b"\x01", 1),
@@ -195,8 +196,8 @@ fn limits_of_queries(rt: HostRuntime) -> Result<(), Fail> {
     Ok(())
 }
 
-/// The fault of a payload that sets a query, given the parts behind the number of the directory, each with how often it
-/// comes.
+/// The fault of a payload that sets a query, given the parts behind the number of the directory,
+/// each with how often it comes.
 fn fault_of_query(alloc: Global, parts: &[(&[u8], usize)]) -> Result<Option<CodecFault>, Fail> {
     let mut bytes = b"\x01\x09\0\0\0\0".to_vec(alloc)?;
     for (part, count) in parts {

@@ -68,8 +68,8 @@ fn disk_that_stops_within_a_command(rt: HostRuntime) -> Result<(), Fail> {
     Ok(())
 }
 
-/// A command on a disk that stops after some calls ends with the status and replies the text, and the next run finds
-/// what is there.
+/// A command on a disk that stops after some calls ends with the status and replies the text, and
+/// the next run finds what is there.
 fn expect_stop(
     rt: &impl Abort,
     alloc: Global,
@@ -113,7 +113,8 @@ fn record_is_on_the_disk_before_the_reply(rt: HostRuntime) -> Result<(), Fail> {
     let alloc = rt.alloc();
     let script = trial_of(b"mkdir /a\nmkdir /b\nmkdir /c\n");
     let rows: [(Trial<'_>, &[u8]); 3] = [
-        // The first reply can't be written, or can't be flushed: nothing behind its line is taken up.
+        // The first reply can't be written, or can't be flushed: nothing behind its line is taken
+        // up.
         (script.failing_writes(&[1]), b"d a\nok\n"),
         (script.failing_writes(&[2]), b"d a\nok\n"),
         (script.failing_writes(&[3]), b"d a\nd b\nok\n"),

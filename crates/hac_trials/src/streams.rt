@@ -1,4 +1,5 @@
-//! Sources and sinks over std's readers and writers, and what they make of a call that fails or is interrupted.
+//! Sources and sinks over std's readers and writers, and what they make of a call that fails or is
+//! interrupted.
 use hac_outside::{Failed, Sink, Source, StdSink, StdSource, write_all};
 use std::io::{self, BufWriter, ErrorKind, Read, Write};
 use std::test::Fail;

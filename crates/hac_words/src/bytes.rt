@@ -2,7 +2,8 @@
 ghost use Rattle.std.specs.Prelude.{◌≡◌};
 ghost use Rattle.hac_model.specs.Query.Words.{is_lower_word_byte, is_word, is_word_byte};
 
-/// Whether the bytes are one word as texts have them: in lower case, and without a byte that separates words.
+/// Whether the bytes are one word as texts have them: in lower case, and without a byte that
+/// separates words.
 #[tactic(auto, unfolding(hac_model::specs::Query::Words::is_word))]
 pub fn is_word(bytes: &[u8]) -> bool
     ensures { result ≡ is_word bytes.now }

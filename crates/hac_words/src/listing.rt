@@ -6,7 +6,8 @@ use crate::bytes::is_word_byte;
 use hac_model::{Memory, Name, Words};
 use std::alloc::{AllocError, Global};
 
-/// The words of a text, each once and in the order of their bytes. While it works it holds a copy of the text.
+/// The words of a text, each once and in the order of their bytes. While it works it holds a copy
+/// of the text.
 pub fn words_of(alloc: Global, text: &[u8]) -> Result<Words, Memory>
     ensures { IfOk result (λ words. words ≡ rising_words text.now) }
 {

@@ -7,7 +7,8 @@ ghost use Rattle.hac_model.specs.Query.Words.{has_bytes, has_term, is_asked, low
 use crate::bytes::is_word_byte;
 use hac_model::Term;
 
-/// Whether one of the text's words is what the term asks for. It takes no memory, and reads the text once.
+/// Whether one of the text's words is what the term asks for. It takes no memory, and reads the
+/// text once.
 pub fn has_term(text: &[u8], term: &Term) -> bool
     ensures { result ≡ has_term text.now term.now }
 {

@@ -1,25 +1,34 @@
 -- The tree, the marks and the graph go on to be those of one valid state.
 use Rattle.std.proofs.Common.{◌≡◌, ℕ, Bool, true, false, cond, List, [], ◌∷◌, subst, refl, ap, sym, ◌∙◌}
-use Rattle.std.specs.Prelude.{◌==◌, IsTrue}
+use Rattle.std.specs.Prelude.{◌==◌, ◌||◌, Option, Some, None, is_some, IsTrue}
+use Rattle.std.specs.Option.{option_map_or}
 use Rattle.std.proofs.lemmas.Bool.{eqb-true}
-use Rattle.hac_model.specs.Tree.Depends.{depends}
-use Rattle.hac_model.specs.Tree.Events.{accepted, apply, apply_all}
+use Rattle.hac_model.specs.Laws.{AllHappen}
+use Rattle.hac_model.specs.Tree.Depends.{depends, named_in}
+use Rattle.hac_model.specs.Tree.Events.{accepted, apply}
 use Rattle.hac_model.specs.Tree.Facts.{Facts, Marks, bare_after, facts_after, facts_of, joined}
-use Rattle.hac_model.specs.Tree.Valid.{IsValid}
+use Rattle.hac_model.specs.Query.Formula.{Formula}
+use Rattle.hac_model.specs.Tree.Limits.{counts}
+use Rattle.hac_model.specs.Tree.Links.{is_semantic, parent_of, query_at}
+use Rattle.hac_model.specs.Tree.Valid.{IsLayout, IsValid}
+use Rattle.hac_model.specs.declared.counts.Counts.{Counts}
 use Rattle.hac_model.specs.declared.events.Event.{Event}
-use Rattle.hac_model.specs.declared.states.Answer.{Answer}
 use Rattle.hac_model.specs.declared.states.State.{State}
 use Rattle.hac_model.proofs.AcyclicLemmas.{apply-valid}
 use Rattle.hac_model.proofs.FactLemmas.{edges-told}
-use Rattle.hac_model.proofs.FillLemmas.{tree-sessions}
-use Rattle.hac_model.proofs.NextLemmas.{next-own, next-state}
+use Rattle.hac_model.proofs.FillLemmas.{tree-law, tree-sessions}
+use Rattle.hac_model.proofs.NextLemmas.{next-layout, next-own, next-state}
 use Rattle.dep_graph.specs.Graphs.{edges_of}
+use Rattle.dep_graph.specs.declared.graph.NewEdges.{NewEdges}
 use Rattle.link_kinds.specs.Kinds.{Lists}
-use Rattle.link_kinds.specs.Seen.{lists_in, permanent_in, prohibited_in, transient_in}
+use Rattle.link_kinds.specs.Seen.{has_sets, lists_in, permanent_in, prohibited_in}
+use Rattle.kept_state.specs.Kept.{IsKept}
 use Rattle.kept_state.specs.Parts.{AreAlike, IsLinked, facts_kept, state_of}
-use Rattle.kept_state.specs.Ready.{IsPut, ready_events}
+use Rattle.kept_state.specs.Ready.{IsPut, IsReady, MayPut, Suits, ready_events}
 use Rattle.kept_state.specs.declared.parts.Parts.{Parts}
 use Rattle.kept_state.specs.declared.ready.Ready.{Ready}
+use Rattle.kept_state.specs.declared.ready.Ready.TheVariants.{Change}
+use Rattle.kept_state.proofs.StateLemmas.{kept-bares, same-counts, same-next-bare, same-semantic}
 
 -- lists of these marks, in which no link was found
 abbrev pub unfound : Marks → Lists
@@ -54,23 +63,77 @@ module _ (old new : Parts) (same : AreAlike old new) where
     valid = subst (λ (s : State). IsValid s) (sym alike-state) h.valid;
     own = λ n. ap (λ (s : State). facts_of s n) alike-state ∙ h.own n ∙ sym (alike-facts n);
     found = λ d. ap (λ (lists : Lists). lists.transient) (same.kinds d) ∙ h.found d;
+    sets = λ d has. ap (λ (s : State). is_semantic s d) alike-state ∙ either (has_sets old.marks d) d refl (same.sets d has);
     sessions = ap (λ (s : State). s.sessions) same.state ∙ h.sessions;
   }
+    where
+      either : (b : Bool) (d : ℕ) → has_sets old.marks d ≡ b → (b || is_semantic old.tree.state d) ≡ true → is_semantic (state_of old) d ≡ true
+      either true d is some = h.sets d is
+      either false d is some = same-semantic (state_of old) old.tree.state (kept-bares old) d ∙ some
 
 -- An event happens.
 
-module _ (kept new : Parts) (ready : Ready) (event : Event) (h : IsLinked kept) (ok : IsTrue (accepted (state_of kept) event)) (one : ready_events ready kept.tree.ready ≡ event ∷ []) where
+-- just a semantic directory has edges
+abbrev pub has_edges : List ℕ → Bool
+has_edges [] = false
+has_edges (edge ∷ edges) = true
+
+semantic-edges : (s : State) (n : ℕ) (facts : Facts) → facts_of s n ≡ facts → is_semantic s n ≡ has_edges facts.edges
+semantic-edges s n facts are = told (query_at s n) ∙ ap has_edges (edges-told s n ∙ ap (λ (facts : Facts). facts.edges) are)
+  where
+    told : (asked : Option (Formula ℕ)) → is_some asked ≡ has_edges (option_map_or (λ q. parent_of s n ∷ named_in q) asked [])
+    told None = refl
+    told (Some q) = refl
+
+-- what has sets has edges
+pub sets-edges : (kept : Parts) → IsLinked kept → (n : ℕ) → IsTrue (has_sets kept.marks n) → IsTrue (has_edges (edges_of kept.graph n))
+sets-edges kept h n has = sym (semantic-edges (state_of kept) n (facts_kept kept n) (h.own n)) ∙ h.sets n has
+
+module _ (kept : Parts) (event : Event) where
+  -- the counts after it are those of the tree after it
+  pub next-counts : counts (apply (state_of kept) event) ≡ counts (bare_after event kept.tree.state)
+  next-counts =
+      same-counts (apply (state_of kept) event) (bare_after event kept.tree.state)
+      (same-next-bare (state_of kept) kept.tree.state (kept-bares kept) event ∙ sym (tree-law event kept.tree.state))
+
+  -- the tree after it is one
+  pub next-tree : IsLinked kept → IsTrue (accepted (state_of kept) event) → IsLayout (bare_after event kept.tree.state)
+  next-tree h ok = next-layout kept.tree.state (facts_kept kept) event h.valid ok
+
+-- what was prepared is ready
+pub kept-ready : (kept new : Parts) (ready : Ready) (event : Event) (edges : Option NewEdges) (told : Counts) → IsLinked kept → AreAlike kept new → IsTrue (accepted (state_of kept) event) → Suits event edges new → told ≡ counts (apply (state_of kept) event) →
+    ready ≡ Change event edges told → IsKept (record { parts = new; ready = ready })
+kept-ready kept new ready event edges told h same ok fits all is =
+    let state = sym (alike-state kept new same) in
+    subst (λ (r : Ready). IsKept (record { parts = new; ready = r })) (sym is) (record {
+      linked = alike-linked kept new same h;
+      ready = (fits, all ∙ ap (λ (s : State). counts (apply s event)) state);
+      happen = (subst (λ (s : State). IsTrue (accepted s event)) state ok, tt);
+    })
+
+-- what is ready may be applied
+pub may-put : (kept : Parts) (ready : Ready) (event : Event) (edges : Option NewEdges) (told : Counts) → IsLinked kept → IsReady ready kept → AllHappen (state_of kept) (ready_events ready) → ready ≡ Change event edges told → MayPut event told kept
+may-put kept ready event edges told h fits happen is =
+    let ok : IsTrue (accepted (state_of kept) event) = (subst (λ (r : Ready). AllHappen (state_of kept) (ready_events r)) is happen).0 in
+    record {
+      linked = h;
+      happens = ok;
+      tree = record { layout = next-tree kept event h ok; counts_are = (subst (λ (r : Ready). IsReady r kept) is fits).1 ∙ next-counts kept event };
+    }
+
+module _ (kept new : Parts) (event : Event) (h : IsLinked kept) (ok : IsTrue (accepted (state_of kept) event)) where
   abbrev now : ℕ → Facts
   now = facts_after event kept.tree.state (facts_kept kept)
 
   -- it is put by what it does to the tree, the marks and the graph
   pub put : new.tree.state ≡ bare_after event kept.tree.state → ((n : ℕ) → lists_in new.marks n ≡ unfound (now n).marks) → ((n : ℕ) → edges_of new.graph n ≡ (now n).edges) →
-      ((n : ℕ) → [] ≡ (now n).answers) → IsPut ready kept new
-  put tree marks edges answers = record {
-    state = led ∙ ap (λ (events : List Event). apply_all (state_of kept) events) (sym one);
+      ((n : ℕ) → [] ≡ (now n).answers) → ((n : ℕ) → IsTrue (has_sets new.marks n) → IsTrue (has_edges (now n).edges)) → IsPut event kept new
+  put tree marks edges answers sets = record {
+    state = led;
     linked = record {
       valid = subst (λ (s : State). IsValid s) (sym led) (apply-valid (state_of kept) event h.valid ok);
-      own = next-own kept.tree.state (facts_kept kept) event h.valid ok h.own new.tree.state tree (facts_kept new) facts;
+      own = own;
+      sets = λ n has. semantic-edges (state_of new) n (now n) (own n ∙ facts n) ∙ sets n has;
       found = λ d. ap (λ (lists : Lists). lists.transient) (marks d);
       sessions = ap (λ (s : State). s.sessions) tree ∙ tree-sessions event kept.tree.state ∙ h.sessions;
     };
@@ -79,5 +142,17 @@ module _ (kept new : Parts) (ready : Ready) (event : Event) (h : IsLinked kept) 
       facts : (n : ℕ) → facts_kept new n ≡ now n
       facts n = λ i. record { marks = record { permanent = (marks n i).permanent; prohibited = (marks n i).prohibited }; answers = answers n i; edges = edges n i }
 
+      own : (n : ℕ) → facts_of (state_of new) n ≡ facts_kept new n
+      own = next-own kept.tree.state (facts_kept kept) event h.valid ok h.own new.tree.state tree (facts_kept new) facts
+
       led : state_of new ≡ apply (state_of kept) event
       led = next-state kept.tree.state (facts_kept kept) event h.valid ok h.own new.tree.state tree (facts_kept new) facts
+
+  -- an event that tells no facts
+  pub put-still : now ≡ facts_kept kept → new.tree.state ≡ bare_after event kept.tree.state → new.marks ≡ kept.marks → new.graph ≡ kept.graph → IsPut event kept new
+  put-still still tree marks graph =
+      put tree
+      (λ n. ap (λ m. lists_in m n) marks ∙ kept-lists kept h n ∙ ap (λ (facts : ℕ → Facts). unfound (facts n).marks) (sym still))
+      (λ n. ap (λ g. edges_of g n) graph ∙ ap (λ (facts : ℕ → Facts). (facts n).edges) (sym still))
+      (λ n. ap (λ (facts : ℕ → Facts). (facts n).answers) (sym still))
+      (λ n has. ap (λ (facts : ℕ → Facts). has_edges (facts n).edges) still ∙ sets-edges kept h n (ap (λ m. has_sets m n) (sym marks) ∙ has))

@@ -1,6 +1,3 @@
-pub mod CountingLemmas
-pub mod DirtyLemmas
-pub mod CountedLemmas
 pub mod KeptLemmas
 pub mod ReadyLemmas
 pub mod PutLemmas

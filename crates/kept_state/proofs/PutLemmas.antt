@@ -1,54 +1,45 @@
 -- What was prepared is made so: each event by what it does to the tree, to the marks and to the graph.
-use Rattle.std.proofs.Common.{◌≡◌, ℕ, suc, zero, Bool, true, false, cond, List, [], ◌∷◌, subst, refl, ap, sym, ◌∙◌, arith}
-use Rattle.std.specs.Prelude.{◌==◌, ◌&&◌, Option, Some, None, is_some, replicate, option_and_then, IsTrue}
+use Rattle.std.proofs.Common.{◌≡◌, ℕ, Bool, true, false, cond, List, [], ◌∷◌, subst, refl, ap, sym, ◌∙◌, arith}
+use Rattle.std.specs.Prelude.{◌==◌, ◌&&◌, not, Option, Some, None, is_some, IsTrue}
 use Rattle.std.specs.Option.{option_map, option_map_or}
+use Rattle.std.proofs.Math.Bool.{and-false, and-true}
 use Rattle.std.proofs.lemmas.Bool.{and_parts, eqb-true}
 use Rattle.hac_model.specs.Tree.Depends.{named_in}
-use Rattle.hac_model.specs.Tree.Events.{accepted, added, apply, apply_all, asking, changed_at, edited, is_possible, may_mark, next_dirty, plain_body, removed, reseated, rewritten}
-use Rattle.hac_model.specs.Tree.Facts.{Facts, Marks, bare_after, edges_to, facts_after, facts_at, facts_of, no_facts, with_mark, without_item}
+use Rattle.hac_model.specs.Tree.Events.{accepted, added, asking, changed_at, edited, may_mark, removed, reseated}
+use Rattle.hac_model.specs.Tree.Facts.{Facts, Marks, bare_after, edges_to, facts_after, facts_at, no_facts, with_mark}
 use Rattle.hac_model.specs.Query.Formula.{Formula}
-use Rattle.hac_model.specs.Laws.{AllHappen}
 use Rattle.hac_model.specs.Tree.Limits.{is_text}
 use Rattle.hac_model.specs.Tree.Links.{is_item, is_semantic, parent_of, query_at}
-use Rattle.hac_model.specs.Tree.{body_at, entry_at, is_directory, is_file, is_file_at, query_in}
-use Rattle.hac_model.specs.Tree.Valid.{IsLayout}
+use Rattle.hac_model.specs.Tree.{body_at, entry_at, is_directory, is_file, is_file_at}
 use Rattle.hac_model.specs.declared.events.Event.{Event}
 use Rattle.hac_model.specs.declared.events.Event.TheVariants as event
 use Rattle.hac_model.specs.declared.marks.Kind.{Kind}
 use Rattle.hac_model.specs.declared.marks.Kind.TheVariants.{Transient, Permanent, Prohibited, Unlinked}
 use Rattle.hac_model.specs.declared.marks.Mark.{Mark}
-use Rattle.hac_model.specs.declared.states.Answer.{Answer}
 use Rattle.hac_model.specs.declared.states.Body.{Body}
 use Rattle.hac_model.specs.declared.states.Body.TheVariants.{Semantic}
 use Rattle.hac_model.specs.declared.states.Entry.{Entry}
 use Rattle.hac_model.specs.declared.states.State.{State}
-use Rattle.hac_model.proofs.NextLemmas.{next-layout}
 use Rattle.hac_model.proofs.TreeLemmas.{entry_at-next}
-use Rattle.hac_model.proofs.ValidLemmas.{move-parts, rmdir-parts, setq-parts}
+use Rattle.hac_model.proofs.ValidLemmas.{mark-parts, move-parts, rmdir-parts}
 use Rattle.dep_graph.specs.Graphs as graph
 use Rattle.dep_graph.specs.Graphs.{edges_of, replaced}
 use Rattle.dep_graph.specs.declared.graph.NewEdges.{NewEdges}
-use Rattle.file_tree.specs.Ready.{body_in, name_in, new_query, new_text}
 use Rattle.file_tree.specs.Seen as tree
 use Rattle.set_pool.specs.Rising as items
-use Rattle.link_kinds.specs.Kinds.{Lists, no_lists, with_kind}
-use Rattle.link_kinds.specs.Seen.{ChangesDir, DropsItem, Known, LinkListsRise, lists_in, permanent_in, prohibited_in, transient_in}
+use Rattle.link_kinds.specs.Kinds.{no_lists, with_kind}
+use Rattle.link_kinds.specs.Seen.{ChangesDir, DropsItem, Known, LinkListsRise, SameLinks, has_sets, lists_in, permanent_in, prohibited_in, transient_in}
 use Rattle.link_kinds.proofs.PutLemmas.{inserted-put, removed-without}
-use Rattle.kept_state.specs.Parts.{AreAlike, AreMovedEdges, IsLinked, facts_kept, state_of}
-use Rattle.kept_state.specs.Ready.{IsPut, MayPut, made}
+use Rattle.kept_state.specs.Parts.{AreEdges, AreMovedEdges, IsLinked, facts_kept, state_of}
+use Rattle.kept_state.specs.Ready.{IsPut}
 use Rattle.kept_state.specs.declared.parts.Parts.{Parts}
-use Rattle.kept_state.specs.declared.ready.Ready.TheVariants as ready
-use Rattle.kept_state.proofs.CountedLemmas.{tested-entry}
-use Rattle.kept_state.proofs.KeptLemmas.{alike-linked, alike-state, kept-edges, kept-lists, lists-still, put, unfound}
-use Rattle.kept_state.proofs.ReadyLemmas.{made-facts, made-tree, possible-of}
-use Rattle.kept_state.proofs.StateLemmas.{kept-bares, same-depends, same-file, same-made, same-semantic, same-some}
+use Rattle.kept_state.proofs.KeptLemmas.{has_edges, kept-edges, kept-lists, lists-still, put, sets-edges, unfound}
+use Rattle.kept_state.proofs.ReadyLemmas.{possible-of}
+use Rattle.kept_state.proofs.StateLemmas.{kept-bares, same-depends, same-file, same-made, same-some}
 
 -- an entry whose body passes a test is there
 tested-there : (t : State) (n : ℕ) (p : Body → Bool) → option_map_or p (body_at t.entries n) false ≡ true → is_some (entry_at t.entries n) ≡ true
-tested-there t n p h = let found = tested-entry t n p h in ap (λ (o : Option Entry). is_some o) found.1
-
-semantic-entry : (t : State) (n : ℕ) → is_semantic t n ≡ true → is_some (entry_at t.entries n) ≡ true
-semantic-entry t n h = elim (entry_at t.entries n) as (λ (o : Option Entry). is_some (option_and_then query_in (option_map (λ (e : Entry). e.body) o)) ≡ true → is_some o ≡ true) [
+tested-there t n p h = elim (entry_at t.entries n) as (λ (o : Option Entry). option_map_or p (option_map (λ (e : Entry). e.body) o) false ≡ true → is_some o ≡ true) [
   | None ↦ (λ h. absurd cc)
   | Some e ↦ (λ h. refl)
 ] h
@@ -63,48 +54,39 @@ answers-put : (b : Bool) (new old : Facts) → new.answers ≡ [] → old.answer
 answers-put true new old none also = sym none
 answers-put false new old none also = sym also
 
-module _ (kept : Parts) (dir : ℕ) (name : List ℕ) (may : MayPut (ready.Add dir name) kept) where
-  abbrev new-body : Body
-  new-body = body_in kept.tree.ready
+some-edges : (b : Bool) (new old : Facts) → IsTrue (has_edges new.edges) → IsTrue (has_edges old.edges) → IsTrue (has_edges (cond b new old).edges)
+some-edges true new old some also = some
+some-edges false new old some also = also
 
-  pub added-layout : IsLayout (added kept.tree.state dir name (body_in kept.tree.ready))
-  added-layout =
-      subst (λ (s : State). IsLayout s) (made-tree kept.tree.state dir name new-body may.suits.1)
-      (next-layout kept.tree.state (facts_kept kept) (made dir name new-body) may.linked.valid may.happen.0)
+-- The tree has what events refer to.
 
-  pub added-put : (tree : tree.Seen) → tree.state ≡ added kept.tree.state dir name (body_in kept.tree.ready) → IsPut (ready.Add dir name) kept (record { tree = tree; marks = kept.marks; graph = kept.graph })
-  added-put tree is =
-      put kept (record { tree = tree; marks = kept.marks; graph = kept.graph }) (ready.Add dir name) (made dir name new-body) may.linked may.happen.0 refl
-      (is ∙ sym (made-tree kept.tree.state dir name new-body may.suits.1))
-      (λ n. kept-lists kept may.linked n ∙ ap (λ (facts : ℕ → Facts). unfound (facts n).marks) still)
-      (λ n. ap (λ (facts : ℕ → Facts). (facts n).edges) still)
-      (λ n. ap (λ (facts : ℕ → Facts). (facts n).answers) still)
-    where
-      still : facts_kept kept ≡ facts_after (made dir name new-body) kept.tree.state (facts_kept kept)
-      still = sym (made-facts kept.tree.state (facts_kept kept) dir name new-body)
+module _ (kept : Parts) where
+  abbrev s : State
+  s = state_of kept
+
+  pub moved-there : (entry dir : ℕ) (name : List ℕ) → IsTrue (accepted s (event.Mv entry dir name)) → is_some (entry_at kept.tree.state.entries entry) ≡ true
+  moved-there entry dir name ok = sym (same-some s kept.tree.state (kept-bares kept) entry) ∙ (move-parts s entry dir name (possible-of s (event.Mv entry dir name) ok)).0
+
+  pub text-there : (file : ℕ) (text : List ℕ) → IsTrue (accepted s (event.Rewrite file text)) → is_file_at kept.tree.state.entries file ≡ true
+  text-there file text ok = sym (same-file s kept.tree.state (kept-bares kept) file) ∙ (and_parts (is_file_at s.entries file) (is_text text) (possible-of s (event.Rewrite file text) ok)).0
+
+  pub file-there : (file : ℕ) → IsTrue (accepted s (event.Rm file)) → is_some (entry_at kept.tree.state.entries file) ≡ true
+  file-there file ok = tested-there kept.tree.state file is_file (sym (same-file s kept.tree.state (kept-bares kept) file) ∙ possible-of s (event.Rm file) ok)
+
+  pub directory-there : (dir : ℕ) → IsTrue (accepted s (event.Rmdir dir)) → is_some (entry_at kept.tree.state.entries dir) ≡ true
+  directory-there dir ok = tested-there kept.tree.state dir is_directory (sym (same-made s kept.tree.state (kept-bares kept) dir) ∙ (rmdir-parts s dir (possible-of s (event.Rmdir dir) ok)).0)
 
 -- A semantic directory comes.
 
-module _ (kept : Parts) (dir : ℕ) (name : List ℕ) (edges : NewEdges) (may : MayPut (ready.Smkdir dir name edges) kept) where
-  abbrev asked : Formula ℕ
-  asked = new_query kept.tree.ready
-
-  body-is : body_in kept.tree.ready ≡ Semantic asked [] []
-  body-is = ap body_in may.suits.0
-
-  pub semantic-layout : IsLayout (added kept.tree.state dir name (body_in kept.tree.ready))
-  semantic-layout =
-      subst (λ (b : Body). IsLayout (added kept.tree.state dir name b)) (sym body-is)
-      (next-layout kept.tree.state (facts_kept kept) (event.Smkdir dir name asked []) may.linked.valid may.happen.0)
-
-  pub semantic-put : (tree : tree.Seen) (edges_now : graph.Seen) → tree.state ≡ added kept.tree.state dir name (body_in kept.tree.ready) → ((q : ℕ) → edges_of edges_now q ≡ replaced (edges_of kept.graph) edges.dir edges.edges.items q) →
-      IsPut (ready.Smkdir dir name edges) kept (record { tree = tree; marks = kept.marks; graph = edges_now })
+module _ (kept : Parts) (h : IsLinked kept) (dir : ℕ) (name : List ℕ) (asked : Formula ℕ) (ok : IsTrue (accepted (state_of kept) (event.Smkdir dir name asked []))) (edges : NewEdges) (are : AreEdges kept.graph kept.tree.state.next dir asked edges) where
+  pub semantic-put : (tree : tree.Seen) (edges_now : graph.Seen) → tree.state ≡ added kept.tree.state dir name (Semantic asked [] []) → ((q : ℕ) → edges_of edges_now q ≡ replaced (edges_of kept.graph) edges.dir edges.edges.items q) →
+      IsPut (event.Smkdir dir name asked []) kept (record { tree = tree; marks = kept.marks; graph = edges_now })
   semantic-put tree edges_now is each =
-      put kept (record { tree = tree; marks = kept.marks; graph = edges_now }) (ready.Smkdir dir name edges) (event.Smkdir dir name asked []) may.linked may.happen.0 refl
-      (is ∙ ap (added t dir name) body-is)
-      (λ n. lists-still kept may.linked t.next new n none)
-      (λ n. each n ∙ (λ i. replaced (edges_of kept.graph) (may.suits.1.dir_is i) (may.suits.1.edges_are i) n) ∙ edges-put (n == t.next) new (facts_kept kept n))
+      put kept (record { tree = tree; marks = kept.marks; graph = edges_now }) (event.Smkdir dir name asked []) h ok is
+      (λ n. lists-still kept h t.next new n none)
+      (λ n. each n ∙ (λ i. replaced (edges_of kept.graph) (are.dir_is i) (are.edges_are i) n) ∙ edges-put (n == t.next) new (facts_kept kept n))
       (λ n. answers-put (n == t.next) new (facts_kept kept n) refl refl)
+      (λ n has. some-edges (n == t.next) new (facts_kept kept n) refl (sets-edges kept h n has))
     where
       t : State
       t = kept.tree.state
@@ -116,92 +98,58 @@ module _ (kept : Parts) (dir : ℕ) (name : List ℕ) (edges : NewEdges) (may : 
       none : new.marks ≡ (facts_kept kept t.next).marks
       none =
           let s = state_of kept in
-          sym (ap (λ (o : Option Entry). (facts_at o).marks) (entry_at-next 0 s.entries s.next s.next may.linked.valid.layout.numbers (omega arith)))
-          ∙ ap (λ (facts : Facts). facts.marks) (may.linked.own t.next)
+          sym (ap (λ (o : Option Entry). (facts_at o).marks) (entry_at-next 0 s.entries s.next s.next h.valid.layout.numbers (omega arith)))
+          ∙ ap (λ (facts : Facts). facts.marks) (h.own t.next)
 
 -- A directory gets a query.
 
-module _ (kept : Parts) (dir : ℕ) (edges : NewEdges) (may : MayPut (ready.Setq dir edges) kept) where
-  abbrev query-asked : Formula ℕ
-  query-asked = new_query kept.tree.ready
-
-  pub query-body : body_in kept.tree.ready ≡ Semantic (new_query kept.tree.ready) [] []
-  query-body = ap body_in may.suits.0
-
-  pub query-there : is_some (entry_at kept.tree.state.entries dir) ≡ true
-  query-there =
-      let parts = setq-parts (state_of kept) dir query-asked [] (possible-of (state_of kept) (event.Setq dir query-asked []) may.happen.0) in
-      tested-there kept.tree.state dir is_directory (sym (same-made (state_of kept) kept.tree.state (kept-bares kept) dir) ∙ parts.0)
-
-  pub query-layout : IsLayout (changed_at kept.tree.state dir (edited (asking (new_query kept.tree.ready))))
-  query-layout = next-layout kept.tree.state (facts_kept kept) (event.Setq dir query-asked []) may.linked.valid may.happen.0
-
-  pub query-put : (tree : tree.Seen) (edges_now : graph.Seen) → tree.state ≡ changed_at kept.tree.state dir (edited (asking (new_query kept.tree.ready))) →
-      ((q : ℕ) → edges_of edges_now q ≡ replaced (edges_of kept.graph) edges.dir edges.edges.items q) → IsPut (ready.Setq dir edges) kept (record { tree = tree; marks = kept.marks; graph = edges_now })
+module _ (kept : Parts) (h : IsLinked kept) (dir : ℕ) (asked : Formula ℕ) (ok : IsTrue (accepted (state_of kept) (event.Setq dir asked []))) (edges : NewEdges) (are : AreEdges kept.graph dir (parent_of kept.tree.state dir) asked edges) where
+  pub query-put : (tree : tree.Seen) (edges_now : graph.Seen) → tree.state ≡ changed_at kept.tree.state dir (edited (asking asked)) →
+      ((q : ℕ) → edges_of edges_now q ≡ replaced (edges_of kept.graph) edges.dir edges.edges.items q) → IsPut (event.Setq dir asked []) kept (record { tree = tree; marks = kept.marks; graph = edges_now })
   query-put tree edges_now is each =
-      put kept (record { tree = tree; marks = kept.marks; graph = edges_now }) (ready.Setq dir edges) (event.Setq dir query-asked []) may.linked may.happen.0 refl is
-      (λ n. lists-still kept may.linked dir new n refl)
-      (λ n. each n ∙ (λ i. replaced (edges_of kept.graph) (may.suits.1.dir_is i) (may.suits.1.edges_are i) n) ∙ edges-put (n == dir) new (facts_kept kept n))
+      put kept (record { tree = tree; marks = kept.marks; graph = edges_now }) (event.Setq dir asked []) h ok is
+      (λ n. lists-still kept h dir new n refl)
+      (λ n. each n ∙ (λ i. replaced (edges_of kept.graph) (are.dir_is i) (are.edges_are i) n) ∙ edges-put (n == dir) new (facts_kept kept n))
       (λ n. answers-put (n == dir) new (facts_kept kept n) refl refl)
+      (λ n has. some-edges (n == dir) new (facts_kept kept n) refl (sets-edges kept h n has))
     where
       new : Facts
-      new = record (facts_kept kept dir) { edges = parent_of kept.tree.state dir ∷ named_in query-asked }
+      new = record (facts_kept kept dir) { edges = parent_of kept.tree.state dir ∷ named_in asked }
 
 -- A directory loses its marks and its edges.
 
-lists-gone : (kept : Parts) (marks : Known) (dir n : ℕ) → IsLinked kept → ChangesDir kept.marks marks dir no_lists → lists_in marks n ≡ unfound (cond (n == dir) no_facts (facts_kept kept n)).marks
-lists-gone kept marks dir n h drops = drops n ∙ at (n == dir)
+pub dir-gone : (kept : Parts) (e : Event) (dir : ℕ) → IsLinked kept → IsTrue (accepted (state_of kept) e) → ((n : ℕ) → facts_after e kept.tree.state (facts_kept kept) n ≡ cond (n == dir) no_facts (facts_kept kept n)) → (tree : tree.Seen) (marks : Known) (edges_now : graph.Seen) →
+    tree.state ≡ bare_after e kept.tree.state → ((q : ℕ) → edges_of edges_now q ≡ replaced (edges_of kept.graph) dir [] q) → ChangesDir kept.marks marks dir no_lists → ((n : ℕ) → has_sets marks n ≡ (has_sets kept.marks n && not (n == dir))) → IsPut e kept (record { tree = tree; marks = marks; graph = edges_now })
+dir-gone kept e dir h ok gone tree marks edges_now is each drops sets =
+    put kept (record { tree = tree; marks = marks; graph = edges_now }) e h ok is
+    (λ n. drops n ∙ at (n == dir) n ∙ ap (λ (facts : Facts). unfound facts.marks) (sym (gone n)))
+    (λ n. each n ∙ edges-put (n == dir) no_facts (facts_kept kept n) ∙ ap (λ (facts : Facts). facts.edges) (sym (gone n)))
+    (λ n. answers-put (n == dir) no_facts (facts_kept kept n) refl refl ∙ ap (λ (facts : Facts). facts.answers) (sym (gone n)))
+    (λ n has. ap (λ (facts : Facts). has_edges facts.edges) (gone n) ∙ left (n == dir) n (sym (sets n) ∙ has))
   where
-    at : (b : Bool) → cond b no_lists (lists_in kept.marks n) ≡ unfound (cond b no_facts (facts_kept kept n)).marks
-    at true = refl
-    at false = kept-lists kept h n
+    left : (b : Bool) (n : ℕ) → IsTrue (has_sets kept.marks n && not b) → IsTrue (has_edges (cond b no_facts (facts_kept kept n)).edges)
+    left true n has = let never : false ≡ true = sym (and-false (has_sets kept.marks n)) ∙ has in absurd cc
+    left false n has = sets-edges kept h n (sym (and-true (has_sets kept.marks n)) ∙ has)
 
-module _ (kept : Parts) (dir : ℕ) (may : MayPut (ready.Unq dir) kept) where
-  pub plain-there : is_some (entry_at kept.tree.state.entries dir) ≡ true
-  plain-there = semantic-entry kept.tree.state dir (sym (same-semantic (state_of kept) kept.tree.state (kept-bares kept) dir) ∙ possible-of (state_of kept) (event.Unq dir) may.happen.0)
-
-  pub plain-layout : IsLayout (changed_at kept.tree.state dir (edited plain_body))
-  plain-layout = next-layout kept.tree.state (facts_kept kept) (event.Unq dir) may.linked.valid may.happen.0
-
-  pub plain-put : (tree : tree.Seen) (marks : Known) (edges_now : graph.Seen) → tree.state ≡ changed_at kept.tree.state dir (edited plain_body) → ((q : ℕ) → edges_of edges_now q ≡ replaced (edges_of kept.graph) dir [] q) → ChangesDir kept.marks marks dir no_lists →
-      IsPut (ready.Unq dir) kept (record { tree = tree; marks = marks; graph = edges_now })
-  plain-put tree marks edges_now is each drops =
-      put kept (record { tree = tree; marks = marks; graph = edges_now }) (ready.Unq dir) (event.Unq dir) may.linked may.happen.0 refl is
-      (λ n. lists-gone kept marks dir n may.linked drops)
-      (λ n. each n ∙ edges-put (n == dir) no_facts (facts_kept kept n))
-      (λ n. answers-put (n == dir) no_facts (facts_kept kept n) refl refl)
-
-module _ (kept : Parts) (dir : ℕ) (may : MayPut (ready.Rmdir dir) kept) where
-  pub gone-there : is_some (entry_at kept.tree.state.entries dir) ≡ true
-  gone-there =
-      let parts = rmdir-parts (state_of kept) dir (possible-of (state_of kept) (event.Rmdir dir) may.happen.0) in
-      tested-there kept.tree.state dir is_directory (sym (same-made (state_of kept) kept.tree.state (kept-bares kept) dir) ∙ parts.0)
-
-  pub gone-layout : IsLayout (removed kept.tree.state dir)
-  gone-layout = next-layout kept.tree.state (facts_kept kept) (event.Rmdir dir) may.linked.valid may.happen.0
-
-  pub gone-put : (tree : tree.Seen) (marks : Known) (edges_now : graph.Seen) → tree.state ≡ removed kept.tree.state dir → ((q : ℕ) → edges_of edges_now q ≡ replaced (edges_of kept.graph) dir [] q) → ChangesDir kept.marks marks dir no_lists →
-      IsPut (ready.Rmdir dir) kept (record { tree = tree; marks = marks; graph = edges_now })
-  gone-put tree marks edges_now is each drops =
-      put kept (record { tree = tree; marks = marks; graph = edges_now }) (ready.Rmdir dir) (event.Rmdir dir) may.linked may.happen.0 refl is
-      (λ n. lists-gone kept marks dir n may.linked drops)
-      (λ n. each n ∙ edges-put (n == dir) no_facts (facts_kept kept n))
-      (λ n. answers-put (n == dir) no_facts (facts_kept kept n) refl refl)
+    at : (b : Bool) (n : ℕ) → cond b no_lists (lists_in kept.marks n) ≡ unfound (cond b no_facts (facts_kept kept n)).marks
+    at true n = refl
+    at false n = kept-lists kept h n
 
 -- An item gets a mark, or loses it.
 
-module _ (kept : Parts) (mark : Mark) (may : MayPut (ready.Mark mark) kept) where
+module _ (kept : Parts) (h : IsLinked kept) (mark : Mark) (ok : IsTrue (accepted (state_of kept) (event.Mark mark))) where
   mark-fits : may_mark (state_of kept) mark.dir mark.item mark.kind ≡ true
   mark-fits =
       let s = state_of kept in
-      (and_parts (is_item s mark.item && is_semantic s mark.dir) (may_mark s mark.dir mark.item mark.kind) (possible-of s (event.Mark mark) may.happen.0)).1
+      (mark-parts s mark.dir mark.item mark.kind (possible-of s (event.Mark mark) ok)).2
 
-  pub mark-put : (marks : Known) → LinkListsRise kept.marks → ChangesDir kept.marks marks mark.dir (with_kind mark.kind mark.item (lists_in kept.marks mark.dir)) → IsPut (ready.Mark mark) kept (record { tree = kept.tree; marks = marks; graph = kept.graph })
-  mark-put marks rise change =
-      put kept (record { tree = kept.tree; marks = marks; graph = kept.graph }) (ready.Mark mark) (event.Mark mark) may.linked may.happen.0 refl refl
+  pub mark-put : (marks : Known) → LinkListsRise kept.marks → ChangesDir kept.marks marks mark.dir (with_kind mark.kind mark.item (lists_in kept.marks mark.dir)) → SameLinks kept.marks marks → IsPut (event.Mark mark) kept (record { tree = kept.tree; marks = marks; graph = kept.graph })
+  mark-put marks rise change sets =
+      put kept (record { tree = kept.tree; marks = marks; graph = kept.graph }) (event.Mark mark) h ok refl
       (λ n. change n ∙ at (n == mark.dir) n)
       (λ n. edges-still n (n == mark.dir) refl)
       (λ n. answers-put (n == mark.dir) new (facts_kept kept n) refl refl)
+      (λ n has. ap has_edges (sym (edges-still n (n == mark.dir) refl)) ∙ sets-edges kept h n (sym (sets n) ∙ has))
     where
       old : Marks
       old = (facts_kept kept mark.dir).marks
@@ -210,7 +158,7 @@ module _ (kept : Parts) (mark : Mark) (may : MayPut (ready.Mark mark) kept) wher
       new = record (facts_kept kept mark.dir) { marks = with_mark mark.kind mark.item old }
 
       none : items.removed mark.item (transient_in kept.marks mark.dir) ≡ []
-      none = ap (items.removed mark.item) (may.linked.found mark.dir)
+      none = ap (items.removed mark.item) (h.found mark.dir)
 
       -- no link that is found is put
       one : (k : Kind) → may_mark (state_of kept) mark.dir mark.item k ≡ true → with_kind k mark.item (lists_in kept.marks mark.dir) ≡ unfound (with_mark k mark.item old)
@@ -221,64 +169,47 @@ module _ (kept : Parts) (mark : Mark) (may : MayPut (ready.Mark mark) kept) wher
 
       at : (b : Bool) (n : ℕ) → cond b (with_kind mark.kind mark.item (lists_in kept.marks mark.dir)) (lists_in kept.marks n) ≡ unfound (cond b new (facts_kept kept n)).marks
       at true n = one mark.kind mark-fits
-      at false n = kept-lists kept may.linked n
+      at false n = kept-lists kept h n
 
       edges-still : (n : ℕ) (b : Bool) → (n == mark.dir) ≡ b → edges_of kept.graph n ≡ (cond b new (facts_kept kept n)).edges
       edges-still n true is = ap (edges_of kept.graph) (eqb-true n mark.dir is)
       edges-still n false is = refl
 
--- A text is replaced.
-
-module _ (kept : Parts) (file : ℕ) (may : MayPut (ready.Rewrite file) kept) where
-  abbrev text : List ℕ
-  text = new_text kept.tree.ready
-
-  pub text-there : is_file_at kept.tree.state.entries file ≡ true
-  text-there =
-      sym (same-file (state_of kept) kept.tree.state (kept-bares kept) file)
-      ∙ (and_parts (is_file_at (state_of kept).entries file) (is_text text) (possible-of (state_of kept) (event.Rewrite file text) may.happen.0)).0
-
-  pub text-layout : IsLayout (changed_at kept.tree.state file (edited (rewritten (new_text kept.tree.ready))))
-  text-layout = next-layout kept.tree.state (facts_kept kept) (event.Rewrite file text) may.linked.valid may.happen.0
-
-  pub text-put : (tree : tree.Seen) → tree.state ≡ changed_at kept.tree.state file (edited (rewritten (new_text kept.tree.ready))) → IsPut (ready.Rewrite file) kept (record { tree = tree; marks = kept.marks; graph = kept.graph })
-  text-put tree is =
-      put kept (record { tree = tree; marks = kept.marks; graph = kept.graph }) (ready.Rewrite file) (event.Rewrite file text) may.linked may.happen.0 refl is
-      (kept-lists kept may.linked) (λ n. refl) (λ n. refl)
-
 -- An entry goes elsewhere.
 
-module _ (kept : Parts) (entry dir : ℕ) (edges : Option NewEdges) (may : MayPut (ready.Move entry dir edges) kept) where
-  abbrev goes : Event
-  goes = event.Mv entry dir (name_in kept.tree.ready)
-
-  pub moved-there : is_some (entry_at kept.tree.state.entries entry) ≡ true
-  moved-there =
-      sym (same-some (state_of kept) kept.tree.state (kept-bares kept) entry)
-      ∙ (move-parts (state_of kept) entry dir (name_in kept.tree.ready) (possible-of (state_of kept) goes may.happen.0)).0
-
-  pub moved-layout : IsLayout (changed_at kept.tree.state entry (reseated dir (name_in kept.tree.ready)))
-  moved-layout = next-layout kept.tree.state (facts_kept kept) goes may.linked.valid may.happen.0
-
-  module _ (tree : tree.Seen) (is : tree.state ≡ changed_at kept.tree.state entry (reseated dir (name_in kept.tree.ready))) where
+module _ (kept : Parts) (h : IsLinked kept) (entry dir : ℕ) (name : List ℕ) (ok : IsTrue (accepted (state_of kept) (event.Mv entry dir name))) (edges : Option NewEdges) (are : AreMovedEdges kept.tree.state kept.graph entry dir edges) where
+  module _ (tree : tree.Seen) (is : tree.state ≡ changed_at kept.tree.state entry (reseated dir name)) where
     abbrev new-facts : Facts
     new-facts = record (facts_kept kept entry) { edges = edges_to dir (query_at kept.tree.state entry) }
 
-    moved : (edges_now : graph.Seen) → ((n : ℕ) → edges_of edges_now n ≡ (cond (n == entry) new-facts (facts_kept kept n)).edges) → IsPut (ready.Move entry dir edges) kept (record { tree = tree; marks = kept.marks; graph = edges_now })
+    moved : (edges_now : graph.Seen) → ((n : ℕ) → edges_of edges_now n ≡ (cond (n == entry) new-facts (facts_kept kept n)).edges) → IsPut (event.Mv entry dir name) kept (record { tree = tree; marks = kept.marks; graph = edges_now })
     moved edges_now each =
-        put kept (record { tree = tree; marks = kept.marks; graph = edges_now }) (ready.Move entry dir edges) goes may.linked may.happen.0 refl is
-        (λ n. lists-still kept may.linked entry new-facts n refl) each (λ n. answers-put (n == entry) new-facts (facts_kept kept n) refl refl)
+        put kept (record { tree = tree; marks = kept.marks; graph = edges_now }) (event.Mv entry dir name) h ok is
+        (λ n. lists-still kept h entry new-facts n refl) each (λ n. answers-put (n == entry) new-facts (facts_kept kept n) refl refl)
+        (λ n has. asks n (n == entry) refl (sets-edges kept h n has))
+      where
+        -- it asks what it asked
+        same : (q : Option (Formula ℕ)) (parent : ℕ) → has_edges (edges_to dir q) ≡ has_edges (option_map_or (λ q. parent ∷ named_in q) q [])
+        same None parent = refl
+        same (Some q) parent = refl
 
-    pub plain-moved : edges ≡ None → IsPut (ready.Move entry dir edges) kept (record { tree = tree; marks = kept.marks; graph = kept.graph })
+        asks : (n : ℕ) (b : Bool) → (n == entry) ≡ b → IsTrue (has_edges (edges_of kept.graph n)) → IsTrue (has_edges (cond b new-facts (facts_kept kept n)).edges)
+        asks n true here has =
+            same (query_at kept.tree.state entry) (parent_of kept.tree.state entry)
+            ∙ ap has_edges (sym (kept-edges kept h entry ∙ same-depends (state_of kept) kept.tree.state (kept-bares kept) entry))
+            ∙ ap (λ (k : ℕ). has_edges (edges_of kept.graph k)) (sym (eqb-true n entry here)) ∙ has
+        asks n false here has = has
+
+    pub plain-moved : edges ≡ None → IsPut (event.Mv entry dir name) kept (record { tree = tree; marks = kept.marks; graph = kept.graph })
     plain-moved none = moved kept.graph (λ n. at n (n == entry) refl)
       where
         asks : query_at kept.tree.state entry ≡ None
-        asks = subst (λ (o : Option NewEdges). AreMovedEdges kept.tree.state kept.graph entry dir o) none may.suits.1
+        asks = subst (λ (o : Option NewEdges). AreMovedEdges kept.tree.state kept.graph entry dir o) none are
 
         -- what has no query had no edges
         old : edges_of kept.graph entry ≡ []
         old =
-            kept-edges kept may.linked entry ∙ same-depends (state_of kept) kept.tree.state (kept-bares kept) entry
+            kept-edges kept h entry ∙ same-depends (state_of kept) kept.tree.state (kept-bares kept) entry
             ∙ ap (λ (o : Option (Formula ℕ)). option_map_or (λ q. parent_of kept.tree.state entry ∷ named_in q) o []) asks
 
         at : (n : ℕ) (b : Bool) → (n == entry) ≡ b → edges_of kept.graph n ≡ (cond b new-facts (facts_kept kept n)).edges
@@ -286,53 +217,19 @@ module _ (kept : Parts) (entry dir : ℕ) (edges : Option NewEdges) (may : MayPu
         at n false here = refl
 
     pub semantic-moved : (new : NewEdges) (edges_now : graph.Seen) → edges ≡ Some new → ((q : ℕ) → edges_of edges_now q ≡ replaced (edges_of kept.graph) new.dir new.edges.items q) →
-        IsPut (ready.Move entry dir edges) kept (record { tree = tree; marks = kept.marks; graph = edges_now })
+        IsPut (event.Mv entry dir name) kept (record { tree = tree; marks = kept.marks; graph = edges_now })
     semantic-moved new edges_now some each =
         moved edges_now (λ n.
         each n ∙ (λ i. replaced (edges_of kept.graph) (fits.2.dir_is i) ((fits.2.edges_are ∙ sym (ap (edges_to dir) fits.1)) i) n)
         ∙ edges-put (n == entry) new-facts (facts_kept kept n))
       where
         fits : AreMovedEdges kept.tree.state kept.graph entry dir (Some new)
-        fits = subst (λ (o : Option NewEdges). AreMovedEdges kept.tree.state kept.graph entry dir o) some may.suits.1
+        fits = subst (λ (o : Option NewEdges). AreMovedEdges kept.tree.state kept.graph entry dir o) some are
 
 -- A file goes.
 
-module _ (kept : Parts) (entry : ℕ) (may : MayPut (ready.Rm entry) kept) where
-  pub removed-there : is_some (entry_at kept.tree.state.entries entry) ≡ true
-  removed-there = tested-there kept.tree.state entry is_file (sym (same-file (state_of kept) kept.tree.state (kept-bares kept) entry) ∙ possible-of (state_of kept) (event.Rm entry) may.happen.0)
-
-  pub removed-layout : IsLayout (removed kept.tree.state entry)
-  removed-layout = next-layout kept.tree.state (facts_kept kept) (event.Rm entry) may.linked.valid may.happen.0
-
-  pub removed-put : (tree : tree.Seen) (marks : Known) → tree.state ≡ removed kept.tree.state entry → DropsItem kept.marks marks entry → IsPut (ready.Rm entry) kept (record { tree = tree; marks = marks; graph = kept.graph })
-  removed-put tree marks is drops =
-      put kept (record { tree = tree; marks = marks; graph = kept.graph }) (ready.Rm entry) (event.Rm entry) may.linked may.happen.0 refl is
-      (λ n. drops n ∙ ap (with_kind Unlinked entry) (kept-lists kept may.linked n) ∙ (λ i. record { transient = []; permanent = removed-without entry (permanent_in kept.marks n) i; prohibited = removed-without entry (prohibited_in kept.marks n) i }))
-      (λ n. refl) (λ n. refl)
-
--- Files are indexed.
-
-step-put : (kept : Parts) (tree : tree.Seen) → IsLinked kept → IsTrue (accepted (state_of kept) event.Step) → tree.state ≡ apply kept.tree.state event.Step → IsPut (ready.Steps 1) kept (record { tree = tree; marks = kept.marks; graph = kept.graph })
-step-put kept tree h ok is =
-    put kept (record { tree = tree; marks = kept.marks; graph = kept.graph }) (ready.Steps 1) event.Step h ok refl is (kept-lists kept h) (λ n. refl) (λ n. refl)
-
--- one file was indexed
-abbrev stepped : Parts → Parts
-stepped kept = record { tree = record { state = apply kept.tree.state event.Step; ready = kept.tree.ready }; marks = kept.marks; graph = kept.graph }
-
-all-steps : (n : ℕ) (kept : Parts) (tree : tree.Seen) → IsLinked kept → AllHappen (state_of kept) (replicate n event.Step) → tree.state ≡ apply_all kept.tree.state (replicate n event.Step) →
-    IsPut (ready.Steps n) kept (record { tree = tree; marks = kept.marks; graph = kept.graph })
-all-steps zero kept tree h happen is = record { state = alike-state kept new same; linked = alike-linked kept new same h }
-  where
-    new : Parts
-    new = record { tree = tree; marks = kept.marks; graph = kept.graph }
-
-    same : AreAlike kept new
-    same = record { state = is; kinds = λ d. refl; edges = λ d. refl }
-all-steps (suc n) kept tree h happen is =
-    let one = step-put kept (stepped kept).tree h happen.0 refl in
-    let rest = all-steps n (stepped kept) tree one.linked (subst (λ (s : State). AllHappen s (replicate n event.Step)) (sym one.state) happen.1) is in
-    record { state = rest.state ∙ ap (λ (s : State). apply_all s (replicate n event.Step)) one.state; linked = rest.linked }
-
-pub steps-put : (kept : Parts) (count : ℕ) (tree : tree.Seen) → MayPut (ready.Steps count) kept → tree.state ≡ apply_all kept.tree.state (replicate count event.Step) → IsPut (ready.Steps count) kept (record { tree = tree; marks = kept.marks; graph = kept.graph })
-steps-put kept count tree may is = all-steps count kept tree may.linked may.happen is
+pub removed-put : (kept : Parts) (entry : ℕ) → IsLinked kept → IsTrue (accepted (state_of kept) (event.Rm entry)) → (tree : tree.Seen) (marks : Known) → tree.state ≡ removed kept.tree.state entry → DropsItem kept.marks marks entry → SameLinks kept.marks marks → IsPut (event.Rm entry) kept (record { tree = tree; marks = marks; graph = kept.graph })
+removed-put kept entry h ok tree marks is drops sets =
+    put kept (record { tree = tree; marks = marks; graph = kept.graph }) (event.Rm entry) h ok is
+    (λ n. drops n ∙ ap (with_kind Unlinked entry) (kept-lists kept h n) ∙ (λ i. record { transient = []; permanent = removed-without entry (permanent_in kept.marks n) i; prohibited = removed-without entry (prohibited_in kept.marks n) i }))
+    (λ n. refl) (λ n. refl) (λ n has. sets-edges kept h n (sym (sets n) ∙ has))

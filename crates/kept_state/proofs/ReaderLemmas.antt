@@ -1,22 +1,16 @@
 -- What the parts of a kept state tell of it.
-use Rattle.std.proofs.Common.{◌≡◌, ℕ, true, false, cond, List, [], ◌∷◌, map, refl, ap, sym, ◌∙◌}
+use Rattle.std.proofs.Common.{◌≡◌, ℕ, false, cond, List, [], refl, ap, sym, ◌∙◌}
 use Rattle.std.specs.Prelude.{Option, Some, None}
 use Rattle.std.specs.Option.{option_map, option_map_or}
-use Rattle.std.specs.List.{AllByRecursion}
-use Rattle.hac_model.specs.Tree.Facts.{Facts, facts_at, facts_of, filled, filled_entry, joined}
+use Rattle.hac_model.specs.Tree.Facts.{Facts, facts_at, facts_of}
 use Rattle.hac_model.specs.Tree.Links.{has, is_permanent, is_prohibited, permanent_at, prohibited_at}
 use Rattle.hac_model.specs.Tree as tree
 use Rattle.hac_model.specs.Tree.{entry_at}
-use Rattle.hac_model.specs.Tree.Valid.{IsSound, IsValid}
-use Rattle.hac_model.specs.declared.marks.Kind.{Kind}
 use Rattle.hac_model.specs.declared.marks.Kind.TheVariants.{Transient, Permanent, Prohibited, Unlinked}
-use Rattle.hac_model.specs.declared.states.Body.{Body}
-use Rattle.hac_model.specs.declared.states.Body.TheVariants.{File, Dir, Symlink, Semantic, Mount}
 use Rattle.hac_model.specs.declared.states.Entry.{Entry}
 use Rattle.hac_model.specs.declared.states.State.{State}
-use Rattle.hac_model.proofs.FillLemmas.{bare-joined, joined-bare, rejoined}
+use Rattle.hac_model.proofs.FillLemmas.{bare-joined}
 use Rattle.set_pool.specs.Rising.{is_among}
-use Rattle.link_kinds.specs.Marked.{marked_body, marked_entry, with_marks}
 use Rattle.link_kinds.specs.Seen.{Known, kind_at, permanent_in, prohibited_in, transient_in}
 use Rattle.link_kinds.proofs.HasLemmas.{has-among}
 use Rattle.kept_state.specs.Parts.{IsLinked, facts_kept, state_of}
@@ -56,21 +50,3 @@ module _ (s : State) (marks : Known) (are : AreMarksOf s marks) where
 
       prohibited : is_among item (prohibited_in marks dir) ≡ is_prohibited s dir item
       prohibited = sym (has-among (prohibited_in marks dir) item) ∙ ap (λ (ns : List ℕ). has ns item) (are.prohibited dir)
-
-  -- no body is a mount, so marks are all that a tree lacks
-  same-body : (n : ℕ) (body : Body) → IsSound body → filled (facts_of s n) body ≡ marked_body marks n body
-  same-body n (File text dirty shown) sound = refl
-  same-body n Dir sound = refl
-  same-body n (Symlink target) sound = refl
-  same-body n (Semantic query permanent prohibited) sound = λ i. Semantic query (sym (are.permanent n ∙ permanent-fact s n) i) (sym (are.prohibited n ∙ prohibited-fact s n) i)
-  same-body n (Mount space documents answers) sound = absurd sound
-
-  -- the tree with the marks is the state
-  pub marked-is : (t : State) → IsValid s → IsTreeOf s t → with_marks marks t ≡ s
-  marked-is t valid one = sym (
-      sym (rejoined s valid.layout.numbers valid.sessions) ∙ ap (joined (facts_of s)) one.bares ∙ joined-bare (facts_of s) t
-      ∙ (λ i. record { next = t.next; entries = each t.entries one.layout.bodies i; sessions = sym one.sessions i }))
-    where
-      each : (es : List Entry) → AllByRecursion (λ (e : Entry). IsSound e.body) es → map (filled_entry (facts_of s)) es ≡ map (marked_entry marks) es
-      each [] sound = refl
-      each (e ∷ es) sound = λ i. record e { body = same-body e.number e.body sound.0 i } ∷ each es sound.1 i

@@ -1,24 +1,29 @@
 -- What a linked tree says of its state: all but marks is in the tree alone.
 use Rattle.std.proofs.Common.{◌≡◌, ℕ, List, [], map, refl, ap, subst, sym, ◌∙◌}
-use Rattle.std.specs.Prelude.{Option, Some, None, is_some, option_and_then}
+use Rattle.std.specs.Prelude.{◌==◌, ◌&&◌, not, length, nat_lt, Option, Some, None, is_some, option_and_then}
 use Rattle.std.specs.Option.{option_map}
 use Rattle.hac_model.specs.Tree.Bare.{bare, bare_body}
 use Rattle.hac_model.specs.Tree.Depends.{depends, referrers}
-use Rattle.hac_model.specs.Tree.Events.{dirty, edited, is_bare, is_inside, may_ask}
+use Rattle.hac_model.specs.Tree.Events.{apply, dirty, edited, is_bare, is_free, is_inside, may_ask}
 use Rattle.hac_model.specs.Query.Formula.{Formula}
-use Rattle.hac_model.specs.Tree.Limits.{counts}
+use Rattle.hac_model.specs.Tree.Limits.{counts, is_text}
 use Rattle.hac_model.specs.Tree.Links.{is_semantic, parent_of, query_at, shown_of}
 use Rattle.hac_model.specs.Run.Resolving.{resolved}
 use Rattle.hac_model.specs.Tree.{entry_at, is_directory, is_directory_at, is_file_at, is_made_directory, path_of, shown_text}
 use Rattle.hac_model.specs.Tree.Valid.{IsLayout}
 use Rattle.hac_model.specs.declared.commands.Command.{Command}
+use Rattle.hac_model.specs.declared.events.Event.{Event}
+use Rattle.hac_model.specs.declared.events.Event.TheVariants.{Mkdir, NewFile, Rewrite, Smkdir, Setq, Unq, Mark, Mv, Rm, Rmdir, Step}
 use Rattle.hac_model.specs.declared.states.Body.{Body}
 use Rattle.hac_model.specs.declared.states.Body.TheVariants.{File, Dir, Symlink, Semantic, Mount}
 use Rattle.hac_model.specs.declared.states.Entry.{Entry}
 use Rattle.hac_model.specs.declared.states.State.{State}
-use Rattle.hac_model.proofs.AlikeLemmas.{bare-kind, counts-bare, depends-bare, directory-bare, dirty-same, entry_at-bare, file-bare, layout-bare, layout-unbare, is_bare-bare, is_inside-bare, may_ask-bare, parent_of-bare, path_of-bare, query_at-bare, referrers-bare, resolved-bare, some-bare}
+use Rattle.hac_model.proofs.AlikeLemmas.{bare-kind, counts-bare, depends-bare, directory-bare, dirty-same, entry_at-bare, file-bare, layout-bare, layout-unbare, is_bare-bare, is_free-bare, is_inside-bare, may_ask-bare, parent_of-bare, path_of-bare, query_at-bare, referrers-bare, resolved-bare, some-bare}
+use Rattle.hac_model.proofs.BareLemmas.{bare-commutes}
+use Rattle.hac_model.proofs.EventLemmas.{due}
 use Rattle.hac_model.proofs.FillLemmas.{bare-joined}
 use Rattle.hac_model.proofs.MapLemmas.{test-mapped}
+use Rattle.hac_model.specs.Tree.Events.{is_placed}
 use Rattle.kept_state.specs.Parts.{IsLinked, facts_kept, state_of}
 use Rattle.kept_state.specs.declared.parts.Parts.{Parts}
 
@@ -93,9 +98,31 @@ module _ (s t : State) (bares : bare s ≡ bare t) where
   pub same-next : s.next ≡ t.next
   same-next = ap (λ (x : State). x.next) bares
 
+  pub same-free : (dir : ℕ) (name : List ℕ) → is_free s dir name ≡ is_free t dir name
+  same-free dir name = alike (λ s. is_free s dir name) (λ s. is_free-bare s dir name)
+
+  -- and what is placed
+  pub same-placed : (e : Event) → is_placed s e ≡ is_placed t e
+  same-placed (Mkdir dir name) = same-free dir name
+  same-placed (NewFile dir name text) = λ i. same-free dir name i && is_text text
+  same-placed (Rewrite file text) = λ i. same-file file i && is_text text
+  same-placed (Smkdir dir name query told) = λ i. same-free dir name i && (same-asks query i && length told == 0)
+  same-placed (Setq dir query told) = λ i. same-made dir i && (same-asks query i && length told == 0)
+  same-placed (Unq dir) = same-semantic dir
+  same-placed (Mark mark) = λ i. same-file mark.item i && same-semantic mark.dir i
+  same-placed (Mv entry dir name) = λ i. same-some entry i && same-free dir name i && not (same-inside dir entry i)
+  same-placed (Rm entry) = same-file entry
+  same-placed (Rmdir dir) = λ i. same-made dir i && same-bare dir i
+  same-placed Step = due s.entries ∙ ap (λ (k : ℕ). nat_lt 0 k) (same-dirty) ∙ sym (due t.entries)
+  same-placed other = refl
+
   -- the outcome of a command
-  pub same-resolved : (session : List ℕ) (c : Command) → s.sessions ≡ [] → t.sessions ≡ [] → resolved s session c ≡ resolved t session c
-  same-resolved session c none also = sym (resolved-bare s none session c) ∙ ap (λ (x : State). resolved x session c) bares ∙ resolved-bare t also session c
+  pub same-resolved : (base : ℕ) (c : Command) → resolved s base c ≡ resolved t base c
+  same-resolved base c = alike (λ s. resolved s base c) (λ s. resolved-bare s base c)
+
+-- states that are one without their facts stay so by an event
+pub same-next-bare : (s t : State) → bare s ≡ bare t → (e : Event) → bare (apply s e) ≡ bare (apply t e)
+same-next-bare s t bares e = bare-commutes s e ∙ ap (λ (x : State). bare (apply x e)) bares ∙ sym (bare-commutes t e)
 
 -- the tree that is kept has no facts
 pub kept-bares : (kept : Parts) → bare (state_of kept) ≡ bare kept.tree.state

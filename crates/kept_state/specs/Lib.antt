@@ -1,6 +1,4 @@
-pub mod Counting
 pub mod Ready
-pub mod Counted
 pub mod Parts
 pub mod Readers
 pub mod Seen

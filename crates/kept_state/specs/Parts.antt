@@ -1,15 +1,15 @@
 -- A tree with the marks of its semantic directories, and with what depends on what.
-use Rattle.std.specs.Prelude.{◌≡◌, ℕ, [], ◌∷◌, Option, Some, None}
+use Rattle.std.specs.Prelude.{◌≡◌, ℕ, ◌||◌, [], ◌∷◌, Option, Some, None, IsTrue}
 use Rattle.hac_model.specs.Tree.Depends.{named_in}
 use Rattle.hac_model.specs.Tree.Facts.{Facts, Marks, facts_of, joined}
 use Rattle.hac_model.specs.Query.Formula.{Formula}
-use Rattle.hac_model.specs.Tree.Links.{query_at}
+use Rattle.hac_model.specs.Tree.Links.{is_semantic, query_at}
 use Rattle.hac_model.specs.Tree.Valid.{IsValid}
 use Rattle.hac_model.specs.declared.states.State.{State}
 use Rattle.dep_graph.specs.Graphs.{edges_of}
 use Rattle.dep_graph.specs.Graphs as graph
 use Rattle.dep_graph.specs.declared.graph.NewEdges.{NewEdges}
-use Rattle.link_kinds.specs.Seen.{Known, SameKinds, permanent_in, prohibited_in, transient_in}
+use Rattle.link_kinds.specs.Seen.{Known, SameKinds, has_sets, permanent_in, prohibited_in, transient_in}
 use Rattle.kept_state.specs.declared.parts.Parts.{Parts}
 
 -- the marks of a directory
@@ -31,12 +31,15 @@ pub record IsLinked (kept : Parts) : Type 0 where
   pub own : (number : ℕ) → facts_of (state_of kept) number ≡ facts_kept kept number
   -- found links aren't kept
   pub found : (dir : ℕ) → transient_in kept.marks dir ≡ []
+  -- only semantic directories have sets of marks
+  pub sets : (dir : ℕ) → IsTrue (has_sets kept.marks dir) → IsTrue (is_semantic (state_of kept) dir)
   pub sessions : kept.tree.state.sessions ≡ []
 
--- the one has what the other has, and may be ready for something else
+-- the one has what the other has, and may be ready for something else, as a semantic directory for marks
 pub record AreAlike (old new : Parts) : Type 0 where
   pub state : new.tree.state ≡ old.tree.state
   pub kinds : SameKinds old.marks new.marks
+  pub sets : (dir : ℕ) → IsTrue (has_sets new.marks dir) → IsTrue (has_sets old.marks dir || is_semantic old.tree.state dir)
   pub edges : (dir : ℕ) → edges_of new.graph dir ≡ edges_of old.graph dir
 
 -- the same, and the tree and the marks are ready for what they were ready for
@@ -50,6 +53,11 @@ pub record AreEdges (ready_for : graph.Seen) (dir parent : ℕ) (asked : Formula
   pub ready : ready_for.ready ≡ Some dir
   pub dir_is : edges.dir ≡ dir
   pub edges_are : edges.edges.items ≡ parent ∷ named_in asked
+
+-- there are such edges
+abbrev pub HasEdges : graph.Seen → ℕ → ℕ → Formula ℕ → Option NewEdges → Type 0
+HasEdges ready_for dir parent asked None = ⊥
+HasEdges ready_for dir parent asked (Some edges) = AreEdges ready_for dir parent asked edges
 
 -- the edges of an entry that moves, which is semantic just where there are some
 abbrev pub AreMovedEdges : State → graph.Seen → ℕ → ℕ → Option NewEdges → Type 0

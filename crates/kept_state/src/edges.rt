@@ -8,7 +8,8 @@ use crate::parts::Parts;
 use hac_model::{Memory, Node, Number, Query};
 use std::alloc::Global;
 
-/// The edges of a directory with a parent and a query: to the parent, then to those that the query names.
+/// The edges of a directory with a parent and a query: to the parent, then to those that the query
+/// names.
 pub fn edges_of(alloc: Global, parent: Number, query: &Query<Number>) -> Result<Vec<Number>, Memory>
     ensures { IfOk result (λ edges. edges.items ≡ parent ∷ named_in query.now) }
 {
@@ -42,12 +43,13 @@ pub fn cycle_of_query(
     query: &Query<Number>,
 ) -> Result<Option<Number>, Memory>
     requires { IsLinked kept.now }
-    ensures { IfOk result (λ way. way ≡ cycle_over (state_of kept.now) dir (parent_of (state_of kept.now) dir) query.now) }
+    ensures { IfOk result (λ way. way ≡ cycle_over (state_of kept.now) dir
+        (parent_of (state_of kept.now) dir) query.now) }
 {
-    cycle_over(alloc, kept, dir, kept.tree.tree().parent(dir), query)
+    cycle_over(alloc, kept, dir, kept.tree.parent(dir), query)
 }
 
-/// The same of an entry that goes to a directory.
+/// As `cycle_of_query`, for an entry that goes to a directory.
 pub fn cycle_of_move(
     alloc: Global,
     kept: &Parts,
@@ -57,7 +59,7 @@ pub fn cycle_of_move(
     requires { IsLinked kept.now }
     ensures { IfOk result (λ way. way ≡ cycle_of_move (state_of kept.now) entry dir) }
 {
-    match kept.tree.tree().query(entry) {
+    match kept.tree.query(entry) {
         Some(query) => cycle_over(alloc, kept, entry, dir, query),
         None => Ok(None),
     }

@@ -1,15 +1,16 @@
 //! The state as it is kept, and the events that it is ready for.
 ghost use Rattle.std.specs.Prelude.{◌≡◌, ◌∷◌, [], IfOk, IsTrue, OnOk, OnErr, replicate};
 ghost use Rattle.hac_model.specs.Tree.Depends.{cycle_of_move, cycle_over};
-ghost use Rattle.hac_model.specs.Tree.Events.{accepted, apply_all};
+ghost use Rattle.hac_model.specs.Tree.Events.{accepted, apply, apply_all};
 ghost use Rattle.hac_model.specs.Laws.{AllHappen};
+ghost use Rattle.hac_model.specs.Tree.Limits as limits;
 ghost use Rattle.hac_model.specs.Tree.Limits.{counts};
 ghost use Rattle.hac_model.specs.Tree.Links.{parent_of};
 ghost use Rattle.hac_model.specs.Tree.{empty, path_of};
 ghost use Rattle.hac_model.specs.Tree.Valid.{IsValid};
+ghost use Rattle.hac_model.specs.Tree.Events.{is_placed};
 ghost use Rattle.kept_state.specs.Readers.{AreEdgesOf, AreMarksOf, IsTreeOf, mark_at};
 
-use crate::counted::CountedTree;
 use crate::edges;
 use crate::parts::Parts;
 use crate::ready::{Ready, prepare, put};
@@ -55,14 +56,6 @@ impl KeptState {
 
     /// The tree, without marks.
     pub fn tree(&self) -> &Tree
-        ensures tree { IsTreeOf self.now.state result.now.state }
-        ensures valid { IsValid self.now.state }
-    {
-        self.parts.tree.tree()
-    }
-
-    /// The tree, with its counts.
-    pub fn counted(&self) -> &CountedTree
         ensures tree { IsTreeOf self.now.state result.now.state }
         ensures valid { IsValid self.now.state }
     {
@@ -121,12 +114,13 @@ impl KeptState {
         dir: Number,
         query: &Query<Number>,
     ) -> Result<Option<Number>, Memory>
-        ensures { IfOk result (λ way. way ≡ cycle_over self.now.state dir (parent_of self.now.state dir) query.now) }
+        ensures { IfOk result (λ way. way ≡ cycle_over self.now.state dir
+            (parent_of self.now.state dir) query.now) }
     {
         edges::cycle_of_query(alloc, &self.parts, dir, query)
     }
 
-    /// The same of an entry that goes to a directory.
+    /// As `cycle_of_query`, for an entry that goes to a directory.
     pub fn cycle_of_move(
         &self,
         alloc: Global,
@@ -138,16 +132,39 @@ impl KeptState {
         edges::cycle_of_move(alloc, &self.parts, entry, dir)
     }
 
-    /// Takes the memory that an event wants, so that `commit` can apply it. The state doesn't change, whatever the
-    /// answer, and what was prepared before is dropped.
-    pub fn prepare(&mut self, alloc: Global, event: Event) -> Result<(), Memory>
-        requires { IsTrue (accepted self.old.state event) }
+    /// How much the state would hold after an event. What it refers to is in the state; it may
+    /// exceed limits.
+    pub fn counts_after(&self, event: &Event) -> Counts
+        requires { IsTrue (is_placed self.now.state event.now) }
+        ensures { result ≡ counts (apply self.now.state event.now) }
+    {
+        self.parts.tree.counts_after(event)
+    }
+
+    /// Takes the memory that an event wants, so that `commit` can apply it. How much the state then
+    /// holds is given. The state doesn't change, whatever the answer, and what was prepared before
+    /// is dropped.
+    pub fn prepare(&mut self, alloc: Global, event: Event, counts: Counts) -> Result<(), Memory>
+        requires accepted { IsTrue (accepted self.old.state event) }
+        requires counts { counts ≡ limits.counts (apply self.old.state event) }
         ensures ok { OnOk result (self.new ≡ record { state = self.old.state; ready = event ∷ [] }) }
         ensures err { OnErr result (self.new ≡ record { state = self.old.state; ready = [] }) }
     {
-        self.ready = Ready::Nothing;
-        self.ready = prepare(alloc, &mut self.parts, event)?;
-        Ok(())
+        self.ready.set(Ready::Nothing);
+        match prepare(alloc, &mut self.parts, &event) {
+            Ok(edges) => {
+                self.ready.set(Ready::Change {
+                    event,
+                    edges,
+                    counts,
+                });
+                Ok(())
+            }
+            Err(memory) => {
+                drop(event);
+                Err(memory)
+            }
+        }
     }
 
     /// Gets ready for steps, which want no memory.
@@ -155,7 +172,7 @@ impl KeptState {
         requires { AllHappen self.old.state (replicate count Event.Step) }
         ensures { self.new ≡ record { state = self.old.state; ready = replicate count Event.Step } }
     {
-        self.ready = Ready::Steps(count);
+        self.ready.set(Ready::Steps(count));
     }
 
     /// Applies the prepared events. This takes no memory, and can't fail.

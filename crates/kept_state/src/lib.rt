@@ -1,15 +1,13 @@
-//! The state as a machine keeps it: a tree with its counts and its dirty files, the marks of semantic directories, and
-//! what depends on what. It is seen as that state and as the events for which memory was taken: each is prepared with
-//! memory, and then applied without any. It knows no command, no path and no link that a query finds.
+//! The state as a machine keeps it: a tree, the marks of semantic directories, and what depends on
+//! what. It is seen as that state and as the events for which memory was taken: each is prepared
+//! with memory, and then applied without any. It knows no command, no path and no link that a query
+//! finds.
 #![tactic(auto)]
 
-mod counted;
-pub mod counting;
 mod edges;
 mod kept;
 mod parts;
 mod ready;
 
-pub use counted::{CountedTree, know_layout};
 pub use edges::push_named;
 pub use kept::KeptState;

@@ -3,9 +3,9 @@ ghost use Rattle.std.specs.Prelude.{◌≡◌, IfOk};
 ghost use Rattle.hac_model.specs.Tree.{empty};
 ghost use Rattle.kept_state.specs.Parts.{AreEdges, AreMovedEdges, IsLinked, KeepsTree, state_of};
 
-use crate::counted::CountedTree;
 use crate::edges::edges_of;
 use dep_graph::{Graph, NewEdges};
+use file_tree::Tree;
 use hac_model::{Memory, Number, Query};
 use link_kinds::Links;
 use std::alloc::Global;
@@ -13,8 +13,8 @@ use std::alloc::Global;
 /// A tree, its marks and its graph. That they fit one another is said by `IsLinked` of the specs.
 #[derive(Drop)]
 pub struct Parts {
-    /// The tree, its counts and its dirty files.
-    pub tree: CountedTree,
+    /// The tree, without marks.
+    pub tree: Tree,
     /// The items that users added to semantic directories, or removed there.
     pub marks: Links,
     /// What each semantic directory depends on: its own directory, then those that its query names.
@@ -27,7 +27,7 @@ impl Parts {
         ensures empty { IfOk result (λ kept. state_of kept ≡ empty) }
         ensures linked { IfOk result (λ kept. IsLinked kept) }
     {
-        let tree = CountedTree::new(alloc)?;
+        let tree = Tree::new(alloc)?;
         let marks = Links::new(alloc)?;
         Ok(Parts {
             tree,
@@ -61,7 +61,7 @@ impl Parts {
         ensures same { KeepsTree self.old self.new }
         ensures edges { IfOk result (AreMovedEdges self.old.tree.state self.new.graph entry dir) }
     {
-        let Some(query) = self.tree.tree().query(entry) else {
+        let Some(query) = self.tree.query(entry) else {
             return Ok(None);
         };
         let edges = edges_of(alloc, dir, query)?;

@@ -1,120 +1,76 @@
 //! What a machine is ready for: memory is taken first, and the change then made without any.
-ghost use Rattle.std.specs.Prelude.{◌≡◌, [], IfOk, IsTrue, replicate};
-ghost use Rattle.hac_model.specs.Tree.Events.{accepted, apply_all};
+ghost use Rattle.std.specs.Prelude.{◌≡◌, ◌<◌, [], IfOk, IsTrue, None, replicate};
 ghost use Rattle.hac_model.specs.Laws.{AllHappen};
+ghost use Rattle.hac_model.specs.Tree.Events.{accepted, apply_all};
+ghost use Rattle.hac_model.specs.Tree.Links.{is_semantic, parent_of};
 ghost use Rattle.hac_model.specs.Tree.{is_directory_at};
-ghost use Rattle.link_kinds.specs.Seen.{LinkListsRise};
-ghost use Rattle.kept_state.specs.Parts.{AreAlike, IsLinked, state_of};
-ghost use Rattle.kept_state.specs.Ready.{IsPut, IsReadyFor, MayPut, Suits, as_new, made, ready_events};
+ghost use Rattle.file_tree.specs.declared.ready.Ready.TheVariants as tree;
+ghost use Rattle.link_kinds.specs.Seen.{LinkListsRise, has_sets};
+ghost use Rattle.kept_state.specs.Parts.{AreAlike, AreMovedEdges, HasEdges, IsLinked, state_of};
+ghost use Rattle.kept_state.specs.Ready.{IsPut, IsReady, MayPut, Suits, ready_events};
 
-use crate::counted::{CountedTree, new_file};
 use crate::parts::Parts;
 use dep_graph::NewEdges;
-use hac_model::{Body, Event, Mark, Memory, Name, Number, Query, Seq, Text};
+use file_tree::{EntryKind, NewBody};
+use hac_model::{Counts, Event, Mark, Memory, Name, Number, Query, Text};
 use link_kinds::Links;
 use std::alloc::Global;
+use std::mem;
 
-/// What was prepared last. The tree has the bodies, the texts and a new name.
+/// What was prepared last.
 #[derive(Debug, Drop)]
 pub enum Ready {
     /// Nothing was prepared, or the state has changed since.
     Nothing,
-    /// A plain directory or a file is to be created.
-    Add {
-        /// The directory that it will be in.
-        dir: Number,
-        /// The name that it will have there.
-        name: Name,
-    },
-    /// A semantic directory is to be created.
-    Smkdir {
-        /// The directory that it will be in.
-        dir: Number,
-        /// The name that it will have there.
-        name: Name,
-        /// What it will depend on.
-        edges: NewEdges,
-    },
-    /// A directory is to get a query.
-    Setq {
-        /// The directory.
-        dir: Number,
-        /// What it will depend on.
-        edges: NewEdges,
-    },
-    /// A directory's query is to be removed.
-    Unq {
-        /// The directory.
-        dir: Number,
-    },
-    /// A mark is to be set or removed.
-    Mark(Mark),
-    /// A text is to be replaced.
-    Rewrite {
-        /// The file.
-        file: Number,
-    },
-    /// An entry is to be moved.
-    Move {
-        /// The entry.
-        entry: Number,
-        /// Its new directory.
-        dir: Number,
-        /// What it will depend on, where it is semantic.
+    /// An event is to be applied.
+    Change {
+        /// The event.
+        event: Event,
+        /// What the semantic directory will depend on that the event makes, asks anew or moves.
         edges: Option<NewEdges>,
-    },
-    /// A file is to be removed.
-    Rm {
-        /// The file.
-        entry: Number,
-    },
-    /// A directory is to be removed.
-    Rmdir {
-        /// The directory.
-        dir: Number,
+        /// How much the state will hold.
+        counts: Counts,
     },
     /// This many files are to be indexed.
     Steps(u64),
 }
 
-/// Takes the memory that an event wants. The state doesn't change, whatever the answer.
-pub fn prepare(alloc: Global, kept: &mut Parts, event: Event) -> Result<Ready, Memory>
-    requires linked { IsLinked kept.old }
-    requires accepted { IsTrue (accepted (state_of kept.old) event) }
-    ensures state { state_of kept.new ≡ state_of kept.old }
-    ensures linked { IsLinked kept.new }
-    ensures ready { IfOk result (IsReadyFor event kept.new) }
-{
-    match event {
-        Event::Mkdir { dir, name } => prepare_entry(kept, dir, name, Body::Dir),
-        Event::NewFile { dir, name, text } => prepare_entry(kept, dir, name, new_file(text)),
-        Event::Smkdir {
-            dir,
-            name,
-            query,
-            ..
-        } => prepare_semantic(alloc, kept, dir, name, query),
-        Event::Setq { dir, query, .. } => prepare_query(alloc, kept, dir, query),
-        Event::Unq { dir } => Ok(Ready::Unq { dir }),
-        Event::Mark(mark) => prepare_mark(kept, mark),
-        Event::Rewrite { file, text } => prepare_text(kept, file, text),
-        Event::Mv { entry, dir, name } => prepare_move(alloc, kept, entry, dir, name),
-        Event::Rm { entry } => Ok(Ready::Rm { entry }),
-        Event::Rmdir { dir } => Ok(Ready::Rmdir { dir }),
-        Event::Step => Ok(Ready::Steps(1)),
-        _ => unreachable!(),
+impl Ready {
+    /// Prepares something else, or nothing, in place of this.
+    pub fn set(&mut self, next: Ready)
+        ensures { self.new ≡ next }
+    {
+        drop(mem::replace(self, next));
     }
 }
 
-/// Prepares a new entry that asks nothing.
-fn prepare_entry(kept: &mut Parts, dir: Number, name: Name, body: Body) -> Result<Ready, Memory>
-    requires dir { IsTrue (is_directory_at kept.old.tree.state.entries dir) }
-    requires new { body ≡ as_new body }
+/// Takes the memory that an event wants. The state doesn't change, whatever the answer.
+pub fn prepare(alloc: Global, kept: &mut Parts, event: &Event) -> Result<Option<NewEdges>, Memory>
+    requires linked { IsLinked kept.old }
+    requires accepted { IsTrue (accepted (state_of kept.old) event.now) }
     ensures alike { AreAlike kept.old kept.new }
-    ensures ready { IfOk result (IsReadyFor (made dir name body) kept.new) }
+    ensures suits { IfOk result (λ edges. Suits event.now edges kept.new) }
 {
-    kept.tree.prepare_add(dir, body)?;
-    Ok(Ready::Add { dir, name })
+    match event {
+        Event::Mkdir { dir, .. } => prepare_entry(kept, *dir, EntryKind::Dir),
+        Event::NewFile { dir, .. } => prepare_entry(kept, *dir, EntryKind::File),
+        Event::Smkdir { dir, query, .. } => prepare_semantic(alloc, kept, *dir, query),
+        Event::Setq { dir, query, .. } => prepare_query(alloc, kept, *dir, query),
+        Event::Mark(mark) => prepare_mark(kept, mark.dir),
+        Event::Rewrite { file, .. } => prepare_text(kept, *file),
+        Event::Mv { entry, dir, .. } => prepare_move(alloc, kept, *entry, *dir),
+        _ => Ok(None),
+    }
+}
+
+/// Prepares a new entry without a query.
+fn prepare_entry(kept: &mut Parts, dir: Number, kind: EntryKind) -> Result<Option<NewEdges>, Memory>
+    requires { IsTrue (is_directory_at kept.old.tree.state.entries dir) }
+    ensures alike { AreAlike kept.old kept.new }
+    ensures ready { IfOk result (λ edges. kept.new.tree.ready ≡ tree.Add dir kind) }
+{
+    kept.tree.prepare_add(dir, kind)?;
+    Ok(None)
 }
 
 /// Prepares a new semantic directory.
@@ -122,17 +78,17 @@ fn prepare_semantic(
     alloc: Global,
     kept: &mut Parts,
     dir: Number,
-    name: Name,
-    query: Query<Number>,
-) -> Result<Ready, Memory>
+    query: &Query<Number>,
+) -> Result<Option<NewEdges>, Memory>
     requires { IsTrue (is_directory_at kept.old.tree.state.entries dir) }
     ensures alike { AreAlike kept.old kept.new }
-    ensures ready { IfOk result (IsReadyFor (Event.Smkdir dir name query []) kept.new) }
+    ensures ready { IfOk result (λ edges. kept.new.tree.ready ≡ tree.Add dir EntryKind.Semantic) }
+    ensures edges { IfOk result (HasEdges kept.new.graph kept.new.tree.state.next dir query.now) }
 {
-    let number = kept.tree.tree().next_number();
-    let edges = kept.prepare_edges(alloc, number, dir, &query)?;
-    kept.tree.prepare_add(dir, asking(alloc, query))?;
-    Ok(Ready::Smkdir { dir, name, edges })
+    let number = kept.tree.next_number();
+    let edges = kept.prepare_edges(alloc, number, dir, query)?;
+    kept.tree.prepare_add(dir, EntryKind::Semantic)?;
+    Ok(Some(edges))
 }
 
 /// Prepares a new query of a directory.
@@ -140,33 +96,35 @@ fn prepare_query(
     alloc: Global,
     kept: &mut Parts,
     dir: Number,
-    query: Query<Number>,
-) -> Result<Ready, Memory>
+    query: &Query<Number>,
+) -> Result<Option<NewEdges>, Memory>
     ensures alike { AreAlike kept.old kept.new }
-    ensures ready { IfOk result (IsReadyFor (Event.Setq dir query []) kept.new) }
+    ensures edges { IfOk result (HasEdges kept.new.graph dir
+        (parent_of kept.new.tree.state dir) query.now) }
 {
-    let parent = kept.tree.tree().parent(dir);
-    let edges = kept.prepare_edges(alloc, dir, parent, &query)?;
-    kept.tree.prepare_query(dir, asking(alloc, query))?;
-    Ok(Ready::Setq { dir, edges })
+    let parent = kept.tree.parent(dir);
+    let edges = kept.prepare_edges(alloc, dir, parent, query)?;
+    Ok(Some(edges))
 }
 
-/// Prepares one mark.
-fn prepare_mark(kept: &mut Parts, mark: Mark) -> Result<Ready, Memory>
+/// Prepares one mark in a directory.
+fn prepare_mark(kept: &mut Parts, dir: Number) -> Result<Option<NewEdges>, Memory>
+    requires { IsTrue (is_semantic kept.old.tree.state dir) }
     ensures alike { AreAlike kept.old kept.new }
-    ensures ready { IfOk result (IsReadyFor (Event.Mark mark) kept.new) }
+    ensures sets { IfOk result (λ edges. IsTrue (has_sets kept.new.marks dir)) }
+    ensures room { IfOk result (λ edges. 0 < kept.new.marks.spare) }
 {
-    kept.marks.prepare(mark.dir, 1)?;
-    Ok(Ready::Mark(mark))
+    kept.marks.prepare(dir, 1)?;
+    Ok(None)
 }
 
 /// Prepares a new text of a file.
-fn prepare_text(kept: &mut Parts, file: Number, text: Text) -> Result<Ready, Memory>
+fn prepare_text(kept: &mut Parts, file: Number) -> Result<Option<NewEdges>, Memory>
     ensures alike { AreAlike kept.old kept.new }
-    ensures ready { IfOk result (IsReadyFor (Event.Rewrite file text) kept.new) }
+    ensures ready { IfOk result (λ edges. kept.new.tree.ready ≡ tree.Text file) }
 {
-    kept.tree.prepare_text(file, text)?;
-    Ok(Ready::Rewrite { file })
+    kept.tree.prepare_text(file)?;
+    Ok(None)
 }
 
 /// Prepares to move an entry.
@@ -175,91 +133,132 @@ fn prepare_move(
     kept: &mut Parts,
     entry: Number,
     dir: Number,
-    name: Name,
-) -> Result<Ready, Memory>
+) -> Result<Option<NewEdges>, Memory>
     requires { IsTrue (is_directory_at kept.old.tree.state.entries dir) }
     ensures alike { AreAlike kept.old kept.new }
-    ensures ready { IfOk result (IsReadyFor (Event.Mv entry dir name) kept.new) }
+    ensures ready { IfOk result (λ edges. kept.new.tree.ready ≡ tree.Move dir) }
+    ensures edges { IfOk result (AreMovedEdges kept.new.tree.state kept.new.graph entry dir) }
 {
     let edges = kept.prepare_moved_edges(alloc, entry, dir)?;
-    kept.tree.prepare_move(dir, name)?;
-    Ok(Ready::Move { entry, dir, edges })
-}
-
-/// A semantic directory that asks something, and has no marks.
-fn asking(alloc: Global, query: Query<Number>) -> Body
-    ensures { result ≡ Body.Semantic query [] [] }
-{
-    Body::Semantic {
-        query,
-        permanent: Seq::new(Vec::new(alloc)),
-        prohibited: Seq::new(Vec::new(alloc)),
-    }
+    kept.tree.prepare_move(dir)?;
+    Ok(edges)
 }
 
 /// Makes the prepared change.
 pub fn put(kept: &mut Parts, ready: Ready)
     requires linked { IsLinked kept.old }
-    requires suits { Suits ready kept.old }
-    requires happen { AllHappen (state_of kept.old) (ready_events ready kept.old.tree.ready) }
-    ensures state { state_of kept.new ≡ apply_all (state_of kept.old) (ready_events ready kept.old.tree.ready) }
+    requires ready { IsReady ready kept.old }
+    requires happen { AllHappen (state_of kept.old) (ready_events ready) }
+    ensures state { state_of kept.new ≡ apply_all (state_of kept.old) (ready_events ready) }
     ensures linked { IsLinked kept.new }
 {
     match ready {
         Ready::Nothing => {}
-        Ready::Add { dir, name } => put_entry(kept, dir, name),
-        Ready::Smkdir { dir, name, edges } => put_semantic(kept, dir, name, edges),
-        Ready::Setq { dir, edges } => put_query(kept, dir, edges),
-        Ready::Unq { dir } => drop_query(kept, dir),
-        Ready::Mark(mark) => put_mark(kept, mark),
-        Ready::Rewrite { file } => put_text(kept, file),
-        Ready::Move { entry, dir, edges } => put_moved(kept, entry, dir, edges),
-        Ready::Rm { entry } => drop_file(kept, entry),
-        Ready::Rmdir { dir } => drop_directory(kept, dir),
+        Ready::Change {
+            event,
+            edges,
+            counts,
+        } => apply(kept, event, edges, counts),
         Ready::Steps(count) => put_steps(kept, count),
     }
 }
 
-/// Adds the entry that was prepared.
-fn put_entry(kept: &mut Parts, dir: Number, name: Name)
-    requires { MayPut (Ready.Add dir name) kept.old }
-    ensures { IsPut (Ready.Add dir name) kept.old kept.new }
+/// Applies the event that was prepared.
+fn apply(kept: &mut Parts, event: Event, edges: Option<NewEdges>, counts: Counts)
+    requires may { MayPut event counts kept.old }
+    requires suits { Suits event edges kept.old }
+    ensures { IsPut event kept.old kept.new }
 {
-    kept.tree.add(dir, name);
+    match event {
+        Event::Mkdir { dir, name } => put_directory(kept, dir, name, counts),
+        Event::NewFile { dir, name, text } => put_file(kept, dir, name, text, counts),
+        Event::Smkdir {
+            dir,
+            name,
+            query,
+            ..
+        } => put_semantic(kept, dir, name, query, edges, counts),
+        Event::Setq { dir, query, .. } => put_query(kept, dir, query, edges, counts),
+        Event::Unq { dir } => drop_query(kept, dir, counts),
+        Event::Mark(mark) => put_mark(kept, mark),
+        Event::Rewrite { file, text } => put_text(kept, file, text, counts),
+        Event::Mv { entry, dir, name } => put_moved(kept, entry, dir, name, edges, counts),
+        Event::Rm { entry } => drop_file(kept, entry, counts),
+        Event::Rmdir { dir } => drop_directory(kept, dir, counts),
+        Event::Step => put_step(kept),
+        _ => unreachable!(),
+    }
+}
+
+/// Adds the plain directory that was prepared.
+fn put_directory(kept: &mut Parts, dir: Number, name: Name, counts: Counts)
+    requires may { MayPut (Event.Mkdir dir name) counts kept.old }
+    requires suits { Suits (Event.Mkdir dir name) None kept.old }
+    ensures { IsPut (Event.Mkdir dir name) kept.old kept.new }
+{
+    kept.tree.add(dir, name, NewBody::Dir, counts);
+}
+
+/// Adds the file that was prepared.
+fn put_file(kept: &mut Parts, dir: Number, name: Name, text: Text, counts: Counts)
+    requires may { MayPut (Event.NewFile dir name text) counts kept.old }
+    requires suits { Suits (Event.NewFile dir name text) None kept.old }
+    ensures { IsPut (Event.NewFile dir name text) kept.old kept.new }
+{
+    kept.tree.add(dir, name, NewBody::File(text), counts);
 }
 
 /// Adds the semantic directory that was prepared, with its edges.
-fn put_semantic(kept: &mut Parts, dir: Number, name: Name, edges: NewEdges)
-    requires { MayPut (Ready.Smkdir dir name edges) kept.old }
-    ensures { IsPut (Ready.Smkdir dir name edges) kept.old kept.new }
+fn put_semantic(
+    kept: &mut Parts,
+    dir: Number,
+    name: Name,
+    query: Query<Number>,
+    edges: Option<NewEdges>,
+    counts: Counts,
+)
+    requires may { MayPut (Event.Smkdir dir name query []) counts kept.old }
+    requires suits { Suits (Event.Smkdir dir name query []) edges kept.old }
+    ensures { IsPut (Event.Smkdir dir name query []) kept.old kept.new }
 {
-    kept.tree.add(dir, name);
+    let Some(edges) = edges else { unreachable!() };
+    kept.tree.add(dir, name, NewBody::Semantic(query), counts);
     kept.graph.set_edges(edges);
 }
 
-/// Gives a directory the query that was prepared, and its edges.
-fn put_query(kept: &mut Parts, dir: Number, edges: NewEdges)
-    requires { MayPut (Ready.Setq dir edges) kept.old }
-    ensures { IsPut (Ready.Setq dir edges) kept.old kept.new }
+/// Gives a directory a query, and the edges that were prepared.
+fn put_query(
+    kept: &mut Parts,
+    dir: Number,
+    query: Query<Number>,
+    edges: Option<NewEdges>,
+    counts: Counts,
+)
+    requires may { MayPut (Event.Setq dir query []) counts kept.old }
+    requires suits { Suits (Event.Setq dir query []) edges kept.old }
+    ensures { IsPut (Event.Setq dir query []) kept.old kept.new }
 {
-    kept.tree.set_query(dir);
+    let Some(edges) = edges else { unreachable!() };
+    kept.tree.set_query(dir, query, counts);
     kept.graph.set_edges(edges);
 }
 
 /// Removes a directory's query, with its edges and all its marks.
-fn drop_query(kept: &mut Parts, dir: Number)
-    requires { MayPut (Ready.Unq dir) kept.old }
-    ensures { IsPut (Ready.Unq dir) kept.old kept.new }
+fn drop_query(kept: &mut Parts, dir: Number, counts: Counts)
+    requires { MayPut (Event.Unq dir) counts kept.old }
+    ensures { IsPut (Event.Unq dir) kept.old kept.new }
 {
-    kept.tree.clear_query(dir);
+    kept.tree.clear_query(dir, counts);
     kept.graph.drop_node(dir);
     kept.marks.drop_dir(dir);
 }
 
 /// Sets or removes a mark.
 fn put_mark(kept: &mut Parts, mark: Mark)
-    requires { MayPut (Ready.Mark mark) kept.old }
-    ensures { IsPut (Ready.Mark mark) kept.old kept.new }
+    requires linked { IsLinked kept.old }
+    requires happens { IsTrue (accepted (state_of kept.old) (Event.Mark mark)) }
+    requires suits { Suits (Event.Mark mark) None kept.old }
+    ensures { IsPut (Event.Mark mark) kept.old kept.new }
 {
     know_lists(&kept.marks);
     kept.marks.set_kind(mark.dir, mark.item, mark.kind);
@@ -273,56 +272,69 @@ fn know_lists(marks: &Links)
 }
 
 /// Gives a file the text that was prepared.
-fn put_text(kept: &mut Parts, file: Number)
-    requires { MayPut (Ready.Rewrite file) kept.old }
-    ensures { IsPut (Ready.Rewrite file) kept.old kept.new }
+fn put_text(kept: &mut Parts, file: Number, text: Text, counts: Counts)
+    requires may { MayPut (Event.Rewrite file text) counts kept.old }
+    requires suits { Suits (Event.Rewrite file text) None kept.old }
+    ensures { IsPut (Event.Rewrite file text) kept.old kept.new }
 {
-    kept.tree.set_text(file);
+    kept.tree.set_text(file, text, counts);
 }
 
-/// Moves an entry to the prepared place. Where it is semantic, its edges are set too.
-fn put_moved(kept: &mut Parts, entry: Number, dir: Number, edges: Option<NewEdges>)
-    requires { MayPut (Ready.Move entry dir edges) kept.old }
-    ensures { IsPut (Ready.Move entry dir edges) kept.old kept.new }
+/// Moves an entry to the prepared directory. Where it is semantic, its edges are set too.
+fn put_moved(
+    kept: &mut Parts,
+    entry: Number,
+    dir: Number,
+    name: Name,
+    edges: Option<NewEdges>,
+    counts: Counts,
+)
+    requires may { MayPut (Event.Mv entry dir name) counts kept.old }
+    requires suits { Suits (Event.Mv entry dir name) edges kept.old }
+    ensures { IsPut (Event.Mv entry dir name) kept.old kept.new }
 {
-    kept.tree.move_to(entry, dir);
+    kept.tree.move_to(entry, dir, name, counts);
     if let Some(edges) = edges {
         kept.graph.set_edges(edges);
     }
 }
 
 /// Removes a file, with all marks on it.
-fn drop_file(kept: &mut Parts, entry: Number)
-    requires { MayPut (Ready.Rm entry) kept.old }
-    ensures { IsPut (Ready.Rm entry) kept.old kept.new }
+fn drop_file(kept: &mut Parts, entry: Number, counts: Counts)
+    requires { MayPut (Event.Rm entry) counts kept.old }
+    ensures { IsPut (Event.Rm entry) kept.old kept.new }
 {
-    kept.tree.remove(entry);
+    kept.tree.remove(entry, counts);
     kept.marks.drop_item(entry);
 }
 
 /// Removes a directory, with its edges and all its marks.
-fn drop_directory(kept: &mut Parts, dir: Number)
-    requires { MayPut (Ready.Rmdir dir) kept.old }
-    ensures { IsPut (Ready.Rmdir dir) kept.old kept.new }
+fn drop_directory(kept: &mut Parts, dir: Number, counts: Counts)
+    requires { MayPut (Event.Rmdir dir) counts kept.old }
+    ensures { IsPut (Event.Rmdir dir) kept.old kept.new }
 {
-    kept.tree.remove(dir);
+    kept.tree.remove(dir, counts);
     kept.graph.drop_node(dir);
     kept.marks.drop_dir(dir);
 }
 
-/// Indexes `count` files, as far as there are dirty ones.
-fn put_steps(kept: &mut Parts, count: u64)
-    requires { MayPut (Ready.Steps count) kept.old }
-    ensures { IsPut (Ready.Steps count) kept.old kept.new }
+/// Indexes a file.
+fn put_step(kept: &mut Parts)
+    requires linked { IsLinked kept.old }
+    requires happens { IsTrue (accepted (state_of kept.old) Event.Step) }
+    ensures { IsPut Event.Step kept.old kept.new }
 {
-    step(&mut kept.tree, count);
+    kept.tree.step();
 }
 
-/// Does `count` steps, one after the other.
-fn step(tree: &mut CountedTree, count: u64)
-    ensures { tree.new.state ≡ apply_all tree.old.state (replicate count Event.Step) }
+/// Indexes `count` files.
+fn put_steps(kept: &mut Parts, count: u64)
+    requires linked { IsLinked kept.old }
+    requires happen { AllHappen (state_of kept.old) (replicate count Event.Step) }
+    ensures state { state_of kept.new ≡ apply_all (state_of kept.old) (replicate count Event.Step) }
+    ensures linked { IsLinked kept.new }
 {
     'steps: for _ in 0..count {
-        tree.step();
+        put_step(kept);
     }
 }

@@ -1,233 +1,315 @@
 -- The lists of each directory, after each change of the sets that keep them.
 use Rattle.std.proofs.Common.{◌≡◌, ◌≢◌, ℕ, Bool, true, false, cond, List, [], refl, sym, ap, ◌∙◌, subst, inl, inr, Option, Some, None}
-use Rattle.std.specs.Prelude.{◌==◌, IsTrue, is_some, nat_eq, not, ◌&&◌, unwrap_or}
-use Rattle.std.specs.Option.{option_map}
+use Rattle.std.specs.Prelude.{◌==◌, ◌&&◌, ◌||◌, IsTrue, is_some, nat_eq, not, unwrap_or}
+use Rattle.std.specs.Option.{option_map, option_map_or}
 use Rattle.std.proofs.lemmas.Bool.{cases_eq, eq-eqb, eqb-true, ne_eqb}
 use Rattle.indexmap.specs.IndexMap.{get}
 use Rattle.hac_model.specs.declared.marks.Kind.{Kind}
-use Rattle.hac_model.specs.declared.marks.Kind.TheVariants.{Transient, Permanent, Prohibited, Unlinked}
+use Rattle.hac_model.specs.declared.marks.Kind.TheVariants.{Unlinked}
 use Rattle.set_pool.specs.Rising.{removed}
 use Rattle.set_pool.specs.Sets as pool
 use Rattle.set_pool.specs.Sets.{AllListsRise, SameLive, Sets, is_live, list_of, members_of}
-use Rattle.link_kinds.specs.Kept.{AreDistinct, AreLive, AreLinksKept, OthersStay, dir_lists, seen_of}
+use Rattle.std.specs.List.Sorted.{IsStrictlyIncreasing}
+use Rattle.std.specs.Map.{lookup}
+use Rattle.link_kinds.specs.Kept.{AreDistinct, AreFresh, AreLinksKept, AreLive, ChangesAll, OthersStay, dir_lists, has_set, is_one_of, is_owner, seen_of}
 use Rattle.link_kinds.specs.Kinds.{AreApart, Lists, kind_in, no_lists, with_kind}
-use Rattle.link_kinds.specs.Seen.{ChangesDir, DropsItem, Known, SameKinds, SameLinks, has_sets, kind_at, lists_in}
+use Rattle.link_kinds.specs.Seen.{AllApart, ChangesDir, DropsItem, Known, SameKinds, SameLinks, has_sets, kind_at, lists_in}
 use Rattle.link_kinds.specs.declared.links.Links.TheInside.{Inside}
 use Rattle.link_kinds.specs.declared.sets.DirSets.{DirSets}
-use Rattle.link_kinds.proofs.KindLemmas.{apart-with, kind-with}
-use Rattle.link_kinds.proofs.SeenLemmas.{apart-changed, has-seen, lists-none, lists-seen, lists_under}
+use Rattle.link_kinds.proofs.KindLemmas.{apart-none, apart-with, kind-with}
+use Rattle.link_kinds.proofs.SeenLemmas.{empty-rises, has-seen, lists-seen, lists_under}
 
--- sets of different directories, or of different kinds, differ
-dirs-differ : (place : ℕ → ℕ × Kind) (one other d e : ℕ) (k j : Kind) → place one ≡ (d, k) → place other ≡ (e, j) → d ≢ e → one ≢ other
-dirs-differ place one other d e k j first second differ same = differ (ap (λ (p : ℕ × Kind). p.0) (sym first ∙ ap place same ∙ second))
+or-true : (b : Bool) → (b || true) ≡ true
+or-true true = refl
+or-true false = refl
 
-kinds-differ : (place : ℕ → ℕ × Kind) (one other d e : ℕ) (k j : Kind) → place one ≡ (d, k) → place other ≡ (e, j) → k ≢ j → one ≢ other
-kinds-differ place one other d e k j first second differ same = differ (ap (λ (p : ℕ × Kind). p.1) (sym first ∙ ap place same ∙ second))
+-- each of the three sets is one of them
+pub own : (sets : DirSets) → IsTrue (is_one_of sets sets.transient) × IsTrue (is_one_of sets sets.permanent) × IsTrue (is_one_of sets sets.prohibited)
+own sets = (
+  (let e = eq-eqb sets.transient sets.transient refl in rw e refl),
+  (let e = eq-eqb sets.permanent sets.permanent refl in rw e (or-true (sets.permanent == sets.transient))),
+  (let e = eq-eqb sets.prohibited sets.prohibited refl in rw e (ap (λ b. sets.prohibited == sets.transient || b) (or-true (sets.prohibited == sets.permanent)) ∙ or-true (sets.prohibited == sets.transient))),
+)
 
--- no two sets of a directory are one
-pub distinct : (links : Inside) (dir : ℕ) (sets : DirSets) → AreLinksKept links → get nat_eq links.dirs dir ≡ Some sets → AreDistinct sets
-distinct links dir sets kept there =
-    let at = kept.apart dir sets there in (
-      kinds-differ kept.place sets.transient sets.permanent dir dir Transient Permanent at.0 at.1 (λ same. cc),
-      kinds-differ kept.place sets.transient sets.prohibited dir dir Transient Prohibited at.0 at.2 (λ same. cc),
-      kinds-differ kept.place sets.permanent sets.prohibited dir dir Permanent Prohibited at.1 at.2 (λ same. cc),
-    )
-
--- the three sets have the lists that they had
-abbrev pub Stay : Sets → Sets → DirSets → Type 0
-Stay p q sets = (list_of q sets.transient ≡ list_of p sets.transient) × (list_of q sets.permanent ≡ list_of p sets.permanent) × (list_of q sets.prohibited ≡ list_of p sets.prohibited)
-
-stay-lists : (p q : Sets) (sets : DirSets) → Stay p q sets → dir_lists q sets ≡ dir_lists p sets
-stay-lists p q sets stay = λ i. record { transient = unwrap_or (stay.0 i) []; permanent = unwrap_or (stay.1 i) []; prohibited = unwrap_or (stay.2 i) [] }
-
--- and are live, if they were
-alive : (one other : Option (List ℕ)) → other ≡ one → IsTrue (is_some one) → IsTrue (is_some other)
-alive one other same live = subst (λ list. IsTrue (is_some list)) (sym same) live
-
-pub stay-live : (p q : Sets) (sets : DirSets) → Stay p q sets → AreLive p sets → AreLive q sets
-stay-live p q sets stay live = (alive _ _ stay.0 live.0, alive _ _ stay.1 live.1, alive _ _ stay.2 live.2)
-
--- the sets of other directories have theirs
-others-stay : (links : Inside) (q : Sets) (dir d : ℕ) (sets other : DirSets) → AreLinksKept links → get nat_eq links.dirs dir ≡ Some sets → get nat_eq links.dirs d ≡ Some other → d ≢ dir → OthersStay links.pool q sets → Stay links.pool q other
-others-stay links q dir d sets other kept there too differ stay =
-    let at = kept.apart dir sets there in
-    let to = kept.apart d other too in
-    (one other.transient Transient to.0, one other.permanent Permanent to.1, one other.prohibited Prohibited to.2)
-  where
-    one : (set : ℕ) (kind : Kind) → kept.place set ≡ (d, kind) → list_of q set ≡ list_of links.pool set
-    one set kind told =
-        let at = kept.apart dir sets there in
-        stay set (dirs-differ kept.place set sets.transient d dir kind Transient told at.0 differ) (dirs-differ kept.place set sets.permanent d dir kind Permanent told at.1 differ) (dirs-differ kept.place set sets.prohibited d dir kind Prohibited told at.2 differ)
+-- whether a set is one of those that a directory has
+abbrev has_in : ℕ → Option DirSets → Bool
+has_in set sets = option_map_or (λ sets. is_one_of sets set) sets false
 
 -- as the sets of a directory hold what they held, so do its lists
-pub under-stay : (p q : Sets) (o : Option DirSets) → ((sets : DirSets) → o ≡ Some sets → Stay p q sets) → lists_under q o ≡ lists_under p o
+under-stay : (p q : Sets) (o : Option DirSets) → ((set : ℕ) → IsTrue (has_in set o) → list_of q set ≡ list_of p set) → lists_under q o ≡ lists_under p o
 under-stay p q None stay = refl
-under-stay p q (Some sets) stay = stay-lists p q sets (stay sets refl)
+under-stay p q (Some sets) stay =
+    let o = own sets in
+    λ i. record { transient = unwrap_or (stay sets.transient o.0 i) []; permanent = unwrap_or (stay sets.permanent o.1 i) []; prohibited = unwrap_or (stay sets.prohibited o.2 i) [] }
 
-module _ (old new : Inside) where
-  pub sets-kept : ((d : ℕ) → get nat_eq new.dirs d ≡ get nat_eq old.dirs d) → SameLinks (seen_of old) (seen_of new)
-  sets-kept dirs d = has-seen new (seen_of new) refl d ∙ ap is_some (dirs d) ∙ sym (has-seen old (seen_of old) refl d)
+module _ (links : Inside) (kept : AreLinksKept links) (dir : ℕ) (sets : DirSets) (there : Some sets ≡ get nat_eq links.dirs dir) where
+  of-dir : (set : ℕ) → is_one_of sets set ≡ is_owner (kept.owner set) dir
+  of-dir set = ap (has_in set) there ∙ kept.owned dir set
 
-  -- all sets have the lists that they had
-  module _ (dirs : (d : ℕ) → get nat_eq new.dirs d ≡ get nat_eq old.dirs d) (same : pool.SameSets old.pool new.pool) where
-    pub same-kinds : SameKinds (seen_of old) (seen_of new)
-    same-kinds d =
-        lists-seen new (seen_of new) refl d
-        ∙ ap (lists_under new.pool) (dirs d)
-        ∙ under-stay old.pool new.pool (get nat_eq old.dirs d) (λ sets is. (same sets.transient, same sets.permanent, same sets.prohibited))
-        ∙ sym (lists-seen old (seen_of old) refl d)
+  -- the sets of a directory are live, and no two of them are one
+  pub are-live : AreLive links.pool sets
+  are-live = let o = own sets in (alive sets.transient o.0, alive sets.permanent o.1, alive sets.prohibited o.2)
+    where
+      some : (o : Option ℕ) → IsTrue (is_owner o dir) → IsTrue (is_some o)
+      some None is = is
+      some (Some n) is = refl
 
-    pub kept-same : AreLinksKept old → AreLinksKept new
-    kept-same kept =
+      alive : (set : ℕ) → IsTrue (is_one_of sets set) → IsTrue (is_live links.pool set)
+      alive set is = kept.live set ∙ some (kept.owner set) (sym (of-dir set) ∙ is)
+
+  -- a set of another directory isn't one of them
+  pub apart-set : (d set : ℕ) → d ≢ dir → IsTrue (has_set links d set) → is_one_of sets set ≡ false
+  apart-set d set differ is = of-dir set ∙ by_owner (kept.owner set) (sym (kept.owned d set) ∙ is)
+    where
+      by_owner : (o : Option ℕ) → IsTrue (is_owner o d) → is_owner o dir ≡ false
+      by_owner None is = refl
+      by_owner (Some n) is = ne_eqb dir n (λ same. differ (eqb-true d n is ∙ sym same))
+
+-- links that were just made
+pub kept-new : (links : Inside) → links.dirs.entries ≡ [] → ((set : ℕ) → list_of links.pool set ≡ None) → AreLinksKept links
+kept-new links empty none =
+    record {
+      owner = λ set. None;
+      live = λ set. ap is_some (none set);
+      owned = λ d set. ap (has_in set) (absent d);
+      distinct = λ d sets there. (let gone = absent d in absurd cc);
+      rise = λ set. subst (λ list. IsStrictlyIncreasing (unwrap_or list [])) (sym (none set)) empty-rises;
+      kinds = λ d. subst AreApart (ap (lists_under links.pool) (sym (absent d)) ∙ sym (lists-seen links (seen_of links) refl d)) apart-none;
+    }
+  where
+    absent : (d : ℕ) → get nat_eq links.dirs d ≡ None
+    absent d = ap (lookup (nat_eq d)) empty
+
+-- what is told of one of two things is one of what is told of each
+told-if : {A B : Type 0} (tell : A → B) (b : Bool) (x y : A) → tell (cond b x y) ≡ cond b (tell x) (tell y)
+told-if tell true x y = refl
+told-if tell false x y = refl
+
+-- the lists of one directory change, and those of the others stay
+apart-changed : (old new : Known) (dir : ℕ) (lists : Lists) → ChangesDir old new dir lists → AreApart lists → AllApart old → AllApart new
+apart-changed old new dir lists change here all d = subst AreApart (sym (change d)) (elim (d == dir) as (λ b. AreApart (cond b lists (lists_in old d))) [ true ↦ here | false ↦ all d ])
+
+-- a directory without lists has none if they are taken
+pub none-in : (seen : Known) (dir : ℕ) → lists_in seen dir ≡ no_lists → (d : ℕ) → cond (d == dir) no_lists (lists_in seen d) ≡ lists_in seen d
+none-in seen dir none d = by_dir (d == dir) refl
+  where
+    by_dir : (b : Bool) → (d == dir) ≡ b → cond b no_lists (lists_in seen d) ≡ lists_in seen d
+    by_dir true is = sym (ap (lists_in seen) (eqb-true d dir is) ∙ none)
+    by_dir false is = refl
+
+module _ (old new : Inside) (seen : Known) (view_is : seen_of old ≡ seen) where
+  -- the lists of one directory change
+  changes : (dir : ℕ) → ((d : ℕ) → d ≢ dir → get nat_eq new.dirs d ≡ get nat_eq old.dirs d) → ((d set : ℕ) → d ≢ dir → IsTrue (has_set old d set) → list_of new.pool set ≡ list_of old.pool set) → (lists : Lists) → lists_under new.pool (get nat_eq new.dirs dir) ≡ lists → ChangesDir seen (seen_of new) dir lists
+  changes dir others stay lists here d =
+      lists-seen new (seen_of new) refl d
+      ∙ elim (cases_eq d dir) [
+        | inl same ↦ (let e = eq-eqb d dir same in ap (λ d. lists_under new.pool (get nat_eq new.dirs d)) same ∙ here ∙ (rw e refl))
+        | inr differ ↦ (let e = ne_eqb d dir differ in
+            ap (lists_under new.pool) (others d differ)
+            ∙ under-stay old.pool new.pool (get nat_eq old.dirs d) (λ set is. stay d set differ is)
+            ∙ sym (lists-seen old seen view_is d)
+            ∙ (rw e refl))
+      ]
+
+  -- the directories keep their sets
+  module _ (dirs : (d : ℕ) → get nat_eq new.dirs d ≡ get nat_eq old.dirs d) where
+    pub sets-kept : SameLinks seen (seen_of new)
+    sets-kept d = has-seen new (seen_of new) refl d ∙ ap is_some (dirs d) ∙ sym (has-seen old seen view_is d)
+
+    pub kept-still : AreLinksKept old → SameLive old.pool new.pool → AllListsRise new.pool → AllApart (seen_of new) → AreLinksKept new
+    kept-still kept live rise kinds =
         record {
-          live = λ d sets there. stay-live old.pool new.pool sets (same sets.transient, same sets.permanent, same sets.prohibited) (kept.live d sets (sym (dirs d) ∙ there));
-          place = kept.place;
-          apart = λ d sets there. kept.apart d sets (sym (dirs d) ∙ there);
-          rise = λ set. subst (λ list. Rattle.std.specs.List.Sorted.IsStrictlyIncreasing (unwrap_or list [])) (sym (same set)) (kept.rise set);
-          kinds = λ d. subst AreApart (sym (same-kinds d)) (kept.kinds d);
+          owner = kept.owner;
+          live = λ set. live set ∙ kept.live set;
+          owned = λ d set. ap (has_in set) (dirs d) ∙ kept.owned d set;
+          distinct = λ d sets there. kept.distinct d sets (sym (dirs d) ∙ there);
+          rise = rise;
+          kinds = kinds;
         }
 
-  -- the sets of one directory change
-  module _ (dir : ℕ) (sets : DirSets) (kept : AreLinksKept old) (there : get nat_eq old.dirs dir ≡ Some sets) (stay : OthersStay old.pool new.pool sets) where
-    module _ (dirs : (d : ℕ) → get nat_eq new.dirs d ≡ get nat_eq old.dirs d) where
-      pub changes-set : (lists : Lists) → dir_lists new.pool sets ≡ lists → ChangesDir (seen_of old) (seen_of new) dir lists
-      changes-set lists here d =
-          lists-seen new (seen_of new) refl d
-          ∙ ap (lists_under new.pool) (dirs d)
-          ∙ elim (cases_eq d dir) [
-            | inl same ↦
-                let e = eq-eqb d dir same in
-                ap (λ d. lists_under new.pool (get nat_eq old.dirs d)) same ∙ ap (lists_under new.pool) there ∙ here ∙ (rw e refl)
-            | inr differ ↦
-                let e = ne_eqb d dir differ in
-                under-stay old.pool new.pool (get nat_eq old.dirs d) (λ other is. others-stay old new.pool dir d sets other kept there is differ stay)
-                ∙ sym (lists-seen old (seen_of old) refl d)
-                ∙ (rw e refl)
-          ]
-
-      pub kept-set : (kind : Kind) (item : ℕ) → dir_lists new.pool sets ≡ with_kind kind item (dir_lists old.pool sets) → SameLive old.pool new.pool → AllListsRise new.pool → AreLinksKept new
-      kept-set kind item here live rise =
-          let lists : lists_in (seen_of old) dir ≡ dir_lists old.pool sets = lists-seen old (seen_of old) refl dir ∙ ap (lists_under old.pool) there in
-          record {
-            live = λ d other is.
-                let was = kept.live d other (sym (dirs d) ∙ is) in
-                (live other.transient ∙ was.0, live other.permanent ∙ was.1, live other.prohibited ∙ was.2);
-            place = kept.place;
-            apart = λ d other is. kept.apart d other (sym (dirs d) ∙ is);
-            rise = rise;
-            kinds = apart-changed (seen_of old) (seen_of new) dir _ (changes-set (with_kind kind item (dir_lists old.pool sets)) here) (apart-with kind item (dir_lists old.pool sets) (subst AreApart lists (kept.kinds dir))) kept.kinds;
-          }
-
-    -- a directory goes
-    module _ (dirs : (d : ℕ) → get nat_eq new.dirs d ≡ cond (nat_eq dir d) None (get nat_eq old.dirs d)) where
-      gone : get nat_eq new.dirs dir ≡ None
-      gone = let e = eq-eqb dir dir refl in dirs dir ∙ (rw e refl)
-
-      left : (d : ℕ) → d ≢ dir → get nat_eq new.dirs d ≡ get nat_eq old.dirs d
-      left d differ = let e = ne_eqb dir d (λ same. differ (sym same)) in dirs d ∙ (rw e refl)
-
-      pub changes-drop : ChangesDir (seen_of old) (seen_of new) dir no_lists
-      changes-drop d =
-          lists-seen new (seen_of new) refl d
-          ∙ elim (cases_eq d dir) [
-            | inl same ↦
-                let e = eq-eqb d dir same in
-                ap (λ d. lists_under new.pool (get nat_eq new.dirs d)) same ∙ ap (lists_under new.pool) gone ∙ (rw e refl)
-            | inr differ ↦
-                let e = ne_eqb d dir differ in
-                ap (lists_under new.pool) (left d differ)
-                ∙ under-stay old.pool new.pool (get nat_eq old.dirs d) (λ other is. others-stay old new.pool dir d sets other kept there is differ stay)
-                ∙ sym (lists-seen old (seen_of old) refl d)
-                ∙ (rw e refl)
-          ]
-
-      was : (d : ℕ) (other : DirSets) → get nat_eq new.dirs d ≡ Some other → (d ≢ dir) × (get nat_eq old.dirs d ≡ Some other)
-      was d other is =
-          let differ : d ≢ dir = λ same. let none : get nat_eq new.dirs d ≡ None = ap (get nat_eq new.dirs) same ∙ gone in cc in
-          (differ, sym (left d differ) ∙ is)
-
-      pub kept-drop : AllListsRise new.pool → AreLinksKept new
-      kept-drop rise =
-          record {
-            live = λ d other is.
-                let w = was d other is in
-                stay-live old.pool new.pool other (others-stay old new.pool dir d sets other kept there w.1 w.0 stay) (kept.live d other w.1);
-            place = kept.place;
-            apart = λ d other is. kept.apart d other (was d other is).1;
-            rise = rise;
-            kinds = apart-changed (seen_of old) (seen_of new) dir no_lists changes-drop (record { transient = λ item. refl; permanent = λ item. refl; prohibited = λ item. refl }) kept.kinds;
-          }
-
-  -- whether a directory has its sets, once one has gone
-  pub sets-drop : (dir : ℕ) → ((d : ℕ) → get nat_eq new.dirs d ≡ cond (nat_eq dir d) None (get nat_eq old.dirs d)) → (d : ℕ) → has_sets (seen_of new) d ≡ (has_sets (seen_of old) d && not (d == dir))
-  sets-drop dir dirs d =
-      has-seen new (seen_of new) refl d
-      ∙ ap is_some (dirs d)
-      ∙ elim (cases_eq d dir) [
-        | inl same ↦ let e = eq-eqb d dir same in let f = eq-eqb dir d (sym same) in rw (e, f) (sym (and-false (has_sets (seen_of old) d)))
-        | inr differ ↦ let e = ne_eqb d dir differ in let f = ne_eqb dir d (λ same. differ (sym same)) in rw (e, f) (sym (has-seen old (seen_of old) refl d) ∙ sym (and-true (has_sets (seen_of old) d)))
-      ]
-    where
-      and-false : (b : Bool) → (b && false) ≡ false
-      and-false true = refl
-      and-false false = refl
-
-      and-true : (b : Bool) → (b && true) ≡ b
-      and-true true = refl
-      and-true false = refl
-
-  -- nothing is known of a directory that had no sets
-  pub changes-none : (dir : ℕ) → get nat_eq old.dirs dir ≡ None → SameKinds (seen_of old) (seen_of new) → ChangesDir (seen_of old) (seen_of new) dir no_lists
-  changes-none dir none same d =
-      elim (cases_eq d dir) [
-        | inl is ↦ let e = eq-eqb d dir is in same d ∙ ap (lists_in (seen_of old)) is ∙ lists-none old (seen_of old) refl dir none ∙ (rw e refl)
-        | inr differ ↦ let e = ne_eqb d dir differ in same d ∙ (rw e refl)
-      ]
-
-  -- an item goes out of every set
-  module _ (item : ℕ) (dirs : (d : ℕ) → get nat_eq new.dirs d ≡ get nat_eq old.dirs d) (drops : pool.Drops old.pool new.pool item) where
-    thin : (list : Option (List ℕ)) → unwrap_or (option_map (removed item) list) [] ≡ removed item (unwrap_or list [])
-    thin None = refl
-    thin (Some list) = refl
-
-    thinned : (set : ℕ) → members_of new.pool set ≡ removed item (members_of old.pool set)
-    thinned set = ap (λ list. unwrap_or list []) (drops set) ∙ thin (list_of old.pool set)
-
-    under-drop : (o : Option DirSets) → lists_under new.pool o ≡ with_kind Unlinked item (lists_under old.pool o)
-    under-drop None = refl
-    under-drop (Some sets) = λ i. record { transient = thinned sets.transient i; permanent = thinned sets.permanent i; prohibited = thinned sets.prohibited i }
-
-    pub drops-item : DropsItem (seen_of old) (seen_of new) item
-    drops-item d =
+    -- an item goes out of every set
+    pub drops-item : (item : ℕ) → pool.Drops old.pool new.pool item → DropsItem seen (seen_of new) item
+    drops-item item drops d =
         lists-seen new (seen_of new) refl d
         ∙ ap (lists_under new.pool) (dirs d)
         ∙ under-drop (get nat_eq old.dirs d)
-        ∙ ap (with_kind Unlinked item) (sym (lists-seen old (seen_of old) refl d))
+        ∙ ap (with_kind Unlinked item) (sym (lists-seen old seen view_is d))
+      where
+        thin : (list : Option (List ℕ)) → unwrap_or (option_map (removed item) list) [] ≡ removed item (unwrap_or list [])
+        thin None = refl
+        thin (Some list) = refl
 
-    pub kept-thin : SameLive old.pool new.pool → AllListsRise new.pool → AreLinksKept old → AreLinksKept new
-    kept-thin live rise kept =
-        record {
-          live = λ d other is.
-              let was = kept.live d other (sym (dirs d) ∙ is) in
-              (live other.transient ∙ was.0, live other.permanent ∙ was.1, live other.prohibited ∙ was.2);
-          place = kept.place;
-          apart = λ d other is. kept.apart d other (sym (dirs d) ∙ is);
-          rise = rise;
-          kinds = λ d. subst AreApart (sym (drops-item d)) (apart-with Unlinked item (lists_in (seen_of old) d) (kept.kinds d));
-        }
+        thinned : (set : ℕ) → members_of new.pool set ≡ removed item (members_of old.pool set)
+        thinned set = ap (λ list. unwrap_or list []) (drops set) ∙ thin (list_of old.pool set)
+
+        under-drop : (o : Option DirSets) → lists_under new.pool o ≡ with_kind Unlinked item (lists_under old.pool o)
+        under-drop None = refl
+        under-drop (Some sets) = λ i. record { transient = thinned sets.transient i; permanent = thinned sets.permanent i; prohibited = thinned sets.prohibited i }
+
+  -- one directory gets sets, or loses those that it has
+  module _ (dir : ℕ) (now : Option DirSets) (dirs : (d : ℕ) → get nat_eq new.dirs d ≡ cond (d == dir) now (get nat_eq old.dirs d)) where
+    pub sets-changed : (d : ℕ) → has_sets (seen_of new) d ≡ cond (d == dir) (is_some now) (has_sets seen d)
+    sets-changed d =
+        has-seen new (seen_of new) refl d
+        ∙ ap is_some (dirs d)
+        ∙ told-if is_some (d == dir) now (get nat_eq old.dirs d)
+        ∙ ap (cond (d == dir) (is_some now)) (sym (has-seen old seen view_is d))
+
+    here : get nat_eq new.dirs dir ≡ now
+    here = let e = eq-eqb dir dir refl in dirs dir ∙ (rw e refl)
+
+    there : (d : ℕ) → d ≢ dir → get nat_eq new.dirs d ≡ get nat_eq old.dirs d
+    there d differ = let e = ne_eqb d dir differ in dirs d ∙ (rw e refl)
+
+    pub changes-alone : old.pool ≡ new.pool → lists_under new.pool now ≡ no_lists → ChangesDir seen (seen_of new) dir no_lists
+    changes-alone same none = changes dir there (λ d set differ is. ap (λ pool. list_of pool set) (sym same)) no_lists (ap (lists_under new.pool) here ∙ none)
+
+    module _ (sets : DirSets) (list : Option (List ℕ)) (lists : ChangesAll old.pool new.pool sets list) (none : lists_under new.pool now ≡ no_lists) (apart : (d set : ℕ) → d ≢ dir → IsTrue (has_set old d set) → is_one_of sets set ≡ false) where
+      pub changes-all : ChangesDir seen (seen_of new) dir no_lists
+      changes-all = changes dir there (λ d set differ is. let e = apart d set differ is in lists set ∙ (rw e refl)) no_lists (ap (lists_under new.pool) here ∙ none)
+
+      pub kept-all : (kept : AreLinksKept old) (owner : Option ℕ) → is_some list ≡ is_some owner → ((d set : ℕ) → cond (d == dir) (has_in set now) (has_set old d set) ≡ cond (is_one_of sets set) (is_owner owner d) (has_set old d set)) → ((sets : DirSets) → now ≡ Some sets → AreDistinct sets) → AllApart seen → AllListsRise new.pool → AreLinksKept new
+      kept-all kept owner live owns distinct kinds rise =
+          record {
+            owner = λ set. cond (is_one_of sets set) owner (kept.owner set);
+            live = λ set.
+                ap is_some (lists set)
+                ∙ told-if is_some (is_one_of sets set) list (list_of old.pool set)
+                ∙ (λ i. cond (is_one_of sets set) (live i) (kept.live set i))
+                ∙ sym (told-if is_some (is_one_of sets set) owner (kept.owner set));
+            owned = λ d set.
+                ap (has_in set) (dirs d)
+                ∙ told-if (has_in set) (d == dir) now (get nat_eq old.dirs d)
+                ∙ owns d set
+                ∙ ap (cond (is_one_of sets set) (is_owner owner d)) (kept.owned d set)
+                ∙ sym (told-if (λ owner. is_owner owner d) (is_one_of sets set) owner (kept.owner set));
+            distinct = λ d s is. elim (cases_eq d dir) [
+              | inl same ↦ distinct s (sym here ∙ ap (get nat_eq new.dirs) (sym same) ∙ is)
+              | inr differ ↦ kept.distinct d s (sym (there d differ) ∙ is)
+            ];
+            rise = rise;
+            kinds = apart-changed seen (seen_of new) dir no_lists changes-all apart-none kinds;
+          }
+
+-- an item gets a kind in one directory
+module _ (links : Inside) (kept : AreLinksKept links) (dir : ℕ) (sets : DirSets) (there : Some sets ≡ get nat_eq links.dirs dir) (kind : Kind) (item : ℕ) (q : Sets) (others : OthersStay links.pool q sets) (lists : dir_lists q sets ≡ with_kind kind item (dir_lists links.pool sets)) where
+  pub changes-kind : (seen : Known) → seen_of links ≡ seen → ChangesDir seen (seen_of (record links { pool = q })) dir (with_kind kind item (lists_in seen dir))
+  changes-kind seen view_is =
+      changes links (record links { pool = q }) seen view_is dir (λ d differ. refl) (λ d set differ is. others set (apart-set links kept dir sets there d set differ is)) (with_kind kind item (lists_in seen dir))
+      (ap (lists_under q) (sym there) ∙ lists ∙ ap (with_kind kind item) (ap (lists_under links.pool) there ∙ sym (lists-seen links seen view_is dir)))
+
+  pub kept-kind : SameLive links.pool q → AllListsRise q → AreLinksKept (record links { pool = q })
+  kept-kind live rise =
+      kept-still links (record links { pool = q }) (seen_of links) refl (λ d. refl) kept live rise
+      (apart-changed (seen_of links) (seen_of (record links { pool = q })) dir (with_kind kind item (lists_in (seen_of links) dir)) (changes-kind (seen_of links) refl) (apart-with kind item (lists_in (seen_of links) dir) (kept.kinds dir)) kept.kinds)
+
+module _ (old new : Inside) (kept : AreLinksKept old) (dir : ℕ) (sets : DirSets) where
+  -- a directory gets sets, which are new
+  module _ (none : get nat_eq old.dirs dir ≡ None) (dirs : (d : ℕ) → get nat_eq new.dirs d ≡ cond (d == dir) (Some sets) (get nat_eq old.dirs d)) (made : ChangesAll old.pool new.pool sets (Some [])) (fresh : AreFresh old.pool sets) where
+    unowned : (set : ℕ) → IsTrue (is_one_of sets set) → (d : ℕ) → has_set old d set ≡ false
+    unowned set one d = kept.owned d set ∙ by_owner (kept.owner set) (sym (kept.live set) ∙ fresh set one)
+      where
+        by_owner : (o : Option ℕ) → is_some o ≡ false → is_owner o d ≡ false
+        by_owner None gone = refl
+        by_owner (Some n) gone = absurd cc
+
+    apart : (d set : ℕ) → d ≢ dir → IsTrue (has_set old d set) → is_one_of sets set ≡ false
+    apart d set differ is = by_one (is_one_of sets set) refl
+      where
+        by_one : (b : Bool) → is_one_of sets set ≡ b → b ≡ false
+        by_one true one = let gone = unowned set one d in let own : has_set old d set ≡ true = is in absurd cc
+        by_one false one = refl
+
+    empty : dir_lists new.pool sets ≡ no_lists
+    empty = let o = own sets in λ i. record { transient = members sets.transient o.0 i; permanent = members sets.permanent o.1 i; prohibited = members sets.prohibited o.2 i }
+      where
+        members : (set : ℕ) → IsTrue (is_one_of sets set) → members_of new.pool set ≡ []
+        members set one = ap (λ list. unwrap_or list []) (made set ∙ ap (λ b. cond b (Some []) (list_of old.pool set)) one)
+
+    pub same-added : (seen : Known) → seen_of old ≡ seen → SameKinds seen (seen_of new)
+    same-added seen view_is d =
+        changes-all old new seen view_is dir (Some sets) dirs sets (Some []) made empty apart d
+        ∙ none-in seen dir (lists-seen old seen view_is dir ∙ ap (lists_under old.pool) none) d
+
+    pub kept-added : AreDistinct sets → AllListsRise new.pool → AreLinksKept new
+    kept-added distinct rise =
+        kept-all old new (seen_of old) refl dir (Some sets) dirs sets (Some []) made empty apart kept (Some dir) refl owns (λ s is. subst AreDistinct (let same : sets ≡ s = cc in same) distinct) kept.kinds rise
+      where
+        swapped : (e b w : Bool) → (b ≡ true → w ≡ false) → (e ≡ true → w ≡ false) → cond e b w ≡ cond b e w
+        swapped true true w one here = refl
+        swapped true false w one here = sym (here refl)
+        swapped false true w one here = one refl
+        swapped false false w one here = refl
+
+        owns : (d set : ℕ) → cond (d == dir) (is_one_of sets set) (has_set old d set) ≡ cond (is_one_of sets set) (d == dir) (has_set old d set)
+        owns d set = swapped (d == dir) (is_one_of sets set) (has_set old d set) (λ one. unowned set one d) (λ same. ap (λ d. has_set old d set) (eqb-true d dir same) ∙ ap (has_in set) none)
+
+  -- a directory loses its sets
+  module _ (there : Some sets ≡ get nat_eq old.dirs dir) (dirs : (d : ℕ) → get nat_eq new.dirs d ≡ cond (d == dir) None (get nat_eq old.dirs d)) (freed : ChangesAll old.pool new.pool sets None) where
+    pub changes-dropped : (seen : Known) → seen_of old ≡ seen → ChangesDir seen (seen_of new) dir no_lists
+    changes-dropped seen view_is = changes-all old new seen view_is dir None dirs sets None freed refl (apart-set old kept dir sets there)
+
+    pub kept-dropped : AllListsRise new.pool → AreLinksKept new
+    kept-dropped rise =
+        kept-all old new (seen_of old) refl dir None dirs sets None freed refl (apart-set old kept dir sets there) kept None refl owns (λ s is. absurd cc) kept.kinds rise
+      where
+        swapped : (e b w : Bool) → (b ≡ true → w ≡ e) → (e ≡ true → w ≡ b) → cond e false w ≡ cond b false w
+        swapped true true w one here = refl
+        swapped true false w one here = sym (here refl)
+        swapped false true w one here = one refl
+        swapped false false w one here = refl
+
+        by_owner : (d : ℕ) (o : Option ℕ) → IsTrue (is_owner o dir) → is_owner o d ≡ (d == dir)
+        by_owner d None is = absurd cc
+        by_owner d (Some n) is = ap (λ n. d == n) (sym (eqb-true dir n is))
+
+        owns : (d set : ℕ) → cond (d == dir) false (has_set old d set) ≡ cond (is_one_of sets set) false (has_set old d set)
+        owns d set =
+            swapped (d == dir) (is_one_of sets set) (has_set old d set)
+            (λ one. kept.owned d set ∙ by_owner d (kept.owner set) (sym (of-dir old kept dir sets there set) ∙ one))
+            (λ same. ap (λ d. has_set old d set) (eqb-true d dir same) ∙ ap (has_in set) (sym there))
+
+-- a directory that has no sets loses none
+pub kept-absent : (old new : Inside) (dir : ℕ) → AreLinksKept old → None ≡ get nat_eq old.dirs dir → old.pool ≡ new.pool → ((d : ℕ) → get nat_eq new.dirs d ≡ cond (d == dir) None (get nat_eq old.dirs d)) → AreLinksKept new
+kept-absent old new dir kept none same dirs =
+    kept-still old new (seen_of old) refl still kept (λ set. ap (λ pool. is_live pool set) (sym same)) (subst AllListsRise same kept.rise)
+    (apart-changed (seen_of old) (seen_of new) dir no_lists (changes-alone old new (seen_of old) refl dir None dirs same refl) apart-none kept.kinds)
+  where
+    still : (d : ℕ) → get nat_eq new.dirs d ≡ get nat_eq old.dirs d
+    still d = dirs d ∙ by_dir (d == dir) refl
+      where
+        by_dir : (b : Bool) → (d == dir) ≡ b → cond b None (get nat_eq old.dirs d) ≡ get nat_eq old.dirs d
+        by_dir true is = none ∙ ap (get nat_eq old.dirs) (sym (eqb-true d dir is))
+        by_dir false is = refl
 
 -- the kinds of items, after the lists of one directory changed
 pub kinds-set : (old new : Known) (dir item : ℕ) (kind : Kind) → ChangesDir old new dir (with_kind kind item (lists_in old dir)) → (d i : ℕ) → kind_at new d i ≡ cond (d == dir && i == item) kind (kind_at old d i)
-kinds-set old new dir item kind change d i = ap (λ lists. kind_in lists i) (change d) ∙ either (d == dir) refl
+kinds-set old new dir item kind change d i = ap (λ lists. kind_in lists i) (change d) ∙ by_dir (d == dir) refl
   where
-    either : (b : Bool) → (d == dir) ≡ b → kind_in (cond b (with_kind kind item (lists_in old dir)) (lists_in old d)) i ≡ cond (b && i == item) kind (kind_at old d i)
-    either true is = kind-with kind item i (lists_in old dir) ∙ ap (λ d. cond (i == item) kind (kind_at old d i)) (sym (eqb-true d dir is))
-    either false is = refl
+    by_dir : (b : Bool) → (d == dir) ≡ b → kind_in (cond b (with_kind kind item (lists_in old dir)) (lists_in old d)) i ≡ cond (b && i == item) kind (kind_at old d i)
+    by_dir true is = kind-with kind item i (lists_in old dir) ∙ ap (λ d. cond (i == item) kind (kind_at old d i)) (sym (eqb-true d dir is))
+    by_dir false is = refl
 
--- nothing is taken out where nothing was
-pub absent : (old : ℕ → Option DirSets) (dir : ℕ) → old dir ≡ None → (d : ℕ) → cond (nat_eq dir d) None (old d) ≡ old d
-absent old dir none d =
-    elim (cases_eq dir d) [
-      | inl same ↦ let e = eq-eqb dir d same in rw e (sym (ap old (sym same) ∙ none))
-      | inr differ ↦ let e = ne_eqb dir d differ in rw e refl
-    ]
+-- whether a directory has its sets
+pub gets-sets : (e had : Bool) → cond e true had ≡ (had || e)
+gets-sets true true = refl
+gets-sets true false = refl
+gets-sets false true = refl
+gets-sets false false = refl
+
+pub loses-sets : (e had : Bool) → cond e false had ≡ (had && not e)
+loses-sets true true = refl
+loses-sets true false = refl
+loses-sets false true = refl
+loses-sets false false = refl
+
+pub sets-there : (old new : Known) (dir : ℕ) → SameLinks old new → has_sets old dir ≡ true → (d : ℕ) → has_sets new d ≡ (has_sets old d || d == dir)
+sets-there old new dir same there d = same d ∙ by_dir (d == dir) refl ∙ gets-sets (d == dir) (has_sets old d)
+  where
+    by_dir : (b : Bool) → (d == dir) ≡ b → has_sets old d ≡ cond b true (has_sets old d)
+    by_dir true is = ap (has_sets old) (eqb-true d dir is) ∙ there
+    by_dir false is = refl
+
+pub none-there : {X : Type 0} (o : Option X) → is_some o ≡ false → o ≡ None
+none-there None e = refl
+none-there (Some x) e = absurd cc

@@ -5,7 +5,7 @@ use Rattle.set_pool.proofs.PoolLemmas.{among-inserted, among-removed}
 use Rattle.hac_model.specs.declared.marks.Kind.{Kind}
 use Rattle.hac_model.specs.declared.marks.Kind.TheVariants.{Transient, Permanent, Prohibited, Unlinked}
 use Rattle.hac_model.specs.Tree.Kinds.{is_permanent, is_prohibited, is_transient}
-use Rattle.link_kinds.specs.Kinds.{AreApart, Lists, kind_in, with_kind}
+use Rattle.link_kinds.specs.Kinds.{AreApart, Lists, kind_in, no_lists, with_kind}
 
 -- whether an item is in a list after a change of another or of the same: the list is that of the kind, the item was in
 -- it, it is the one that changes
@@ -13,19 +13,17 @@ listed : Bool → Bool → Bool → Bool
 listed true was here = was || here
 listed false was here = was && not here
 
-listed-here : (for was : Bool) → listed for was true ≡ for
+-- the item is in the list of its kind, and each other where it was
+listed-is : (for was here : Bool) → listed for was here ≡ cond here for was
 unfolding listed
-listed-here true true = refl
-listed-here true false = refl
-listed-here false true = refl
-listed-here false false = refl
-
-listed-other : (for was : Bool) → listed for was false ≡ was
-unfolding listed
-listed-other true true = refl
-listed-other true false = refl
-listed-other false true = refl
-listed-other false false = refl
+listed-is true true true = refl
+listed-is true true false = refl
+listed-is true false true = refl
+listed-is true false false = refl
+listed-is false true true = refl
+listed-is false true false = refl
+listed-is false false true = refl
+listed-is false false false = refl
 
 -- the kind, from the lists in which an item is
 kind-of : Bool → Bool → Bool → Kind
@@ -39,47 +37,46 @@ kind-own Prohibited = refl
 kind-own Unlinked = refl
 
 kind-changed : (kind : Kind) (here a b c : Bool) → kind-of (listed (is_transient kind) a here) (listed (is_permanent kind) b here) (listed (is_prohibited kind) c here) ≡ cond here kind (kind-of a b c)
-kind-changed kind true a b c = (λ i. kind-of (listed-here (is_transient kind) a i) (listed-here (is_permanent kind) b i) (listed-here (is_prohibited kind) c i)) ∙ kind-own kind
-kind-changed kind false a b c = λ i. kind-of (listed-other (is_transient kind) a i) (listed-other (is_permanent kind) b i) (listed-other (is_prohibited kind) c i)
+kind-changed kind here a b c =
+    (λ i. kind-of (listed-is (is_transient kind) a here i) (listed-is (is_permanent kind) b here i) (listed-is (is_prohibited kind) c here i))
+    ∙ (elim here as (λ here. kind-of (cond here (is_transient kind) a) (cond here (is_permanent kind) b) (cond here (is_prohibited kind) c) ≡ cond here kind (kind-of a b c)) [ true ↦ kind-own kind | false ↦ refl ])
 
-transient-with : (kind : Kind) (item i : ℕ) (lists : Lists) → is_among i (with_kind kind item lists).transient ≡ listed (is_transient kind) (is_among i lists.transient) (eqb i item)
-unfolding listed
-transient-with Transient item i lists = among-inserted item i lists.transient
-transient-with Permanent item i lists = among-removed item i lists.transient
-transient-with Prohibited item i lists = among-removed item i lists.transient
-transient-with Unlinked item i lists = among-removed item i lists.transient
+-- in which lists an item is after another gets a kind, or it itself
+record AreListed (kind : Kind) (item i : ℕ) (lists : Lists) : Type 0 where
+  transient : is_among i (with_kind kind item lists).transient ≡ listed (is_transient kind) (is_among i lists.transient) (eqb i item)
+  permanent : is_among i (with_kind kind item lists).permanent ≡ listed (is_permanent kind) (is_among i lists.permanent) (eqb i item)
+  prohibited : is_among i (with_kind kind item lists).prohibited ≡ listed (is_prohibited kind) (is_among i lists.prohibited) (eqb i item)
 
-permanent-with : (kind : Kind) (item i : ℕ) (lists : Lists) → is_among i (with_kind kind item lists).permanent ≡ listed (is_permanent kind) (is_among i lists.permanent) (eqb i item)
+are-listed : (kind : Kind) (item i : ℕ) (lists : Lists) → AreListed kind item i lists
 unfolding listed
-permanent-with Transient item i lists = among-removed item i lists.permanent
-permanent-with Permanent item i lists = among-inserted item i lists.permanent
-permanent-with Prohibited item i lists = among-removed item i lists.permanent
-permanent-with Unlinked item i lists = among-removed item i lists.permanent
-
-prohibited-with : (kind : Kind) (item i : ℕ) (lists : Lists) → is_among i (with_kind kind item lists).prohibited ≡ listed (is_prohibited kind) (is_among i lists.prohibited) (eqb i item)
-unfolding listed
-prohibited-with Transient item i lists = among-removed item i lists.prohibited
-prohibited-with Permanent item i lists = among-removed item i lists.prohibited
-prohibited-with Prohibited item i lists = among-inserted item i lists.prohibited
-prohibited-with Unlinked item i lists = among-removed item i lists.prohibited
+are-listed Transient item i lists = record { transient = among-inserted item i lists.transient; permanent = among-removed item i lists.permanent; prohibited = among-removed item i lists.prohibited }
+are-listed Permanent item i lists = record { transient = among-removed item i lists.transient; permanent = among-inserted item i lists.permanent; prohibited = among-removed item i lists.prohibited }
+are-listed Prohibited item i lists = record { transient = among-removed item i lists.transient; permanent = among-removed item i lists.permanent; prohibited = among-inserted item i lists.prohibited }
+are-listed Unlinked item i lists = record { transient = among-removed item i lists.transient; permanent = among-removed item i lists.permanent; prohibited = among-removed item i lists.prohibited }
 
 -- the item has the kind that it got, and each other item its own
 pub kind-with : (kind : Kind) (item i : ℕ) (lists : Lists) → kind_in (with_kind kind item lists) i ≡ cond (eqb i item) kind (kind_in lists i)
 unfolding kind-of
 kind-with kind item i lists =
-    (λ k. kind-of (transient-with kind item i lists k) (permanent-with kind item i lists k) (prohibited-with kind item i lists k))
+    let are = are-listed kind item i lists in
+    (λ k. kind-of (are.transient k) (are.permanent k) (are.prohibited k))
     ∙ kind-changed kind (eqb i item) (is_among i lists.transient) (is_among i lists.permanent) (is_among i lists.prohibited)
-
--- the test of one kind
-told : (test : Kind → Bool) (kind old : Kind) (here was : Bool) → was ≡ test old → listed (test kind) was here ≡ test (cond here kind old)
-told test kind old true was same = listed-here (test kind) was
-told test kind old false was same = listed-other (test kind) was ∙ same
 
 -- no item gets into two lists
 pub apart-with : (kind : Kind) (item : ℕ) (lists : Lists) → AreApart lists → AreApart (with_kind kind item lists)
 apart-with kind item lists apart =
     record {
-      transient = λ i. transient-with kind item i lists ∙ told is_transient kind (kind_in lists i) (eqb i item) (is_among i lists.transient) (apart.transient i) ∙ ap is_transient (sym (kind-with kind item i lists));
-      permanent = λ i. permanent-with kind item i lists ∙ told is_permanent kind (kind_in lists i) (eqb i item) (is_among i lists.permanent) (apart.permanent i) ∙ ap is_permanent (sym (kind-with kind item i lists));
-      prohibited = λ i. prohibited-with kind item i lists ∙ told is_prohibited kind (kind_in lists i) (eqb i item) (is_among i lists.prohibited) (apart.prohibited i) ∙ ap is_prohibited (sym (kind-with kind item i lists));
+      transient = λ i. (are-listed kind item i lists).transient ∙ told is_transient i (is_among i lists.transient) (apart.transient i);
+      permanent = λ i. (are-listed kind item i lists).permanent ∙ told is_permanent i (is_among i lists.permanent) (apart.permanent i);
+      prohibited = λ i. (are-listed kind item i lists).prohibited ∙ told is_prohibited i (is_among i lists.prohibited) (apart.prohibited i);
     }
+  where
+    told : (test : Kind → Bool) (i : ℕ) (was : Bool) → was ≡ test (kind_in lists i) → listed (test kind) was (eqb i item) ≡ test (kind_in (with_kind kind item lists) i)
+    told test i was same =
+        listed-is (test kind) was (eqb i item)
+        ∙ ap (cond (eqb i item) (test kind)) same
+        ∙ (elim (eqb i item) as (λ here. cond here (test kind) (test (kind_in lists i)) ≡ test (cond here kind (kind_in lists i))) [ true ↦ refl | false ↦ refl ])
+        ∙ ap test (sym (kind-with kind item i lists))
+
+pub apart-none : AreApart no_lists
+apart-none = record { transient = λ item. refl; permanent = λ item. refl; prohibited = λ item. refl }

@@ -1,13 +1,14 @@
 -- Marks of a state and items of a list: put in, and taken out.
-use Rattle.std.proofs.Common.{◌≡◌, ℕ, ◌<◌, cond, not, List, [], ◌∷◌, eqb, refl, ap, sym, ◌∙◌, subst, arith, inl, inr}
+use Rattle.std.proofs.Common.{◌≡◌, ℕ, ◌<◌, cond, not, List, [], ◌∷◌, refl, ap, sym, ◌∙◌, subst, arith, inl, inr}
 use Rattle.std.specs.Cmp.{nat_cmp_is}
 use Rattle.std.specs.List.Sorted.{IsStrictlyIncreasing, IsStrictlySortedBy}
 use Rattle.std.specs.Ordering.{nat_cmp}
 use Rattle.std.specs.declared.cmp.Ordering.TheVariants.{Less, Equal, Greater}
-use Rattle.std.proofs.lemmas.Bool.{cases_eq, cases_order, eq-eqb, le-ltb, lt-ltb, ne_eqb}
+use Rattle.std.proofs.lemmas.Bool.{cases_order, eq-eqb, le-ltb, lt-ltb, ne_eqb}
 use Rattle.std.proofs.lemmas.Map.Keys.{sorted_from_strictly_increasing}
 use Rattle.hac_model.specs.Tree.Events.{put_in, without}
 use Rattle.set_pool.specs.Rising.{AllAbove, Rises, inserted, removed}
+use Rattle.link_kinds.proofs.HasLemmas.{eqb-turned}
 use Rattle.set_pool.proofs.RisingLemmas.{all-weaker, inserted-before, inserted-past, inserted-present}
 
 nat-less : (x y : ℕ) → nat_cmp x y ≡ Less → x < y
@@ -22,13 +23,6 @@ sorted-rise : (xs : List ℕ) → IsStrictlySortedBy nat_cmp xs → Rises xs
 unfolding IsStrictlySortedBy
 sorted-rise [] h = tt
 sorted-rise (x ∷ xs) h = (all-weaker (λ y. nat_cmp x y ≡ Less) (λ y. x < y) (λ y less. nat-less x y less) xs h.0, sorted-rise xs h.1)
-
-eqb-turned : (a b : ℕ) → eqb a b ≡ eqb b a
-eqb-turned a b =
-    elim (cases_eq a b) [
-      | inl same ↦ eq-eqb a b same ∙ sym (eq-eqb b a (sym same))
-      | inr differ ↦ ne_eqb a b differ ∙ sym (ne_eqb b a (λ same. differ (sym same)))
-    ]
 
 pub removed-without : (item : ℕ) (xs : List ℕ) → removed item xs ≡ without item xs
 removed-without item [] = refl

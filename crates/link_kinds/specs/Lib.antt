@@ -1,4 +1,3 @@
 pub mod Kinds
 pub mod Seen
 pub mod Kept
-pub mod Marked

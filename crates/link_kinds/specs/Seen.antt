@@ -1,5 +1,5 @@
 -- What callers see of links, and how calls change them.
-use Rattle.std.specs.Prelude.{◌≡◌, ℕ, Bool, ◌==◌, is_some, if◌then◌else◌, List, Option, unwrap_or}
+use Rattle.std.specs.Prelude.{◌≡◌, ℕ, ◌+◌, ◌≤◌, Bool, ◌==◌, is_some, if◌then◌else◌, List, Option, unwrap_or}
 use Rattle.std.specs.Map.{lookup}
 use Rattle.hac_model.specs.declared.marks.Kind.{Kind}
 use Rattle.link_kinds.specs.Kinds.{AreApart, AreRising, Lists, kind_in, no_lists, with_kind}
@@ -64,3 +64,7 @@ ChangesDir old new dir lists = (d : ℕ) → lists_in new d ≡ (if d == dir the
 -- the item isn't linked in any directory, and each other item is as before
 abbrev pub DropsItem : Known → Known → ℕ → Type 0
 DropsItem old new item = (dir : ℕ) → lists_in new dir ≡ with_kind Kind.Unlinked item (lists_in old dir)
+
+-- it falls by one at most, and doesn't rise
+abbrev pub LosesOneAtMost : ℕ → ℕ → Type 0
+LosesOneAtMost old new = (new ≤ old) × (old ≤ new + 1)

@@ -1,10 +1,11 @@
-//! Links: the kind of each item in each semantic directory. It knows nothing of what makes an item a link.
-ghost use Rattle.std.specs.Prelude.{◌≡◌, ◌==◌, ◌&&◌, ◌||◌, ◌<◌, ◌≤◌, ◌+◌, length, ℕ, IfOk, IsTrue, None, Some, OnErr, OnOk, false, if◌then◌else◌, nat_eq, not};
+//! Links: the kind of each item in each semantic directory. It knows nothing of what makes an item
+//! a link.
+ghost use Rattle.std.specs.Prelude.{◌≡◌, ◌==◌, ◌&&◌, ◌||◌, ◌<◌, ◌+◌, length, max, ℕ, IfOk, IsTrue, None, Some, OnErr, OnOk, false, if◌then◌else◌, nat_eq, not};
 ghost use Rattle.indexmap.specs.IndexMap.{get, spare};
 ghost use Rattle.set_pool.specs.Rising.{first_from};
 ghost use Rattle.set_pool.specs.Sets as pool_sets;
 ghost use Rattle.link_kinds.specs.Kinds.{items_of, no_lists, with_kind};
-ghost use Rattle.link_kinds.specs.Seen.{AllApart, LinkListsRise, ChangesDir, DropsItem, IsEmpty, SameKinds, SameLinks, has_sets, kind_at, lists_in, permanent_in, prohibited_in, transient_in};
+ghost use Rattle.link_kinds.specs.Seen.{AllApart, ChangesDir, DropsItem, IsEmpty, LinkListsRise, LosesOneAtMost, SameKinds, SameLinks, has_sets, kind_at, lists_in, permanent_in, prohibited_in, transient_in};
 
 use crate::sets::DirSets;
 use hac_model::{Kind, Memory, Number};
@@ -16,8 +17,8 @@ use std::marker::Model;
 /// The sets of each directory that has some.
 type Dirs = IndexMap<u64, DirSets>;
 
-/// How items are linked in semantic directories. Room comes first: after `prepare(dir, n)`, `n` calls of `set_kind`
-/// take no memory.
+/// How items are linked in semantic directories. Room comes first: after `prepare(dir, n)`, `n`
+/// calls of `set_kind` take no memory.
 #[derive(Drop)]
 pub struct Links {
     dirs: Dirs,
@@ -50,16 +51,17 @@ impl Links {
         })
     }
 
-    /// Ensures that a directory has its sets, and that there is memory for `count` calls of `set_kind`. What is
-    /// left of earlier calls counts.
+    /// Ensures that a directory has its sets, and that there is memory for `count` calls of
+    /// `set_kind`. What is left of earlier calls counts.
     pub fn prepare(&mut self, dir: Number, count: u64) -> Result<(), Memory>
-        ensures room { OnOk result (count ≤ self.new.spare) }
-        ensures sets { OnOk result ((d : ℕ) → has_sets self.new d ≡ (has_sets self.old d || d == dir)) }
-        ensures spare { self.old.spare ≤ self.new.spare }
+        ensures room { OnOk result (self.new.spare ≡ max self.old.spare count) }
+        ensures sets { OnOk result
+            ((d : ℕ) → has_sets self.new d ≡ (has_sets self.old d || d == dir)) }
         ensures kinds { SameKinds self.old self.new }
 
-        // After want of memory all is as before.
-        ensures err { OnErr result ((self.new.spare ≡ self.old.spare) × SameLinks self.old self.new) }
+        // If memory ran out, all is as before.
+        ensures err { OnErr result
+            ((self.new.spare ≡ self.old.spare) × SameLinks self.old self.new) }
     {
         if sets_at(&self.dirs, dir).is_some() {
             self.pool.reserve(count)?;
@@ -79,7 +81,7 @@ impl Links {
         ensures rise { LinkListsRise self.now }
     {
         match sets_at(&self.dirs, dir) {
-            Some(sets) => sets.kind(&self.pool, item.get()),
+            Some(sets) => sets.kind(&self.pool, item),
             None => Kind::Unlinked,
         }
     }
@@ -98,49 +100,55 @@ impl Links {
     pub fn transient_from(&self, dir: Number, item: Number) -> Option<Number>
         ensures { result ≡ first_from item (transient_in self.now dir) }
     {
-        let sets = sets_at(&self.dirs, dir)?;
-        let found = self.pool.first_from(sets.transient, item.get())?;
-        Some(Number::new(found))
+        self.first_from(dir, Kind::Transient, item)
     }
 
     /// The least permanent item of a directory that isn't below the one given.
     pub fn permanent_from(&self, dir: Number, item: Number) -> Option<Number>
         ensures { result ≡ first_from item (permanent_in self.now dir) }
     {
-        let sets = sets_at(&self.dirs, dir)?;
-        let found = self.pool.first_from(sets.permanent, item.get())?;
-        Some(Number::new(found))
+        self.first_from(dir, Kind::Permanent, item)
     }
 
     /// The least prohibited item of a directory that isn't below the one given.
     pub fn prohibited_from(&self, dir: Number, item: Number) -> Option<Number>
         ensures { result ≡ first_from item (prohibited_in self.now dir) }
     {
-        let sets = sets_at(&self.dirs, dir)?;
-        let found = self.pool.first_from(sets.prohibited, item.get())?;
-        Some(Number::new(found))
+        self.first_from(dir, Kind::Prohibited, item)
+    }
+
+    /// The least item of a kind in a directory that isn't below the one given.
+    fn first_from(&self, dir: Number, kind: Kind, item: Number) -> Option<Number>
+        ensures { result ≡ first_from item (items_of kind (lists_in self.now dir)) }
+    {
+        match sets_at(&self.dirs, dir) {
+            Some(sets) => sets.first_from(&self.pool, kind, item),
+            None => None,
+        }
     }
 
     /// Gives an item a kind in a directory, in place of the one that it has there.
     pub fn set_kind(&mut self, dir: Number, item: Number, kind: Kind)
         requires sets { IsTrue (has_sets self.old dir) }
         requires room { 0 < self.old.spare }
-        ensures lists { ChangesDir self.old self.new dir (with_kind kind item (lists_in self.old dir)) }
-        ensures kind { (d i : ℕ) → kind_at self.new d i ≡ (if d == dir && i == item then kind else kind_at self.old d i) }
+        ensures lists { ChangesDir self.old self.new dir
+            (with_kind kind item (lists_in self.old dir)) }
+        ensures kind { (d i : ℕ) → kind_at self.new d i
+            ≡ (if d == dir && i == item then kind else kind_at self.old d i) }
         ensures sets { SameLinks self.old self.new }
-        ensures spare { self.old.spare ≤ self.new.spare + 1 }
+        ensures spare { LosesOneAtMost self.old.spare self.new.spare }
     {
         let Some(sets) = sets_at(&self.dirs, dir) else {
             unreachable!()
         };
-        sets.set_kind(&mut self.pool, item.get(), kind);
+        sets.set_kind(&mut self.pool, item, kind);
     }
 
     /// No item is linked in the directory any more, and it has no sets.
     pub fn drop_dir(&mut self, dir: Number)
         ensures lists { ChangesDir self.old self.new dir no_lists }
         ensures sets { (d : ℕ) → has_sets self.new d ≡ (has_sets self.old d && not (d == dir)) }
-        ensures spare { self.old.spare ≤ self.new.spare }
+        ensures spare { self.new.spare ≡ self.old.spare }
     {
         if let Some(sets) = take_sets(&mut self.dirs, dir) {
             sets.free(&mut self.pool);
@@ -151,29 +159,15 @@ impl Links {
     pub fn drop_item(&mut self, item: Number)
         ensures lists { DropsItem self.old self.new item }
         ensures sets { SameLinks self.old self.new }
-        ensures spare { self.old.spare ≤ self.new.spare }
+        ensures spare { self.new.spare ≡ self.old.spare }
     {
         self.pool.remove_everywhere(item.get());
-    }
-
-    /// The same links once more, with no room for others.
-    pub fn copy(&self) -> Result<Links, Memory>
-        ensures kinds { IfOk result (λ links. SameKinds self.now links) }
-        ensures sets { IfOk result (λ links. SameLinks self.now links) }
-        ensures spare { IfOk result (λ links. links.spare ≡ 0) }
-    {
-        let pool = self.pool.copy()?;
-        Ok(Links {
-            dirs: self.dirs.clone()?,
-            pool,
-        })
     }
 }
 
 /// Sets aside what three new sets want, beside `count` calls and what is spare already.
 fn reserve_more(pool: &mut SetPool, count: u64) -> Result<(), Memory>
-    ensures room { OnOk result (count + 3 ≤ pool.new.spare) }
-    ensures more { OnOk result (pool.old.spare + 3 ≤ pool.new.spare) }
+    ensures room { OnOk result (pool.new.spare ≡ max pool.old.spare count + 3) }
     ensures err { OnErr result (pool.new.spare ≡ pool.old.spare) }
     ensures same { pool_sets.SameSets pool.old pool.new }
 {
@@ -194,7 +188,8 @@ fn sets_at(dirs: &Dirs, dir: Number) -> Option<DirSets>
 /// Gives a directory its sets, in a map that has room for them.
 fn put_sets(dirs: &mut Dirs, dir: Number, sets: DirSets)
     requires { 0 < spare dirs.old }
-    ensures { (d : ℕ) → get nat_eq dirs.new d ≡ (if nat_eq dir d then Some sets else get nat_eq dirs.old d) }
+    ensures { (d : ℕ) → get nat_eq dirs.new d
+        ≡ (if d == dir then Some sets else get nat_eq dirs.old d) }
 {
     if dirs.insert(dir.get(), sets).is_err() {
         unreachable!()
@@ -204,7 +199,8 @@ fn put_sets(dirs: &mut Dirs, dir: Number, sets: DirSets)
 /// Removes the sets of a directory.
 fn take_sets(dirs: &mut Dirs, dir: Number) -> Option<DirSets>
     ensures sets { result ≡ get nat_eq dirs.old dir }
-    ensures taken { (d : ℕ) → get nat_eq dirs.new d ≡ (if nat_eq dir d then None else get nat_eq dirs.old d) }
+    ensures taken { (d : ℕ) → get nat_eq dirs.new d
+        ≡ (if d == dir then None else get nat_eq dirs.old d) }
 {
     dirs.swap_remove(&dir.get())
 }

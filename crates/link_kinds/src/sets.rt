@@ -1,10 +1,12 @@
 //! The three sets of one directory, within the pool that all directories share.
-ghost use Rattle.std.specs.Prelude.{◌≡◌, ◌+◌, ◌<◌, ◌≤◌, length, IsTrue, ℕ};
-ghost use Rattle.set_pool.specs.Sets.{AllListsRise, SameLive, is_live};
-ghost use Rattle.link_kinds.specs.Kept.{AreDistinct, AreFresh, AreLive, OthersStay, dir_lists};
-ghost use Rattle.link_kinds.specs.Kinds.{items_of, kind_in, no_lists, with_kind};
+ghost use Rattle.std.specs.Prelude.{◌≡◌, ◌+◌, ◌<◌, ◌≤◌, [], length, None, Some};
+ghost use Rattle.set_pool.specs.Rising.{first_from};
+ghost use Rattle.set_pool.specs.Sets.{AllListsRise, SameLive};
+ghost use Rattle.link_kinds.specs.Kept.{AreDistinct, AreFresh, AreLive, ChangesAll, OthersStay, dir_lists};
+ghost use Rattle.link_kinds.specs.Kinds.{items_of, kind_in, with_kind};
+ghost use Rattle.link_kinds.specs.Seen.{LosesOneAtMost};
 
-use hac_model::Kind;
+use hac_model::{Kind, Number};
 use set_pool::{SetId, SetPool};
 
 /// The sets of a directory's items, one for each kind of link.
@@ -17,15 +19,16 @@ pub(crate) struct DirSets {
 
 impl DirSets {
     /// How an item is linked in the directory.
-    pub(crate) fn kind(&self, pool: &SetPool, item: u64) -> Kind
+    pub(crate) fn kind(&self, pool: &SetPool, item: Number) -> Kind
         requires { AreLive pool.now self.now }
         ensures { result ≡ kind_in (dir_lists pool.now self.now) item }
     {
-        if pool.contains(self.transient, item) {
+        let number = item.get();
+        if pool.contains(self.transient, number) {
             Kind::Transient
-        } else if pool.contains(self.permanent, item) {
+        } else if pool.contains(self.permanent, number) {
             Kind::Permanent
-        } else if pool.contains(self.prohibited, item) {
+        } else if pool.contains(self.prohibited, number) {
             Kind::Prohibited
         } else {
             Kind::Unlinked
@@ -45,17 +48,33 @@ impl DirSets {
         }
     }
 
+    /// The least item of a kind that isn't below the one given.
+    pub(crate) fn first_from(&self, pool: &SetPool, kind: Kind, item: Number) -> Option<Number>
+        requires { AreLive pool.now self.now }
+        ensures { result ≡ first_from item (items_of kind (dir_lists pool.now self.now)) }
+    {
+        let found = match kind {
+            Kind::Transient => pool.first_from(self.transient, item.get()),
+            Kind::Permanent => pool.first_from(self.permanent, item.get()),
+            Kind::Prohibited => pool.first_from(self.prohibited, item.get()),
+            Kind::Unlinked => None,
+        };
+        found.map(Number::new)
+    }
+
     /// Gives an item a kind, in place of the one that it has.
-    pub(crate) fn set_kind(&self, pool: &mut SetPool, item: u64, kind: Kind)
+    pub(crate) fn set_kind(&self, pool: &mut SetPool, item: Number, kind: Kind)
         requires live { AreLive pool.old self.now }
         requires differ { AreDistinct self.now }
         requires room { 0 < pool.old.spare }
-        ensures lists { dir_lists pool.new self.now ≡ with_kind kind item (dir_lists pool.old self.now) }
+        ensures lists { dir_lists pool.new self.now
+            ≡ with_kind kind item (dir_lists pool.old self.now) }
         ensures others { OthersStay pool.old pool.new self.now }
         ensures live { SameLive pool.old pool.new }
-        ensures spare { pool.old.spare ≤ pool.new.spare + 1 }
+        ensures spare { LosesOneAtMost pool.old.spare pool.new.spare }
         ensures rise { AllListsRise pool.new }
     {
+        let item = item.get();
         match kind {
             Kind::Transient => {
                 pool.insert(self.transient, item);
@@ -83,13 +102,10 @@ impl DirSets {
     /// Three new sets, which are empty.
     pub(crate) fn make(pool: &mut SetPool) -> DirSets
         requires { 3 ≤ pool.old.spare }
-        ensures live { AreLive pool.new result }
-        ensures empty { dir_lists pool.new result ≡ no_lists }
+        ensures made { ChangesAll pool.old pool.new result (Some []) }
         ensures fresh { AreFresh pool.old result }
         ensures differ { AreDistinct result }
-        ensures others { OthersStay pool.old pool.new result }
-        ensures still { (set : ℕ) → IsTrue (is_live pool.old set) → IsTrue (is_live pool.new set) }
-        ensures spare { pool.old.spare ≤ pool.new.spare + 3 }
+        ensures spare { pool.new.spare + 3 ≡ pool.old.spare }
         ensures rise { AllListsRise pool.new }
     {
         let transient = pool.make();
@@ -106,8 +122,8 @@ impl DirSets {
     pub(crate) fn free(&self, pool: &mut SetPool)
         requires live { AreLive pool.old self.now }
         requires differ { AreDistinct self.now }
-        ensures others { OthersStay pool.old pool.new self.now }
-        ensures spare { pool.old.spare ≤ pool.new.spare }
+        ensures freed { ChangesAll pool.old pool.new self.now None }
+        ensures spare { pool.new.spare ≡ pool.old.spare }
         ensures rise { AllListsRise pool.new }
     {
         pool.free(self.transient);

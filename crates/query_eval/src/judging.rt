@@ -5,7 +5,8 @@ ghost use Rattle.hac_model.specs.Query.Queries.{judged};
 use crate::atoms::Atoms;
 use hac_model::{Member, Node, Number, Query};
 
-/// Whether the item satisfies the query. It takes no memory, and goes down as deep as the query does.
+/// Whether the item satisfies the query. It takes no memory, and goes down as deep as the query
+/// does.
 pub fn judge<A: Atoms, V: Member>(
     query: &Query<Number>,
     atoms: &A,

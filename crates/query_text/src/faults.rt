@@ -7,7 +7,8 @@ use thiserror::Error;
 /// Why bytes give no query.
 #[derive(Clone, Copy, Debug, PartialEq, Eq, Error)]
 pub enum QueryFault {
-    /// The least number of bytes with which no query begins. One more than there are, if all of them only begin one.
+    /// The least number of bytes with which no query begins. One more than there are, if all of
+    /// them only begin one.
     #[error("no query begins with the first {0} bytes")]
     BadAt(u64),
     /// The query exceeds a limit.

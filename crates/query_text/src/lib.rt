@@ -1,5 +1,5 @@
-//! Queries as bytes: how they are read and printed. It knows no tree, so that where a directory's path leads
-//! is for others to say.
+//! Queries as bytes: how they are read and printed. It knows no tree, so that where a directory's
+//! path leads is for others to say.
 #![tactic(auto)]
 
 mod faults;

@@ -10,8 +10,8 @@ use hac_model::{Memory, Name, Node, Number, Path, Query, Term};
 use hac_names::print_path;
 use std::alloc::Global;
 
-/// A query as it is printed: with one space around each operator, with the paths of its directories, and with
-/// only the parentheses that it needs.
+/// A query as it is printed: with one space around each operator, with the paths of its
+/// directories, and with only the parentheses that it needs.
 pub fn print(alloc: Global, query: &Query<Number>, paths: &Paths) -> Result<Name, Memory>
     requires known { IsTrue (are_known paths.now query.now) }
     ensures { IfOk result (λ printed. printed ≡ printed_query paths.now query.now) }
@@ -116,7 +116,8 @@ fn term_text(alloc: Global, term: &Term) -> Result<Vec<u8>, Memory>
 
 fn dir_text(alloc: Global, dir: Number, paths: &Paths) -> Result<Vec<u8>, Memory>
     requires known { IsTrue (is_some (path_at paths.now dir)) }
-    ensures { IfOk result (λ bytes. bytes.items ≡ codes "{" ++ (escaped (dir_path paths.now dir) ++ codes "}")) }
+    ensures { IfOk result (λ bytes. bytes.items ≡ codes "{" ++
+        (escaped (dir_path paths.now dir) ++ codes "}")) }
 {
     match find(paths.as_slice(), dir) {
         Some(path) => braced(alloc, path),
@@ -125,7 +126,8 @@ fn dir_text(alloc: Global, dir: Number, paths: &Paths) -> Result<Vec<u8>, Memory
 }
 
 fn braced(alloc: Global, path: &Path) -> Result<Vec<u8>, Memory>
-    ensures { IfOk result (λ bytes. bytes.items ≡ codes "{" ++ (escaped (path_text path.now) ++ codes "}")) }
+    ensures { IfOk result (λ bytes. bytes.items ≡ codes "{" ++
+        (escaped (path_text path.now) ++ codes "}")) }
 {
     let printed = print_path(alloc, path)?;
     let spelled = escaped(alloc, printed.as_bytes())?;
@@ -134,7 +136,8 @@ fn braced(alloc: Global, path: &Path) -> Result<Vec<u8>, Memory>
 
 /// The path of a directory, if it was given one.
 fn find(paths: &[Told], dir: Number) -> Option<&Path>
-    ensures { MatchOption result (path_at paths.now dir ≡ None) (λ path. path_at paths.now dir ≡ Some path.now) }
+    ensures { MatchOption result (path_at paths.now dir ≡ None)
+        (λ path. path_at paths.now dir ≡ Some path.now) }
 {
     for told in paths {
         if told.dir == dir {

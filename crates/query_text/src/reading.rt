@@ -53,8 +53,8 @@ fn read(alloc: Global, bytes: &[u8]) -> Result<Part, QueryFault>
     }
 }
 
-/// The query with its directories as path words. It goes down as deep as the query does, which has no more
-/// parts than the bytes that spelled it.
+/// The query with its directories as path words. It goes down as deep as the query does, which has
+/// no more parts than the bytes that spelled it.
 fn worded(alloc: Global, query: Query<Name>) -> Result<RawQuery, QueryFault>
     ensures { ReadsQuery result (reading.worded query) }
 {
@@ -111,7 +111,8 @@ fn is_above(most: u64, query: &RawQuery) -> bool
 
 /// How many terms may follow those of a query, if `most` may be there in all; None if it has more.
 pub fn terms_left<D>(most: u64, query: &Query<D>) -> Option<u64>
-    ensures { result ≡ (if nat_lt most (queries.term_count query.now) then None else Some (most - queries.term_count query.now)) }
+    ensures { result ≡ (if nat_lt most (queries.term_count query.now) then None else Some
+        (most - queries.term_count query.now)) }
 {
     match &query.node {
         Node::Term(_) | Node::Dir(_) => most.checked_sub(1),

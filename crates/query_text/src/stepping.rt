@@ -68,7 +68,8 @@ fn ended_holding(alloc: Global, operator: Operator, held: Held) -> Result<Option
 }
 
 fn ended_run(alloc: Global, run: Text, wanted: Wanted) -> Result<Option<Part>, Memory>
-    ensures { IfOk result (λ part. part ≡ option_and_then reading.ended_token (reading.after_run run wanted)) }
+    ensures { IfOk result (λ part. part ≡ option_and_then reading.ended_token
+        (reading.after_run run wanted)) }
 {
     match after_run(alloc, run, wanted)? {
         Some(Stack::Holding(held)) => finish(alloc, held),
@@ -170,7 +171,8 @@ fn after_run(alloc: Global, run: Text, wanted: Wanted) -> Result<Option<Stack>, 
 
 /// Behind a word that is no operator.
 fn after_word(alloc: Global, word: &[u8], wanted: Wanted) -> Result<Held, Memory>
-    ensures { IfOk result (λ held. held ≡ reading.receive (grammar.leaf_part (grammar.Word (words.lower_case word.now))) wanted) }
+    ensures { IfOk result (λ held. held ≡ reading.receive
+        (grammar.leaf_part (grammar.Word (words.lower_case word.now))) wanted) }
 {
     match lower_case(alloc, word) {
         Ok(letters) => receive(alloc, leaf_part(Query::term(Term::Word(letters))), wanted),
@@ -305,7 +307,8 @@ fn sign_begins(byte: u8, held: Held) -> Option<Reader>
 }
 
 fn closed(alloc: Global, held: Held) -> Result<Option<Reader>, Memory>
-    ensures { IfOk result (λ next. next ≡ option_map (Reader.Holds Operator.Nothing) (reading.leave held)) }
+    ensures { IfOk result (λ next. next ≡ option_map (Reader.Holds Operator.Nothing)
+        (reading.leave held)) }
 {
     match leave(alloc, held)? {
         Some(held) => Ok(Some(Reader::Holds(Operator::Nothing, held))),
@@ -333,7 +336,8 @@ fn sign_ends(
 
 /// Behind a leaf.
 fn received(alloc: Global, query: Query<Name>, wanted: Wanted) -> Result<Option<Reader>, Memory>
-    ensures { IfOk result (λ next. next ≡ Some (Reader.Holds Operator.Nothing (reading.receive (record { query = query; nesting = 0 }) wanted))) }
+    ensures { IfOk result (λ next. next ≡ Some (Reader.Holds Operator.Nothing
+        (reading.receive (record { query = query; nesting = 0 }) wanted))) }
 {
     let held = receive(alloc, leaf_part(query), wanted)?;
     Ok(Some(Reader::Holds(Operator::Nothing, held)))
@@ -347,7 +351,8 @@ fn leaf_part(query: Query<Name>) -> Part
 
 /// The reader that goes on with an operand, unless memory ran out over it.
 fn wants(operand: Result<Operand, Memory>, wanted: Wanted) -> Result<Option<Reader>, Memory>
-    ensures { MatchResult operand (λ operand. result ≡ Ok (Some (Reader.Wants operand wanted))) (λ memory. result ≡ Err memory) }
+    ensures { MatchResult operand (λ operand. result ≡ Ok (Some (Reader.Wants operand wanted)))
+        (λ memory. result ≡ Err memory) }
 {
     match operand {
         Ok(operand) => Ok(Some(Reader::Wants(operand, wanted))),

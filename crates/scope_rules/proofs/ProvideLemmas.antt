@@ -1,28 +1,29 @@
 -- What a directory provides, by the links that were found and the marks.
-use Rattle.std.proofs.Common.{◌≡◌, ℕ, Bool, true, false, cond, List, [], ◌||◌, ◌&&◌, refl, ap, ◌∙◌}
-use Rattle.hac_model.specs.Tree.Links.{column, has, is_below, is_semantic, provide}
+use Rattle.std.proofs.Common.{◌≡◌, ℕ, Bool, true, false, ◌||◌, ◌&&◌, refl, ap, sym, ◌∙◌}
+use Rattle.std.specs.Prelude.{is_some}
+use Rattle.hac_model.specs.Tree.Bare.{bare}
+use Rattle.hac_model.specs.Tree.Links.{column, has, is_below, is_semantic, permanent_at, provide}
+use Rattle.hac_model.specs.Tree.{extends}
 use Rattle.hac_model.specs.declared.states.State.{State}
-use Rattle.link_kinds.specs.Marked.{with_marks}
+use Rattle.hac_model.proofs.AlikeLemmas.{directory-bare, file-bare, path_of-bare, query_at-bare}
 use Rattle.link_kinds.specs.Seen.{Known, permanent_in, transient_in}
-use Rattle.link_kinds.proofs.MarkedLemmas.{below-marked, permanent_at-marked, semantic-marked}
+use Rattle.scope_rules.specs.Made.{IsMadeOf}
 
--- what isn't semantic has no links
-of-semantic : (semantic t : Bool) (numbers : List ℕ) (item : ℕ) → (semantic && (t || has (cond semantic numbers []) item)) ≡ (semantic && (t || has numbers item))
-of-semantic true t numbers item = refl
-of-semantic false t numbers item = refl
+module _ (s tree : State) (marks found : Known) (made : IsMadeOf s tree marks) (dir item : ℕ) where
+  -- what depends on no mark is as in the tree
+  alike : {X : Type 0} (tell : State → X) → ((s : State) → tell (bare s) ≡ tell s) → tell tree ≡ tell s
+  alike tell same = sym (same tree) ∙ ap tell (sym made.bares) ∙ same s
 
-module _ (marks found : Known) (s : State) (dir item : ℕ) where
-  abbrev linked : Bool
-  linked = is_semantic s dir && (column (transient_in found) item dir || has (permanent_in marks dir) item)
+  below : is_below tree dir item ≡ is_below s dir item
+  below = alike (λ s. is_below s dir item) (λ s i. (file-bare s item i && directory-bare s dir i) && extends (path_of-bare s item i) (path_of-bare s dir i))
 
-  provided : provide (with_marks marks s) (column (transient_in found) item) dir item ≡ (is_below s dir item || linked)
-  provided =
-      (λ i. below-marked marks s dir item i || (semantic-marked marks s dir i && (column (transient_in found) item dir || has (permanent_at-marked marks s dir i) item)))
-      ∙ ap (λ b. is_below s dir item || b) (of-semantic (is_semantic s dir) (column (transient_in found) item dir) (permanent_in marks dir) item)
+  semantic : is_semantic tree dir ≡ is_semantic s dir
+  semantic = alike (λ s. is_semantic s dir) (λ s. ap is_some (query_at-bare s dir))
 
-  -- what is stored below it, and what isn't
-  pub provided-below : is_below s dir item ≡ true → provide (with_marks marks s) (column (transient_in found) item) dir item ≡ true
-  provided-below below = provided ∙ ap (λ b. b || linked) below
+  -- what isn't semantic has no links
+  linked : (b t : Bool) → is_semantic s dir ≡ b → (b && (t || has (permanent_in marks dir) item)) ≡ (b && (t || has (permanent_at s dir) item))
+  linked true t is = ap (λ numbers. t || has numbers item) (sym (made.permanent dir is))
+  linked false t is = refl
 
-  pub provided-link : is_below s dir item ≡ false → provide (with_marks marks s) (column (transient_in found) item) dir item ≡ linked
-  provided-link below = provided ∙ ap (λ b. b || linked) below
+  pub provided : (b : Bool) → is_below tree dir item ≡ b → (b || (is_semantic tree dir && (column (transient_in found) item dir || has (permanent_in marks dir) item))) ≡ provide s (column (transient_in found) item) dir item
+  provided b is = (λ i. (sym is ∙ below) i || (semantic i && (column (transient_in found) item dir || has (permanent_in marks dir) item))) ∙ ap (λ b. is_below s dir item || b) (linked (is_semantic s dir) (column (transient_in found) item dir) refl)

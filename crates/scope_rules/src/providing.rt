@@ -1,16 +1,19 @@
 //! Whether a directory provides an item.
 ghost use Rattle.std.specs.Prelude.{◌≡◌, ◌&&◌, ◌||◌};
 ghost use Rattle.hac_model.specs.Tree.Links.{column, has, is_below, is_semantic, provide};
-ghost use Rattle.link_kinds.specs.Marked.{with_marks};
+ghost use Rattle.hac_model.specs.declared.states.State.{State};
 ghost use Rattle.link_kinds.specs.Seen.{permanent_in, transient_in};
+ghost use Rattle.scope_rules.specs.Made.{IsMadeOf};
 
 use file_tree::Tree;
 use hac_model::Number;
 use link_kinds::Links;
 
-/// Whether a directory provides an item: it is stored below it, at any depth, or is a link of it, found or added.
+/// Whether a directory of a state provides an item: it is stored below it, at any depth, or is a
+/// link of it, found or added. The state is given by its tree and its marks.
 pub fn provides(tree: &Tree, marks: &Links, found: &Links, dir: Number, item: Number) -> bool
-    ensures { result ≡ provide (with_marks marks.now tree.now.state) (column (transient_in found.now) item) dir item }
+    ensures { (s : State) → IsMadeOf s tree.now.state marks.now
+        → result ≡ provide s (column (transient_in found.now) item) dir item }
 {
     is_stored_below(tree, dir, item) || is_link(tree, marks, found, dir, item)
 }
@@ -24,7 +27,8 @@ fn is_stored_below(tree: &Tree, dir: Number, item: Number) -> bool
 
 /// Whether an item is a link of a semantic directory.
 fn is_link(tree: &Tree, marks: &Links, found: &Links, dir: Number, item: Number) -> bool
-    ensures { result ≡ (is_semantic tree.now.state dir && (column (transient_in found.now) item dir || has (permanent_in marks.now dir) item)) }
+    ensures { result ≡ (is_semantic tree.now.state dir
+        && (column (transient_in found.now) item dir || has (permanent_in marks.now dir) item)) }
 {
     tree.query(dir).is_some() && (has_found(found, dir, item) || is_added(marks, dir, item))
 }

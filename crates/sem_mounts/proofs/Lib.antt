@@ -1,4 +1,5 @@
 pub mod AddLemmas
+pub mod GatherLemmas
 pub mod LineLemmas
 pub mod SplitLemmas
 pub mod TurnLemmas

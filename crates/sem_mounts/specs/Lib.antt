@@ -1,5 +1,6 @@
 pub mod Answering
 pub mod Catalogue
+pub mod Gathering
 pub mod Laws
 pub mod Reading
 pub mod Seen

@@ -1,6 +1,7 @@
 -- What the calls answer that read a catalogue.
-use Rattle.std.specs.Prelude.{◌≡◌, ⊤, ℕ, Bool, if◌then◌else◌, List, Option, Some, None, Result, Ok, Err}
+use Rattle.std.specs.Prelude.{◌≡◌, ⊤, ℕ, Bool, if◌then◌else◌, List, Option, Some, None, Result, Err}
 use Rattle.std.specs.Option.{option_and_then}
+use Rattle.hac_model.specs.Run.Answers.{Gives}
 use Rattle.sem_mounts.specs.Catalogue.{Document, document_named, with_document}
 use Rattle.sem_mounts.specs.declared.catalogues.CatalogueFault.{CatalogueFault}
 use Rattle.sem_mounts.specs.declared.catalogues.CatalogueFault.TheVariants.{Bad, Memory}
@@ -14,8 +15,7 @@ IsCatalogueFault Memory wanted = ⊤
 
 -- the call gave the documents that are wanted, or the bad line, unless memory ran out
 abbrev pub ReadsCatalogue : Result (List Document) CatalogueFault → Result (List Document) ℕ → Type 0
-ReadsCatalogue (Ok documents) wanted = wanted ≡ Ok documents
-ReadsCatalogue (Err fault) wanted = IsCatalogueFault fault wanted
+ReadsCatalogue result wanted = Gives IsCatalogueFault result wanted
 
 -- the documents are these with what was to be added, or they can't take it
 abbrev pub Adds : Option (List Document) → List Document → Bool → Type 0

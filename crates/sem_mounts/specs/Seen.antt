@@ -69,7 +69,7 @@ abbrev pub is_attach_failed : {A : Type 0} → Result A AttachFault → Bool
 is_attach_failed (Err attach.Failed) = true
 is_attach_failed other = false
 
--- the same of a question
+-- a question failed
 abbrev pub is_failed : {A : Type 0} → Result A SpaceFault → Bool
 is_failed (Err space.Failed) = true
 is_failed other = false

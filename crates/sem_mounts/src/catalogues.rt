@@ -38,8 +38,9 @@ impl From<Memory> for CatalogueFault {
     }
 }
 
-/// The documents of a catalogue. A line is bad where it isn't a name, a tab and a text as `write` spells it, where the
-/// name was there before, and where the catalogue has more bytes up to its end than it may have. A blank line is none.
+/// The documents of a catalogue. A line is bad where it isn't a name, a tab and a text as `write`
+/// spells it, where the name was there before, and where the catalogue has more bytes up to its end
+/// than it may have. A blank line is none.
 pub fn read_catalogue(alloc: Global, bytes: &[u8]) -> Result<Docs, CatalogueFault>
     ensures { ReadsCatalogue result (catalogue bytes.now) }
 {
@@ -73,7 +74,8 @@ fn is_blank(line: &[u8]) -> bool
     line.iter().all(|b| *b == b' ')
 }
 
-/// Adds the document of a line, where the line isn't blank. Where the line is bad it doesn't, and says so.
+/// Adds the document of a line, where the line isn't blank. Where the line is bad it doesn't, and
+/// says so.
 #[tactic(auto, unfolding(crate::specs::Catalogue::with_line))]
 fn take_line(alloc: Global, documents: &mut Docs, line: &[u8]) -> Result<bool, Memory>
     ensures { IfOk result (Adds (with_line documents.old line.now) documents.new) }
@@ -87,8 +89,8 @@ fn take_line(alloc: Global, documents: &mut Docs, line: &[u8]) -> Result<bool, M
     }
 }
 
-/// Adds the document of this name whose text the bytes spell. Where the name or the text is bad, or where there is a
-/// document of the name, it doesn't, and says so.
+/// Adds the document of this name whose text the bytes spell. Where the name or the text is bad, or
+/// where there is a document of the name, it doesn't, and says so.
 fn take_document(
     alloc: Global,
     documents: &mut Docs,

@@ -13,7 +13,8 @@ use std::fs::File;
 use std::io::{self, Read};
 use std::path::Path;
 
-/// Spaces over catalogue files. A file is read once, when its space is attached. Each error of the system is a fault.
+/// Spaces over catalogue files. A file is read once, when its space is attached. Each error of the
+/// system is a fault.
 #[derive(Drop)]
 pub struct CatalogueSpaces<'a> {
     rt: &'a HostRuntime,
@@ -44,6 +45,8 @@ impl Spaces for CatalogueSpaces<'_> {
       faults = spaces.faults;
     } };
 
+    ghost told = { λ spaces. tt };
+
     fn attach(&mut self, name: &Name, file: &str) -> Result<(), AttachFault> {
         let Ok(bytes) = read_file(self.rt, file) else {
             self.faults = self.faults.saturating_add(1);
@@ -67,7 +70,8 @@ impl Spaces for CatalogueSpaces<'_> {
     }
 }
 
-// The bytes of a file. Of one that is too long for a catalogue, one byte more than a catalogue may have.
+// The bytes of a file. Of one that is too long for a catalogue, one byte more than a catalogue may
+// have.
 fn read_file(rt: &HostRuntime, name: &str) -> io::Result<Vec<u8>> {
     let mut bytes = Vec::new(rt.alloc());
     let most = CATALOGUE_LIMIT as u64 + 1;

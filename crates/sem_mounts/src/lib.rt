@@ -1,5 +1,5 @@
-//! Spaces of documents, and the catalogues that they are read from. It knows no tree, and nothing of what a mount makes
-//! of the documents.
+//! Spaces of documents, and the catalogues that they are read from. It knows no tree, and nothing
+//! of what a mount makes of the documents.
 #![tactic(auto)]
 
 mod catalogues;
@@ -7,6 +7,7 @@ mod documents;
 mod entries;
 mod faults;
 mod files;
+mod gathering;
 pub mod laws;
 mod limits;
 mod memory;
@@ -17,6 +18,7 @@ pub use catalogues::{CatalogueFault, read_catalogue};
 pub use documents::{Docs, IndexedText};
 pub use faults::{AttachFault, SpaceFault};
 pub use files::CatalogueSpaces;
+pub use gathering::{GatherFault, gather};
 pub use limits::CATALOGUE_LIMIT;
 pub use memory::MemorySpaces;
 pub use spaces::Spaces;

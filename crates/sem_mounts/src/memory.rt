@@ -1,10 +1,14 @@
 //! Spaces in memory, which fail at chosen calls.
-ghost use Rattle.std.specs.Prelude.{◌≡◌, [], IfOk, if◌then◌else◌, not, Some};
+ghost use Rattle.std.specs.Prelude.{◌≡◌, ◌⊎◌, ◌↔◌, ◌++◌, ◌∷◌, [], false, Contains, IfOk, IsErr, IsFalse, IsTrue, OnErr, OnOk, if◌then◌else◌, is_ok, not, refl, Some};
 ghost use Rattle.std.specs.Map.{lookup};
-ghost use Rattle.std.specs.Option.{option_copied};
+ghost use Rattle.std.specs.Option.{option_copied, option_map};
 ghost use Rattle.std.specs.Str.{bytes_eq};
 ghost use Rattle.hac_outside.specs.Calls.{next_number};
-ghost use Rattle.sem_mounts.specs.Seen.{has_entry, is_absent, is_failed};
+ghost use Rattle.hac_outside.specs.Causes.{TellsFault};
+ghost use Rattle.sem_mounts.specs.Answering.{AreRisingNames, names_with, text_at};
+ghost use Rattle.sem_mounts.specs.Catalogue.{names};
+ghost use Rattle.sem_mounts.specs.Memory.{FailsToAnswer, FailsToAttach, IsNextCall, is_out_of_memory};
+ghost use Rattle.sem_mounts.specs.Seen.{AreAsked, Attaches, IsSaid, has_entry, is_absent, is_attach_failed, is_attached, is_failed};
 
 use crate::catalogues::read_catalogue;
 use crate::documents::Docs;
@@ -12,11 +16,12 @@ use crate::entries::{copy_of, find, push};
 use crate::faults::{AttachFault, SpaceFault};
 use crate::spaces::Spaces;
 use hac_model::{Memory, Name, Term, Text};
-use hac_outside::Calls;
+use hac_outside::{Calls, Failed};
 use std::alloc::Global;
 use std::marker::Model;
 
-/// Spaces over files in memory. A call that is to fail is a fault, and so is `attach` of a file that is missing.
+/// Spaces over files in memory. A call that is to fail is a fault, and so is `attach` of a file
+/// that is missing.
 #[derive(Drop)]
 pub struct MemorySpaces {
     alloc: Global,
@@ -47,8 +52,8 @@ impl Model for MemorySpaces {
 }
 
 impl MemorySpaces {
-    /// Spaces over files, each with its name and its bytes. None is attached. A call whose number, from 1, is in
-    /// `failing` is a fault.
+    /// Spaces over files, each with its name and its bytes. None is attached. A call whose number,
+    /// from 1, is in `failing` is a fault.
     pub fn new(
         alloc: Global,
         files: &[(Name, Text)],
@@ -76,29 +81,61 @@ impl Spaces for MemorySpaces {
 
     ghost seen = { seen_of };
 
-    fn attach(&mut self, name: &Name, file: &str) -> Result<(), AttachFault> {
-        push(&mut self.attaches, call_of(self.alloc, name, file)?)?;
-        self.calls.begin()?;
-        let Some(bytes) = find(&self.files, file.as_bytes()) else {
-            return Err(self.calls.fail().into());
-        };
+    ghost told = { λ spaces. refl };
+
+    fn attach(&mut self, name: &Name, file: &str) -> Result<(), AttachFault>
+        requires { is_attached (seen_of self.old) name.now ≡ false }
+        ensures attached { (seen_of self.new).attached
+            ≡ (if is_ok result then (seen_of self.old).attached ++ name.now ∷ []
+            else (seen_of self.old).attached) }
+        ensures contents { Attaches name.now file.now result self.old.contents self.new.contents }
+        ensures cause { TellsFault (is_attach_failed result) self.old.faults self.new.faults }
+
+        // Which calls fail, where there is memory.
+        ensures plan { IsNextCall self.old self.new (is_attach_failed result)
+            (IsFalse (is_out_of_memory result) × FailsToAttach self.old file.now) }
+    {
+        if let Err(memory) = keep_call(self.alloc, &mut self.attaches, name, file) {
+            pass(&mut self.calls);
+            return Err(memory.into());
+        }
+        let bytes = opened(&mut self.calls, &self.files, file)?;
         let documents = read_catalogue(self.alloc, bytes.as_slice())?;
         push(&mut self.spaces, (copy_of(name)?, documents))?;
         Ok(())
     }
 
     #[tactic(auto, using(crate::proofs::SpaceLemmas::told_fault))]
-    fn list(&mut self, name: &Name) -> Result<Vec<Name>, SpaceFault> {
+    fn list(&mut self, name: &Name) -> Result<Vec<Name>, SpaceFault>
+        ensures asked { AreAsked (seen_of self.old) (seen_of self.new) name.now result }
+        ensures rising { IfOk result (λ found. AreRisingNames found.items) }
+        ensures said { IfOk result (λ found. IsSaid (seen_of self.old) name.now names
+            found.items) }
+        ensures plan { IsNextCall self.old self.new (is_failed result)
+            (FailsToAnswer self.old name.now) }
+    {
         Ok(asked(&mut self.calls, &self.spaces, name)?.names()?)
     }
 
     #[tactic(auto, using(crate::proofs::SpaceLemmas::told_fault))]
-    fn search(&mut self, name: &Name, term: &Term) -> Result<Vec<Name>, SpaceFault> {
+    fn search(&mut self, name: &Name, term: &Term) -> Result<Vec<Name>, SpaceFault>
+        ensures asked { AreAsked (seen_of self.old) (seen_of self.new) name.now result }
+        ensures said { IfOk result (λ found. IsSaid (seen_of self.old) name.now
+            (λ documents. names_with documents term.now) found.items) }
+        ensures plan { IsNextCall self.old self.new (is_failed result)
+            (FailsToAnswer self.old name.now) }
+    {
         Ok(asked(&mut self.calls, &self.spaces, name)?.names_with(term)?)
     }
 
     #[tactic(auto, using(crate::proofs::SpaceLemmas::told_fault))]
-    fn fetch(&mut self, name: &Name, document: &Name) -> Result<Option<Vec<u8>>, SpaceFault> {
+    fn fetch(&mut self, name: &Name, document: &Name) -> Result<Option<Vec<u8>>, SpaceFault>
+        ensures asked { AreAsked (seen_of self.old) (seen_of self.new) name.now result }
+        ensures said { IfOk result (λ text. IsSaid (seen_of self.old) name.now
+            (λ documents. text_at documents document.now) (option_map (λ text. text.items) text)) }
+        ensures plan { IsNextCall self.old self.new (is_failed result)
+            (FailsToAnswer self.old name.now) }
+    {
         Ok(asked(&mut self.calls, &self.spaces, name)?.text(document)?)
     }
 }
@@ -114,6 +151,25 @@ fn copies(alloc: Global, files: &[(Name, Text)]) -> Result<Vec<(Name, Text)>, Me
     Ok(copies)
 }
 
+// The bytes of a file. One that is missing is a fault.
+fn opened<'a>(calls: &mut Calls, files: &'a [(Name, Text)], file: &str) -> Result<&'a Text, Failed>
+    ensures bytes { IfOk result (λ bytes.
+        lookup (bytes_eq file.now) files.now ≡ Some bytes.now) }
+    ensures fails { IsErr result
+        ↔ (Contains calls.old.failing.items (next_number calls.old.made)
+        ⊎ IsFalse (has_entry files.now file.now)) }
+    ensures faults { calls.new.faults
+        ≡ (if is_ok result then calls.old.faults else next_number calls.old.faults) }
+    ensures made { calls.new.made ≡ next_number calls.old.made }
+    ensures failing { calls.new.failing.items ≡ calls.old.failing.items }
+{
+    calls.begin()?;
+    match find(files, file.as_bytes()) {
+        Some(bytes) => Ok(bytes),
+        None => Err(calls.fail()),
+    }
+}
+
 // The documents that a question is for. A question to no space has a number too, but never fails.
 fn asked<'a>(
     calls: &mut Calls,
@@ -123,6 +179,9 @@ fn asked<'a>(
     ensures documents { IfOk result (λ documents.
         lookup (bytes_eq name.now) spaces.now ≡ Some documents.now) }
     ensures absent { is_absent result ≡ not (has_entry spaces.now name.now) }
+    ensures fails { IsTrue (is_failed result)
+        ↔ (Contains calls.old.failing.items (next_number calls.old.made)
+        × IsTrue (has_entry spaces.now name.now)) }
     ensures faults { calls.new.faults
         ≡ (if is_failed result then next_number calls.old.faults else calls.old.faults) }
     ensures made { calls.new.made ≡ next_number calls.old.made }
@@ -134,10 +193,33 @@ fn asked<'a>(
             Err(_) => Err(SpaceFault::Failed),
         },
         None => {
-            calls.made = calls.made.saturating_add(1);
+            pass(calls);
             Err(SpaceFault::Absent)
         }
     }
+}
+
+// Numbers a call that its number doesn't let fail.
+fn pass(calls: &mut Calls)
+    ensures faults { calls.new.faults ≡ calls.old.faults }
+    ensures made { calls.new.made ≡ next_number calls.old.made }
+    ensures failing { calls.new.failing.items ≡ calls.old.failing.items }
+{
+    calls.made = calls.made.saturating_add(1);
+}
+
+// Keeps a call of `attach`. Where there is no memory, those that are kept are as before.
+fn keep_call(
+    alloc: Global,
+    attaches: &mut Vec<(Name, Name)>,
+    name: &Name,
+    file: &str,
+) -> Result<(), Memory>
+    ensures ok { OnOk result (attaches.new.items
+        ≡ attaches.old.items ++ (name.now, file.now) ∷ []) }
+    ensures err { OnErr result (attaches.new.items ≡ attaches.old.items) }
+{
+    push(attaches, call_of(alloc, name, file)?)
 }
 
 // A call of `attach`, as it is kept.

@@ -1,5 +1,5 @@
 //! Spaces: where the documents of mounts come from.
-ghost use Rattle.std.specs.Prelude.{◌≡◌, ◌++◌, ◌∷◌, [], IfOk, false, if◌then◌else◌, is_ok};
+ghost use Rattle.std.specs.Prelude.{◌≡◌, ◌++◌, ◌∷◌, [], IfOk, IfSome, false, if◌then◌else◌, is_ok, map};
 ghost use Rattle.std.specs.Option.{option_map};
 ghost use Rattle.hac_outside.specs.Causes.{TellsFault};
 ghost use Rattle.hac_outside.specs.Known.{Known};
@@ -15,7 +15,8 @@ pub trait Spaces {
     // Spaces that tell their contents go on telling them.
     ghost seen: { Self → SpacesSeen };
 
-    /// Attaches a space of this name, with the documents of a file. A name that is attached may not be attached again.
+    /// Attaches a space of this name, with the documents of a file. A name that is attached may not
+    /// be attached again.
     fn attach(&mut self, name: &Name, file: &str) -> Result<(), AttachFault>
         requires { is_attached (seen self.old) name.now ≡ false }
         ensures attached { (seen self.new).attached
@@ -43,4 +44,8 @@ pub trait Spaces {
         ensures asked { AreAsked (seen self.old) (seen self.new) name.now result }
         ensures said { IfOk result (λ text. IsSaid (seen self.old) name.now
             (λ documents. text_at documents document.now) (option_map (λ text. text.items) text)) };
+
+    // The spaces that are attached are those whose documents are told.
+    ghost told: { (spaces : Self) → IfSome (seen spaces).contents (λ contents.
+        (seen spaces).attached ≡ map (λ space. space.0) contents.spaces) };
 }

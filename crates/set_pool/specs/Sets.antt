@@ -1,12 +1,14 @@
 -- What callers see of a pool, and how its calls change it.
-use Rattle.std.specs.Prelude.{◌≡◌, ℕ, Bool, ◌&&◌, ◌||◌, not, ◌==◌, List, Option}
+use Rattle.std.specs.Prelude.{◌≡◌, ℕ, ◌+◌, ◌≤◌, Bool, ◌&&◌, ◌||◌, not, ◌==◌, List, Option}
 use Rattle.set_pool.specs.Lists.{AllRise, ChangesAt, DropsAt, SameLists, is_live_at, list_at, members_at}
 use Rattle.set_pool.specs.Rising.{is_among}
 
--- the list of each live set at its name, and how many calls may still make or grow a set without memory
+-- the list of each live set at its name, how many calls may still make or grow a set without memory, and how many blocks
+-- are set aside for them
 pub record Sets : Type 0 where
   pub lists : List (Option (List ℕ))
   pub spare : ℕ
+  pub aside : ℕ
 
 -- the list of a set, if it is live
 abbrev pub list_of : Sets → ℕ → Option (List ℕ)
@@ -67,3 +69,11 @@ EndsSet old new set = (s : ℕ) → is_live new s ≡ (is_live old s && not (s =
 -- nothing is in that set any more, and whatever is in another stays there
 abbrev pub Clears : Sets → Sets → ℕ → Type 0
 Clears old new set = (s n : ℕ) → is_in new s n ≡ (is_in old s n && not (s == set))
+
+-- one of the calls that were spare was made. No block is set aside for others.
+abbrev pub SpendsOne : Sets → Sets → Type 0
+SpendsOne old new = (new.spare + 1 ≡ old.spare) × (new.aside ≤ old.aside)
+
+-- as many calls are spare as before, and as many blocks set aside
+abbrev pub SpendsNone : Sets → Sets → Type 0
+SpendsNone old new = (new.spare ≡ old.spare) × (new.aside ≡ old.aside)

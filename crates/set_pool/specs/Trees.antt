@@ -1,5 +1,5 @@
 -- What a tree holds.
-use Rattle.std.specs.Prelude.{ℕ, List, [], ◌∷◌, ◌++◌}
+use Rattle.std.specs.Prelude.{ℕ, ◌+◌, ◌≤◌, List, [], ◌∷◌, ◌++◌}
 use Rattle.set_pool.specs.Rows.{members}
 use Rattle.set_pool.specs.declared.trees.Block.{Block}
 use Rattle.set_pool.specs.declared.trees.Link.{Link}
@@ -14,3 +14,7 @@ abbrev pub numbers_of : Link → List ℕ
 numbers_of Empty = []
 numbers_of (One number) = number ∷ []
 numbers_of (Full block) = numbers_in block.value
+
+-- at most one of the blocks that were set aside was taken, and none was added
+abbrev pub TakesOneAtMost : ℕ → ℕ → Type 0
+TakesOneAtMost old new = (new ≤ old) × (old ≤ new + 1)

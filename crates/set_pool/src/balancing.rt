@@ -1,5 +1,5 @@
-//! Keeps a tree balanced: no side of a block is more than one level higher than the other. No contract speaks of
-//! heights; what is proved is that turning changes no number.
+//! Keeps a tree balanced: no side of a block is more than one level higher than the other. No
+//! contract speaks of heights; what is proved is that turning changes no number.
 ghost use Rattle.std.specs.Prelude.{◌≡◌, ◌++◌};
 ghost use Rattle.set_pool.specs.Rows.{members};
 ghost use Rattle.set_pool.specs.Trees.{numbers_in};
@@ -122,7 +122,8 @@ impl Block {
 
     // Passes up its row, takes the right side of the block above, and leaves its own left side.
     fn pass_right(&mut self, row: &mut Row, right: Tree) -> Tree
-        ensures { result ++ (members row.new ++ numbers_in self.new) ≡ numbers_in self.old ++ (members row.old ++ right) }
+        ensures { result ++ (members row.new ++ numbers_in self.new)
+            ≡ numbers_in self.old ++ (members row.old ++ right) }
     {
         mem::swap(&mut self.row, row);
         let inner = mem::replace(&mut self.right, right);
@@ -132,7 +133,8 @@ impl Block {
     }
 
     fn pass_left(&mut self, left: Tree, row: &mut Row) -> Tree
-        ensures { numbers_in self.new ++ (members row.new ++ result) ≡ left ++ (members row.old ++ numbers_in self.old) }
+        ensures { numbers_in self.new ++ (members row.new ++ result)
+            ≡ left ++ (members row.old ++ numbers_in self.old) }
     {
         mem::swap(&mut self.row, row);
         let inner = mem::replace(&mut self.left, left);
@@ -143,7 +145,8 @@ impl Block {
 }
 
 impl Tree {
-    // A tree that isn't a block has no row to give, and the two stay as they are. Only a higher side is passed.
+    // A tree that isn't a block has no row to give, and the two stay as they are. Only a higher
+    // side is passed.
     fn pass_right(&mut self, row: &mut Row, right: Tree) -> Tree
         ensures { result ++ (members row.new ++ self.new) ≡ self.old ++ (members row.old ++ right) }
     {

@@ -2,7 +2,7 @@
 ghost use Rattle.std.specs.Prelude.{◌≡◌, ◌≢◌, ◌+◌, ◌<◌, ◌≤◌, ◌↔◌, [], ◌∷◌, ◌++◌, IsTrue, not, vec_len};
 ghost use Rattle.set_pool.specs.Rising.{Rises, inserted, is_among};
 ghost use Rattle.set_pool.specs.Rows.{LiesAt, members};
-ghost use Rattle.set_pool.specs.Trees.{numbers_in};
+ghost use Rattle.set_pool.specs.Trees.{TakesOneAtMost, numbers_in};
 
 use crate::rows::{Row, Side};
 use crate::trees::{Block, Link, Tree};
@@ -15,7 +15,7 @@ impl Tree {
         requires room { 0 < vec_len blocks.old }
         ensures list { self.new ≡ inserted value self.old }
         ensures fresh { result ≡ not (is_among value self.old) }
-        ensures blocks { vec_len blocks.old ≤ vec_len blocks.new + 1 }
+        ensures blocks { TakesOneAtMost (vec_len blocks.old) (vec_len blocks.new) }
     {
         match &mut self.root {
             Link::Empty => {
@@ -68,7 +68,7 @@ impl Block {
         requires room { 0 < vec_len blocks.old }
         ensures list { numbers_in self.new ≡ inserted value (numbers_in self.old) }
         ensures fresh { result ≡ not (is_among value (numbers_in self.old)) }
-        ensures blocks { vec_len blocks.old ≤ vec_len blocks.new + 1 }
+        ensures blocks { TakesOneAtMost (vec_len blocks.old) (vec_len blocks.new) }
     {
         match self.row.side(value) {
             Side::Before => self.place_before(value, blocks),
@@ -84,7 +84,7 @@ impl Block {
         requires room { 0 < vec_len blocks.old }
         ensures list { numbers_in self.new ≡ inserted value (numbers_in self.old) }
         ensures fresh { result ≡ not (is_among value (numbers_in self.old)) }
-        ensures blocks { vec_len blocks.old ≤ vec_len blocks.new + 1 }
+        ensures blocks { TakesOneAtMost (vec_len blocks.old) (vec_len blocks.new) }
     {
         if self.left.is_empty() && !self.row.is_full() {
             self.row.insert(value);
@@ -100,7 +100,7 @@ impl Block {
         requires room { 0 < vec_len blocks.old }
         ensures list { numbers_in self.new ≡ inserted value (numbers_in self.old) }
         ensures fresh { result ≡ not (is_among value (numbers_in self.old)) }
-        ensures blocks { vec_len blocks.old ≤ vec_len blocks.new + 1 }
+        ensures blocks { TakesOneAtMost (vec_len blocks.old) (vec_len blocks.new) }
     {
         if self.right.is_empty() && !self.row.is_full() {
             self.row.insert(value);
@@ -117,7 +117,7 @@ impl Block {
         requires room { 0 < vec_len blocks.old }
         ensures list { numbers_in self.new ≡ inserted value (numbers_in self.old) }
         ensures fresh { result ≡ not (is_among value (numbers_in self.old)) }
-        ensures blocks { vec_len blocks.old ≤ vec_len blocks.new + 1 }
+        ensures blocks { TakesOneAtMost (vec_len blocks.old) (vec_len blocks.new) }
     {
         if self.row.contains(value) {
             return false;
@@ -134,9 +134,10 @@ impl Block {
     fn insert_left(&mut self, value: u64, blocks: &mut Vec<Box<Block>>) -> bool
         requires rising { Rises self.old.left }
         requires room { 0 < vec_len blocks.old }
-        ensures list { numbers_in self.new ≡ inserted value self.old.left ++ (members self.old.row ++ self.old.right) }
+        ensures list { numbers_in self.new
+            ≡ inserted value self.old.left ++ (members self.old.row ++ self.old.right) }
         ensures fresh { result ≡ not (is_among value self.old.left) }
-        ensures blocks { vec_len blocks.old ≤ vec_len blocks.new + 1 }
+        ensures blocks { TakesOneAtMost (vec_len blocks.old) (vec_len blocks.new) }
     {
         let old = self.left.height();
         let fresh = self.left.insert(value, blocks);
@@ -149,9 +150,10 @@ impl Block {
     fn insert_right(&mut self, value: u64, blocks: &mut Vec<Box<Block>>) -> bool
         requires rising { Rises self.old.right }
         requires room { 0 < vec_len blocks.old }
-        ensures list { numbers_in self.new ≡ self.old.left ++ (members self.old.row ++ inserted value self.old.right) }
+        ensures list { numbers_in self.new
+            ≡ self.old.left ++ (members self.old.row ++ inserted value self.old.right) }
         ensures fresh { result ≡ not (is_among value self.old.right) }
-        ensures blocks { vec_len blocks.old ≤ vec_len blocks.new + 1 }
+        ensures blocks { TakesOneAtMost (vec_len blocks.old) (vec_len blocks.new) }
     {
         let old = self.right.height();
         let fresh = self.right.insert(value, blocks);

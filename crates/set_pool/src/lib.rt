@@ -1,5 +1,5 @@
-//! Sets of numbers in one pool. Room is reserved first, and after that sets are made and grow without taking
-//! memory. It doesn't know what the numbers mean.
+//! Sets of numbers in one pool. Room is reserved first, and after that sets are made and grow
+//! without taking memory. It doesn't know what the numbers mean.
 #![tactic(auto)]
 
 mod balancing;

@@ -1,7 +1,8 @@
-//! The pool: sets by name, and what was set aside for those to come. It knows nothing of how a set is kept.
-ghost use Rattle.std.specs.Prelude.{◌≡◌, ◌+◌, ◌<◌, ◌≤◌, [], length, not, IfOk, IsTrue, None, OnErr, OnOk, Some, false, vec_len, ℕ};
+//! The pool: sets by name, and what was set aside for those to come. It knows nothing of how a set
+//! is kept.
+ghost use Rattle.std.specs.Prelude.{◌≡◌, ◌+◌, ◌<◌, ◌≤◌, [], length, max, not, IfOk, IsTrue, None, OnErr, OnOk, Some, false, vec_len, ℕ};
 ghost use Rattle.set_pool.specs.Rising.{first_from, inserted, is_among, removed};
-ghost use Rattle.set_pool.specs.Sets.{AllListsRise, BeginsSet, Changes, Clears, Drops, EndsSet, Joins, Leaves, SameLive, SameMembers, SameSets, is_in, is_live, list_of, members_of};
+ghost use Rattle.set_pool.specs.Sets.{AllListsRise, BeginsSet, Changes, Clears, Drops, EndsSet, Joins, Leaves, SameLive, SameMembers, SameSets, SpendsNone, SpendsOne, is_in, is_live, list_of, members_of};
 
 use crate::rows::Row;
 use crate::slots::Slots;
@@ -26,8 +27,8 @@ impl Model for SetId {
 // How many calls a pool grants in its life. No run comes near it; it bounds what `len` counts.
 const MOST: u64 = 1 << 62;
 
-/// Sets of numbers, each known by its name. Room comes first: after `reserve(n)`, `n` calls of `make` and `insert`
-/// take no memory.
+/// Sets of numbers, each known by its name. Room comes first: after `reserve(n)`, `n` calls of
+/// `make` and `insert` take no memory.
 #[derive(Drop)]
 pub struct SetPool {
     alloc: Global,
@@ -45,7 +46,8 @@ impl Model for SetPool {
 
     ghost use Rattle.set_pool.specs.Pool.{IsBacked};
 
-    ghost view = { λ pool. record { lists = pool.slots.lists; spare = pool.spare } };
+    ghost view = { λ pool.
+        record { lists = pool.slots.lists; spare = pool.spare; aside = vec_len pool.blocks } };
 
     ghost invariant = { λ pool. IsBacked pool.slots (vec_len pool.blocks) pool.spare pool.granted };
 }
@@ -65,28 +67,15 @@ impl SetPool {
         })
     }
 
-    /// The same sets under the same names, with nothing spare.
-    pub fn copy(&self) -> Result<SetPool, AllocError>
-        ensures same { IfOk result (λ pool. SameSets self.now pool) }
-        ensures spare { IfOk result (λ pool. pool.spare ≡ 0) }
-    {
-        let slots = self.slots.copy(self.alloc)?;
-        Ok(SetPool {
-            alloc: self.alloc,
-            slots,
-            blocks: Vec::new(self.alloc),
-            spare: 0,
-            granted: self.granted,
-        })
-    }
-
-    /// Sets aside what `count` calls of `make` and `insert` may need. What is left of earlier calls counts.
+    /// Sets aside what `count` calls of `make` and `insert` may need. What is left of earlier calls
+    /// counts.
     pub fn reserve(&mut self, count: u64) -> Result<(), AllocError>
-        ensures room { OnOk result (count ≤ self.new.spare) }
-        ensures spare { self.old.spare ≤ self.new.spare }
+        ensures room { OnOk result (self.new.spare ≡ max self.old.spare count) }
+        ensures aside { self.new.aside ≤ max self.old.aside count }
+        ensures names { length self.new.lists ≤ length self.old.lists + count }
         ensures same { SameSets self.old self.new }
 
-        // After want of memory all is as before.
+        // If memory ran out, all is as before.
         ensures err { OnErr result (self.new.spare ≡ self.old.spare) }
     {
         let more = count.saturating_sub(self.spare);
@@ -116,7 +105,7 @@ impl SetPool {
         ensures made { Changes self.old self.new result (Some []) }
         ensures members { SameMembers self.old self.new }
         ensures live { BeginsSet self.old self.new result }
-        ensures spare { self.old.spare ≤ self.new.spare + 1 }
+        ensures spare { SpendsOne self.old self.new }
         ensures rise { AllListsRise self.new }
     {
         self.spare -= 1;
@@ -127,11 +116,12 @@ impl SetPool {
     pub fn insert(&mut self, set: SetId, value: u64) -> bool
         requires live { IsTrue (is_live self.old set) }
         requires room { 0 < self.old.spare }
-        ensures list { Changes self.old self.new set (Some (inserted value (members_of self.old set))) }
+        ensures list { Changes self.old self.new set
+            (Some (inserted value (members_of self.old set))) }
         ensures fresh { result ≡ not (is_in self.old set value) }
         ensures members { Joins self.old self.new set value }
         ensures live { SameLive self.old self.new }
-        ensures spare { self.old.spare ≤ self.new.spare + 1 }
+        ensures spare { SpendsOne self.old self.new }
         ensures rise { AllListsRise self.new }
     {
         self.spare -= 1;
@@ -141,11 +131,12 @@ impl SetPool {
     /// Takes `value` out of the set, and answers whether it was there.
     pub fn remove(&mut self, set: SetId, value: u64) -> bool
         requires { IsTrue (is_live self.old set) }
-        ensures list { Changes self.old self.new set (Some (removed value (members_of self.old set))) }
+        ensures list { Changes self.old self.new set
+            (Some (removed value (members_of self.old set))) }
         ensures there { result ≡ is_in self.old set value }
         ensures members { Leaves self.old self.new set value }
         ensures live { SameLive self.old self.new }
-        ensures spare { self.old.spare ≤ self.new.spare }
+        ensures spare { SpendsNone self.old self.new }
         ensures rise { AllListsRise self.new }
     {
         self.slots.remove(set.0 as usize, value)
@@ -155,7 +146,7 @@ impl SetPool {
     pub fn remove_everywhere(&mut self, value: u64)
         ensures lists { Drops self.old self.new value }
         ensures live { SameLive self.old self.new }
-        ensures spare { self.old.spare ≤ self.new.spare }
+        ensures spare { SpendsNone self.old self.new }
         ensures rise { AllListsRise self.new }
     {
         self.slots.remove_everywhere(value);
@@ -164,7 +155,7 @@ impl SetPool {
     /// Whether `value` is in the set.
     pub fn contains(&self, set: SetId, value: u64) -> bool
         requires { IsTrue (is_live self.now set) }
-        ensures told { result ≡ is_in self.now set value }
+        ensures inside { result ≡ is_in self.now set value }
         ensures rise { AllListsRise self.now }
     {
         self.slots.tree(set.0 as usize).contains(value)
@@ -173,7 +164,7 @@ impl SetPool {
     /// How many numbers the set has. It goes over the whole set.
     pub fn len(&self, set: SetId) -> u64
         requires { IsTrue (is_live self.now set) }
-        ensures told { result ≡ length (members_of self.now set) }
+        ensures count { result ≡ length (members_of self.now set) }
         ensures rise { AllListsRise self.now }
     {
         self.slots.tree(set.0 as usize).len()
@@ -182,7 +173,7 @@ impl SetPool {
     /// The least number of the set that isn't below `value`.
     pub fn first_from(&self, set: SetId, value: u64) -> Option<u64>
         requires { IsTrue (is_live self.now set) }
-        ensures told { result ≡ first_from value (members_of self.now set) }
+        ensures first { result ≡ first_from value (members_of self.now set) }
         ensures rise { AllListsRise self.now }
     {
         self.slots.tree(set.0 as usize).first_from(value)
@@ -194,17 +185,18 @@ impl SetPool {
         ensures freed { Changes self.old self.new set None }
         ensures members { Clears self.old self.new set }
         ensures live { EndsSet self.old self.new set }
-        ensures spare { self.old.spare ≤ self.new.spare }
+        ensures spare { SpendsNone self.old self.new }
         ensures rise { AllListsRise self.new }
     {
         self.slots.free(set.0 as usize);
     }
 }
 
-// Ensures that there are at least `count` blocks.
+// Ensures that there are at least `count` blocks. None is set aside beside them.
 fn set_aside(alloc: Global, blocks: &mut Vec<Box<Block>>, count: usize) -> Result<(), AllocError>
     ensures room { OnOk result (count ≤ vec_len blocks.new) }
     ensures kept { vec_len blocks.old ≤ vec_len blocks.new }
+    ensures few { vec_len blocks.new ≤ max (vec_len blocks.old) count }
 {
     let more = count.saturating_sub(blocks.len());
     for _ in 0..more {

@@ -1,12 +1,11 @@
 //! A row: one to seven numbers that rise, in 64 bytes. It knows nothing of the sides beside it.
-ghost use Rattle.std.specs.Prelude.{◌≡◌, ◌≢◌, ◌↔◌, [], ◌∷◌, ◌++◌, List, ℕ, IfOk, IsTrue, MatchBool, ◌≤◌, false, length, nat_lt};
+ghost use Rattle.std.specs.Prelude.{◌≡◌, ◌≢◌, ◌↔◌, [], ◌∷◌, ◌++◌, List, ℕ, IsTrue, MatchBool, ◌≤◌, false, length, nat_lt};
 ghost use Rattle.arrayvec.specs.ArrayVec.{array_vec_len};
 ghost use Rattle.std.specs.List.{prefix_len};
 ghost use Rattle.set_pool.specs.Rising.{Rises, first_from, inserted, is_among, removed};
 ghost use Rattle.set_pool.specs.Rows.{HasRoom, IsFull, LiesAt, members};
 
 use arrayvec::ArrayVec;
-use std::alloc::AllocError;
 use std::mem;
 
 /// A row always has a first number, so that no block of a tree is empty.
@@ -32,16 +31,6 @@ impl Row {
             first,
             rest: ArrayVec::new(),
         }
-    }
-
-    /// A row of the same numbers.
-    pub fn copy(&self) -> Result<Row, AllocError>
-        ensures { IfOk result (λ row. members row ≡ members self.now) }
-    {
-        Ok(Row {
-            first: self.first,
-            rest: self.rest.clone()?,
-        })
     }
 
     pub fn first(&self) -> u64

@@ -80,7 +80,8 @@ impl Block {
     #[cycle(remove)]
     fn remove_left(&mut self, value: u64) -> bool
         requires { Rises self.old.left }
-        ensures list { numbers_in self.new ≡ removed value self.old.left ++ (members self.old.row ++ self.old.right) }
+        ensures list { numbers_in self.new
+            ≡ removed value self.old.left ++ (members self.old.row ++ self.old.right) }
         ensures there { result ≡ is_among value self.old.left }
     {
         let old = self.left.height();
@@ -93,7 +94,8 @@ impl Block {
     #[cycle(remove)]
     fn remove_right(&mut self, value: u64) -> bool
         requires { Rises self.old.right }
-        ensures list { numbers_in self.new ≡ self.old.left ++ (members self.old.row ++ removed value self.old.right) }
+        ensures list { numbers_in self.new
+            ≡ self.old.left ++ (members self.old.row ++ removed value self.old.right) }
         ensures there { result ≡ is_among value self.old.right }
     {
         let old = self.right.height();
@@ -103,7 +105,8 @@ impl Block {
         there
     }
 
-    // The block goes on without its row: with the next one, or by its left side alone, where nothing is on the right.
+    // The block goes on without its row: with the next one, or by its left side alone, where
+    // nothing is on the right.
     fn drop_row(&mut self) -> Option<Tree>
         ensures { MatchOption result (numbers_in self.new ≡ self.old.left ++ self.old.right)
             (λ left. left ≡ self.old.left ++ self.old.right) }
@@ -122,7 +125,8 @@ impl Block {
 
     #[cycle(take_first_row)]
     fn take_left_row(&mut self) -> Option<Row>
-        ensures { MatchOption result ((self.new.left ≡ []) × (numbers_in self.new ≡ numbers_in self.old))
+        ensures { MatchOption result
+            ((self.new.left ≡ []) × (numbers_in self.new ≡ numbers_in self.old))
             (λ row. numbers_in self.old ≡ members row ++ numbers_in self.new) }
     {
         let old = self.left.height();

@@ -1,9 +1,11 @@
-//! The names of sets, and the tree of each that is live. A name is the place of its slot; those that are free stand
-//! on a stack within the slots, so that a name that was freed is used again. It knows nothing of what is reserved.
-ghost use Rattle.std.specs.Prelude.{◌≡◌, ◌+◌, ◌<◌, ◌≤◌, [], not, false, IfOk, IsTrue, OnErr, OnOk, vec_len};
+//! The names of sets, and the tree of each that is live. A name is the place of its slot; those
+//! that are free stand on a stack within the slots, so that a name that was freed is used again. It
+//! knows nothing of what is reserved.
+ghost use Rattle.std.specs.Prelude.{◌≡◌, ◌+◌, ◌<◌, ◌≤◌, [], length, not, false, IsTrue, OnErr, OnOk, vec_len};
 ghost use Rattle.set_pool.specs.Rising.{Rises, inserted, is_among, removed};
 ghost use Rattle.set_pool.specs.Lists.{AllRise, ChangesAt, DropsAt, SameLists, is_live_at, members_at};
 ghost use Rattle.set_pool.specs.Slots.{link_of, members_in, slots_without};
+ghost use Rattle.set_pool.specs.Trees.{TakesOneAtMost};
 
 use crate::trees::{Block, Tree};
 use std::alloc::{AllocError, Global};
@@ -51,6 +53,7 @@ impl Slots {
     pub fn reserve(&mut self, count: usize) -> Result<(), AllocError>
         ensures room { OnOk result (count ≤ self.new.free) }
         ensures free { self.old.free ≤ self.new.free }
+        ensures names { length self.new.lists ≤ length self.old.lists + count }
         ensures same { SameLists self.old.lists self.new.lists }
     {
         let more = count.saturating_sub(self.free);
@@ -63,7 +66,8 @@ impl Slots {
     // One more name, which is free.
     fn add(&mut self) -> Result<(), AllocError>
         ensures free { OnOk result (self.new.free ≡ self.old.free + 1) }
-        ensures err { OnErr result (self.new.free ≡ self.old.free) }
+        ensures names { OnOk result (length self.new.lists ≡ length self.old.lists + 1) }
+        ensures err { OnErr result (self.new ≡ self.old) }
         ensures same { SameLists self.old.lists self.new.lists }
     {
         let name = self.slots.len();
@@ -71,21 +75,6 @@ impl Slots {
         self.top = name;
         self.free += 1;
         Ok(())
-    }
-
-    /// The same trees under the same names.
-    pub fn copy(&self, alloc: Global) -> Result<Slots, AllocError>
-        ensures { IfOk result (λ copy. copy ≡ self.now) }
-    {
-        let mut slots = Vec::new(alloc);
-        for slot in &self.slots {
-            slots.push(slot.copy(alloc)?)?;
-        }
-        Ok(Slots {
-            slots,
-            top: self.top,
-            free: self.free,
-        })
     }
 
     pub fn make(&mut self) -> usize
@@ -133,7 +122,7 @@ impl Slots {
             (Some (inserted value (members_at self.old.lists name))) }
         ensures fresh { result ≡ not (is_among value (members_at self.old.lists name)) }
         ensures free { self.new.free ≡ self.old.free }
-        ensures blocks { vec_len blocks.old ≤ vec_len blocks.new + 1 }
+        ensures blocks { TakesOneAtMost (vec_len blocks.old) (vec_len blocks.new) }
         ensures rise { AllRise self.new.lists }
     {
         match &mut self.slots[name] {
@@ -171,15 +160,6 @@ impl Slots {
 }
 
 impl Slot {
-    fn copy(&self, alloc: Global) -> Result<Slot, AllocError>
-        ensures { IfOk result (λ slot. slot ≡ self.now) }
-    {
-        match self {
-            Slot::Free(below, count) => Ok(Slot::Free(*below, *count)),
-            Slot::Live(tree) => Ok(Slot::Live(tree.copy(alloc)?)),
-        }
-    }
-
     fn remove(&mut self, value: u64)
         requires { Rises (members_in self.old) }
         ensures { self.new ≡ slots_without value self.old }

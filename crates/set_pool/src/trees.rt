@@ -1,12 +1,11 @@
-//! A set as a search tree of rows. Each block owns its two sides, so no block is in two sets. A tree knows
-//! nothing of its pool.
-ghost use Rattle.std.specs.Prelude.{◌≡◌, ◌+◌, ◌^◌, ◌<◌, ◌≤◌, [], ◌∷◌, ◌++◌, length, IfOk};
+//! A set as a search tree of rows. Each block owns its two sides, so no block is in two sets. A
+//! tree knows nothing of its pool.
+ghost use Rattle.std.specs.Prelude.{◌≡◌, ◌+◌, ◌^◌, ◌<◌, ◌≤◌, [], ◌∷◌, ◌++◌, length};
 ghost use Rattle.set_pool.specs.Rising.{Rises, first_from, is_among};
 ghost use Rattle.set_pool.specs.Rows.{members};
 ghost use Rattle.set_pool.specs.Trees.{numbers_in};
 
 use crate::rows::{Row, Side};
-use std::alloc::{AllocError, Global};
 use std::marker::Model;
 
 /// A set of numbers, or one side of a block.
@@ -25,8 +24,8 @@ pub enum Link {
     Full(Box<Block>),
 }
 
-/// A row, and beside it what is below and what is above all its numbers. The height counts the levels of blocks
-/// from this one down.
+/// A row, and beside it what is below and what is above all its numbers. The height counts the
+/// levels of blocks from this one down.
 #[cycle(tree)]
 #[derive(Drop)]
 pub struct Block {
@@ -57,19 +56,6 @@ impl Tree {
         ensures { result ≡ [] }
     {
         Tree { root: Link::Empty }
-    }
-
-    /// A tree of the same numbers.
-    #[cycle(copy)]
-    pub fn copy(&self, alloc: Global) -> Result<Tree, AllocError>
-        ensures { IfOk result (λ tree. tree ≡ self.now) }
-    {
-        let root = match &self.root {
-            Link::Empty => Link::Empty,
-            Link::One(member) => Link::One(*member),
-            Link::Full(block) => Link::Full(Box::new(alloc, block.copy(alloc)?)?),
-        };
-        Ok(Tree { root })
     }
 
     #[cycle(contains)]
@@ -125,18 +111,6 @@ impl Block {
             height: 1,
             right: Tree::new(),
         }
-    }
-
-    #[cycle(copy)]
-    fn copy(&self, alloc: Global) -> Result<Block, AllocError>
-        ensures { IfOk result (λ block. numbers_in block ≡ numbers_in self.now) }
-    {
-        Ok(Block {
-            left: self.left.copy(alloc)?,
-            row: self.row.copy()?,
-            height: self.height,
-            right: self.right.copy(alloc)?,
-        })
     }
 
     #[cycle(contains)]

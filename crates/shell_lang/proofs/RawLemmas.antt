@@ -110,7 +110,7 @@ fails test plain w marked =
       | false ↦ (λ _. refl)
     ] refl
 
--- a test that no quote and no backslash passes says the same of the bytes as of the word
+-- a test that no quote and no backslash passes has one answer for the bytes and for the word
 pub raw-test : (test : List ℕ → Bool) → ((w : List ℕ) → test w ≡ true → has_mark w ≡ false) → (raw word : List ℕ) → IsRaw raw word → test raw ≡ test word
 raw-test test plain raw word stands =
     elim (has_mark raw) as (λ m. has_mark raw ≡ m → test raw ≡ test word) [

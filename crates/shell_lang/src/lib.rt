@@ -1,5 +1,5 @@
-//! The language of scripts: lines out of a stream of bytes, commands out of lines, and replies as text.
-//! It knows nothing of what a command does.
+//! The language of scripts: lines out of a stream of bytes, commands out of lines, and replies as
+//! text. It knows nothing of what a command does.
 #![tactic(auto)]
 
 mod parsing;
@@ -14,4 +14,4 @@ mod words;
 pub use parsing::parse_line;
 pub use printing::print_reply;
 pub use putting::put_length;
-pub use reading::{LineFault, PIECE, Piece, Reader};
+pub use reading::{LineFault, Piece, Reader};

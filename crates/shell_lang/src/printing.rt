@@ -22,7 +22,8 @@ pub fn print_reply(alloc: Global, reply: &Reply) -> Result<Vec<u8>, Memory>
 
 /// Appends data lines and then `ok`.
 fn push_ok_lines(out: &mut Vec<u8>, lines: &[Name]) -> Result<(), Memory>
-    ensures { OnOk result (out.new.items ≡ out.old.items ++ (flat_map ended lines.now ++ ended (codes "ok"))) }
+    ensures { OnOk result (out.new.items ≡ out.old.items ++
+        (flat_map ended lines.now ++ ended (codes "ok"))) }
 {
     for line in lines {
         push_line(out, line.as_bytes())?;
@@ -32,7 +33,8 @@ fn push_ok_lines(out: &mut Vec<u8>, lines: &[Name]) -> Result<(), Memory>
 
 /// Appends the one line of a refusal.
 fn push_no_line(alloc: Global, out: &mut Vec<u8>, refusal: &Refusal) -> Result<(), Memory>
-    ensures { OnOk result (out.new.items ≡ out.old.items ++ ended (codes "no " ++ refusal_text refusal.now)) }
+    ensures { OnOk result (out.new.items ≡ out.old.items ++
+        ended (codes "no " ++ refusal_text refusal.now)) }
 {
     out.extend_from_slice(b"no ")?;
     push_refusal(alloc, out, refusal)?;

@@ -14,8 +14,8 @@ use crate::words::{is_blank, only_word, raw_word, split_word};
 use hac_model::{Command, Deny, LimitWord, Refusal, Taken};
 use std::alloc::Global;
 
-/// How many bytes a `put` asks for behind its line. None where the line is no `put`, or is one that is
-/// refused for its form.
+/// How many bytes a `put` asks for behind its line. None where the line is no `put`, or is one that
+/// is refused for its form.
 pub fn put_length(line: &[u8]) -> Option<u64>
     ensures { result ≡ put_length line.now }
 {
@@ -58,7 +58,8 @@ pub fn is_put(name: &[u8]) -> bool
 /// The path and the length, from what follows `put`: two words and no more.
 #[tactic(auto, unfolding(hac_model::specs::Script::Lines::put_words))]
 fn put_words(alloc: Global, arguments: &[u8]) -> Result<(Vec<u8>, Vec<u8>), Deny>
-    ensures words { AnswersSeen (λ words. (words.0.items, words.1.items)) result (put_words arguments.now) }
+    ensures words { AnswersSeen (λ words. (words.0.items, words.1.items)) result
+        (put_words arguments.now) }
     ensures length { IfOk result (λ words. is_length words.1.items ≡ true) }
 {
     let (path, rest) = split_word(alloc, arguments)?;

@@ -20,8 +20,8 @@ use std::alloc::{AllocError, Global};
 use std::marker::Model;
 use thiserror::Error;
 
-/// How many bytes are asked of the source at a time.
-pub const PIECE: usize = 4096;
+// How many bytes are asked of the source at a time.
+const PIECE: usize = 4096;
 
 /// What a reader gives.
 #[derive(Debug, Drop)]
@@ -36,15 +36,16 @@ pub enum Piece {
     End,
 }
 
-/// Why a reader gives nothing. It still holds all that it took, but for bytes of a `put` that are more than a
-/// text may have.
+/// Why a reader gives nothing. It still holds all that it took, but for bytes of a `put` that are
+/// more than a text may have.
 #[derive(Clone, Copy, Debug, PartialEq, Eq, Error)]
 pub enum LineFault {
     #[error("the script can't be read")]
     Read,
     #[error("out of memory")]
     Memory,
-    /// The script is longer than a script may be, and all that lies within the limit was given but the last line.
+    /// The script is longer than a script may be, and all that lies within the limit was given but
+    /// the last line.
     #[error("the script is too long")]
     TooLong,
 }
@@ -114,7 +115,8 @@ impl Reader {
         })
     }
 
-    /// The next line of the script, or its end. It reads only where no line is held, and never behind the end.
+    /// The next line of the script, or its end. It reads only where no line is held, and never
+    /// behind the end.
     pub fn next_line<S: Source>(&mut self, source: &mut S) -> Result<Piece, LineFault>
         // A reader is given the source that it began with.
         requires { IsReaderOf self.old (S.seen source.old) }
@@ -288,8 +290,8 @@ fn drop_front(bytes: &mut Vec<u8>, count: usize)
     bytes.truncate(bytes.len() - count);
 }
 
-/// Reads at most `most` bytes to the end of `bytes`, and says how many. What can want memory is done
-/// before the read, so that nothing that was read is lost.
+/// Reads at most `most` bytes to the end of `bytes`, and says how many. What can want memory is
+/// done before the read, so that nothing that was read is lost.
 fn read_onto<S: Source>(
     bytes: &mut Vec<u8>,
     source: &mut S,

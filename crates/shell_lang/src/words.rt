@@ -1,5 +1,5 @@
-//! A line's words: plain ones, which end at a space, and words in quotes, which may hold spaces. A raw word
-//! is a piece of the line, with its escapes in it, and it wants no memory.
+//! A line's words: plain ones, which end at a space, and words in quotes, which may hold spaces. A
+//! raw word is a piece of the line, with its escapes in it, and it wants no memory.
 ghost use Rattle.std.specs.Prelude.{◌≡◌, false, drop, slice_index};
 ghost use Rattle.std.specs.List.{prefix_len, position_or_len, list_all};
 ghost use Rattle.std.specs.Option.{ok_or, option_map};
@@ -14,8 +14,8 @@ ghost use Rattle.shell_lang.specs.RawWords.{GivesRaw};
 use hac_model::{Deny, Refusal};
 use std::alloc::Global;
 
-/// The first word, without its quotes and their escapes, and what follows it. The line is bad where there
-/// is no word, or where its quotes are wrong.
+/// The first word, without its quotes and their escapes, and what follows it. The line is bad where
+/// there is no word, or where its quotes are wrong.
 pub fn split_word(alloc: Global, bytes: &[u8]) -> Result<(Vec<u8>, &[u8]), Deny>
     ensures { AnswersSeen (λ word. (word.0.items, word.1.now)) result (first_word bytes.now) }
 {
@@ -33,8 +33,8 @@ pub fn only_word(alloc: Global, bytes: &[u8]) -> Result<Vec<u8>, Deny>
     Ok(word)
 }
 
-/// The first word as it is written in the line, between its quotes if it has them, and what follows it. None
-/// where the line is bad.
+/// The first word as it is written in the line, between its quotes if it has them, and what follows
+/// it. None where the line is bad.
 pub fn raw_word(bytes: &[u8]) -> Option<(&[u8], &[u8])>
     ensures { GivesRaw result (first_word bytes.now) }
 {
@@ -66,7 +66,8 @@ fn raw_quoted(bytes: &[u8]) -> Option<(&[u8], &[u8])>
 
 /// What follows the closing quote of the word behind an opening quote.
 fn behind_quoted(bytes: &[u8]) -> Option<&[u8]>
-    ensures { option_map (λ rest. rest.now) result ≡ option_map (λ word. word.1) (quoted bytes.now) }
+    ensures { option_map (λ rest. rest.now) result ≡
+        option_map (λ word. word.1) (quoted bytes.now) }
 {
     let mut left = bytes;
     while !is_at_quote(left) {
@@ -103,7 +104,8 @@ fn quoted_word(alloc: Global, bytes: &[u8]) -> Result<(Vec<u8>, &[u8]), Deny>
 
 /// The word behind an opening quote, up to the closing one, and what follows that.
 fn unquote(alloc: Global, bytes: &[u8]) -> Result<(Vec<u8>, &[u8]), Deny>
-    ensures { AnswersSeen (λ word. (word.0.items, word.1.now)) result (ok_or (quoted bytes.now) BadLine) }
+    ensures { AnswersSeen (λ word. (word.0.items, word.1.now)) result
+        (ok_or (quoted bytes.now) BadLine) }
 {
     let mut word = Vec::new(alloc);
     let mut rest = bytes;
@@ -117,8 +119,8 @@ fn unquote(alloc: Global, bytes: &[u8]) -> Result<(Vec<u8>, &[u8]), Deny>
     Ok((word, skip_one(rest)))
 }
 
-/// The first byte of a word in quotes, where the word goes on, and what follows it: none where no closing
-/// quote comes, or where a backslash comes before anything but a quote or a backslash.
+/// The first byte of a word in quotes, where the word goes on, and what follows it: none where no
+/// closing quote comes, or where a backslash comes before anything but a quote or a backslash.
 fn quoted_byte(bytes: &[u8]) -> Option<(u8, &[u8])>
     requires { is_quote (slice_index bytes.now 0) ≡ false }
     ensures { QuotesFirst quoted bytes.now result }
@@ -154,8 +156,8 @@ fn is_word_end(bytes: &[u8]) -> bool
     matches!(bytes, [] | [b' ', ..])
 }
 
-/// The first run of bytes that are no spaces, and what follows it from the space behind it on. Both are
-/// empty where there are only spaces.
+/// The first run of bytes that are no spaces, and what follows it from the space behind it on. Both
+/// are empty where there are only spaces.
 pub fn split_run(bytes: &[u8]) -> (&[u8], &[u8])
     ensures run { result.0.now ≡ first_run bytes.now }
     ensures rest { result.1.now ≡ after_first_run bytes.now }

@@ -1,21 +1,21 @@
 -- The links of directories, found one directory after the other, each behind all on which it depends.
-use Rattle.std.proofs.Common.{◌≡◌, ◌≢◌, ℕ, zero, suc, ◌+◌, ◌<◌, Bool, true, false, cond, List, [], ◌∷◌, refl, ap, sym, subst, ◌∙◌, arith, inl, inr}
-use Rattle.std.specs.Prelude.{◌&&◌, ◌||◌, ◌==◌, ◌^◌, not, Option, Some, None, filter, is_some}
+use Rattle.std.proofs.Common.{◌≡◌, ◌≢◌, ℕ, zero, suc, ◌+◌, ◌<◌, ◌≤◌, Bool, true, false, cond, List, [], ◌∷◌, refl, ap, sym, subst, ◌∙◌, arith, inl, inr}
+use Rattle.std.specs.Prelude.{◌&&◌, ◌||◌, ◌==◌, ◌^◌, Option, Some, None, filter, is_some}
 use Rattle.std.specs.List.{range_with_len}
 use Rattle.std.specs.Option.{option_map, option_map_or}
 use Rattle.std.proofs.lemmas.Bool.{cases_eq, cases_lt, eq-eqb, le-leb, lt-ltb, ne_eqb}
 use Rattle.hac_model.specs.Tree.Depends.{Among, IsAcyclic, NeverReturns, depends, named_in}
 use Rattle.hac_model.specs.Query.Formula.{Formula}
-use Rattle.hac_model.specs.Tree.Links.{column, has, holds, is_item, is_permanent, is_prohibited, is_semantic, is_unmarked, items, kind, links, parent_of, passes, provide, query_at, satisfies, shown_of}
-use Rattle.hac_model.specs.Tree.Limits.{counts}
+use Rattle.hac_model.specs.Tree.Links.{column, has, holds, is_item, is_permanent, is_prohibited, is_semantic, is_unmarked, items, kind, links, parent_of, passes, query_at, satisfies, shown_of}
 use Rattle.hac_model.specs.Tree.{is_file}
 use Rattle.hac_model.specs.Tree.Valid.{IsLayout, IsValid}
 use Rattle.hac_model.specs.declared.states.Entry.{Entry}
-use Rattle.hac_model.specs.declared.marks.Kind.{Kind}
 use Rattle.hac_model.specs.declared.marks.Kind.TheVariants.{Transient, Permanent, Prohibited, Unlinked}
 use Rattle.hac_model.specs.declared.states.State.{State}
-use Rattle.hac_model.specs.Tree.Kinds.{is_transient}
 use Rattle.hac_model.proofs.GraphLemmas.{leads_more}
+use Rattle.std.proofs.lemmas.Bool.Decides.{nat_tests}
+use Rattle.hac_model.specs.declared.limits.TheConstants.{NUMBERS_LIMIT}
+use Rattle.hac_model.proofs.LimitLemmas.{IsWithinLimits, limits-within}
 use Rattle.hac_model.proofs.LinkLemmas.{holds-same, links-fixed, provide-same}
 use Rattle.hac_model.proofs.ListedLemmas.{file-item, linked-item, links-listed}
 use Rattle.hac_model.proofs.MarkLemmas.{has-filter}
@@ -25,11 +25,9 @@ use Rattle.dep_graph.specs.Graphs as graph
 use Rattle.dep_graph.specs.Searches.{AnyReaches, AreSources, IsOrdered}
 use Rattle.kept_state.specs.Readers.{AreEdgesOf}
 use Rattle.link_kinds.specs.Kinds.{Lists}
-use Rattle.link_kinds.specs.Seen.{IsEmpty, Known, kind_at, transient_in}
+use Rattle.link_kinds.specs.Seen.{IsEmpty, Known, transient_in}
 use Rattle.tree_answers.specs.Finding.{AreFound, GetsFound, finds, is_within, kind_given}
-use Rattle.kept_state.specs.Counting.{AreSmall}
-use Rattle.kept_state.proofs.CountingLemmas.{counts-small}
-use Rattle.tree_answers.proofs.FindingLemmas.{column-kind}
+use Rattle.tree_answers.proofs.FindingLemmas.{or-none}
 
 -- The edges are those of the state.
 
@@ -99,15 +97,15 @@ module _ (s : State) (valid : IsValid s) (dirs : List ℕ) (first end : ℕ) whe
 
 -- One directory more.
 
-reordered : (shown unmarked provided met : Bool) → (shown && unmarked && provided && met) ≡ (provided && shown && met && unmarked)
-reordered true true true true = refl
-reordered true true true false = refl
-reordered true true false met = refl
-reordered true false true true = refl
-reordered true false true false = refl
-reordered true false false met = refl
-reordered false unmarked true met = refl
-reordered false unmarked false met = refl
+-- an item passes alike, where the directories that the query is about found it alike
+passes-same : (s : State) (a b : ℕ → Bool) (dir item : ℕ) (q : Formula ℕ) → query_at s dir ≡ Some q → ((e : ℕ) → Among (parent_of s dir ∷ named_in q) e → a e ≡ b e) → passes s a dir item ≡ passes s b dir item
+passes-same s a b dir item q asks same = λ i. provide-same s a b (parent_of s dir) item (same (parent_of s dir) (inl refl)) i && is_some (shown_of s item) && met i && is_unmarked s dir item
+  where
+    asked : (known : ℕ → Bool) → satisfies s known dir item ≡ holds s known q item
+    asked known = ap (λ (o : Option (Formula ℕ)). option_map_or (λ asked. holds s known asked item) o false) asks
+
+    met : satisfies s a dir item ≡ satisfies s b dir item
+    met = asked a ∙ holds-same s a b q item (λ e named. same e (inr named)) ∙ sym (asked b)
 
 module _ (s : State) (valid : IsValid s) (dirs : List ℕ) (first end : ℕ) (x : ℕ) (rest : List ℕ) (found : Known) (p : IsPartly s dirs first end (x ∷ rest) found) where
   further : (e : ℕ) → Among (depends s x) e → AnyReaches (depends s) dirs e
@@ -122,64 +120,39 @@ module _ (s : State) (valid : IsValid s) (dirs : List ℕ) (first end : ℕ) (x 
     before : (e : ℕ) → Among (depends s x) e → column (links s) item e ≡ known e
     before e edge = sym (p.links e item (λ is. further e edge) (p.ordered.1 e edge) within)
 
-    -- what a query asks of the item
-    finds-query : (q : Formula ℕ) → query_at s x ≡ Some q → is_item s item ≡ true → finds s found x item ≡ column (links s) item x
-    finds-query q asks file =
-        (λ i. (file i && is_some (shown_of s item)) && is_unmarked s x item && provide s (column (transient_in found) item) (parent_of s x) item && option_map_or (λ (asked : Formula ℕ). holds s (column (transient_in found) item) asked item) (asks i) false)
-        ∙ reordered (is_some (shown_of s item)) (is_unmarked s x item) (provide s (column (transient_in found) item) (parent_of s x) item) (holds s (column (transient_in found) item) q item)
-        ∙ sym (
-        linked-item s item x valid.acyclic (file-item s item valid.layout file)
-        ∙ ap (λ (o : Option (Formula ℕ)). is_some o && (provide s (column (links s) item) (parent_of s x) item && is_some (shown_of s item) && option_map_or (λ (asked : Formula ℕ). holds s (column (links s) item) asked item) o false && is_unmarked s x item)) asks
-        ∙ (λ i. provide-same s (column (links s) item) (column (transient_in found) item) (parent_of s x) item (before (parent_of s x) (edge (parent_of s x) (inl refl))) i
-        && is_some (shown_of s item)
-        && holds-same s (column (links s) item) (column (transient_in found) item) q item (λ e named. before e (edge e (inr named))) i
-        && is_unmarked s x item))
-      where
-        edge : (e : ℕ) → Among (parent_of s x ∷ named_in q) e → Among (depends s x) e
-        edge e among = subst (λ (o : Option (Formula ℕ)). Among (option_map_or (λ (asked : Formula ℕ). parent_of s x ∷ named_in asked) o []) e) (sym asks) among
-
     -- it finds its links
     finds-links : finds s found x item ≡ column (links s) item x
     finds-links = by_file (is_item s item) refl
       where
-        by_query : (o : Option (Formula ℕ)) → query_at s x ≡ o → is_item s item ≡ true → finds s found x item ≡ column (links s) item x
+        by_query : (o : Option (Formula ℕ)) → query_at s x ≡ o → is_item s item ≡ true → passes s known x item ≡ column (links s) item x
         by_query None none file = absurd ((p.reached x (inl refl)).0 (ap (λ (o : Option (Formula ℕ)). option_map_or (λ (asked : Formula ℕ). parent_of s x ∷ named_in asked) o []) none))
-        by_query (Some q) asks file = finds-query q asks file
+        by_query (Some q) asks file =
+            passes-same s known (column (links s) item) x item q asks (λ e among. sym (before e (subst (λ (o : Option (Formula ℕ)). Among (option_map_or (λ (asked : Formula ℕ). parent_of s x ∷ named_in asked) o []) e) (sym asks) among)))
+            ∙ sym (linked-item s item x valid.acyclic (file-item s item valid.layout file) ∙ ap (λ (o : Option (Formula ℕ)). is_some o && passes s (column (links s) item) x item) asks)
 
-        by_file : (b : Bool) → is_item s item ≡ b → finds s found x item ≡ column (links s) item x
+        by_file : (b : Bool) → is_item s item ≡ b → (b && passes s known x item) ≡ column (links s) item x
         by_file true file = by_query (query_at s x) refl file
-        by_file false other =
-            ap (λ (b : Bool). (b && is_some (shown_of s item)) && is_unmarked s x item && provide s (column (transient_in found) item) (parent_of s x) item && satisfies s (column (transient_in found) item) x item) other
-            ∙ sym (links-items s valid.acyclic x item other)
+        by_file false other = sym (links-items s valid.acyclic x item other)
 
   module _ (new : Known) (got : GetsFound s x first end found new) where
     elsewhere : (dir item : ℕ) → (dir ≡ x → ⊥) → column (transient_in new) item dir ≡ column (transient_in found) item dir
     elsewhere dir item other =
-        column-kind new item dir
-        ∙ ap is_transient (got dir item ∙ ap (λ (b : Bool). cond (b && (is_within first end item && finds s found x item)) Transient (kind_at found dir item)) (ne_eqb dir x other))
-        ∙ sym (column-kind found item dir)
+        got dir item
+        ∙ ap (λ (b : Bool). column (transient_in found) item dir || (b && (is_within first end item && finds s found x item))) (ne_eqb dir x other)
+        ∙ or-none (column (transient_in found) item dir) false
 
     out-of : (dir item : ℕ) → is_within first end item ≡ false → column (transient_in new) item dir ≡ column (transient_in found) item dir
     out-of dir item out =
-        column-kind new item dir
-        ∙ ap is_transient (got dir item ∙ ap (λ (b : Bool). cond (dir == x && (b && finds s found x item)) Transient (kind_at found dir item)) out ∙ none (dir == x) (kind_at found dir item))
-        ∙ sym (column-kind found item dir)
-      where
-        none : (b : Bool) (k : Kind) → cond (b && false) Transient k ≡ k
-        none true k = refl
-        none false k = refl
+        got dir item
+        ∙ ap (λ (b : Bool). column (transient_in found) item dir || (dir == x && (b && finds s found x item))) out
+        ∙ or-none (column (transient_in found) item dir) (dir == x)
 
     here : (dir item : ℕ) → dir ≡ x → is_within first end item ≡ true → column (transient_in new) item dir ≡ column (links s) item dir
     here dir item same within =
-        column-kind new item dir
-        ∙ ap is_transient (got dir item ∙ (λ i. cond (eq-eqb dir x same i && (within i && finds s found x item)) Transient (kind_at found dir item)))
-        ∙ put (finds s found x item) (kind_at found dir item) (sym (column-kind found item dir) ∙ p.todo dir item (inl (sym same)))
+        got dir item
+        ∙ (λ i. p.todo dir item (inl (sym same)) i || (eq-eqb dir x same i && (within i && finds s found x item)))
         ∙ finds-links item within
         ∙ ap (column (links s) item) (sym same)
-      where
-        put : (f : Bool) (k : Kind) → is_transient k ≡ false → is_transient (cond f Transient k) ≡ f
-        put true k is = refl
-        put false k is = is
 
     pub partly-more : IsPartly s dirs first end rest new
     partly-more = record {
@@ -206,27 +179,20 @@ file-below s n h file = elim (cases_lt n s.next) as (λ _. n < s.next) [
   | inr high ↦ (let none : false ≡ true = ap (λ (o : Option Entry). option_map_or is_file (option_map (λ (e : Entry). e.body) o) false) (sym (entry_at-next 0 s.entries s.next n h.numbers high)) ∙ file in absurd cc)
 ]
 
+pub next-few : (s : State) → IsLayout s → s.next ≤ NUMBERS_LIMIT
+next-few s h = let within : IsWithinLimits s = limits-within s h.limits in grind (arith, nat_tests, within.numbers)
+
 pub file-fits : (s : State) (item number : ℕ) → IsValid s → is_item s item ≡ true → number ≡ item → number + 1 < 2 ^ 64
-file-fits s item number valid file same =
-    let small : AreSmall (counts s) = counts-small s valid.layout in
-    omega (arith, file-below s item valid.layout file, small.next_is, same)
+file-fits s item number valid file same = omega (arith, file-below s item valid.layout file, next-few s valid.layout, same)
 
 pub within-below : (end item : ℕ) → item < end → is_within 0 end item ≡ true
 within-below end item less = λ i. le-leb 0 item (omega arith) i && lt-ltb item end less i
 
-within-one : (first end item : ℕ) → first ≡ item → end ≡ item + 1 → is_within first end item ≡ true
+pub within-one : (first end item : ℕ) → first ≡ item → end ≡ item + 1 → is_within first end item ≡ true
 within-one first end item from to = λ i. le-leb first item (omega (arith, from)) i && lt-ltb item end (omega (arith, to)) i
 
 pub alone-reaches : (edges : ℕ → List ℕ) (dirs : List ℕ) (dir : ℕ) → Among dirs dir → AnyReaches edges dirs dir
 alone-reaches edges dirs dir among = (dir, among, (zero, refl))
-
-pub alone-among : (dirs : List ℕ) (dir : ℕ) → dirs ≡ dir ∷ [] → Among dirs dir
-alone-among dirs dir only = subst (λ (ds : List ℕ). Among ds dir) (sym only) (inl refl)
-
-pub found-alone : (s : State) (dirs : List ℕ) (first end : ℕ) (found : Known) (dir item : ℕ) → dirs ≡ dir ∷ [] → first ≡ item → end ≡ item + 1 → AreFound s dirs first end found → is_transient (kind_at found dir item) ≡ has (links s dir) item
-found-alone s dirs first end found dir item only from to all =
-    sym (column-kind found item dir)
-    ∙ all.links dir item (λ is. alone-reaches (depends s) dirs dir (alone-among dirs dir only)) (within-one first end item from to)
 
 -- the kind of an item is that of the state
 pub found-kind : (s : State) (dirs : List ℕ) (first end : ℕ) (found : Known) (dir item : ℕ) → (is_semantic s dir ≡ true → AnyReaches (depends s) dirs dir) → is_within first end item ≡ true → AreFound s dirs first end found → kind_given s found dir item ≡ kind s dir item

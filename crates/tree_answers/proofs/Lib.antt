@@ -1,5 +1,6 @@
 pub mod FindingLemmas
 pub mod MarkingLemmas
+pub mod ListingLemmas
 pub mod FoundLemmas
 pub mod RangeLemmas
 pub mod LinkLineLemmas

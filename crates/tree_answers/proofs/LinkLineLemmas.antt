@@ -1,57 +1,49 @@
 -- Lines of links, given what was found.
-use Rattle.std.proofs.Common.{◌≡◌, ℕ, ◌<◌, Bool, true, false, List, [], ◌∷◌, map, refl, ap, sym, subst, ◌∙◌, arith}
+use Rattle.std.proofs.Common.{◌≡◌, ℕ, Bool, true, false, cond, List, [], ◌∷◌, map, refl, ap, sym, subst, ◌∙◌}
 use Rattle.std.specs.Prelude.{◌&&◌, filter, is_some}
 use Rattle.std.specs.List.{flat_map, range_with_len}
+use Rattle.std.proofs.lemmas.List.Concat.{flat_map_single}
 use Rattle.hac_model.specs.Tree.Depends.{Among, depends, named_in}
 use Rattle.hac_model.specs.Query.Formula.{Formula}
-use Rattle.hac_model.specs.Tree.Links.{column, found_by, has, holds, is_item, items, kind, links, shown_of}
+use Rattle.hac_model.specs.Tree.Links.{column, found_by, holds, is_item, items, kind, links, shown_of}
 use Rattle.hac_model.specs.Run.Play.{found_line, kind_lines, link_lines}
 use Rattle.hac_model.specs.Tree.{path_of}
 use Rattle.hac_model.specs.Tree.Valid.{IsValid}
 use Rattle.hac_model.specs.declared.states.State.{State}
 use Rattle.hac_model.proofs.LinkLemmas.{holds-same}
-use Rattle.hac_model.proofs.ListedLemmas.{filter-agree}
-use Rattle.hac_model.proofs.MarkLemmas.{has-filter}
 use Rattle.link_kinds.specs.Seen.{Known, transient_in}
-use Rattle.tree_answers.specs.Finding.{AreFound, is_met, kind_given}
-use Rattle.tree_answers.proofs.FoundLemmas.{alone-among, alone-reaches, file-below, found-kind, within-below}
-use Rattle.tree_answers.proofs.RangeLemmas.{filter-both, flat-agree}
+use Rattle.tree_answers.specs.Finding.{AreFound, is_found_by, is_within, kind_given}
+use Rattle.tree_answers.proofs.FoundLemmas.{alone-reaches, file-below, found-kind, within-below}
+use Rattle.tree_answers.proofs.RangeLemmas.{filtered}
 
-module _ (s : State) (valid : IsValid s) (dirs : List ℕ) (end : ℕ) (whole : end ≡ s.next) (found : Known) (all : AreFound s dirs 0 end found) where
-  file-within : (item : ℕ) → is_item s item ≡ true → item < end
-  file-within item file = let below : item < s.next = file-below s item valid.layout file in omega (arith, below, whole)
-
-  item-is : (item : ℕ) → has (items s) item ≡ true → is_item s item ≡ true
-  item-is item inside = first (is_item s item) (has (range_with_len 0 s.next) item) (sym (has-filter (is_item s) (range_with_len 0 s.next) item) ∙ inside)
-    where
-      first : (a b : Bool) → (a && b) ≡ true → a ≡ true
-      first true b h = refl
-      first false b h = h
+module _ (s : State) (valid : IsValid s) (dirs : List ℕ) (found : Known) (all : AreFound s dirs 0 s.next found) where
+  within : (item : ℕ) → is_item s item ≡ true → is_within 0 s.next item ≡ true
+  within item file = within-below s.next item (file-below s item valid.layout file)
 
   -- the items of one directory
-  pub links-told : (dir : ℕ) → dirs ≡ dir ∷ [] → flat_map (λ item. kind_lines (path_of s item) (kind_given s found dir item)) (items s) ≡ link_lines s dir
-  links-told dir only =
-      flat-agree (λ item. kind_lines (path_of s item) (kind_given s found dir item)) (λ item. kind_lines (path_of s item) (kind s dir item)) (items s)
-      (λ item inside i. kind_lines (path_of s item)
-      (found-kind s dirs 0 end found dir item (λ is. alone-reaches (depends s) dirs dir (alone-among dirs dir only)) (within-below end item (file-within item (item-is item inside))) all i))
+  pub links-told : (dir : ℕ) → Among dirs dir → flat_map (λ item. cond (is_item s item) (kind_lines (path_of s item) (kind_given s found dir item)) []) (range_with_len 0 s.next) ≡ link_lines s dir
+  links-told dir among =
+      (λ i. flat_map (λ item. each item (is_item s item) refl i) (range_with_len 0 s.next))
+      ∙ sym (filtered (is_item s) (λ item. kind_lines (path_of s item) (kind s dir item)) (range_with_len 0 s.next))
+    where
+      each : (item : ℕ) (b : Bool) → is_item s item ≡ b → cond b (kind_lines (path_of s item) (kind_given s found dir item)) [] ≡ cond b (kind_lines (path_of s item) (kind s dir item)) []
+      each item true file = ap (kind_lines (path_of s item)) (found-kind s dirs 0 s.next found dir item (λ is. alone-reaches (depends s) dirs dir among) (within item file) all)
+      each item false other = refl
 
   -- what a query finds
-  pub met-told : (asked : Formula ℕ) → dirs ≡ named_in asked → map (found_line s) (filter (is_met s found asked) (range_with_len 0 s.next)) ≡ map (found_line s) (found_by s asked)
+  pub found-told : (asked : Formula ℕ) → dirs ≡ named_in asked → flat_map (λ item. cond (is_found_by s found asked item) (found_line s item ∷ []) []) (range_with_len 0 s.next) ≡ map (found_line s) (found_by s asked)
   unfolding found_by
-  met-told asked named =
-      ap (map (found_line s))
-      (filter-agree (is_met s found asked) (λ n. is_item s n && (is_some (shown_of s n) && holds s (column (links s) n) asked n)) (range_with_len 0 s.next) (λ n inside. agree n (is_item s n) refl)
-      ∙ sym (filter-both (λ n. is_some (shown_of s n) && holds s (column (links s) n) asked n) (is_item s) (range_with_len 0 s.next)))
+  found-told asked named =
+      (λ i. flat_map (λ item. each item (is_item s item) refl i) (range_with_len 0 s.next))
+      ∙ sym (filtered (is_item s) (λ item. cond (passes item) (found_line s item ∷ []) []) (range_with_len 0 s.next))
+      ∙ sym (filtered passes (λ item. found_line s item ∷ []) (items s))
+      ∙ flat_map_single (found_line s) (filter passes (items s))
     where
-      met : (n : ℕ) → is_item s n ≡ true → holds s (column (transient_in found) n) asked n ≡ holds s (column (links s) n) asked n
-      met n file =
-          holds-same s (column (transient_in found) n) (column (links s) n) asked n
-          (λ e among. all.links e n (λ is. alone-reaches (depends s) dirs e (subst (λ (ds : List ℕ). Among ds e) (sym named) among)) (within-below end n (file-within n file)))
+      passes : ℕ → Bool
+      passes item = is_some (shown_of s item) && holds s (column (links s) item) asked item
 
-      agree : (n : ℕ) (b : Bool) → is_item s n ≡ b → is_met s found asked n ≡ (is_item s n && (is_some (shown_of s n) && holds s (column (links s) n) asked n))
-      agree n true file =
-          (λ i. (file i && is_some (shown_of s n)) && met n file i)
-          ∙ sym (ap (λ (b : Bool). b && (is_some (shown_of s n) && holds s (column (links s) n) asked n)) file)
-      agree n false other =
-          ap (λ (b : Bool). (b && is_some (shown_of s n)) && holds s (column (transient_in found) n) asked n) other
-          ∙ sym (ap (λ (b : Bool). b && (is_some (shown_of s n) && holds s (column (links s) n) asked n)) other)
+      each : (item : ℕ) (b : Bool) → is_item s item ≡ b → cond ((b && is_some (shown_of s item)) && holds s (column (transient_in found) item) asked item) (found_line s item ∷ []) [] ≡ cond b (cond (passes item) (found_line s item ∷ []) []) []
+      each item true file = ap (λ h. cond (is_some (shown_of s item) && h) (found_line s item ∷ []) [])
+          (holds-same s (column (transient_in found) item) (column (links s) item) asked item
+          (λ e among. all.links e item (λ is. alone-reaches (depends s) dirs e (subst (λ (ds : List ℕ). Among ds e) (sym named) among)) (within item file)))
+      each item false other = refl

@@ -9,9 +9,6 @@ use Rattle.hac_model.specs.declared.states.Body.TheVariants.{File, Dir, Symlink,
 use Rattle.hac_model.specs.declared.states.Entry.{Entry}
 use Rattle.hac_model.specs.declared.states.State.{State}
 
-one : Bool → ℕ
-one b = cond {A = ℕ} b 1 0
-
 ones : (Body → Bool) → List Entry → ℕ
 ones test es = sum_by (λ (e : Entry). cond {A = ℕ} (test e.body) 1 0) es
 

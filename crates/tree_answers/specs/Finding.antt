@@ -1,13 +1,13 @@
 -- Links as a command finds them.
-use Rattle.std.specs.Prelude.{◌≡◌, ℕ, Bool, true, false, ◌&&◌, ◌==◌, nat_le, nat_lt, is_some, List, if◌then◌else◌}
+use Rattle.std.specs.Prelude.{◌≡◌, ℕ, Bool, true, false, ◌&&◌, ◌||◌, ◌==◌, nat_le, nat_lt, is_some, List, if◌then◌else◌}
 use Rattle.hac_model.specs.Tree.Depends.{depends}
 use Rattle.hac_model.specs.Query.Formula.{Formula}
-use Rattle.hac_model.specs.Tree.Links.{column, holds, is_item, is_permanent, is_prohibited, is_semantic, is_unmarked, links, parent_of, provide, satisfies, shown_of}
+use Rattle.hac_model.specs.Tree.Links.{column, holds, is_item, is_permanent, is_prohibited, is_semantic, links, passes, shown_of}
 use Rattle.hac_model.specs.declared.marks.Kind.{Kind}
 use Rattle.hac_model.specs.declared.marks.Kind.TheVariants.{Transient, Permanent, Prohibited, Unlinked}
 use Rattle.hac_model.specs.declared.states.State.{State}
 use Rattle.dep_graph.specs.Searches.{AnyReaches}
-use Rattle.link_kinds.specs.Seen.{Known, kind_at, transient_in}
+use Rattle.link_kinds.specs.Seen.{Known, transient_in}
 
 -- the number is one of those from the first on, and below the end
 abbrev pub is_within : ℕ → ℕ → ℕ → Bool
@@ -19,13 +19,11 @@ is_indexed s number = is_item s number && is_some (shown_of s number)
 
 -- the directory finds the item, given the links so far
 abbrev pub finds : State → Known → ℕ → ℕ → Bool
-finds s found dir item =
-    is_indexed s item && is_unmarked s dir item
-    && provide s (column (transient_in found) item) (parent_of s dir) item && satisfies s (column (transient_in found) item) dir item
+finds s found dir item = is_item s item && passes s (column (transient_in found) item) dir item
 
--- the item was indexed and satisfies the query, given the links so far
-abbrev pub is_met : State → Known → Formula ℕ → ℕ → Bool
-is_met s found query item = is_indexed s item && holds s (column (transient_in found) item) query item
+-- the query finds the item, which was indexed and satisfies it, given the links so far
+abbrev pub is_found_by : State → Known → Formula ℕ → ℕ → Bool
+is_found_by s found query item = is_indexed s item && holds s (column (transient_in found) item) query item
 
 -- how an item is linked in a directory, given the links that it finds
 abbrev pub kind_given : State → Known → ℕ → ℕ → Kind
@@ -35,10 +33,15 @@ kind_given s found dir item =
     else (if column (transient_in found) item dir then Transient
     else Unlinked))
 
+-- a directory got the number, if it finds it, and all else is as before
+abbrev pub GetsOne : State → ℕ → ℕ → Known → Known → Type 0
+GetsOne s dir number old new =
+    (d item : ℕ) → column (transient_in new) item d ≡ (column (transient_in old) item d || (d == dir && (item == number && finds s old dir number)))
+
 -- a directory got what it finds among the numbers from the first to below the end, and all else is as before
 abbrev pub GetsFound : State → ℕ → ℕ → ℕ → Known → Known → Type 0
 GetsFound s dir first end old new =
-    (d item : ℕ) → kind_at new d item ≡ (if d == dir && (is_within first end item && finds s old dir item) then Transient else kind_at old d item)
+    (d item : ℕ) → column (transient_in new) item d ≡ (column (transient_in old) item d || (d == dir && (is_within first end item && finds s old dir item)))
 
 -- of each directory to which the given ones lead, and of each that is not semantic, just those links are there that are
 -- among the numbers from the first to below the end

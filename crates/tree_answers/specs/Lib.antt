@@ -1,3 +1,3 @@
 pub mod Finding
 pub mod Paths
-pub mod Telling
+pub mod Counting

@@ -1,36 +1,34 @@
 //! The links that queries give to directories, found anew where a command asks for them.
-ghost use Rattle.std.specs.Prelude.{◌≡◌, ◌≤◌, is_some, IfOk, IsTrue, OnOk};
-ghost use Rattle.hac_model.specs.Tree.Links.{atom, column, has, holds, is_item, is_unmarked, links, parent_of, provide, satisfies, shown_of};
+ghost use Rattle.std.specs.Prelude.{◌≡◌, ◌≤◌, IfOk, IsTrue, OnOk};
+ghost use Rattle.hac_model.specs.Tree.Links.{atom, column, has, holds, is_unmarked, links, parent_of, provide, satisfies};
 ghost use Rattle.hac_model.specs.Tree.{is_file_at};
-ghost use Rattle.link_kinds.specs.Marked.{with_marks};
 ghost use Rattle.link_kinds.specs.Seen.{LinkListsRise, transient_in};
-ghost use Rattle.tree_answers.specs.Finding.{AreFound, GetsFound, finds, is_indexed};
+ghost use Rattle.tree_answers.specs.Finding.{AreFound, GetsFound, GetsOne, finds};
 
-use file_tree::Tree;
+use crate::lookups::{is_indexed, parent_of, query_at, shown_of};
 use hac_model::{Kind, Member, Memory, Number, Query, Term};
 use hac_words::has_term;
 use kept_state::KeptState;
 use link_kinds::Links;
 use query_eval::{Atoms, judge};
-use scope_rules::provides;
+use scope_rules::{has_found, provides};
 use std::alloc::Global;
 
-/// What queries are judged by: the texts of files as they were last indexed, and what directories provide.
+/// What queries are judged by: the texts of files as they were last indexed, and what directories
+/// provide.
 #[derive(Clone, Copy)]
 pub struct Sight<'a> {
-    /// The tree.
-    pub tree: &'a Tree,
-    /// The marks.
-    pub marks: &'a Links,
+    /// The state.
+    pub kept: &'a KeptState,
     /// The links that were found so far.
     pub found: &'a Links,
 }
 
 impl<'a> Atoms for Sight<'a> {
-    ghost atoms = { λ sight. atom sight.tree.now.state };
+    ghost atoms = { λ sight. atom sight.kept.now.state };
 
     fn has(&self, term: &Term, item: Number) -> bool {
-        match self.tree.shown(item) {
+        match shown_of(self.kept, item) {
             Some(text) => has_term(text, term),
             None => false,
         }
@@ -38,15 +36,17 @@ impl<'a> Atoms for Sight<'a> {
 }
 
 impl<'a> Member for Sight<'a> {
-    ghost provides = { λ sight dir item. provide (with_marks sight.marks.now sight.tree.now.state) (column (transient_in sight.found.now) item) dir item };
+    ghost provides = { λ sight dir item.
+        provide sight.kept.now.state (column (transient_in sight.found.now) item) dir item };
 
     fn within(&self, dir: Number, item: Number) -> bool {
-        provides(self.tree, self.marks, self.found, dir, item)
+        is_provided(self.kept, self.found, dir, item)
     }
 }
 
-/// The links that directories find, and all on which they depend: those of the items whose numbers are from `first` to
-/// below `end`. Each directory is looked at once, behind all on which it depends.
+/// The links that directories find, and all on which they depend: those of the items whose numbers
+/// are from `first` to below `end`. Each directory is looked at once, behind all on which it
+/// depends.
 pub fn find_links(
     alloc: Global,
     kept: &KeptState,
@@ -77,17 +77,24 @@ fn find_in(
     ensures { OnOk result (GetsFound kept.now.state dir first end found.old found.new) }
 {
     for number in first..end {
-        let item = Number::new(number);
-        if passes(kept, found, dir, item) {
-            found.prepare(dir, 1)?;
-            found.set_kind(dir, item, Kind::Transient);
-        }
+        find_one(kept, found, dir, Number::new(number))?;
     }
     Ok(())
 }
 
-/// Whether a directory finds an item: it was indexed, the user says nothing of it there, the directory above provides
-/// it, and it satisfies the query. What costs least comes first.
+/// Adds an item to the links of a directory, if it finds it.
+fn find_one(kept: &KeptState, found: &mut Links, dir: Number, item: Number) -> Result<(), Memory>
+    ensures { OnOk result (GetsOne kept.now.state dir item found.old found.new) }
+{
+    if passes(kept, found, dir, item) {
+        found.prepare(dir, 1)?;
+        found.set_kind(dir, item, Kind::Transient);
+    }
+    Ok(())
+}
+
+/// Whether a directory finds an item: it was indexed, the user says nothing of it there, the
+/// directory above provides it, and it satisfies the query. What costs least comes first.
 fn passes(kept: &KeptState, found: &Links, dir: Number, item: Number) -> bool
     ensures { result ≡ finds kept.now.state found.now dir item }
 {
@@ -97,28 +104,8 @@ fn passes(kept: &KeptState, found: &Links, dir: Number, item: Number) -> bool
         && satisfies(kept, found, dir, item)
 }
 
-/// Whether a number is that of an item.
-pub fn is_item(kept: &KeptState, number: Number) -> bool
-    ensures { result ≡ is_item kept.now.state number }
-{
-    kept.tree().is_file(number)
-}
-
-/// Whether a number is that of an item that was indexed.
-pub fn is_indexed(kept: &KeptState, number: Number) -> bool
-    ensures { result ≡ is_indexed kept.now.state number }
-{
-    is_item(kept, number) && is_shown(kept, number)
-}
-
-/// Whether a text is shown of an item.
-fn is_shown(kept: &KeptState, number: Number) -> bool
-    ensures { result ≡ is_some (shown_of kept.now.state number) }
-{
-    kept.tree().shown(number).is_some()
-}
-
 /// Whether the user says nothing of an item in a directory.
+#[tactic(auto, using(crate::proofs::MarkingLemmas::no_mark))]
 fn is_unmarked(kept: &KeptState, dir: Number, item: Number) -> bool
     ensures { result ≡ is_unmarked kept.now.state dir item }
 {
@@ -127,31 +114,34 @@ fn is_unmarked(kept: &KeptState, dir: Number, item: Number) -> bool
 
 /// Whether the directory above a directory provides an item.
 fn is_provided_above(kept: &KeptState, found: &Links, dir: Number, item: Number) -> bool
-    ensures { result ≡ provide kept.now.state (column (transient_in found.now) item) (parent_of kept.now.state dir) item }
+    ensures { result ≡ provide kept.now.state (column (transient_in found.now) item)
+        (parent_of kept.now.state dir) item }
 {
-    let tree = kept.tree();
-    provides(tree, kept.marks(), found, tree.parent(dir), item)
+    is_provided(kept, found, parent_of(kept, dir), item)
+}
+
+/// Whether a directory provides an item.
+fn is_provided(kept: &KeptState, found: &Links, dir: Number, item: Number) -> bool
+    ensures { result ≡ provide kept.now.state (column (transient_in found.now) item) dir item }
+{
+    provides(kept.tree(), kept.marks(), found, dir, item)
 }
 
 /// Whether an item satisfies the query of a directory.
 fn satisfies(kept: &KeptState, found: &Links, dir: Number, item: Number) -> bool
     ensures { result ≡ satisfies kept.now.state (column (transient_in found.now) item) dir item }
 {
-    match kept.tree().query(dir) {
-        Some(query) => meets(kept, found, query, item),
+    match query_at(kept, dir) {
+        Some(query) => satisfies_query(kept, found, query, item),
         None => false,
     }
 }
 
 /// Whether an item satisfies a query.
-pub fn meets(kept: &KeptState, found: &Links, query: &Query<Number>, item: Number) -> bool
+pub fn satisfies_query(kept: &KeptState, found: &Links, query: &Query<Number>, item: Number) -> bool
     ensures { result ≡ holds kept.now.state (column (transient_in found.now) item) query.now item }
 {
-    let sight = Sight {
-        tree: kept.tree(),
-        marks: kept.marks(),
-        found,
-    };
+    let sight = Sight { kept, found };
     judge(query, &sight, &sight, item)
 }
 
@@ -161,10 +151,8 @@ pub fn is_found(alloc: Global, kept: &KeptState, dir: Number, item: Number) -> R
     ensures { IfOk result (λ is_found. is_found ≡ has (links kept.now.state dir) item) }
 {
     kept.know_valid();
-    let mut dirs = Vec::new(alloc);
-    dirs.push(dir)?;
-    let found = find_links(alloc, kept, dirs.as_slice(), item.get(), item.get() + 1)?;
-    Ok(found.kind(dir, item).is_transient())
+    let found = find_links(alloc, kept, &[dir], item.get(), item.get() + 1)?;
+    Ok(has_found(&found, dir, item))
 }
 
 /// Lists rise. This does nothing: it is called where a proof has to know so.

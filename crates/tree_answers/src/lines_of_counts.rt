@@ -1,11 +1,13 @@
 //! The line of counts.
-ghost use Rattle.std.specs.Prelude.{◌≡◌, ◌≤◌, ◌∷◌, ◌++◌, ◌+◌, [], filter, IfOk, OnOk};
-ghost use Rattle.std.specs.List.{range_with_len};
+ghost use Rattle.std.specs.Prelude.{◌≡◌, ◌≤◌, ◌∷◌, ◌++◌, ◌+◌, ◌-◌, ℕ, [], if◌then◌else◌, IfOk, IsTrue, OnOk};
+ghost use Rattle.hac_model.specs.Tree.Depends.{Among};
 ghost use Rattle.hac_model.specs.Tree.Links.{is_semantic, permanent_count, prohibited_count};
 ghost use Rattle.hac_model.specs.Run.Play.{counted, counts_line};
-ghost use Rattle.tree_answers.specs.Telling.{CanCount, HasAllLinks, link_count, told_line};
+ghost use Rattle.tree_answers.specs.Counting.{CanCount, HasAllLinks, link_count};
+ghost use Rattle.hac_model.specs.Run.Showing.{line_of_counts};
 
 use crate::finding::{find_links, know_lists};
+use crate::lookups::{is_semantic, next_number};
 use hac_model::{Counts, Kind, Memory, Name, Number};
 use kept_state::KeptState;
 use link_kinds::Links;
@@ -20,7 +22,7 @@ pub fn counts_lines(alloc: Global, kept: &KeptState) -> Result<Vec<Name>, Memory
     let permanent = permanent_count(kept);
     let prohibited = prohibited_count(kept);
     let mut lines = Vec::new(alloc);
-    lines.push(told_line(alloc, kept.counts(), transient, permanent, prohibited)?)?;
+    lines.push(line_of_counts(alloc, kept.counts(), transient, permanent, prohibited)?)?;
     Ok(lines)
 }
 
@@ -42,15 +44,15 @@ fn prohibited_count(kept: &KeptState) -> u64
 fn all_links(alloc: Global, kept: &KeptState) -> Result<Links, Memory>
     ensures { IfOk result (HasAllLinks kept.now.state) }
 {
-    let end = kept.tree().next_number().get();
+    kept.know_valid();
     let dirs = semantic_dirs(alloc, kept)?;
-    let found = find_links(alloc, kept, dirs.as_slice(), 0, end)?;
+    let found = find_links(alloc, kept, dirs.as_slice(), 0, next_number(kept))?;
     know_lists(&found);
     Ok(found)
 }
 
 /// The line, given the counts of a tree, and how many links of each kind there are.
-fn told_line(
+fn line_of_counts(
     alloc: Global,
     counts: Counts,
     transient: u64,
@@ -58,7 +60,8 @@ fn told_line(
     prohibited: u64,
 ) -> Result<Name, Memory>
     requires { 1 + counts.semantics ≤ counts.directories }
-    ensures { IfOk result (λ line. line ≡ told_line counts transient permanent prohibited) }
+    ensures { IfOk result (λ line. line ≡ line_of_counts counts
+        (counts.directories - 1 - counts.semantics) transient permanent prohibited) }
 {
     let plain = counts.directories - 1 - counts.semantics;
     let mut line = Vec::from_slice(alloc, b"=")?;
@@ -76,39 +79,6 @@ fn told_line(
     Ok(Name::new(line))
 }
 
-/// The semantic directories, in order of number.
-fn semantic_dirs(alloc: Global, kept: &KeptState) -> Result<Vec<Number>, Memory>
-    ensures { IfOk result (λ dirs. dirs.items ≡ filter (is_semantic kept.now.state) (range_with_len 0 kept.now.state.next)) }
-{
-    let mut dirs = Vec::new(alloc);
-    for number in 0..kept.tree().next_number().get() {
-        let dir = Number::new(number);
-        if is_semantic(kept, dir) {
-            dirs.push(dir)?;
-        }
-    }
-    Ok(dirs)
-}
-
-/// Whether a directory has a query.
-fn is_semantic(kept: &KeptState, dir: Number) -> bool
-    ensures { result ≡ is_semantic kept.now.state dir }
-{
-    kept.tree().query(dir).is_some()
-}
-
-/// How many links of a kind there are.
-fn link_count(kept: &KeptState, links: &Links, kind: Kind) -> u64
-    requires { CanCount kept.now.state kind links.now }
-    ensures { result ≡ link_count kind kept.now.state links.now }
-{
-    let mut sum: u64 = 0;
-    for number in 0..kept.tree().next_number().get() {
-        sum += links.count(Number::new(number), kind);
-    }
-    sum
-}
-
 /// Adds how much there is of one thing.
 fn push_count(alloc: Global, line: &mut Vec<u8>, word: &[u8], count: u64) -> Result<(), Memory>
     ensures { OnOk result (line.new.items ≡ line.old.items ++ counted word.now count) }
@@ -118,4 +88,42 @@ fn push_count(alloc: Global, line: &mut Vec<u8>, word: &[u8], count: u64) -> Res
     line.push(b' ')?;
     line.extend_from_slice(count.to_string(alloc)?.as_bytes())?;
     Ok(())
+}
+
+/// The semantic directories.
+fn semantic_dirs(alloc: Global, kept: &KeptState) -> Result<Vec<Number>, Memory>
+    ensures { IfOk result
+        (λ dirs. (dir : ℕ) → IsTrue (is_semantic kept.now.state dir) → Among dirs.items dir) }
+{
+    kept.know_valid();
+    let mut dirs = Vec::new(alloc);
+    for number in 0..next_number(kept) {
+        push_semantic(&mut dirs, kept, number)?;
+    }
+    Ok(dirs)
+}
+
+/// Adds a number, if it is that of a semantic directory.
+fn push_semantic(dirs: &mut Vec<Number>, kept: &KeptState, number: u64) -> Result<(), Memory>
+    ensures { OnOk result (dirs.new.items
+        ≡ dirs.old.items ++ (if is_semantic kept.now.state number then number ∷ [] else [])) }
+{
+    let dir = Number::new(number);
+    if is_semantic(kept, dir) {
+        dirs.push(dir)?;
+    }
+    Ok(())
+}
+
+/// How many links of a kind there are.
+#[tactic(auto, using(crate::proofs::RangeLemmas::sum_next))]
+fn link_count(kept: &KeptState, links: &Links, kind: Kind) -> u64
+    requires { CanCount kept.now.state kind links.now }
+    ensures { result ≡ link_count kind kept.now.state links.now }
+{
+    let mut sum: u64 = 0;
+    for number in 0..next_number(kept) {
+        sum += links.count(Number::new(number), kind);
+    }
+    sum
 }

@@ -1,14 +1,15 @@
 //! The lines of links: those of a semantic directory, and what a query finds anywhere.
-ghost use Rattle.std.specs.Prelude.{◌≡◌, ◌++◌, filter, map, if◌then◌else◌, IfOk, OnOk};
+ghost use Rattle.std.specs.Prelude.{◌≡◌, ◌∷◌, ◌++◌, [], map, if◌then◌else◌, IfOk, OnOk};
 ghost use Rattle.std.specs.List.{flat_map, range_with_len};
-ghost use Rattle.hac_model.specs.Tree.Links.{column, found_by, items};
+ghost use Rattle.hac_model.specs.Tree.Links.{column, found_by, is_item};
 ghost use Rattle.hac_model.specs.Tree.Paths.{path_text};
 ghost use Rattle.hac_model.specs.Run.Play.{found_line, kind_lines, link_lines};
 ghost use Rattle.hac_model.specs.Tree.{path_of};
 ghost use Rattle.link_kinds.specs.Seen.{transient_in};
-ghost use Rattle.tree_answers.specs.Finding.{is_met, kind_given};
+ghost use Rattle.tree_answers.specs.Finding.{is_found_by, kind_given};
 
-use crate::finding::{find_links, is_indexed, is_item, meets};
+use crate::finding::{find_links, satisfies_query};
+use crate::lookups::{is_indexed, is_item, next_number};
 use hac_model::{Kind, Memory, Name, Number, Query};
 use hac_names::print_path;
 use kept_state::{KeptState, push_named};
@@ -20,36 +21,53 @@ use std::alloc::Global;
 pub fn link_lines(alloc: Global, kept: &KeptState, dir: Number) -> Result<Vec<Name>, Memory>
     ensures { IfOk result (λ lines. lines.items ≡ link_lines kept.now.state dir) }
 {
-    let end = kept.tree().next_number().get();
-    let mut dirs = Vec::new(alloc);
-    dirs.push(dir)?;
-    let found = find_links(alloc, kept, dirs.as_slice(), 0, end)?;
+    kept.know_valid();
+    let found = find_links(alloc, kept, &[dir], 0, next_number(kept))?;
     lines_by_kind(alloc, kept, &found, dir)
 }
 
-/// The lines of a directory's items.
+/// The lines of a directory's items, given the links that it finds.
+#[tactic(auto, using(crate::proofs::RangeLemmas::flat_next))]
 fn lines_by_kind(
     alloc: Global,
     kept: &KeptState,
     found: &Links,
     dir: Number,
 ) -> Result<Vec<Name>, Memory>
-    ensures { IfOk result (λ lines. lines.items ≡ flat_map (λ item. kind_lines (path_of kept.now.state item) (kind_given kept.now.state found.now dir item)) (items kept.now.state)) }
+    ensures { IfOk result (λ lines. lines.items ≡ flat_map
+        (λ item. if is_item kept.now.state item
+        then kind_lines (path_of kept.now.state item) (kind_given kept.now.state found.now dir item)
+        else [])
+        (range_with_len 0 kept.now.state.next)) }
 {
     let mut lines = Vec::new(alloc);
-    for number in 0..kept.tree().next_number().get() {
-        let item = Number::new(number);
-        if is_item(kept, item) {
-            push_link(
-                alloc,
-                &mut lines,
-                kept,
-                item,
-                kind_given(kept, found, dir, item),
-            )?;
-        }
+    for number in 0..next_number(kept) {
+        push_item(alloc, &mut lines, kept, found, dir, number)?;
     }
     Ok(lines)
+}
+
+/// Adds the line of a number, if it is that of an item that is linked in the directory.
+fn push_item(
+    alloc: Global,
+    lines: &mut Vec<Name>,
+    kept: &KeptState,
+    found: &Links,
+    dir: Number,
+    number: u64,
+) -> Result<(), Memory>
+    ensures { OnOk result (lines.new.items ≡ lines.old.items ++
+        (if is_item kept.now.state number
+        then kind_lines (path_of kept.now.state number)
+        (kind_given kept.now.state found.now dir number)
+        else [])) }
+{
+    let item = Number::new(number);
+    if is_item(kept, item) {
+        let kind = kind_given(kept, found, dir, item);
+        push_link(alloc, lines, kept, item, kind)?;
+    }
+    Ok(())
 }
 
 /// How an item is linked in a directory, given the links that it finds.
@@ -64,7 +82,8 @@ fn kind_given(kept: &KeptState, found: &Links, dir: Number, item: Number) -> Kin
 
 /// The kind of a link that was found, or that of what isn't linked.
 fn found_kind(found: &Links, dir: Number, item: Number) -> Kind
-    ensures { result ≡ (if column (transient_in found.now) item dir then Kind.Transient else Kind.Unlinked) }
+    ensures { result
+        ≡ (if column (transient_in found.now) item dir then Kind.Transient else Kind.Unlinked) }
 {
     if has_found(found, dir, item) {
         Kind::Transient
@@ -81,7 +100,8 @@ fn push_link(
     item: Number,
     kind: Kind,
 ) -> Result<(), Memory>
-    ensures { OnOk result (lines.new.items ≡ lines.old.items ++ kind_lines (path_of kept.now.state item) kind) }
+    ensures { OnOk result (lines.new.items
+        ≡ lines.old.items ++ kind_lines (path_of kept.now.state item) kind) }
 {
     match kind {
         Kind::Transient => lines.push(path_line(alloc, b"t ", kept, item)?)?,
@@ -98,39 +118,63 @@ pub fn found_lines(
     kept: &KeptState,
     query: &Query<Number>,
 ) -> Result<Vec<Name>, Memory>
-    ensures { IfOk result (λ lines. lines.items ≡ map (found_line kept.now.state) (found_by kept.now.state query.now)) }
+    ensures { IfOk result (λ lines. lines.items
+        ≡ map (found_line kept.now.state) (found_by kept.now.state query.now)) }
 {
-    let end = kept.tree().next_number().get();
+    kept.know_valid();
     let mut dirs = Vec::new(alloc);
     push_named(&mut dirs, query)?;
-    let found = find_links(alloc, kept, dirs.as_slice(), 0, end)?;
-    lines_of_met(alloc, kept, &found, query)
+    let found = find_links(alloc, kept, dirs.as_slice(), 0, next_number(kept))?;
+    lines_of_found(alloc, kept, &found, query)
 }
 
-/// The files that satisfy a query, given the links.
-fn lines_of_met(
+/// The lines of the files that a query finds, given the links.
+#[tactic(auto, using(crate::proofs::RangeLemmas::flat_next))]
+fn lines_of_found(
     alloc: Global,
     kept: &KeptState,
     found: &Links,
     query: &Query<Number>,
 ) -> Result<Vec<Name>, Memory>
-    ensures { IfOk result (λ lines. lines.items ≡ map (found_line kept.now.state) (filter (is_met kept.now.state found.now query.now) (range_with_len 0 kept.now.state.next))) }
+    ensures { IfOk result (λ lines. lines.items ≡ flat_map
+        (λ item. if is_found_by kept.now.state found.now query.now item
+        then found_line kept.now.state item ∷ []
+        else [])
+        (range_with_len 0 kept.now.state.next)) }
 {
     let mut lines = Vec::new(alloc);
-    for number in 0..kept.tree().next_number().get() {
-        let item = Number::new(number);
-        if is_met(kept, found, query, item) {
-            lines.push(path_line(alloc, b"f ", kept, item)?)?;
-        }
+    for number in 0..next_number(kept) {
+        push_found(alloc, &mut lines, kept, found, query, number)?;
     }
     Ok(lines)
 }
 
-/// Whether an item was indexed and satisfies a query.
-fn is_met(kept: &KeptState, found: &Links, query: &Query<Number>, item: Number) -> bool
-    ensures { result ≡ is_met kept.now.state found.now query.now item }
+/// Adds the line of a number, if the query finds it.
+fn push_found(
+    alloc: Global,
+    lines: &mut Vec<Name>,
+    kept: &KeptState,
+    found: &Links,
+    query: &Query<Number>,
+    number: u64,
+) -> Result<(), Memory>
+    ensures { OnOk result (lines.new.items ≡ lines.old.items ++
+        (if is_found_by kept.now.state found.now query.now number
+        then found_line kept.now.state number ∷ []
+        else [])) }
 {
-    is_indexed(kept, item) && meets(kept, found, query, item)
+    let item = Number::new(number);
+    if is_found_by(kept, found, query, item) {
+        lines.push(path_line(alloc, b"f ", kept, item)?)?;
+    }
+    Ok(())
+}
+
+/// Whether a query finds a number: that of an item that was indexed and satisfies it.
+fn is_found_by(kept: &KeptState, found: &Links, query: &Query<Number>, number: Number) -> bool
+    ensures { result ≡ is_found_by kept.now.state found.now query.now number }
+{
+    is_indexed(kept, number) && satisfies_query(kept, found, query, number)
 }
 
 /// A line of a letter and the path of an entry.

@@ -9,8 +9,8 @@ use hac_model::{Kind, Mark, Memory, Number};
 use kept_state::KeptState;
 use std::alloc::Global;
 
-/// Whether a mark changes something: an item becomes permanent where it isn't yet, prohibited where it is a link, and
-/// unmarked where it has a mark.
+/// Whether a mark changes something: an item becomes permanent where it isn't yet, prohibited where
+/// it is a link, and unmarked where it has a mark.
 pub fn may_mark(alloc: Global, kept: &KeptState, mark: Mark) -> Result<bool, Memory>
     requires { IsTrue (is_file_at kept.now.state.entries mark.item) }
     ensures { IfOk result (λ may. may ≡ may_mark kept.now.state mark.dir mark.item mark.kind) }
@@ -26,19 +26,23 @@ pub fn may_mark(alloc: Global, kept: &KeptState, mark: Mark) -> Result<bool, Mem
 /// Whether an item is a link of a directory, added or found.
 pub fn is_linked(alloc: Global, kept: &KeptState, dir: Number, item: Number) -> Result<bool, Memory>
     requires { IsTrue (is_file_at kept.now.state.entries item) }
-    ensures { IfOk result (λ is_linked. is_linked ≡ (is_permanent kept.now.state dir item || has (links kept.now.state dir) item)) }
+    ensures { IfOk result (λ is_linked. is_linked
+        ≡ (is_permanent kept.now.state dir item || has (links kept.now.state dir) item)) }
 {
     Ok(is_permanent(kept, dir, item) || is_found(alloc, kept, dir, item)?)
 }
 
 /// Whether an item has a mark in a directory.
+#[tactic(auto, using(crate::proofs::MarkingLemmas::no_mark))]
 pub fn is_marked(kept: &KeptState, dir: Number, item: Number) -> bool
-    ensures { result ≡ is_permanent kept.now.state dir item || is_prohibited kept.now.state dir item }
+    ensures { result
+        ≡ is_permanent kept.now.state dir item || is_prohibited kept.now.state dir item }
 {
     !kept.mark(dir, item).is_unlinked()
 }
 
 /// Whether an item is a permanent link of a directory.
+#[tactic(auto, using(crate::proofs::MarkingLemmas::permanent_mark))]
 pub fn is_permanent(kept: &KeptState, dir: Number, item: Number) -> bool
     ensures { result ≡ is_permanent kept.now.state dir item }
 {

@@ -6,7 +6,6 @@ ghost use Rattle.hac_model.specs.Tree.Listing.{is_before};
 ghost use Rattle.hac_model.specs.Run.Refusals.{least_path, lesser_path};
 ghost use Rattle.hac_model.specs.Tree.{path_of};
 
-use file_tree::Tree;
 use hac_model::{Memory, Number, Path};
 use hac_names::print_path;
 use kept_state::KeptState;
@@ -15,11 +14,13 @@ use std::cmp::Ordering;
 
 /// The least of the paths of directories whose queries name a directory, if there are any.
 pub fn least_referrer(alloc: Global, kept: &KeptState, dir: Number) -> Result<Option<Path>, Memory>
-    ensures { IfOk result (λ least. least ≡ least_path (map (λ entry. path_of kept.now.state entry.number) (referrers kept.now.state dir))) }
+    ensures { IfOk result (λ least. least
+        ≡ least_path (map (λ entry. path_of kept.now.state entry.number)
+        (referrers kept.now.state dir))) }
 {
     let mut referrers = kept.graph().referrers(dir)?;
     referrers.sort_unstable();
-    least_path(alloc, kept.tree(), referrers.as_slice())
+    least_path(alloc, kept, referrers.as_slice())
 }
 
 /// Whether no query names a directory.
@@ -31,14 +32,14 @@ pub fn is_unreferenced(kept: &KeptState, dir: Number) -> Result<bool, Memory>
 }
 
 /// The least of the paths of entries, compared as they are printed.
-fn least_path(alloc: Global, tree: &Tree, entries: &[Number]) -> Result<Option<Path>, Memory>
-    ensures { IfOk result (λ least. least ≡ least_path (map (path_of tree.now.state) entries.now)) }
+fn least_path(alloc: Global, kept: &KeptState, entries: &[Number]) -> Result<Option<Path>, Memory>
+    ensures { IfOk result (λ least. least ≡ least_path (map (path_of kept.now.state) entries.now)) }
 {
     let mut least: Option<Path> = None;
     let mut left = entries.len();
     'entries: while left > 0 {
         left -= 1;
-        let path = tree.path_of(entries[left])?;
+        let path = kept.path_of(entries[left])?;
         least = match least {
             Some(other) => Some(lesser(alloc, path, other)?),
             None => Some(path),

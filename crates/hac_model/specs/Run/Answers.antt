@@ -4,27 +4,33 @@ use Rattle.hac_model.specs.declared.replies.Deny.{Deny}
 use Rattle.hac_model.specs.declared.replies.Deny.TheVariants.{Refused, Memory}
 use Rattle.hac_model.specs.declared.replies.Refusal.{Refusal}
 
--- the call was denied, and refusing is what was wanted, unless memory ran out
+-- the call gave what was wanted: the value, or a fault that means the same
+abbrev pub Gives : {A F W : Type 0} → (F → Result A W → Type 0) → Result A F → Result A W → Type 0
+Gives means (Ok value) wanted = wanted ≡ Ok value
+Gives means (Err fault) wanted = means fault wanted
+
+-- the same, where a value of the call is seen by a view
+abbrev pub GivesSeen : {A B F W : Type 0} → (A → B) → (F → Result B W → Type 0) → Result A F → Result B W → Type 0
+GivesSeen view means (Ok value) wanted = wanted ≡ Ok (view value)
+GivesSeen view means (Err fault) wanted = means fault wanted
+
+-- the call was denied: refusing is what was wanted, unless memory ran out
 abbrev pub Denies : {A : Type 0} → Deny → Result A Refusal → Type 0
 Denies (Refused refusal) wanted = wanted ≡ Err refusal
 Denies Memory wanted = ⊤
 
--- the call gave what was wanted, the value or the refusal, unless memory ran out
 abbrev pub Answers : {A : Type 0} → Result A Deny → Result A Refusal → Type 0
-Answers (Ok value) wanted = wanted ≡ Ok value
-Answers (Err deny) wanted = Denies deny wanted
+Answers result wanted = Gives Denies result wanted
 
--- the same, where a value of the call is seen by a view
 abbrev pub AnswersSeen : {A B : Type 0} → (A → B) → Result A Deny → Result B Refusal → Type 0
-AnswersSeen view (Ok value) wanted = wanted ≡ Ok (view value)
-AnswersSeen view (Err deny) wanted = Denies deny wanted
+AnswersSeen view result wanted = GivesSeen view Denies result wanted
 
 -- the call was denied for the cause that there is, unless memory ran out
 abbrev pub Refuses : Deny → Option Refusal → Type 0
 Refuses (Refused refusal) cause = cause ≡ Some refusal
 Refuses Memory cause = ⊤
 
--- the call let pass what no cause speaks against, and denied for the cause that there is, unless memory ran out
+-- the call passed where there is no cause, and denied for the cause that there is, unless memory ran out
 abbrev pub Passes : {A : Type 0} → Result A Deny → Option Refusal → Type 0
 Passes (Ok value) cause = cause ≡ None
 Passes (Err deny) cause = Refuses deny cause

@@ -1,5 +1,5 @@
 -- Why a state refuses a command: the first cause of the one order.
-use Rattle.std.specs.Prelude.{ℕ, ◌==◌, ◌||◌, if◌then◌else◌, List, [], ◌∷◌, map, replicate, Option, None, Some, Result, Ok, Err}
+use Rattle.std.specs.Prelude.{ℕ, ◌==◌, ◌||◌, if◌then◌else◌, List, [], ◌∷◌, map, replicate, Option, None, Some, Result, Ok, Err, option_and_then}
 use Rattle.std.specs.Option.{option_map, option_map_or}
 use Rattle.hac_model.specs.Run.Answers.{first_cause}
 use Rattle.hac_model.specs.Tree.Depends.{cycle_of_move, cycle_over, referrers}
@@ -101,39 +101,38 @@ blocked s Index = None
 blocked s Counts = None
 
 -- something is created where nothing is
-abbrev pub makes : Place → (ℕ → List ℕ → Event) → List Event
-makes (There number) make = []
-makes (Free dir name) make = make dir name ∷ []
+abbrev pub makes : Place → (ℕ → List ℕ → Event) → Option Event
+makes (There number) make = None
+makes (Free dir name) make = Some (make dir name)
 
 -- a text is written to the file that is there, or to a new one
-abbrev pub writes : Place → List ℕ → List Event
-writes (There number) text = event.Rewrite number text ∷ []
-writes (Free dir name) text = event.NewFile dir name text ∷ []
+abbrev pub writes : Place → List ℕ → Event
+writes (There number) text = event.Rewrite number text
+writes (Free dir name) text = event.NewFile dir name text
 
 -- an item gets a mark in a directory
-abbrev pub marks : ℕ → ℕ → Kind → List Event
-marks item dir kind = event.Mark (record { dir = dir; item = item; kind = kind }) ∷ []
+abbrev pub marks : ℕ → ℕ → Kind → Event
+marks item dir kind = event.Mark (record { dir = dir; item = item; kind = kind })
 
--- the events of a command that isn't refused. `index` is as many steps as there are dirty files.
+-- the event of a command that isn't refused, where it makes one
+abbrev pub event_of : Resolved → Option Event
+event_of (Mkdir place) = makes place event.Mkdir
+event_of (Rmdir dir) = Some (event.Rmdir dir)
+event_of (Write place text) = Some (writes place text)
+event_of (Mv entry place) = makes place (event.Mv entry)
+event_of (Rm entry) = Some (event.Rm entry)
+event_of (Smkdir place query) = makes place (λ dir name. event.Smkdir dir name query [])
+event_of (Setq dir query) = Some (event.Setq dir query [])
+event_of (Unq dir) = Some (event.Unq dir)
+event_of (Sln item dir) = Some (marks item dir Permanent)
+event_of (Srm item dir) = Some (marks item dir Prohibited)
+event_of (Sforget item dir) = Some (marks item dir Unlinked)
+event_of other = None
+
+-- all its events: `index` is as many steps as there are dirty files
 abbrev pub events_of : State → Resolved → List Event
-events_of s (Mkdir place) = makes place event.Mkdir
-events_of s (Rmdir dir) = event.Rmdir dir ∷ []
-events_of s (Write place text) = writes place text
-events_of s (Cat entry) = []
-events_of s (Ls dir) = []
-events_of s (Mv entry place) = makes place (event.Mv entry)
-events_of s (Rm entry) = event.Rm entry ∷ []
-events_of s (Smkdir place query) = makes place (λ dir name. event.Smkdir dir name query [])
-events_of s (Setq dir query) = event.Setq dir query [] ∷ []
-events_of s (Unq dir) = event.Unq dir ∷ []
-events_of s (Query dir) = []
-events_of s (Sls dir) = []
-events_of s (Sln item dir) = marks item dir Permanent
-events_of s (Srm item dir) = marks item dir Prohibited
-events_of s (Sforget item dir) = marks item dir Unlinked
-events_of s (Find query) = []
 events_of s Index = replicate (dirty s) event.Step
-events_of s Counts = []
+events_of s command = option_map_or (λ event. event ∷ []) (event_of command) []
 
 -- the state that a command would lead to
 abbrev pub led_to : State → Resolved → State
@@ -150,12 +149,16 @@ answer_cause s command = option_map Limit (first_passed (answer_limits (counts (
 abbrev pub cycle_by : State → Option ℕ → Option Refusal
 cycle_by s way = option_map (λ dir. Cycle (path_of s dir)) way
 
--- a directory would depend on itself once it has a query, or another place. A new one can't, as nothing depends on it
--- yet.
+-- the event would let a directory depend on itself, once it has a query or another place. A new one can't, as nothing
+-- depends on it yet.
+abbrev pub cycle_against : State → Event → Option Refusal
+cycle_against s (event.Setq dir query told) = cycle_by s (cycle_over s dir (parent_of s dir) query)
+cycle_against s (event.Mv entry dir name) = cycle_by s (cycle_of_move s entry dir)
+cycle_against s other = None
+
+-- so does the event of a command
 abbrev pub cycle_cause : State → Resolved → Option Refusal
-cycle_cause s (Setq dir query) = cycle_by s (cycle_over s dir (parent_of s dir) query)
-cycle_cause s (Mv entry (Free dir name)) = cycle_by s (cycle_of_move s entry dir)
-cycle_cause s other = None
+cycle_cause s command = option_and_then (cycle_against s) (event_of command)
 
 -- the first cause that doesn't depend on spaces: what blocks the command, then the limits on the tree itself, then a
 -- cycle
@@ -166,11 +169,15 @@ early_cause s command = first_cause (blocked s command ∷ layout_cause s comman
 abbrev pub cause : State → Resolved → Option Refusal
 cause s command = first_cause (early_cause s command ∷ answer_cause s command ∷ [])
 
--- the first cause against the command of a line, or against its paths
-abbrev pub cause_against : State → Result Resolved Refusal → Option Refusal
-cause_against s (Err refusal) = Some refusal
-cause_against s (Ok command) = cause s command
+-- the first cause against a line, where this is what its paths lead to: a path comes before what blocks the command
+abbrev pub cause_against : (Resolved → Option Refusal) → Result Resolved Refusal → Option Refusal
+cause_against against (Err refusal) = Some refusal
+cause_against against (Ok command) = against command
 
--- why the state refuses a line: a path comes before what blocks the command, and that before limits
+-- why the state refuses a line
 abbrev pub refusal : State → Line → Option Refusal
-refusal s line = cause_against s (resolve s line)
+refusal s line = cause_against (cause s) (resolve s line)
+
+-- the same, but for what spaces answer
+abbrev pub early_refusal : State → Line → Option Refusal
+early_refusal s line = cause_against (early_cause s) (resolve s line)

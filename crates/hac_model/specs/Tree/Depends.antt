@@ -56,7 +56,7 @@ first_reaching s dir (other ∷ others) = if reaches s other dir then Some other
 abbrev pub cycle_over : State → ℕ → ℕ → Formula ℕ → Option ℕ
 cycle_over s dir parent query = first_reaching s dir (parent ∷ named_in query)
 
--- the same of an entry that goes to a directory: what isn't semantic depends on nothing
+-- the directories that an entry depends on where it goes to a directory: what isn't semantic depends on nothing
 abbrev pub cycle_of_move : State → ℕ → ℕ → Option ℕ
 cycle_of_move s entry dir = option_and_then (cycle_over s entry dir) (query_at s entry)
 

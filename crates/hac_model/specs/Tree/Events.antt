@@ -58,22 +58,33 @@ may_mark s dir item Prohibited = is_permanent s dir item || has (links s dir) it
 may_mark s dir item Unlinked = is_permanent s dir item || is_prohibited s dir item
 may_mark s dir item Transient = false
 
--- what the event refers to is there, limits aside. An event that no command makes yet never happens.
+-- what the event refers to is in the tree. Marks, links and the queries of other directories are left out. What no
+-- command makes yet is nowhere.
+abbrev pub is_placed : State → Event → Bool
+is_placed s (Mkdir dir name) = is_free s dir name
+is_placed s (NewFile dir name text) = is_free s dir name && is_text text
+is_placed s (Rewrite file text) = is_file_at s.entries file && is_text text
+is_placed s (Smkdir dir name query told) = is_free s dir name && (may_ask s query && length told == 0)
+is_placed s (Setq dir query told) = is_made_directory s.entries dir && (may_ask s query && length told == 0)
+is_placed s (Unq dir) = is_semantic s dir
+is_placed s (Mark mark) = is_item s mark.item && is_semantic s mark.dir
+is_placed s (Mv entry dir name) = is_some (entry_at s.entries entry) && is_free s dir name && not (is_inside s dir entry)
+is_placed s (Rm entry) = is_file_at s.entries entry
+is_placed s (Rmdir dir) = is_made_directory s.entries dir && is_bare s.entries dir
+is_placed s Step = is_some (next_dirty s.entries)
+is_placed s other = false
+
+-- no mark, no link and no query of another directory stands against the event
+abbrev pub is_clear : State → Event → Bool
+is_clear s (Setq dir query told) = is_none (cycle_over s dir (parent_of s dir) query)
+is_clear s (Mark mark) = may_mark s mark.dir mark.item mark.kind
+is_clear s (Mv entry dir name) = is_none (cycle_of_move s entry dir)
+is_clear s (Rmdir dir) = is_unreferenced s dir
+is_clear s other = true
+
+-- nothing stands against the event, and what it refers to is there, limits aside
 abbrev pub is_possible : State → Event → Bool
-is_possible s (Mkdir dir name) = is_free s dir name
-is_possible s (NewFile dir name text) = is_free s dir name && is_text text
-is_possible s (Rewrite file text) = is_file_at s.entries file && is_text text
-is_possible s (Smkdir dir name query told) = is_free s dir name && may_ask s query && length told == 0
-is_possible s (Setq dir query told) =
-    is_made_directory s.entries dir && may_ask s query && is_none (cycle_over s dir (parent_of s dir) query) && length told == 0
-is_possible s (Unq dir) = is_semantic s dir
-is_possible s (Mark mark) = is_item s mark.item && is_semantic s mark.dir && may_mark s mark.dir mark.item mark.kind
-is_possible s (Mv entry dir name) =
-    is_some (entry_at s.entries entry) && is_free s dir name && not (is_inside s dir entry) && is_none (cycle_of_move s entry dir)
-is_possible s (Rm entry) = is_file_at s.entries entry
-is_possible s (Rmdir dir) = is_made_directory s.entries dir && is_bare s.entries dir && is_unreferenced s dir
-is_possible s Step = is_some (next_dirty s.entries)
-is_possible s other = false
+is_possible s event = is_clear s event && is_placed s event
 
 -- a new entry, which takes the next number
 abbrev pub added : State → ℕ → List ℕ → Body → State
@@ -83,14 +94,14 @@ added s dir name body = record s {
 }
 
 -- the entries, of which the one with the number is changed
-abbrev pub changed : ℕ → (Entry → Entry) → List Entry → List Entry
-changed number change [] = []
-changed number change (entry ∷ entries) =
-    (if entry.number == number then change entry else entry) ∷ changed number change entries
+abbrev pub changed_in : ℕ → (Entry → Entry) → List Entry → List Entry
+changed_in number change [] = []
+changed_in number change (entry ∷ entries) =
+    (if entry.number == number then change entry else entry) ∷ changed_in number change entries
 
 -- the state, in which the entry with the number is changed
 abbrev pub changed_at : State → ℕ → (Entry → Entry) → State
-changed_at s number change = record s { entries = changed number change s.entries }
+changed_at s number change = record s { entries = changed_in number change s.entries }
 
 -- the text is replaced, and what was indexed stays shown
 abbrev pub rewritten : List ℕ → Body → Body

@@ -18,13 +18,13 @@ abbrev pub is_text : List ℕ → Bool
 is_text text = nat_le (length text) TEXT_LIMIT
 
 -- the bytes of a file: the longer of its text and its shown text
-abbrev pub weight : Body → ℕ
-weight (File text dirty shown) = max (length text) (option_map_or (λ shown. length shown) shown 0)
-weight other = 0
+abbrev pub file_bytes : Body → ℕ
+file_bytes (File text dirty shown) = max (length text) (option_map_or (λ shown. length shown) shown 0)
+file_bytes other = 0
 
 -- the bytes of all files
 abbrev pub text_size : List Entry → ℕ
-text_size entries = sum_by (λ entry. weight entry.body) entries
+text_size entries = sum_by (λ entry. file_bytes entry.body) entries
 
 -- how many directories there are, of any kind and with the root
 abbrev pub directory_count : List Entry → ℕ

@@ -1,5 +1,5 @@
-//! What no clause says: how high trees are, which names come again, what takes a block, and that ample memory is
-//! enough.
+//! What no clause says: how high trees are, which names come again, what takes a block, and that
+//! ample memory is enough.
 ghost use Rattle.std.specs.Prelude.{IsTrue};
 ghost use Rattle.set_pool.specs.Sets.{is_live};
 
@@ -13,8 +13,8 @@ fn each_set_has_its_own_numbers(rt: HostRuntime) -> Result<(), Fail> {
     pool.reserve(5)?;
     let a = pool.make();
     let b = pool.make();
-    let told = [pool.insert(a, 5), pool.insert(b, 5), pool.insert(a, 5)];
-    assert_eq!(rt; told, [true, true, false]);
+    let fresh = [pool.insert(a, 5), pool.insert(b, 5), pool.insert(a, 5)];
+    assert_eq!(rt; fresh, [true, true, false]);
     pool.free(a);
     assert_eq!(rt; pool.len(b), 1);
     assert_eq!(rt; pool.first_from(b, 0), Some(5));
@@ -22,21 +22,6 @@ fn each_set_has_its_own_numbers(rt: HostRuntime) -> Result<(), Fail> {
     assert!(rt; pool.contains(b, 5));
     assert!(rt; pool.remove(b, 5));
     assert_eq!(rt; pool.len(b), 0);
-    Ok(())
-}
-
-#[test]
-fn a_copy_has_the_same_sets(rt: HostRuntime) -> Result<(), Fail> {
-    let mut pool = SetPool::new(rt.alloc())?;
-    pool.reserve(3)?;
-    let set = pool.make();
-    pool.insert(set, 5);
-    pool.insert(set, 7);
-    let copy = pool.copy()?;
-    pool.remove_everywhere(5);
-    assert_eq!(rt; copy.spare(), 0);
-    assert_eq!(rt; copy.len(set), 2);
-    assert_eq!(rt; pool.len(set), 1);
     Ok(())
 }
 

@@ -9,8 +9,9 @@ use hac_model::{SCRIPT_LIMIT, TEXT_LIMIT, Taken, Text};
 use hac_outside::Source;
 
 impl Reader {
-    /// Takes the bytes that follow a line, all that it asks for or all that the script has. If they are no more than
-    /// a text may have, they stay in the reader until all came; more are dropped as they come.
+    /// Takes the bytes that follow a line, all that it asks for or all that the script has. If they
+    /// are no more than a text may have, they stay in the reader until all came; more are dropped
+    /// as they come.
     pub fn take_put<S: Source>(&mut self, source: &mut S, asked: u64) -> Result<Taken, LineFault>
         // The line that asks for the bytes was given, or a fault came and they are asked for again.
         requires { IsReaderBehind asked self.old (S.seen source.old) }
@@ -22,7 +23,8 @@ impl Reader {
         ensures fault { IfErr result (λ fault. FallsShort fault asked self.old self.new
             (S.seen source.old) (S.seen source.new)) }
 
-        // Bytes that are held are given without a read, so a fault comes only where some are missing.
+        // Bytes that are held are given without a read, so a fault comes only where some are
+        // missing.
         ensures unread { asked ≤ within self.old → source.new ≡ source.old }
         ensures leaves { LeavesReader result self.old self.new (S.seen source.old)
             (S.seen source.new) }
@@ -91,7 +93,8 @@ impl Reader {
         self.held().len() - self.taken.saturating_sub(SCRIPT_LIMIT) as usize
     }
 
-    /// Whether the source has ended. A script of which a byte beyond the limit was taken is too long.
+    /// Whether the source has ended. A script of which a byte beyond the limit was taken is too
+    /// long.
     fn has_ended(&self) -> Result<bool, LineFault>
         ensures ended { IfOk result (λ ended. ended ≡ self.now.ended) }
         ensures room { OnOk result (self.now.taken ≤ SCRIPT_LIMIT) }
@@ -117,7 +120,8 @@ impl Reader {
         Ok(Taken::Whole(Text::new(text)))
     }
 
-    /// Leaves out at most `most` of the bytes that are held, none beyond the limit of a script, and answers how many.
+    /// Leaves out at most `most` of the bytes that are held, none beyond the limit of a script, and
+    /// answers how many.
     fn drop_held(&mut self, most: u64) -> u64
         ensures count { result ≡ min most (within self.old) }
         ensures held { self.new ≡ record self.old { held = drop result self.old.held } }

@@ -8,4 +8,4 @@ use Rattle.hac_store.proofs.opening.apply.Goals as goal
 pub returns-clause-valid : goal.returns-clause-valid
 returns-clause-valid c =
     let after = ap (λ (m : Seen). m.state) c.commit.ensures ∙ ap (λ (m : Seen). apply_all m.state m.ready) c.in_ok-prepare.ensures.ok in
-    subst IsValid (sym after) (apply-valid c.args.machine.now.state c.args.event c.requires.valid c.requires.happens)
+    subst IsValid (sym after) (apply-valid c.args.machine.now.state c.args.change.event c.requires.valid c.requires.can.0.0)

@@ -1,4 +1,4 @@
-use Rattle.hac_top.proofs.WrittenLemmas.{some-flushed}
+use Rattle.hac_top.proofs.TellingLemmas.{some-flushed}
 use Rattle.hac_top.proofs.answering.tell_bytes.Goals as goal
 
 pub returns-clause-err : goal.returns-clause-err

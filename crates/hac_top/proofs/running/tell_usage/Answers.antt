@@ -1,5 +1,5 @@
 use Rattle.hac_top.specs.Run.{usage_line}
-use Rattle.hac_top.proofs.WrittenLemmas.{some-all}
+use Rattle.hac_top.proofs.TellingLemmas.{some-all}
 use Rattle.hac_top.proofs.running.tell_usage.Goals as goal
 
 pub returns-in-Ok-clause-some : goal.returns-in-Ok-clause-some

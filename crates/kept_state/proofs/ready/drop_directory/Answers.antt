@@ -1,11 +1,10 @@
-use Rattle.kept_state.proofs.PutLemmas.{gone-layout, gone-put, gone-there}
+use Rattle.std.proofs.Common.{ap, refl}
+use Rattle.file_tree.specs.Seen.{Seen}
+use Rattle.kept_state.proofs.PutLemmas.{dir-gone, directory-there}
 use Rattle.kept_state.proofs.ready.drop_directory.Goals as goal
 
 pub remove-requires-clause-there : goal.remove-requires-clause-there
-remove-requires-clause-there c = gone-there c.args.kept.now c.args.dir c.requires
-
-pub remove-requires-clause-layout : goal.remove-requires-clause-layout
-remove-requires-clause-layout c = gone-layout c.args.kept.now c.args.dir c.requires
+remove-requires-clause-there c = directory-there c.args.kept.now c.args.dir c.requires.happens
 
 pub returns : goal.returns
-returns c = gone-put c.args.kept.now c.args.dir c.requires c.remove.new.self c.drop_dir.new.self c.drop_node.new.self c.remove.ensures c.drop_node.ensures.edges c.drop_dir.ensures.lists
+returns c = dir-gone c.args.kept.now _ c.args.dir c.requires.linked c.requires.happens (λ n. refl) c.remove.new.self c.drop_dir.new.self c.drop_node.new.self (ap (λ (t : Seen). t.state) c.remove.ensures) c.drop_node.ensures.edges c.drop_dir.ensures.lists c.drop_dir.ensures.sets

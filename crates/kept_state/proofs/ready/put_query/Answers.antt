@@ -1,11 +1,12 @@
-use Rattle.kept_state.proofs.PutLemmas.{query-layout, query-put, query-there}
+use Rattle.std.proofs.Common.{ap, subst}
+use Rattle.hac_model.specs.Tree.Links.{parent_of}
+use Rattle.file_tree.specs.Seen.{Seen}
+use Rattle.kept_state.specs.Parts.{HasEdges}
+use Rattle.kept_state.proofs.PutLemmas.{query-put}
 use Rattle.kept_state.proofs.ready.put_query.Goals as goal
 
-pub set_query-requires-clause-there : goal.set_query-requires-clause-there
-set_query-requires-clause-there c = query-there c.args.kept.now c.args.dir c.args.edges c.requires
-
-pub set_query-requires-clause-layout : goal.set_query-requires-clause-layout
-set_query-requires-clause-layout c = query-layout c.args.kept.now c.args.dir c.args.edges c.requires
-
 pub returns : goal.returns
-returns c = query-put c.args.kept.now c.args.dir c.args.edges c.requires c.set_query.new.self c.set_edges.new.self c.set_query.ensures c.set_edges.ensures.edges
+returns c =
+    let kept = c.args.kept.now in
+    query-put kept c.requires.may.linked c.args.dir c.args.query c.requires.may.happens c.in-Some.edges
+    (subst (HasEdges kept.graph c.args.dir (parent_of kept.tree.state c.args.dir) c.args.query) c.in-Some.is c.requires.suits) c.set_query.new.self c.set_edges.new.self (ap (λ (t : Seen). t.state) c.set_query.ensures) c.set_edges.ensures.edges

@@ -1,8 +1,11 @@
-use Rattle.kept_state.proofs.PutLemmas.{semantic-layout, semantic-put}
+use Rattle.std.proofs.Common.{ap, subst}
+use Rattle.file_tree.specs.Seen.{Seen}
+use Rattle.kept_state.specs.Parts.{HasEdges}
+use Rattle.kept_state.proofs.PutLemmas.{semantic-put}
 use Rattle.kept_state.proofs.ready.put_semantic.Goals as goal
 
-pub add-requires-clause-layout : goal.add-requires-clause-layout
-add-requires-clause-layout c = semantic-layout c.args.kept.now c.args.dir c.args.name c.args.edges c.requires
-
 pub returns : goal.returns
-returns c = semantic-put c.args.kept.now c.args.dir c.args.name c.args.edges c.requires c.add.new.self c.set_edges.new.self c.add.ensures c.set_edges.ensures.edges
+returns c =
+    let kept = c.args.kept.now in
+    semantic-put kept c.requires.may.linked c.args.dir c.args.name c.args.query c.requires.may.happens c.in-Some.edges
+    (subst (HasEdges kept.graph kept.tree.state.next c.args.dir c.args.query) c.in-Some.is c.requires.suits.1) c.add.new.self c.set_edges.new.self (ap (λ (t : Seen). t.state) c.add.ensures) c.set_edges.ensures.edges

@@ -1,6 +1,6 @@
-use Rattle.std.proofs.Common.{◌≡◌, List, ℕ, [], ◌∷◌, ◌++◌, ◌+◌, ap, ◌∙◌, arith}
-use Rattle.hac_model.specs.Tree.Kinds.{is_transient}
-use Rattle.tree_answers.proofs.FoundLemmas.{file-fits, found-alone}
+use Rattle.std.proofs.Common.{◌∷◌, [], ◌+◌, ap, inl, refl, ◌∙◌, arith}
+use Rattle.hac_model.specs.Tree.Depends.{depends}
+use Rattle.tree_answers.proofs.FoundLemmas.{alone-reaches, file-fits, within-one}
 use Rattle.tree_answers.proofs.finding.is_found.Goals as goal
 
 pub overflow_add-get : goal.overflow_add-get
@@ -8,6 +8,6 @@ overflow_add-get c = omega (arith, file-fits c.args.kept.now.state c.args.item c
 
 pub returns : goal.returns
 returns c =
-    let only : c.as_slice.result.now ≡ c.args.dir ∷ [] = c.as_slice.ensures.value ∙ c.in_ok-push.ensures.items ∙ ap (λ (xs : List ℕ). xs ++ c.args.dir ∷ []) c.new-dirs.ensures.items in
-    c.is_transient.ensures ∙ ap is_transient c.kind.ensures.kind
-    ∙ found-alone c.args.kept.now.state c.as_slice.result.now c.get.result (c.get-2.result + 1) c.in_ok-found.found c.args.dir c.args.item only c.get.ensures (ap (λ (n : ℕ). n + 1) c.get-2.ensures) c.in_ok-found.ensures
+    c.has_found.ensures
+    ∙ c.in_ok-found.ensures.links c.args.dir c.args.item (λ is. alone-reaches (depends c.args.kept.now.state) (c.args.dir ∷ []) c.args.dir (inl refl))
+    (within-one c.get.result (c.get-2.result + 1) c.args.item c.get.ensures (ap (λ n. n + 1) c.get-2.ensures))

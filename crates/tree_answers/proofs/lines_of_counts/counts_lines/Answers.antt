@@ -1,15 +1,13 @@
 use Rattle.std.proofs.Common.{◌≤◌, ◌+◌, ◌++◌, ◌∷◌, [], sym, subst, ◌∙◌}
 use Rattle.hac_model.specs.declared.counts.Counts.{Counts}
-use Rattle.tree_answers.specs.Telling.{told_line}
-use Rattle.tree_answers.proofs.CountsLemmas.{line-told}
+use Rattle.tree_answers.proofs.CountsLemmas.{line-counted}
 use Rattle.tree_answers.proofs.PlainLemmas.{plain-counted}
 use Rattle.tree_answers.proofs.lines_of_counts.counts_lines.Goals as goal
 
-pub told_line-requires : goal.told_line-requires
-told_line-requires c = subst (λ (k : Counts). 1 + k.semantics ≤ k.directories) (sym c.counts.ensures.counts) (plain-counted c.args.kept.now.state).0
+pub line_of_counts-requires : goal.line_of_counts-requires
+line_of_counts-requires c = subst (λ (k : Counts). 1 + k.semantics ≤ k.directories) (sym c.counts.ensures.counts) (plain-counted c.args.kept.now.state).0
 
 pub returns : goal.returns
 returns c =
-    let transient = c.link_count-transient.ensures ∙ c.in_ok-found.ensures.all in
     c.in_ok-push.ensures.items
-    ∙ (λ i. c.new-lines.ensures.items i ++ (c.in_ok-told_line.ensures ∙ (λ j. told_line (c.counts.ensures.counts j) (transient j) (c.permanent_count-permanent.ensures j) (c.prohibited_count-prohibited.ensures j)) ∙ line-told c.args.kept.now.state) i ∷ [])
+    ∙ (λ i. c.new-lines.ensures.items i ++ line-counted c.args.kept.now.state c.counts.result c.link_count-transient.result c.permanent_count-permanent.result c.prohibited_count-prohibited.result c.in_ok-line_of_counts.field-0 c.counts.ensures.counts (c.link_count-transient.ensures ∙ c.in_ok-found.ensures.all) c.permanent_count-permanent.ensures c.prohibited_count-prohibited.ensures c.in_ok-line_of_counts.ensures i ∷ [])

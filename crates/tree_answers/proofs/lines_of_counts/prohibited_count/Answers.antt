@@ -1,9 +1,12 @@
 use Rattle.std.proofs.Common.{◌∙◌}
-use Rattle.tree_answers.proofs.CountsLemmas.{prohibited-few, prohibited-sum}
+use Rattle.hac_model.specs.Tree.Links.{prohibited_at, prohibited_count}
+use Rattle.hac_model.specs.declared.marks.Kind.TheVariants.{Prohibited}
+use Rattle.tree_answers.proofs.CountsLemmas.{can-count, count-told, marks-few}
 use Rattle.tree_answers.proofs.lines_of_counts.prohibited_count.Goals as goal
 
 pub link_count-requires : goal.link_count-requires
-link_count-requires c = prohibited-few c.args.kept.now.state c.marks.ensures.valid c.marks.result.now c.marks.ensures.marks
+link_count-requires c = can-count c.args.kept.now.state c.marks.ensures.valid Prohibited c.marks.result.now (prohibited_at c.args.kept.now.state) c.marks.ensures.marks.prohibited (λ dir. (marks-few c.args.kept.now.state c.marks.ensures.valid dir).1)
 
 pub returns : goal.returns
-returns c = c.link_count.ensures ∙ prohibited-sum c.args.kept.now.state c.marks.ensures.valid c.marks.result.now c.marks.ensures.marks
+unfolding prohibited_count
+returns c = c.link_count.ensures ∙ count-told c.args.kept.now.state c.marks.ensures.valid Prohibited c.marks.result.now (prohibited_at c.args.kept.now.state) c.marks.ensures.marks.prohibited

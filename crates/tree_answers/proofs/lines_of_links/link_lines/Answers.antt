@@ -1,13 +1,12 @@
-use Rattle.std.proofs.Common.{◌≡◌, ℕ, List, [], ◌∷◌, ◌++◌, IfOk, ap, sym, subst, ◌∙◌}
-use Rattle.kept_state.proofs.StateLemmas.{same-next}
+use Rattle.std.proofs.Common.{◌≡◌, List, ℕ, [], ◌∷◌, IfOk, inl, refl, subst}
+use Rattle.tree_answers.specs.Finding.{AreFound}
 use Rattle.tree_answers.proofs.LinkLineLemmas.{links-told}
 use Rattle.tree_answers.proofs.lines_of_links.link_lines.Goals as goal
 
 pub returns : goal.returns
 returns c =
     let s = c.args.kept.now.state in
-    let only : c.as_slice.result.now ≡ c.args.dir ∷ [] = c.as_slice.ensures.value ∙ c.in_ok-push.ensures.items ∙ ap (λ (xs : List ℕ). xs ++ c.args.dir ∷ []) c.new-dirs.ensures.items in
-    let whole : c.get-end.result ≡ s.next = c.get-end.ensures ∙ c.next_number.ensures.number ∙ sym (same-next s c.tree.result.now.state c.tree.ensures.tree.bares) in
+    let found = subst (λ end. AreFound s (c.args.dir ∷ []) 0 end c.in_ok-found.found) c.next_number.ensures c.in_ok-found.ensures in
     subst (λ (xs : List (List ℕ)). IfOk c.lines_by_kind.result (λ lines. lines.items ≡ xs))
-    (links-told s c.tree.ensures.valid c.as_slice.result.now c.get-end.result whole c.in_ok-found.found c.in_ok-found.ensures c.args.dir only)
+    (links-told s c.know_valid.ensures (c.args.dir ∷ []) c.in_ok-found.found found c.args.dir (inl refl))
     c.lines_by_kind.ensures

@@ -6,11 +6,11 @@ use Rattle.tree_answers.proofs.lines_of_queries.printed.Goals as goal
 
 pub print-requires : goal.print-requires
 print-requires c = record {
-  known = paths-known c.args.tree.now.state c.args.query.now c.add_paths.new.paths (c.in_ok-add_paths.ensures ∙ ap (λ ps. ps ++ map (told_of c.args.tree.now.state) (named_in c.args.query.now)) c.new-paths.ensures);
+  known = paths-known c.args.kept.now.state c.args.query.now c.add_paths.new.paths (c.in_ok-add_paths.ensures ∙ ap (λ ps. ps ++ map (told_of c.args.kept.now.state) (named_in c.args.query.now)) c.new-paths.ensures);
 }
 
 pub returns : goal.returns
 returns c =
     subst (λ (bytes : List ℕ). IfOk c.print.result (λ text. text ≡ bytes))
-    (query-told c.args.tree.now.state c.args.query.now c.add_paths.new.paths (c.in_ok-add_paths.ensures ∙ ap (λ ps. ps ++ map (told_of c.args.tree.now.state) (named_in c.args.query.now)) c.new-paths.ensures))
+    (query-told c.args.kept.now.state c.args.query.now c.add_paths.new.paths (c.in_ok-add_paths.ensures ∙ ap (λ ps. ps ++ map (told_of c.args.kept.now.state) (named_in c.args.query.now)) c.new-paths.ensures))
     c.print.ensures

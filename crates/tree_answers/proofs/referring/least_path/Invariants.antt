@@ -5,7 +5,7 @@ use Rattle.tree_answers.proofs.referring.least_path.Given as goal
 
 -- the least of the paths of those that were looked at: the last ones
 abbrev pub invariant-entries : goal.invariant-entries
-invariant-entries l = (l.left ≤ length l.entries) × (l.least ≡ least_path (map (path_of l.tree.state) (drop l.left l.entries)))
+invariant-entries l = (l.left ≤ length l.entries) × (l.least ≡ least_path (map (path_of l.kept.state) (drop l.left l.entries)))
 
 abbrev pub decreases-entries : goal.decreases-entries
 decreases-entries l = l.left

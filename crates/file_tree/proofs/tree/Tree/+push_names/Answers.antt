@@ -12,12 +12,12 @@ abbrev names : List Entry → List (List ℕ)
 names es = reverse (map (λ (e : Entry). e.name) es)
 
 pub returns-in_default : goal.returns-in_default
-returns-in_default t c = rw (ancestors-none c.args.steps c.args.self.now.state.entries c.args.entry (seen-none c.self.inside c.args.self.now c.self.view_is c.self.invariant c.args.entry c.entry_at.result c.entry_at.ensures c.in_default.is)) (sym (append-nil c.args.path.now))
+returns-in_default t c = rw (ancestors-none c.args.steps c.args.self.now.state.entries c.args.entry (seen-none c.self.inside c.args.self.now c.self.view_is c.self.invariant.shaped c.args.entry c.entry_at.result c.entry_at.ensures c.in_default.is)) (sym (append-nil c.args.path.now))
 
 pub returns : goal.returns
 returns t c =
     let some : 0 < c.args.steps = omega arith in
-    let step = ancestors-next c.args.steps c.args.self.now.state.entries c.args.entry _ some (seen-some c.self.inside c.args.self.now c.self.view_is c.self.invariant c.args.entry c.entry_at.result c.entry_at.ensures c.in-Some.node c.in-Some.is) in
+    let step = ancestors-next c.args.steps c.args.self.now.state.entries c.args.entry _ some (seen-some c.self.inside c.args.self.now c.self.view_is c.self.invariant.shaped c.args.entry c.entry_at.result c.entry_at.ensures c.in-Some.node c.in-Some.is) in
     on_ok-map c.push.result c.push.ensures.ok (λ done.
     done
     ∙ ap (λ (name : List ℕ). c.push_names.new.path ++ name ∷ []) c.in_ok-clone.ensures.cases

@@ -1,10 +1,14 @@
-use Rattle.std.proofs.Common.{◌≡◌, false, inl, ◌∙◌, Err, ap, subst, sym, true}
+use Rattle.std.proofs.Common.{◌≡◌, ℕ, List, [], inr, inl, ◌∙◌, Err, ap, refl, subst, sym, true}
+use Rattle.std.proofs.lemmas.Result.{err_from_is_err_and}
+use Rattle.hac_disk.specs.Told.{Written}
+use Rattle.hac_journal.specs.Records.{log_of}
 use Rattle.hac_model.specs.Laws.{AllHappen}
 use Rattle.hac_model.specs.Tree.Valid.{IsValid}
 use Rattle.hac_model.proofs.EventLemmas.{all-valid}
-use Rattle.hac_core.specs.Settling.{settled_events}
+use Rattle.hac_core.specs.Seen.{Seen as Kept}
+use Rattle.hac_core.specs.Drafts.{settled_events}
 use Rattle.hac_store.specs.Stores.{Seen, Stands}
-use Rattle.hac_store.proofs.PutLemmas.{all-stored, put-moments, put-seen, put-stands, put-state}
+use Rattle.hac_store.proofs.PutLemmas.{all-stored, can-happen, none-stored, put-moments, put-seen, put-stands, put-state}
 use Rattle.hac_store.proofs.RoomLemmas.{end-is, has-room, no-room}
 use Rattle.hac_store.proofs.store.Store.put.Goals as goal
 
@@ -14,78 +18,95 @@ invariant_of-self-in-Ok g c =
     let s = c.self.inside.machine.state in
     let state : c.args.self.now.setting.state ≡ s = ap (λ (x : Seen). x.setting.state) (sym c.self.view_is) in
     let after = put-state c.self.inside.machine c.prepare.new.self c.commit.new.self events c.in_ok-prepare.ensures.ok c.commit.ensures in
-    subst IsValid (sym after) (all-valid events s c.self.invariant (subst (λ t. AllHappen t events) state c.requires.happen))
+    subst IsValid (sym after) (all-valid events s c.self.invariant (subst (λ t. AllHappen t events) state (can-happen c.args.self.now.setting.state c.args.settled c.requires.can)))
 
-pub returns-in-Ok-clause-ok : goal.returns-in-Ok-clause-ok
-returns-in-Ok-clause-ok g c =
-    let events = settled_events c.args.settled in
-    let after = put-state c.self.inside.machine c.prepare.new.self c.commit.new.self events c.in_ok-prepare.ensures.ok c.commit.ensures in
-    put-seen c.args.self.now c.self.inside.machine.state c.commit.new.self.state c.self.inside.start c.self.inside.end c.self.inside.generation c.in-Ok.end c.self.inside.slot c.self.inside.broken events
-    c.self.view_is after (c.in-Ok.ensures.end ∙ end-is c.args.payloads.now events c.self.inside.end c.requires.texts)
+pub returns-in_err-prepare : goal.returns-in_err-prepare
+returns-in_err-prepare g c =
+    let stop = err_from_is_err_and c.from_residual.result c.from_residual.ensures.1 in
+    let same = put-seen c.args.self.now c.self.inside.machine.state c.prepare.new.self.state c.self.inside.start c.self.inside.end c.self.inside.generation c.self.inside.end c.self.inside.slot c.self.inside.broken []
+    c.self.view_is (ap (λ (m : Kept). m.state) c.in_err-prepare.ensures.err) refl in
+    rw (stop.1 ∙ ap Err stop.2)
+    (none-stored g.met.D.Disk.only_now refl (same, refl) refl)
 
-pub returns-in-Ok-clause-room : goal.returns-in-Ok-clause-room
-returns-in-Ok-clause-room g c =
-    let z = c.args.self.now.setting in
-    let size : c.self.inside.end ≡ z.end = ap (λ (x : Seen). x.setting.end) c.self.view_is in
-    let full = rw size at c.in-Ok.ensures.full in
-    λ none.
-    let never : true ≡ false = sym (has-room c.args.payloads.now (settled_events c.args.settled) z c.requires.texts (λ past. let full_now = full.1 past in cc)) ∙ none in
-    absurd cc
-
-pub returns-in-Err-Disk-clause-room : goal.returns-in-Err-Disk-clause-room
-returns-in-Err-Disk-clause-room g c =
-    let z = c.args.self.now.setting in
-    let size : c.self.inside.end ≡ z.end = ap (λ (x : Seen). x.setting.end) c.self.view_is in
-    let full = rw size at c.append.ensures.full in
-    let failed = c.in-Err-Disk.is ∙ ap (λ f. Err f) c.in-Err-Disk.field-0-is in
-    λ none.
-    let never : true ≡ false = sym (has-room c.args.payloads.now (settled_events c.args.settled) z c.requires.texts (λ past. let full_now = sym failed ∙ full.1 past in cc)) ∙ none in
-    absurd cc
-
-pub returns-in-Ok-clause-stands : goal.returns-in-Ok-clause-stands
-returns-in-Ok-clause-stands g c stands =
+pub returns-in-Ok : goal.returns-in-Ok
+returns-in-Ok g c =
     let disk = g.D.Disk in
+    let old = c.args.disk.now in
+    let new = c.append.new.disk in
     let z = c.args.self.now.setting in
     let events = settled_events c.args.settled in
     let size : c.self.inside.end ≡ z.end = ap (λ (x : Seen). x.setting.end) c.self.view_is in
     let state : c.self.inside.machine.state ≡ z.state = ap (λ (x : Seen). x.setting.state) c.self.view_is in
-    let stored = all-stored events z.state (subst IsValid state c.self.invariant) c.requires.happen in
+    let stored = all-stored events z.state (subst IsValid state c.self.invariant) (can-happen c.args.self.now.setting.state c.args.settled c.requires.can) in
     let full = rw size at c.in-Ok.ensures.full in
     let after = put-state c.self.inside.machine c.prepare.new.self c.commit.new.self events c.in_ok-prepare.ensures.ok c.commit.ensures in
     let is = put-seen c.args.self.now c.self.inside.machine.state c.commit.new.self.state c.self.inside.start c.self.inside.end c.self.inside.generation c.in-Ok.end c.self.inside.slot c.self.inside.broken events
     c.self.view_is after (c.in-Ok.ensures.end ∙ end-is c.args.payloads.now events c.self.inside.end c.requires.texts) in
-    subst (λ (x : Seen). Stands (disk.seen c.append.new.disk) (disk.image c.append.new.disk) x.setting) (sym is)
-    (put-stands (disk.seen c.args.disk.now) (disk.seen c.append.new.disk) (disk.image c.args.disk.now) (disk.image c.append.new.disk) z events c.args.payloads.now
-    (g.met.D.Disk.read_is_image c.args.disk.now) c.requires.texts stored (λ past. let never = full.1 past in cc)
-    (rw size at c.in-Ok.ensures.written) c.in-Ok.ensures.settled stands)
+    record {
+      ends = record {
+        room = has-room c.args.payloads.now events z c.requires.texts (λ past. let never = full.1 past in cc);
+        store = is;
+        written =
+            subst (λ (l : List (List ℕ)). Written (g.D.Disk.seen c.args.disk.now) c.args.self.now.setting.end (log_of l) (g.D.Disk.seen c.append.new.disk)) c.requires.texts
+            (rw size at c.in-Ok.ensures.written);
+        settled = c.in-Ok.ensures.settled;
+        place = c.in-Ok.ensures.gate;
+      };
+      stands = λ stands.
+          subst (λ (x : Seen). Stands (g.D.Disk.seen c.append.new.disk) (g.D.Disk.image c.append.new.disk) x.setting) (sym is)
+          (put-stands (disk.seen old) (disk.seen new) (disk.image old) (disk.image new) z events c.args.payloads.now
+          (g.met.D.Disk.read_is_image c.args.disk.now) c.requires.texts stored (λ past. let never = full.1 past in cc)
+          (rw size at c.in-Ok.ensures.written) c.in-Ok.ensures.settled stands);
+      moments =
+          put-moments disk.seen disk.image disk.moment disk.image_since g.met.D.Disk.only_now old new z events c.args.payloads.now c.requires.texts stored
+          (λ past. let never = full.1 past in cc) (rw size at c.append.ensures.any_moment);
+      names = c.append.ensures.attached;
+      told = c.in-Ok.ensures.none (λ fails. cc);
+    }
 
-pub returns-in-Err-Full-clause-full : goal.returns-in-Err-Full-clause-full
-returns-in-Err-Full-clause-full g c is_full =
-    let z = c.args.self.now.setting in
-    let size : c.self.inside.end ≡ z.end = ap (λ (x : Seen). x.setting.end) c.self.view_is in
-    let full = rw size at c.append.ensures.full in
-    no-room c.args.payloads.now (settled_events c.args.settled) z c.requires.some c.requires.texts (full.0 (c.in-Err-Full.is ∙ ap (λ f. Err f) c.in-Err-Full.field-0-is))
-
-pub returns-in-Ok-clause-any_moment : goal.returns-in-Ok-clause-any_moment
-returns-in-Ok-clause-any_moment g c =
+pub returns-in-Err-Disk : goal.returns-in-Err-Disk
+returns-in-Err-Disk g c =
     let disk = g.D.Disk in
+    let old = c.args.disk.now in
+    let new = c.append.new.disk in
     let z = c.args.self.now.setting in
     let events = settled_events c.args.settled in
     let size : c.self.inside.end ≡ z.end = ap (λ (x : Seen). x.setting.end) c.self.view_is in
     let state : c.self.inside.machine.state ≡ z.state = ap (λ (x : Seen). x.setting.state) c.self.view_is in
-    let stored = all-stored events z.state (subst IsValid state c.self.invariant) c.requires.happen in
+    let stored = all-stored events z.state (subst IsValid state c.self.invariant) (can-happen c.args.self.now.setting.state c.args.settled c.requires.can) in
     let full = rw size at c.append.ensures.full in
-    put-moments disk.seen disk.image disk.moment disk.image_since g.met.D.Disk.only_now c.args.disk.now c.append.new.disk z events c.args.payloads.now c.requires.texts stored
-    (λ past. c.append.ensures.unwritten (inl (full.1 past))) (rw size at c.append.ensures.any_moment)
+    let failed = c.in-Err-Disk.is ∙ ap (λ f. Err f) c.in-Err-Disk.field-0-is in
+    let same = put-seen c.args.self.now c.self.inside.machine.state c.prepare.new.self.state c.self.inside.start c.self.inside.end c.self.inside.generation c.self.inside.end c.self.inside.slot c.self.inside.broken []
+    c.self.view_is (ap (λ (m : Kept). m.state) c.in_ok-prepare.ensures.ok) refl in
+    record {
+      ends = (
+        has-room c.args.payloads.now events z c.requires.texts (λ past. let full_now = sym failed ∙ full.1 past in cc),
+        ap (λ (x : Seen). record x { broken = true }) same,
+      );
+      stands = λ _. tt;
+      moments =
+          put-moments disk.seen disk.image disk.moment disk.image_since g.met.D.Disk.only_now old new z events c.args.payloads.now c.requires.texts stored
+          (λ past. c.append.ensures.unwritten (inl (full.1 past))) (rw size at c.append.ensures.any_moment);
+      names = c.append.ensures.attached;
+      told = (c.append.ensures.later, c.append.ensures.cause failed);
+    }
 
-pub returns-in-Err-Disk-clause-any_moment : goal.returns-in-Err-Disk-clause-any_moment
-returns-in-Err-Disk-clause-any_moment g c =
-    let disk = g.D.Disk in
+pub returns-in-Err-Full : goal.returns-in-Err-Full
+returns-in-Err-Full g c =
     let z = c.args.self.now.setting in
     let events = settled_events c.args.settled in
     let size : c.self.inside.end ≡ z.end = ap (λ (x : Seen). x.setting.end) c.self.view_is in
-    let state : c.self.inside.machine.state ≡ z.state = ap (λ (x : Seen). x.setting.state) c.self.view_is in
-    let stored = all-stored events z.state (subst IsValid state c.self.invariant) c.requires.happen in
     let full = rw size at c.append.ensures.full in
-    put-moments disk.seen disk.image disk.moment disk.image_since g.met.D.Disk.only_now c.args.disk.now c.append.new.disk z events c.args.payloads.now c.requires.texts stored
-    (λ past. c.append.ensures.unwritten (inl (full.1 past))) (rw size at c.append.ensures.any_moment)
+    let failed = c.in-Err-Full.is ∙ ap (λ f. Err f) c.in-Err-Full.field-0-is in
+    let quiet = c.append.ensures.unwritten (inl failed) in
+    let same = put-seen c.args.self.now c.self.inside.machine.state c.prepare.new.self.state c.self.inside.start c.self.inside.end c.self.inside.generation c.self.inside.end c.self.inside.slot c.self.inside.broken []
+    c.self.view_is (ap (λ (m : Kept). m.state) c.in_ok-prepare.ensures.ok) refl in
+    none-stored g.met.D.Disk.only_now quiet
+    (no-room c.args.payloads.now events z c.requires.some c.requires.texts (full.0 failed), (same, quiet)) refl
+
+pub returns-in-Err-Memory : goal.returns-in-Err-Memory
+returns-in-Err-Memory g c =
+    let quiet = c.append.ensures.unwritten (inr (c.in-Err-Memory.is ∙ ap (λ f. Err f) c.in-Err-Memory.field-0-is)) in
+    let same = put-seen c.args.self.now c.self.inside.machine.state c.prepare.new.self.state c.self.inside.start c.self.inside.end c.self.inside.generation c.self.inside.end c.self.inside.slot c.self.inside.broken []
+    c.self.view_is (ap (λ (m : Kept). m.state) c.in_ok-prepare.ensures.ok) refl in
+    none-stored g.met.D.Disk.only_now quiet (same, quiet) refl

@@ -1,10 +1,19 @@
-use Rattle.std.proofs.Common.{◌≡◌, true, false, ◌∙◌, sym}
+use Rattle.std.proofs.Common.{◌≡◌, true, false, Err, ap, refl, ◌∙◌, sym}
+use Rattle.std.proofs.lemmas.Result.{err_from_is_err_and}
+use Rattle.hac_store.proofs.PutLemmas.{none-stored}
 use Rattle.hac_store.proofs.RoomLemmas.{steps-have-room}
 use Rattle.hac_store.proofs.store.Store.steps.Goals as goal
 
-pub returns-then-not-room_for-clause-full : goal.returns-then-not-room_for-clause-full
-returns-then-not-room_for-clause-full g c is_full =
-    steps-have-room c.args.self.now.setting c.args.count ∙ sym c.room_for.ensures ∙ c.if-not-room_for.true
+pub returns-then-not-room_for-clause-stores : goal.returns-then-not-room_for-clause-stores
+returns-then-not-room_for-clause-stores g c =
+    none-stored g.met.D.Disk.only_now refl
+    (steps-have-room c.args.self.now.setting c.args.count ∙ sym c.room_for.ensures ∙ c.if-not-room_for.true, (refl, refl)) refl
+
+pub returns-in_err-payloads-clause-stores : goal.returns-in_err-payloads-clause-stores
+returns-in_err-payloads-clause-stores g c =
+    let stop = err_from_is_err_and c.from_residual.result c.from_residual.ensures.1 in
+    rw (stop.1 ∙ ap Err stop.2)
+    (none-stored g.met.D.Disk.only_now refl (refl, refl) refl)
 
 -- past the test there is room
 pub returns-in_err-payloads-clause-room : goal.returns-in_err-payloads-clause-room

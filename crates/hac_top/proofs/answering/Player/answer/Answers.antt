@@ -1,19 +1,26 @@
-use Rattle.std.proofs.Common.{ap, refl, ◌∙◌}
-use Rattle.hac_model.specs.Run.Play.{all_events, item_turn, turns}
-use Rattle.hac_model.specs.Script.Lines.{item_taken}
-use Rattle.shell_lang.specs.declared.reading.Piece.{Piece}
-use Rattle.hac_top.specs.Stops.{is_disk_stop}
-use Rattle.hac_top.specs.TakenLines.{items_of_piece, items_of_taken}
-use Rattle.hac_top.proofs.CrashLemmas.{one-turn}
-use Rattle.hac_top.proofs.StoringLemmas.{stores-same}
+use Rattle.std.proofs.Common.{[], ◌∷◌, refl}
+use Rattle.hac_model.specs.Run.Play.{all_events, refused}
+use Rattle.hac_model.specs.Script.Printed.{text}
+use Rattle.hac_model.specs.declared.limits.LimitWord.TheVariants.{Line}
+use Rattle.hac_model.specs.declared.replies.Refusal.TheVariants.{Limit}
+use Rattle.hac_model.specs.declared.replies.Reply.TheVariants.{Refused}
+use Rattle.hac_store.proofs.PutLemmas.{stands-each}
+use Rattle.hac_top.proofs.StoringLemmas.{refused-told, stops-told, stores-nothing}
 use Rattle.hac_top.proofs.answering.Player.answer.Goals as goal
 
-pub returns-in-Bytes-clause-stores : goal.returns-in-Bytes-clause-stores
-returns-in-Bytes-clause-stores g c =
+pub returns-in-LongLine-clause-ok : goal.returns-in-LongLine-clause-ok
+returns-in-LongLine-clause-ok g c =
+    rw c.in-LongLine.is
+    (refused-told g.met.D.Disk.only_now c.args.disk.now c.args.self.now.store c.tell.new.self.store (g.K.Sink.seen c.args.output.now) (g.K.Sink.seen c.tell.new.output) (Limit Line) c.tell.result
+    c.tell.ensures.store c.requires.place (stores-nothing g.met.D.Disk.only_now c.args.disk.now c.args.self.now.store.setting []) c.tell.ensures.ok)
+
+pub returns-in-LongLine-clause-err : goal.returns-in-LongLine-clause-err
+returns-in-LongLine-clause-err g c =
     let disk = g.D.Disk in
+    let old = c.args.disk.now in
     let setting = c.args.self.now.store.setting in
-    let taken = c.args.line.taken in
-    let item = item_taken c.in-Bytes.line c.args.line.taken in
-    let failed = is_disk_stop c.answer_line.result in
-    stores-same disk.seen disk.image disk.moment disk.image_since disk.attached disk.faults c.args.disk.now c.answer_line.new.disk setting (item_turn setting item).events (all_events (turns setting (items_of_taken c.args.line))) failed failed
-    (ap (λ (piece : Piece). all_events (turns setting (items_of_piece piece taken))) c.in-Bytes.is ∙ one-turn setting item) refl c.answer_line.ensures.stores
+    let turn = refused setting (Limit Line) in
+    rw c.in-LongLine.is
+    (stops-told g.met.D.Disk.only_now old old setting (g.K.Sink.seen c.args.output.now) (g.K.Sink.seen c.tell.new.output) (turn ∷ []) (text (Refused (Limit Line) ∷ [])) c.tell.result
+    refl (stores-nothing g.met.D.Disk.only_now old setting (all_events (turn ∷ [])))
+    (stands-each (disk.seen old) (disk.image old) setting) c.tell.ensures.err)

@@ -1,4 +1,4 @@
-use Rattle.std.proofs.Common.{subst, sym, ap, ◌∙◌, ◌≡◌}
+use Rattle.std.proofs.Common.{subst, sym, ap, ◌∙◌}
 use Rattle.hac_model.specs.Tree.Limits.{counts}
 use Rattle.kept_state.specs.Parts.{state_of}
 use Rattle.kept_state.proofs.StateLemmas.{kept-bares, same-counts}

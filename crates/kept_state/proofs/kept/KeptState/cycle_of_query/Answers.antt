@@ -1,4 +1,4 @@
-use Rattle.std.proofs.Common.{subst, sym, ap, ◌∙◌, ◌≡◌}
+use Rattle.std.proofs.Common.{subst, ◌≡◌}
 use Rattle.std.specs.Prelude.{IfOk}
 use Rattle.hac_model.specs.Tree.Depends.{cycle_over}
 use Rattle.hac_model.specs.Tree.Links.{parent_of}

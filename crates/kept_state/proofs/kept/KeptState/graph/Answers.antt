@@ -1,4 +1,4 @@
-use Rattle.std.proofs.Common.{subst, sym, ap, ◌∙◌, ◌≡◌}
+use Rattle.std.proofs.Common.{subst}
 use Rattle.kept_state.specs.Readers.{AreEdgesOf}
 use Rattle.kept_state.proofs.KeptLemmas.{kept-edges}
 use Rattle.kept_state.specs.Seen.{Seen}

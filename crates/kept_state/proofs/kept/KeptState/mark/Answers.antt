@@ -1,4 +1,4 @@
-use Rattle.std.proofs.Common.{subst, sym, ap, ◌∙◌, ◌≡◌}
+use Rattle.std.proofs.Common.{ap, ◌∙◌}
 use Rattle.kept_state.specs.Parts.{state_of}
 use Rattle.kept_state.specs.Readers.{mark_at}
 use Rattle.kept_state.proofs.ReaderLemmas.{mark-told, marks-of}

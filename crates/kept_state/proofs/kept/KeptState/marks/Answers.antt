@@ -1,4 +1,4 @@
-use Rattle.std.proofs.Common.{subst, sym, ap, ◌∙◌, ◌≡◌}
+use Rattle.std.proofs.Common.{subst}
 use Rattle.kept_state.specs.Readers.{AreMarksOf}
 use Rattle.kept_state.proofs.ReaderLemmas.{marks-of}
 use Rattle.kept_state.specs.Seen.{Seen}

@@ -1,8 +1,6 @@
-use Rattle.std.proofs.Common.{subst, sym, ap, ◌∙◌, ◌≡◌}
+use Rattle.std.proofs.Common.{subst, sym, ◌≡◌}
 use Rattle.std.specs.Prelude.{IfOk, List, ℕ}
-use Rattle.hac_model.specs.Tree.{path_of}
 use Rattle.kept_state.proofs.StateLemmas.{same-path}
-use Rattle.kept_state.specs.Seen.{Seen}
 use Rattle.kept_state.proofs.kept.KeptState.path_of.Goals as goal
 
 pub returns : goal.returns

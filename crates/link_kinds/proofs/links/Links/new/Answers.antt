@@ -1,4 +1,4 @@
-use Rattle.link_kinds.proofs.AddedLemmas.{kept-new}
+use Rattle.link_kinds.proofs.KeptLemmas.{kept-new}
 use Rattle.link_kinds.proofs.links.Links.new.Goals as goal
 
 pub invariant_of-result : goal.invariant_of-result

@@ -1,54 +1,42 @@
-use Rattle.std.proofs.Common.{ap, refl, subst, sym, ◌∙◌, ◌≡◌, ℕ, true, None}
+use Rattle.std.proofs.Common.{◌≡◌, ℕ, Some, None, [], cond, ap, refl, sym, ◌∙◌}
 use Rattle.std.specs.Map.{lookup}
-use Rattle.std.specs.Prelude.{◌==◌, ◌||◌, is_some, nat_eq}
+use Rattle.std.specs.Prelude.{◌==◌, is_some, nat_eq}
 use Rattle.indexmap.specs.IndexMap.{get}
-use Rattle.link_kinds.specs.Kept.{AreLinksKept, seen_of}
-use Rattle.link_kinds.specs.Seen.{SameKinds, has_sets}
-use Rattle.link_kinds.proofs.AddedLemmas.{kept-added, none-there, same-added, sets-added, sets-there}
-use Rattle.link_kinds.proofs.KeptLemmas.{kept-same, same-kinds, sets-kept}
+use Rattle.link_kinds.specs.Kept.{AreFresh, ChangesAll, is_one_of, seen_of}
+use Rattle.link_kinds.specs.Seen.{has_sets}
+use Rattle.link_kinds.proofs.KeptLemmas.{gets-sets, kept-added, none-there, same-added, sets-changed, sets-kept, sets-there}
+use Rattle.link_kinds.proofs.SeenLemmas.{has-seen}
 use Rattle.link_kinds.proofs.links.Links.prepare.Goals as goal
-
-pub invariant_of-self : goal.invariant_of-self
-invariant_of-self c = kept-same c.self.inside (record c.self.inside { pool = c.reserve.new.self }) (λ d. refl) c.reserve.ensures.same c.self.invariant
-
-pub invariant_of-self-then-is_some : goal.invariant_of-self-then-is_some
-invariant_of-self-then-is_some c = kept-same c.self.inside (record c.self.inside { pool = c.reserve.new.self }) (λ d. refl) c.reserve.ensures.same c.self.invariant
 
 pub returns-then-is_some-clause-sets : goal.returns-then-is_some-clause-sets
 returns-then-is_some-clause-sets c =
     let new = record c.self.inside { pool = c.reserve.new.self } in
-    let there : is_some (get nat_eq c.self.inside.dirs c.args.dir) ≡ true = ap is_some (sym c.sets_at.ensures) ∙ sym c.is_some.ensures ∙ c.if-is_some.true in
-    subst (λ old. (d : ℕ) → has_sets (seen_of new) d ≡ (has_sets old d || d == c.args.dir)) c.self.view_is (sets-there c.self.inside new c.args.dir there (λ d. refl))
+    sets-there c.args.self.now (seen_of new) c.args.dir (sets-kept c.self.inside new c.args.self.now c.self.view_is (λ d. refl))
+    (has-seen c.self.inside c.args.self.now c.self.view_is c.args.dir ∙ ap is_some (sym c.sets_at.ensures) ∙ sym c.is_some.ensures ∙ c.if-is_some.true)
 
-pub invariant_of-self-in_err-reserve-2 : goal.invariant_of-self-in_err-reserve-2
-invariant_of-self-in_err-reserve-2 c = kept-same c.self.inside (record c.self.inside { dirs = c.reserve-2.new.self }) (λ d. ap (lookup (nat_eq d)) c.reserve-2.ensures.entries) (λ set. refl) c.self.invariant
-
-pub invariant_of-self-in_err-reserve_more : goal.invariant_of-self-in_err-reserve_more
-invariant_of-self-in_err-reserve_more c = kept-same c.self.inside (record c.self.inside { dirs = c.reserve-2.new.self; pool = c.reserve_more.new.pool }) (λ d. ap (lookup (nat_eq d)) c.reserve-2.ensures.entries) c.reserve_more.ensures.same c.self.invariant
-
+-- the directory had no sets, and gets those that were made
 module _ (c : goal.After-put_sets) where
-  none : get nat_eq c.reserve-2.new.self c.args.dir ≡ None
-  none = ap (lookup (nat_eq c.args.dir)) c.reserve-2.ensures.entries ∙ sym c.sets_at.ensures ∙ none-there c.sets_at.result (sym c.is_some.ensures ∙ c.if-is_some.false)
+  none : get nat_eq c.self.inside.dirs c.args.dir ≡ None
+  none = sym c.sets_at.ensures ∙ none-there c.sets_at.result (sym c.is_some.ensures ∙ c.if-is_some.false)
+
+  dirs : (d : ℕ) → get nat_eq c.put_sets.new.dirs d ≡ cond (d == c.args.dir) (Some c.make-sets.result) (get nat_eq c.self.inside.dirs d)
+  dirs d = c.put_sets.ensures d ∙ ap (λ entries. cond (d == c.args.dir) (Some c.make-sets.result) (lookup (nat_eq d) entries)) c.reserve-2.ensures.entries
+
+  made : ChangesAll c.self.inside.pool c.make-sets.new.pool c.make-sets.result (Some [])
+  made set = c.make-sets.ensures.made set ∙ ap (cond (is_one_of c.make-sets.result set) (Some [])) (c.reserve_more.ensures.same set)
+
+  fresh : AreFresh c.self.inside.pool c.make-sets.result
+  fresh set one = ap is_some (sym (c.reserve_more.ensures.same set)) ∙ c.make-sets.ensures.fresh set one
 
 pub invariant_of-self-2 : goal.invariant_of-self-2
 invariant_of-self-2 c =
-    let mid = record c.self.inside { dirs = c.reserve-2.new.self; pool = c.reserve_more.new.pool } in
-    let new = record c.self.inside { dirs = c.put_sets.new.dirs; pool = c.make-sets.new.pool } in
-    let kept : AreLinksKept mid = kept-same c.self.inside mid (λ d. ap (lookup (nat_eq d)) c.reserve-2.ensures.entries) c.reserve_more.ensures.same c.self.invariant in
-    kept-added mid new c.args.dir c.make-sets.result c.put_sets.ensures kept (none c) c.make-sets.ensures.empty c.make-sets.ensures.fresh c.make-sets.ensures.others c.make-sets.ensures.live c.make-sets.ensures.differ c.make-sets.ensures.rise
+    kept-added c.self.inside (record c.self.inside { dirs = c.put_sets.new.dirs; pool = c.make-sets.new.pool }) c.self.invariant c.args.dir c.make-sets.result (none c) (dirs c) (made c) (fresh c) c.make-sets.ensures.differ c.make-sets.ensures.rise
 
 pub returns-clause-sets : goal.returns-clause-sets
-returns-clause-sets c =
-    let mid = record c.self.inside { dirs = c.reserve-2.new.self; pool = c.reserve_more.new.pool } in
-    let new = record c.self.inside { dirs = c.put_sets.new.dirs; pool = c.make-sets.new.pool } in
-    subst (λ old. (d : ℕ) → has_sets (seen_of new) d ≡ (has_sets old d || d == c.args.dir)) c.self.view_is
-    (λ d. sets-added mid new c.args.dir c.make-sets.result c.put_sets.ensures d ∙ ap (λ b. b || d == c.args.dir) (sets-kept c.self.inside mid (λ d. ap (lookup (nat_eq d)) c.reserve-2.ensures.entries) d))
+returns-clause-sets c = λ d.
+    sets-changed c.self.inside (record c.self.inside { dirs = c.put_sets.new.dirs; pool = c.make-sets.new.pool }) c.args.self.now c.self.view_is c.args.dir (Some c.make-sets.result) (dirs c) d
+    ∙ gets-sets (d == c.args.dir) (has_sets c.args.self.now d)
 
 pub returns-clause-kinds : goal.returns-clause-kinds
 returns-clause-kinds c =
-    let mid = record c.self.inside { dirs = c.reserve-2.new.self; pool = c.reserve_more.new.pool } in
-    let new = record c.self.inside { dirs = c.put_sets.new.dirs; pool = c.make-sets.new.pool } in
-    let kept : AreLinksKept mid = kept-same c.self.inside mid (λ d. ap (lookup (nat_eq d)) c.reserve-2.ensures.entries) c.reserve_more.ensures.same c.self.invariant in
-    subst (λ old. SameKinds old (seen_of new)) c.self.view_is
-    (λ d. same-added mid new c.args.dir c.make-sets.result c.put_sets.ensures kept (none c) c.make-sets.ensures.empty c.make-sets.ensures.fresh c.make-sets.ensures.others d
-    ∙ same-kinds c.self.inside mid (λ d. ap (lookup (nat_eq d)) c.reserve-2.ensures.entries) c.reserve_more.ensures.same d)
+    same-added c.self.inside (record c.self.inside { dirs = c.put_sets.new.dirs; pool = c.make-sets.new.pool }) c.self.invariant c.args.dir c.make-sets.result (none c) (dirs c) (made c) (fresh c) c.args.self.now c.self.view_is

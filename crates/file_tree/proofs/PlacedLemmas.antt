@@ -1,0 +1,86 @@
+-- The counts of a state after events whose references are in it.
+use Rattle.std.proofs.Common.{◌≡◌, ℕ, true, false, cond, List, [], ◌∷◌, length, map, refl, ap, sym, ◌∙◌, arith}
+use Rattle.std.specs.Prelude.{◌==◌, max, Option, Some, None, IsTrue}
+use Rattle.std.specs.Option.{option_map, option_map_or}
+use Rattle.hac_model.specs.Query.Formula.{Formula}
+use Rattle.hac_model.specs.Tree.Bare.{bare, bare_body}
+use Rattle.hac_model.specs.Tree.Events.{apply, asking, changed_in, changed_at, edited, forgotten, is_bare, marked, removed}
+use Rattle.hac_model.specs.Tree.Limits.{counts, long_paths, file_bytes}
+use Rattle.hac_model.specs.Tree.{entry_at, is_directory, is_dirty, is_file, is_file_at, is_made_directory}
+use Rattle.hac_model.specs.Tree.Valid.{IsLayout}
+use Rattle.hac_model.specs.declared.counts.Counts.{Counts}
+use Rattle.hac_model.specs.declared.events.Event.{Event}
+use Rattle.hac_model.specs.declared.events.Event.TheVariants as event
+use Rattle.hac_model.specs.declared.marks.Kind.{Kind}
+use Rattle.hac_model.specs.declared.marks.Mark.{Mark}
+use Rattle.hac_model.specs.declared.states.Body.{Body}
+use Rattle.hac_model.specs.declared.states.Body.TheVariants as body
+use Rattle.hac_model.specs.declared.states.Entry.{Entry}
+use Rattle.hac_model.specs.declared.states.State.{State}
+use Rattle.hac_model.proofs.AlikeLemmas.{counts-bare}
+use Rattle.hac_model.proofs.BareLemmas.{forgotten-entries, marked-bare}
+use Rattle.hac_model.proofs.PassedLemmas.{bare-passes, removed-passes}
+use Rattle.hac_model.proofs.ValidLemmas.{file-bare}
+use Rattle.file_tree.specs.Answers.{is_dirty_at}
+use Rattle.file_tree.specs.Counting.{share_of}
+use Rattle.file_tree.proofs.CountingLemmas.{long-none}
+
+-- no path is long once something is removed
+
+pub file-short : (s : State) (file : ℕ) → IsLayout s → is_file_at s.entries file ≡ true → long_paths (removed s file).entries ≡ 0
+file-short s file h is = long-none (removed s file) (removed-passes s file h (file-bare s file h is))
+
+pub bare-short : (s : State) (dir : ℕ) → IsLayout s → is_bare s.entries dir ≡ true → long_paths (removed s dir).entries ≡ 0
+bare-short s dir h is = long-none (removed s dir) (bare-passes s dir h is)
+
+-- marks count for nothing
+same-counts : (s t : State) → bare s ≡ bare t → counts s ≡ counts t
+same-counts s t same = sym (counts-bare s) ∙ ap counts same ∙ counts-bare t
+
+pub forgotten-counts : (s : State) (n : ℕ) → counts (forgotten s n) ≡ counts s
+forgotten-counts s n = same-counts (forgotten s n) s (λ i. record { next = s.next; entries = forgotten-entries n s.entries i; sessions = [] })
+
+marked-counts : (s : State) (dir item : ℕ) (kind : Kind) → counts s ≡ counts (changed_at s dir (edited (marked item kind)))
+marked-counts s dir item kind = same-counts s (changed_at s dir (edited (marked item kind))) (λ i. record { next = s.next; entries = sym (same s.entries) i; sessions = [] })
+  where
+    same : (es : List Entry) → map (edited bare_body) (changed_in dir (edited (marked item kind)) es) ≡ map (edited bare_body) es
+    same [] = refl
+    same (e ∷ es) =
+        let first : edited bare_body (cond (e.number == dir) (edited (marked item kind) e) e) ≡ edited bare_body e = elim (e.number == dir) as (λ b. edited bare_body (cond b (edited (marked item kind) e) e) ≡ edited bare_body e) [
+          | true ↦ (λ i. record e { body = marked-bare item kind e.body i })
+          | false ↦ refl
+        ] in
+        λ i. first i ∷ same es i
+
+pub mark-counts : (s : State) (e : Event) (mark : Mark) → e ≡ event.Mark mark → counts s ≡ counts (apply s e)
+mark-counts s e mark is = marked-counts s mark.dir mark.item mark.kind ∙ ap (λ (e : Event). counts (apply s e)) (sym is)
+
+-- What the entry of an edited body counts for.
+
+-- a directory that asks something counts as a semantic one
+pub asking-share : (s : State) (dir : ℕ) (query : Formula ℕ) (share : Counts) → is_made_directory s.entries dir ≡ true → ((asked : Formula ℕ) (permanent prohibited : List ℕ) → share ≡ share_of (body.Semantic asked permanent prohibited)) →
+    (e : Entry) → entry_at s.entries dir ≡ Some e → share ≡ share_of (asking query e.body)
+asking-share s dir query share made each e found = in_body e.body (sym (ap (λ (o : Option Entry). option_map_or is_directory (option_map (λ (e : Entry). e.body) o) false) found) ∙ made)
+  where
+    in_body : (b : Body) → is_directory b ≡ true → share ≡ share_of (asking query b)
+    in_body body.Dir is = each query [] []
+    in_body (body.Semantic old permanent prohibited) is = each query permanent prohibited
+    in_body other is = absurd cc
+
+-- a new file counts for its text
+pub new-file : (text : List ℕ) (bytes : ℕ) (share : Counts) → bytes ≡ length text → ((b : Body) → IsTrue (is_file b) → file_bytes b ≡ bytes → is_dirty b ≡ true → share ≡ share_of b) → share ≡ share_of (body.File text true None)
+new-file text bytes share long each =
+    let all : max (length text) 0 ≡ bytes = grind (arith, long) in
+    each (body.File text true None) refl all refl
+
+-- what is dirty is a file
+pub dirty-file : (es : List Entry) (n : ℕ) → is_dirty_at es n ≡ true → is_file_at es n ≡ true
+dirty-file es n = in_entry (entry_at es n)
+  where
+    in_body : (b : Body) → is_dirty b ≡ true → is_file b ≡ true
+    in_body (body.File text dirty shown) is = refl
+    in_body other is = absurd cc
+
+    in_entry : (o : Option Entry) → option_map_or is_dirty (option_map (λ (e : Entry). e.body) o) false ≡ true → option_map_or is_file (option_map (λ (e : Entry). e.body) o) false ≡ true
+    in_entry None is = absurd cc
+    in_entry (Some e) is = in_body e.body is

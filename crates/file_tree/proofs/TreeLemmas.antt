@@ -1,0 +1,65 @@
+-- What a tree keeps beside its nodes, after a change.
+use Rattle.std.proofs.Common.{◌≡◌, ℕ, false, subst, refl, ap, sym, ◌∙◌}
+use Rattle.std.specs.Prelude.{◌||◌, nat_eq}
+use Rattle.std.specs.BTreeSet.{contains}
+use Rattle.std.specs.Ordering.{nat_cmp}
+use Rattle.std.proofs.Math.Bool.{or-false}
+use Rattle.hac_model.specs.Tree.Events.{changed_at, edited}
+use Rattle.hac_model.specs.Tree.Limits.{counts}
+use Rattle.hac_model.specs.Tree.Valid.{IsLayout}
+use Rattle.hac_model.specs.declared.states.Body.{Body}
+use Rattle.hac_model.specs.declared.states.State.{State}
+use Rattle.file_tree.specs.Answers.{is_dirty_at}
+use Rattle.file_tree.specs.Nodes.{entry_of, has_node, kids_of, name_of}
+use Rattle.file_tree.specs.Ready.{is_awaited}
+use Rattle.file_tree.specs.Seen.{Seen}
+use Rattle.file_tree.specs.Shape.{HasSpare, IsShaped, IsTree, seen_of, state_of}
+use Rattle.file_tree.specs.declared.ready.Ready.TheVariants.{Nothing}
+use Rattle.file_tree.specs.declared.tree.Tree.TheInside.{Inside}
+use Rattle.file_tree.proofs.StateLemmas.{shaped-edited, shaped-prepared, state-changed, state-same, touched_at}
+
+-- the tree has become this state, and is ready for nothing
+pub became : (u : Inside) (after : State) → seen_of u ≡ record { state = after; ready = Nothing } → IsShaped u → u.counts ≡ counts after → ((n : ℕ) → contains nat_cmp u.to_index n ≡ is_dirty_at after.entries n) → IsTree u
+became u after seen shaped told dirty = record {
+  shaped = shaped;
+  counts_are = told ∙ ap (λ (x : Seen). counts x.state) (sym seen);
+  dirty_are = λ n. dirty n ∙ sym (or-false (is_dirty_at after.entries n)) ∙ ap (λ (x : Seen). is_dirty_at x.state.entries n || is_awaited u.next x.ready n) (sym seen);
+}
+
+-- where nothing is awaited, the set has just what is dirty
+pub set-clean : (t : Inside) → IsTree t → t.ready ≡ Nothing → (n : ℕ) → contains nat_cmp t.to_index n ≡ is_dirty_at (state_of t).entries n
+set-clean t h none n = h.dirty_are n ∙ ap (λ r. is_dirty_at (state_of t).entries n || is_awaited t.next r n) none ∙ or-false (is_dirty_at (state_of t).entries n)
+
+-- a tree with other nodes that are no entries, ready for another change
+pub tree-prepared : (t : Inside) → IsTree t → (u : Inside) → u.next ≡ t.next → ((n : ℕ) → entry_of u.nodes n ≡ entry_of t.nodes n) → ((n : ℕ) → nat_eq t.next n ≡ false → name_of u.nodes n ≡ name_of t.nodes n) → ((dir : ℕ) → kids_of u.nodes dir ≡ kids_of t.nodes dir) →
+    ((n : ℕ) → nat_eq t.next n ≡ false → has_node u.nodes n ≡ has_node t.nodes n) → HasSpare u.ready u.nodes u.next u.spare.items → u.counts ≡ t.counts →
+    ((n : ℕ) → contains nat_cmp u.to_index n ≡ (is_dirty_at (state_of t).entries n || is_awaited t.next u.ready n)) → IsTree u
+tree-prepared t h u next told names kids numbers spare same set =
+    let state : state_of u ≡ state_of t = state-same t (seen_of t) refl h.shaped u next told in
+    record {
+      shaped = shaped-prepared t (seen_of t) refl h.shaped u next told names kids numbers spare;
+      counts_are = same ∙ h.counts_are ∙ sym (ap counts state);
+      dirty_are = λ n. set n ∙ (λ i. is_dirty_at (sym state i).entries n || is_awaited (sym next i) u.ready n);
+    }
+
+-- it is seen as this state, and keeps all
+abbrev pub Became : Inside → State → Type 0
+Became u after = (seen_of u ≡ record { state = after; ready = Nothing }) × IsTree u
+
+module _ (t : Inside) (s : Seen) (view : seen_of t ≡ s) (h : IsTree t) where
+  -- the set has what is dirty, and what is awaited
+  pub set-has : (n : ℕ) → contains nat_cmp t.to_index n ≡ (is_dirty_at s.state.entries n || is_awaited s.state.next s.ready n)
+  set-has n = h.dirty_are n ∙ ap (λ (x : Seen). is_dirty_at x.state.entries n || is_awaited x.state.next x.ready n) view
+
+  -- where nothing is, it has just what is dirty
+  pub set-dirty : s.ready ≡ Nothing → (n : ℕ) → contains nat_cmp t.to_index n ≡ is_dirty_at s.state.entries n
+  set-dirty none n = set-has n ∙ ap (λ r. is_dirty_at s.state.entries n || is_awaited s.state.next r n) none ∙ or-false (is_dirty_at s.state.entries n)
+
+  -- the body of an entry was edited
+  pub tree-edited : (u : Inside) (m : ℕ) (edit : Body → Body) → u.next ≡ t.next → u.ready ≡ Nothing → ((n : ℕ) → entry_of u.nodes n ≡ touched_at m (edited edit) (entry_of t.nodes) n) → ((n : ℕ) → name_of u.nodes n ≡ name_of t.nodes n) →
+      ((dir : ℕ) → kids_of u.nodes dir ≡ kids_of t.nodes dir) → ((n : ℕ) → has_node u.nodes n ≡ has_node t.nodes n) → IsLayout (changed_at s.state m (edited edit)) → u.counts ≡ counts (changed_at s.state m (edited edit)) →
+      ((n : ℕ) → contains nat_cmp u.to_index n ≡ is_dirty_at (changed_at s.state m (edited edit)).entries n) → Became u (changed_at s.state m (edited edit))
+  tree-edited u m edit next ready told names kids numbers layout same dirty =
+      let seen : seen_of u ≡ record { state = changed_at s.state m (edited edit); ready = Nothing } = λ i. record { state = state-changed t s view h.shaped u m (edited edit) next told i; ready = ready i } in
+      let spare : HasSpare u.ready u.nodes u.next u.spare.items = subst (λ r. HasSpare r u.nodes u.next u.spare.items) (sym ready) tt in
+      (seen, became u (changed_at s.state m (edited edit)) seen (shaped-edited t s view h.shaped u m edit next told names kids numbers layout spare) same dirty)

@@ -1,0 +1,11 @@
+use Rattle.std.proofs.Common.{◌≡◌, ◌-◌, true, take}
+use Rattle.std.specs.List.{list_all}
+use Rattle.file_tree.specs.Depths.{is_shallow}
+use Rattle.file_tree.proofs.tree.Tree.+is_shallow.Given as goal
+
+abbrev pub decreases-is_shallow : goal.decreases-is_shallow
+decreases-is_shallow l = l.names
+
+-- the children so far pass
+abbrev pub invariant-loop-child : goal.invariant-loop-child
+invariant-loop-child l = list_all (is_shallow (l.names - 1) l.self.state) (take l.child-index l.children) ≡ true

@@ -1,0 +1,44 @@
+use Rattle.std.proofs.Common.{◌∙◌, [], None, ap, subst, sym, true}
+use Rattle.std.specs.Prelude.{IsTrue}
+use Rattle.std.proofs.lemmas.Bool.{and_parts}
+use Rattle.hac_model.specs.Tree.Events.{apply, asking, is_bare, removed}
+use Rattle.hac_model.specs.Tree.Limits.{counts}
+use Rattle.hac_model.specs.Tree.{is_made_directory}
+use Rattle.hac_model.specs.declared.events.Event.{Event}
+use Rattle.hac_model.specs.declared.states.Body.TheVariants as body
+use Rattle.hac_model.specs.Tree.Events.{is_placed}
+use Rattle.file_tree.proofs.PlacedLemmas.{asking-share, bare-short, file-short, forgotten-counts, mark-counts, new-file}
+use Rattle.file_tree.proofs.tree.Tree.counts_after.Goals as goal
+
+pub without-requires-clause-short : goal.without-requires-clause-short
+without-requires-clause-short c = file-short c.args.self.now.state c.in-Rm.entry c.know_layout.ensures.layout (subst (λ (e : Event). IsTrue (is_placed c.args.self.now.state e)) c.in-Rm.is c.requires)
+
+pub without-requires-in-Rmdir-clause-short : goal.without-requires-in-Rmdir-clause-short
+without-requires-in-Rmdir-clause-short c =
+    let s = c.args.self.now.state in
+    bare-short s c.in-Rmdir.dir c.know_layout.ensures.layout (and_parts (is_made_directory s.entries c.in-Rmdir.dir) (is_bare s.entries c.in-Rmdir.dir) (subst (λ (e : Event). IsTrue (is_placed s e)) c.in-Rmdir.is c.requires)).1
+
+pub returns-in-NewFile : goal.returns-in-NewFile
+returns-in-NewFile c =
+    c.with_entry-in-NewFile.ensures c.in-NewFile.name (body.File c.in-NewFile.text true None) (new-file c.in-NewFile.text c.len.result c.of_file.result c.len.ensures.len c.of_file.ensures.share)
+    ∙ ap (λ (e : Event). counts (apply c.args.self.now.state e)) (sym c.in-NewFile.is)
+
+pub returns-in-Smkdir : goal.returns-in-Smkdir
+returns-in-Smkdir c =
+    c.with_entry-in-Smkdir.ensures c.in-Smkdir.name (body.Semantic c.in-Smkdir.query [] []) (c.of_semantic.ensures.share c.in-Smkdir.query [] [])
+    ∙ ap (λ (e : Event). counts (apply c.args.self.now.state e)) (sym c.in-Smkdir.is)
+
+pub returns-in-Setq : goal.returns-in-Setq
+returns-in-Setq c =
+    let s = c.args.self.now.state in
+    let placed = subst (λ (e : Event). IsTrue (is_placed s e)) c.in-Setq.is c.requires in
+    c.with_share.ensures (asking c.in-Setq.query) (asking-share s c.in-Setq.dir c.in-Setq.query c.of_semantic-in-Setq.result (and_parts (is_made_directory s.entries c.in-Setq.dir) _ placed).0 c.of_semantic-in-Setq.ensures.share)
+    ∙ ap (λ (e : Event). counts (apply s e)) (sym c.in-Setq.is)
+
+pub returns-in-Rm : goal.returns-in-Rm
+returns-in-Rm c =
+    let s = c.args.self.now.state in
+    c.without.ensures ∙ sym (forgotten-counts (removed s c.in-Rm.entry) c.in-Rm.entry) ∙ ap (λ (e : Event). counts (apply s e)) (sym c.in-Rm.is)
+
+pub returns-in-Mark : goal.returns-in-Mark
+returns-in-Mark c = c.counts.ensures.counts ∙ mark-counts c.args.self.now.state c.args.event.now _ c.in-Mark.is

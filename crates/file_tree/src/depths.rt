@@ -1,0 +1,63 @@
+//! How many names paths have, and whether all stay short when an entry moves.
+ghost use Rattle.std.specs.Prelude.{◌≡◌, ◌≤◌, ◌+◌, ℕ, List, length};
+ghost use Rattle.hac_model.specs.Tree.Events.{changed_at, reseated};
+ghost use Rattle.hac_model.specs.Tree.Limits.{are_paths_short};
+ghost use Rattle.hac_model.specs.Tree.{ancestors, path_of};
+ghost use Rattle.file_tree.specs.Depths.{GoesTo, is_shallow};
+
+use crate::nodes::entry_at;
+use crate::tree::Tree;
+use hac_model::{Number, PATH_LIMIT};
+
+impl Tree {
+    /// Whether all paths are still short once an entry is in a directory. Its contents are looked
+    /// at only where it goes deeper.
+    pub(crate) fn stays_short(&self, entry: Number, dir: Number) -> bool
+        requires { GoesTo self.now.state entry dir }
+        ensures { (name : List ℕ) → result ≡ are_paths_short
+            (changed_at self.now.state entry (reseated dir name)).entries }
+    {
+        self.know_layout();
+        let old = self.depth(entry);
+        let new = self.depth(dir) + 1;
+        new <= old || (new <= PATH_LIMIT && self.is_shallow(entry, PATH_LIMIT - new))
+    }
+
+    /// Whether at most `names` names lead from a directory to anything below it.
+    fn is_shallow(&self, dir: Number, names: u64) -> bool
+        ensures { result ≡ is_shallow names self.now.state dir }
+    {
+        let children = self.children(dir);
+        if names == 0 {
+            return children.is_empty();
+        }
+        for child in children {
+            if !self.is_shallow(*child, names - 1) {
+                return false;
+            }
+        }
+        true
+    }
+
+    /// How many names the path of an entry has.
+    pub(crate) fn depth(&self, entry: Number) -> u64
+        ensures depth { result ≡ length (path_of self.now.state entry) }
+        ensures few { result ≤ PATH_LIMIT + 1 }
+    {
+        self.count_ancestors(PATH_LIMIT + 1, entry)
+    }
+
+    /// How many ancestors an entry has, itself among them, counting at most `steps` of them.
+    fn count_ancestors(&self, steps: u64, entry: Number) -> u64
+        ensures ancestors { result ≡ length (ancestors steps self.now.state.entries entry) }
+        ensures few { result ≤ steps }
+    {
+        if steps == 0 {
+            return 0;
+        }
+        match entry_at(&self.nodes, entry) {
+            Some(node) => self.count_ancestors(steps - 1, node.parent) + 1,
+            None => 0,
+        }
+    }
+}

@@ -1,0 +1,136 @@
+//! What entries count for, and sums of counts.
+ghost use Rattle.std.specs.Prelude.{◌≡◌, ◌<◌, ◌^◌, ℕ, List, IsTrue};
+ghost use Rattle.hac_model.specs.Tree.Limits.{counts, file_bytes};
+ghost use Rattle.hac_model.specs.Tree.{empty, is_dirty, is_file};
+ghost use Rattle.hac_model.specs.Query.Formula.{Formula};
+ghost use Rattle.hac_model.specs.declared.states.Body.{Body};
+ghost use Rattle.file_tree.specs.Counting.{AreSmall, one_if, plus, share_of};
+
+use hac_model::Counts;
+
+/// What counts for nothing.
+pub(crate) const NOTHING: Counts = Counts {
+    bytes: 0,
+    directories: 0,
+    semantics: 0,
+    files: 0,
+    dirty: 0,
+    long_paths: 0,
+    next: 0,
+};
+
+/// The counts of the root alone, behind which the number 1 is next.
+pub(crate) fn of_root() -> Counts
+    ensures { result ≡ counts empty }
+{
+    Counts {
+        directories: 1,
+        next: 1,
+        ..NOTHING
+    }
+}
+
+/// What a plain directory counts for.
+pub(crate) fn of_directory() -> Counts
+    ensures share { result ≡ share_of Body.Dir }
+    ensures small { AreSmall result }
+{
+    Counts {
+        directories: 1,
+        ..NOTHING
+    }
+}
+
+/// What a semantic directory counts for.
+pub(crate) fn of_semantic() -> Counts
+    ensures share { (query : Formula ℕ) (permanent prohibited : List ℕ) →
+        result ≡ share_of (Body.Semantic query permanent prohibited) }
+    ensures small { AreSmall result }
+{
+    Counts {
+        directories: 1,
+        semantics: 1,
+        ..NOTHING
+    }
+}
+
+/// What a file counts for that keeps `bytes` bytes of text.
+pub(crate) fn of_file(bytes: u64, dirty: bool) -> Counts
+    requires { bytes < 2 ^ 63 }
+    ensures share { (body : Body) → IsTrue (is_file body) → file_bytes body ≡ bytes →
+        is_dirty body ≡ dirty → result ≡ share_of body }
+    ensures small { AreSmall result }
+{
+    Counts {
+        bytes,
+        files: 1,
+        dirty: u64::from(dirty),
+        ..NOTHING
+    }
+}
+
+/// What a new entry counts for, which takes a number, and whose path may be too long.
+pub(crate) fn as_new(share: Counts, is_long: bool) -> Counts
+    requires { AreSmall share }
+    ensures counts { result ≡ record share { long_paths = one_if is_long; next = 1 } }
+    ensures small { AreSmall result }
+{
+    Counts {
+        long_paths: u64::from(is_long),
+        next: 1,
+        ..share
+    }
+}
+
+/// The counts, given whether some path is too long.
+pub(crate) fn with_long_paths(counts: Counts, is_long: bool) -> Counts
+    ensures { result ≡ record counts { long_paths = one_if is_long } }
+{
+    Counts {
+        long_paths: u64::from(is_long),
+        ..counts
+    }
+}
+
+/// Both together.
+pub(crate) fn plus(counts: Counts, more: Counts) -> Counts
+    requires small { AreSmall counts }
+    requires more_small { AreSmall more }
+    ensures { result ≡ plus counts more }
+{
+    Counts {
+        bytes: counts.bytes + more.bytes,
+        directories: counts.directories + more.directories,
+        semantics: counts.semantics + more.semantics,
+        files: counts.files + more.files,
+        dirty: counts.dirty + more.dirty,
+        long_paths: counts.long_paths + more.long_paths,
+        next: counts.next + more.next,
+    }
+}
+
+/// What is left when a part goes.
+pub(crate) fn minus(counts: Counts, part: Counts) -> Counts
+    requires { (rest : Counts) × (counts ≡ plus rest part) }
+    ensures { plus result part ≡ counts }
+{
+    Counts {
+        bytes: counts.bytes - part.bytes,
+        directories: counts.directories - part.directories,
+        semantics: counts.semantics - part.semantics,
+        files: counts.files - part.files,
+        dirty: counts.dirty - part.dirty,
+        long_paths: counts.long_paths - part.long_paths,
+        next: counts.next - part.next,
+    }
+}
+
+/// The counts with one part replaced.
+pub(crate) fn replaced(counts: Counts, old: Counts, new: Counts) -> Counts
+    requires small { AreSmall counts }
+    requires new_small { AreSmall new }
+    requires part { (rest : Counts) × (counts ≡ plus rest old) }
+    ensures { plus result old ≡ plus counts new }
+{
+    minus(plus(counts, new), old)
+}

@@ -1,0 +1,101 @@
+-- The bytes of an area.
+use Rattle.std.proofs.Common.{◌≡◌, ℕ, ◌+◌, ◌≤◌, List, [], ◌∷◌, ◌++◌, length, take, drop, None, Some, Result, OnErr, OnOk, sym, ◌∙◌, ap, subst, arith, append_assoc, length-append}
+use Rattle.std.specs.declared.option.Option.{Option}
+use Rattle.std.proofs.lemmas.List.{append-nil, drop-drop, drop_at, length-take, take_at}
+use Rattle.byteorder.specs.Endian.{little_bytes}
+use Rattle.byteorder.specs.Numbers.{length-bytes_low_first}
+use Rattle.hac_disk.specs.Images.{Elapses, Follows, LeavesOnly, Torn, TornFrom, overlaid}
+use Rattle.hac_disk.specs.Told.{StartsWithin, Written, WrittenInPart}
+use Rattle.hac_disk.proofs.ToldLemmas.{told-written}
+use Rattle.hac_disk.proofs.TornLemmas.{length-overlaid}
+use Rattle.hac_journal.specs.Records.{record_of}
+use Rattle.hac_checkpoint.specs.Areas.{area_of}
+use Rattle.hac_checkpoint.specs.Writes.{WritesWithin}
+use Rattle.hac_checkpoint.proofs.WriteLemmas.{within-run, within-stable, within-write}
+
+-- bytes behind bytes that were written are written with them
+overlaid-joined : (at : ℕ) (xs ys file : List ℕ) → at ≤ length file
+    → overlaid (at + length xs) ys (overlaid at xs file) ≡ overlaid at (xs ++ ys) file
+overlaid-joined at xs ys file starts =
+    let behind = drop (at + length xs) file in
+    let front : length (take at file ++ xs) ≡ at + length xs = omega (arith, length-append (take at file) xs, length-take at file, starts) in
+    let place : at + length xs + length ys ≡ at + length (xs ++ ys) = omega (arith, length-append xs ys) in
+    let back : drop (at + length xs + length ys) (take at file ++ xs ++ behind) ≡ drop (at + length (xs ++ ys)) file =
+    sym (drop-drop (length ys) (at + length xs) (take at file ++ xs ++ behind))
+    ∙ ap (drop (length ys)) (drop_at (take at file ++ xs) behind (at + length xs) front)
+    ∙ drop-drop (length ys) (at + length xs) file
+    ∙ ap (λ (k : ℕ). drop k file) place in
+    ap (λ (l : List ℕ). l ++ ys ++ drop (at + length xs + length ys) (take at file ++ xs ++ behind)) (take_at (take at file ++ xs) behind (at + length xs) front)
+    ∙ ap (λ (l : List ℕ). take at file ++ xs ++ ys ++ l) back
+    ∙ ap (λ (l : List ℕ). l ++ drop (at + length (xs ++ ys)) file) (append_assoc (take at file) xs ys)
+
+written-joined : (seen mid new : Option (List ℕ)) (at : ℕ) (xs ys : List ℕ) → StartsWithin seen at
+    → Written seen at xs mid → Written mid (at + length xs) ys new → Written seen at (xs ++ ys) new
+written-joined None mid new at xs ys starts first second = subst (λ m. Written m (at + length xs) ys new) first second
+written-joined (Some file) mid new at xs ys starts first second =
+    told-written mid new (overlaid at xs file) ys (at + length xs) first second ∙ ap (λ (f : List ℕ). Some f) (overlaid-joined at xs ys file starts)
+
+-- an area by its three parts
+area-parts : (payload : List ℕ) → (1 ∷ little_bytes 4 (length payload)) ++ payload ++ 0 ∷ [] ≡ area_of payload
+unfolding record_of
+area-parts payload = ap (λ (l : List ℕ). l ++ 0 ∷ []) (sym (append-nil (record_of payload)))
+
+-- each of the three writes of an area begins within the file
+starts-behind : (seen new : Option (List ℕ)) (at : ℕ) (bytes : List ℕ) → StartsWithin seen at → Written seen at bytes new → StartsWithin new (at + length bytes)
+starts-behind None new at bytes starts written = subst (λ s. StartsWithin s (at + length bytes)) (sym written) tt
+starts-behind (Some file) new at bytes starts written =
+    subst (λ s. StartsWithin s (at + length bytes)) (sym written) (omega (arith, length-overlaid at bytes file starts))
+
+-- and all of them write it
+pub area-written : (seen one two new : Option (List ℕ)) (at : ℕ) (head payload : List ℕ) → StartsWithin seen at → head ≡ 1 ∷ little_bytes 4 (length payload)
+    → Written seen at head one → Written one (at + 5) payload two → Written two (at + 5 + length payload) (0 ∷ []) new → Written seen at (area_of payload) new
+area-written seen one two new at head payload starts is first second third =
+    let five : length head ≡ 5 = omega (arith, ap length is, length-bytes_low_first 0 4 (length payload)) in
+    let both = written-joined seen one two at head payload starts first (subst (λ k. Written one (at + k) payload two) (sym five) second) in
+    let place : at + 5 + length payload ≡ at + length (head ++ payload) = omega (arith, five, length-append head payload) in
+    let all = written-joined seen two new at (head ++ payload) (0 ∷ []) starts both (subst (λ k. Written two k (0 ∷ []) new) place third) in
+    let parts : head ++ payload ++ 0 ∷ [] ≡ area_of payload = ap (λ (h : List ℕ). h ++ payload ++ 0 ∷ []) is ∙ area-parts payload in
+    subst (λ l. Written seen at l new) parts all
+
+-- none of them changes more than the area
+module _ {D : Type 0} (seen : D → Option (List ℕ)) (image : D → List ℕ → Type 0) (moment : D → ℕ) (image_since : D → ℕ → List ℕ → Type 0)
+    (only_now : (disk : D) (c : List ℕ) → image_since disk (moment disk) c → image disk c) where
+  abbrev Within : ℕ → ℕ → D → D → Type 0
+  Within at size old new = WritesWithin seen image moment image_since at (size + 6) old new
+
+  -- what a write says of its images
+  abbrev Images : ℕ → List ℕ → D → D → Type 0
+  Images at bytes old new = Follows (Torn at (length bytes)) (image old) (image new)
+
+  abbrev Time : D → D → Type 0
+  Time old new = Elapses (moment old) (moment new) (image_since old) (image_since new) (image new)
+
+  abbrev Answers : {T E : Type 0} → Result T E → ℕ → List ℕ → D → D → Type 0
+  Answers result at bytes old new = OnOk result (Written (seen old) at bytes (seen new)) × OnErr result (WrittenInPart (seen old) at (length bytes) (seen new))
+
+  module _ {T E : Type 0} (first : Result T E) (at size : ℕ) (head : List ℕ) (old one : D) (is : head ≡ 1 ∷ little_bytes 4 size) (starts : StartsWithin (seen old) at)
+      (told : Answers first at head old one) (images : Images at head old one) (time : Time old one) where
+    five : length head ≡ 5
+    five = omega (arith, ap length is, length-bytes_low_first 0 4 size)
+
+    pub first-within : Within at size old one
+    first-within =
+        within-write seen image moment image_since only_now first at at (size + 6) head old one (omega arith) (omega (arith, five)) starts told.0 told.1 images time
+
+    module _ {T2 E2 : Type 0} (second : Result T2 E2) (payload : List ℕ) (two : D) (long : length payload ≡ size) (written : Written (seen old) at head (seen one))
+        (told2 : Answers second (at + 5) payload one two) (images2 : Images (at + 5) payload one two) (time2 : Time one two) where
+      behind : StartsWithin (seen one) (at + 5)
+      behind = subst (λ k. StartsWithin (seen one) (at + k)) five (starts-behind (seen old) (seen one) at head starts written)
+
+      pub second-within : Within at size old two
+      second-within =
+          within-run seen image moment image_since at (size + 6) old one two first-within
+          (within-write seen image moment image_since only_now second (at + 5) at (size + 6) payload one two (omega arith) (omega (arith, long)) behind told2.0 told2.1 images2 time2)
+
+      pub third-within : {T3 E3 : Type 0} (third : Result T3 E3) (new : D) → Written (seen one) (at + 5) payload (seen two)
+          → Answers third (at + 5 + size) (0 ∷ []) two new → Images (at + 5 + size) (0 ∷ []) two new
+          → LeavesOnly moment image_since two new (TornFrom (at + 5 + size) 1 (image two)) → Within at size old new
+      third-within third new both told3 images3 run =
+          let end = subst (λ k. StartsWithin (seen two) (at + 5 + k)) long (starts-behind (seen one) (seen two) (at + 5) payload behind both) in
+          within-run seen image moment image_since at (size + 6) old two new second-within
+          (within-stable seen image moment image_since third (at + 5 + size) at (size + 6) (0 ∷ []) two new (omega arith) (omega arith) end told3.0 told3.1 images3 run)

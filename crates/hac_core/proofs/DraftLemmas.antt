@@ -1,0 +1,138 @@
+-- What is known of a command that nothing blocks, and what it leads to.
+use Rattle.std.proofs.Common.{◌≡◌, ℕ, true, List, [], ◌∷◌, subst, refl, ap, sym, ◌∙◌}
+use Rattle.std.specs.Prelude.{⊤, replicate, Option, None, Some, Result, Ok, Err, IfErr, IfOk, OnOk, option_and_then}
+use Rattle.std.specs.Option.{option_map, option_map_or}
+use Rattle.hac_model.specs.Laws.{AllHappen}
+use Rattle.hac_model.specs.Run.Answers.{Passes, Refuses, first_cause}
+use Rattle.hac_model.specs.Run.Refusals.{answer_cause, blocked, cause, cycle_against, cycle_cause, early_cause, event_of, events_of, layout_cause, led_to}
+use Rattle.hac_model.specs.Run.Standing.{AllStand}
+use Rattle.hac_model.specs.Tree.Events.{apply_all, dirty}
+use Rattle.hac_model.specs.Tree.Limits.{answer_limits, counts, first_passed, layout_limits, passed}
+use Rattle.hac_model.specs.Tree.Valid.{IsValid}
+use Rattle.hac_model.specs.declared.counts.Counts.{Counts}
+use Rattle.hac_model.specs.declared.events.Event.{Event}
+use Rattle.hac_model.specs.declared.events.Event.TheVariants.{Step}
+use Rattle.hac_model.specs.declared.replies.Deny.{Deny}
+use Rattle.hac_model.specs.declared.replies.Deny.TheVariants.{Refused, Memory}
+use Rattle.hac_model.specs.declared.replies.Refusal.{Refusal}
+use Rattle.hac_model.specs.declared.replies.Refusal.TheVariants.{Limit}
+use Rattle.hac_model.specs.declared.resolved.Resolved.{Resolved}
+use Rattle.hac_model.specs.declared.resolved.Resolved.TheVariants as command
+use Rattle.hac_model.specs.declared.resolved.Resolved.TheVariants.{Index}
+use Rattle.hac_model.specs.declared.states.State.{State}
+use Rattle.hac_model.proofs.EventLemmas.{all-valid, cause-parts, no_cause, steps-happen, unblocked-happen}
+use Rattle.hac_model.proofs.LimitLemmas.{IsWithinLimits, first-before, limits-within, none-passed, paths-short}
+use Rattle.hac_core.specs.Drafts.{CanSettle, IsChange, IsCounted, IsDraftFor, Settles, change_cause, is_reading, settled_events}
+use Rattle.hac_core.specs.declared.drafts.Change.{Change}
+use Rattle.hac_core.specs.declared.drafts.Known.{Known}
+use Rattle.hac_core.specs.declared.drafts.Known.TheVariants.{Reads, Changes, Indexes}
+use Rattle.hac_core.specs.declared.drafts.Settled.{Settled}
+use Rattle.hac_core.specs.declared.drafts.Settled.TheVariants as settled
+
+-- a valid state exceeds no limit
+valid-limits : (s : State) → IsValid s → (first_passed (layout_limits (counts s)) ≡ None) × (first_passed (answer_limits (counts s)) ≡ None)
+valid-limits s h =
+    let within : IsWithinLimits s = limits-within s h.layout.limits in (
+      first-before _ _ within.texts (first-before _ _ within.dirs (first-before _ _ within.semantics (first-before _ _ (paths-short s.entries within.paths) none-passed))),
+      first-before _ _ within.items (first-before _ _ within.numbers none-passed),
+    )
+
+-- a command that makes one event has that one
+made-events : (s : State) (r : Resolved) (e : Event) → event_of r ≡ Some e → events_of s r ≡ e ∷ []
+made-events s Index e is = absurd cc
+made-events s r e is = ap (λ (o : Option Event). option_map_or (λ e. e ∷ []) o []) is
+
+-- where a command leads to a valid state and lets no directory depend on itself, nothing refuses it that doesn't block it
+led-free : (s : State) (r : Resolved) → IsValid (led_to s r) → blocked s r ≡ None → cycle_cause s r ≡ None → (early_cause s r ≡ None) × (cause s r ≡ None)
+led-free s r h free acyclic =
+    let limits = valid-limits (led_to s r) h in
+    let early : early_cause s r ≡ None = λ i. first_cause (free i ∷ option_map Limit (limits.0 i) ∷ acyclic i ∷ []) in
+    (early, (λ i. first_cause (early i ∷ option_map Limit (limits.1 i) ∷ [])))
+
+module _ (s : State) (h : IsValid s) where
+  -- a command that reads leaves the state
+  reads-free : (r : Resolved) → is_reading r ≡ true → blocked s r ≡ None → (early_cause s r ≡ None) × (cause s r ≡ None)
+  reads-free (command.Cat entry) reads free = led-free s (command.Cat entry) h free refl
+  reads-free (command.Ls dir) reads free = led-free s (command.Ls dir) h free refl
+  reads-free (command.Query dir) reads free = led-free s (command.Query dir) h free refl
+  reads-free (command.Sls dir) reads free = led-free s (command.Sls dir) h free refl
+  reads-free (command.Find query) reads free = led-free s (command.Find query) h free refl
+  reads-free command.Counts reads free = led-free s command.Counts h free refl
+  reads-free other reads free = absurd cc
+
+  pub draft-reads : (r shown : Resolved) → AllStand s r → blocked s r ≡ None → (shown ≡ r) × (is_reading r ≡ true) → IsDraftFor s r (Reads shown)
+  draft-reads r shown stands free made = record { stands = stands; cause = (reads-free r made.1 free).0; known = made }
+
+  -- indexing leads to a valid state
+  index-free : (early_cause s Index ≡ None) × (cause s Index ≡ None)
+  index-free = led-free s Index (all-valid (events_of s Index) s h (steps-happen (dirty s) s h refl)) refl refl
+
+  pub draft-indexes : (r : Resolved) (count : ℕ) → AllStand s r → (r ≡ Index) × (count ≡ dirty s) → IsDraftFor s r (Indexes count)
+  draft-indexes r count stands made =
+      record { stands = stands; cause = subst (λ (r : Resolved). early_cause s r ≡ None) (sym made.0) index-free.0; known = made }
+
+  -- the causes against an event are those against its command
+  change-early : (r : Resolved) (e : Event) → blocked s r ≡ None → event_of r ≡ Some e → early_cause s r ≡ change_cause s e
+  change-early r e free is =
+      λ i. first_cause (free i ∷ option_map Limit (first_passed (layout_limits (counts (apply_all s (made-events s r e is i))))) ∷ option_and_then (cycle_against s) (is i) ∷ [])
+
+  draft-changes : (r : Resolved) (e : Event) (draft : Known) → AllStand s r → blocked s r ≡ None → event_of r ≡ Some e → IsChange s e draft → change_cause s e ≡ None → IsDraftFor s r draft
+  draft-changes r e (Changes change) stands free is made none =
+      record { stands = stands; cause = change-early r e free is ∙ none; known = (is ∙ ap (λ (e : Event). some e) (sym made.0), made.1) }
+    where
+      some : Event → Option Event
+      some e = Some e
+  draft-changes r e (Reads shown) stands free is made none = absurd made
+  draft-changes r e (Indexes count) stands free is made none = absurd made
+
+  change-refuses : (r : Resolved) (e : Event) (deny : Deny) → blocked s r ≡ None → event_of r ≡ Some e → Refuses deny (change_cause s e) → Refuses deny (early_cause s r)
+  change-refuses r e deny free is refuses = subst (Refuses deny) (sym (change-early r e free is)) refuses
+
+  -- the limits that depend on spaces, by the counts of the change
+  answers-are : (r : Resolved) (change : Change) → event_of r ≡ Some change.event → IsCounted s change → answer_cause s r ≡ option_map Limit (first_passed (answer_limits change.counts))
+  answers-are r change is counted =
+      ap (λ (events : List Event). option_map Limit (first_passed (answer_limits (counts (apply_all s events))))) (made-events s r change.event is)
+      ∙ ap (λ (held : Counts). option_map Limit (first_passed (answer_limits held))) (sym counted)
+
+  settled-refuses : (r : Resolved) (change : Change) (deny : Deny) → IsDraftFor s r (Changes change) → Refuses deny (option_map Limit (first_passed (answer_limits change.counts))) → Refuses deny (cause s r)
+  settled-refuses r change deny draft refuses =
+      subst (Refuses deny) (sym (λ i. first_cause (draft.cause i ∷ answers-are r change draft.known.0 draft.known.1 i ∷ []))) (alone deny (option_map Limit (first_passed (answer_limits change.counts))) refuses)
+    where
+      alone : (deny : Deny) (o : Option Refusal) → Refuses deny o → Refuses deny (first_cause (None ∷ o ∷ []))
+      alone (Refused e) o h = ap (λ (o : Option Refusal). first_cause (o ∷ [])) h
+      alone Memory o h = tt
+
+  settles-change : (r : Resolved) (change : Change) → IsDraftFor s r (Changes change) → option_map Limit (first_passed (answer_limits change.counts)) ≡ None → Settles s r (settled.Change change)
+  settles-change r change draft within =
+      let free : cause s r ≡ None = λ i. first_cause (draft.cause i ∷ (answers-are r change draft.known.0 draft.known.1 ∙ within) i ∷ []) in
+      let parts = cause-parts s r free in
+      let events = made-events s r change.event draft.known.0 in
+      record {
+        cause = free;
+        events = sym events;
+        can = (subst (AllHappen s) events (unblocked-happen s r h draft.stands parts.0 parts.1 parts.2), draft.known.1);
+      }
+
+  pub settles-steps : (r : Resolved) (count : ℕ) → IsDraftFor s r (Indexes count) → Settles s r (settled.Steps count)
+  settles-steps r count draft =
+      subst (λ (r : Resolved). Settles s r (settled.Steps count)) (sym draft.known.0) (record {
+        cause = index-free.1;
+        events = ap (λ (n : ℕ). replicate n Step) draft.known.1;
+        can = subst (λ (n : ℕ). AllHappen s (replicate n Step)) (sym draft.known.1) (steps-happen (dirty s) s h refl);
+      })
+
+  pub reads-cause : (r shown : Resolved) → IsDraftFor s r (Reads shown) → cause s r ≡ None
+  reads-cause r shown draft = (reads-free r draft.known.1 (no_cause (blocked s r) (layout_cause s r ∷ cycle_cause s r ∷ []) draft.cause).0).1
+
+-- the draft of an event, or why there is none
+pub drafts-change : (s : State) → IsValid s → (r : Resolved) (e : Event) (result : Result Known Deny) → AllStand s r → blocked s r ≡ None → event_of r ≡ Some e → IfOk result (IsChange s e) → OnOk result (change_cause s e ≡ None) → IfErr result (λ deny. Refuses deny (change_cause s e)) → IfOk result (IsDraftFor s r) × IfErr result (λ deny. Refuses deny (early_cause s r))
+drafts-change s h r e (Ok draft) stands free is made none refuses = (draft-changes s h r e draft stands free is made none, tt)
+drafts-change s h r e (Err deny) stands free is made none refuses = (tt, change-refuses s h r e deny free is refuses)
+
+-- the outcome of a change, or why there is none
+pub settles-changed : (s : State) → IsValid s → (change : Change) (draft : Known) (result : Result Settled Deny) → Changes change ≡ draft → IfOk result (λ outcome. outcome ≡ settled.Change change) → Passes result (option_map Limit (first_passed (answer_limits change.counts))) →
+    (r : Resolved) → IsDraftFor s r draft → IfOk result (Settles s r) × IfErr result (λ deny. Refuses deny (cause s r))
+settles-changed s h change draft (Ok outcome) is made passes r for =
+    (subst (Settles s r) (sym made) (settles-change s h r change (subst (IsDraftFor s r) (sym is) for) passes), tt)
+settles-changed s h change draft (Err deny) is made passes r for =
+    (tt, settled-refuses s h r change deny (subst (IsDraftFor s r) (sym is) for) passes)

@@ -1,9 +1,0 @@
-use Rattle.std.proofs.Common.{subst, sym}
-use Rattle.std.specs.Prelude.{Option}
-use Rattle.hac_model.specs.declared.replies.Refusal.{Refusal}
-use Rattle.hac_model.specs.Run.Answers.{Passes}
-use Rattle.hac_core.proofs.BlockingLemmas.{same-plain_cause}
-use Rattle.hac_core.proofs.blocking.asking.Goals as goal
-
-pub returns : goal.returns
-returns c = subst (λ (cause : Option Refusal). Passes c.semantic.result cause) (sym (same-plain_cause c.args.kept.now.state c.tree.result.now.state c.tree.ensures.tree.bares c.args.dir)) c.semantic.ensures

@@ -1,0 +1,6 @@
+use Rattle.std.proofs.Common.{sym, ◌∙◌}
+use Rattle.kept_state.proofs.StateLemmas.{same-placed}
+use Rattle.hac_core.proofs.fitting.is_placed.Goals as goal
+
+pub returns : goal.returns
+returns c = c.is_placed_in.ensures ∙ sym (same-placed c.args.kept.now.state c.tree.result.now.state c.tree.ensures.tree.bares c.args.event.now)

@@ -1,7 +1,0 @@
-use Rattle.std.proofs.Common.{◌≡◌, map, take}
-use Rattle.hac_core.proofs.ListingLemmas.{line_at}
-use Rattle.hac_core.proofs.listing.child_lines.Given as goal
-
--- a line for each of the children so far
-abbrev pub invariant-loop-child : goal.invariant-loop-child
-invariant-loop-child l = l.lines.items ≡ map (line_at l.tree.state) (take l.child-index l.child-items)

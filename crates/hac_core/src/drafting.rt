@@ -1,0 +1,85 @@
+//! What is known of a command that nothing blocks, and what it leads to.
+ghost use Rattle.std.specs.Prelude.{◌≡◌, IfOk, IfErr, IsTrue, None, OnOk, OnErr, Ok};
+ghost use Rattle.std.specs.Option.{option_map};
+ghost use Rattle.hac_model.specs.Run.Answers.{Passes, Refuses};
+ghost use Rattle.hac_model.specs.Run.Refusals.{blocked, early_cause};
+ghost use Rattle.hac_model.specs.Run.Standing.{AllStand};
+ghost use Rattle.hac_model.specs.Tree.Events.{is_placed};
+ghost use Rattle.hac_model.specs.Tree.Limits.{answer_limits, first_passed};
+ghost use Rattle.hac_core.specs.Drafts.{IsChange, IsCounted, IsDraftFor, change_cause};
+
+use crate::cycles::acyclic;
+use crate::drafts::{Change, Draft, Known, Settled};
+use crate::events::{Made, made_by};
+use hac_model::{Deny, Event, Limit, Refusal, Resolved, first_passed};
+use kept_state::KeptState;
+use std::alloc::Global;
+
+/// What is known of a command that nothing blocks, unless it would exceed a limit on the tree
+/// itself, or let a directory depend on itself.
+pub fn drafted(alloc: Global, kept: &KeptState, command: Resolved) -> Result<Draft, Deny>
+    requires stands { AllStand kept.now.state command }
+    requires free { blocked kept.now.state command ≡ None }
+    ensures draft { IfOk result (IsDraftFor kept.now.state command) }
+    ensures refused { IfErr result (λ deny. Refuses deny (early_cause kept.now.state command)) }
+{
+    kept.know_valid();
+    match made_by(alloc, kept, command) {
+        Made::Event(event) => changing(alloc, kept, event),
+        Made::Steps(count) => Ok(Draft::new(Known::Indexes(count))),
+        Made::Nothing(command) => Ok(Draft::new(Known::Reads(command))),
+    }
+}
+
+/// The event with its counts, unless a limit on the tree or a cycle stands against it.
+fn changing(alloc: Global, kept: &KeptState, event: Event) -> Result<Draft, Deny>
+    requires { IsTrue (is_placed kept.now.state event) }
+    ensures draft { IfOk result (λ draft. IsChange kept.now.state event draft) }
+    ensures free { OnOk result (change_cause kept.now.state event ≡ None) }
+    ensures refused { IfErr result (λ deny. Refuses deny (change_cause kept.now.state event)) }
+{
+    let counts = kept.counts_after(&event);
+    let change = Change { event, counts };
+    match permitted(alloc, kept, &change) {
+        Ok(()) => Ok(Draft::new(Known::Changes(change))),
+        Err(deny) => {
+            drop(change);
+            Err(deny)
+        }
+    }
+}
+
+/// Denies a change that would exceed a limit on the tree itself, or let a directory depend on
+/// itself.
+fn permitted(alloc: Global, kept: &KeptState, change: &Change) -> Result<(), Deny>
+    requires { IsCounted kept.now.state change.now }
+    ensures { Passes result (change_cause kept.now.state change.now.event) }
+{
+    within(&change.counts.layout_limits())?;
+    acyclic(alloc, kept, &change.event)
+}
+
+/// The outcome of a change, unless it would exceed a limit on what spaces answer.
+pub fn settled(change: Change) -> Result<Settled, Deny>
+    ensures settled { IfOk result (λ settled. settled ≡ Settled.Change change) }
+    ensures limits { Passes result (option_map Refusal.Limit
+        (first_passed (answer_limits change.counts))) }
+{
+    match within(&change.counts.answer_limits()) {
+        Ok(()) => Ok(Settled::Change(change)),
+        Err(deny) => {
+            drop(change);
+            Err(deny)
+        }
+    }
+}
+
+/// Denies what exceeds a limit, by the first such limit.
+fn within(limits: &[Limit]) -> Result<(), Deny>
+    ensures { Passes result (option_map Refusal.Limit (first_passed limits.now)) }
+{
+    match first_passed(limits) {
+        Some(word) => Err(Deny::Refused(Refusal::Limit(word))),
+        None => Ok(()),
+    }
+}

@@ -1,0 +1,198 @@
+-- What the paths of a command lead to is in the state.
+use Rattle.std.proofs.Common.{◌≡◌, ℕ, ◌+◌, Bool, true, false, List, refl, ap, ◌∙◌}
+use Rattle.std.specs.Prelude.{◌&&◌, ◌++◌, if◌then◌else◌, max, nat_le, Option, Some, None, Result, Ok, Err, IfOk, IsTrue}
+use Rattle.std.proofs.lemmas.Bool.{and_from, and_parts}
+use Rattle.std.proofs.lemmas.List.Folds.{list_all-append}
+use Rattle.std.proofs.lemmas.Result.{IfOk-at_ok, IfOk-weaker}
+use Rattle.hac_model.specs.Run.Answers.{and_then}
+use Rattle.hac_model.specs.Run.Resolving.{directed, directory, entry, item_and_dir, listed, numbered, place, resolve, resolved, standing}
+use Rattle.hac_model.specs.Run.Standing.{AllStand, AreThere, StandsAt}
+use Rattle.hac_model.specs.Tree.Depends.{named_in}
+use Rattle.hac_model.specs.Tree.Events.{are_directories, may_ask}
+use Rattle.hac_model.specs.Tree.Limits.{is_text}
+use Rattle.hac_model.specs.Tree.Paths.{are_names}
+use Rattle.hac_model.specs.Tree.Sessions.{stands_in}
+use Rattle.hac_model.specs.Tree.{is_directory_at, is_live, path_of}
+use Rattle.hac_model.specs.Tree.Valid.{IsLayout, IsValid}
+use Rattle.hac_model.specs.Query.Formula.{Formula}
+use Rattle.hac_model.specs.Query.Formula as query
+use Rattle.hac_model.specs.Query.Queries.{are_terms, is_query, letter_count, not_count, term_count}
+use Rattle.hac_model.specs.Query.QueryReading.{are_rooted, is_spelled_query}
+use Rattle.hac_model.specs.Script.Lines.{is_spelled, is_spelled_word}
+use Rattle.hac_model.specs.declared.commands.Command.{Command}
+use Rattle.hac_model.specs.declared.commands.Command.TheVariants as command
+use Rattle.hac_model.specs.declared.commands.Line.{Line}
+use Rattle.hac_model.specs.declared.limits.TheConstants.{NESTING_LIMIT, QUERY_LIMIT, TERMS_LIMIT}
+use Rattle.hac_model.specs.declared.paths.PathWord.{PathWord}
+use Rattle.hac_model.specs.declared.places.Place.{Place}
+use Rattle.hac_model.specs.declared.places.Place.TheVariants.{There, Free}
+use Rattle.hac_model.specs.declared.replies.Refusal.{Refusal}
+use Rattle.hac_model.specs.declared.replies.Refusal.TheVariants.{NotDir}
+use Rattle.hac_model.specs.declared.resolved.Resolved.{Resolved}
+use Rattle.hac_model.specs.declared.resolved.Resolved.TheVariants.{Mkdir, Rmdir, Write, Cat, Ls, Mv, Rm, Smkdir, Setq, Unq, Query, Sls, Sln, Srm, Sforget, Find}
+use Rattle.hac_model.specs.declared.states.State.{State}
+use Rattle.hac_model.proofs.LookLemmas.{place-free, place-lives, session-root}
+use Rattle.hac_model.proofs.TreeLemmas.{directory-lives, live-is}
+
+-- what is known of a value is known of what comes of it
+on-ok : {A B : Type 0} (P : A → Type 0) (Q : B → Type 0) (next : A → Result B Refusal) (r : Result A Refusal) → IfOk r P → ((x : A) → P x → IfOk (next x) Q) → IfOk (and_then next r) Q
+on-ok P Q next (Ok x) here on = on x here
+on-ok P Q next (Err refusal) here on = tt
+
+-- a query with its directories by number has the same size as with them by word, and they are in the state
+record IsNumbered (s : State) (raw : Formula PathWord) (asked : Formula ℕ) : Type 0 where
+  terms : are_terms asked ≡ are_terms raw
+  count : term_count asked ≡ term_count raw
+  letters : letter_count asked ≡ letter_count raw
+  nots : not_count asked ≡ not_count raw
+  named : are_directories s (named_in asked) ≡ true
+
+directories-append : (s : State) (ds es : List ℕ) → are_directories s ds ≡ true → are_directories s es ≡ true → are_directories s (ds ++ es) ≡ true
+directories-append s ds es h k =
+    list_all-append (λ d. is_directory_at s.entries d) ds es ∙ and_from (are_directories s ds) (are_directories s es) h k
+
+-- In a tree, from a directory on.
+
+module _ (s : State) (base : ℕ) (h : IsLayout s) (from : is_directory_at s.entries base ≡ true) where
+  abbrev Lives : ℕ → Type 0
+  Lives n = IsTrue (is_live s.entries n)
+
+  abbrev IsDirectory : ℕ → Type 0
+  IsDirectory n = IsTrue (is_directory_at s.entries n)
+
+  place-stands : (word : PathWord) → are_names word.names ≡ true → IfOk (place s base word) (StandsAt s)
+  place-stands word named = at (place s base word) refl
+    where
+      at : (r : Result Place Refusal) → place s base word ≡ r → IfOk r (StandsAt s)
+      at (Ok (There n)) is = live-is s.entries n (place-lives s base word n is)
+      at (Ok (Free dir name)) is = place-free s base word dir name h (directory-lives s.entries base from) named is
+      at (Err refusal) is = tt
+
+  entry-lives : (word : PathWord) → IfOk (entry s base word) Lives
+  entry-lives word = at (place s base word) refl
+    where
+      at : (r : Result Place Refusal) → place s base word ≡ r → IfOk (and_then (standing s) r) Lives
+      at (Ok (There n)) is = live-is s.entries n (place-lives s base word n is)
+      at (Ok (Free dir name)) is = tt
+      at (Err refusal) is = tt
+
+  directory-stands : (word : PathWord) → IfOk (directory s base word) IsDirectory
+  directory-stands word = on-ok Lives IsDirectory (directed s) (entry s base word) (entry-lives word) (λ n lives. at n (is_directory_at s.entries n) refl)
+    where
+      at : (n : ℕ) (b : Bool) → is_directory_at s.entries n ≡ b → IfOk (if b then Ok n else Err (NotDir (path_of s n))) IsDirectory
+      at n true is = is
+      at n false is = tt
+
+  listed-stands : (word : Option PathWord) → IfOk (listed s base word) IsDirectory
+  listed-stands (Some word) = directory-stands word
+  listed-stands None = from
+
+  numbered-is : (raw : Formula PathWord) → IfOk (numbered s base raw) (IsNumbered s raw)
+  numbered-is (query.Term term) = record { terms = refl; count = refl; letters = refl; nots = refl; named = refl }
+  numbered-is (query.Dir word) =
+      on-ok IsDirectory (IsNumbered s (query.Dir word)) (λ n. Ok (query.Dir n)) (directory s base word) (directory-stands word) (λ n there. record {
+        terms = refl;
+        count = refl;
+        letters = refl;
+        nots = refl;
+        named = and_from (is_directory_at s.entries n) true there refl;
+      })
+  numbered-is (query.Not raw) =
+      on-ok (IsNumbered s raw) (IsNumbered s (query.Not raw)) (λ q. Ok (query.Not q)) (numbered s base raw) (numbered-is raw) (λ q is. record {
+        terms = is.terms;
+        count = is.count;
+        letters = is.letters;
+        nots = ap (λ (k : ℕ). k + 1) is.nots;
+        named = is.named;
+      })
+  numbered-is (query.And left right) =
+      on-ok (IsNumbered s left) (IsNumbered s (query.And left right)) (λ p. and_then (λ q. Ok (query.And p q)) (numbered s base right)) (numbered s base left) (numbered-is left) (λ p l.
+      on-ok (IsNumbered s right) (IsNumbered s (query.And left right)) (λ q. Ok (query.And p q)) (numbered s base right) (numbered-is right) (λ q r. record {
+        terms = λ i. l.terms i && r.terms i;
+        count = λ i. l.count i + r.count i;
+        letters = λ i. l.letters i + r.letters i;
+        nots = λ i. max (l.nots i) (r.nots i);
+        named = directories-append s (named_in p) (named_in q) l.named r.named;
+      }))
+  numbered-is (query.Or left right) =
+      on-ok (IsNumbered s left) (IsNumbered s (query.Or left right)) (λ p. and_then (λ q. Ok (query.Or p q)) (numbered s base right)) (numbered s base left) (numbered-is left) (λ p l.
+      on-ok (IsNumbered s right) (IsNumbered s (query.Or left right)) (λ q. Ok (query.Or p q)) (numbered s base right) (numbered-is right) (λ q r. record {
+        terms = λ i. l.terms i && r.terms i;
+        count = λ i. l.count i + r.count i;
+        letters = λ i. l.letters i + r.letters i;
+        nots = λ i. max (l.nots i) (r.nots i);
+        named = directories-append s (named_in p) (named_in q) l.named r.named;
+      }))
+
+  -- so a query that a line spells may be asked
+  numbered-asks : (raw : Formula PathWord) → is_spelled_query raw ≡ true → IfOk (numbered s base raw) (λ asked. IsTrue (may_ask s asked))
+  numbered-asks raw spelled = IfOk-weaker (numbered s base raw) (IsNumbered s raw) (λ asked. IsTrue (may_ask s asked)) asks (numbered-is raw)
+    where
+      asks : (asked : Formula ℕ) → IsNumbered s raw asked → IsTrue (may_ask s asked)
+      asks asked is =
+          let parts = and_parts (is_query raw) (are_rooted raw) spelled in
+          let same : is_query asked ≡ is_query raw = λ i. is.terms i && nat_le (is.count i) TERMS_LIMIT && nat_le (is.letters i) QUERY_LIMIT && nat_le (is.nots i) NESTING_LIMIT in
+          and_from (is_query asked) (are_directories s (named_in asked)) (same ∙ parts.0) is.named
+
+  -- one path, to a place, an entry or a directory
+  at-place : (make : Place → Resolved) (word : PathWord) → are_names word.names ≡ true → ((p : Place) → StandsAt s p → AllStand s (make p)) → IfOk (and_then (λ p. Ok (make p)) (place s base word)) (AllStand s)
+  at-place make word named known = on-ok (StandsAt s) (AllStand s) (λ p. Ok (make p)) (place s base word) (place-stands word named) known
+
+  at-entry : (make : ℕ → Resolved) (word : PathWord) → ((n : ℕ) → Lives n → AllStand s (make n)) → IfOk (and_then (λ n. Ok (make n)) (entry s base word)) (AllStand s)
+  at-entry make word known = on-ok Lives (AllStand s) (λ n. Ok (make n)) (entry s base word) (entry-lives word) known
+
+  at-directory : (make : ℕ → Resolved) (word : PathWord) → ((n : ℕ) → IsDirectory n → AllStand s (make n)) → IfOk (and_then (λ n. Ok (make n)) (directory s base word)) (AllStand s)
+  at-directory make word known = on-ok IsDirectory (AllStand s) (λ n. Ok (make n)) (directory s base word) (directory-stands word) known
+
+  at-listed : (make : ℕ → Resolved) (word : Option PathWord) → ((n : ℕ) → IsDirectory n → AllStand s (make n)) → IfOk (and_then (λ n. Ok (make n)) (listed s base word)) (AllStand s)
+  at-listed make word known = on-ok IsDirectory (AllStand s) (λ n. Ok (make n)) (listed s base word) (listed-stands word) known
+
+  asking : (make : Formula ℕ → Resolved) (raw : Formula PathWord) → is_spelled_query raw ≡ true → ((q : Formula ℕ) → IsTrue (may_ask s q) → AllStand s (make q)) → IfOk (and_then (λ q. Ok (make q)) (numbered s base raw)) (AllStand s)
+  asking make raw spelled known = on-ok (λ q. IsTrue (may_ask s q)) (AllStand s) (λ q. Ok (make q)) (numbered s base raw) (numbered-asks raw spelled) known
+
+  -- an item and a directory
+  at-both : (make : ℕ → ℕ → Resolved) (item dir : PathWord) → ((n m : ℕ) → AreThere s n m → AllStand s (make n m)) → IfOk (item_and_dir make s base item dir) (AllStand s)
+  at-both make item dir known =
+      on-ok Lives (AllStand s) (λ n. and_then (λ m. Ok (make n m)) (directory s base dir)) (entry s base item) (entry-lives item) (λ n lives.
+      at-directory (make n) dir (λ m there. known n m (lives, there)))
+
+  pub resolved-stands : (c : Command) → is_spelled c ≡ true → IfOk (resolved s base c) (AllStand s)
+  resolved-stands (command.Mkdir path) spelled = at-place Mkdir path spelled (λ p there. there)
+  resolved-stands (command.Rmdir path) spelled = at-directory Rmdir path (λ n there. there)
+  resolved-stands (command.Write path text) spelled =
+      let parts = and_parts (is_spelled_word path) (is_text text) spelled in
+      at-place (λ p. Write p text) path parts.0 (λ p there. (there, parts.1))
+  resolved-stands (command.Cat path) spelled = at-entry Cat path (λ n lives. lives)
+  resolved-stands (command.Ls path) spelled = at-listed Ls path (λ n there. there)
+  resolved-stands (command.Mv from to) spelled =
+      let parts = and_parts (is_spelled_word from) (is_spelled_word to) spelled in
+      on-ok Lives (AllStand s) (λ n. and_then (λ p. Ok (Mv n p)) (place s base to)) (entry s base from) (entry-lives from) (λ n lives.
+      at-place (Mv n) to parts.1 (λ p there. (lives, there)))
+  resolved-stands (command.Rm path) spelled = at-entry Rm path (λ n lives. lives)
+  resolved-stands (command.Smkdir path raw) spelled =
+      let parts = and_parts (is_spelled_word path) (is_spelled_query raw) spelled in
+      on-ok (StandsAt s) (AllStand s) (λ p. and_then (λ q. Ok (Smkdir p q)) (numbered s base raw)) (place s base path) (place-stands path parts.0) (λ p there.
+      asking (Smkdir p) raw parts.1 (λ q may. (there, may)))
+  resolved-stands (command.Setq path raw) spelled =
+      let parts = and_parts (is_spelled_word path) (is_spelled_query raw) spelled in
+      on-ok IsDirectory (AllStand s) (λ n. and_then (λ q. Ok (Setq n q)) (numbered s base raw)) (directory s base path) (directory-stands path) (λ n there.
+      asking (Setq n) raw parts.1 (λ q may. (there, may)))
+  resolved-stands (command.Unq path) spelled = at-directory Unq path (λ n there. there)
+  resolved-stands (command.Query path) spelled = at-directory Query path (λ n there. there)
+  resolved-stands (command.Sls path) spelled = at-listed Sls path (λ n there. there)
+  resolved-stands (command.Sln item dir) spelled = at-both Sln item dir (λ n m there. there)
+  resolved-stands (command.Srm item dir) spelled = at-both Srm item dir (λ n m there. there)
+  resolved-stands (command.Sforget item dir) spelled = at-both Sforget item dir (λ n m there. there)
+  resolved-stands (command.Find raw) spelled = asking Find raw spelled (λ q may. may)
+  resolved-stands command.Index spelled = tt
+  resolved-stands command.Counts spelled = tt
+  resolved-stands other spelled = tt
+
+-- where a session stands there is a directory
+pub session-directory : (s : State) (session : List ℕ) → IsValid s → is_directory_at s.entries (stands_in s.sessions session) ≡ true
+session-directory s session h = ap (λ (n : ℕ). is_directory_at s.entries n) (session-root s session h)
+
+-- so what a line leads to is there
+pub line-stands : (s : State) (line : Line) (r : Resolved) → IsValid s → IsTrue (is_spelled line.command) → resolve s line ≡ Ok r → AllStand s r
+line-stands s line r h spelled leads =
+    IfOk-at_ok (AllStand s) leads (resolved-stands s (stands_in s.sessions line.session) h.layout (session-directory s line.session h) line.command spelled)

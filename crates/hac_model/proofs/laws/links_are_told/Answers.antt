@@ -1,0 +1,14 @@
+use Rattle.hac_model.proofs.MarkLawLemmas.{added-provided, found-indexed, links-unmarked, removed-not_provided}
+use Rattle.hac_model.proofs.laws.links_are_told.Goals as goal
+
+pub returns-clause-unmarked : goal.returns-clause-unmarked
+returns-clause-unmarked c = links-unmarked
+
+pub returns-clause-found : goal.returns-clause-found
+returns-clause-found c = found-indexed
+
+pub returns-clause-added : goal.returns-clause-added
+returns-clause-added c = added-provided
+
+pub returns-clause-removed : goal.returns-clause-removed
+returns-clause-removed c = removed-not_provided

@@ -1,0 +1,83 @@
+-- What commands that read show.
+use Rattle.std.specs.Prelude.{ℕ, List, [], ◌∷◌, ◌++◌, map, codes, decimal, option_and_then}
+use Rattle.std.specs.List.{flat_map}
+use Rattle.std.specs.Option.{option_map_or}
+use Rattle.hac_model.specs.Query.Formula.{Formula}
+use Rattle.hac_model.specs.Tree.Limits.{counts, plain_count}
+use Rattle.hac_model.specs.Tree.Links.{found_by, items, kind, permanent_count, prohibited_count, query_at, transient_count}
+use Rattle.hac_model.specs.Tree.Listing.{children, entry_line}
+use Rattle.hac_model.specs.Tree.Paths.{path_text}
+use Rattle.hac_model.specs.Query.QueryText.{query_text, named_by}
+use Rattle.hac_model.specs.Script.Texts.{escaped_text}
+use Rattle.hac_model.specs.Tree.{body_at, path_of, text_in}
+use Rattle.hac_model.specs.declared.marks.Kind.{Kind}
+use Rattle.hac_model.specs.declared.marks.Kind.TheVariants.{Transient, Permanent, Prohibited, Unlinked}
+use Rattle.hac_model.specs.declared.resolved.Resolved.{Resolved}
+use Rattle.hac_model.specs.declared.resolved.Resolved.TheVariants as command
+use Rattle.hac_model.specs.declared.states.State.{State}
+use Rattle.hac_model.specs.declared.counts.Counts.{Counts}
+
+-- an item of a kind, as `sls` lists it
+abbrev pub kind_lines : List (List ℕ) → Kind → List (List ℕ)
+kind_lines path Transient = (codes "t " ++ path_text path) ∷ []
+kind_lines path Permanent = (codes "p " ++ path_text path) ∷ []
+kind_lines path Prohibited = (codes "x " ++ path_text path) ∷ []
+kind_lines path Unlinked = []
+
+-- the items of a semantic directory, in order of number
+abbrev pub link_lines : State → ℕ → List (List ℕ)
+link_lines s dir = flat_map (λ item. kind_lines (path_of s item) (kind s dir item)) (items s)
+
+-- a query with the present paths of its directories
+abbrev pub query_line : State → Formula ℕ → List ℕ
+query_line s query = codes "= " ++ query_text (named_by (λ dir. path_text (path_of s dir)) query)
+
+-- the query of a directory
+abbrev pub query_lines : State → ℕ → List (List ℕ)
+query_lines s dir = option_map_or (λ query. query_line s query ∷ []) (query_at s dir) []
+
+-- a file that a query finds
+abbrev pub found_line : State → ℕ → List ℕ
+found_line s item = codes "f " ++ path_text (path_of s item)
+
+-- how much there is of one thing
+abbrev pub counted : List ℕ → ℕ → List ℕ
+counted word count = codes " " ++ word ++ codes " " ++ decimal count
+
+-- the line of counts, of which the plain directories and the links of each kind are given apart
+abbrev pub line_of_counts : Counts → ℕ → ℕ → ℕ → ℕ → List ℕ
+line_of_counts counts plain transient permanent prohibited =
+    codes "="
+    ++ counted (codes "files") counts.files
+    ++ counted (codes "documents") 0
+    ++ counted (codes "directories") plain
+    ++ counted (codes "semantic") counts.semantics
+    ++ counted (codes "mounts") 0
+    ++ counted (codes "symbolic") 0
+    ++ counted (codes "transient") transient
+    ++ counted (codes "permanent") permanent
+    ++ counted (codes "prohibited") prohibited
+    ++ counted (codes "dirty") counts.dirty
+    ++ counted (codes "next") counts.next
+
+-- how much there is of everything
+abbrev pub counts_line : State → List ℕ
+counts_line s = line_of_counts (counts s) (plain_count s.entries) (transient_count s) (permanent_count s) (prohibited_count s)
+
+-- a text, as `cat` prints it
+abbrev pub text_line : List ℕ → List ℕ
+text_line text = codes "= " ++ escaped_text text
+
+-- the text of a file on one line
+abbrev pub text_lines : State → ℕ → List (List ℕ)
+text_lines s number = option_map_or (λ text. text_line text ∷ []) (option_and_then text_in (body_at s.entries number)) []
+
+-- the data lines of an accepted command: only one that reads has any
+abbrev pub data_lines : State → Resolved → List (List ℕ)
+data_lines s (command.Cat entry) = text_lines s entry
+data_lines s (command.Ls dir) = map entry_line (children s dir)
+data_lines s (command.Query dir) = query_lines s dir
+data_lines s (command.Sls dir) = link_lines s dir
+data_lines s (command.Find query) = map (found_line s) (found_by s query)
+data_lines s command.Counts = counts_line s ∷ []
+data_lines s other = []

@@ -1,0 +1,40 @@
+-- What a command whose paths were followed refers to.
+use Rattle.std.specs.Prelude.{⊤, ℕ, IsTrue}
+use Rattle.hac_model.specs.Tree.Events.{is_free, may_ask}
+use Rattle.hac_model.specs.Tree.Limits.{is_text}
+use Rattle.hac_model.specs.Tree.{is_directory_at, is_live}
+use Rattle.hac_model.specs.declared.places.Place.{Place}
+use Rattle.hac_model.specs.declared.places.Place.TheVariants.{There, Free}
+use Rattle.hac_model.specs.declared.resolved.Resolved.{Resolved}
+use Rattle.hac_model.specs.declared.resolved.Resolved.TheVariants.{Mkdir, Rmdir, Write, Cat, Ls, Mv, Rm, Smkdir, Setq, Unq, Query, Sls, Sln, Srm, Sforget, Find, Index, Counts}
+use Rattle.hac_model.specs.declared.states.State.{State}
+
+-- the entry or the root that was found is in the state, or the directory has room for the name
+abbrev pub StandsAt : State → Place → Type 0
+StandsAt s (There number) = IsTrue (is_live s.entries number)
+StandsAt s (Free dir name) = IsTrue (is_free s dir name)
+
+-- an item and a directory are in the state
+abbrev pub AreThere : State → ℕ → ℕ → Type 0
+AreThere s item dir = IsTrue (is_live s.entries item) × IsTrue (is_directory_at s.entries dir)
+
+-- all that the command refers to is in the state, and its text and its query are as large as they may be
+abbrev pub AllStand : State → Resolved → Type 0
+AllStand s (Mkdir place) = StandsAt s place
+AllStand s (Rmdir dir) = IsTrue (is_directory_at s.entries dir)
+AllStand s (Write place text) = StandsAt s place × IsTrue (is_text text)
+AllStand s (Cat entry) = IsTrue (is_live s.entries entry)
+AllStand s (Ls dir) = IsTrue (is_directory_at s.entries dir)
+AllStand s (Mv entry place) = IsTrue (is_live s.entries entry) × StandsAt s place
+AllStand s (Rm entry) = IsTrue (is_live s.entries entry)
+AllStand s (Smkdir place query) = StandsAt s place × IsTrue (may_ask s query)
+AllStand s (Setq dir query) = IsTrue (is_directory_at s.entries dir) × IsTrue (may_ask s query)
+AllStand s (Unq dir) = IsTrue (is_directory_at s.entries dir)
+AllStand s (Query dir) = IsTrue (is_directory_at s.entries dir)
+AllStand s (Sls dir) = IsTrue (is_directory_at s.entries dir)
+AllStand s (Sln item dir) = AreThere s item dir
+AllStand s (Srm item dir) = AreThere s item dir
+AllStand s (Sforget item dir) = AreThere s item dir
+AllStand s (Find query) = IsTrue (may_ask s query)
+AllStand s Index = ⊤
+AllStand s Counts = ⊤

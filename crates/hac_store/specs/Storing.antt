@@ -1,0 +1,45 @@
+-- What becomes of a store and of its disk where events are stored.
+use Rattle.std.specs.Prelude.{◌≡◌, ℕ, Bool, true, false, List, Option, Result, Ok, Err, OnOk, map}
+use Rattle.hac_disk.specs.Images.{LeavesOnly}
+use Rattle.hac_disk.specs.Told.{IsSettled, Written}
+use Rattle.hac_outside.specs.Causes.{TellsFault}
+use Rattle.hac_journal.specs.Records.{log_of}
+use Rattle.hac_model.specs.Payload.Payloads.{event_text}
+use Rattle.hac_model.specs.Run.Play.{have_room}
+use Rattle.hac_model.specs.declared.events.Event.{Event}
+use Rattle.hac_store.specs.Faults.{is_disk_fault}
+use Rattle.hac_store.specs.Stores.{Bears, HeldBetween, Seen, Stands, store_after}
+use Rattle.hac_store.specs.declared.fault.StoreFault.{StoreFault}
+use Rattle.hac_store.specs.declared.fault.StoreFault.TheVariants.{Disk, NotStore, AlreadyStore, Full, Memory}
+
+-- all events happened: their records were written behind the log, and last
+pub record AllStored (file new_file : Option (List ℕ)) (image : List ℕ → Type 0) (before after : Seen) (events : List Event) : Type 0 where
+  pub room : have_room before.setting events ≡ true
+  pub store : after ≡ store_after before events
+  pub written : Written file before.setting.end (log_of (map event_text events)) new_file
+  pub settled : IsSettled new_file image
+  pub place : Bears new_file after
+
+-- After Ok all events happened. After `Full` there was no room for them; after it and after `Memory` nothing was
+-- touched. After `Disk` the store is broken. No other answer is given.
+abbrev pub StoringEnds : {D : Type 0} (seen : D → Option (List ℕ)) (image : D → List ℕ → Type 0) (old new : D) (before after : Seen) (events : List Event) → Result Unit StoreFault → Type 0
+StoringEnds seen image old new before after events (Ok _) = AllStored (seen old) (seen new) (image new) before after events
+StoringEnds seen image old new before after events (Err Full) = (have_room before.setting events ≡ false) × ((after ≡ before) × (new ≡ old))
+StoringEnds seen image old new before after events (Err Memory) = (after ≡ before) × (new ≡ old)
+StoringEnds seen image old new before after events (Err Disk) = (have_room before.setting events ≡ true) × (after ≡ record before { broken = true })
+StoringEnds seen image old new before after events (Err (NotStore at)) = ⊥
+StoringEnds seen image old new before after events (Err AlreadyStore) = ⊥
+
+-- What storing events does. If the disk stood for the store, it does again after Ok, and a crash at each moment leaves
+-- the store from before, or the one behind all events.
+pub record StoresEvents {D : Type 0} (seen : D → Option (List ℕ)) (image : D → List ℕ → Type 0)
+    (moment : D → ℕ) (image_since : D → ℕ → List ℕ → Type 0)
+    (attached : D → Option (List (List ℕ × Bool))) (faults : D → ℕ) (old new : D)
+    (before after : Seen) (events : List Event) (result : Result Unit StoreFault) : Type 0 where
+  pub ends : StoringEnds seen image old new before after events result
+  pub stands : Stands (seen old) (image old) before.setting →
+      OnOk result (Stands (seen new) (image new) after.setting)
+  pub moments : Stands (seen old) (image old) before.setting →
+      LeavesOnly moment image_since old new (HeldBetween before.setting events)
+  pub names : attached new ≡ attached old
+  pub told : TellsFault (is_disk_fault result) (faults old) (faults new)

@@ -1,0 +1,28 @@
+use Rattle.std.proofs.Common.{Err, ap, sym, subst, ◌∙◌}
+use Rattle.std.proofs.lemmas.Result.{err_from_is_err_and}
+use Rattle.hac_core.specs.Drafts.{CanSettle}
+use Rattle.hac_model.specs.Run.Play.{item_turn}
+use Rattle.hac_model.specs.Script.Lines.{item_taken}
+use Rattle.hac_model.specs.declared.states.State.{State}
+use Rattle.hac_top.proofs.StoringLemmas.{answers-only, stops-first}
+use Rattle.hac_top.proofs.storing.store_line.Goals as goal
+
+pub returns-in_err-decision : goal.returns-in_err-decision
+returns-in_err-decision g c =
+    let stop = err_from_is_err_and c.from_residual.result c.from_residual.ensures.1 in
+    rw (stop.1 ∙ ap Err stop.2) (stops-first g.met.D.Disk.only_now c.args.disk.now c.args.store.now (item_turn c.args.store.now.setting (item_taken c.args.line c.args.taken)))
+
+pub returns-in-Answer : goal.returns-in-Answer
+returns-in-Answer g c =
+    let decides = rw c.in-Answer.is at c.in_ok-decision.ensures in
+    rw (decides.leads c.args.store.now.setting (sym c.machine.ensures)) (answers-only g.met.D.Disk.only_now c.args.disk.now c.args.store.now c.in-Answer.reply c.requires.place)
+
+pub store_events-requires-clause-can : goal.store_events-requires-clause-can
+store_events-requires-clause-can g c =
+    let decides = rw c.in-Change.is at c.in_ok-decision.ensures in
+    subst (λ (s : State). CanSettle s c.in-Change.settled) c.machine.ensures decides.happen
+
+pub returns-in-Change : goal.returns-in-Change
+returns-in-Change g c =
+    let decides = rw c.in-Change.is at c.in_ok-decision.ensures in
+    rw (c.storing_reply.ensures, decides.leads c.args.store.now.setting (sym c.machine.ensures)) c.store_events.ensures

@@ -1,0 +1,14 @@
+use Rattle.std.proofs.Common.{◌≤◌, ◌-◌}
+use Rattle.hac_top.proofs.StoringLemmas.{Stepped}
+use Rattle.hac_top.proofs.storing.store_steps.Given as goal
+
+-- all but `left` steps happened, and a crash since the call began leaves some of them
+abbrev pub invariant-loop-left : goal.invariant-loop-left
+invariant-loop-left g l =
+    record {
+      within : l.left ≤ l.fn.count;
+      so_far : Stepped g.D.Disk.seen g.D.Disk.image g.D.Disk.moment g.D.Disk.image_since g.D.Disk.attached g.D.Disk.faults l.fn.disk l.disk l.fn.store l.store (l.fn.count - l.left) l.fn.count;
+    }
+
+abbrev pub decreases-loop-left : goal.decreases-loop-left
+decreases-loop-left g l = l.left

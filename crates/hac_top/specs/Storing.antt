@@ -1,0 +1,80 @@
+-- What becomes of a store and of its disk as turns are stored and answered.
+use Rattle.std.specs.Prelude.{◌≡◌, ⊤, ℕ, Bool, false, List, [], ◌∷◌, Option, Result, Ok, Err, IfOk, IfErr}
+use Rattle.hac_disk.specs.Images.{LeavesOnly}
+use Rattle.hac_outside.specs.Causes.{TellsFault}
+use Rattle.hac_outside.specs.Seen.{SinkSeen}
+use Rattle.hac_model.specs.Run.Play.{Setting, Turn, all_events, left_by}
+use Rattle.hac_model.specs.declared.events.Event.{Event}
+use Rattle.hac_model.specs.declared.limits.LimitWord.TheVariants.{Store}
+use Rattle.hac_model.specs.declared.replies.Refusal.TheVariants.{Limit}
+use Rattle.hac_model.specs.declared.replies.Reply.{Reply}
+use Rattle.hac_model.specs.declared.replies.Reply.TheVariants.{Lines, Refused}
+use Rattle.hac_store.specs.Stores.{Bears, IsHeldAs, Seen, Stands}
+use Rattle.hac_store.specs.declared.fault.StoreFault.{StoreFault}
+use Rattle.hac_store.specs.declared.fault.StoreFault.TheVariants.{Full}
+use Rattle.hac_top.specs.Crashes.{Holds, IsTreeAfter}
+use Rattle.hac_top.specs.Ends.{is_disk_fault, store_status, tells_disk}
+use Rattle.hac_top.specs.Told.{CutsTelling, Tells, told_text}
+use Rattle.hac_top.specs.declared.status.Status.{Status}
+use Rattle.hac_top.specs.declared.status.Status.TheVariants.{WriteFault, DiskFault, Memory}
+
+-- the reply to a command whose events were to be stored, given how that ended
+abbrev pub storing_reply : Result Unit StoreFault → Result Reply Status
+storing_reply (Ok _) = Ok (Lines [])
+storing_reply (Err Full) = Ok (Refused (Limit Store))
+storing_reply (Err fault) = Err (store_status fault)
+
+-- What became of the disk while a store went on by events: a crash at any moment leaves the tree after some of them.
+-- A call of the disk that failed is told, and no other.
+pub record Stores {D : Type 0} (seen : D → Option (List ℕ)) (image : D → List ℕ → Type 0)
+    (moment : D → ℕ) (image_since : D → ℕ → List ℕ → Type 0)
+    (attached : D → Option (List (List ℕ × Bool))) (faults : D → ℕ) (old new : D)
+    (setting : Setting) (events : List Event) (failed : Bool) : Type 0 where
+  pub moments : Stands (seen old) (image old) setting →
+      LeavesOnly moment image_since old new (Holds (IsTreeAfter setting.state events))
+  pub names : attached new ≡ attached old
+  pub told : TellsFault failed (faults old) (faults new)
+
+-- a command is stopped by the disk, or because memory ran out
+abbrev pub StopsCommand : Status → Type 0
+StopsCommand DiskFault = ⊤
+StopsCommand Memory = ⊤
+StopsCommand other = ⊥
+
+-- the store has gone on by a turn, which has this reply
+pub record HasStored {D : Type 0} (seen : D → Option (List ℕ)) (image : D → List ℕ → Type 0) (old new : D)
+    (before after : Seen) (turn : Turn) (reply : Reply) : Type 0 where
+  pub reply_is : reply ≡ turn.reply
+  pub store : after ≡ record before { setting = turn.after }
+  pub place : Bears (seen new) after
+  pub stands : Stands (seen old) (image old) before.setting → Stands (seen new) (image new) after.setting
+
+-- what storing a turn does
+pub record StoresTurn {D : Type 0} (seen : D → Option (List ℕ)) (image : D → List ℕ → Type 0)
+    (moment : D → ℕ) (image_since : D → ℕ → List ℕ → Type 0)
+    (attached : D → Option (List (List ℕ × Bool))) (faults : D → ℕ) (old new : D)
+    (before after : Seen) (turn : Turn) (result : Result Reply Status) : Type 0 where
+  pub ok : IfOk result (HasStored seen image old new before after turn)
+  pub err : IfErr result StopsCommand
+  pub stores : Stores seen image moment image_since attached faults old new before.setting (all_events (turn ∷ [])) (tells_disk result)
+
+-- a line was answered: the replies of its turns were written, and the store has gone on by them
+pub record AnswersLine {D : Type 0} (seen : D → Option (List ℕ)) (image : D → List ℕ → Type 0)
+    (moment : D → ℕ) (image_since : D → ℕ → List ℕ → Type 0)
+    (attached : D → Option (List (List ℕ × Bool))) (faults : D → ℕ) (old new : D)
+    (before after : Seen) (sink sink_after : SinkSeen) (answered : List Turn) : Type 0 where
+  pub replies : Tells sink sink_after (told_text answered)
+  pub store : after ≡ record before { setting = left_by before.setting answered }
+  pub place : Bears (seen new) after
+  pub stands : Stands (seen old) (image old) before.setting → Stands (seen new) (image new) after.setting
+  pub stores : Stores seen image moment image_since attached faults old new before.setting (all_events answered) false
+
+-- an answer stopped. If the sink failed, all of the line was stored before.
+pub record StopsAnswer {D : Type 0} (seen : D → Option (List ℕ)) (image : D → List ℕ → Type 0)
+    (moment : D → ℕ) (image_since : D → ℕ → List ℕ → Type 0)
+    (attached : D → Option (List (List ℕ × Bool))) (faults : D → ℕ) (old new : D)
+    (setting : Setting) (sink sink_after : SinkSeen) (answered : List Turn) (status : Status) : Type 0 where
+  pub replies : CutsTelling status sink sink_after (told_text answered)
+  pub stored : status ≡ WriteFault → Stands (seen old) (image old) setting → (c : List ℕ) → image new c →
+      IsHeldAs c (left_by setting answered)
+  pub stores : Stores seen image moment image_since attached faults old new setting (all_events answered) (is_disk_fault status)

@@ -1,0 +1,96 @@
+//! Storing: what a line changes is in the store, and then in the tree, before its reply is given.
+ghost use Rattle.std.specs.Prelude.{◌≡◌, false, replicate};
+ghost use Rattle.hac_core.specs.Drafts.{CanSettle, settled_events};
+ghost use Rattle.hac_model.specs.Laws.{AllHappen};
+ghost use Rattle.hac_model.specs.Run.Play.{item_turn};
+ghost use Rattle.hac_model.specs.Script.Lines.{item_taken};
+ghost use Rattle.hac_model.specs.declared.events.Event.TheVariants as event;
+ghost use Rattle.hac_store.specs.Stores.{Bears};
+ghost use Rattle.hac_top.specs.Deciding.{storing_turn};
+ghost use Rattle.hac_top.specs.Storing.{StoresTurn, storing_reply};
+
+use crate::deciding::{Decision, decide};
+use crate::status::{Status, store_status};
+use hac_core::Settled;
+use hac_disk::Disk;
+use hac_model::{LimitWord, Refusal, Reply, Seq, Taken, Text};
+use hac_store::{Store, StoreFault};
+use std::alloc::Global;
+
+// The most index steps that one append takes.
+const BATCH: u64 = 4_096;
+
+// How many bytes the payload of an index step has.
+const STEP_BYTES: u64 = 2;
+
+/// Decides what a line asks for, given what was taken of the bytes behind it, and stores what it
+/// changes. Gives the reply.
+pub fn store_line<D: Disk>(
+    alloc: Global,
+    store: &mut Store,
+    disk: &mut D,
+    line: Text,
+    taken: Option<Taken>,
+) -> Result<Reply, Status>
+    requires intact { store.old.broken ≡ false }
+    requires place { Bears (D.seen disk.old) store.old }
+    ensures { StoresTurn D.seen D.image D.moment D.image_since D.attached D.faults disk.old disk.new
+        store.old store.new (item_turn store.old.setting (item_taken line taken)) result }
+{
+    let decision = decide(alloc, store.machine(), line, taken)?;
+    match decision {
+        Decision::Answer(reply) => Ok(reply),
+        Decision::Change(settled) => storing_reply(alloc, store_events(store, disk, settled)),
+    }
+}
+
+// The reply to a command whose events were to be stored.
+fn storing_reply(alloc: Global, stored: Result<(), StoreFault>) -> Result<Reply, Status>
+    ensures { result ≡ storing_reply stored }
+{
+    match stored {
+        Ok(()) => Ok(Reply::Lines(Seq::new(Vec::new(alloc)))),
+        Err(StoreFault::Full) => Ok(Reply::Refused(Refusal::Limit(LimitWord::Store))),
+        Err(fault) => Err(store_status(fault)),
+    }
+}
+
+// Stores the events of a command, and applies them. `Full` comes before any write.
+fn store_events<D: Disk>(
+    store: &mut Store,
+    disk: &mut D,
+    settled: Settled,
+) -> Result<(), StoreFault>
+    requires intact { store.old.broken ≡ false }
+    requires place { Bears (D.seen disk.old) store.old }
+    requires can { CanSettle store.old.setting.state settled }
+    ensures { StoresTurn D.seen D.image D.moment D.image_since D.attached D.faults disk.old disk.new
+        store.old store.new (storing_turn store.old.setting (settled_events settled))
+        (storing_reply result) }
+{
+    match settled {
+        Settled::Change(change) => store.command(disk, change),
+        Settled::Steps(count) => store_steps(store, disk, count),
+    }
+}
+
+// Stores index steps and applies them, some thousands by one append. `Full` comes before any write.
+fn store_steps<D: Disk>(store: &mut Store, disk: &mut D, count: u64) -> Result<(), StoreFault>
+    requires intact { store.old.broken ≡ false }
+    requires place { Bears (D.seen disk.old) store.old }
+    requires happen { AllHappen store.old.setting.state (replicate count event.Step) }
+    ensures { StoresTurn D.seen D.image D.moment D.image_since D.attached D.faults disk.old disk.new
+        store.old store.new (storing_turn store.old.setting (replicate count event.Step))
+        (storing_reply result) }
+{
+    if !store.room_for(count, STEP_BYTES) {
+        return Err(StoreFault::Full);
+    }
+    let mut left = count;
+    while left > 0 {
+        let batch = left.min(BATCH);
+        store.steps(disk, batch)?;
+        left -= batch;
+    }
+    Ok(())
+}

@@ -1,0 +1,73 @@
+//! The text of a file, and the entries of a directory.
+ghost use Rattle.std.specs.Prelude.{◌≡◌, ◌∷◌, [], IfOk, IsSome, Some, map};
+ghost use Rattle.std.specs.Option.{option_map};
+ghost use Rattle.hac_model.specs.Tree.Listing.{children, entry_line, letter};
+ghost use Rattle.hac_model.specs.Run.Play.{text_line, text_lines};
+ghost use Rattle.hac_model.specs.Tree.{entry_at};
+ghost use Rattle.hac_model.specs.declared.states.Body.{Body};
+ghost use Rattle.file_tree.specs.Answers.{entry_kind};
+
+use crate::lookups::text_of;
+use file_tree::{EntryKind, Tree};
+use hac_model::{Memory, Name, Number};
+use hac_names::print_text;
+use kept_state::KeptState;
+use std::alloc::Global;
+
+/// The text of a file, on one line.
+pub fn text_lines(alloc: Global, kept: &KeptState, file: Number) -> Result<Vec<Name>, Memory>
+    ensures { IfOk result (λ lines. lines.items ≡ text_lines kept.now.state file) }
+{
+    let mut lines = Vec::new(alloc);
+    if let Some(text) = text_of(kept, file) {
+        lines.push(text_line(alloc, text)?)?;
+    }
+    Ok(lines)
+}
+
+/// A text as it is shown.
+fn text_line(alloc: Global, text: &[u8]) -> Result<Name, Memory>
+    ensures { IfOk result (λ line. line ≡ text_line text.now) }
+{
+    let mut line = Vec::from_slice(alloc, b"= ")?;
+    line.extend_from_slice(print_text(alloc, text)?.as_slice())?;
+    Ok(Name::new(line))
+}
+
+/// The entries of a directory, in byte order of names.
+pub fn child_lines(alloc: Global, kept: &KeptState, dir: Number) -> Result<Vec<Name>, Memory>
+    ensures { IfOk result (λ lines. lines.items ≡ map entry_line (children kept.now.state dir)) }
+{
+    let tree = kept.tree();
+    let mut lines = Vec::new(alloc);
+    for child in tree.children(dir) {
+        lines.push(child_line(alloc, tree, *child)?)?;
+    }
+    Ok(lines)
+}
+
+/// An entry as it is listed: the letter of its kind, and its name.
+fn child_line(alloc: Global, tree: &Tree, entry: Number) -> Result<Name, Memory>
+    requires { IsSome (entry_at tree.now.state.entries entry) }
+    ensures { IfOk result
+        (λ line. option_map entry_line (entry_at tree.now.state.entries entry) ≡ Some line) }
+{
+    let mut line = Vec::new(alloc);
+    line.push(letter(tree.kind(entry)))?;
+    line.push(b' ')?;
+    line.extend_from_slice(tree.name_of(entry).as_bytes())?;
+    Ok(Name::new(line))
+}
+
+/// The letter of a kind.
+fn letter(kind: EntryKind) -> u8
+    ensures { (body : Body) → kind ≡ entry_kind body → result ∷ [] ≡ letter body }
+{
+    match kind {
+        EntryKind::Dir => b'd',
+        EntryKind::Symlink => b'l',
+        EntryKind::Semantic => b's',
+        EntryKind::Mount => b'm',
+        EntryKind::File | EntryKind::Document => b'f',
+    }
+}

@@ -1,0 +1,13 @@
+-- What callers see of an index.
+use Rattle.std.specs.Prelude.{ℕ, nat_eq, List, [], Option}
+use Rattle.std.specs.Map.{lookup}
+use Rattle.std.specs.Option.{option_map_or}
+
+-- the items with the words of each, and the item that is ready for other words, with these
+pub record Seen : Type 0 where
+  pub items : List (ℕ × List (List ℕ))
+  pub ready : Option (ℕ × List (List ℕ))
+
+-- the words of an item; one that isn't there has none
+abbrev pub words_of : Seen → ℕ → List (List ℕ)
+words_of index item = option_map_or (λ words. words) (lookup (nat_eq item) index.items) []
