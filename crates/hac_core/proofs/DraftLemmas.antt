@@ -4,6 +4,7 @@ use Rattle.std.specs.Prelude.{⊤, replicate, Option, None, Some, Result, Ok, Er
 use Rattle.std.specs.Option.{option_map, option_map_or}
 use Rattle.hac_model.specs.Laws.{AllHappen}
 use Rattle.hac_model.specs.Run.Answers.{Passes, Refuses, first_cause}
+use Rattle.hac_model.specs.Run.Given.{no_answers}
 use Rattle.hac_model.specs.Run.Refusals.{answer_cause, blocked, cause, cycle_against, cycle_cause, early_cause, event_of, events_of, layout_cause, led_to}
 use Rattle.hac_model.specs.Run.Standing.{AllStand}
 use Rattle.hac_model.specs.Tree.Events.{apply_all, dirty}
@@ -38,20 +39,20 @@ valid-limits s h =
     )
 
 -- a command that makes one event has that one
-made-events : (s : State) (r : Resolved) (e : Event) → event_of r ≡ Some e → events_of s r ≡ e ∷ []
+made-events : (s : State) (r : Resolved) (e : Event) → event_of r ≡ Some e → events_of no_answers s r ≡ e ∷ []
 made-events s Index e is = absurd cc
 made-events s r e is = ap (λ (o : Option Event). option_map_or (λ e. e ∷ []) o []) is
 
 -- where a command leads to a valid state and lets no directory depend on itself, nothing refuses it that doesn't block it
-led-free : (s : State) (r : Resolved) → IsValid (led_to s r) → blocked s r ≡ None → cycle_cause s r ≡ None → (early_cause s r ≡ None) × (cause s r ≡ None)
+led-free : (s : State) (r : Resolved) → IsValid (led_to no_answers s r) → blocked s r ≡ None → cycle_cause s r ≡ None → (early_cause s r ≡ None) × (cause no_answers s r ≡ None)
 led-free s r h free acyclic =
-    let limits = valid-limits (led_to s r) h in
+    let limits = valid-limits (led_to no_answers s r) h in
     let early : early_cause s r ≡ None = λ i. first_cause (free i ∷ option_map Limit (limits.0 i) ∷ acyclic i ∷ []) in
     (early, (λ i. first_cause (early i ∷ option_map Limit (limits.1 i) ∷ [])))
 
 module _ (s : State) (h : IsValid s) where
   -- a command that reads leaves the state
-  reads-free : (r : Resolved) → is_reading r ≡ true → blocked s r ≡ None → (early_cause s r ≡ None) × (cause s r ≡ None)
+  reads-free : (r : Resolved) → is_reading r ≡ true → blocked s r ≡ None → (early_cause s r ≡ None) × (cause no_answers s r ≡ None)
   reads-free (command.Cat entry) reads free = led-free s (command.Cat entry) h free refl
   reads-free (command.Ls dir) reads free = led-free s (command.Ls dir) h free refl
   reads-free (command.Query dir) reads free = led-free s (command.Query dir) h free refl
@@ -64,8 +65,8 @@ module _ (s : State) (h : IsValid s) where
   draft-reads r shown stands free made = record { stands = stands; cause = (reads-free r made.1 free).0; known = made }
 
   -- indexing leads to a valid state
-  index-free : (early_cause s Index ≡ None) × (cause s Index ≡ None)
-  index-free = led-free s Index (all-valid (events_of s Index) s h (steps-happen (dirty s) s h refl)) refl refl
+  index-free : (early_cause s Index ≡ None) × (cause no_answers s Index ≡ None)
+  index-free = led-free s Index (all-valid (events_of no_answers s Index) s h (steps-happen (dirty s) s h refl)) refl refl
 
   pub draft-indexes : (r : Resolved) (count : ℕ) → AllStand s r → (r ≡ Index) × (count ≡ dirty s) → IsDraftFor s r (Indexes count)
   draft-indexes r count stands made =
@@ -89,12 +90,12 @@ module _ (s : State) (h : IsValid s) where
   change-refuses r e deny free is refuses = subst (Refuses deny) (sym (change-early r e free is)) refuses
 
   -- the limits that depend on spaces, by the counts of the change
-  answers-are : (r : Resolved) (change : Change) → event_of r ≡ Some change.event → IsCounted s change → answer_cause s r ≡ option_map Limit (first_passed (answer_limits change.counts))
+  answers-are : (r : Resolved) (change : Change) → event_of r ≡ Some change.event → IsCounted s change → answer_cause no_answers s r ≡ option_map Limit (first_passed (answer_limits change.counts))
   answers-are r change is counted =
       ap (λ (events : List Event). option_map Limit (first_passed (answer_limits (counts (apply_all s events))))) (made-events s r change.event is)
       ∙ ap (λ (held : Counts). option_map Limit (first_passed (answer_limits held))) (sym counted)
 
-  settled-refuses : (r : Resolved) (change : Change) (deny : Deny) → IsDraftFor s r (Changes change) → Refuses deny (option_map Limit (first_passed (answer_limits change.counts))) → Refuses deny (cause s r)
+  settled-refuses : (r : Resolved) (change : Change) (deny : Deny) → IsDraftFor s r (Changes change) → Refuses deny (option_map Limit (first_passed (answer_limits change.counts))) → Refuses deny (cause no_answers s r)
   settled-refuses r change deny draft refuses =
       subst (Refuses deny) (sym (λ i. first_cause (draft.cause i ∷ answers-are r change draft.known.0 draft.known.1 i ∷ []))) (alone deny (option_map Limit (first_passed (answer_limits change.counts))) refuses)
     where
@@ -104,7 +105,7 @@ module _ (s : State) (h : IsValid s) where
 
   settles-change : (r : Resolved) (change : Change) → IsDraftFor s r (Changes change) → option_map Limit (first_passed (answer_limits change.counts)) ≡ None → Settles s r (settled.Change change)
   settles-change r change draft within =
-      let free : cause s r ≡ None = λ i. first_cause (draft.cause i ∷ (answers-are r change draft.known.0 draft.known.1 ∙ within) i ∷ []) in
+      let free : cause no_answers s r ≡ None = λ i. first_cause (draft.cause i ∷ (answers-are r change draft.known.0 draft.known.1 ∙ within) i ∷ []) in
       let parts = cause-parts s r free in
       let events = made-events s r change.event draft.known.0 in
       record {
@@ -121,7 +122,7 @@ module _ (s : State) (h : IsValid s) where
         can = subst (λ (n : ℕ). AllHappen s (replicate n Step)) (sym draft.known.1) (steps-happen (dirty s) s h refl);
       })
 
-  pub reads-cause : (r shown : Resolved) → IsDraftFor s r (Reads shown) → cause s r ≡ None
+  pub reads-cause : (r shown : Resolved) → IsDraftFor s r (Reads shown) → cause no_answers s r ≡ None
   reads-cause r shown draft = (reads-free r draft.known.1 (no_cause (blocked s r) (layout_cause s r ∷ cycle_cause s r ∷ []) draft.cause).0).1
 
 -- the draft of an event, or why there is none
@@ -131,7 +132,7 @@ drafts-change s h r e (Err deny) stands free is made none refuses = (tt, change-
 
 -- the outcome of a change, or why there is none
 pub settles-changed : (s : State) → IsValid s → (change : Change) (draft : Known) (result : Result Settled Deny) → Changes change ≡ draft → IfOk result (λ outcome. outcome ≡ settled.Change change) → Passes result (option_map Limit (first_passed (answer_limits change.counts))) →
-    (r : Resolved) → IsDraftFor s r draft → IfOk result (Settles s r) × IfErr result (λ deny. Refuses deny (cause s r))
+    (r : Resolved) → IsDraftFor s r draft → IfOk result (Settles s r) × IfErr result (λ deny. Refuses deny (cause no_answers s r))
 settles-changed s h change draft (Ok outcome) is made passes r for =
     (subst (Settles s r) (sym made) (settles-change s h r change (subst (IsDraftFor s r) (sym is) for) passes), tt)
 settles-changed s h change draft (Err deny) is made passes r for =

@@ -3,6 +3,7 @@ use Rattle.std.specs.Prelude.{◌≡◌, ⊤, ℕ, Bool, true, false, List, [], 
 use Rattle.std.specs.Option.{option_map}
 use Rattle.hac_model.specs.Laws.{AllHappen}
 use Rattle.hac_model.specs.Run.Answers.{first_cause}
+use Rattle.hac_model.specs.Run.Given.{no_answers}
 use Rattle.hac_model.specs.Run.Refusals.{cause, cycle_against, early_cause, event_of, events_of}
 use Rattle.hac_model.specs.Run.Resolving.{resolve}
 use Rattle.hac_model.specs.Run.Standing.{AllStand}
@@ -96,6 +97,6 @@ CanSettle s (settled.Steps count) = AllHappen s (replicate count Step)
 
 -- nothing refuses the command, and this is its outcome
 pub record Settles (s : State) (command : Resolved) (outcome : Settled) : Type 0 where
-  pub cause : cause s command ≡ None
-  pub events : settled_events outcome ≡ events_of s command
+  pub cause : cause no_answers s command ≡ None
+  pub events : settled_events outcome ≡ events_of no_answers s command
   pub can : CanSettle s outcome

@@ -4,6 +4,7 @@ ghost use Rattle.hac_model.specs.Run.Answers.{Answers, Refuses};
 ghost use Rattle.hac_model.specs.Tree.Events.{apply_all, dirty};
 ghost use Rattle.hac_model.specs.Script.Lines.{is_spelled};
 ghost use Rattle.hac_model.specs.Run.Showing.{data_lines};
+ghost use Rattle.hac_model.specs.Run.Given.{no_answers};
 ghost use Rattle.hac_model.specs.Run.Refusals.{cause, early_refusal};
 ghost use Rattle.hac_model.specs.Run.Resolving.{resolve};
 ghost use Rattle.hac_model.specs.Tree.{empty};
@@ -84,9 +85,9 @@ impl Machine {
         requires made { IsDraft self.now.state draft }
         requires reads { reads draft ≡ true }
         ensures reply { (command : Resolved) → IsDraftFor self.now.state command draft →
-            IfOk result (λ reply. reply ≡ Reply.Lines (data_lines self.now.state command)) }
+            IfOk result (λ reply. reply ≡ Reply.Lines (data_lines no_answers self.now.state command)) }
         ensures cause { (command : Resolved) → IsDraftFor self.now.state command draft →
-            cause self.now.state command ≡ None }
+            cause no_answers self.now.state command ≡ None }
     {
         self.kept.know_valid();
         match draft.into_known() {
@@ -107,7 +108,7 @@ impl Machine {
         ensures settled { (command : Resolved) → IsDraftFor self.now.state command draft →
             IfOk result (Settles self.now.state command) }
         ensures refused { (command : Resolved) → IsDraftFor self.now.state command draft →
-            IfErr result (λ deny. Refuses deny (cause self.now.state command)) }
+            IfErr result (λ deny. Refuses deny (cause no_answers self.now.state command)) }
     {
         self.kept.know_valid();
         match draft.into_known() {

@@ -12,6 +12,7 @@ use Rattle.hac_model.specs.Laws.{AllHappen}
 use Rattle.hac_model.specs.Tree.Limits.{answer_limits, counts, dirty_count, first_passed, is_text, layout_limits, passed}
 use Rattle.hac_model.specs.Script.Lines.{is_spelled}
 use Rattle.hac_model.specs.Tree.Links.{has, is_item, is_permanent, is_prohibited, is_semantic, links, parent_of}
+use Rattle.hac_model.specs.Run.Given.{no_answers}
 use Rattle.hac_model.specs.Run.Refusals.{already_cause, answer_cause, blocked, cause, cycle_by, cycle_cause, directory_cause, early_cause, event_of, events_of, filled_cause, layout_cause, least_path, led_to, plain_cause, referenced_cause, root_cause, taken_cause, under_cause, unlinked_cause, unmarked_cause}
 use Rattle.hac_model.specs.Run.Resolving.{resolve}
 use Rattle.hac_model.specs.Run.Standing.{AllStand}
@@ -59,14 +60,17 @@ no_limit None h = refl
 no_limit (Some word) h = absurd cc
 
 -- nothing blocks the event, no directory would depend on itself, and the next state exceeds no limit
-pub cause-parts : (s : State) (r : Resolved) → cause s r ≡ None → (blocked s r ≡ None) × (cycle_cause s r ≡ None) × (passed (led_to s r) ≡ None)
+pub cause-parts : (s : State) (r : Resolved) → cause no_answers s r ≡ None → (blocked s r ≡ None) × (cycle_cause s r ≡ None) × (passed (led_to no_answers s r) ≡ None)
 cause-parts s r h =
-    let both = no_cause (early_cause s r) (answer_cause s r ∷ []) h in
+    let both = no_cause (early_cause s r) (answer_cause no_answers s r ∷ []) h in
     let early = no_cause (blocked s r) (layout_cause s r ∷ cycle_cause s r ∷ []) both.0 in
     let layout = no_cause (layout_cause s r) (cycle_cause s r ∷ []) early.1 in
     let cycle = no_cause (cycle_cause s r) [] layout.1 in
-    let answers = no_cause (answer_cause s r) [] both.1 in
-    (early.0, cycle.0, passed-both (led_to s r) (no_limit (first_passed (layout_limits (counts (led_to s r)))) layout.0) (no_limit (first_passed (answer_limits (counts (led_to s r)))) answers.0))
+    let answers = no_cause (answer_cause no_answers s r) [] both.1 in
+    (early.0, cycle.0, 
+      passed-both (led_to no_answers s r)
+      (no_limit (first_passed (layout_limits (counts (led_to no_answers s r)))) layout.0)
+      (no_limit (first_passed (answer_limits (counts (led_to no_answers s r)))) answers.0))
 
 lives-some : (s : State) (n : ℕ) → is_live s.entries n ≡ true → (n == 0) ≡ false → is_some (entry_at s.entries n) ≡ true
 lives-some s n lives other = ap (λ (b : Bool). b || is_some (entry_at s.entries n)) (sym other) ∙ lives
@@ -249,12 +253,12 @@ made-happens s (Some e) placed clear limits =
     let possible = and_from (is_clear s e) (is_placed s e) clear placed in
     (and_from (is_possible s e) (is_none (passed (apply s e))) possible (ap (λ (o : Option LimitWord). is_none o) limits), tt)
 
-pub unblocked-happen : (s : State) (r : Resolved) → IsValid s → AllStand s r → blocked s r ≡ None → cycle_cause s r ≡ None → passed (led_to s r) ≡ None → AllHappen s (events_of s r)
+pub unblocked-happen : (s : State) (r : Resolved) → IsValid s → AllStand s r → blocked s r ≡ None → cycle_cause s r ≡ None → passed (led_to no_answers s r) ≡ None → AllHappen s (events_of no_answers s r)
 unblocked-happen s Index h there free acyclic limits = steps-happen (dirty s) s h refl
 unblocked-happen s r h there free acyclic limits =
     made-happens s (event_of r) (unblocked-placed s h.layout r there free) (unblocked-clear s h.layout r there free acyclic) limits
 
-pub commands-happen : (s : State) (line : Line) (r : Resolved) → IsValid s → IsTrue (is_spelled line.command) → resolve s line ≡ Ok r → cause s r ≡ None → AllHappen s (events_of s r)
+pub commands-happen : (s : State) (line : Line) (r : Resolved) → IsValid s → IsTrue (is_spelled line.command) → resolve s line ≡ Ok r → cause no_answers s r ≡ None → AllHappen s (events_of no_answers s r)
 commands-happen s line r h spelled leads free =
     let parts = cause-parts s r free in
     unblocked-happen s r h (line-stands s line r h spelled leads) parts.0 parts.1 parts.2

@@ -1,17 +1,17 @@
 -- A line that is whole, in front of anything; and two scripts that are joined.
-use Rattle.std.proofs.Common.{◌≡◌, ℕ, zero, suc, ◌+◌, ◌<◌, ◌≤◌, Bool, true, false, List, [], ◌∷◌, ◌++◌, length, take, drop, get_or, refl, ap, sym, ◌∙◌, arith, append_assoc, length-append}
+use Rattle.std.proofs.Common.{◌≡◌, ℕ, zero, suc, ◌+◌, ◌<◌, ◌≤◌, Bool, true, false, List, [], ◌∷◌, ◌++◌, length, take, drop, get_or, Option, refl, ap, sym, ◌∙◌, arith, append_assoc, length-append}
 use Rattle.std.specs.Prelude.{◌&&◌, not, if◌then◌else◌, nat_le, nat_lt}
 use Rattle.std.specs.List.{position_or_len}
 use Rattle.std.proofs.lemmas.Bool.{and_parts, eqb-true}
 use Rattle.std.proofs.lemmas.List.{append_cancel_left, length-take-le, take-append-drop, take-append-le, drop-append-le}
 use Rattle.std.proofs.lemmas.List.Folds.{prefix_len-append}
 use Rattle.std.proofs.lemmas.List.Sums.{split_at_first, passes_at_first}
-use Rattle.std.proofs.Math.Seq.{take-append_seam, drop-append_seam, drop-append-add}
+use Rattle.std.proofs.Math.Seq.{take-append_seam, drop-append_seam, drop-append-add, drop-nil}
 use Rattle.std.proofs.lemmas.Grind.{common_steps}
 use Rattle.hac_model.specs.Bytes.{is_line_end}
 use Rattle.hac_model.specs.Script.Lines.{Item, items_of}
 use Rattle.hac_model.specs.Script.{first_line, after_line, is_first_ended, due, first_items, after_item, script, is_first_whole, whole_line, whole}
-use Rattle.hac_model.specs.Run.Play.{Setting, Turn, left_by, play, item_turn, turns}
+use Rattle.hac_model.specs.Run.Play.{Given, Setting, Turn, given_behind, left_by, nothing_given, play, item_turn, turns}
 use Rattle.hac_model.proofs.FrontLemmas.{items-front}
 use Rattle.hac_model.proofs.PrefixLemmas.{unended-take}
 use Rattle.hac_model.proofs.ScriptLemmas.{script-step, script-nothing, whole-step, length-after_item}
@@ -182,23 +182,66 @@ script-joined-within (suc n) (x ∷ a) b h lines =
 pub script-joined : (a b : List ℕ) → whole a ≡ a → script (a ++ b) ≡ script a ++ script b
 script-joined a b lines = script-joined-within (length a) a b (omega arith) lines
 
+-- what is given behind one command, and then behind n more
+given_behind-next : (n : ℕ) (given : Given) → given_behind n (given_behind 1 given) ≡ given_behind (suc n) given
+given_behind-next n given = ap (λ (faults : List (Option (List ℕ))). record given { faults = faults }) (next given.faults)
+  where
+    next : (faults : List (Option (List ℕ))) → drop n (drop 1 faults) ≡ drop (suc n) faults
+    next [] = drop-nil n
+    next (fault ∷ faults) = refl
+
 -- turns that are joined go on from what the first ones leave
-pub turns-append : (setting : Setting) (xs ys : List Item) → turns setting (xs ++ ys) ≡ turns setting xs ++ turns (left_by setting (turns setting xs)) ys
-turns-append setting [] ys = refl
-turns-append setting (x ∷ xs) ys = ap (λ (rest : List Turn). item_turn setting x ∷ rest) (turns-append (item_turn setting x).after xs ys)
+pub turns-append : (given : Given) (setting : Setting) (xs ys : List Item) →
+    turns given setting (xs ++ ys) ≡ turns given setting xs ++ turns (given_behind (length xs) given) (left_by setting (turns given setting xs)) ys
+turns-append given setting [] ys = refl
+turns-append given setting (x ∷ xs) ys =
+    let after = (item_turn given setting x).after in
+    let rest = turns (given_behind 1 given) after xs in
+    ap (λ (more : List Turn). item_turn given setting x ∷ more) (turns-append (given_behind 1 given) after xs ys)
+    ∙ ap (λ (behind : Given). item_turn given setting x ∷ (rest ++ turns behind (left_by after rest) ys)) (given_behind-next (length xs) given)
+
+-- there are as many turns as lines
+turns-length : (given : Given) (setting : Setting) (xs : List Item) → length (turns given setting xs) ≡ length xs
+turns-length given setting [] = refl
+turns-length given setting (x ∷ xs) = ap (λ (n : ℕ). suc n) (turns-length (given_behind 1 given) (item_turn given setting x).after xs)
 
 pub left_by-append : (setting : Setting) (xs ys : List Turn) → left_by setting (xs ++ ys) ≡ left_by (left_by setting xs) ys
 left_by-append setting [] ys = refl
 left_by-append setting (x ∷ xs) ys = left_by-append x.after xs ys
 
-pub scripts-join : (setting : Setting) (first second : List ℕ) → whole first ≡ first → play setting (first ++ second) ≡ play setting first ++ play (left_by setting (play setting first)) second
-scripts-join setting first second lines = ap (turns setting) (script-joined first second lines) ∙ turns-append setting (script first) (script second)
+pub scripts-join : (given : Given) (setting : Setting) (first second : List ℕ) → whole first ≡ first →
+    play given setting (first ++ second)
+    ≡ play given setting first ++ play (given_behind (length (play given setting first)) given) (left_by setting (play given setting first)) second
+scripts-join given setting first second lines =
+    ap (turns given setting) (script-joined first second lines) ∙ turns-append given setting (script first) (script second)
+    ∙ ap (λ (n : ℕ). play given setting first ++ play (given_behind n given) (left_by setting (play given setting first)) second)
+    (sym (turns-length given setting (script first)))
+
+-- Where nothing is given, nothing is behind any commands.
+
+given-nothing : (n : ℕ) → given_behind n nothing_given ≡ nothing_given
+given-nothing n = ap (λ (faults : List (Option (List ℕ))). record nothing_given { faults = faults }) (drop-nil n)
+
+pub turns-joined : (setting : Setting) (xs ys : List Item) →
+    turns nothing_given setting (xs ++ ys) ≡ turns nothing_given setting xs ++ turns nothing_given (left_by setting (turns nothing_given setting xs)) ys
+turns-joined setting xs ys =
+    let done = turns nothing_given setting xs in
+    turns-append nothing_given setting xs ys ∙ ap (λ (given : Given). done ++ turns given (left_by setting done) ys) (given-nothing (length xs))
+
+pub scripts-joined : (setting : Setting) (first second : List ℕ) → whole first ≡ first →
+    play nothing_given setting (first ++ second) ≡ play nothing_given setting first ++ play nothing_given (left_by setting (play nothing_given setting first)) second
+scripts-joined setting first second lines =
+    ap (turns nothing_given setting) (script-joined first second lines) ∙ turns-joined setting (script first) (script second)
 
 -- a script is played by its first line and what follows that
-pub play-line : (setting : Setting) (b : List ℕ) → play setting b ≡ turns setting (first_items b) ++ play (left_by setting (turns setting (first_items b))) (after_item b)
-play-line setting b = ap (turns setting) (script-step b) ∙ turns-append setting (first_items b) (script (after_item b))
+pub play-line : (setting : Setting) (b : List ℕ) →
+    play nothing_given setting b
+    ≡ turns nothing_given setting (first_items b) ++ play nothing_given (left_by setting (turns nothing_given setting (first_items b))) (after_item b)
+play-line setting b = ap (turns nothing_given setting) (script-step b) ∙ turns-joined setting (first_items b) (script (after_item b))
 
 -- a whole line in front of anything is played first
 pub play-of_line : (setting : Setting) (line xs more : List ℕ) → position_or_len is_line_end line ≡ length line → due line ≡ length xs →
-    play setting (line ++ 10 ∷ (xs ++ more)) ≡ turns setting (items_of line xs) ++ play (left_by setting (turns setting (items_of line xs))) more
-play-of_line setting line xs more unended asked = ap (turns setting) (script-line line xs more unended asked) ∙ turns-append setting (items_of line xs) (script more)
+    play nothing_given setting (line ++ 10 ∷ (xs ++ more))
+    ≡ turns nothing_given setting (items_of line xs) ++ play nothing_given (left_by setting (turns nothing_given setting (items_of line xs))) more
+play-of_line setting line xs more unended asked =
+    ap (turns nothing_given setting) (script-line line xs more unended asked) ∙ turns-joined setting (items_of line xs) (script more)

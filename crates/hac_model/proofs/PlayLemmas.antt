@@ -1,15 +1,16 @@
 -- Scripts lead from valid states to valid states, by events one after the other.
 use Rattle.std.proofs.Common.{◌≡◌, ℕ, zero, suc, ◌+◌, Bool, true, false, cond, List, [], ◌∷◌, ◌++◌, length, Option, refl, ap, sym, ◌∙◌}
-use Rattle.std.specs.Prelude.{if◌then◌else◌, filter, replicate, Some, None, Result, Ok, Err, IsTrue}
+use Rattle.std.specs.Prelude.{if◌then◌else◌, nat_lt, filter, replicate, Some, None, Result, Ok, Err, IsTrue}
 use Rattle.std.specs.List.{AllByRecursion}
 use Rattle.std.specs.Option.{option_map_or}
-use Rattle.std.proofs.lemmas.List.{append-nil}
+use Rattle.std.proofs.lemmas.Bool.{and_parts}
 use Rattle.hac_model.specs.Run.Answers.{first_cause}
-use Rattle.hac_model.specs.Tree.Events.{apply, apply_all, changed_at, dirty, edited, indexed, next_dirty}
+use Rattle.hac_model.specs.Tree.Events.{accepted, apply, apply_all, changed_at, dirty, edited, indexed, next_dirty}
 use Rattle.hac_model.specs.Tree.Sessions.{is_stored, stored}
 use Rattle.hac_model.specs.Script.Lines.{Item, is_quiet, is_spelled, item_of, items_of}
 use Rattle.hac_model.specs.Payload.Payloads.{event_text}
-use Rattle.hac_model.specs.Run.Play.{Setting, Turn, answered, all_events, end_behind, events_in, full_cause, left_by, play, refused, stored_events, item_turn, command_turn, turns}
+use Rattle.hac_model.specs.Run.Play.{Given, Setting, Turn, after_events, all_events, answered, can_step, command_turn, data_lines, end_behind, events_in, full_cause, given_behind, have_room, item_turn, left_by, line_turn, no_answers, play, refused, steps_behind, stored_events, turn_cause, turn_of, turns}
+use Rattle.hac_model.specs.Run.Given.{next_fault}
 use Rattle.hac_model.specs.Run.Refusals.{cause, events_of, led_to}
 use Rattle.hac_model.specs.Run.Resolving.{resolve}
 use Rattle.hac_model.specs.Script.{after_item, after_line, first_items, first_line, items_of_lines, script}
@@ -17,34 +18,63 @@ use Rattle.hac_model.specs.Tree.Valid.{IsValid}
 use Rattle.hac_model.specs.declared.commands.Line.{Line}
 use Rattle.hac_model.specs.declared.events.Event.{Event}
 use Rattle.hac_model.specs.declared.replies.Refusal.{Refusal}
+use Rattle.hac_model.specs.declared.replies.Refusal.TheVariants.{SpaceFault}
+use Rattle.hac_model.specs.declared.replies.Reply.{Reply}
+use Rattle.hac_model.specs.declared.replies.Reply.TheVariants.{Lines, Refused}
 use Rattle.hac_model.specs.declared.resolved.Resolved.{Resolved}
 use Rattle.hac_model.specs.declared.resolved.Resolved.TheVariants.{Mkdir, Write, Mv, Smkdir, Index}
 use Rattle.hac_model.specs.declared.places.Place.TheVariants.{There, Free}
 use Rattle.hac_model.specs.declared.events.Event.TheVariants as event
 use Rattle.hac_model.specs.declared.states.State.{State}
-use Rattle.hac_model.proofs.EventLemmas.{all-valid, commands-happen, no_cause, steps-clean-all}
+use Rattle.hac_model.proofs.AcyclicLemmas.{apply-valid}
+use Rattle.hac_model.proofs.EventLemmas.{all-valid, commands-happen, no_cause, steps-clean-all, steps-due}
 use Rattle.hac_model.proofs.SpellingLemmas.{IsItem, item_of-item}
 
--- the first cause against a command, the store's among them
-abbrev against : Setting → Resolved → Option Refusal
-against setting command = first_cause (cause setting.state command ∷ full_cause setting command ∷ [])
+-- the setting that a command leaves
+abbrev left : Setting → Resolved → Setting
+left setting command = record setting {
+  state = led_to no_answers setting.state command;
+  end = end_behind setting.end (stored_events setting.state command);
+}
 
--- what a command leads to is valid
-command-valid : (setting : Setting) (line : Line) (r : Result Resolved Refusal) → IsValid setting.state → IsTrue (is_spelled line.command) → resolve setting.state line ≡ r → IsValid (command_turn setting r).after.state
-command-valid setting line (Err refusal) h spelled leads = h
-command-valid setting line (Ok command) h spelled leads =
-    elim (against setting command) as (λ o. against setting command ≡ o → IsValid (option_map_or (refused setting) o (answered setting command)).after.state) [
-      | None ↦ (λ free. all-valid (events_of setting.state command) setting.state h (commands-happen setting.state line command h spelled leads (no_cause (cause setting.state command) (full_cause setting command ∷ []) free).0))
-      | Some refusal ↦ (λ _. h)
+-- a step happens where there is something to index
+can-step : (setting : Setting) → IsValid setting.state → can_step setting ≡ true → IsTrue (accepted setting.state event.Step)
+can-step setting h can = steps-due setting.state h.layout ∙ (and_parts (nat_lt 0 (dirty setting.state)) (have_room setting (event.Step ∷ [])) can).0
+
+-- the steps that follow by themselves keep the state valid
+steps-valid : (n : ℕ) (setting : Setting) → IsValid setting.state → IsValid (apply_all setting.state (steps_behind n setting))
+steps-valid zero setting h = h
+steps-valid (suc n) setting h =
+    let next = after_events setting (event.Step ∷ []) in
+    elim (can_step setting) as (λ b. can_step setting ≡ b → IsValid (apply_all setting.state (if b then event.Step ∷ steps_behind n next else []))) [
+      | true ↦ (λ can. steps-valid n next (apply-valid setting.state event.Step h (can-step setting h can)))
+      | false ↦ (λ _. h)
     ] refl
 
-pub turn-valid : (setting : Setting) (item : Item) → IsItem item → IsValid setting.state → IsValid (item_turn setting item).after.state
-turn-valid setting (Ok line) spelled h = command-valid setting line (resolve setting.state line) h spelled refl
-turn-valid setting (Err refusal) spelled h = h
+-- what a command leads to is valid
+command-valid : (given : Given) (setting : Setting) (line : Line) (r : Result Resolved Refusal) → IsValid setting.state → IsTrue (is_spelled line.command) → resolve setting.state line ≡ r → IsValid (command_turn given setting r).after.state
+command-valid given setting line (Err refusal) h spelled leads = steps-valid given.steps setting h
+command-valid given setting line (Ok command) h spelled leads =
+    elim (turn_cause setting command) as (λ o. turn_cause setting command ≡ o → IsValid (option_map_or (refused given setting) o (answered given setting command)).after.state) [
+      | None ↦ (λ free. steps-valid given.steps (left setting command)
+          (all-valid (events_of no_answers setting.state command) setting.state h (commands-happen setting.state line command h spelled leads (no_cause (cause no_answers setting.state command) (full_cause setting command ∷ []) free).0)))
+      | Some refusal ↦ (λ _. steps-valid given.steps setting h)
+    ] refl
 
-pub turns-valid : (setting : Setting) (items : List Item) → AllByRecursion IsItem items → IsValid setting.state → IsValid (left_by setting (turns setting items)).state
-turns-valid setting [] spelled h = h
-turns-valid setting (item ∷ items) spelled h = turns-valid (item_turn setting item).after items spelled.1 (turn-valid setting item spelled.0 h)
+line-valid : (given : Given) (setting : Setting) (item : Item) → IsItem item → IsValid setting.state → IsValid (line_turn given setting item).after.state
+line-valid given setting (Ok line) spelled h = command-valid given setting line (resolve setting.state line) h spelled refl
+line-valid given setting (Err refusal) spelled h = steps-valid given.steps setting h
+
+pub turn-valid : (given : Given) (setting : Setting) (item : Item) → IsItem item → IsValid setting.state → IsValid (item_turn given setting item).after.state
+turn-valid given setting item spelled h =
+    elim (next_fault given) as (λ o. IsValid (option_map_or (λ space. refused given setting (SpaceFault space)) o (line_turn given setting item)).after.state) [
+      | None ↦ line-valid given setting item spelled h
+      | Some space ↦ steps-valid given.steps setting h
+    ]
+
+pub turns-valid : (given : Given) (setting : Setting) (items : List Item) → AllByRecursion IsItem items → IsValid setting.state → IsValid (left_by setting (turns given setting items)).state
+turns-valid given setting [] spelled h = h
+turns-valid given setting (item ∷ items) spelled h = turns-valid (given_behind 1 given) (item_turn given setting item).after items spelled.1 (turn-valid given setting item spelled.0 h)
 
 all-append : (xs ys : List Item) → AllByRecursion IsItem xs → AllByRecursion IsItem ys → AllByRecursion IsItem (xs ++ ys)
 all-append [] ys p q = q
@@ -62,8 +92,8 @@ pub script-items : (bytes : List ℕ) → AllByRecursion IsItem (script bytes)
 unfolding script
 script-items bytes = items_of_lines-items (length bytes) bytes
 
-pub scripts-valid : (setting : Setting) (bytes : List ℕ) → IsValid setting.state → IsValid (left_by setting (play setting bytes)).state
-scripts-valid setting bytes h = turns-valid setting (script bytes) (script-items bytes) h
+pub scripts-valid : (given : Given) (setting : Setting) (bytes : List ℕ) → IsValid setting.state → IsValid (left_by setting (play given setting bytes)).state
+scripts-valid given setting bytes h = turns-valid given setting (script bytes) (script-items bytes) h
 
 -- events one after the other
 
@@ -86,7 +116,7 @@ stored-all (e ∷ events) s = stored-all events (apply s e) ∙ ap (λ (t : Stat
     at false = refl
 
 -- no command moves a session yet
-pub stores-all : (s : State) (r : Resolved) → stored_events s r ≡ events_of s r
+pub stores-all : (s : State) (r : Resolved) → stored_events s r ≡ events_of no_answers s r
 stores-all s (Mkdir (There number)) = refl
 stores-all s (Mkdir (Free dir name)) = refl
 stores-all s (Write (There number) text) = refl
@@ -102,53 +132,92 @@ stores-all s Index = steps (dirty s)
     steps (suc n) = ap (λ (events : List Event). event.Step ∷ events) (steps n)
 stores-all s other = refl
 
+pub end_behind-append : (xs ys : List Event) (end : ℕ) → end_behind end (xs ++ ys) ≡ end_behind (end_behind end xs) ys
+end_behind-append [] ys end = refl
+end_behind-append (x ∷ xs) ys end = end_behind-append xs ys (end + 5 + length (event_text x))
+
 -- a turn leaves what its events make of the state, and its store ends behind their records
 record Leads (setting : Setting) (turn : Turn) : Type 0 where
   state : stored turn.after.state ≡ apply_all (stored setting.state) (events_in turn)
   whole : turn.after.state ≡ apply_all setting.state (events_in turn)
   end : turn.after.end ≡ end_behind setting.end (events_in turn)
 
-command-leads : (setting : Setting) (r : Result Resolved Refusal) → Leads setting (command_turn setting r)
-command-leads setting (Err refusal) = record { state = refl; whole = refl; end = refl }
-command-leads setting (Ok command) =
-    elim (against setting command) as (λ o. Leads setting (option_map_or (refused setting) o (answered setting command))) [
-      | None ↦ record {
-        state = stored-all (events_of setting.state command) setting.state ∙ ap (apply_all (stored setting.state)) (sym (append-nil (stored_events setting.state command)));
-        whole = ap (apply_all setting.state) (sym (stores-all setting.state command) ∙ sym (append-nil (stored_events setting.state command)));
-        end = ap (end_behind setting.end) (sym (append-nil (stored_events setting.state command)));
-      }
-      | Some refusal ↦ record { state = refl; whole = refl; end = refl }
+-- the steps that follow by themselves are stored
+steps-stored : (n : ℕ) (setting : Setting) → filter is_stored (steps_behind n setting) ≡ steps_behind n setting
+steps-stored zero setting = refl
+steps-stored (suc n) setting =
+    let next = after_events setting (event.Step ∷ []) in
+    elim (can_step setting) as (λ b. filter is_stored (if b then event.Step ∷ steps_behind n next else []) ≡ (if b then event.Step ∷ steps_behind n next else [])) [
+      | true ↦ ap (λ (events : List Event). event.Step ∷ events) (steps-stored n next)
+      | false ↦ refl
     ]
 
-turn-leads : (setting : Setting) (item : Item) → Leads setting (item_turn setting item)
-turn-leads setting (Ok line) = command-leads setting (resolve setting.state line)
-turn-leads setting (Err refusal) = record { state = refl; whole = refl; end = refl }
+-- a turn leads on where its command does
+turn_of-leads : (given : Given) (setting next : Setting) (reply : Reply) (events : List Event) →
+    stored next.state ≡ apply_all (stored setting.state) events → next.state ≡ apply_all setting.state events → next.end ≡ end_behind setting.end events →
+    Leads setting (turn_of given reply events next)
+turn_of-leads given setting next reply events state whole end =
+    let steps = steps_behind given.steps next in
+    record {
+      state =
+      stored-all steps next.state ∙ ap (apply_all (stored next.state)) (steps-stored given.steps next) ∙ ap (λ (s : State). apply_all s steps) state
+      ∙ sym (apply_all-append events steps (stored setting.state));
+      whole = ap (λ (s : State). apply_all s steps) whole ∙ sym (apply_all-append events steps setting.state);
+      end = ap (λ (end : ℕ). end_behind end steps) end ∙ sym (end_behind-append events steps setting.end);
+    }
 
-pub events-lead : (setting : Setting) (items : List Item) → stored (left_by setting (turns setting items)).state ≡ apply_all (stored setting.state) (all_events (turns setting items))
-events-lead setting [] = refl
-events-lead setting (item ∷ items) =
-    events-lead (item_turn setting item).after items
-    ∙ ap (λ (s : State). apply_all s (all_events (turns (item_turn setting item).after items))) (turn-leads setting item).state
-    ∙ sym (apply_all-append (events_in (item_turn setting item)) (all_events (turns (item_turn setting item).after items)) (stored setting.state))
+refused-leads : (given : Given) (setting : Setting) (refusal : Refusal) → Leads setting (refused given setting refusal)
+refused-leads given setting refusal = turn_of-leads given setting setting (Refused refusal) [] refl refl refl
+
+command-leads : (given : Given) (setting : Setting) (r : Result Resolved Refusal) → Leads setting (command_turn given setting r)
+command-leads given setting (Err refusal) = refused-leads given setting refusal
+command-leads given setting (Ok command) =
+    elim (turn_cause setting command) as (λ o. Leads setting (option_map_or (refused given setting) o (answered given setting command))) [
+      | None ↦ turn_of-leads given setting (left setting command) (Lines (data_lines no_answers setting.state command)) (stored_events setting.state command)
+        (stored-all (events_of no_answers setting.state command) setting.state)
+        (ap (apply_all setting.state) (sym (stores-all setting.state command)))
+        refl
+      | Some refusal ↦ refused-leads given setting refusal
+    ]
+
+line-leads : (given : Given) (setting : Setting) (item : Item) → Leads setting (line_turn given setting item)
+line-leads given setting (Ok line) = command-leads given setting (resolve setting.state line)
+line-leads given setting (Err refusal) = refused-leads given setting refusal
+
+turn-leads : (given : Given) (setting : Setting) (item : Item) → Leads setting (item_turn given setting item)
+turn-leads given setting item =
+    elim (next_fault given) as (λ o. Leads setting (option_map_or (λ space. refused given setting (SpaceFault space)) o (line_turn given setting item))) [
+      | None ↦ line-leads given setting item
+      | Some space ↦ refused-leads given setting (SpaceFault space)
+    ]
+
+pub events-lead : (given : Given) (setting : Setting) (items : List Item) → stored (left_by setting (turns given setting items)).state ≡ apply_all (stored setting.state) (all_events (turns given setting items))
+events-lead given setting [] = refl
+events-lead given setting (item ∷ items) =
+    let turn = item_turn given setting item in
+    let rest = turns (given_behind 1 given) turn.after items in
+    events-lead (given_behind 1 given) turn.after items
+    ∙ ap (λ (s : State). apply_all s (all_events rest)) (turn-leads given setting item).state
+    ∙ sym (apply_all-append (events_in turn) (all_events rest) (stored setting.state))
 
 -- no event leaves the sessions yet, so the state itself is what its events make of it
-pub states-lead : (setting : Setting) (items : List Item) → (left_by setting (turns setting items)).state ≡ apply_all setting.state (all_events (turns setting items))
-states-lead setting [] = refl
-states-lead setting (item ∷ items) =
-    states-lead (item_turn setting item).after items
-    ∙ ap (λ (s : State). apply_all s (all_events (turns (item_turn setting item).after items))) (turn-leads setting item).whole
-    ∙ sym (apply_all-append (events_in (item_turn setting item)) (all_events (turns (item_turn setting item).after items)) setting.state)
+pub states-lead : (given : Given) (setting : Setting) (items : List Item) → (left_by setting (turns given setting items)).state ≡ apply_all setting.state (all_events (turns given setting items))
+states-lead given setting [] = refl
+states-lead given setting (item ∷ items) =
+    let turn = item_turn given setting item in
+    let rest = turns (given_behind 1 given) turn.after items in
+    states-lead (given_behind 1 given) turn.after items
+    ∙ ap (λ (s : State). apply_all s (all_events rest)) (turn-leads given setting item).whole
+    ∙ sym (apply_all-append (events_in turn) (all_events rest) setting.state)
 
-pub end_behind-append : (xs ys : List Event) (end : ℕ) → end_behind end (xs ++ ys) ≡ end_behind (end_behind end xs) ys
-end_behind-append [] ys end = refl
-end_behind-append (x ∷ xs) ys end = end_behind-append xs ys (end + 5 + length (event_text x))
+pub events-end : (given : Given) (setting : Setting) (items : List Item) → (left_by setting (turns given setting items)).end ≡ end_behind setting.end (all_events (turns given setting items))
+events-end given setting [] = refl
+events-end given setting (item ∷ items) =
+    let turn = item_turn given setting item in
+    let rest = turns (given_behind 1 given) turn.after items in
+    events-end (given_behind 1 given) turn.after items
+    ∙ ap (λ (end : ℕ). end_behind end (all_events rest)) (turn-leads given setting item).end
+    ∙ sym (end_behind-append (events_in turn) (all_events rest) setting.end)
 
-pub events-end : (setting : Setting) (items : List Item) → (left_by setting (turns setting items)).end ≡ end_behind setting.end (all_events (turns setting items))
-events-end setting [] = refl
-events-end setting (item ∷ items) =
-    events-end (item_turn setting item).after items
-    ∙ ap (λ (end : ℕ). end_behind end (all_events (turns (item_turn setting item).after items))) (turn-leads setting item).end
-    ∙ sym (end_behind-append (events_in (item_turn setting item)) (all_events (turns (item_turn setting item).after items)) setting.end)
-
-pub index-cleans : (s : State) → IsValid s → dirty (led_to s Index) ≡ 0
+pub index-cleans : (s : State) → IsValid s → dirty (led_to no_answers s Index) ≡ 0
 index-cleans s h = steps-clean-all (dirty s) s h refl

@@ -18,7 +18,7 @@ use Rattle.hac_model.specs.Run.Resolving.{resolve}
 use Rattle.hac_model.specs.Script.{due, whole}
 use Rattle.hac_model.specs.Tree.Sessions.{stored}
 use Rattle.hac_model.specs.Payload.Payloads.{is_spellable}
-use Rattle.hac_model.specs.Run.Play.{Setting, all_events, end_after, left_by, new_setting, play, replies, turns}
+use Rattle.hac_model.specs.Run.Play.{Given, Setting, all_events, end_after, given_behind, left_by, new_setting, no_answers, nothing_given, play, replies, turns}
 use Rattle.hac_model.specs.Script.Texts.{escaped_text, text_of}
 use Rattle.hac_model.specs.Tree.{empty, entry_at, path_of}
 use Rattle.hac_model.specs.Tree.Valid.{IsValid}
@@ -35,8 +35,9 @@ use Rattle.hac_model.specs.declared.states.State.{State}
 -- two joined scripts are played one after the other, where the first one consists of whole lines
 abbrev pub ScriptsJoin : Type 0
 ScriptsJoin =
-    (setting : Setting) (first second : List ℕ) → whole first ≡ first →
-    play setting (first ++ second) ≡ play setting first ++ play (left_by setting (play setting first)) second
+    (given : Given) (setting : Setting) (first second : List ℕ) → whole first ≡ first →
+    play given setting (first ++ second) ≡ play given setting first
+    ++ play (given_behind (length (play given setting first)) given) (left_by setting (play given setting first)) second
 
 -- the bytes are this many lines, each with its end and the bytes that belong to it
 abbrev pub AreLines : ℕ → List ℕ → Type 0
@@ -93,7 +94,7 @@ AllHappen s (event ∷ events) = IsTrue (accepted s event) × AllHappen (apply s
 abbrev pub CommandsHappen : Type 0
 CommandsHappen =
     (s : State) (line : Line) (command : Resolved) → IsValid s → IsTrue (is_spelled line.command) →
-    resolve s line ≡ Ok command → cause s command ≡ None → AllHappen s (events_of s command)
+    resolve s line ≡ Ok command → cause no_answers s command ≡ None → AllHappen s (events_of no_answers s command)
 
 -- a step can happen just where a file is dirty
 abbrev pub StepsAreDue : Type 0
@@ -105,21 +106,25 @@ StepsClean = (s : State) → IsValid s → IsTrue (accepted s Step) → dirty s 
 
 -- after the steps of `index` no file is dirty
 abbrev pub IndexCleans : Type 0
-IndexCleans = (s : State) → IsValid s → dirty (led_to s Index) ≡ 0
+IndexCleans = (s : State) → IsValid s → dirty (led_to no_answers s Index) ≡ 0
 
 -- scripts lead from valid states to valid states
 abbrev pub ScriptsKeepValid : Type 0
-ScriptsKeepValid = (setting : Setting) (bytes : List ℕ) → IsValid setting.state → IsValid (left_by setting (play setting bytes)).state
+ScriptsKeepValid =
+    (given : Given) (setting : Setting) (bytes : List ℕ) → IsValid setting.state →
+    IsValid (left_by setting (play given setting bytes)).state
 
 -- what is stored of the state after lines is what their events make of what was stored, one after the other
 abbrev pub EventsLead : Type 0
 EventsLead =
-    (setting : Setting) (items : List Item) →
-    stored (left_by setting (turns setting items)).state ≡ apply_all (stored setting.state) (all_events (turns setting items))
+    (given : Given) (setting : Setting) (items : List Item) →
+    stored (left_by setting (turns given setting items)).state ≡ apply_all (stored setting.state) (all_events (turns given setting items))
 
 -- and the store then ends behind the records of these events
 abbrev pub EventsEnd : Type 0
-EventsEnd = (setting : Setting) (items : List Item) → (left_by setting (turns setting items)).end ≡ end_after setting (all_events (turns setting items))
+EventsEnd =
+    (given : Given) (setting : Setting) (items : List Item) →
+    (left_by setting (turns given setting items)).end ≡ end_after setting (all_events (turns given setting items))
 
 -- each event that a valid state accepts has a spelling
 abbrev pub AcceptedAreSpelled : Type 0
@@ -242,7 +247,7 @@ lines_text lines = flat_map ended lines
 -- a semantic directory has the files that had its word when they were last indexed, and no directory is written over
 abbrev pub FirstListings : Type 0
 FirstListings =
-    text (replies (play new_setting (lines_text (
+    text (replies (play nothing_given new_setting (lines_text (
     codes "write /a Big apple" ∷ codes "smkdir /s apple" ∷ codes "sls /s" ∷ codes "index" ∷ codes "sls /s"
     ∷ codes "write /a pear" ∷ codes "sls /s" ∷ codes "write /s x" ∷ codes "smkdir /s y" ∷ []))))
     ≡ lines_text (
@@ -253,7 +258,7 @@ FirstListings =
 -- move takes files out of its links, and brings others in.
 abbrev pub MovedListings : Type 0
 MovedListings =
-    text (replies (play new_setting (lines_text (
+    text (replies (play nothing_given new_setting (lines_text (
     codes "mkdir /d" ∷ codes "mkdir d/e" ∷ codes "write /d/e/f red apple" ∷ codes "write g green apple" ∷ codes "smkdir /d/s apple"
     ∷ codes "smkdir d/s/t red" ∷ codes "index" ∷ codes "sls /d/s" ∷ codes "sls /d/s/t" ∷ codes "mv /d/e /h" ∷ codes "sls /d/s"
     ∷ codes "sls /d/s/t" ∷ codes "mv /g /d/./x/../e/" ∷ codes "sls /d/s" ∷ codes "sls /d/s/t" ∷ codes "mv /h/f /d/s/g"
@@ -268,12 +273,12 @@ MovedListings =
 -- a store without room for one more record refuses each change, and still answers
 abbrev pub FullStore : Type 0
 FullStore =
-    text (replies (play (record new_setting { start = 4294967290; end = 4294967290 }) (lines_text (codes "mkdir /a" ∷ codes "mkdir /a" ∷ codes "ls" ∷ []))))
+    text (replies (play nothing_given (record new_setting { start = 4294967290; end = 4294967290 }) (lines_text (codes "mkdir /a" ∷ codes "mkdir /a" ∷ codes "ls" ∷ []))))
     ≡ lines_text (codes "no limit store" ∷ codes "no limit store" ∷ codes "ok" ∷ [])
 
 -- the record of a new directory is 12 bytes longer than its name: 13 bytes for `a`
 abbrev pub FirstEnd : Type 0
-FirstEnd = (left_by new_setting (play new_setting (lines_text (codes "mkdir /a" ∷ [])))).end ≡ 64 + 13
+FirstEnd = (left_by new_setting (play nothing_given new_setting (lines_text (codes "mkdir /a" ∷ [])))).end ≡ 64 + 13
 
 -- a new store, an existing one, and one whose name begins like an option
 abbrev pub FirstCommandLines : Type 0

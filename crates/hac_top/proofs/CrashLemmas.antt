@@ -8,7 +8,7 @@ use Rattle.std.proofs.lemmas.Grind.{flat_map-append}
 use Rattle.hac_model.specs.Run.Answers.{first_cause}
 use Rattle.hac_model.specs.Tree.Events.{apply_all}
 use Rattle.hac_model.specs.Script.Lines.{Item}
-use Rattle.hac_model.specs.Run.Play.{Setting, Turn, answered, all_events, events_before, events_in, full_cause, refused, item_turn, command_turn, turns}
+use Rattle.hac_model.specs.Run.Play.{Setting, Turn, all_events, answered, command_turn, events_before, events_in, full_cause, item_turn, nothing_given, refused, turns}
 use Rattle.hac_model.specs.Run.Refusals.{cause}
 use Rattle.hac_model.specs.Run.Resolving.{resolve}
 use Rattle.hac_model.specs.declared.events.Event.{Event}
@@ -25,19 +25,19 @@ pub all_events-append : (xs ys : List Turn) → all_events (xs ++ ys) ≡ all_ev
 all_events-append xs ys = flat_map-append events_in xs ys
 
 -- no steps follow a command of their own
-command-steps : (setting : Setting) (r : Result Resolved Refusal) → (command_turn setting r).steps ≡ []
+command-steps : (setting : Setting) (r : Result Resolved Refusal) → (command_turn nothing_given setting r).steps ≡ []
 command-steps setting (Err refusal) = refl
 command-steps setting (Ok command) =
     elim (first_cause (cause setting.state command ∷ full_cause setting command ∷ [])) as (λ o. (option_map_or (refused setting) o (answered setting command)).steps ≡ []) [ None ↦ refl | Some refusal ↦ refl ]
 
-pub turn-steps : (setting : Setting) (item : Item) → (item_turn setting item).steps ≡ []
+pub turn-steps : (setting : Setting) (item : Item) → (item_turn nothing_given setting item).steps ≡ []
 turn-steps setting (Ok line) = command-steps setting (resolve setting.state line)
 turn-steps setting (Err refusal) = refl
 
 -- the events of one turn are those of its command
-pub one-turn : (setting : Setting) (item : Item) → all_events (turns setting (item ∷ [])) ≡ (item_turn setting item).events
+pub one-turn : (setting : Setting) (item : Item) → all_events (turns nothing_given setting (item ∷ [])) ≡ (item_turn nothing_given setting item).events
 one-turn setting item =
-    append-nil (events_in (item_turn setting item)) ∙ ap (λ (steps : List Event). (item_turn setting item).events ++ steps) (turn-steps setting item) ∙ append-nil (item_turn setting item).events
+    append-nil (events_in (item_turn nothing_given setting item)) ∙ ap (λ (steps : List Event). (item_turn nothing_given setting item).events ++ steps) (turn-steps setting item) ∙ append-nil (item_turn nothing_given setting item).events
 
 -- Counts.
 
@@ -91,23 +91,23 @@ pub tree-all : (s now : State) (events : List Event) → now ≡ apply_all s eve
 tree-all s now events is = record { count = length events; within = omega arith; is = is ∙ ap (apply_all s) (sym (take-length events)) }
 
 -- all that was answered is there, and some of what is in hand
-pub some-answered : (s t now : State) (setting : Setting) (all done : List Turn) (items : List Item) (rest : List Turn) → all ≡ done ++ (turns setting items ++ rest) → length (turns setting items) ≤ 1 →
-    t ≡ apply_all s (all_events done) → IsTreeAfter t (all_events (turns setting items)) now → IsTreeOfAnswered s all (length done) now
+pub some-answered : (s t now : State) (setting : Setting) (all done : List Turn) (items : List Item) (rest : List Turn) → all ≡ done ++ (turns nothing_given setting items ++ rest) → length (turns nothing_given setting items) ≤ 1 →
+    t ≡ apply_all s (all_events done) → IsTreeAfter t (all_events (turns nothing_given setting items)) now → IsTreeOfAnswered s all (length done) now
 some-answered s t now setting all done items rest is few led tree =
-    let behind = tree-behind s t now done (turns setting items) rest led tree in
+    let behind = tree-behind s t now done (turns nothing_given setting items) rest led tree in
     subst (λ (ts : List Turn). IsTreeOfAnswered s ts (length done) now) (sym is) (record {
       count = length (all_events done) + tree.count;
       within = behind.within;
       is = behind.is;
-      answered = omega (arith, before-last done (turns setting items ++ rest));
+      answered = omega (arith, before-last done (turns nothing_given setting items ++ rest));
       no_further = further items rest few tree.within;
     })
   where
-    further : (items : List Item) (rest : List Turn) → length (turns setting items) ≤ 1 → tree.count ≤ length (all_events (turns setting items)) → length done < length (done ++ (turns setting items ++ rest)) →
-        length (all_events done) + tree.count ≤ events_before (suc (length done)) (done ++ (turns setting items ++ rest))
+    further : (items : List Item) (rest : List Turn) → length (turns nothing_given setting items) ≤ 1 → tree.count ≤ length (all_events (turns nothing_given setting items)) → length done < length (done ++ (turns nothing_given setting items ++ rest)) →
+        length (all_events done) + tree.count ≤ events_before (suc (length done)) (done ++ (turns nothing_given setting items ++ rest))
     further [] [] few within more = absurd (omega (arith, more, length-append done []))
     further [] (next ∷ rest) few within more = omega (arith, within, before-next done rest next)
-    further (item ∷ []) rest few within more = omega (arith, within, before-next done rest (item_turn setting item), ap length (one-turn setting item))
+    further (item ∷ []) rest few within more = omega (arith, within, before-next done rest (item_turn nothing_given setting item), ap length (one-turn setting item))
     further (item ∷ other ∷ items) rest few within more = absurd (omega (arith, few))
 
 -- nothing else is there, where nothing is in hand

@@ -5,7 +5,7 @@ use Rattle.std.specs.Io.KnownBytes.{Appends}
 use Rattle.hac_disk.specs.Images.{LeavesOnly}
 use Rattle.hac_outside.specs.Known.{Known}
 use Rattle.hac_outside.specs.Seen.{SinkSeen}
-use Rattle.hac_model.specs.Run.Play.{Setting, Turn, has_refusal, left_by, play, turns}
+use Rattle.hac_model.specs.Run.Play.{Setting, Turn, has_refusal, left_by, nothing_given, play, turns}
 use Rattle.hac_model.specs.Script.{first_items, whole}
 use Rattle.hac_store.specs.Stores.{Bears, Seen, Stands}
 use Rattle.shell_lang.specs.Reading.{IsReaderOf, Reading, pending}
@@ -16,7 +16,7 @@ use Rattle.hac_top.specs.Told.{told_text}
 
 -- the turns of whole lines, and of one line behind them
 abbrev pub turns_of : Setting → List ℕ → List ℕ → List Turn
-turns_of first played last = play first played ++ turns (left_by first (play first played)) (first_items last)
+turns_of first played last = play nothing_given first played ++ turns nothing_given (left_by first (play nothing_given first played)) (first_items last)
 
 -- The script is whole lines that were played, the line that was played last, and what is pending. All of the lines were
 -- answered.

@@ -9,7 +9,7 @@ use Rattle.hac_outside.specs.Causes.{TellsFault}
 use Rattle.hac_outside.specs.Known.{Known}
 use Rattle.hac_outside.specs.Seen.{SinkSeen, SourceSeen}
 use Rattle.hac_outside.proofs.KnownLemmas.{known-behind, known-joined, known-weaker}
-use Rattle.hac_model.specs.Run.Play.{Setting, all_events, has_refusal, left_by, play, turns}
+use Rattle.hac_model.specs.Run.Play.{Setting, all_events, has_refusal, left_by, nothing_given, play, turns}
 use Rattle.hac_model.specs.declared.limits.TheConstants.{SCRIPT_LIMIT}
 use Rattle.hac_store.specs.Stores.{Bears, Seen, Stands}
 use Rattle.hac_store.proofs.PutLemmas.{stands-each}
@@ -123,7 +123,7 @@ module _ {D : Type 0} {seen : D → Option (List ℕ)} {image : D → List ℕ �
       moments : (script : Option (List ℕ)) → IfSome script (λ s. Stands (seen disk) (image disk) store.setting → LeavesOnly moment image_since disk disk (Holds (IsTreeOf store.setting s)))
       moments None = search rules
       moments (Some s) = λ stands.
-          started moment image_since disk (Holds (IsTreeOf store.setting s)) (λ c left. held-before store.setting (all_events (play store.setting s)) c (stands-each (seen disk) (image disk) store.setting stands c (only_now disk c left)))
+          started moment image_since disk (Holds (IsTreeOf store.setting s)) (λ c left. held-before store.setting (all_events (play nothing_given store.setting s)) c (stands-each (seen disk) (image disk) store.setting stands c (only_now disk c left)))
 
   module _ {old mid : D} {first : Setting} {before now : Outside} {reader : Reading} {store : Seen} {refused : Bool} (was : RunsOn seen image moment image_since attached faults old mid first before now reader store refused) where
     -- no line was taken
@@ -137,7 +137,7 @@ module _ {D : Type 0} {seen : D → Option (List ℕ)} {image : D → List ℕ �
               (λ s. Played false status first s before (outside source now.sink) (Stands (seen old) (image old) first) (image mid)) before.source.left (pending reader now.source.left) source.left
               (λ s p l left_is goes stops total.
               played-stop first (Stands (seen old) (image old) first) (image mid) status status s p l reader.ended store.setting refused before (outside source now.sink) goes left_is was.passed stops
-              (answers-stop first s p reader.ended store.setting refused before.sink now.sink goes status l new.taken stop.why stops stop.goes stop.past total) [] (play store.setting p) refl (omega arith)
+              (answers-stop first s p reader.ended store.setting refused before.sink now.sink goes status l new.taken stop.why stops stop.goes stop.past total) [] (play nothing_given store.setting p) refl (omega arith)
               (λ stands c left. held-before store.setting [] c (stands-each (seen mid) (image mid) store.setting (was.stands stands) c left)) (λ _ finished. absurd (kind.unfinished finished)))
               was.goes stop.stops takes.total;
           opened = kind.opened;
@@ -178,23 +178,23 @@ module _ {D : Type 0} {seen : D → Option (List ℕ)} {image : D → List ℕ �
           (leaves-then false fresh_reader reader next before.source now.source source was.source takes.source).total
 
       -- what a crash leaves at each moment
-      line-moments : (new : D) → (Stands (seen mid) (image mid) store.setting → LeavesOnly moment image_since mid new (Holds (IsTreeAfter store.setting.state (all_events (turns store.setting (items_of_taken line)))))) →
+      line-moments : (new : D) → (Stands (seen mid) (image mid) store.setting → LeavesOnly moment image_since mid new (Holds (IsTreeAfter store.setting.state (all_events (turns nothing_given store.setting (items_of_taken line)))))) →
           IfSome before.source.left (λ s. Stands (seen old) (image old) first → LeavesOnly moment image_since old new (Holds (IsTreeOf first s)))
       line-moments new run =
-          let here = Holds (IsTreeAfter store.setting.state (all_events (turns store.setting (items_of_taken line)))) in
+          let here = Holds (IsTreeAfter store.setting.state (all_events (turns nothing_given store.setting (items_of_taken line)))) in
           both before.source.left (λ s. Stands (seen old) (image old) first → LeavesOnly moment image_since old mid (Holds (IsTreeOf first s)))
-          (λ s. (c : List ℕ) → Holds (IsTreeAfter store.setting.state (all_events (turns store.setting (items_of_taken line)))) c → Holds (IsTreeOf first s) c)
+          (λ s. (c : List ℕ) → Holds (IsTreeAfter store.setting.state (all_events (turns nothing_given store.setting (items_of_taken line)))) c → Holds (IsTreeOf first s) c)
           (λ s. Stands (seen old) (image old) first → LeavesOnly moment image_since old new (Holds (IsTreeOf first s)))
           (λ s so_far then_all stands. then_run moment image_since old mid new (Holds (IsTreeOf first s)) (so_far stands) (weaken moment image_since mid new here (Holds (IsTreeOf first s)) then_all (run (was.stands stands))))
           was.moments
-          (given-script (λ s. (c : List ℕ) → Holds (IsTreeAfter store.setting.state (all_events (turns store.setting (items_of_taken line)))) c → Holds (IsTreeOf first s) c)
+          (given-script (λ s. (c : List ℕ) → Holds (IsTreeAfter store.setting.state (all_events (turns nothing_given store.setting (items_of_taken line)))) c → Holds (IsTreeOf first s) c)
           (λ s p l _ goes gives.
-          tree-of-line first s p false store.setting refused before.sink now.sink goes (items_of_taken line) (play (left_by store.setting (turns store.setting (items_of_taken line))) (next.held ++ l))
+          tree-of-line first s p false store.setting refused before.sink now.sink goes (items_of_taken line) (play nothing_given (left_by store.setting (turns nothing_given store.setting (items_of_taken line))) (next.held ++ l))
           (turns-next line next.ended p (next.held ++ l) store.setting gives)))
 
       -- it was answered
-      pub runs-next : {new : D} {sink : SinkSeen} {after : Seen} {refused_now : Bool} → AnswersLine seen image moment image_since attached faults mid new store after now.sink sink (turns store.setting (items_of_taken line)) →
-          refused_now ≡ (refused || has_refusal (turns store.setting (items_of_taken line))) → RunsOn seen image moment image_since attached faults old new first before (outside source sink) next after refused_now
+      pub runs-next : {new : D} {sink : SinkSeen} {after : Seen} {refused_now : Bool} → AnswersLine seen image moment image_since attached faults mid new store after now.sink sink (turns nothing_given store.setting (items_of_taken line)) →
+          refused_now ≡ (refused || has_refusal (turns nothing_given store.setting (items_of_taken line))) → RunsOn seen image moment image_since attached faults old new first before (outside source sink) next after refused_now
       runs-next {new} {sink} {after} {refused_now} answers is =
           record {
             goes =
@@ -202,7 +202,7 @@ module _ {D : Type 0} {seen : D → Option (List ℕ)} {image : D → List ℕ �
                 before.source.left (pending reader now.source.left) (pending next source.left)
                 (λ s p q goes gives.
                 subst (λ (z : Seen). Goes first s q next.ended z.setting refused_now before.sink sink) (sym answers.store)
-                (subst (λ (b : Bool). Goes first s q next.ended (left_by store.setting (turns store.setting (items_of_taken line))) b before.sink sink) (sym is)
+                (subst (λ (b : Bool). Goes first s q next.ended (left_by store.setting (turns nothing_given store.setting (items_of_taken line))) b before.sink sink) (sym is)
                 (goes-next first s p q line next.ended store.setting refused before.sink now.sink sink (open-goes first s p reader.ended store.setting refused before.sink now.sink goes line next.ended q gives) gives answers.replies.written)))
                 was.goes takes.given;
             reads = takes.reader;
@@ -220,7 +220,7 @@ module _ {D : Type 0} {seen : D → Option (List ℕ)} {image : D → List ℕ �
       -- its answer stopped
       module _ (counts_now : (disk : D) (t : ℕ) (c : List ℕ) → t ≤ moment disk → image disk c → image_since disk t c) {new : D} {sink : SinkSeen} where
         -- some of its reply was written, or none
-        cut-with : (status : Status) → StopsAnswer seen image moment image_since attached faults mid new store.setting now.sink sink (turns store.setting (items_of_taken line)) status → IsOpenStatus status → is_read_fault status ≡ false →
+        cut-with : (status : Status) → StopsAnswer seen image moment image_since attached faults mid new store.setting now.sink sink (turns nothing_given store.setting (items_of_taken line)) status → IsOpenStatus status → is_read_fault status ≡ false →
             TellsFault (is_write_fault status) before.sink.faults sink.faults → ((status ≡ WriteFault → ⊥) → before.sink.held_back ≡ 0 → sink.held_back ≡ 0) →
             IfSome before.source.left (λ s. Played false status first s before (outside source sink) (Stands (seen old) (image old) first) (image new)) → PlaysStore seen image moment image_since attached faults old new first before (outside source sink) status
         cut-with status stop opened reads writes passed played =
@@ -235,7 +235,7 @@ module _ {D : Type 0} {seen : D → Option (List ℕ)} {image : D → List ℕ �
               told = told-since (is_disk_fault status) (faults old) (faults mid) (faults new) was.quiet stop.stores.told;
             }
 
-        cut-before : (status : Status) → StopsAnswer seen image moment image_since attached faults mid new store.setting now.sink sink (turns store.setting (items_of_taken line)) status → sink ≡ now.sink → IsOpenStatus status → is_read_fault status ≡ false → is_write_fault status ≡ false →
+        cut-before : (status : Status) → StopsAnswer seen image moment image_since attached faults mid new store.setting now.sink sink (turns nothing_given store.setting (items_of_taken line)) status → sink ≡ now.sink → IsOpenStatus status → is_read_fault status ≡ false → is_write_fault status ≡ false →
             ((s left : List ℕ) (done : ℕ) → AnswersBy status first s done (Some left)) → (IsFinished status → ⊥) → PlaysStore seen image moment image_since attached faults old new first before (outside source sink) status
         cut-before status stop same opened reads writes answers unfinished =
             let passed : before.sink.held_back ≡ 0 → sink.held_back ≡ 0 = λ none. ap (λ (k : SinkSeen). k.held_back) same ∙ was.passed none in
@@ -244,13 +244,13 @@ module _ {D : Type 0} {seen : D → Option (List ℕ)} {image : D → List ℕ �
             (λ s p l left_is goes gives.
             played-stop first (Stands (seen old) (image old) first) (image new) status Memory s p l false store.setting refused before (outside source sink) (subst (λ (k : SinkSeen). Goes first s p false store.setting refused before.sink k) (sym same) goes) left_is
             passed (line-stops line next.ended p next.held l gives takes.advances.near) (answers s l _)
-            (items_of_taken line) (play (left_by store.setting (turns store.setting (items_of_taken line))) (next.held ++ l)) (turns-next line next.ended p (next.held ++ l) store.setting gives) (few-items line store.setting)
+            (items_of_taken line) (play nothing_given (left_by store.setting (turns nothing_given store.setting (items_of_taken line))) (next.held ++ l)) (turns-next line next.ended p (next.held ++ l) store.setting gives) (few-items line store.setting)
             (λ stands c left.
             let run = stop.stores.moments (was.stands stands) in
             run.each c (counts_now new (moment mid) c run.later left))
             (λ _ finished. absurd (unfinished finished))))
 
-        cut-by : (status : Status) → StopsAnswer seen image moment image_since attached faults mid new store.setting now.sink sink (turns store.setting (items_of_taken line)) status → PlaysStore seen image moment image_since attached faults old new first before (outside source sink) status
+        cut-by : (status : Status) → StopsAnswer seen image moment image_since attached faults mid new store.setting now.sink sink (turns nothing_given store.setting (items_of_taken line)) status → PlaysStore seen image moment image_since attached faults old new first before (outside source sink) status
         cut-by WriteFault stop =
             cut-with WriteFault stop tt refl (told-since true before.sink.faults now.sink.faults sink.faults was.wrote stop.replies.1) (λ other. absurd (other refl))
             (given-script (λ s. Played false WriteFault first s before (outside source sink) (Stands (seen old) (image old) first) (image new))
@@ -261,6 +261,6 @@ module _ {D : Type 0} {seen : D → Option (List ℕ)} {image : D → List ℕ �
         cut-by Memory stop = cut-before Memory stop stop.replies tt refl refl (λ s left done. tt) (λ never. never)
         cut-by other stop = absurd stop.replies
 
-        pub runs-cut : {status : Status} → StopsAnswer seen image moment image_since attached faults mid new store.setting now.sink sink (turns store.setting (items_of_taken line)) status →
+        pub runs-cut : {status : Status} → StopsAnswer seen image moment image_since attached faults mid new store.setting now.sink sink (turns nothing_given store.setting (items_of_taken line)) status →
             PlaysStore seen image moment image_since attached faults old new first before (outside source sink) status
         runs-cut {status} stop = cut-by status stop

@@ -6,7 +6,7 @@ use Rattle.hac_disk.specs.Images.{IsQuiet, LeavesOnly}
 use Rattle.hac_disk.specs.Told.{IsSettled}
 use Rattle.hac_disk.proofs.Moments.{quiet_leaves, then_run, weaken}
 use Rattle.hac_outside.specs.Causes.{Rose, TellsFault}
-use Rattle.hac_model.specs.Run.Play.{Setting, all_events, new_setting, play}
+use Rattle.hac_model.specs.Run.Play.{Setting, all_events, new_setting, nothing_given, play}
 use Rattle.hac_model.specs.declared.events.Event.{Event}
 use Rattle.hac_model.specs.declared.states.State.{State}
 use Rattle.hac_store.specs.Held.{held}
@@ -122,11 +122,11 @@ module _ {D : Type 0} (seen : D → Option (List ℕ)) (image : D → List ℕ �
         (Stands (seen mid) (image mid) setting → LeavesOnly moment image_since mid new (Holds (IsTreeOf setting script))) →
         Ran fresh status setting script before after settled (image new) (LeavesOnly moment image_since old new) (IsFaultless before after (faults old) (faults new))
     ran-from script stands opening played moments =
-        let events = all_events (play setting script) in
+        let events = all_events (play nothing_given setting script) in
         record {
           played = record {
             plays = played.plays;
-            reopens = λ _ c left. reopens fresh (IsTreeOfAnswered setting.state (play setting script) played.plays.told.done) c (played.reopens stands c left);
+            reopens = λ _ c left. reopens fresh (IsTreeOfAnswered setting.state (play nothing_given setting script) played.plays.told.done) c (played.reopens stands c left);
             kept = λ _. played.kept stands;
           };
           moments = λ settles.
@@ -169,13 +169,13 @@ module _ {D : Type 0} (seen : D → Option (List ℕ)) (image : D → List ℕ �
             plays = plays-stop setting ends Memory script script script false setting false before before goes left_is (λ none. none) (nothing-stops script script refl) (answers (length done));
             reopens = λ settles c now.
                 let run = opening settles in
-                reopens-weaker fresh (λ s. s ≡ setting.state) (IsTreeOfAnswered setting.state (play setting script) (length done)) c
-                (λ s same. all-answered setting.state s setting (play setting script) done (play setting script) all_is (same ∙ state_is)) (run.each c (counts_now new (moment old) c run.later now));
+                reopens-weaker fresh (λ s. s ≡ setting.state) (IsTreeOfAnswered setting.state (play nothing_given setting script) (length done)) c
+                (λ s same. all-answered setting.state s setting (play nothing_given setting script) done (play nothing_given setting script) all_is (same ∙ state_is)) (run.each c (counts_now new (moment old) c run.later now));
             kept = λ _ finished. absurd (unfinished finished);
           };
           moments = λ settles.
               weaken moment image_since old new (Reopens fresh (λ s. s ≡ setting.state)) (Reopens fresh (IsTreeOf setting script))
-              (λ c holds. reopens-weaker fresh (λ s. s ≡ setting.state) (IsTreeOf setting script) c (λ s same. no-event setting.state s (all_events (play setting script)) same) holds) (opening settles);
+              (λ c holds. reopens-weaker fresh (λ s. s ≡ setting.state) (IsTreeOf setting script) c (λ s same. no-event setting.state s (all_events (play nothing_given setting script)) same) holds) (opening settles);
           begun = λ _ begun. absurd (not-begun ends before unfinished begun);
           complete = complete;
         }

@@ -9,11 +9,11 @@ use Rattle.hac_model.specs.Script.Lines.{Item}
 use Rattle.hac_model.specs.Script.{first_line, due, first_items, after_item, script, whole}
 use Rattle.hac_model.specs.declared.limits.TheConstants.{SCRIPT_LIMIT}
 use Rattle.hac_model.specs.Tree.Events.{apply_all}
-use Rattle.hac_model.specs.Run.Play.{Setting, Turn, all_events, is_refused, has_refusal, left_by, play, turns}
+use Rattle.hac_model.specs.Run.Play.{Setting, Turn, all_events, has_refusal, is_refused, left_by, nothing_given, play, turns}
 use Rattle.hac_model.specs.declared.states.State.{State}
 use Rattle.hac_model.specs.declared.taken.Taken.{Taken}
 use Rattle.hac_model.specs.Laws.{AreLines}
-use Rattle.hac_model.proofs.JoinLemmas.{cut-append, left_by-append, play-line, scripts-join, turns-append, whole-line, whole-unended}
+use Rattle.hac_model.proofs.JoinLemmas.{cut-append, left_by-append, play-line, scripts-joined, turns-joined, whole-line, whole-unended}
 use Rattle.hac_model.proofs.WholeLemmas.{whole-lines}
 use Rattle.hac_model.proofs.PlayLemmas.{apply_all-append, states-lead}
 use Rattle.hac_model.proofs.ScriptLemmas.{script-nothing}
@@ -35,8 +35,8 @@ use Rattle.hac_top.proofs.TakenLemmas.{no_rest}
 use Rattle.hac_top.proofs.TellingLemmas.{cuts-telling, front-turns, text-append, told-whole}
 use Rattle.hac_top.proofs.TellingLemmas.{appends-then, appends-nothing}
 
-play-nothing : (setting : Setting) → play setting [] ≡ []
-play-nothing setting = ap (turns setting) script-nothing
+play-nothing : (setting : Setting) → play nothing_given setting [] ≡ []
+play-nothing setting = ap (turns nothing_given setting) script-nothing
 
 no_bytes : (bytes : List ℕ) → length bytes ≡ 0 → bytes ≡ []
 no_bytes [] none = refl
@@ -59,17 +59,17 @@ whole-joined a b is =
     lines-joined lines.0 a b (subst (AreLines lines.0) is lines.1)
 
 -- the turns of one line, and of what follows it
-own-turns : (z : Setting) (own : List ℕ) → after_item own ≡ [] → play z own ≡ turns z (first_items own)
+own-turns : (z : Setting) (own : List ℕ) → after_item own ≡ [] → play nothing_given z own ≡ turns nothing_given z (first_items own)
 own-turns z own one =
-    play-line z own ∙ ap (λ (xs : List ℕ). turns z (first_items own) ++ play (left_by z (turns z (first_items own))) xs) one
-    ∙ ap (λ (ts : List Turn). turns z (first_items own) ++ ts) (play-nothing (left_by z (turns z (first_items own)))) ∙ append-nil (turns z (first_items own))
+    play-line z own ∙ ap (λ (xs : List ℕ). turns nothing_given z (first_items own) ++ play nothing_given (left_by z (turns nothing_given z (first_items own))) xs) one
+    ∙ ap (λ (ts : List Turn). turns nothing_given z (first_items own) ++ ts) (play-nothing (left_by z (turns nothing_given z (first_items own)))) ∙ append-nil (turns nothing_given z (first_items own))
 
-line-then : (z : Setting) (ended : Bool) (own rest : List ℕ) → IsLine ended own rest → play z (own ++ rest) ≡ turns z (first_items own) ++ play (left_by z (turns z (first_items own))) rest
+line-then : (z : Setting) (ended : Bool) (own rest : List ℕ) → IsLine ended own rest → play nothing_given z (own ++ rest) ≡ turns nothing_given z (first_items own) ++ play nothing_given (left_by z (turns nothing_given z (first_items own))) rest
 line-then z true own rest line =
     let none : rest ≡ [] = line.last refl in
-    ap (λ (xs : List ℕ). play z (own ++ xs)) none ∙ ap (play z) (append-nil own) ∙ play-line z own
-    ∙ ap (λ (xs : List ℕ). turns z (first_items own) ++ play (left_by z (turns z (first_items own))) xs) (line.one ∙ sym none)
-line-then z false own rest line = scripts-join z own rest (line.whole_is refl) ∙ ap (λ (ts : List Turn). ts ++ play (left_by z ts) rest) (own-turns z own line.one)
+    ap (λ (xs : List ℕ). play nothing_given z (own ++ xs)) none ∙ ap (play nothing_given z) (append-nil own) ∙ play-line z own
+    ∙ ap (λ (xs : List ℕ). turns nothing_given z (first_items own) ++ play nothing_given (left_by z (turns nothing_given z (first_items own))) xs) (line.one ∙ sym none)
+line-then z false own rest line = scripts-joined z own rest (line.whole_is refl) ∙ ap (λ (ts : List Turn). ts ++ play nothing_given (left_by z ts) rest) (own-turns z own line.one)
 
 -- a run that stops once such a line was taken, with less than one piece behind it
 pub line-stops : (line : TakenLine) (is_ended : Bool) (bytes behind left : List ℕ) → GivesTaken line is_ended bytes (behind ++ left) → length behind < piece_size → StopsIn Memory bytes left
@@ -80,41 +80,41 @@ line-stops line is_ended bytes behind left gives near =
 pub nothing-stops : (bytes left : List ℕ) → bytes ≡ left → StopsIn Memory bytes left
 nothing-stops bytes left same = record { taken = []; bytes_are = same; line = []; behind = []; taken_is = refl; one = drop-nil (due (first_line [])); near = omega arith; cuts = tt }
 
-few-of : (piece : Piece) (taken : Option Taken) (setting : Setting) → length (turns setting (items_of_piece piece taken)) ≤ 1
+few-of : (piece : Piece) (taken : Option Taken) (setting : Setting) → length (turns nothing_given setting (items_of_piece piece taken)) ≤ 1
 few-of (Bytes line) taken setting = omega arith
 few-of other taken setting = omega arith
 
-pub few-items : (line : TakenLine) (setting : Setting) → length (turns setting (items_of_taken line)) ≤ 1
+pub few-items : (line : TakenLine) (setting : Setting) → length (turns nothing_given setting (items_of_taken line)) ≤ 1
 few-items line setting = few-of line.piece line.taken setting
 
 -- what is pending is the turns of the line, and then those of the rest
 pub turns-next : (line : TakenLine) (is_ended : Bool) (bytes rest : List ℕ) (setting : Setting) → GivesTaken line is_ended bytes rest →
-    play setting bytes ≡ turns setting (items_of_taken line) ++ play (left_by setting (turns setting (items_of_taken line))) rest
+    play nothing_given setting bytes ≡ turns nothing_given setting (items_of_taken line) ++ play nothing_given (left_by setting (turns nothing_given setting (items_of_taken line))) rest
 turns-next line is_ended bytes rest setting gives =
-    ap (play setting) gives.bytes_are ∙ line-then setting is_ended gives.own rest gives.line_is
-    ∙ ap (λ (items : List Item). turns setting items ++ play (left_by setting (turns setting items)) rest) (sym gives.items)
+    ap (play nothing_given setting) gives.bytes_are ∙ line-then setting is_ended gives.own rest gives.line_is
+    ∙ ap (λ (items : List Item). turns nothing_given setting items ++ play nothing_given (left_by setting (turns nothing_given setting items)) rest) (sym gives.items)
 
 module _ (first : Setting) where
   module _ (s p : List ℕ) (ended : Bool) (setting : Setting) (refused : Bool) (before now : SinkSeen) (goes : Goes first s p ended setting refused before now) where
-    items-are : turns_of first goes.played goes.last ≡ turns first (script goes.played ++ first_items goes.last)
-    items-are = sym (turns-append first (script goes.played) (first_items goes.last))
+    items-are : turns_of first goes.played goes.last ≡ turns nothing_given first (script goes.played ++ first_items goes.last)
+    items-are = sym (turns-joined first (script goes.played) (first_items goes.last))
 
     pub state-is : setting.state ≡ apply_all first.state (all_events (turns_of first goes.played goes.last))
     state-is =
         ap (λ (z : Setting). z.state) (goes.left_is ∙ ap (left_by first) items-are) ∙ states-lead first (script goes.played ++ first_items goes.last)
         ∙ ap (λ (ts : List Turn). apply_all first.state (all_events ts)) (sym items-are)
 
-    pub turns-are : play first s ≡ turns_of first goes.played goes.last ++ play setting p
+    pub turns-are : play nothing_given first s ≡ turns_of first goes.played goes.last ++ play nothing_given setting p
     turns-are =
-        let z = left_by first (play first goes.played) in
-        let behind = turns z (first_items goes.last) in
-        ap (play first) goes.script_is ∙ scripts-join first goes.played (goes.last ++ p) goes.lines
-        ∙ ap (λ (ts : List Turn). play first goes.played ++ ts) (line-then z ended goes.last p goes.line_is) ∙ sym (append_assoc (play first goes.played) behind (play (left_by z behind) p))
-        ∙ ap (λ (w : Setting). turns_of first goes.played goes.last ++ play w p) (sym (goes.left_is ∙ left_by-append first (play first goes.played) behind))
+        let z = left_by first (play nothing_given first goes.played) in
+        let behind = turns nothing_given z (first_items goes.last) in
+        ap (play nothing_given first) goes.script_is ∙ scripts-joined first goes.played (goes.last ++ p) goes.lines
+        ∙ ap (λ (ts : List Turn). play nothing_given first goes.played ++ ts) (line-then z ended goes.last p goes.line_is) ∙ sym (append_assoc (play nothing_given first goes.played) behind (play nothing_given (left_by z behind) p))
+        ∙ ap (λ (w : Setting). turns_of first goes.played goes.last ++ play nothing_given w p) (sym (goes.left_is ∙ left_by-append first (play nothing_given first goes.played) behind))
 
     -- all lines so far, which are whole while the source goes on
-    done-is : turns_of first goes.played goes.last ≡ play first (goes.played ++ goes.last)
-    done-is = sym (scripts-join first goes.played goes.last goes.lines ∙ ap (λ (ts : List Turn). play first goes.played ++ ts) (own-turns (left_by first (play first goes.played)) goes.last goes.line_is.one))
+    done-is : turns_of first goes.played goes.last ≡ play nothing_given first (goes.played ++ goes.last)
+    done-is = sym (scripts-joined first goes.played goes.last goes.lines ∙ ap (λ (ts : List Turn). play nothing_given first goes.played ++ ts) (own-turns (left_by first (play nothing_given first goes.played)) goes.last goes.line_is.one))
 
     script-of : s ≡ (goes.played ++ goes.last) ++ p
     script-of = goes.script_is ∙ sym (append_assoc goes.played goes.last p)
@@ -127,7 +127,7 @@ module _ (first : Setting) where
     prompt-stop why l true is stops =
         let nothing : p ≡ [] = goes.line_is.last is in
         let no_left : l ≡ [] = no_rest stops.taken l (sym stops.bytes_are ∙ nothing) in
-        let behind = turns (left_by first (play first goes.played)) (first_items goes.last) in
+        let behind = turns nothing_given (left_by first (play nothing_given first goes.played)) (first_items goes.last) in
         record {
           answered = goes.played;
           line = goes.last;
@@ -138,7 +138,7 @@ module _ (first : Setting) where
           whole_is = goes.lines;
           one = goes.line_is.one;
           near = omega arith;
-          all = (length behind, front-turns (play first s) (turns_of first goes.played goes.last) (play setting p) turns-are ∙ ap (λ (ts : List Turn). play first goes.played ++ ts) (sym (take-length behind)));
+          all = (length behind, front-turns (play nothing_given first s) (turns_of first goes.played goes.last) (play nothing_given setting p) turns-are ∙ ap (λ (ts : List Turn). play nothing_given first goes.played ++ ts) (sym (take-length behind)));
         }
     prompt-stop why l false is stops =
         record {
@@ -151,15 +151,15 @@ module _ (first : Setting) where
           whole_is = whole-so_far is;
           one = stops.one;
           near = stops.near;
-          all = (0, front-turns (play first s) (turns_of first goes.played goes.last) (play setting p) turns-are ∙ done-is ∙ sym (append-nil (play first (goes.played ++ goes.last))));
+          all = (0, front-turns (play nothing_given first s) (turns_of first goes.played goes.last) (play nothing_given setting p) turns-are ∙ done-is ∙ sym (append-nil (play nothing_given first (goes.played ++ goes.last))));
         }
 
     -- the whole lines that were taken are those that were played, where no whole line more was taken
-    played-taken : (more : List ℕ) → ended ≡ false → whole more ≡ [] → take (length (turns_of first goes.played goes.last)) (play first s) ≡ play first (whole ((goes.played ++ goes.last) ++ more))
+    played-taken : (more : List ℕ) → ended ≡ false → whole more ≡ [] → take (length (turns_of first goes.played goes.last)) (play nothing_given first s) ≡ play nothing_given first (whole ((goes.played ++ goes.last) ++ more))
     played-taken more on none =
         let so_far = goes.played ++ goes.last in
-        front-turns (play first s) (turns_of first goes.played goes.last) (play setting p) turns-are ∙ done-is
-        ∙ ap (play first) (sym (whole-joined so_far more (whole-so_far on) ∙ ap (λ (xs : List ℕ). (goes.played ++ goes.last) ++ xs) none ∙ append-nil so_far))
+        front-turns (play nothing_given first s) (turns_of first goes.played goes.last) (play nothing_given setting p) turns-are ∙ done-is
+        ∙ ap (play nothing_given first) (sym (whole-joined so_far more (whole-so_far on) ∙ ap (λ (xs : List ℕ). (goes.played ++ goes.last) ++ xs) none ∙ append-nil so_far))
 
     -- the source failed
     fails : (l : List ℕ) → ended ≡ false → StopsIn ReadFault p l → AnswersTaken first s (length (turns_of first goes.played goes.last)) (Some l)
@@ -191,7 +191,7 @@ module _ (first : Setting) where
           longer = omega (arith, total, beyond);
           left_is =
               ap Some (sym (ap (λ (xs : List ℕ). drop (SCRIPT_LIMIT + 1) xs) (script_is ∙ sym (append_assoc within cuts.over l)) ∙ ap (λ (n : ℕ). drop n ((within ++ cuts.over) ++ l)) front_is ∙ drop-append_seam (within ++ cuts.over) l));
-          all = played-taken cuts.front on cuts.none ∙ ap (λ (xs : List ℕ). play first (whole xs)) (sym front);
+          all = played-taken cuts.front on cuts.none ∙ ap (λ (xs : List ℕ). play nothing_given first (whole xs)) (sym front);
         }
 
     pub answers-stop : (status : Status) (l : List ℕ) (taken : ℕ) → StopsLine status → StopsIn status p l → ((status ≡ Memory → ⊥) → ended ≡ false) → (status ≡ TooLong → taken ≡ SCRIPT_LIMIT + 1) → taken + length l ≡ 0 + length s →
@@ -203,11 +203,11 @@ module _ (first : Setting) where
     answers-stop other l taken why stops on past total = tt
 
     -- what a crash leaves while lines in hand are stored is a tree of the whole run
-    pub tree-of-line : (items : List Item) (rest : List Turn) → play setting p ≡ turns setting items ++ rest → (c : List ℕ) → Holds (IsTreeAfter setting.state (all_events (turns setting items))) c → Holds (IsTreeOf first s) c
+    pub tree-of-line : (items : List Item) (rest : List Turn) → play nothing_given setting p ≡ turns nothing_given setting items ++ rest → (c : List ℕ) → Holds (IsTreeAfter setting.state (all_events (turns nothing_given setting items))) c → Holds (IsTreeOf first s) c
     tree-of-line items rest is c holds =
         let done = turns_of first goes.played goes.last in
-        let all_is : play first s ≡ turns_of first goes.played goes.last ++ (turns setting items ++ rest) = turns-are ∙ ap (λ (ts : List Turn). turns_of first goes.played goes.last ++ ts) is in
-        holds-weaker (IsTreeAfter setting.state (all_events (turns setting items))) (IsTreeOf first s) c (λ t tree. tree-of-all first.state setting.state t (play first s) done (turns setting items) rest all_is state-is tree) holds
+        let all_is : play nothing_given first s ≡ turns_of first goes.played goes.last ++ (turns nothing_given setting items ++ rest) = turns-are ∙ ap (λ (ts : List Turn). turns_of first goes.played goes.last ++ ts) is in
+        holds-weaker (IsTreeAfter setting.state (all_events (turns nothing_given setting items))) (IsTreeOf first s) c (λ t tree. tree-of-all first.state setting.state t (play nothing_given first s) done (turns nothing_given setting items) rest all_is state-is tree) holds
 
   -- a run that ends with all replies that it began
   abbrev pub plays-stop : (status why : Status) (s p l : List ℕ) (ended : Bool) (setting : Setting) (refused : Bool) (before after : Outside) (goes : Goes first s p ended setting refused before.sink after.sink) →
@@ -215,7 +215,7 @@ module _ (first : Setting) where
   plays-stop status why s p l ended setting refused before after goes left_is passed stops answers =
       record {
         told =
-            told-whole (play first s) (turns_of first goes.played goes.last) (play setting p) before.sink after.sink (turns-are s p ended setting refused before.sink after.sink goes) goes.written
+            told-whole (play nothing_given first s) (turns_of first goes.played goes.last) (play nothing_given setting p) before.sink after.sink (turns-are s p ended setting refused before.sink after.sink goes) goes.written
             (λ none. omega (arith, passed none));
         whole = λ _. refl;
         prompt = subst (λ (o : Option (List ℕ)). AnswersPromptly first s (length (turns_of first goes.played goes.last)) o) left_is (prompt-stop s p ended setting refused before.sink after.sink goes why l ended refl stops);
@@ -225,8 +225,8 @@ module _ (first : Setting) where
   -- what a crash leaves then is some of the events of the items in hand
   pub played-stop : (stood : Type 0) (image : List ℕ → Type 0) (status why : Status) (s p l : List ℕ) (ended : Bool) (setting : Setting) (refused : Bool) (before after : Outside) (goes : Goes first s p ended setting refused before.sink after.sink) →
       Some l ≡ after.source.left → (before.sink.held_back ≡ 0 → after.sink.held_back ≡ 0) → StopsIn why p l → AnswersBy status first s (length (turns_of first goes.played goes.last)) (Some l) →
-      (items : List Item) (rest : List Turn) → play setting p ≡ turns setting items ++ rest → length (turns setting items) ≤ 1 → (stood → (c : List ℕ) → image c → Holds (IsTreeAfter setting.state (all_events (turns setting items))) c) →
-      (stood → IsFinished status → (c : List ℕ) → image c → held c ≡ Ok (left_by first (play first s))) → Played false status first s before after stood image
+      (items : List Item) (rest : List Turn) → play nothing_given setting p ≡ turns nothing_given setting items ++ rest → length (turns nothing_given setting items) ≤ 1 → (stood → (c : List ℕ) → image c → Holds (IsTreeAfter setting.state (all_events (turns nothing_given setting items))) c) →
+      (stood → IsFinished status → (c : List ℕ) → image c → held c ≡ Ok (left_by first (play nothing_given first s))) → Played false status first s before after stood image
   played-stop stood image status why s p l ended setting refused before after goes left_is passed stops answers items rest is few some kept =
       let all_is = turns-are s p ended setting refused before.sink after.sink goes ∙ ap (λ (ts : List Turn). turns_of first goes.played goes.last ++ ts) is in
       record {
@@ -237,7 +237,7 @@ module _ (first : Setting) where
               kept = holds.kept;
               is = holds.is;
               state =
-                  some-answered first.state setting.state holds.kept.state setting (play first s) (turns_of first goes.played goes.last) items rest all_is few (state-is s p ended setting refused before.sink after.sink goes) holds.state;
+                  some-answered first.state setting.state holds.kept.state setting (play nothing_given first s) (turns_of first goes.played goes.last) items rest all_is few (state-is s p ended setting refused before.sink after.sink goes) holds.state;
             };
         kept = kept;
       }
@@ -253,34 +253,34 @@ module _ (first : Setting) where
   played-end stood image s p l behind taken ended setting refused before after goes left_is passed none total within stands =
       let done = turns_of first goes.played goes.last in
       let nothing : l ≡ [] = no_rest behind l none.1 in
-      let all : play first s ≡ turns_of first goes.played goes.last =
-      turns-are s p ended setting refused before.sink after.sink goes ∙ ap (λ (xs : List ℕ). turns_of first goes.played goes.last ++ play setting xs) none.0
+      let all : play nothing_given first s ≡ turns_of first goes.played goes.last =
+      turns-are s p ended setting refused before.sink after.sink goes ∙ ap (λ (xs : List ℕ). turns_of first goes.played goes.last ++ play nothing_given setting xs) none.0
       ∙ ap (λ (ts : List Turn). turns_of first goes.played goes.last ++ ts) (play-nothing setting) ∙ append-nil (turns_of first goes.played goes.last) in
       let answers : AnswersAll (finished_status refused) first s (length (turns_of first goes.played goes.last)) (Some l) =
       record { read = ap Some nothing; within = omega (arith, total, within, ap length nothing); status_is = ap finished_status (goes.refused_is ∙ ap has_refusal (sym all)); all = ap length (sym all) } in
       played-stop stood image (finished_status refused) Memory s p l ended setting refused before after goes left_is passed (nothing-stops p l (none.0 ∙ sym nothing)) (answers-finished refused s (length done) (Some l) answers)
-      [] (play setting p) refl (omega arith)
+      [] (play nothing_given setting p) refl (omega arith)
       (λ stood_now c left. record { kept = setting; is = stands stood_now c left; state = tree-all setting.state setting.state [] refl })
       (λ stood_now _ c left. stands stood_now c left ∙ ap Ok (goes.left_is ∙ ap (left_by first) (sym all)))
 
   -- the sink failed while a line was answered, all of which was stored before
   pub played-cut : (stood : Type 0) (image : List ℕ → Type 0) (s p l behind : List ℕ) (line : TakenLine) (new_ended : Bool) (setting : Setting) (refused : Bool) (mid : SinkSeen) (before after : Outside) →
       Goes first s p false setting refused before.sink mid → Some l ≡ after.source.left → (before.sink.held_back ≡ 0 → mid.held_back ≡ 0) → GivesTaken line new_ended p (behind ++ l) → length behind < piece_size →
-      WritesSome mid after.sink (told_text (turns setting (items_of_taken line))) → (stood → (c : List ℕ) → image c → held c ≡ Ok (left_by setting (turns setting (items_of_taken line)))) →
+      WritesSome mid after.sink (told_text (turns nothing_given setting (items_of_taken line))) → (stood → (c : List ℕ) → image c → held c ≡ Ok (left_by setting (turns nothing_given setting (items_of_taken line)))) →
       Played false WriteFault first s before after stood image
   played-cut stood image s p l behind line new_ended setting refused mid before after goes left_is passed gives near some stored =
       let items = items_of_taken line in
-      let now = turns setting (items_of_taken line) in
+      let now = turns nothing_given setting (items_of_taken line) in
       let done = turns_of first goes.played goes.last in
-      let rest = play (left_by setting now) (behind ++ l) in
-      let all_is : play first s ≡ turns_of first goes.played goes.last ++ (now ++ rest) =
+      let rest = play nothing_given (left_by setting now) (behind ++ l) in
+      let all_is : play nothing_given first s ≡ turns_of first goes.played goes.last ++ (now ++ rest) =
       turns-are s p false setting refused before.sink mid goes ∙ ap (λ (ts : List Turn). turns_of first goes.played goes.last ++ ts) (turns-next line new_ended p (behind ++ l) setting gives) in
       let state_is = state-is s p false setting refused before.sink mid goes in
-      let stopped = cuts-telling (play first s) done now rest before.sink mid after.sink some.count all_is (few-items line setting) goes.written passed some.front in
+      let stopped = cuts-telling (play nothing_given first s) done now rest before.sink mid after.sink some.count all_is (few-items line setting) goes.written passed some.front in
       let so_far = goes.played ++ goes.last in
       let done_is = done-is s p false setting refused before.sink mid goes in
-      let now_is : turns setting (items_of_taken line) ≡ turns (left_by first (play first (goes.played ++ goes.last))) (first_items gives.own) =
-      ap (λ (z : Setting). turns z (items_of_taken line)) (goes.left_is ∙ ap (left_by first) done_is) ∙ ap (turns (left_by first (play first so_far))) gives.items in
+      let now_is : turns nothing_given setting (items_of_taken line) ≡ turns nothing_given (left_by first (play nothing_given first (goes.played ++ goes.last))) (first_items gives.own) =
+      ap (λ (z : Setting). turns nothing_given z (items_of_taken line)) (goes.left_is ∙ ap (left_by first) done_is) ∙ ap (turns nothing_given (left_by first (play nothing_given first so_far))) gives.items in
       let prompt : AnswersPromptly first s stopped.told.done (Some l) =
       record {
         answered = so_far;
@@ -292,18 +292,18 @@ module _ (first : Setting) where
         whole_is = whole-so_far s p false setting refused before.sink mid goes refl;
         one = gives.line_is.one;
         near = near;
-        all = (stopped.front.0, stopped.front.1 ∙ ap (λ (ts : List Turn). ts ++ take stopped.front.0 now) done_is ∙ ap (λ (ts : List Turn). play first (goes.played ++ goes.last) ++ take stopped.front.0 ts) now_is);
+        all = (stopped.front.0, stopped.front.1 ∙ ap (λ (ts : List Turn). ts ++ take stopped.front.0 now) done_is ∙ ap (λ (ts : List Turn). play nothing_given first (goes.played ++ goes.last) ++ take stopped.front.0 ts) now_is);
       } in
       -- either none of its replies was written whole, or the one that there is
-      let answered : (told : ℕ) → (told ≡ length (turns_of first goes.played goes.last)) ⊎ (told ≡ length (turns_of first goes.played goes.last ++ now)) → IsTreeOfAnswered first.state (play first s) told (left_by setting now).state = λ told.
+      let answered : (told : ℕ) → (told ≡ length (turns_of first goes.played goes.last)) ⊎ (told ≡ length (turns_of first goes.played goes.last ++ now)) → IsTreeOfAnswered first.state (play nothing_given first s) told (left_by setting now).state = λ told.
       elim [
         | inl place ↦
-            subst (λ (n : ℕ). IsTreeOfAnswered first.state (play first s) n (left_by setting now).state) (sym place)
-            (some-answered first.state setting.state (left_by setting now).state setting (play first s) done items rest all_is (few-items line setting) state_is
+            subst (λ (n : ℕ). IsTreeOfAnswered first.state (play nothing_given first s) n (left_by setting now).state) (sym place)
+            (some-answered first.state setting.state (left_by setting now).state setting (play nothing_given first s) done items rest all_is (few-items line setting) state_is
             (tree-all setting.state (left_by setting now).state (all_events now) (states-lead setting items)))
         | inr place ↦
-            subst (λ (n : ℕ). IsTreeOfAnswered first.state (play first s) n (left_by setting now).state) (sym place)
-            (all-answered first.state (left_by setting now).state setting (play first s) (done ++ now) rest (all_is ∙ sym (append_assoc done now rest))
+            subst (λ (n : ℕ). IsTreeOfAnswered first.state (play nothing_given first s) n (left_by setting now).state) (sym place)
+            (all-answered first.state (left_by setting now).state setting (play nothing_given first s) (done ++ now) rest (all_is ∙ sym (append_assoc done now rest))
             (states-lead setting items ∙ ap (λ (t : State). apply_all t (all_events now)) state_is ∙ sym (apply_all-append (all_events done) (all_events now) first.state) ∙ ap (apply_all first.state) (sym (all_events-append done now))))
       ] in
       record {
@@ -319,15 +319,15 @@ module _ (first : Setting) where
 
   -- a run goes on by a line that was answered
   pub goes-next : (s p q : List ℕ) (line : TakenLine) (new_ended : Bool) (setting : Setting) (refused : Bool) (before mid after : SinkSeen) → Goes first s p false setting refused before mid → GivesTaken line new_ended p q →
-      Appends mid.written after.written (told_text (turns setting (items_of_taken line))) →
-      Goes first s q new_ended (left_by setting (turns setting (items_of_taken line))) (refused || has_refusal (turns setting (items_of_taken line))) before after
+      Appends mid.written after.written (told_text (turns nothing_given setting (items_of_taken line))) →
+      Goes first s q new_ended (left_by setting (turns nothing_given setting (items_of_taken line))) (refused || has_refusal (turns nothing_given setting (items_of_taken line))) before after
   goes-next s p q line new_ended setting refused before mid after goes gives written =
-      let now = turns setting (items_of_taken line) in
+      let now = turns nothing_given setting (items_of_taken line) in
       let done = turns_of first goes.played goes.last in
       let so_far = goes.played ++ goes.last in
       let more : turns_of first (goes.played ++ goes.last) gives.own ≡ turns_of first goes.played goes.last ++ now =
-      ap (λ (ts : List Turn). ts ++ turns (left_by first ts) (first_items gives.own)) (sym (done-is s p false setting refused before mid goes))
-      ∙ ap (λ (ts : List Turn). done ++ ts) (ap (λ (w : Setting). turns w (first_items gives.own)) (sym goes.left_is) ∙ ap (turns setting) (sym gives.items)) in
+      ap (λ (ts : List Turn). ts ++ turns nothing_given (left_by first ts) (first_items gives.own)) (sym (done-is s p false setting refused before mid goes))
+      ∙ ap (λ (ts : List Turn). done ++ ts) (ap (λ (w : Setting). turns nothing_given w (first_items gives.own)) (sym goes.left_is) ∙ ap (turns nothing_given setting) (sym gives.items)) in
       record {
         played = so_far;
         last = gives.own;
@@ -349,7 +349,7 @@ module _ (first : Setting) where
   -- no line was answered yet
   pub goes-first : (s : List ℕ) (refused : Bool) (sink : SinkSeen) → refused ≡ false → Goes first s s false first refused sink sink
   goes-first s refused sink unrefused =
-      let none : turns_of first [] [] ≡ [] = append-nil (play first []) ∙ play-nothing first in
+      let none : turns_of first [] [] ≡ [] = append-nil (play nothing_given first []) ∙ play-nothing first in
       record {
         played = [];
         last = [];

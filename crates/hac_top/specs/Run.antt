@@ -7,7 +7,7 @@ use Rattle.hac_outside.specs.Known.{Known}
 use Rattle.hac_outside.specs.Seen.{SourceSeen, SinkSeen}
 use Rattle.hac_disk.specs.Images.{LeavesOnly}
 use Rattle.hac_model.specs.Script.CommandLine.{Options}
-use Rattle.hac_model.specs.Run.Play.{Setting, all_events, has_refusal, left_by, play, turns}
+use Rattle.hac_model.specs.Run.Play.{Setting, all_events, has_refusal, left_by, nothing_given, play, turns}
 use Rattle.hac_model.specs.Script.Printed.{ended}
 use Rattle.hac_model.specs.Script.{after_item, first_items, whole}
 use Rattle.hac_model.specs.declared.limits.TheConstants.{SCRIPT_LIMIT}
@@ -61,8 +61,8 @@ pub record AnswersAll (status : Status) (setting : Setting) (script : List ℕ) 
     (left : Option (List ℕ)) : Type 0 where
   pub read : left ≡ Some []
   pub within : length script ≤ SCRIPT_LIMIT
-  pub status_is : status ≡ finished_status (has_refusal (play setting script))
-  pub all : done ≡ length (play setting script)
+  pub status_is : status ≡ finished_status (has_refusal (play nothing_given setting script))
+  pub all : done ≡ length (play nothing_given setting script)
 
 -- a part of the script was taken, and each whole line of it was answered
 pub record AnswersTaken (setting : Setting) (script : List ℕ) (done : ℕ)
@@ -71,7 +71,7 @@ pub record AnswersTaken (setting : Setting) (script : List ℕ) (done : ℕ)
   pub rest : List ℕ
   pub script_is : script ≡ taken ++ rest
   pub left_is : left ≡ Some rest
-  pub all : take done (play setting script) ≡ play setting (whole taken)
+  pub all : take done (play nothing_given setting script) ≡ play nothing_given setting (whole taken)
 
 -- the script is longer than a script may be, so much of it and one byte were taken, and each line within the limit was
 -- answered
@@ -79,7 +79,7 @@ pub record AnswersWithin (setting : Setting) (script : List ℕ) (done : ℕ)
     (left : Option (List ℕ)) : Type 0 where
   pub longer : SCRIPT_LIMIT < length script
   pub left_is : left ≡ Some (drop (SCRIPT_LIMIT + 1) script)
-  pub all : take done (play setting script) ≡ play setting (whole (take SCRIPT_LIMIT script))
+  pub all : take done (play nothing_given setting script) ≡ play nothing_given setting (whole (take SCRIPT_LIMIT script))
 
 -- Of what was taken, all was answered but one line with the bytes that belong to it, and less than one piece behind
 -- them. So no read goes beyond the piece in which an unanswered line ends, with its bytes. Of that line's replies the
@@ -95,8 +95,8 @@ pub record AnswersPromptly (setting : Setting) (script : List ℕ) (done : ℕ)
   pub whole_is : whole answered ≡ answered
   pub one : after_item line ≡ []
   pub near : length behind < piece_size
-  pub all : (k : ℕ) × (take done (play setting script) ≡ play setting answered ++ take k
-      (turns (left_by setting (play setting answered)) (first_items line)))
+  pub all : (k : ℕ) × (take done (play nothing_given setting script) ≡ play nothing_given setting answered ++ take k
+      (turns nothing_given (left_by setting (play nothing_given setting answered)) (first_items line)))
 
 -- which replies were written, by how the run ended
 abbrev pub AnswersBy : Status → Setting → List ℕ → ℕ → Option (List ℕ) → Type 0
@@ -110,7 +110,7 @@ AnswersBy other setting script done left = ⊤
 -- only where the sink failed.
 pub record Plays (status : Status) (setting : Setting) (script : List ℕ)
     (before after : Outside) : Type 0 where
-  pub told : Told (play setting script) before.sink after.sink
+  pub told : Told (play nothing_given setting script) before.sink after.sink
   pub whole : (status ≡ WriteFault → ⊥) → told.cut ≡ []
   pub prompt : AnswersPromptly setting script told.done after.source.left
   pub answers : AnswersBy status setting script told.done after.source.left
@@ -123,9 +123,9 @@ pub record Played (fresh : Bool) (status : Status) (setting : Setting) (script :
     (stood : Type 0) (image : List ℕ → Type 0) : Type 0 where
   pub plays : Plays status setting script before after
   pub reopens : stood → (c : List ℕ) → image c → Reopens fresh (IsTreeOfAnswered setting.state
-      (play setting script) plays.told.done) c
+      (play nothing_given setting script) plays.told.done) c
   pub kept : stood → IsFinished status → (c : List ℕ) → image c →
-      IsHeldAs c (left_by setting (play setting script))
+      IsHeldAs c (left_by setting (play nothing_given setting script))
 
 -- the run has begun: a byte of the script was taken, or one of a reply was written, or the script has ended
 abbrev pub HasBegun : Status → Outside → Outside → Type 0
@@ -141,7 +141,7 @@ pub record Completes (status : Status) (script : List ℕ) : Type 0 where
 
 -- the tree after some of the events of a script, the first ones in order
 abbrev pub IsTreeOf : Setting → List ℕ → State → Type 0
-IsTreeOf setting script now = IsTreeAfter setting.state (all_events (play setting script)) now
+IsTreeOf setting script now = IsTreeAfter setting.state (all_events (play nothing_given setting script)) now
 
 -- How the script is played from a store that was opened, whatever source and disk tell. A crash at each moment leaves
 -- the tree after some of the events. A call of the disk that failed is told, and no other.

@@ -3,7 +3,7 @@ ghost use Rattle.std.specs.Prelude.{◌≡◌, ◌||◌, ◌∷◌, [], false, I
 ghost use Rattle.std.specs.Io.KnownBytes.{Appends};
 ghost use Rattle.hac_outside.specs.Causes.{HasCause};
 ghost use Rattle.hac_outside.specs.Seen.{WritesSome};
-ghost use Rattle.hac_model.specs.Run.Play.{item_turn, turns, is_refused, has_refusal};
+ghost use Rattle.hac_model.specs.Run.Play.{has_refusal, is_refused, item_turn, nothing_given, turns};
 ghost use Rattle.hac_model.specs.Script.Lines.{item_taken};
 ghost use Rattle.hac_model.specs.Script.Printed.{text};
 ghost use Rattle.hac_store.specs.Stores.{Bears};
@@ -43,16 +43,16 @@ impl Player {
         requires intact { self.old.store.broken ≡ false }
         requires place { Bears (D.seen disk.old) self.old.store }
         ensures refused { OnOk result (self.new.refused ≡
-            (self.old.refused || has_refusal (turns self.old.store.setting
+            (self.old.refused || has_refusal (turns nothing_given self.old.store.setting
             (items_of_taken line)))) }
         ensures ok { OnOk result (AnswersLine D.seen D.image D.moment D.image_since D.attached
             D.faults disk.old disk.new self.old.store self.new.store
             (K.seen output.old) (K.seen output.new)
-            (turns self.old.store.setting (items_of_taken line))) }
+            (turns nothing_given self.old.store.setting (items_of_taken line))) }
         ensures err { IfErr result (StopsAnswer D.seen D.image D.moment D.image_since D.attached
             D.faults disk.old disk.new self.old.store.setting
             (K.seen output.old) (K.seen output.new)
-            (turns self.old.store.setting (items_of_taken line))) }
+            (turns nothing_given self.old.store.setting (items_of_taken line))) }
     {
         let TakenLine { piece, taken } = line;
         match piece {
@@ -73,15 +73,15 @@ impl Player {
         requires intact { self.old.store.broken ≡ false }
         requires place { Bears (D.seen disk.old) self.old.store }
         ensures refused { OnOk result (self.new.refused ≡ (self.old.refused || has_refusal
-            (item_turn self.old.store.setting (item_taken line taken) ∷ []))) }
+            (item_turn nothing_given self.old.store.setting (item_taken line taken) ∷ []))) }
         ensures ok { OnOk result (AnswersLine D.seen D.image D.moment D.image_since D.attached
             D.faults disk.old disk.new self.old.store self.new.store
             (K.seen output.old) (K.seen output.new)
-            (item_turn self.old.store.setting (item_taken line taken) ∷ [])) }
+            (item_turn nothing_given self.old.store.setting (item_taken line taken) ∷ [])) }
         ensures err { IfErr result (StopsAnswer D.seen D.image D.moment D.image_since D.attached
             D.faults disk.old disk.new self.old.store.setting
             (K.seen output.old) (K.seen output.new)
-            (item_turn self.old.store.setting (item_taken line taken) ∷ [])) }
+            (item_turn nothing_given self.old.store.setting (item_taken line taken) ∷ [])) }
     {
         let reply = store_line(self.alloc, &mut self.store, disk, line, taken)?;
         self.tell(output, reply)

@@ -3,7 +3,7 @@ ghost use Rattle.std.specs.Prelude.{IfOk, IsTrue, Ok};
 ghost use Rattle.hac_core.specs.Drafts.{IsDraft, IsDraftFor};
 ghost use Rattle.hac_model.specs.declared.resolved.Resolved.{Resolved};
 ghost use Rattle.hac_model.specs.Script.Lines.{is_spelled};
-ghost use Rattle.hac_model.specs.Run.Play.{command_turn, item_turn};
+ghost use Rattle.hac_model.specs.Run.Play.{command_turn, item_turn, nothing_given};
 ghost use Rattle.hac_top.specs.Deciding.{Decides, IsDenial};
 ghost use Rattle.hac_model.specs.Script.Lines.{item_taken};
 
@@ -29,7 +29,7 @@ pub fn decide(
     taken: Option<Taken>,
 ) -> Result<Decision, Memory>
     ensures { IfOk result (Decides machine.now.state
-        (λ setting. item_turn setting (item_taken line taken))) }
+        (λ setting. item_turn nothing_given setting (item_taken line taken))) }
 {
     match parse_line(alloc, line.as_slice(), taken) {
         Ok(line) => decide_line(machine, line),
@@ -40,7 +40,7 @@ pub fn decide(
 // What is to be done about a line that spells a command.
 fn decide_line(machine: &Machine, line: Line) -> Result<Decision, Memory>
     requires { IsTrue (is_spelled line.command) }
-    ensures { IfOk result (Decides machine.now.state (λ setting. item_turn setting (Ok line))) }
+    ensures { IfOk result (Decides machine.now.state (λ setting. item_turn nothing_given setting (Ok line))) }
 {
     match machine.check(line) {
         Ok(draft) => decide_draft(machine, draft),
@@ -52,7 +52,7 @@ fn decide_line(machine: &Machine, line: Line) -> Result<Decision, Memory>
 fn decide_draft(machine: &Machine, draft: Draft) -> Result<Decision, Memory>
     requires { IsDraft machine.now.state draft }
     ensures { (command : Resolved) → IsDraftFor machine.now.state command draft →
-        IfOk result (Decides machine.now.state (λ setting. command_turn setting (Ok command))) }
+        IfOk result (Decides machine.now.state (λ setting. command_turn nothing_given setting (Ok command))) }
 {
     if draft.reads() {
         let reply = machine.ask(draft)?;

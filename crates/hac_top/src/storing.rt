@@ -2,7 +2,7 @@
 ghost use Rattle.std.specs.Prelude.{◌≡◌, false, replicate};
 ghost use Rattle.hac_core.specs.Drafts.{CanSettle, settled_events};
 ghost use Rattle.hac_model.specs.Laws.{AllHappen};
-ghost use Rattle.hac_model.specs.Run.Play.{item_turn};
+ghost use Rattle.hac_model.specs.Run.Play.{item_turn, nothing_given};
 ghost use Rattle.hac_model.specs.Script.Lines.{item_taken};
 ghost use Rattle.hac_model.specs.declared.events.Event.TheVariants as event;
 ghost use Rattle.hac_store.specs.Stores.{Bears};
@@ -35,7 +35,7 @@ pub fn store_line<D: Disk>(
     requires intact { store.old.broken ≡ false }
     requires place { Bears (D.seen disk.old) store.old }
     ensures { StoresTurn D.seen D.image D.moment D.image_since D.attached D.faults disk.old disk.new
-        store.old store.new (item_turn store.old.setting (item_taken line taken)) result }
+        store.old store.new (item_turn nothing_given store.old.setting (item_taken line taken)) result }
 {
     let decision = decide(alloc, store.machine(), line, taken)?;
     match decision {

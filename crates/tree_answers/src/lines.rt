@@ -1,6 +1,6 @@
 //! The data lines of commands that read.
 ghost use Rattle.std.specs.Prelude.{◌≡◌, IfOk};
-ghost use Rattle.hac_model.specs.Run.Play.{data_lines};
+ghost use Rattle.hac_model.specs.Run.Play.{data_lines, no_answers};
 
 use crate::lines_of_counts::counts_lines;
 use crate::lines_of_entries::{child_lines, text_lines};
@@ -12,7 +12,7 @@ use std::alloc::Global;
 
 /// The data lines of a command. One that changes the state has none.
 pub fn data_lines(alloc: Global, kept: &KeptState, command: &Resolved) -> Result<Vec<Name>, Memory>
-    ensures { IfOk result (λ lines. lines.items ≡ data_lines kept.now.state command.now) }
+    ensures { IfOk result (λ lines. lines.items ≡ data_lines no_answers kept.now.state command.now) }
 {
     match command {
         Resolved::Cat { entry } => text_lines(alloc, kept, *entry),

@@ -1,23 +1,26 @@
 -- A whole run: each command is answered, and changes the state for those behind it.
-use Rattle.std.specs.Prelude.{ℕ, zero, suc, ◌+◌, if◌then◌else◌, Bool, true, false, List, [], ◌∷◌, ◌++◌, length, filter, map, take, Option, None, Some, Result, Ok, Err}
+use Rattle.std.specs.Prelude.{ℕ, zero, suc, ◌+◌, ◌&&◌, nat_lt, if◌then◌else◌, Bool, true, false, List, [], ◌∷◌, ◌++◌, length, filter, map, take, Option, None, Some, Result, Ok, Err}
 use Rattle.std.specs.List.{flat_map, list_any}
 use Rattle.std.specs.Option.{option_map_or}
 use Rattle.hac_model.specs.Run.Answers.{first_cause}
-use Rattle.hac_model.specs.Tree.Events.{apply_all}
+use Rattle.hac_model.specs.Tree.Events.{apply_all, dirty}
 use Rattle.hac_model.specs.Tree.Sessions.{is_stored}
 use Rattle.hac_model.specs.Script.Lines.{Item}
+use Rattle.hac_model.specs.Run.Given.{Given, given_behind, next_fault, no_answers}
 use Rattle.hac_model.specs.Run.Refusals.{cause, events_of, led_to}
 use Rattle.hac_model.specs.Run.Resolving.{resolve}
 use Rattle.hac_model.specs.Script.{script}
 use Rattle.hac_model.specs.declared.events.Event.{Event}
+use Rattle.hac_model.specs.declared.events.Event.TheVariants.{Step}
 use Rattle.hac_model.specs.declared.limits.LimitWord.TheVariants.{Store}
 use Rattle.hac_model.specs.declared.replies.Refusal.{Refusal}
-use Rattle.hac_model.specs.declared.replies.Refusal.TheVariants.{Limit}
+use Rattle.hac_model.specs.declared.replies.Refusal.TheVariants.{Limit, SpaceFault}
 use Rattle.hac_model.specs.declared.replies.Reply.{Reply}
 use Rattle.hac_model.specs.declared.replies.Reply.TheVariants.{Lines, Refused}
 use Rattle.hac_model.specs.declared.resolved.Resolved.{Resolved}
 use Rattle.hac_model.specs.declared.states.State.{State}
 pub use Rattle.hac_model.specs.Run.Showing.{counted, data_lines, found_line, kind_lines, line_of_counts, link_lines, counts_line, query_line, query_lines, text_line, text_lines}
+pub use Rattle.hac_model.specs.Run.Given.{Given, nothing_given, given_behind, no_answers}
 pub use Rattle.hac_model.specs.Run.Settings.{Setting, after_events, end_after, end_behind, have_room, new_setting}
 
 -- what comes of one command: its reply, its events and the index steps behind it, of which each is stored, and what the
@@ -28,49 +31,73 @@ pub record Turn : Type 0 where
   pub steps : List Event
   pub after : Setting
 
+-- a store with this setting has something to index, and room for the record of a step
+abbrev pub can_step : Setting → Bool
+can_step setting = nat_lt 0 (dirty setting.state) && have_room setting (Step ∷ [])
+
+-- the steps that follow a command by themselves: at most n, while there is something to index and room
+abbrev pub steps_behind : ℕ → Setting → List Event
+steps_behind zero setting = []
+steps_behind (suc n) setting =
+    if can_step setting then Step ∷ steps_behind n (after_events setting (Step ∷ [])) else []
+
+-- the turn with this reply and these stored events, which leave this setting to the steps that follow by themselves
+abbrev pub turn_of : Given → Reply → List Event → Setting → Turn
+turn_of given reply events setting = record {
+  reply = reply;
+  events = events;
+  steps = steps_behind given.steps setting;
+  after = after_events setting (steps_behind given.steps setting);
+}
+
 -- a refused command changes nothing
-abbrev pub refused : Setting → Refusal → Turn
-refused setting refusal = record { reply = Refused refusal; events = []; steps = []; after = setting }
+abbrev pub refused : Given → Setting → Refusal → Turn
+refused given setting refusal = turn_of given (Refused refusal) [] setting
 
 -- the events of a command that are stored: where a session stands is known to the run alone
 abbrev pub stored_events : State → Resolved → List Event
-stored_events s command = filter is_stored (events_of s command)
+stored_events s command = filter is_stored (events_of no_answers s command)
 
 -- a command that isn't refused shows its lines, and its events happen
-abbrev pub answered : Setting → Resolved → Turn
-answered setting command = record {
-  reply = Lines (data_lines setting.state command);
-  events = stored_events setting.state command;
-  steps = [];
-  after = record setting {
-    state = led_to setting.state command;
-    end = end_after setting (stored_events setting.state command);
-  };
-}
+abbrev pub answered : Given → Setting → Resolved → Turn
+answered given setting command =
+    turn_of given (Lines (data_lines no_answers setting.state command)) (stored_events setting.state command) (record setting {
+      state = led_to no_answers setting.state command;
+      end = end_after setting (stored_events setting.state command);
+    })
 
 -- the store has no room for the records of the command's events
 abbrev pub full_cause : Setting → Resolved → Option Refusal
 full_cause setting command = if have_room setting (stored_events setting.state command) then None else Some (Limit Store)
 
--- the turn of a command whose paths were followed. A full store is the last of all causes.
-abbrev pub command_turn : Setting → Result Resolved Refusal → Turn
-command_turn setting (Err refusal) = refused setting refusal
-command_turn setting (Ok command) =
-    option_map_or (refused setting) (first_cause (cause setting.state command ∷ full_cause setting command ∷ [])) (answered setting command)
+-- why a command is refused: a full store is the last of all causes
+abbrev pub turn_cause : Setting → Resolved → Option Refusal
+turn_cause setting command = first_cause (cause no_answers setting.state command ∷ full_cause setting command ∷ [])
 
--- the turn of a line, which is a command or refused by its form
-abbrev pub item_turn : Setting → Item → Turn
-item_turn setting (Err refusal) = refused setting refusal
-item_turn setting (Ok line) = command_turn setting (resolve setting.state line)
+-- the turn of a command whose paths were followed
+abbrev pub command_turn : Given → Setting → Result Resolved Refusal → Turn
+command_turn given setting (Err refusal) = refused given setting refusal
+command_turn given setting (Ok command) = option_map_or (refused given setting) (turn_cause setting command) (answered given setting command)
+
+-- the turn of a line that no space fails: it is a command, or refused by its form
+abbrev pub line_turn : Given → Setting → Item → Turn
+line_turn given setting (Err refusal) = refused given setting refusal
+line_turn given setting (Ok line) = command_turn given setting (resolve setting.state line)
+
+-- the turn of a line: it is refused where a space failed as it asked
+abbrev pub item_turn : Given → Setting → Item → Turn
+item_turn given setting item =
+    option_map_or (λ space. refused given setting (SpaceFault space)) (next_fault given) (line_turn given setting item)
 
 -- the turns of lines in order
-abbrev pub turns : Setting → List Item → List Turn
-turns setting [] = []
-turns setting (item ∷ items) = item_turn setting item ∷ turns (item_turn setting item).after items
+abbrev pub turns : Given → Setting → List Item → List Turn
+turns given setting [] = []
+turns given setting (item ∷ items) =
+    item_turn given setting item ∷ turns (given_behind 1 given) (item_turn given setting item).after items
 
 -- the turns of a script
-abbrev pub play : Setting → List ℕ → List Turn
-play setting bytes = turns setting (script bytes)
+abbrev pub play : Given → Setting → List ℕ → List Turn
+play given setting bytes = turns given setting (script bytes)
 
 -- what is read off turns
 abbrev pub replies : List Turn → List Reply

@@ -2,6 +2,7 @@
 use Rattle.std.specs.Prelude.{ℕ, ◌==◌, ◌||◌, if◌then◌else◌, List, [], ◌∷◌, map, replicate, Option, None, Some, Result, Ok, Err, option_and_then}
 use Rattle.std.specs.Option.{option_map, option_map_or}
 use Rattle.hac_model.specs.Run.Answers.{first_cause}
+use Rattle.hac_model.specs.Run.Given.{no_answers}
 use Rattle.hac_model.specs.Tree.Depends.{cycle_of_move, cycle_over, referrers}
 use Rattle.hac_model.specs.Tree.Events.{apply_all, dirty, is_bare, is_inside}
 use Rattle.hac_model.specs.Tree.Limits.{answer_limits, counts, first_passed, layout_limits}
@@ -21,6 +22,7 @@ use Rattle.hac_model.specs.declared.replies.Refusal.{Refusal}
 use Rattle.hac_model.specs.declared.replies.Refusal.TheVariants.{NotFile, Exists, NotEmpty, Under, Root, Cycle, Referenced, NotSemantic, NotLinked, Already, NoMark, Limit}
 use Rattle.hac_model.specs.declared.resolved.Resolved.{Resolved}
 use Rattle.hac_model.specs.declared.resolved.Resolved.TheVariants.{Mkdir, Rmdir, Write, Cat, Ls, Mv, Rm, Smkdir, Setq, Unq, Query, Sls, Sln, Srm, Sforget, Find, Index, Counts}
+use Rattle.hac_model.specs.declared.spaces.Answers.{Answers}
 use Rattle.hac_model.specs.declared.states.State.{State}
 
 -- the root can't be removed or moved
@@ -129,21 +131,24 @@ event_of (Srm item dir) = Some (marks item dir Prohibited)
 event_of (Sforget item dir) = Some (marks item dir Unlinked)
 event_of other = None
 
--- all its events: `index` is as many steps as there are dirty files
-abbrev pub events_of : State → Resolved → List Event
-events_of s Index = replicate (dirty s) event.Step
-events_of s command = option_map_or (λ event. event ∷ []) (event_of command) []
+-- all its events, given what spaces answer: `index` is as many steps as there are dirty files
+abbrev pub events_of : Answers → State → Resolved → List Event
+events_of answers s Index = replicate (dirty s) event.Step
+events_of answers s command = option_map_or (λ event. event ∷ []) (event_of command) []
 
 -- the state that a command would lead to
-abbrev pub led_to : State → Resolved → State
-led_to s command = apply_all s (events_of s command)
+abbrev pub led_to : Answers → State → Resolved → State
+led_to answers s command = apply_all s (events_of answers s command)
 
--- the first limit on the tree that the next state would exceed
+-- the first limit on the tree that the next state would exceed, whatever spaces answer
 abbrev pub layout_cause : State → Resolved → Option Refusal
-layout_cause s command = option_map Limit (first_passed (layout_limits (counts (led_to s command))))
+layout_cause s command =
+    option_map Limit (first_passed (layout_limits (counts (led_to no_answers s command))))
 
-abbrev pub answer_cause : State → Resolved → Option Refusal
-answer_cause s command = option_map Limit (first_passed (answer_limits (counts (led_to s command))))
+-- the first of the other limits that it would exceed
+abbrev pub answer_cause : Answers → State → Resolved → Option Refusal
+answer_cause answers s command =
+    option_map Limit (first_passed (answer_limits (counts (led_to answers s command))))
 
 -- a directory would depend on itself through this one
 abbrev pub cycle_by : State → Option ℕ → Option Refusal
@@ -166,8 +171,8 @@ abbrev pub early_cause : State → Resolved → Option Refusal
 early_cause s command = first_cause (blocked s command ∷ layout_cause s command ∷ cycle_cause s command ∷ [])
 
 -- the first cause of all: the limits that depend on what spaces answer come last
-abbrev pub cause : State → Resolved → Option Refusal
-cause s command = first_cause (early_cause s command ∷ answer_cause s command ∷ [])
+abbrev pub cause : Answers → State → Resolved → Option Refusal
+cause answers s command = first_cause (early_cause s command ∷ answer_cause answers s command ∷ [])
 
 -- the first cause against a line, where this is what its paths lead to: a path comes before what blocks the command
 abbrev pub cause_against : (Resolved → Option Refusal) → Result Resolved Refusal → Option Refusal
@@ -175,8 +180,8 @@ cause_against against (Err refusal) = Some refusal
 cause_against against (Ok command) = against command
 
 -- why the state refuses a line
-abbrev pub refusal : State → Line → Option Refusal
-refusal s line = cause_against (cause s) (resolve s line)
+abbrev pub refusal : Answers → State → Line → Option Refusal
+refusal answers s line = cause_against (cause answers s) (resolve s line)
 
 -- the same, but for what spaces answer
 abbrev pub early_refusal : State → Line → Option Refusal

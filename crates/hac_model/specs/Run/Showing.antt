@@ -14,6 +14,7 @@ use Rattle.hac_model.specs.declared.marks.Kind.{Kind}
 use Rattle.hac_model.specs.declared.marks.Kind.TheVariants.{Transient, Permanent, Prohibited, Unlinked}
 use Rattle.hac_model.specs.declared.resolved.Resolved.{Resolved}
 use Rattle.hac_model.specs.declared.resolved.Resolved.TheVariants as command
+use Rattle.hac_model.specs.declared.spaces.Answers.{Answers}
 use Rattle.hac_model.specs.declared.states.State.{State}
 use Rattle.hac_model.specs.declared.counts.Counts.{Counts}
 
@@ -72,12 +73,12 @@ text_line text = codes "= " ++ escaped_text text
 abbrev pub text_lines : State → ℕ → List (List ℕ)
 text_lines s number = option_map_or (λ text. text_line text ∷ []) (option_and_then text_in (body_at s.entries number)) []
 
--- the data lines of an accepted command: only one that reads has any
-abbrev pub data_lines : State → Resolved → List (List ℕ)
-data_lines s (command.Cat entry) = text_lines s entry
-data_lines s (command.Ls dir) = map entry_line (children s dir)
-data_lines s (command.Query dir) = query_lines s dir
-data_lines s (command.Sls dir) = link_lines s dir
-data_lines s (command.Find query) = map (found_line s) (found_by s query)
-data_lines s command.Counts = counts_line s ∷ []
-data_lines s other = []
+-- the data lines of an accepted command, given what spaces answer: only one that reads has any
+abbrev pub data_lines : Answers → State → Resolved → List (List ℕ)
+data_lines answers s (command.Cat entry) = text_lines s entry
+data_lines answers s (command.Ls dir) = map entry_line (children s dir)
+data_lines answers s (command.Query dir) = query_lines s dir
+data_lines answers s (command.Sls dir) = link_lines s dir
+data_lines answers s (command.Find query) = map (found_line s) (found_by s query)
+data_lines answers s command.Counts = counts_line s ∷ []
+data_lines answers s other = []

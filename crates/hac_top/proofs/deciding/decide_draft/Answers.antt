@@ -2,7 +2,7 @@ use Rattle.std.proofs.Common.{◌≡◌, true, false, ap, rules, subst, sym, ◌
 use Rattle.std.specs.Prelude.{Ok, []}
 use Rattle.hac_core.specs.Drafts.{reads}
 use Rattle.hac_model.specs.Run.Answers.{Refuses}
-use Rattle.hac_model.specs.Run.Play.{command_turn}
+use Rattle.hac_model.specs.Run.Play.{command_turn, nothing_given}
 use Rattle.hac_model.specs.Run.Refusals.{cause}
 use Rattle.hac_model.specs.declared.replies.Deny.{Deny}
 use Rattle.hac_model.specs.declared.replies.Reply.{Reply}
@@ -31,7 +31,7 @@ returns-in-Ok c =
 pub returns-in-Err : goal.returns-in-Err
 returns-in-Err c =
     λ command for.
-    decides-denied c.in-Err.deny c.refused.result c.args.machine.now.state (λ setting. command_turn setting (Ok command)) c.refused.ensures
+    decides-denied c.in-Err.deny c.refused.result c.args.machine.now.state (λ setting. command_turn nothing_given setting (Ok command)) c.refused.ensures
     (λ why is setting same.
     refused-turn setting (Ok command) why
     (ap (λ (t : State). cause t command) same ∙ subst (λ (deny : Deny). Refuses deny (cause c.args.machine.now.state command)) is (c.in-Err.ensures.refused command for)))

@@ -1,7 +1,7 @@
 use Rattle.std.proofs.Common.{Err, ap, sym, subst, ◌∙◌}
 use Rattle.std.proofs.lemmas.Result.{err_from_is_err_and}
 use Rattle.hac_core.specs.Drafts.{CanSettle}
-use Rattle.hac_model.specs.Run.Play.{item_turn}
+use Rattle.hac_model.specs.Run.Play.{item_turn, nothing_given}
 use Rattle.hac_model.specs.Script.Lines.{item_taken}
 use Rattle.hac_model.specs.declared.states.State.{State}
 use Rattle.hac_top.proofs.StoringLemmas.{answers-only, stops-first}
@@ -10,7 +10,7 @@ use Rattle.hac_top.proofs.storing.store_line.Goals as goal
 pub returns-in_err-decision : goal.returns-in_err-decision
 returns-in_err-decision g c =
     let stop = err_from_is_err_and c.from_residual.result c.from_residual.ensures.1 in
-    rw (stop.1 ∙ ap Err stop.2) (stops-first g.met.D.Disk.only_now c.args.disk.now c.args.store.now (item_turn c.args.store.now.setting (item_taken c.args.line c.args.taken)))
+    rw (stop.1 ∙ ap Err stop.2) (stops-first g.met.D.Disk.only_now c.args.disk.now c.args.store.now (item_turn nothing_given c.args.store.now.setting (item_taken c.args.line c.args.taken)))
 
 pub returns-in-Answer : goal.returns-in-Answer
 returns-in-Answer g c =

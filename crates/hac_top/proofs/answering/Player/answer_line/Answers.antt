@@ -1,5 +1,5 @@
 use Rattle.std.proofs.Common.{[], ◌∷◌, Ok, ap, ◌∙◌}
-use Rattle.hac_model.specs.Run.Play.{item_turn}
+use Rattle.hac_model.specs.Run.Play.{item_turn, nothing_given}
 use Rattle.hac_model.specs.Script.Lines.{item_taken}
 use Rattle.hac_model.specs.Script.Printed.{text}
 use Rattle.hac_model.specs.declared.replies.Reply.{Reply}
@@ -12,7 +12,7 @@ pub returns-clause-err : goal.returns-clause-err
 returns-clause-err g c =
     let disk = g.D.Disk in
     let setting = c.args.self.now.store.setting in
-    let turn = item_turn setting (item_taken c.args.line c.args.taken) in
+    let turn = item_turn nothing_given setting (item_taken c.args.line c.args.taken) in
     let stored = c.in_ok-reply.ensures.ok in
     let new = c.store_line.new.disk in
     stops-told g.met.D.Disk.only_now c.args.disk.now new setting (g.K.Sink.seen c.args.output.now) (g.K.Sink.seen c.tell.new.output) (turn ∷ []) (text (c.in_ok-reply.reply ∷ [])) c.tell.result
