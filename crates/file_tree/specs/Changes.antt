@@ -9,9 +9,9 @@ use Rattle.file_tree.specs.declared.ready.Ready.{Ready}
 use Rattle.file_tree.specs.declared.ready.Ready.TheVariants.{Nothing}
 
 -- the entries of the next state fit one another, and this is how much it holds
-pub record MayBecome (after : State) (told : Counts) : Type 0 where
+pub record MayBecome (after : State) (counted : Counts) : Type 0 where
   pub layout : IsLayout after
-  pub counts_are : told ≡ counts after
+  pub counts_are : counted ≡ counts after
 
 -- the tree has become this state, and is ready for nothing
 abbrev pub HasBecome : State → Seen → Type 0

@@ -63,7 +63,7 @@ pub record IsShaped (tree : Inside) : Type 0 where
   pub spare : HasSpare tree.ready tree.nodes tree.next tree.spare.items
   pub others : HasNoOther tree.nodes tree.next
 
--- so they are, and what is kept beside them is told by them: how much there is, and which files are dirty. The set has
+-- so they are, and what is kept beside them follows from them: how much there is, and which files are dirty. The set has
 -- one number more at most, that of the file that the prepared change will make dirty.
 pub record IsTree (tree : Inside) : Type 0 where
   pub shaped : IsShaped tree

@@ -5,8 +5,8 @@ use Rattle.std.proofs.lemmas.List.{append-nil, drop-drop, drop_at, length-take, 
 use Rattle.byteorder.specs.Endian.{little_bytes}
 use Rattle.byteorder.specs.Numbers.{length-bytes_low_first}
 use Rattle.hac_disk.specs.Images.{Elapses, Follows, LeavesOnly, Torn, TornFrom, overlaid}
-use Rattle.hac_disk.specs.Told.{StartsWithin, Written, WrittenInPart}
-use Rattle.hac_disk.proofs.ToldLemmas.{told-written}
+use Rattle.hac_disk.specs.Contents.{StartsWithin, Written, WrittenInPart}
+use Rattle.hac_disk.proofs.ContentsLemmas.{told-written}
 use Rattle.hac_disk.proofs.TornLemmas.{length-overlaid}
 use Rattle.hac_journal.specs.Records.{record_of}
 use Rattle.hac_checkpoint.specs.Areas.{area_of}

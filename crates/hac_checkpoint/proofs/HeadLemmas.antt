@@ -5,7 +5,7 @@ use Rattle.std.proofs.lemmas.Bool.{cases_lt}
 use Rattle.std.proofs.lemmas.List.{drop-take, take-take, take_all, get_or-take, length-take}
 use Rattle.byteorder.specs.Endian.{little_number}
 use Rattle.byteorder.specs.Numbers.{little_from-take}
-use Rattle.hac_disk.specs.Told.{HasLength}
+use Rattle.hac_disk.specs.Contents.{HasLength}
 use Rattle.hac_checkpoint.specs.Laws.{RootsAgree, RootsStartBehind}
 use Rattle.hac_checkpoint.specs.Roots.{store_name, gate_of, is_open, generation, start, agreeing, counting, higher, slots, named, root_of, placed, IsRootSeen, IsHeadRoot}
 use Rattle.hac_checkpoint.specs.declared.heads.Root.{Root}

@@ -3,9 +3,9 @@ use Rattle.std.proofs.Common.{◌≡◌, ℕ, ◌+◌, ◌-◌, ◌≤◌, List,
 use Rattle.std.specs.declared.option.Option.{Option}
 use Rattle.std.proofs.lemmas.List.{drop-drop}
 use Rattle.hac_disk.specs.Images.{Elapses, Follows, IsQuiet, LeavesOnly, Only, Torn, TornFrom, overlaid}
-use Rattle.hac_disk.specs.Told.{IsSettled, RangeWithin, StartsWithin, Written, WrittenInPart}
+use Rattle.hac_disk.specs.Contents.{IsSettled, RangeWithin, StartsWithin, Written, WrittenInPart}
 use Rattle.hac_disk.proofs.Moments.{quiet_leaves, started, then_quiet, then_run, then_write, weaken}
-use Rattle.hac_disk.proofs.ToldLemmas.{told-settled, told-written}
+use Rattle.hac_disk.proofs.ContentsLemmas.{told-settled, told-written}
 use Rattle.hac_disk.proofs.TornLemmas.{torn-from, torn-none, torn-whole}
 use Rattle.hac_journal.proofs.CrashLemmas.{front-less}
 use Rattle.hac_checkpoint.specs.Writes.{IsSettledWith, WritesWithin}
@@ -82,7 +82,7 @@ module _ {D : Type 0} (seen : D → Option (List ℕ)) (image : D → List ℕ �
       let joined : (c : List ℕ) → TornFrom at n (image mid) c → TornFrom at n (image old) c =
       λ c torn. let from = first.images torn.0 torn.1 in (from.0, from.1, torn-twice at n from.0 torn.0 c from.2 torn.2) in
       record {
-        told = told-twice (seen old) (seen mid) (seen new) at n first.told second.told;
+        in_part = told-twice (seen old) (seen mid) (seen new) at n first.in_part second.in_part;
         images = λ c left. joined c (second.images c left);
         any_moment = then_run moment image_since old mid new (TornFrom at n (image old)) first.any_moment
             (weaken moment image_since mid new (TornFrom at n (image mid)) (TornFrom at n (image old)) joined second.any_moment);

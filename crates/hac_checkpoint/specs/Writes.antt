@@ -2,12 +2,12 @@
 use Rattle.std.specs.Prelude.{ℕ, List, None, Some}
 use Rattle.std.specs.declared.option.Option.{Option}
 use Rattle.hac_disk.specs.Images.{Follows, LeavesOnly, Only, Torn, TornFrom}
-use Rattle.hac_disk.specs.Told.{WrittenInPart}
+use Rattle.hac_disk.specs.Contents.{WrittenInPart}
 
 -- at most the n bytes from this place on were changed: outside them a read gives what it gave before, and so does a
 -- crash at any moment since
 pub record WritesWithin {D : Type 0} (seen : D → Option (List ℕ)) (image : D → List ℕ → Type 0) (moment : D → ℕ) (image_since : D → ℕ → List ℕ → Type 0) (at n : ℕ) (old new : D) : Type 0 where
-  pub told : WrittenInPart (seen old) at n (seen new)
+  pub in_part : WrittenInPart (seen old) at n (seen new)
   pub images : Follows (Torn at n) (image old) (image new)
   pub any_moment : LeavesOnly moment image_since old new (TornFrom at n (image old))
 

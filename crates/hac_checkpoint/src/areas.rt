@@ -3,7 +3,7 @@
 ghost use Rattle.std.specs.Prelude.{◌≡◌, ◌+◌, ◌<◌, ◌∷◌, ◌^◌, nat_le, IfOk, OnOk, length};
 ghost use Rattle.byteorder.specs.Endian.{little_bytes};
 ghost use Rattle.hac_outside.specs.Causes.{HasCause};
-ghost use Rattle.hac_disk.specs.Told.{HasByteAt, IsSettled, StartsWithin, Written};
+ghost use Rattle.hac_disk.specs.Contents.{HasByteAt, IsSettled, StartsWithin, Written};
 ghost use Rattle.hac_checkpoint.specs.Areas.{area_of, place_for};
 ghost use Rattle.hac_checkpoint.specs.Writes.{WritesWithin};
 

@@ -3,7 +3,7 @@
 ghost use Rattle.std.specs.Prelude.{◌≡◌, ◌+◌, ◌≤◌, ◌^◌, IfOk, drop, length};
 ghost use Rattle.hac_outside.specs.Causes.{HasCause, Rose};
 ghost use Rattle.hac_disk.specs.Images.{IsQuiet};
-ghost use Rattle.hac_disk.specs.Told.{RangeWithin};
+ghost use Rattle.hac_disk.specs.Contents.{RangeWithin};
 ghost use Rattle.hac_checkpoint.specs.Roots.{IsHeadRoot, IsRootSeen, agreeing, counting, gate_of, generation, higher, is_open, named, root_of, slots, start, store_name};
 
 use byteorder::{ByteOrder, LittleEndian};

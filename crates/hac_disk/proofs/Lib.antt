@@ -1,5 +1,5 @@
 pub mod MemoryLemmas
 pub mod Moments
 pub mod PartLemmas
-pub mod ToldLemmas
+pub mod ContentsLemmas
 pub mod TornLemmas

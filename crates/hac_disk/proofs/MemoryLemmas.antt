@@ -2,7 +2,7 @@
 use Rattle.std.proofs.Common.{◌≡◌, inl, inr, ⊎_elim, ℕ, suc, ◌-◌, ◌≤◌, Bool, List, [], ◌∷◌, ◌++◌, length, reverse, Some, refl, sym, ◌∙◌, ap, subst, arith, length-append}
 use Rattle.std.proofs.lemmas.List.{take_at, drop_at, reverse-append}
 use Rattle.hac_disk.specs.Images.{Torn, Follows, Elapses, IsQuiet}
-use Rattle.hac_disk.specs.Memory.{Call, Wrote, Synced, Attached, DiskState, file_after, Image, ImageSince, told_by, left_after, moment_of, left_since}
+use Rattle.hac_disk.specs.Memory.{Call, Wrote, Synced, Attached, DiskState, file_after, Image, ImageSince, bytes_of_disk, left_after, moment_of, left_since}
 use Rattle.hac_disk.specs.MemoryLaws.{seen_is_image, image_counts_now}
 use Rattle.hac_disk.specs.Kept.{front, back, calls_of}
 use Rattle.hac_disk.specs.declared.memory.Step.{Step}
@@ -63,7 +63,7 @@ module _ (old new : DiskState) (call : Call) (first : new.first ≡ old.first) (
 
   quiet-call : file_after old.first (call ∷ old.done) ≡ file_after old.first old.done
       → ((i : List ℕ) → Image old.first (call ∷ old.done) i → Image old.first old.done i)
-      → IsQuiet told_by left_after moment_of left_since old new
+      → IsQuiet bytes_of_disk left_after moment_of left_since old new
   quiet-call same images = record {
     same = rw (first, done) (ap (λ (f : List ℕ). Some f) same);
     images = λ c left. images c (same-image c left);
@@ -79,11 +79,11 @@ module _ (old new : DiskState) (call : Call) (first : new.first ≡ old.first) (
     keeps = λ t c le left. back-since t c (inr (le, left));
   }
 
-pub quiet-sync : (old new : DiskState) → new.first ≡ old.first → new.done ≡ Synced ∷ old.done → IsQuiet told_by left_after moment_of left_since old new
+pub quiet-sync : (old new : DiskState) → new.first ≡ old.first → new.done ≡ Synced ∷ old.done → IsQuiet bytes_of_disk left_after moment_of left_since old new
 quiet-sync old new first done =
     quiet-call old new Synced first done refl (λ i is. subst (Image old.first old.done) (sym is) (seen_is_image old.first old.done))
 
-pub quiet-attach : (old new : DiskState) (name : List ℕ) (make : Bool) → new.first ≡ old.first → new.done ≡ Attached name make ∷ old.done → IsQuiet told_by left_after moment_of left_since old new
+pub quiet-attach : (old new : DiskState) (name : List ℕ) (make : Bool) → new.first ≡ old.first → new.done ≡ Attached name make ∷ old.done → IsQuiet bytes_of_disk left_after moment_of left_since old new
 quiet-attach old new name make first done = quiet-call old new (Attached name make) first done refl (λ i left. left)
 
 pub write-images : (old new : DiskState) (at : ℕ) (bytes : List ℕ) → at ≤ length (file_after old.first old.done) → new.first ≡ old.first → new.done ≡ Wrote at bytes ∷ old.done

@@ -4,5 +4,5 @@ pub mod Kept
 pub mod Memory
 pub mod MemoryLaws
 pub mod Parts
-pub mod Told
-pub mod Untold
+pub mod Contents
+pub mod Unknown

@@ -50,8 +50,8 @@ attached_by (Wrote at bytes ∷ older) = attached_by older
 attached_by (Synced ∷ older) = attached_by older
 
 -- what a read gives
-abbrev pub told_by : DiskState → Option (List ℕ)
-told_by disk = Some (file_after disk.first disk.done)
+abbrev pub bytes_of_disk : DiskState → Option (List ℕ)
+bytes_of_disk disk = Some (file_after disk.first disk.done)
 
 -- what a crash now may leave
 abbrev pub left_after : DiskState → List ℕ → Type 0

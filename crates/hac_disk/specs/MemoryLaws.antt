@@ -10,8 +10,8 @@ seen_is_image first (Wrote at bytes ∷ older) = inl refl
 seen_is_image first (Synced ∷ older) = refl
 seen_is_image first (Attached name make ∷ older) = seen_is_image first older
 
-pub told_is_image : (first : List ℕ) (done : List Call) (file : List ℕ) → Some (file_after first done) ≡ Some file → Image first done file
-told_is_image first done file same =
+pub bytes_are_image : (first : List ℕ) (done : List Call) (file : List ℕ) → Some (file_after first done) ≡ Some file → Image first done file
+bytes_are_image first done file same =
     let is : file_after first done ≡ file = cc in subst (Image first done) is (seen_is_image first done)
 
 -- this moment is one of those since an earlier one

@@ -45,7 +45,7 @@ impl<'a> FileDisk<'a> {
 
 impl Disk for FileDisk<'_> {
     ghost use Rattle.std.specs.Prelude.{None};
-    ghost use Rattle.hac_disk.specs.Untold.{anything};
+    ghost use Rattle.hac_disk.specs.Unknown.{anything};
 
     ghost seen = { λ disk. None };
 

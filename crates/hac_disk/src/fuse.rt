@@ -4,7 +4,7 @@ ghost use Rattle.hac_outside.specs.Calls.{next_number};
 ghost use Rattle.hac_outside.specs.Causes.{HasCause};
 ghost use Rattle.hac_disk.specs.Fuse.{Burns};
 ghost use Rattle.hac_disk.specs.Images.{Elapses, Follows, IsQuiet, Torn};
-ghost use Rattle.hac_disk.specs.Told.{Attaches, HasLength, IsSettled, RangeWithin, StandAt, StartsWithin, Written, WrittenInPart};
+ghost use Rattle.hac_disk.specs.Contents.{Attaches, HasLength, IsSettled, RangeWithin, StandAt, StartsWithin, Written, WrittenInPart};
 
 use super::disks::Disk;
 use hac_outside::Failed;

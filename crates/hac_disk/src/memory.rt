@@ -3,9 +3,9 @@
 ghost use Rattle.std.specs.Prelude.{◌≡◌, ◌⊎◌, ◌-◌, ◌<◌, ◌↔◌, ◌==◌, [], IfOk, IsErr, OnErr, OnOk, if◌then◌else◌, is_ok, length};
 ghost use Rattle.hac_outside.specs.Causes.{HasCause};
 ghost use Rattle.hac_disk.specs.Images.{Elapses, Follows, IsQuiet, Torn};
-ghost use Rattle.hac_disk.specs.Memory.{Attached, IsFailing, IsNextCall, Synced, TouchesGap, Wrote, attached_to, left_after, left_since, moment_of, told_by, with_call};
+ghost use Rattle.hac_disk.specs.Memory.{Attached, IsFailing, IsNextCall, Synced, TouchesGap, Wrote, attached_to, left_after, left_since, moment_of, bytes_of_disk, with_call};
 ghost use Rattle.hac_disk.specs.Parts.{contents};
-ghost use Rattle.hac_disk.specs.Told.{Attaches, HasLength, IsSettled, RangeWithin, StandAt, StartsWithin, Written, WrittenInPart};
+ghost use Rattle.hac_disk.specs.Contents.{Attaches, HasLength, IsSettled, RangeWithin, StandAt, StartsWithin, Written, WrittenInPart};
 
 use super::disks::Disk;
 use super::parts::{joined, read_parts, write_parts};
@@ -106,9 +106,9 @@ impl MemoryDisk {
 }
 
 impl Disk for MemoryDisk {
-    ghost use Rattle.hac_disk.specs.MemoryLaws.{image_counts_now, image_only_now, told_is_image};
+    ghost use Rattle.hac_disk.specs.MemoryLaws.{image_counts_now, image_only_now, bytes_are_image};
 
-    ghost seen = { told_by };
+    ghost seen = { bytes_of_disk };
 
     ghost image = { left_after };
 
@@ -120,7 +120,7 @@ impl Disk for MemoryDisk {
 
     ghost faults = { λ disk. disk.faults };
 
-    ghost read_is_image = { λ disk file same. told_is_image disk.first disk.done file same };
+    ghost read_is_image = { λ disk file same. bytes_are_image disk.first disk.done file same };
 
     ghost counts_now = { λ disk t c le now. image_counts_now disk.first disk.done t c le now };
 
@@ -129,7 +129,7 @@ impl Disk for MemoryDisk {
     fn attach(&mut self, name: &str, make: bool) -> Result<(), Failed>
         ensures attached { Attaches (attached_to self.old) name.now make result
             (attached_to self.new) }
-        ensures quiet { IsQuiet told_by left_after moment_of left_since self.old self.new }
+        ensures quiet { IsQuiet bytes_of_disk left_after moment_of left_since self.old self.new }
         ensures cause { HasCause self.old.faults self.new.faults result }
 
         // Which calls fail, and what the others change.
@@ -153,9 +153,9 @@ impl Disk for MemoryDisk {
     }
 
     fn len(&mut self) -> Result<u64, Failed>
-        ensures len { IfOk result (λ len. HasLength (told_by self.old) len) }
+        ensures len { IfOk result (λ len. HasLength (bytes_of_disk self.old) len) }
         ensures attached { attached_to self.new ≡ attached_to self.old }
-        ensures quiet { IsQuiet told_by left_after moment_of left_since self.old self.new }
+        ensures quiet { IsQuiet bytes_of_disk left_after moment_of left_since self.old self.new }
         ensures cause { HasCause self.old.faults self.new.faults result }
         ensures fails { IsErr result ↔ IsFailing self.old }
         ensures done { self.new.done ≡ self.old.done }
@@ -167,10 +167,10 @@ impl Disk for MemoryDisk {
     }
 
     fn read_at(&mut self, at: u64, into: &mut [u8]) -> Result<(), Failed>
-        requires { RangeWithin (told_by self.old) at (length into.old) }
-        ensures read { OnOk result (StandAt (told_by self.old) at into.new) }
+        requires { RangeWithin (bytes_of_disk self.old) at (length into.old) }
+        ensures read { OnOk result (StandAt (bytes_of_disk self.old) at into.new) }
         ensures attached { attached_to self.new ≡ attached_to self.old }
-        ensures quiet { IsQuiet told_by left_after moment_of left_since self.old self.new }
+        ensures quiet { IsQuiet bytes_of_disk left_after moment_of left_since self.old self.new }
         ensures cause { HasCause self.old.faults self.new.faults result }
         ensures fails { IsErr result ↔ IsFailing self.old }
         ensures done { self.new.done ≡ self.old.done }
@@ -183,10 +183,10 @@ impl Disk for MemoryDisk {
     }
 
     fn write_at(&mut self, at: u64, bytes: &[u8]) -> Result<(), Failed>
-        requires { StartsWithin (told_by self.old) at }
-        ensures written { OnOk result (Written (told_by self.old) at bytes.now (told_by self.new)) }
-        ensures in_part { OnErr result (WrittenInPart (told_by self.old) at (length bytes.now)
-            (told_by self.new)) }
+        requires { StartsWithin (bytes_of_disk self.old) at }
+        ensures written { OnOk result (Written (bytes_of_disk self.old) at bytes.now (bytes_of_disk self.new)) }
+        ensures in_part { OnErr result (WrittenInPart (bytes_of_disk self.old) at (length bytes.now)
+            (bytes_of_disk self.new)) }
         ensures images { Follows (Torn at (length bytes.now)) (left_after self.old)
             (left_after self.new) }
         ensures time { Elapses (moment_of self.old) (moment_of self.new) (left_since self.old)
@@ -214,9 +214,9 @@ impl Disk for MemoryDisk {
     }
 
     fn sync(&mut self) -> Result<(), Failed>
-        ensures settled { OnOk result (IsSettled (told_by self.new) (left_after self.new)) }
+        ensures settled { OnOk result (IsSettled (bytes_of_disk self.new) (left_after self.new)) }
         ensures attached { attached_to self.new ≡ attached_to self.old }
-        ensures quiet { IsQuiet told_by left_after moment_of left_since self.old self.new }
+        ensures quiet { IsQuiet bytes_of_disk left_after moment_of left_since self.old self.new }
         ensures cause { HasCause self.old.faults self.new.faults result }
         ensures fails { IsErr result ↔ IsFailing self.old }
         ensures done { self.new.done ≡ with_call result Synced self.old.done }

@@ -2,7 +2,7 @@
 ghost use Rattle.std.specs.Prelude.{◌≡◌, OnErr, OnOk, length};
 ghost use Rattle.hac_outside.specs.Causes.{HasCause};
 ghost use Rattle.hac_disk.specs.Images.{Follows, LeavesOnly, Torn, TornFrom};
-ghost use Rattle.hac_disk.specs.Told.{IsSettled, StartsWithin, Written, WrittenInPart};
+ghost use Rattle.hac_disk.specs.Contents.{IsSettled, StartsWithin, Written, WrittenInPart};
 
 use super::disks::Disk;
 use hac_outside::Failed;

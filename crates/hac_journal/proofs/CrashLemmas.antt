@@ -4,9 +4,9 @@ use Rattle.std.specs.declared.option.Option.{Option}
 use Rattle.std.proofs.lemmas.List.{take-take, drop_more, take_at, drop_at, get_or-take, length-take}
 use Rattle.std.proofs.lemmas.Bool.{cases_eq}
 use Rattle.hac_disk.specs.Images.{overlaid, Torn, TornFrom}
-use Rattle.hac_disk.specs.Told.{HasByteAt, IsSettled, Written}
+use Rattle.hac_disk.specs.Contents.{HasByteAt, IsSettled, Written}
 use Rattle.hac_disk.proofs.TornLemmas.{overlaid-before, length-overlaid}
-use Rattle.hac_disk.proofs.ToldLemmas.{told-written, told-settled}
+use Rattle.hac_disk.proofs.ContentsLemmas.{told-written, told-settled}
 use Rattle.hac_journal.specs.Appending.{ClosedAt, HoldsAt, Appending}
 
 -- files that agree up to a place agree up to an earlier one, and in each byte before it

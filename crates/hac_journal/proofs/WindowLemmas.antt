@@ -5,7 +5,7 @@ use Rattle.std.specs.declared.alloc.Global.{Global}
 use Rattle.std.proofs.lemmas.Bool.{cases_lt}
 use Rattle.std.proofs.lemmas.Bool.Decides.{nat_tests}
 use Rattle.std.proofs.lemmas.List.{drop-take, drop-drop, drop_all, length-take}
-use Rattle.hac_disk.specs.Told.{HasLength, StandAt}
+use Rattle.hac_disk.specs.Contents.{HasLength, StandAt}
 use Rattle.hac_journal.specs.declared.finding.Look.TheVariants.{Record, ClosedGate, Needs}
 use Rattle.hac_journal.specs.declared.finding.Next.TheVariants.{Entry, End, Bad}
 use Rattle.hac_journal.specs.Finding.{Whole, found_in, TellsAt, Window, skipped, held_from, Shows}

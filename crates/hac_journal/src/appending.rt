@@ -2,7 +2,7 @@
 ghost use Rattle.std.specs.Prelude.{◌≡◌, ◌⊎◌, ◌+◌, ◌<◌, ◌≤◌, ◌^◌, ◌↔◌, List, ℕ, IfOk, IfSome, IsErrOf, OnOk, length};
 ghost use Rattle.hac_outside.specs.Causes.{Rose};
 ghost use Rattle.hac_disk.specs.Images.{LeavesOnly};
-ghost use Rattle.hac_disk.specs.Told.{HasByteAt, IsSettled, Written};
+ghost use Rattle.hac_disk.specs.Contents.{HasByteAt, IsSettled, Written};
 ghost use Rattle.hac_journal.specs.Appending.{Appending, ClosedAt};
 ghost use Rattle.hac_journal.specs.Records.{contents_of, log_of, records_of};
 

@@ -2,7 +2,7 @@
 ghost use Rattle.std.specs.Prelude.{◌≡◌, ◌+◌, ◌<◌, ◌≤◌, ◌^◌, [], IfOk, IsErrOf, MatchOption, drop, length, take};
 ghost use Rattle.hac_outside.specs.Causes.{Rose};
 ghost use Rattle.hac_disk.specs.Images.{IsQuiet};
-ghost use Rattle.hac_disk.specs.Told.{HasLength, StandAt};
+ghost use Rattle.hac_disk.specs.Contents.{HasLength, StandAt};
 ghost use Rattle.hac_journal.specs.Finding.{GoesAhead, TellsAt, held_from, skipped};
 
 use super::fault::JournalFault;

@@ -23,7 +23,7 @@ use Rattle.hac_model.specs.declared.limits.TheConstants.{QUERY_LIMIT, TERMS_LIMI
 use Rattle.hac_model.specs.declared.paths.PathWord.{PathWord}
 use Rattle.hac_model.specs.declared.reading.ByteKind.{ByteKind}
 use Rattle.hac_model.specs.declared.reading.ByteKind.TheVariants as kind
-use Rattle.hac_model.specs.declared.reading.Held.{Held}
+use Rattle.hac_model.specs.declared.reading.Ended.{Ended}
 use Rattle.hac_model.specs.declared.reading.Level.{Level}
 use Rattle.hac_model.specs.declared.reading.Operand.{Operand}
 use Rattle.hac_model.specs.declared.reading.Operand.TheVariants as operand
@@ -31,9 +31,9 @@ use Rattle.hac_model.specs.declared.reading.Operator.{Operator}
 use Rattle.hac_model.specs.declared.reading.Operator.TheVariants as operator
 use Rattle.hac_model.specs.declared.reading.Part.{Part}
 use Rattle.hac_model.specs.declared.reading.Reader.{Reader}
-use Rattle.hac_model.specs.declared.reading.Reader.TheVariants.{Wants, Holds}
+use Rattle.hac_model.specs.declared.reading.Reader.TheVariants.{Wants, Ends}
 use Rattle.hac_model.specs.declared.reading.Stack.{Stack}
-use Rattle.hac_model.specs.declared.reading.Stack.TheVariants.{Wanting, Holding}
+use Rattle.hac_model.specs.declared.reading.Stack.TheVariants.{Wanting, Ending}
 use Rattle.hac_model.specs.declared.reading.Wanted.{Wanted}
 use Rattle.hac_model.specs.declared.replies.Refusal.{Refusal}
 use Rattle.hac_model.proofs.WordLemmas.{word_of-names}
@@ -90,7 +90,7 @@ record WantedGood (n : ℕ) (w : Wanted) : Type 0 where
   outer : GoodLevels w.outer
   few : level_letters w.level + all_letters w.outer ≤ n
 
-record HeldGood (n : ℕ) (h : Held) : Type 0 where
+record EndedGood (n : ℕ) (h : Ended) : Type 0 where
   ors : GoodIfAny h.ors
   part : IsGood h.part
   outer : GoodLevels h.outer
@@ -152,7 +152,7 @@ letters-or (Some left) part = refl
 -- Tokens.
 
 received : (n : ℕ) (part : Part) (w : Wanted) → IsGood part → GoodLevel w.level → GoodLevels w.outer
-    → letters part + (level_letters w.level + all_letters w.outer) ≤ n → HeldGood n (receive part w)
+    → letters part + (level_letters w.level + all_letters w.outer) ≤ n → EndedGood n (receive part w)
 received n part w good level outer few = record {
   ors = level.0;
   part = good-and w.level.ands (nots_part w.level.nots part) level.1 (good-nots w.level.nots part good);
@@ -166,10 +166,10 @@ entered n w good = record { level = (tt, tt); outer = (good.level, good.outer); 
 negated : (n : ℕ) (w : Wanted) → WantedGood n w → WantedGood n (negate w)
 negated n w good = record { level = good.level; outer = good.outer; few = good.few }
 
-and_follows : (n : ℕ) (h : Held) → HeldGood n h → WantedGood n (after_and h)
+and_follows : (n : ℕ) (h : Ended) → EndedGood n h → WantedGood n (after_and h)
 and_follows n h good = record { level = (good.ors, good.part); outer = good.outer; few = good.few }
 
-or_follows : (n : ℕ) (h : Held) → HeldGood n h → WantedGood n (after_or h)
+or_follows : (n : ℕ) (h : Ended) → EndedGood n h → WantedGood n (after_or h)
 or_follows n h good = record {
   level = (good-or h.ors h.part good.ors good.part, tt);
   outer = good.outer;
@@ -177,15 +177,15 @@ or_follows n h good = record {
 }
 
 grouped-good : (n : ℕ) (part : Part) (outer : List Level) → IsGood part → GoodLevels outer → letters part + all_letters outer ≤ n
-    → IfSome (grouped part outer) (λ h. HeldGood n h)
+    → IfSome (grouped part outer) (λ h. EndedGood n h)
 grouped-good n part [] good levels few = tt
 grouped-good n part (level ∷ outer) good levels few =
     received n (group_part part) (record { level = level; outer = outer }) (good-group part good) levels.0 levels.1 few
 
-whole-few : (n : ℕ) (h : Held) → HeldGood n h → letters (whole_part h) + all_letters h.outer ≤ n
+whole-few : (n : ℕ) (h : Ended) → EndedGood n h → letters (whole_part h) + all_letters h.outer ≤ n
 whole-few n h good = let few : any_letters h.ors + letters h.part + all_letters h.outer ≤ n = good.few in omega (arith, few, letters-or h.ors h.part)
 
-left-good : (n : ℕ) (h : Held) → HeldGood n h → IfSome (leave h) (λ h. HeldGood n h)
+left-good : (n : ℕ) (h : Ended) → EndedGood n h → IfSome (leave h) (λ h. EndedGood n h)
 left-good n h good = grouped-good n (whole_part h) h.outer (good-or h.ors h.part good.ors good.part) good.outer (whole-few n h good)
 
 ungrouped-good : (n : ℕ) (part : Part) (outer : List Level) → IsGood part → letters part + all_letters outer ≤ n
@@ -193,7 +193,7 @@ ungrouped-good : (n : ℕ) (part : Part) (outer : List Level) → IsGood part �
 ungrouped-good n part [] good few = record { good = good; few = omega (arith, few) }
 ungrouped-good n part (level ∷ outer) good few = tt
 
-finished : (n : ℕ) (h : Held) → HeldGood n h → IfSome (finish h) (λ part. PartGood n part)
+finished : (n : ℕ) (h : Ended) → EndedGood n h → IfSome (finish h) (λ part. PartGood n part)
 finished n h good = ungrouped-good n (whole_part h) h.outer (good-or h.ors h.part good.ors good.part) (whole-few n h good)
 
 -- Words.
@@ -296,18 +296,18 @@ record WantsGood (n : ℕ) (read : Operand) (w : Wanted) : Type 0 where
 
 abbrev ReaderGood : ℕ → Reader → Type 0
 ReaderGood n (Wants read w) = WantsGood n read w
-ReaderGood n (Holds read h) = HeldGood n h
+ReaderGood n (Ends read h) = EndedGood n h
 
 abbrev StackGood : ℕ → Stack → Type 0
 StackGood n (Wanting w) = WantedGood n w
-StackGood n (Holding h) = HeldGood n h
+StackGood n (Ending h) = EndedGood n h
 
 -- behind one byte more
 abbrev NextGood : ℕ → Option Reader → Type 0
 NextGood n next = IfSome next (λ reader. ReaderGood (n + 1) reader)
 
-held-more : (n : ℕ) (h : Held) → HeldGood n h → HeldGood (n + 1) h
-held-more n h good = record {
+ended-more : (n : ℕ) (h : Ended) → EndedGood n h → EndedGood (n + 1) h
+ended-more n h good = record {
   ors = good.ors;
   part = good.part;
   outer = good.outer;
@@ -335,18 +335,18 @@ begins-operand kind.Slash b n w is good = tt
 begins-operand kind.Control b n w is good = tt
 begins-operand kind.Foreign b n w is good = tt
 
-begins-sign : (b n : ℕ) (h : Held) → HeldGood n h → NextGood n (sign_begins b h)
+begins-sign : (b n : ℕ) (h : Ended) → EndedGood n h → NextGood n (sign_begins b h)
 begins-sign b n h good =
-    cond_both (b == 65) _ _ (NextGood n) (λ _. held-more n h good) (λ _.
-    cond_both (b == 79) _ _ (NextGood n) (λ _. held-more n h good) (λ _. tt))
+    cond_both (b == 65) _ _ (NextGood n) (λ _. ended-more n h good) (λ _.
+    cond_both (b == 79) _ _ (NextGood n) (λ _. ended-more n h good) (λ _. tt))
 
-closes : (n : ℕ) (left : Option Held) → IfSome left (λ h. HeldGood n h) → NextGood n (option_map (Holds operator.Nothing) left)
+closes : (n : ℕ) (left : Option Ended) → IfSome left (λ h. EndedGood n h) → NextGood n (option_map (Ends operator.Nothing) left)
 closes n None good = tt
-closes n (Some h) good = held-more n h good
+closes n (Some h) good = ended-more n h good
 
-begins-operator : (k : ByteKind) (b n : ℕ) (h : Held) → HeldGood n h → NextGood n (operator_begins k b h)
+begins-operator : (k : ByteKind) (b n : ℕ) (h : Ended) → EndedGood n h → NextGood n (operator_begins k b h)
 begins-operator kind.Word b n h good = begins-sign b n h good
-begins-operator kind.Space b n h good = held-more n h good
+begins-operator kind.Space b n h good = ended-more n h good
 begins-operator kind.Close b n h good = closes n (leave h) (left-good n h good)
 begins-operator kind.Open b n h good = tt
 begins-operator kind.Star b n h good = tt
@@ -359,12 +359,12 @@ begins-operator kind.Foreign b n h good = tt
 
 begins-token : (k : ByteKind) (b n : ℕ) (s : Stack) → IsOf k b → StackGood n s → NextGood n (token_begins k b s)
 begins-token k b n (Wanting w) is good = begins-operand k b n w is good
-begins-token k b n (Holding h) is good = begins-operator k b n h good
+begins-token k b n (Ending h) is good = begins-operator k b n h good
 
 -- a leaf behind what was wanted
-leaf-held : (n : ℕ) (l : Leaf) (w : Wanted) (read : Operand) → WantsGood n read w → IsGood (leaf_part l) → letters (leaf_part l) ≤ run_letters read
-    → HeldGood n (receive (leaf_part l) w)
-leaf-held n l w read good is few =
+leaf-ended : (n : ℕ) (l : Leaf) (w : Wanted) (read : Operand) → WantsGood n read w → IsGood (leaf_part l) → letters (leaf_part l) ≤ run_letters read
+    → EndedGood n (receive (leaf_part l) w)
+leaf-ended n l w read good is few =
     let all : run_letters read + (level_letters w.level + all_letters w.outer) ≤ n = good.few in
     received n (leaf_part l) w is good.level good.outer (omega (arith, all, few))
 
@@ -382,7 +382,7 @@ run-ended n run w good =
     let P : Option Stack → Type 0 = λ s. IfSome s (λ s. StackGood n s) in
     cond_both (bytes_eq run (codes "NOT")) _ _ P (λ _. negated n w (still-wanted n w (operand.Run run) good)) (λ _.
     cond_both (is_operator run) _ _ P (λ _. tt) (λ _.
-    leaf-held n (Word (lower_case run)) w (operand.Run run) good (good-word run good.operand) (omega (arith, length-lower run))))
+    leaf-ended n (Word (lower_case run)) w (operand.Run run) good (good-word run good.operand) (omega (arith, length-lower run))))
 
 follows-run : (k : ByteKind) (b n : ℕ) (s : Option Stack) → IsOf k b → IfSome s (λ s. StackGood n s) → NextGood n (option_and_then (token_begins k b) s)
 follows-run k b n None is good = tt
@@ -399,8 +399,8 @@ steps-run kind.Word b n run w is good = record {
   few = let all : length run + (level_letters w.level + all_letters w.outer) ≤ n = good.few in omega (arith, all, length-append run (b ∷ []));
 }
 steps-run kind.Star b n run w is good =
-    held-more n (receive (leaf_part (Prefix (lower_case run))) w)
-    (leaf-held n (Prefix (lower_case run)) w (operand.Run run) good (good-prefix run good.operand) (omega (arith, length-lower run)))
+    ended-more n (receive (leaf_part (Prefix (lower_case run))) w)
+    (leaf-ended n (Prefix (lower_case run)) w (operand.Run run) good (good-prefix run good.operand) (omega (arith, length-lower run)))
 steps-run kind.Space b n run w is good = ends-run kind.Space b n run w is good
 steps-run kind.Open b n run w is good = ends-run kind.Open b n run w is good
 steps-run kind.Close b n run w is good = ends-run kind.Close b n run w is good
@@ -430,7 +430,7 @@ path-more n path b w is good = wants n w (operand.Path (path ++ b ∷ [])) good 
 
 steps-path : (k : ByteKind) (b n : ℕ) (path : List ℕ) (w : Wanted) → WantsGood n (operand.Path path) w → NextGood n (path_step k b path w)
 steps-path kind.EndBrace b n path w good =
-    held-more n (receive (leaf_part (Dir path)) w) (leaf-held n (Dir path) w (operand.Path path) good (good-dir path good.operand) (le_refl 0))
+    ended-more n (receive (leaf_part (Dir path)) w) (leaf-ended n (Dir path) w (operand.Path path) good (good-dir path good.operand) (le_refl 0))
 steps-path kind.Backslash b n path w good = wants n w (operand.Escape path) (still-wanted n w (operand.Path path) good) good.operand (omega arith)
 steps-path kind.Control b n path w good = tt
 steps-path kind.Word b n path w good = path-more n path b w good.operand (still-wanted n w (operand.Path path) good)
@@ -475,17 +475,17 @@ ends-sign kind.Slash b n w is good = tt
 ends-sign kind.Control b n w is good = tt
 ends-sign kind.Foreign b n w is good = tt
 
-steps-operator : (k : ByteKind) (b n : ℕ) (read : Operator) (h : Held) → IsOf k b → HeldGood n h → NextGood n (operator_step k b read h)
+steps-operator : (k : ByteKind) (b n : ℕ) (read : Operator) (h : Ended) → IsOf k b → EndedGood n h → NextGood n (operator_step k b read h)
 steps-operator k b n operator.Nothing h is good = begins-operator k b n h good
-steps-operator k b n operator.A h is good = cond_both (b == 78) _ _ (NextGood n) (λ _. held-more n h good) (λ _. tt)
-steps-operator k b n operator.An h is good = cond_both (b == 68) _ _ (NextGood n) (λ _. held-more n h good) (λ _. tt)
+steps-operator k b n operator.A h is good = cond_both (b == 78) _ _ (NextGood n) (λ _. ended-more n h good) (λ _. tt)
+steps-operator k b n operator.An h is good = cond_both (b == 68) _ _ (NextGood n) (λ _. ended-more n h good) (λ _. tt)
 steps-operator k b n operator.And h is good = ends-sign k b n (after_and h) is (and_follows n h good)
-steps-operator k b n operator.O h is good = cond_both (b == 82) _ _ (NextGood n) (λ _. held-more n h good) (λ _. tt)
+steps-operator k b n operator.O h is good = cond_both (b == 82) _ _ (NextGood n) (λ _. ended-more n h good) (λ _. tt)
 steps-operator k b n operator.Or h is good = ends-sign k b n (after_or h) is (or_follows n h good)
 
 steps-kind : (k : ByteKind) (b n : ℕ) (reader : Reader) → IsOf k b → ReaderGood n reader → NextGood n (kind_step k b reader)
 steps-kind k b n (Wants read w) is good = steps-operand k b n read w is good
-steps-kind k b n (Holds read h) is good = steps-operator k b n read h is good
+steps-kind k b n (Ends read h) is good = steps-operator k b n read h is good
 
 steps : (b n : ℕ) (reader : Reader) → ReaderGood n reader → NextGood n (step b reader)
 steps b n reader good = steps-kind (kind_of b) b n reader (kind_is b) good
@@ -495,7 +495,7 @@ steps b n reader good = steps-kind (kind_of b) b n reader (kind_is b) good
 token-ended : (n : ℕ) (s : Option Stack) → IfSome s (λ s. StackGood n s) → IfSome (option_and_then ended_token s) (λ part. PartGood n part)
 token-ended n None good = tt
 token-ended n (Some (Wanting w)) good = tt
-token-ended n (Some (Holding h)) good = finished n h good
+token-ended n (Some (Ending h)) good = finished n h good
 
 ends : (n : ℕ) (reader : Reader) → ReaderGood n reader → IfSome (read_whole reader) (λ part. PartGood n part)
 ends n (Wants operand.Nothing w) good = tt
@@ -503,12 +503,12 @@ ends n (Wants (operand.Run run) w) good = token-ended n (after_run run w) (run-e
 ends n (Wants operand.Brace w) good = tt
 ends n (Wants (operand.Path path) w) good = tt
 ends n (Wants (operand.Escape path) w) good = tt
-ends n (Holds operator.Nothing h) good = finished n h good
-ends n (Holds operator.A h) good = tt
-ends n (Holds operator.An h) good = tt
-ends n (Holds operator.And h) good = tt
-ends n (Holds operator.O h) good = tt
-ends n (Holds operator.Or h) good = tt
+ends n (Ends operator.Nothing h) good = finished n h good
+ends n (Ends operator.A h) good = tt
+ends n (Ends operator.An h) good = tt
+ends n (Ends operator.And h) good = tt
+ends n (Ends operator.O h) good = tt
+ends n (Ends operator.Or h) good = tt
 
 -- the part that was read of this many bytes is good
 abbrev ReadGood : ℕ → Result Part ℕ → Type 0

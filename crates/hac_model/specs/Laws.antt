@@ -12,13 +12,13 @@ use Rattle.hac_model.specs.Script.Lines.{Item, is_spelled, item_of}
 use Rattle.hac_model.specs.Tree.Links.{column, found_by, has, is_below, is_permanent, is_prohibited, is_semantic, links, provide, round, shown_of}
 use Rattle.hac_model.specs.Tree.Kinds as kinds
 use Rattle.hac_model.specs.Tree.Looks.{look, plain}
-use Rattle.hac_model.specs.Script.Printed.{ended, text}
+use Rattle.hac_model.specs.Script.Printed.{ended}
 use Rattle.hac_model.specs.Run.Refusals.{cause, events_of, led_to, marks}
 use Rattle.hac_model.specs.Run.Resolving.{resolve}
 use Rattle.hac_model.specs.Script.{due, whole}
 use Rattle.hac_model.specs.Tree.Sessions.{stored}
 use Rattle.hac_model.specs.Payload.Payloads.{is_spellable}
-use Rattle.hac_model.specs.Run.Play.{Given, Setting, all_events, end_after, given_behind, left_by, new_setting, no_answers, nothing_given, play, replies, turns}
+use Rattle.hac_model.specs.Run.Play.{Given, Setting, all_events, end_after, given_behind, left_by, new_setting, no_answers, nothing_given, play, turns, turns_text}
 use Rattle.hac_model.specs.Script.Texts.{escaped_text, text_of}
 use Rattle.hac_model.specs.Tree.{empty, entry_at, path_of}
 use Rattle.hac_model.specs.Tree.Valid.{IsValid}
@@ -247,9 +247,9 @@ lines_text lines = flat_map ended lines
 -- a semantic directory has the files that had its word when they were last indexed, and no directory is written over
 abbrev pub FirstListings : Type 0
 FirstListings =
-    text (replies (play nothing_given new_setting (lines_text (
+    turns_text (play nothing_given new_setting (lines_text (
     codes "write /a Big apple" ∷ codes "smkdir /s apple" ∷ codes "sls /s" ∷ codes "index" ∷ codes "sls /s"
-    ∷ codes "write /a pear" ∷ codes "sls /s" ∷ codes "write /s x" ∷ codes "smkdir /s y" ∷ []))))
+    ∷ codes "write /a pear" ∷ codes "sls /s" ∷ codes "write /s x" ∷ codes "smkdir /s y" ∷ [])))
     ≡ lines_text (
     codes "ok" ∷ codes "ok" ∷ codes "ok" ∷ codes "ok" ∷ codes "t /a" ∷ codes "ok"
     ∷ codes "ok" ∷ codes "t /a" ∷ codes "ok" ∷ codes "no not-file /s" ∷ codes "no exists /s" ∷ [])
@@ -258,11 +258,11 @@ FirstListings =
 -- move takes files out of its links, and brings others in.
 abbrev pub MovedListings : Type 0
 MovedListings =
-    text (replies (play nothing_given new_setting (lines_text (
+    turns_text (play nothing_given new_setting (lines_text (
     codes "mkdir /d" ∷ codes "mkdir d/e" ∷ codes "write /d/e/f red apple" ∷ codes "write g green apple" ∷ codes "smkdir /d/s apple"
     ∷ codes "smkdir d/s/t red" ∷ codes "index" ∷ codes "sls /d/s" ∷ codes "sls /d/s/t" ∷ codes "mv /d/e /h" ∷ codes "sls /d/s"
     ∷ codes "sls /d/s/t" ∷ codes "mv /g /d/./x/../e/" ∷ codes "sls /d/s" ∷ codes "sls /d/s/t" ∷ codes "mv /h/f /d/s/g"
-    ∷ codes "sls /d/s/t" ∷ codes "cat d/s/g" ∷ codes "ls" ∷ codes "ls /d" ∷ codes "ls /d/s" ∷ []))))
+    ∷ codes "sls /d/s/t" ∷ codes "cat d/s/g" ∷ codes "ls" ∷ codes "ls /d" ∷ codes "ls /d/s" ∷ [])))
     ≡ lines_text (
     codes "ok" ∷ codes "ok" ∷ codes "ok" ∷ codes "ok" ∷ codes "ok"
     ∷ codes "ok" ∷ codes "ok" ∷ codes "t /d/e/f" ∷ codes "ok" ∷ codes "t /d/e/f" ∷ codes "ok" ∷ codes "ok" ∷ codes "ok"
@@ -273,7 +273,7 @@ MovedListings =
 -- a store without room for one more record refuses each change, and still answers
 abbrev pub FullStore : Type 0
 FullStore =
-    text (replies (play nothing_given (record new_setting { start = 4294967290; end = 4294967290 }) (lines_text (codes "mkdir /a" ∷ codes "mkdir /a" ∷ codes "ls" ∷ []))))
+    turns_text (play nothing_given (record new_setting { start = 4294967290; end = 4294967290 }) (lines_text (codes "mkdir /a" ∷ codes "mkdir /a" ∷ codes "ls" ∷ [])))
     ≡ lines_text (codes "no limit store" ∷ codes "no limit store" ∷ codes "ok" ∷ [])
 
 -- the record of a new directory is 12 bytes longer than its name: 13 bytes for `a`

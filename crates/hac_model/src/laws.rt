@@ -95,7 +95,7 @@ pub fn marks_are_kept()
 
 /// What is found was indexed, and the user said nothing of it. A directory provides what the user
 /// added to it, and what the user removed from it only from below.
-pub fn links_are_told()
+pub fn links_respect_marks()
     ensures unmarked { LinksAreUnmarked }
     ensures found { FoundAreIndexed }
     ensures added { AddedAreProvided }

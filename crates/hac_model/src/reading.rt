@@ -34,7 +34,7 @@ pub struct Wanted {
 
 /// What ends with an operand.
 #[derive(Debug, Drop)]
-pub struct Held {
+pub struct Ended {
     /// What an `OR` joins to the part, from the last open parenthesis on.
     pub ors: Option<Part>,
     /// The operand, with its `AND`s and `NOT`s before it.
@@ -81,7 +81,7 @@ pub enum Stack {
     /// An operand is wanted.
     Wanting(Wanted),
     /// An operand ended.
-    Holding(Held),
+    Ending(Ended),
 }
 
 /// How far a query was read.
@@ -90,7 +90,7 @@ pub enum Reader {
     /// An operand is wanted.
     Wants(Operand, Wanted),
     /// An operand ended, so that an operator, a closing parenthesis or the end may follow.
-    Holds(Operator, Held),
+    Ends(Operator, Ended),
 }
 
 /// What a byte is in a query.

@@ -12,6 +12,6 @@ pub record HasCause {T E : Type 0} (before now : ℕ) (result : Result T E) : Ty
   pub none : OnOk result (now ≡ before)
 
 -- where the answer reports a fault there was one, and else there was none
-abbrev pub TellsFault : Bool → ℕ → ℕ → Type 0
-TellsFault true before now = (before ≤ now) × Rose before now
-TellsFault false before now = now ≡ before
+abbrev pub ReportsFault : Bool → ℕ → ℕ → Type 0
+ReportsFault true before now = (before ≤ now) × Rose before now
+ReportsFault false before now = now ≡ before

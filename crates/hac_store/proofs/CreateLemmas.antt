@@ -3,9 +3,9 @@ use Rattle.std.proofs.Common.{◌≡◌, ◌⊎◌, inl, inr, ℕ, ◌<◌, List
 use Rattle.std.specs.declared.option.Option.{Option}
 use Rattle.std.proofs.lemmas.List.{get_or-take, drop_at, take_at, length-take}
 use Rattle.hac_disk.specs.Images.{IsQuiet, LeavesOnly, Torn, TornFrom, overlaid}
-use Rattle.hac_disk.specs.Told.{HasByteAt, HasLength, IsSettled, StandAt, Written}
+use Rattle.hac_disk.specs.Contents.{HasByteAt, HasLength, IsSettled, StandAt, Written}
 use Rattle.hac_disk.proofs.Moments.{quiet_leaves, then_quiet, then_run, weaken}
-use Rattle.hac_disk.proofs.ToldLemmas.{if_told, told-settled}
+use Rattle.hac_disk.proofs.ContentsLemmas.{if_known, told-settled}
 use Rattle.hac_journal.specs.Appending.{ClosedAt}
 use Rattle.hac_model.specs.Run.Play.{new_setting}
 use Rattle.hac_store.specs.Creating.{Becomes, IsReady, IsUnheld}
@@ -109,7 +109,7 @@ module _ {D : Type 0} (seen : D → Option (List ℕ)) (image : D → List ℕ �
   write-new : (old mid new : D) (at n : ℕ) → Settled old → IsUnheld (seen old) → Quiet old mid → Runs mid new at n
       → ((file c : List ℕ) → seen old ≡ Some file → Torn at n file c → IsNewOrNone c) → Leaves old new
   write-new old mid new at n settled unheld quiet run each =
-      if_told (seen old) (LeavesNew old new) (λ file is.
+      if_known (seen old) (LeavesNew old new) (λ file is.
       then_run moment image_since old mid new IsNewOrNone (quiet-run old mid file is settled unheld quiet)
       (write-run mid new at n file (quiet.same ∙ is) (quiet-settled old mid file is settled quiet) run (λ c torn. each file c is torn)))
 
@@ -130,7 +130,7 @@ module _ {D : Type 0} (seen : D → Option (List ℕ)) (image : D → List ℕ �
   pub behind-new : (old len mid new : D) (n : ℕ) → Settled old → IsUnheld (seen old) → Quiet old len → Leaves len mid
       → Becomes (seen len) (ClosedAt 0) (seen mid) → Settled mid → Runs mid new 1 n → Leaves old new
   behind-new old len mid new n settled unheld quiet closing shut kept run =
-      if_told (seen old) (LeavesNew old new) (λ file is.
+      if_known (seen old) (LeavesNew old new) (λ file is.
       let now : seen len ≡ Some file = quiet.same ∙ is in
       let closed = became (seen len) (seen mid) (ClosedAt 0) file now shut in
       then_run moment image_since old len new IsNewOrNone (quiet-run old len file is settled unheld quiet)
@@ -140,7 +140,7 @@ module _ {D : Type 0} (seen : D → Option (List ℕ)) (image : D → List ℕ �
   -- and then the gate is opened
   pub open-new : (old mid new : D) → Leaves old mid → Becomes (seen old) IsReady (seen mid) → Settled mid → Runs mid new 0 1 → Leaves old new
   open-new old mid new so_far ready kept run =
-      if_told (seen old) (LeavesNew old new) (λ file is.
+      if_known (seen old) (LeavesNew old new) (λ file is.
       let all = became (seen old) (seen mid) IsReady file is ready in
       then_run moment image_since old mid new IsNewOrNone (subst (λ s. IfSome s (λ _. LeavesNew old mid)) is so_far)
       (write-run mid new 0 1 all.file all.is kept run (λ c torn. torn-open all.file c all.has torn)))

@@ -50,7 +50,7 @@ short-found at c (gate ∷ rest) setting same few is =
     ⊎_elim
     (λ open_gate. let none = sym (log-short empty at c (ap (found_in at) same ∙ found-open at gate rest open_gate ∙ behind-short at rest (omega (arith, few)))) ∙ is in absurd (cc))
     (λ shut.
-    let told = sym (log-closed empty at c (ap (found_in at) same ∙ found-shut at gate rest shut)) ∙ is in
+    let reported = sym (log-closed empty at c (ap (found_in at) same ∙ found-shut at gate rest shut)) ∙ is in
     let ends : record { state = empty; end = at } ≡ record { state = setting.state; end = setting.end } = cc in
     ap (λ (l : Log). l.state) (sym ends))
     (cases_eq gate 1)

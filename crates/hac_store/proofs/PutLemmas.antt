@@ -5,9 +5,9 @@ use Rattle.std.specs.declared.alloc.Global.{Global}
 use Rattle.std.specs.declared.option.Option.{Option}
 use Rattle.std.proofs.lemmas.Bool.{cases_lt}
 use Rattle.hac_disk.specs.Images.{LeavesOnly, overlaid}
-use Rattle.hac_disk.specs.Told.{IsSettled, Written}
+use Rattle.hac_disk.specs.Contents.{IsSettled, Written}
 use Rattle.hac_disk.proofs.Moments.{started, weaken}
-use Rattle.hac_disk.proofs.ToldLemmas.{told-settled}
+use Rattle.hac_disk.proofs.ContentsLemmas.{told-settled}
 use Rattle.hac_checkpoint.specs.declared.heads.Slot.{Slot}
 use Rattle.hac_journal.specs.Appending.{Appending, ClosedAt}
 use Rattle.hac_journal.specs.Records.{contents_of, log_of}
@@ -28,7 +28,7 @@ use Rattle.hac_model.specs.declared.states.State.{State}
 use Rattle.hac_model.proofs.AcyclicLemmas.{apply-valid}
 use Rattle.hac_model.proofs.SpelledLemmas.{accepted-spelled}
 use Rattle.hac_core.specs.Seen.{Seen as Kept}
-use Rattle.hac_outside.specs.Causes.{TellsFault}
+use Rattle.hac_outside.specs.Causes.{ReportsFault}
 use Rattle.hac_store.specs.Faults.{is_disk_fault}
 use Rattle.hac_store.specs.Held.{held}
 use Rattle.hac_store.specs.Storing.{StoresEvents, StoringEnds}
@@ -125,5 +125,5 @@ none-stored {seen = seen} {image = image} {moment = moment} {image_since = image
       stands = λ _. tt;
       moments = λ stands. subst (λ d. LeavesOnly moment image_since old d (HeldBetween before.setting events)) (sym same) (none-put seen image moment image_since only_now old before.setting events stands);
       names = ap attached same;
-      told = subst (λ (b : Bool). TellsFault b (faults old) (faults new)) (sym no_disk) (ap faults same);
+      reported = subst (λ (b : Bool). ReportsFault b (faults old) (faults new)) (sym no_disk) (ap faults same);
     }

@@ -2,8 +2,8 @@
 use Rattle.std.proofs.Common.{◌≡◌, ℕ, ◌-◌, ◌≤◌, List, length, None, Some, IfOk, IfSome, Result, Ok, Err, sym, ◌∙◌, ap, subst, arith, Vec}
 use Rattle.std.specs.declared.alloc.Global.{Global}
 use Rattle.std.specs.declared.option.Option.{Option}
-use Rattle.hac_disk.specs.Told.{IsSettled}
-use Rattle.hac_disk.proofs.ToldLemmas.{told-settled}
+use Rattle.hac_disk.specs.Contents.{IsSettled}
+use Rattle.hac_disk.proofs.ContentsLemmas.{told-settled}
 use Rattle.hac_checkpoint.specs.Roots.{placed, root_of, IsRootSeen}
 use Rattle.hac_checkpoint.specs.declared.heads.Root.{Root}
 use Rattle.hac_checkpoint.specs.declared.heads.RootFault.{RootFault}

@@ -17,7 +17,7 @@ abbrev pub IsUnheld : Option (List ℕ) → Type 0
 IsUnheld None = ⊤
 IsUnheld (Some file) = IsErr (held file)
 
--- a disk that told its bytes still does, and has this
+-- a disk whose bytes were known goes on so, and has this
 abbrev pub Becomes : Option (List ℕ) → (List ℕ → Type 0) → Option (List ℕ) → Type 0
 Becomes None P new = new ≡ None
 Becomes (Some old) P None = ⊥

@@ -5,7 +5,7 @@ use Rattle.hac_checkpoint.specs.contracts.heads.Slot as slot
 use Rattle.hac_checkpoint.specs.declared.heads.Root.{Root}
 use Rattle.hac_checkpoint.specs.declared.heads.Slot.{Slot}
 use Rattle.hac_checkpoint.specs.declared.heads.Slot.TheVariants.{A}
-use Rattle.hac_disk.specs.Told.{HasByteAt}
+use Rattle.hac_disk.specs.Contents.{HasByteAt}
 use Rattle.hac_model.specs.Run.Play.{Setting, after_events, new_setting}
 use Rattle.hac_model.specs.Tree.{empty}
 use Rattle.hac_model.specs.declared.events.Event.{Event}

@@ -1,8 +1,8 @@
 -- What becomes of a store and of its disk where events are stored.
 use Rattle.std.specs.Prelude.{◌≡◌, ℕ, Bool, true, false, List, Option, Result, Ok, Err, OnOk, map}
 use Rattle.hac_disk.specs.Images.{LeavesOnly}
-use Rattle.hac_disk.specs.Told.{IsSettled, Written}
-use Rattle.hac_outside.specs.Causes.{TellsFault}
+use Rattle.hac_disk.specs.Contents.{IsSettled, Written}
+use Rattle.hac_outside.specs.Causes.{ReportsFault}
 use Rattle.hac_journal.specs.Records.{log_of}
 use Rattle.hac_model.specs.Payload.Payloads.{event_text}
 use Rattle.hac_model.specs.Run.Play.{have_room}
@@ -42,4 +42,4 @@ pub record StoresEvents {D : Type 0} (seen : D → Option (List ℕ)) (image : D
   pub moments : Stands (seen old) (image old) before.setting →
       LeavesOnly moment image_since old new (HeldBetween before.setting events)
   pub names : attached new ≡ attached old
-  pub told : TellsFault (is_disk_fault result) (faults old) (faults new)
+  pub reported : ReportsFault (is_disk_fault result) (faults old) (faults new)

@@ -1,8 +1,8 @@
 //! Making a new store: all of it is written behind a closed gate, which is then opened.
 ghost use Rattle.std.specs.Prelude.{◌≡◌, ◌⊎◌, Err, IfOk, IfSome, IsErr, IsOk, OnOk, ℕ};
-ghost use Rattle.hac_outside.specs.Causes.{HasCause, TellsFault};
+ghost use Rattle.hac_outside.specs.Causes.{HasCause, ReportsFault};
 ghost use Rattle.hac_disk.specs.Images.{IsQuiet, LeavesOnly};
-ghost use Rattle.hac_disk.specs.Told.{HasByteAt, IsSettled};
+ghost use Rattle.hac_disk.specs.Contents.{HasByteAt, IsSettled};
 ghost use Rattle.hac_journal.specs.Appending.{ClosedAt};
 ghost use Rattle.hac_model.specs.Run.Play.{new_setting};
 ghost use Rattle.hac_store.specs.Creating.{Becomes, IsReady, IsUnheld, none_in};
@@ -45,7 +45,7 @@ impl Store {
         ensures kind { ((at : ℕ) → result ≡ Err (StoreFault.NotStore at) → ⊥) ×
             (result ≡ Err StoreFault.Full → ⊥) }
         ensures attached { D.attached disk.new ≡ D.attached disk.old }
-        ensures faults { TellsFault (is_disk_fault result) (D.faults disk.old) (D.faults disk.new) }
+        ensures faults { ReportsFault (is_disk_fault result) (D.faults disk.old) (D.faults disk.new) }
     {
         disk.sync()?;
         none(read_store(alloc, disk).err())?;
@@ -77,7 +77,7 @@ fn new_store<D: Disk>(alloc: Global, disk: &mut D) -> Result<Store, StoreFault>
     ensures kind { ((at : ℕ) → result ≡ Err (StoreFault.NotStore at) → ⊥) ×
         (result ≡ Err StoreFault.AlreadyStore → ⊥) × (result ≡ Err StoreFault.Full → ⊥) }
     ensures attached { D.attached disk.new ≡ D.attached disk.old }
-    ensures faults { TellsFault (is_disk_fault result) (D.faults disk.old) (D.faults disk.new) }
+    ensures faults { ReportsFault (is_disk_fault result) (D.faults disk.old) (D.faults disk.new) }
 {
     let machine = Machine::new(alloc)?;
     match write_new(disk) {

@@ -1,8 +1,8 @@
 //! Opening a store: its log is read, and its events happen one by one.
 ghost use Rattle.std.specs.Prelude.{◌≡◌, ◌+◌, ◌<◌, ◌^◌, false, length, Ok, Err, IfOk, IfSome, OnOk};
-ghost use Rattle.hac_outside.specs.Causes.{TellsFault};
+ghost use Rattle.hac_outside.specs.Causes.{ReportsFault};
 ghost use Rattle.hac_disk.specs.Images.{IsQuiet};
-ghost use Rattle.hac_disk.specs.Told.{HasByteAt, IsSettled};
+ghost use Rattle.hac_disk.specs.Contents.{HasByteAt, IsSettled};
 ghost use Rattle.hac_model.specs.Tree.Events.{apply};
 ghost use Rattle.hac_model.specs.Payload.Payloads.{spelled};
 ghost use Rattle.hac_model.specs.Tree.Valid.{IsValid};
@@ -39,7 +39,7 @@ impl Store {
         ensures kind { (result ≡ Err StoreFault.AlreadyStore → ⊥) ×
             (result ≡ Err StoreFault.Full → ⊥) }
         ensures attached { D.attached disk.new ≡ D.attached disk.old }
-        ensures faults { TellsFault (is_disk_fault result) (D.faults disk.old) (D.faults disk.new) }
+        ensures faults { ReportsFault (is_disk_fault result) (D.faults disk.old) (D.faults disk.new) }
     {
         disk.sync()?;
         read_store(alloc, disk)
@@ -56,7 +56,7 @@ pub(crate) fn read_store<D: Disk>(alloc: Global, disk: &mut D) -> Result<Store, 
     ensures quiet { IsQuiet D.seen D.image D.moment D.image_since disk.old disk.new }
     ensures kind { (result ≡ Err StoreFault.AlreadyStore → ⊥) × (result ≡ Err StoreFault.Full → ⊥) }
     ensures attached { D.attached disk.new ≡ D.attached disk.old }
-    ensures faults { TellsFault (is_disk_fault result) (D.faults disk.old) (D.faults disk.new) }
+    ensures faults { ReportsFault (is_disk_fault result) (D.faults disk.old) (D.faults disk.new) }
 {
     let root = roots(disk)?;
     let mut machine = Machine::new(alloc)?;
@@ -92,7 +92,7 @@ fn read_log<D: Disk>(
     ensures quiet { IsQuiet D.seen D.image D.moment D.image_since disk.old disk.new }
     ensures kind { (result ≡ Err StoreFault.AlreadyStore → ⊥) × (result ≡ Err StoreFault.Full → ⊥) }
     ensures attached { D.attached disk.new ≡ D.attached disk.old }
-    ensures faults { TellsFault (is_disk_fault result) (D.faults disk.old) (D.faults disk.new) }
+    ensures faults { ReportsFault (is_disk_fault result) (D.faults disk.old) (D.faults disk.new) }
 {
     let mut reader = LogReader::new(alloc);
     let mut at = start;

@@ -5,14 +5,13 @@ use Rattle.std.specs.Io.KnownBytes.{Appends}
 use Rattle.hac_disk.specs.Images.{LeavesOnly}
 use Rattle.hac_outside.specs.Known.{Known}
 use Rattle.hac_outside.specs.Seen.{SinkSeen}
-use Rattle.hac_model.specs.Run.Play.{Setting, Turn, has_refusal, left_by, nothing_given, play, turns}
+use Rattle.hac_model.specs.Run.Play.{Setting, Turn, has_refusal, left_by, nothing_given, play, turns, turns_text}
 use Rattle.hac_model.specs.Script.{first_items, whole}
 use Rattle.hac_store.specs.Stores.{Bears, Seen, Stands}
 use Rattle.shell_lang.specs.Reading.{IsReaderOf, Reading, pending}
 use Rattle.hac_top.specs.Crashes.{Holds}
 use Rattle.hac_top.specs.Run.{IsTreeOf, Outside}
 use Rattle.hac_top.specs.TakenLines.{IsLine, LeavesSource}
-use Rattle.hac_top.specs.Told.{told_text}
 
 -- the turns of whole lines, and of one line behind them
 abbrev pub turns_of : Setting → List ℕ → List ℕ → List Turn
@@ -27,12 +26,12 @@ pub record Goes (first : Setting) (script pending : List ℕ) (ended : Bool) (se
   pub lines : whole played ≡ played
   pub line_is : IsLine ended last pending
   pub left_is : setting ≡ left_by first (turns_of first played last)
-  pub written : Appends before.written now.written (told_text (turns_of first played last))
+  pub written : Appends before.written now.written (turns_text (turns_of first played last))
   pub refused_is : refused ≡ has_refusal (turns_of first played last)
 
 -- a reader that holds nothing yet
 abbrev pub fresh_reader : Reading
-fresh_reader = record { held = []; taken = 0; ended = false }
+fresh_reader = record { buffered = []; taken = 0; ended = false }
 
 -- Between two lines no call has failed, and all was passed on. The disk stands for what the lines so far left, and a
 -- crash since the run began leaves the tree after some of its events.

@@ -2,7 +2,7 @@ pub mod CrashLemmas
 pub mod DecidingLemmas
 pub mod StoringLemmas
 pub mod TakenLemmas
-pub mod TellingLemmas
+pub mod ReplyLemmas
 pub mod GoesOn
 pub mod RunLemmas
 pub mod LineLemmas

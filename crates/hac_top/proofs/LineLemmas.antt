@@ -5,7 +5,7 @@ use Rattle.std.specs.Option.{IfSome}
 use Rattle.std.specs.Io.KnownBytes.{prepend_known}
 use Rattle.hac_disk.specs.Images.{LeavesOnly}
 use Rattle.hac_disk.proofs.Moments.{started, then_run, weaken}
-use Rattle.hac_outside.specs.Causes.{TellsFault}
+use Rattle.hac_outside.specs.Causes.{ReportsFault}
 use Rattle.hac_outside.specs.Known.{Known}
 use Rattle.hac_outside.specs.Seen.{SinkSeen, SourceSeen}
 use Rattle.hac_outside.proofs.KnownLemmas.{known-behind, known-joined, known-weaker}
@@ -43,14 +43,14 @@ known-script P Q T R (Some s) (Some p) (Some l) follows goes stops total = follo
 -- one taking after another
 leaves-then : (failed : Bool) (r s t : Reading) (a b c : SourceSeen) → LeavesSource false r s a b → LeavesSource failed s t b c → LeavesSource failed r t a c
 leaves-then failed r s t a b c first second =
-    record { total = total_on r.taken s.taken t.taken a.left b.left c.left first.total second.total; limit = second.limit; told = told-since failed a.faults b.faults c.faults first.told second.told }
+    record { total = total_on r.taken s.taken t.taken a.left b.left c.left first.total second.total; limit = second.limit; reported = told-since failed a.faults b.faults c.faults first.reported second.reported }
 
 -- what a run says of its source and its sink at its end
-ends-of : (status : Status) (reader : Reading) (before after : Outside) → LeavesSource (is_read_fault status) fresh_reader reader before.source after.source → TellsFault (is_write_fault status) before.sink.faults after.sink.faults →
+ends-of : (status : Status) (reader : Reading) (before after : Outside) → LeavesSource (is_read_fault status) fresh_reader reader before.source after.source → ReportsFault (is_write_fault status) before.sink.faults after.sink.faults →
     ((status ≡ WriteFault → ⊥) → before.sink.held_back ≡ 0 → after.sink.held_back ≡ 0) → Ends status before after
 ends-of status reader before after source writes passed =
     record {
-      reads = source.told;
+      reads = source.reported;
       writes = writes;
       within = known-weaker (λ x y. reader.taken + length y ≡ 0 + length x) (λ x y. length x ≤ length y + (SCRIPT_LIMIT + 1)) before.source.left after.source.left (λ x y same. omega (arith, same, source.limit)) source.total;
       passed = passed;
@@ -73,8 +73,8 @@ stops-source TooLong why = record { disk = refl; sink = refl; unfinished = λ ne
 stops-source Memory why = record { disk = refl; sink = refl; unfinished = λ never. never; opened = tt }
 stops-source other why = absurd why
 
-no-fault : (failed : Bool) (before now : ℕ) → failed ≡ false → now ≡ before → TellsFault failed before now
-no-fault failed before now none same = subst (λ (b : Bool). TellsFault b before now) (sym none) same
+no-fault : (failed : Bool) (before now : ℕ) → failed ≡ false → now ≡ before → ReportsFault failed before now
+no-fault failed before now none same = subst (λ (b : Bool). ReportsFault b before now) (sym none) same
 
 finished-facts : (refused : Bool) → (is_disk_fault (finished_status refused) ≡ false) × IsOpenStatus (finished_status refused)
 finished-facts true = (refl, tt)
@@ -82,7 +82,7 @@ finished-facts false = (refl, tt)
 
 -- it stops before it takes anything where there is no memory for a reader
 pub stops-unread : (source : SourceSeen) → StopsTaking fresh_reader fresh_reader source source Memory
-stops-unread source = record { why = tt; stops = stops source.left; goes = λ other. absurd (other refl); past = λ e. cc; source = record { total = total source.left; limit = omega arith; told = refl } }
+stops-unread source = record { why = tt; stops = stops source.left; goes = λ other. absurd (other refl); past = λ e. cc; source = record { total = total source.left; limit = omega arith; reported = refl } }
   where
     stops : (left : Option (List ℕ)) → Known (StopsIn Memory) (prepend_known [] left) left
     stops None = tt
@@ -101,7 +101,7 @@ module _ {D : Type 0} {seen : D → Option (List ℕ)} {image : D → List ℕ �
       (record {
         goes = goes before.source.left;
         reads = record { ended = open_now; nothing = λ e. absurd cc; last = λ e. absurd cc; near = omega arith };
-        source = record { total = total before.source.left; limit = omega arith; told = refl };
+        source = record { total = total before.source.left; limit = omega arith; reported = refl };
         passed = λ none. none;
         wrote = refl;
         intact = intact;
@@ -144,7 +144,7 @@ module _ {D : Type 0} {seen : D → Option (List ℕ)} {image : D → List ℕ �
           moments = was.moments;
           ends = ends-of status new before (outside source now.sink) takes (no-fault (is_write_fault status) before.sink.faults now.sink.faults kind.sink was.wrote) (λ _. was.passed);
           names = was.names;
-          told = no-fault (is_disk_fault status) (faults old) (faults mid) kind.disk was.quiet;
+          reported = no-fault (is_disk_fault status) (faults old) (faults mid) kind.disk was.quiet;
         }
 
     -- the script has ended
@@ -153,28 +153,28 @@ module _ {D : Type 0} {seen : D → Option (List ℕ)} {image : D → List ℕ �
         let took = leaves-then false fresh_reader reader new before.source now.source source was.source takes.source in
         record {
           played =
-              known-script (λ s p. Goes first s p reader.ended store.setting refused before.sink now.sink) (λ p l. (p ≡ []) × (new.held ++ l ≡ [])) (λ s l. new.taken + length l ≡ 0 + length s)
+              known-script (λ s p. Goes first s p reader.ended store.setting refused before.sink now.sink) (λ p l. (p ≡ []) × (new.buffered ++ l ≡ [])) (λ s l. new.taken + length l ≡ 0 + length s)
               (λ s. Played false (finished_status refused) first s before (outside source now.sink) (Stands (seen old) (image old) first) (image mid)) before.source.left (pending reader now.source.left) source.left
               (λ s p l left_is goes none total.
-              played-end first (Stands (seen old) (image old) first) (image mid) s p l new.held new.taken reader.ended store.setting refused before (outside source now.sink) goes left_is was.passed none total takes.advances
+              played-end first (Stands (seen old) (image old) first) (image mid) s p l new.buffered new.taken reader.ended store.setting refused before (outside source now.sink) goes left_is was.passed none total takes.advances
               (λ stands. stands-each (seen mid) (image mid) store.setting (was.stands stands)))
-              was.goes (known-behind (λ p q. (p ≡ []) × (q ≡ [])) (pending reader now.source.left) source.left new.held takes.given) took.total;
+              was.goes (known-behind (λ p q. (p ≡ []) × (q ≡ [])) (pending reader now.source.left) source.left new.buffered takes.given) took.total;
           opened = (finished-facts refused).1;
           moments = was.moments;
           ends = ends-finished refused new before (outside source now.sink) took was.wrote was.passed;
           names = was.names;
-          told = no-fault (is_disk_fault (finished_status refused)) (faults old) (faults mid) (finished-facts refused).0 was.quiet;
+          reported = no-fault (is_disk_fault (finished_status refused)) (faults old) (faults mid) (finished-facts refused).0 was.quiet;
         }
 
     -- a line was taken
     module _ {source : SourceSeen} {next : Reading} {line : TakenLine} (takes : TakesLine reader next now.source source (Some line)) where
       -- what is known of the script then, and of what is left
-      given-script : (R : List ℕ → Type 0) → ((s p l : List ℕ) → Some l ≡ source.left → Goes first s p false store.setting refused before.sink now.sink → GivesFrom (Some line) next.ended p (next.held ++ l) → R s) → IfSome before.source.left R
+      given-script : (R : List ℕ → Type 0) → ((s p l : List ℕ) → Some l ≡ source.left → Goes first s p false store.setting refused before.sink now.sink → GivesFrom (Some line) next.ended p (next.buffered ++ l) → R s) → IfSome before.source.left R
       given-script R follows =
-          known-script (λ s p. Goes first s p reader.ended store.setting refused before.sink now.sink) (λ p l. GivesFrom (Some line) next.ended p (next.held ++ l)) (λ s l. next.taken + length l ≡ 0 + length s) R
+          known-script (λ s p. Goes first s p reader.ended store.setting refused before.sink now.sink) (λ p l. GivesFrom (Some line) next.ended p (next.buffered ++ l)) (λ s l. next.taken + length l ≡ 0 + length s) R
           before.source.left (pending reader now.source.left) source.left
-          (λ s p l left_is goes gives total. follows s p l left_is (open-goes first s p reader.ended store.setting refused before.sink now.sink goes line next.ended (next.held ++ l) gives) gives)
-          was.goes (known-behind (GivesFrom (Some line) next.ended) (pending reader now.source.left) source.left next.held takes.given)
+          (λ s p l left_is goes gives total. follows s p l left_is (open-goes first s p reader.ended store.setting refused before.sink now.sink goes line next.ended (next.buffered ++ l) gives) gives)
+          was.goes (known-behind (GivesFrom (Some line) next.ended) (pending reader now.source.left) source.left next.buffered takes.given)
           (leaves-then false fresh_reader reader next before.source now.source source was.source takes.source).total
 
       -- what a crash leaves at each moment
@@ -189,8 +189,8 @@ module _ {D : Type 0} {seen : D → Option (List ℕ)} {image : D → List ℕ �
           was.moments
           (given-script (λ s. (c : List ℕ) → Holds (IsTreeAfter store.setting.state (all_events (turns nothing_given store.setting (items_of_taken line)))) c → Holds (IsTreeOf first s) c)
           (λ s p l _ goes gives.
-          tree-of-line first s p false store.setting refused before.sink now.sink goes (items_of_taken line) (play nothing_given (left_by store.setting (turns nothing_given store.setting (items_of_taken line))) (next.held ++ l))
-          (turns-next line next.ended p (next.held ++ l) store.setting gives)))
+          tree-of-line first s p false store.setting refused before.sink now.sink goes (items_of_taken line) (play nothing_given (left_by store.setting (turns nothing_given store.setting (items_of_taken line))) (next.buffered ++ l))
+          (turns-next line next.ended p (next.buffered ++ l) store.setting gives)))
 
       -- it was answered
       pub runs-next : {new : D} {sink : SinkSeen} {after : Seen} {refused_now : Bool} → AnswersLine seen image moment image_since attached faults mid new store after now.sink sink (turns nothing_given store.setting (items_of_taken line)) →
@@ -214,14 +214,14 @@ module _ {D : Type 0} {seen : D → Option (List ℕ)} {image : D → List ℕ �
             stands = λ stands. answers.stands (was.stands stands);
             moments = line-moments new answers.stores.moments;
             names = answers.stores.names ∙ was.names;
-            quiet = answers.stores.told ∙ was.quiet;
+            quiet = answers.stores.reported ∙ was.quiet;
           }
 
       -- its answer stopped
       module _ (counts_now : (disk : D) (t : ℕ) (c : List ℕ) → t ≤ moment disk → image disk c → image_since disk t c) {new : D} {sink : SinkSeen} where
         -- some of its reply was written, or none
         cut-with : (status : Status) → StopsAnswer seen image moment image_since attached faults mid new store.setting now.sink sink (turns nothing_given store.setting (items_of_taken line)) status → IsOpenStatus status → is_read_fault status ≡ false →
-            TellsFault (is_write_fault status) before.sink.faults sink.faults → ((status ≡ WriteFault → ⊥) → before.sink.held_back ≡ 0 → sink.held_back ≡ 0) →
+            ReportsFault (is_write_fault status) before.sink.faults sink.faults → ((status ≡ WriteFault → ⊥) → before.sink.held_back ≡ 0 → sink.held_back ≡ 0) →
             IfSome before.source.left (λ s. Played false status first s before (outside source sink) (Stands (seen old) (image old) first) (image new)) → PlaysStore seen image moment image_since attached faults old new first before (outside source sink) status
         cut-with status stop opened reads writes passed played =
             record {
@@ -232,7 +232,7 @@ module _ {D : Type 0} {seen : D → Option (List ℕ)} {image : D → List ℕ �
                   ends-of status next before (outside source sink)
                   (subst (λ (b : Bool). LeavesSource b fresh_reader next before.source source) (sym reads) (leaves-then false fresh_reader reader next before.source now.source source was.source takes.source)) writes passed;
               names = stop.stores.names ∙ was.names;
-              told = told-since (is_disk_fault status) (faults old) (faults mid) (faults new) was.quiet stop.stores.told;
+              reported = told-since (is_disk_fault status) (faults old) (faults mid) (faults new) was.quiet stop.stores.reported;
             }
 
         cut-before : (status : Status) → StopsAnswer seen image moment image_since attached faults mid new store.setting now.sink sink (turns nothing_given store.setting (items_of_taken line)) status → sink ≡ now.sink → IsOpenStatus status → is_read_fault status ≡ false → is_write_fault status ≡ false →
@@ -243,8 +243,8 @@ module _ {D : Type 0} {seen : D → Option (List ℕ)} {image : D → List ℕ �
             (given-script (λ s. Played false status first s before (outside source sink) (Stands (seen old) (image old) first) (image new))
             (λ s p l left_is goes gives.
             played-stop first (Stands (seen old) (image old) first) (image new) status Memory s p l false store.setting refused before (outside source sink) (subst (λ (k : SinkSeen). Goes first s p false store.setting refused before.sink k) (sym same) goes) left_is
-            passed (line-stops line next.ended p next.held l gives takes.advances.near) (answers s l _)
-            (items_of_taken line) (play nothing_given (left_by store.setting (turns nothing_given store.setting (items_of_taken line))) (next.held ++ l)) (turns-next line next.ended p (next.held ++ l) store.setting gives) (few-items line store.setting)
+            passed (line-stops line next.ended p next.buffered l gives takes.advances.near) (answers s l _)
+            (items_of_taken line) (play nothing_given (left_by store.setting (turns nothing_given store.setting (items_of_taken line))) (next.buffered ++ l)) (turns-next line next.ended p (next.buffered ++ l) store.setting gives) (few-items line store.setting)
             (λ stands c left.
             let run = stop.stores.moments (was.stands stands) in
             run.each c (counts_now new (moment mid) c run.later left))
@@ -255,7 +255,7 @@ module _ {D : Type 0} {seen : D → Option (List ℕ)} {image : D → List ℕ �
             cut-with WriteFault stop tt refl (told-since true before.sink.faults now.sink.faults sink.faults was.wrote stop.replies.1) (λ other. absurd (other refl))
             (given-script (λ s. Played false WriteFault first s before (outside source sink) (Stands (seen old) (image old) first) (image new))
             (λ s p l left_is goes gives.
-            played-cut first (Stands (seen old) (image old) first) (image new) s p l next.held line next.ended store.setting refused now.sink before (outside source sink) goes left_is was.passed gives takes.advances.near stop.replies.0
+            played-cut first (Stands (seen old) (image old) first) (image new) s p l next.buffered line next.ended store.setting refused now.sink before (outside source sink) goes left_is was.passed gives takes.advances.near stop.replies.0
             (λ stands. stop.stored refl (was.stands stands))))
         cut-by DiskFault stop = cut-before DiskFault stop stop.replies tt refl refl (λ s left done. tt) (λ never. never)
         cut-by Memory stop = cut-before Memory stop stop.replies tt refl refl (λ s left done. tt) (λ never. never)

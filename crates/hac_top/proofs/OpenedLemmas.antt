@@ -3,15 +3,15 @@ use Rattle.std.proofs.Common.{◌≡◌, ◌⊎◌, ℕ, ◌≤◌, true, false,
 use Rattle.std.specs.Prelude.{Option, None, Some, Result, Ok, Err, IfOk, IsErr}
 use Rattle.std.specs.Option.{IfSome}
 use Rattle.hac_disk.specs.Images.{IsQuiet, LeavesOnly}
-use Rattle.hac_disk.specs.Told.{IsSettled}
+use Rattle.hac_disk.specs.Contents.{IsSettled}
 use Rattle.hac_disk.proofs.Moments.{quiet_leaves, then_run, weaken}
-use Rattle.hac_outside.specs.Causes.{Rose, TellsFault}
+use Rattle.hac_outside.specs.Causes.{Rose, ReportsFault}
 use Rattle.hac_model.specs.Run.Play.{Setting, all_events, new_setting, nothing_given, play}
 use Rattle.hac_model.specs.declared.events.Event.{Event}
 use Rattle.hac_model.specs.declared.states.State.{State}
 use Rattle.hac_store.specs.Held.{held}
 use Rattle.hac_store.specs.Stores.{IsNewOrNone, Stands}
-use Rattle.hac_top.specs.Crashes.{Holds, IsOpened, IsTreeAfter, IsTreeOfAnswered, Reopens, StopsOpening, TellsFile, opening_outcome}
+use Rattle.hac_top.specs.Crashes.{Holds, IsOpened, IsTreeAfter, IsTreeOfAnswered, Reopens, StopsOpening, IsOfFile, opening_outcome}
 use Rattle.hac_top.specs.Ends.{IsFinished, IsOpenStatus, is_disk_fault}
 use Rattle.hac_top.specs.Run.{AnswersBy, Completes, Ends, HasBegun, IsFaultless, IsTreeOf, Outside, Played, Plays, PlaysStore, Ran}
 use Rattle.hac_top.specs.declared.status.Status.{Status}
@@ -100,7 +100,7 @@ completes TooLong setting script before after opened plays ends read wrote disk 
 completes other setting script before after opened plays ends read wrote disk = absurd opened
 
 -- a disk whose count hasn't risen hasn't failed
-no-disk : (failed : Bool) (before now : ℕ) → TellsFault failed before now → ¬ Rose before now → failed ≡ true → ⊥
+no-disk : (failed : Bool) (before now : ℕ) → ReportsFault failed before now → ¬ Rose before now → failed ≡ true → ⊥
 no-disk true before now told none is = none told.1
 no-disk false before now told none is = cc
 
@@ -126,7 +126,7 @@ module _ {D : Type 0} (seen : D → Option (List ℕ)) (image : D → List ℕ �
         record {
           played = record {
             plays = played.plays;
-            reopens = λ _ c left. reopens fresh (IsTreeOfAnswered setting.state (play nothing_given setting script) played.plays.told.done) c (played.reopens stands c left);
+            reopens = λ _ c left. reopens fresh (IsTreeOfAnswered setting.state (play nothing_given setting script) played.plays.replies.done) c (played.reopens stands c left);
             kept = λ _. played.kept stands;
           };
           moments = λ settles.
@@ -139,7 +139,7 @@ module _ {D : Type 0} (seen : D → Option (List ℕ)) (image : D → List ℕ �
               run.each c (counts_now new (moment mid) c run.later left);
           complete = λ none.
               completes status setting script before after plays.opened played.plays plays.ends none.0 none.1
-              (no-disk (is_disk_fault status) (faults old) (faults new) (told-since (is_disk_fault status) (faults old) (faults mid) (faults new) quiet plays.told) none.2);
+              (no-disk (is_disk_fault status) (faults old) (faults new) (told-since (is_disk_fault status) (faults old) (faults mid) (faults new) quiet plays.reported) none.2);
         }
 
     pub ran-opened : (file : Option (List ℕ)) → IfSome file (λ f. opening_outcome fresh (held f) ≡ Ok setting) → IfSome file (λ _. Stands (seen mid) (image mid) setting) →
@@ -180,13 +180,13 @@ module _ {D : Type 0} (seen : D → Option (List ℕ)) (image : D → List ℕ �
           complete = complete;
         }
 
-    pub ran-unopened : (ends : Status) → StopsOpening ends → TellsFault (is_disk_fault ends) (faults old) (faults new) → (file : Option (List ℕ)) → IfSome file (λ f. IsOpened (Err ends) (opening_outcome fresh (held f))) →
+    pub ran-unopened : (ends : Status) → StopsOpening ends → ReportsFault (is_disk_fault ends) (faults old) (faults new) → (file : Option (List ℕ)) → IfSome file (λ f. IsOpened (Err ends) (opening_outcome fresh (held f))) →
         IfSome file (λ f. IfOk (opening_outcome fresh (held f)) (Opening fresh settled old new)) →
         IfSome file (λ f. IfSome before.source.left (λ script. IfOk (opening_outcome fresh (held f)) (λ z. Ran fresh ends z script before before settled (image new) (LeavesOnly moment image_since old new) (IsFaultless before before (faults old) (faults new)))))
     ran-unopened ends why told None opened opening = search rules
     ran-unopened ends why told (Some f) opened opening = of before.source.left refl
       where
-        by : (ends : Status) → StopsOpening ends → TellsFault (is_disk_fault ends) (faults old) (faults new) → (setting : Setting) (script : List ℕ) → Some script ≡ before.source.left → (TellsFile ends → Ok setting ≡ Err ends) → Opening fresh settled old new setting →
+        by : (ends : Status) → StopsOpening ends → ReportsFault (is_disk_fault ends) (faults old) (faults new) → (setting : Setting) (script : List ℕ) → Some script ≡ before.source.left → (IsOfFile ends → Ok setting ≡ Err ends) → Opening fresh settled old new setting →
             Ran fresh ends setting script before before settled (image new) (LeavesOnly moment image_since old new) (IsFaultless before before (faults old) (faults new))
         by DiskFault why told setting script left_is tells opening = ran-none DiskFault setting script left_is opening (λ done. tt) (λ never. never) (λ none. absurd (none.2 told.1))
         by Memory why told setting script left_is tells opening = ran-none Memory setting script left_is opening (λ done. tt) (λ never. never) (λ _. record { within = λ _. inr refl; past = λ _. inr refl })

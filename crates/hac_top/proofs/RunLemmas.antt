@@ -9,7 +9,7 @@ use Rattle.hac_model.specs.Script.Lines.{Item}
 use Rattle.hac_model.specs.Script.{first_line, due, first_items, after_item, script, whole}
 use Rattle.hac_model.specs.declared.limits.TheConstants.{SCRIPT_LIMIT}
 use Rattle.hac_model.specs.Tree.Events.{apply_all}
-use Rattle.hac_model.specs.Run.Play.{Setting, Turn, all_events, has_refusal, is_refused, left_by, nothing_given, play, turns}
+use Rattle.hac_model.specs.Run.Play.{Setting, Turn, all_events, has_refusal, is_refused, left_by, nothing_given, play, turns, turns_text}
 use Rattle.hac_model.specs.declared.states.State.{State}
 use Rattle.hac_model.specs.declared.taken.Taken.{Taken}
 use Rattle.hac_model.specs.Laws.{AreLines}
@@ -25,15 +25,14 @@ use Rattle.hac_top.specs.Ends.{IsFinished, finished_status}
 use Rattle.hac_top.specs.Crashes.{Holds, IsTreeAfter, IsTreeOfAnswered}
 use Rattle.hac_top.specs.Run.{AnswersAll, AnswersBy, AnswersTaken, AnswersWithin, AnswersPromptly, IsTreeOf, Outside, Played, Plays}
 use Rattle.hac_top.specs.TakenLines.{items_of_piece, items_of_taken, GivesTaken, IsLine, StopsIn, StopsLine}
-use Rattle.hac_top.specs.Told.{told_text}
 use Rattle.hac_top.specs.declared.status.Status.{Status}
 use Rattle.hac_top.specs.declared.status.Status.TheVariants.{Done, SomeRefused, ReadFault, WriteFault, Memory, TooLong}
 use Rattle.hac_top.specs.declared.taking.TakenLine.{TakenLine}
 use Rattle.hac_top.proofs.CrashLemmas.{all-answered, all_events-append, holds-weaker, some-answered, tree-all, tree-of-all}
 use Rattle.hac_top.proofs.GoesOn.{Goes, turns_of}
 use Rattle.hac_top.proofs.TakenLemmas.{no_rest}
-use Rattle.hac_top.proofs.TellingLemmas.{cuts-telling, front-turns, text-append, told-whole}
-use Rattle.hac_top.proofs.TellingLemmas.{appends-then, appends-nothing}
+use Rattle.hac_top.proofs.ReplyLemmas.{cuts-replies, front-turns, text-append, replies-whole}
+use Rattle.hac_top.proofs.ReplyLemmas.{appends-then, appends-nothing}
 
 play-nothing : (setting : Setting) → play nothing_given setting [] ≡ []
 play-nothing setting = ap (turns nothing_given setting) script-nothing
@@ -214,8 +213,8 @@ module _ (first : Setting) where
       Some l ≡ after.source.left → (before.sink.held_back ≡ 0 → after.sink.held_back ≡ 0) → StopsIn why p l → AnswersBy status first s (length (turns_of first goes.played goes.last)) (Some l) → Plays status first s before after
   plays-stop status why s p l ended setting refused before after goes left_is passed stops answers =
       record {
-        told =
-            told-whole (play nothing_given first s) (turns_of first goes.played goes.last) (play nothing_given setting p) before.sink after.sink (turns-are s p ended setting refused before.sink after.sink goes) goes.written
+        replies =
+            replies-whole (play nothing_given first s) (turns_of first goes.played goes.last) (play nothing_given setting p) before.sink after.sink (turns-are s p ended setting refused before.sink after.sink goes) goes.written
             (λ none. omega (arith, passed none));
         whole = λ _. refl;
         prompt = subst (λ (o : Option (List ℕ)). AnswersPromptly first s (length (turns_of first goes.played goes.last)) o) left_is (prompt-stop s p ended setting refused before.sink after.sink goes why l ended refl stops);
@@ -266,7 +265,7 @@ module _ (first : Setting) where
   -- the sink failed while a line was answered, all of which was stored before
   pub played-cut : (stood : Type 0) (image : List ℕ → Type 0) (s p l behind : List ℕ) (line : TakenLine) (new_ended : Bool) (setting : Setting) (refused : Bool) (mid : SinkSeen) (before after : Outside) →
       Goes first s p false setting refused before.sink mid → Some l ≡ after.source.left → (before.sink.held_back ≡ 0 → mid.held_back ≡ 0) → GivesTaken line new_ended p (behind ++ l) → length behind < piece_size →
-      WritesSome mid after.sink (told_text (turns nothing_given setting (items_of_taken line))) → (stood → (c : List ℕ) → image c → held c ≡ Ok (left_by setting (turns nothing_given setting (items_of_taken line)))) →
+      WritesSome mid after.sink (turns_text (turns nothing_given setting (items_of_taken line))) → (stood → (c : List ℕ) → image c → held c ≡ Ok (left_by setting (turns nothing_given setting (items_of_taken line)))) →
       Played false WriteFault first s before after stood image
   played-cut stood image s p l behind line new_ended setting refused mid before after goes left_is passed gives near some stored =
       let items = items_of_taken line in
@@ -276,12 +275,12 @@ module _ (first : Setting) where
       let all_is : play nothing_given first s ≡ turns_of first goes.played goes.last ++ (now ++ rest) =
       turns-are s p false setting refused before.sink mid goes ∙ ap (λ (ts : List Turn). turns_of first goes.played goes.last ++ ts) (turns-next line new_ended p (behind ++ l) setting gives) in
       let state_is = state-is s p false setting refused before.sink mid goes in
-      let stopped = cuts-telling (play nothing_given first s) done now rest before.sink mid after.sink some.count all_is (few-items line setting) goes.written passed some.front in
+      let stopped = cuts-replies (play nothing_given first s) done now rest before.sink mid after.sink some.count all_is (few-items line setting) goes.written passed some.front in
       let so_far = goes.played ++ goes.last in
       let done_is = done-is s p false setting refused before.sink mid goes in
       let now_is : turns nothing_given setting (items_of_taken line) ≡ turns nothing_given (left_by first (play nothing_given first (goes.played ++ goes.last))) (first_items gives.own) =
       ap (λ (z : Setting). turns nothing_given z (items_of_taken line)) (goes.left_is ∙ ap (left_by first) done_is) ∙ ap (turns nothing_given (left_by first (play nothing_given first so_far))) gives.items in
-      let prompt : AnswersPromptly first s stopped.told.done (Some l) =
+      let prompt : AnswersPromptly first s stopped.replies.done (Some l) =
       record {
         answered = so_far;
         line = gives.own;
@@ -295,7 +294,7 @@ module _ (first : Setting) where
         all = (stopped.front.0, stopped.front.1 ∙ ap (λ (ts : List Turn). ts ++ take stopped.front.0 now) done_is ∙ ap (λ (ts : List Turn). play nothing_given first (goes.played ++ goes.last) ++ take stopped.front.0 ts) now_is);
       } in
       -- either none of its replies was written whole, or the one that there is
-      let answered : (told : ℕ) → (told ≡ length (turns_of first goes.played goes.last)) ⊎ (told ≡ length (turns_of first goes.played goes.last ++ now)) → IsTreeOfAnswered first.state (play nothing_given first s) told (left_by setting now).state = λ told.
+      let answered : (count : ℕ) → (count ≡ length (turns_of first goes.played goes.last)) ⊎ (count ≡ length (turns_of first goes.played goes.last ++ now)) → IsTreeOfAnswered first.state (play nothing_given first s) count (left_by setting now).state = λ told.
       elim [
         | inl place ↦
             subst (λ (n : ℕ). IsTreeOfAnswered first.state (play nothing_given first s) n (left_by setting now).state) (sym place)
@@ -308,18 +307,18 @@ module _ (first : Setting) where
       ] in
       record {
         plays = record {
-          told = stopped.told;
+          replies = stopped.replies;
           whole = λ no_write. absurd (no_write refl);
-          prompt = subst (λ (o : Option (List ℕ)). AnswersPromptly first s stopped.told.done o) left_is prompt;
+          prompt = subst (λ (o : Option (List ℕ)). AnswersPromptly first s stopped.replies.done o) left_is prompt;
           answers = tt;
         };
-        reopens = λ stands c left. record { kept = left_by setting now; is = stored stands c left; state = answered stopped.told.done stopped.place };
+        reopens = λ stands c left. record { kept = left_by setting now; is = stored stands c left; state = answered stopped.replies.done stopped.place };
         kept = λ _ finished. absurd finished;
       }
 
   -- a run goes on by a line that was answered
   pub goes-next : (s p q : List ℕ) (line : TakenLine) (new_ended : Bool) (setting : Setting) (refused : Bool) (before mid after : SinkSeen) → Goes first s p false setting refused before mid → GivesTaken line new_ended p q →
-      Appends mid.written after.written (told_text (turns nothing_given setting (items_of_taken line))) →
+      Appends mid.written after.written (turns_text (turns nothing_given setting (items_of_taken line))) →
       Goes first s q new_ended (left_by setting (turns nothing_given setting (items_of_taken line))) (refused || has_refusal (turns nothing_given setting (items_of_taken line))) before after
   goes-next s p q line new_ended setting refused before mid after goes gives written =
       let now = turns nothing_given setting (items_of_taken line) in
@@ -336,8 +335,8 @@ module _ (first : Setting) where
         line_is = gives.line_is;
         left_is = ap (λ (z : Setting). left_by z now) goes.left_is ∙ sym (left_by-append first done now) ∙ ap (left_by first) (sym more);
         written =
-            subst (λ (xs : List ℕ). Appends before.written after.written xs) (sym (ap told_text more ∙ text-append done now))
-            (appends-then before.written mid.written after.written (told_text done) (told_text now) goes.written written);
+            subst (λ (xs : List ℕ). Appends before.written after.written xs) (sym (ap turns_text more ∙ text-append done now))
+            (appends-then before.written mid.written after.written (turns_text done) (turns_text now) goes.written written);
         refused_is = ap (λ (b : Bool). b || has_refusal now) goes.refused_is ∙ sym (ap has_refusal more ∙ refusal-append done now);
       }
 
@@ -357,6 +356,6 @@ module _ (first : Setting) where
         lines = whole-unended [] refl;
         line_is = record { one = drop-nil (due (first_line [])); whole_is = λ _. whole-unended [] refl; last = λ e. absurd cc };
         left_is = ap (left_by first) (sym none);
-        written = subst (λ (ts : List Turn). Appends sink.written sink.written (told_text ts)) (sym none) (appends-nothing sink.written);
+        written = subst (λ (ts : List Turn). Appends sink.written sink.written (turns_text ts)) (sym none) (appends-nothing sink.written);
         refused_is = unrefused ∙ ap has_refusal (sym none);
       }

@@ -5,16 +5,16 @@ use Rattle.std.proofs.Math.Seq.{take-length}
 use Rattle.hac_disk.specs.Images.{LeavesOnly}
 use Rattle.hac_disk.proofs.Moments.{started, weaken, then_run}
 use Rattle.hac_model.specs.Tree.Events.{apply_all, apply}
-use Rattle.hac_model.specs.Run.Play.{Setting, Turn, after_events, all_events, have_room, left_by, refused, end_behind}
+use Rattle.hac_model.specs.Run.Play.{Setting, Turn, after_events, all_events, end_behind, have_room, left_by, refused, turns_text}
 use Rattle.hac_model.specs.declared.events.Event.{Event}
 use Rattle.hac_model.specs.declared.limits.LimitWord.TheVariants.{Store}
 use Rattle.hac_model.specs.declared.replies.Refusal.TheVariants.{Limit}
 use Rattle.hac_model.specs.declared.replies.Reply.{Reply}
 use Rattle.hac_model.specs.declared.replies.Reply.TheVariants.{Lines, Refused}
-use Rattle.hac_outside.specs.Causes.{TellsFault}
+use Rattle.hac_outside.specs.Causes.{ReportsFault}
 use Rattle.hac_outside.specs.Seen.{SinkSeen, WritesSome}
 use Rattle.hac_model.specs.declared.replies.Refusal.{Refusal}
-use Rattle.hac_top.specs.Told.{StopsTelling, Tells, told_text}
+use Rattle.hac_top.specs.Replies.{StopsWriting, WritesAll}
 use Rattle.hac_top.specs.declared.status.Status.{Status}
 use Rattle.hac_store.specs.Held.{held}
 use Rattle.hac_store.specs.Storing.{StoresEvents}
@@ -61,7 +61,7 @@ module _ {D : Type 0} {seen : D → Option (List ℕ)} {image : D → List ℕ �
         moments = λ stands.
             started moment image_since disk (Holds (IsTreeAfter setting.state events)) (λ c left. held-before setting events c (stands-each (seen disk) (image disk) setting stands c (only_now disk c left)));
         names = refl;
-        told = refl;
+        reported = refl;
       }
 
   -- a reply without events
@@ -81,19 +81,19 @@ module _ {D : Type 0} {seen : D → Option (List ℕ)} {image : D → List ℕ �
       (answers-only disk store (Refused (Limit Store)) place)
 
   -- a reply that is told once its turn is stored
-  pub stops-told : (old new : D) (setting : Setting) (sink sink_after : SinkSeen) (answered : List Turn) (bytes : List ℕ) (result : Result (Unit {0}) Status) → bytes ≡ told_text answered → Stores seen image moment image_since attached faults old new setting (all_events answered) false →
-      (Stands (seen old) (image old) setting → (c : List ℕ) → image new c → IsHeldAs c (left_by setting answered)) → IfErr result (λ status. StopsTelling status sink sink_after bytes) →
+  pub stops-written : (old new : D) (setting : Setting) (sink sink_after : SinkSeen) (answered : List Turn) (bytes : List ℕ) (result : Result (Unit {0}) Status) → bytes ≡ turns_text answered → Stores seen image moment image_since attached faults old new setting (all_events answered) false →
+      (Stands (seen old) (image old) setting → (c : List ℕ) → image new c → IsHeldAs c (left_by setting answered)) → IfErr result (λ status. StopsWriting status sink sink_after bytes) →
       IfErr result (StopsAnswer seen image moment image_since attached faults old new setting sink sink_after answered)
-  stops-told old new setting sink sink_after answered bytes (Ok done) same stores stored told = tt
-  stops-told old new setting sink sink_after answered bytes (Err WriteFault) same stores stored told =
-      record { replies = subst (λ (xs : List ℕ). WritesSome sink sink_after xs × TellsFault true sink.faults sink_after.faults) same told; stored = λ _. stored; stores = stores }
-  stops-told old new setting sink sink_after answered bytes (Err Memory) same stores stored told = record { replies = told; stored = λ write. cc; stores = stores }
-  stops-told old new setting sink sink_after answered bytes (Err other) same stores stored told = absurd told
+  stops-written old new setting sink sink_after answered bytes (Ok done) same stores stored reported = tt
+  stops-written old new setting sink sink_after answered bytes (Err WriteFault) same stores stored told =
+      record { replies = subst (λ (xs : List ℕ). WritesSome sink sink_after xs × ReportsFault true sink.faults sink_after.faults) same told; stored = λ _. stored; stores = stores }
+  stops-written old new setting sink sink_after answered bytes (Err Memory) same stores stored reported = record { replies = told; stored = λ write. cc; stores = stores }
+  stops-written old new setting sink sink_after answered bytes (Err other) same stores stored reported = absurd told
 
   -- a line that is refused stores nothing
-  pub refused-told : (disk : D) (store now : Seen) (sink sink_after : SinkSeen) (refusal : Refusal) (result : Result (Unit {0}) Status) → now ≡ store → Bears (seen disk) store → Stores seen image moment image_since attached faults disk disk store.setting [] false →
-      OnOk result (Tells sink sink_after (told_text (refused store.setting refusal ∷ []))) → OnOk result (AnswersLine seen image moment image_since attached faults disk disk store now sink sink_after (refused store.setting refusal ∷ []))
-  refused-told disk store now sink sink_after refusal (Ok done) same place stores told =
+  pub refused-written : (disk : D) (store now : Seen) (sink sink_after : SinkSeen) (refusal : Refusal) (result : Result (Unit {0}) Status) → now ≡ store → Bears (seen disk) store → Stores seen image moment image_since attached faults disk disk store.setting [] false →
+      OnOk result (WritesAll sink sink_after (turns_text (refused store.setting refusal ∷ []))) → OnOk result (AnswersLine seen image moment image_since attached faults disk disk store now sink sink_after (refused store.setting refusal ∷ []))
+  refused-written disk store now sink sink_after refusal (Ok done) same place stores told =
       record {
         replies = told;
         store = same;
@@ -101,18 +101,18 @@ module _ {D : Type 0} {seen : D → Option (List ℕ)} {image : D → List ℕ �
         stands = λ stands. subst (λ (z : Seen). Stands (seen disk) (image disk) z.setting) (sym same) stands;
         stores = stores;
       }
-  refused-told disk store now sink sink_after refusal (Err status) same place stores told = tt
+  refused-written disk store now sink sink_after refusal (Err status) same place stores reported = tt
 
   -- one call, before and after which the store is held
   once : (old new : D) (before : Seen) (events : List Event) (failed : Bool) → have_room before.setting events ≡ true → (Stands (seen old) (image old) before.setting → LeavesOnly moment image_since old new (HeldBetween before.setting events)) → attached new ≡ attached old →
-      TellsFault failed (faults old) (faults new) → Stores seen image moment image_since attached faults old new before.setting (all_events (storing_turn before.setting events ∷ [])) failed
+      ReportsFault failed (faults old) (faults new) → Stores seen image moment image_since attached faults old new before.setting (all_events (storing_turn before.setting events ∷ [])) failed
   once old new before events failed room moments names told =
       record {
         moments = λ stands.
             subst (λ (es : List Event). LeavesOnly moment image_since old new (Holds (IsTreeAfter before.setting.state es))) (sym (turn-events before.setting events room))
             (weaken moment image_since old new (HeldBetween before.setting events) (Holds (IsTreeAfter before.setting.state events)) (held-between before.setting events) (moments stands));
         names = names;
-        told = told;
+        reported = told;
       }
 
   module _ {old new : D} {before after : Seen} {events : List Event} where
@@ -128,7 +128,7 @@ module _ {D : Type 0} {seen : D → Option (List ℕ)} {image : D → List ℕ �
             stands = stored.stands;
           };
           err = tt;
-          stores = once old new before events false stored.ends.room stored.moments stored.names stored.told;
+          stores = once old new before events false stored.ends.room stored.moments stored.names stored.reported;
         }
     stores-once (Err fault.Full) place stored =
         subst (λ (store : Seen). StoresTurn seen image moment image_since attached faults old new before store (storing_turn before.setting events) (Ok (Refused (Limit Store)))) (sym stored.ends.1.0)
@@ -138,13 +138,13 @@ module _ {D : Type 0} {seen : D → Option (List ℕ)} {image : D → List ℕ �
         subst (λ (store : Seen). StoresTurn seen image moment image_since attached faults old new before store (storing_turn before.setting events) (Err Memory)) (sym stored.ends.0)
         (subst (λ (disk : D). StoresTurn seen image moment image_since attached faults old disk before before (storing_turn before.setting events) (Err Memory)) (sym stored.ends.1)
         (stops-first old before (storing_turn before.setting events)))
-    stores-once (Err fault.Disk) place stored = record { ok = tt; err = tt; stores = once old new before events true stored.ends.0 stored.moments stored.names stored.told }
+    stores-once (Err fault.Disk) place stored = record { ok = tt; err = tt; stores = once old new before events true stored.ends.0 stored.moments stored.names stored.reported }
     stores-once (Err (fault.NotStore at)) place stored = absurd stored.ends
     stores-once (Err fault.AlreadyStore) place stored = absurd stored.ends
 
 -- a count that rose since a later moment rose since an earlier one
-pub told-since : (failed : Bool) (a b c : ℕ) → b ≡ a → TellsFault failed b c → TellsFault failed a c
-told-since failed a b c same told = subst (λ (n : ℕ). TellsFault failed n c) same told
+pub told-since : (failed : Bool) (a b c : ℕ) → b ≡ a → ReportsFault failed b c → ReportsFault failed a c
+told-since failed a b c same reported = subst (λ (n : ℕ). ReportsFault failed n c) same told
 
 -- Index steps that are stored in parts.
 
@@ -236,7 +236,7 @@ module _ {D : Type 0} {seen : D → Option (List ℕ)} {image : D → List ℕ �
             stands = was.stands;
           };
           err = tt;
-          stores = record { moments = was.moments; names = was.names; told = was.quiet };
+          stores = record { moments = was.moments; names = was.names; reported = was.quiet };
         }
 
     module _ {new : D} {after : Seen} (batch : ℕ) (few : done + batch ≤ count) where
@@ -258,19 +258,19 @@ module _ {D : Type 0} {seen : D → Option (List ℕ)} {image : D → List ℕ �
             stands = λ stands. stored.stands (was.stands stands);
             moments = part-moments (Ok tt) stored;
             names = stored.names ∙ was.names;
-            quiet = stored.told ∙ was.quiet;
+            quiet = stored.reported ∙ was.quiet;
           }
 
-      stopped : (failed : Bool) (reason : StoreFault) → StoresEvents seen image moment image_since attached faults now new store after (steps batch) (Err reason) → TellsFault failed (faults now) (faults new) →
+      stopped : (failed : Bool) (reason : StoreFault) → StoresEvents seen image moment image_since attached faults now new store after (steps batch) (Err reason) → ReportsFault failed (faults now) (faults new) →
           Stores seen image moment image_since attached faults old new first.setting (all_events (storing_turn first.setting (steps count) ∷ [])) failed
       stopped failed reason stored told =
-          record { moments = part-moments (Err reason) stored; names = stored.names ∙ was.names; told = told-since failed (faults old) (faults now) (faults new) was.quiet told }
+          record { moments = part-moments (Err reason) stored; names = stored.names ∙ was.names; reported = told-since failed (faults old) (faults now) (faults new) was.quiet told }
 
       -- or none, and then the disk failed or memory ran out, as there is room for all
       pub part-stopped : 0 < batch → (reason : StoreFault) → StoresEvents seen image moment image_since attached faults now new store after (steps batch) (Err reason) →
           StoresTurn seen image moment image_since attached faults old new first after (storing_turn first.setting (steps count)) (storing_reply (Err reason))
-      part-stopped some fault.Disk stored = record { ok = tt; err = tt; stores = stopped true fault.Disk stored stored.told }
-      part-stopped some fault.Memory stored = record { ok = tt; err = tt; stores = stopped false fault.Memory stored stored.told }
+      part-stopped some fault.Disk stored = record { ok = tt; err = tt; stores = stopped true fault.Disk stored stored.reported }
+      part-stopped some fault.Memory stored = record { ok = tt; err = tt; stores = stopped false fault.Memory stored stored.reported }
       part-stopped some fault.Full stored =
           let fits : fit_behind store.setting.end batch 2 ≡ true =
           subst (λ (z : Seen). fit_behind z.setting.end batch 2 ≡ true) (sym was.store_is) (part-room first.setting.end done batch count few some was.room) in

@@ -9,7 +9,7 @@ use Rattle.std.proofs.Math.Seq.{drop-nil}
 use Rattle.std.proofs.lemmas.Bool.{and_from}
 use Rattle.std.proofs.lemmas.Grind.{common_steps}
 use Rattle.std.proofs.lemmas.List.{take-append-drop, length-take, length-take-le}
-use Rattle.hac_outside.specs.Causes.{TellsFault}
+use Rattle.hac_outside.specs.Causes.{ReportsFault}
 use Rattle.hac_outside.specs.Known.{Known}
 use Rattle.hac_outside.specs.Seen.{SourceSeen}
 use Rattle.hac_outside.proofs.KnownLemmas.{known-behind, known-joined, known-kept, known-weaker}
@@ -103,32 +103,32 @@ taken-gives piece taken was ended old mid new not_end gives takes stays =
     (λ p q r given took. taken-is piece taken was ended p q r (is_line piece was p q not_end given) took stays) gives takes
 
 -- a line with the bytes that came, cut within these
-cut-at : (n : ℕ) (line gone held : List ℕ) → line ++ 10 ∷ (gone ++ held) ≡ (line ++ 10 ∷ (gone ++ take n held)) ++ drop n held
-cut-at n line gone held =
-    ap (λ (xs : List ℕ). line ++ 10 ∷ (gone ++ xs)) (sym (take-append-drop n held)) ∙ ap (λ (xs : List ℕ). line ++ 10 ∷ xs) (sym (append_assoc gone (take n held) (drop n held)))
-    ∙ sym (append_assoc line (10 ∷ (gone ++ take n held)) (drop n held))
+cut-at : (n : ℕ) (line gone buffered : List ℕ) → line ++ 10 ∷ (gone ++ buffered) ≡ (line ++ 10 ∷ (gone ++ take n buffered)) ++ drop n buffered
+cut-at n line gone buffered =
+    ap (λ (xs : List ℕ). line ++ 10 ∷ (gone ++ xs)) (sym (take-append-drop n buffered)) ∙ ap (λ (xs : List ℕ). line ++ 10 ∷ xs) (sym (append_assoc gone (take n buffered) (drop n buffered)))
+    ∙ sym (append_assoc line (10 ∷ (gone ++ take n buffered)) (drop n buffered))
 
 -- of a line whose bytes did not all come, nothing that was taken is whole
 misses-cut : (fault : LineFault) (piece : Piece) (beyond : ℕ) (new : Reading) (p q left : List ℕ) → GivesLine piece false p q → (misses : Misses fault (unwrap_or (due_of_piece piece) 0) new q left) →
-    (fault ≡ why.Memory → ⊥) → length new.held ≡ within new + beyond → CutsLine beyond (first_line p ++ 10 ∷ (misses.gone ++ new.held))
+    (fault ≡ why.Memory → ⊥) → length new.buffered ≡ within new + beyond → CutsLine beyond (first_line p ++ 10 ∷ (misses.gone ++ new.buffered))
 misses-cut fault piece beyond new p q left gives misses not_memory beyond_is =
     let first = first_line p in
     let count : unwrap_or (due_of_piece piece) 0 ≡ due (first_line p) = ap (λ (o : Option ℕ). unwrap_or o 0) (due_is piece false p q gives) in
-    let own = misses.gone ++ take (within new) new.held in
+    let own = misses.gone ++ take (within new) new.buffered in
     let few : length own < due (first_line p) =
-    omega (arith, length-append misses.gone (take (within new) new.held), length-take-le (within new) new.held (omega (arith, beyond_is)), misses.missing not_memory, count) in
+    omega (arith, length-append misses.gone (take (within new) new.buffered), length-take-le (within new) new.buffered (omega (arith, beyond_is)), misses.missing not_memory, count) in
     record {
       front = first ++ 10 ∷ own;
-      over = drop (within new) new.held;
-      taken_is = cut-at (within new) first misses.gone new.held;
-      over_is = omega (arith, length-drop (within new) new.held, beyond_is);
+      over = drop (within new) new.buffered;
+      taken_is = cut-at (within new) first misses.gone new.buffered;
+      over_is = omega (arith, length-drop (within new) new.buffered, beyond_is);
       none = whole-short first own (first_line-is_unended p) few;
     }
 
 -- a reader that failed while it took the bytes of a line
 module _ (T : Type 0) (mid new : Reading) (before after : SourceSeen) where
   misses-by : (fault : LineFault) (piece : Piece) (p q left : List ℕ) → GivesLine piece false p q → (misses : Misses fault (unwrap_or (due_of_piece piece) 0) new q left) → LeavesReader {T = T} (Err fault) mid new before after →
-      CutsBy (line_status fault) (first_line p ++ 10 ∷ (misses.gone ++ new.held))
+      CutsBy (line_status fault) (first_line p ++ 10 ∷ (misses.gone ++ new.buffered))
   misses-by why.Read piece p q left gives misses leaves = misses-cut why.Read piece 0 new p q left gives misses (λ m. cc) (omega (arith, (leaves.unended refl).1))
   misses-by why.TooLong piece p q left gives misses leaves = misses-cut why.TooLong piece 1 new p q left gives misses (λ m. cc) (omega (arith, (leaves.past refl).1, leaves.sound.given))
   misses-by why.Memory piece p q left gives misses leaves = tt
@@ -141,11 +141,11 @@ module _ (T : Type 0) (mid new : Reading) (before after : SourceSeen) where
 
   pub stops-taking : (fault : LineFault) → LeavesReader {T = T} (Err fault) mid new before after → Known (StopsIn (line_status fault)) (pending mid before.left) after.left → StopsTaking mid new before after (line_status fault)
   stops-taking why.Read leaves stops =
-      record { why = tt; stops = stops; goes = goes-by why.Read leaves; past = λ e. cc; source = record { total = leaves.total; limit = leaves.sound.limit; told = leaves.faults } }
+      record { why = tt; stops = stops; goes = goes-by why.Read leaves; past = λ e. cc; source = record { total = leaves.total; limit = leaves.sound.limit; reported = leaves.faults } }
   stops-taking why.TooLong leaves stops =
-      record { why = tt; stops = stops; goes = goes-by why.TooLong leaves; past = λ e. (leaves.past refl).1; source = record { total = leaves.total; limit = leaves.sound.limit; told = leaves.faults } }
+      record { why = tt; stops = stops; goes = goes-by why.TooLong leaves; past = λ e. (leaves.past refl).1; source = record { total = leaves.total; limit = leaves.sound.limit; reported = leaves.faults } }
   stops-taking why.Memory leaves stops =
-      record { why = tt; stops = stops; goes = goes-by why.Memory leaves; past = λ e. cc; source = record { total = leaves.total; limit = leaves.sound.limit; told = leaves.faults } }
+      record { why = tt; stops = stops; goes = goes-by why.Memory leaves; past = λ e. cc; source = record { total = leaves.total; limit = leaves.sound.limit; reported = leaves.faults } }
 
 -- two calls of a reader are one
 pub leaves-on : (T U : Type 0) (value : T) (result : Result U LineFault) (old mid new : Reading) (a b c : SourceSeen) → LeavesReader {T = T} (Ok value) old mid a b → LeavesReader {T = U} result mid new b c → LeavesReader {T = U} result old new a c
@@ -154,7 +154,7 @@ leaves-on T U value result old mid new a b c first second =
       sound = second.sound;
       stays = λ e. second.stays (first.stays e);
       total = total_on old.taken mid.taken new.taken a.left b.left c.left first.total second.total;
-      faults = subst (λ (n : ℕ). TellsFault (is_read_fault result) n c.faults) first.faults second.faults;
+      faults = subst (λ (n : ℕ). ReportsFault (is_read_fault result) n c.faults) first.faults second.faults;
       unended = second.unended;
       past = second.past;
     }
@@ -168,43 +168,43 @@ line-alone : (line : List ℕ) → IsUnended line → after_item (line ++ 10 ∷
 line-alone line unended =
     ap (λ (behind : List ℕ). drop (due (first_line (line ++ 10 ∷ []))) behind) (after_line-unended line [] unended) ∙ drop-nil (due (first_line (line ++ 10 ∷ [])))
 
--- of what is held of a line that wasn't given, nothing is whole
-held-by : (fault : LineFault) (r : Reading) → (fault ≡ why.Read → IsUnended r.held) → (fault ≡ why.TooLong → IsPastLimit r) → CutsBy (line_status fault) r.held
-held-by why.Read r unended past = record { front = r.held; over = []; taken_is = sym (append-nil r.held); over_is = refl; none = whole-unended r.held (unended refl) }
-held-by why.TooLong r unended past =
-    let most = length r.held - 1 in
+-- of what is buffered of a line that wasn't given, nothing is whole
+buffered-by : (fault : LineFault) (r : Reading) → (fault ≡ why.Read → IsUnended r.buffered) → (fault ≡ why.TooLong → IsPastLimit r) → CutsBy (line_status fault) r.buffered
+buffered-by why.Read r unended past = record { front = r.buffered; over = []; taken_is = sym (append-nil r.buffered); over_is = refl; none = whole-unended r.buffered (unended refl) }
+buffered-by why.TooLong r unended past =
+    let most = length r.buffered - 1 in
     record {
-      front = take most r.held;
-      over = drop most r.held;
-      taken_is = sym (take-append-drop most r.held);
-      over_is = omega (arith, length-drop most r.held, (past refl).held);
-      none = whole-unended (take most r.held) (past refl).unended;
+      front = take most r.buffered;
+      over = drop most r.buffered;
+      taken_is = sym (take-append-drop most r.buffered);
+      over_is = omega (arith, length-drop most r.buffered, (past refl).buffered);
+      none = whole-unended (take most r.buffered) (past refl).unended;
     }
-held-by why.Memory r unended past = tt
+buffered-by why.Memory r unended past = tt
 
--- a run that stops before a line is given stops in the first that is held
-held-in : (status : Status) (held left line behind : List ℕ) → held ≡ line ++ behind → after_item line ≡ [] → length behind < piece_size → CutsBy status held → StopsIn status (held ++ left) left
-held-in status held left line behind taken_is one near cuts = record { taken = held; bytes_are = refl; line = line; behind = behind; taken_is = taken_is; one = one; near = near; cuts = cuts }
+-- a run that stops before a line is given stops in the first that is buffered
+held-in : (status : Status) (buffered left line behind : List ℕ) → buffered ≡ line ++ behind → after_item line ≡ [] → length behind < piece_size → CutsBy status buffered → StopsIn status (buffered ++ left) left
+held-in status buffered left line behind taken_is one near cuts = record { taken = buffered; bytes_are = refl; line = line; behind = behind; taken_is = taken_is; one = one; near = near; cuts = cuts }
 
-held-stops : (status : Status) (held left : List ℕ) → length held < position_or_len is_line_end held + 1 + piece_size → CutsBy status held → StopsIn status (held ++ left) left
-held-stops status held left near cuts =
-    elim (is_first_ended held) as (λ t. is_first_ended held ≡ t → StopsIn status (held ++ left) left) [
+buffered-stops : (status : Status) (buffered left : List ℕ) → length buffered < position_or_len is_line_end buffered + 1 + piece_size → CutsBy status buffered → StopsIn status (buffered ++ left) left
+buffered-stops status buffered left near cuts =
+    elim (is_first_ended buffered) as (λ t. is_first_ended buffered ≡ t → StopsIn status (buffered ++ left) left) [
       | true ↦ (λ ended.
-          let line = first_line held in
-          held-in status held left (line ++ 10 ∷ []) (after_line held) (bytes-line held ended ∙ sym (append_assoc line (10 ∷ []) (after_line held))) (line-alone line (first_line-is_unended held))
-          (omega (arith, near, length-drop (position_or_len is_line_end held + 1) held)) cuts)
+          let line = first_line buffered in
+          held-in status buffered left (line ++ 10 ∷ []) (after_line buffered) (bytes-line buffered ended ∙ sym (append_assoc line (10 ∷ []) (after_line buffered))) (line-alone line (first_line-is_unended buffered))
+          (omega (arith, near, length-drop (position_or_len is_line_end buffered + 1) buffered)) cuts)
       | false ↦ (λ unended.
-          let no_end : length held ≤ position_or_len is_line_end held = grind (arith, common_steps, unended) in
-          let none : after_line held ≡ [] = drop_of_length-le held (omega (arith, no_end)) in
-          held-in status held left held [] (sym (append-nil held)) (ap (λ (behind : List ℕ). drop (due (first_line held)) behind) none ∙ drop-nil (due (first_line held))) (omega arith) cuts)
+          let no_end : length buffered ≤ position_or_len is_line_end buffered = grind (arith, common_steps, unended) in
+          let none : after_line buffered ≡ [] = drop_of_length-le buffered (omega (arith, no_end)) in
+          held-in status buffered left buffered [] (sym (append-nil buffered)) (ap (λ (behind : List ℕ). drop (due (first_line buffered)) behind) none ∙ drop-nil (due (first_line buffered))) (omega arith) cuts)
     ] refl
 
-pub held-stop : (fault : LineFault) (old left : Option (List ℕ)) (r : Reading) → length r.held < position_or_len is_line_end r.held + 1 + piece_size → Keeps old (prepend_known r.held left) →
-    (fault ≡ why.Read → IsUnended r.held) → (fault ≡ why.TooLong → IsPastLimit r) → Known (StopsIn (line_status fault)) old left
-held-stop fault old left r near keeps unended past =
-    known-weaker (λ p l. p ≡ r.held ++ l) (StopsIn (line_status fault)) old left
-    (λ p l same. subst (λ (xs : List ℕ). StopsIn (line_status fault) xs l) (sym same) (held-stops (line_status fault) r.held l near (held-by fault r unended past)))
-    (known-behind (λ p q. p ≡ q) old left r.held (known-kept old (prepend_known r.held left) keeps))
+pub buffered-stop : (fault : LineFault) (old left : Option (List ℕ)) (r : Reading) → length r.buffered < position_or_len is_line_end r.buffered + 1 + piece_size → Keeps old (prepend_known r.buffered left) →
+    (fault ≡ why.Read → IsUnended r.buffered) → (fault ≡ why.TooLong → IsPastLimit r) → Known (StopsIn (line_status fault)) old left
+buffered-stop fault old left r near keeps unended past =
+    known-weaker (λ p l. p ≡ r.buffered ++ l) (StopsIn (line_status fault)) old left
+    (λ p l same. subst (λ (xs : List ℕ). StopsIn (line_status fault) xs l) (sym same) (buffered-stops (line_status fault) r.buffered l near (buffered-by fault r unended past)))
+    (known-behind (λ p q. p ≡ q) old left r.buffered (known-kept old (prepend_known r.buffered left) keeps))
 
 -- a run that stops while it takes the bytes of a line stops in that line
 misses-stop : (T : Type 0) (fault : LineFault) (piece : Piece) (was : Bool) (mid new : Reading) (before after : SourceSeen) (p q left : List ℕ) → was ≡ mid.ended → GivesLine piece was p q →
@@ -213,10 +213,10 @@ misses-stop T why.Read piece true mid new before after p q left is gives misses 
 misses-stop T why.TooLong piece true mid new before after p q left is gives misses leaves = absurd (let never : mid.ended ≡ false = goes-by T mid new before after why.TooLong leaves (λ m. cc) in cc)
 misses-stop T why.Memory piece true mid new before after p q left is gives misses leaves =
     let nothing : q ≡ [] = gives.last refl in
-    let none : new.held ++ left ≡ [] = no_rest misses.gone (new.held ++ left) (sym misses.bytes_are ∙ nothing) in
+    let none : new.buffered ++ left ≡ [] = no_rest misses.gone (new.buffered ++ left) (sym misses.bytes_are ∙ nothing) in
     record {
       taken = p;
-      bytes_are = sym (ap (λ (xs : List ℕ). p ++ xs) (no_rest new.held left none) ∙ append-nil p);
+      bytes_are = sym (ap (λ (xs : List ℕ). p ++ xs) (no_rest new.buffered left none) ∙ append-nil p);
       line = p;
       behind = [];
       taken_is = sym (append-nil p);
@@ -226,24 +226,24 @@ misses-stop T why.Memory piece true mid new before after p q left is gives misse
     }
 misses-stop T fault piece false mid new before after p q left is gives misses leaves =
     let line = first_line p in
-    let held = new.held in
+    let buffered = new.buffered in
     let count : unwrap_or (due_of_piece piece) 0 ≡ due (first_line p) = ap (λ (o : Option ℕ). unwrap_or o 0) (due_is piece false p q gives) in
     let more = due (first_line p) - length misses.gone in
-    let own = misses.gone ++ take more held in
-    let few : length own ≤ due (first_line p) = omega (arith, length-append misses.gone (take more held), length-take more held, misses.few, count) in
+    let own = misses.gone ++ take more buffered in
+    let few : length own ≤ due (first_line p) = omega (arith, length-append misses.gone (take more buffered), length-take more buffered, misses.few, count) in
     record {
-      taken = line ++ 10 ∷ (misses.gone ++ held);
+      taken = line ++ 10 ∷ (misses.gone ++ buffered);
       bytes_are =
-          bytes-line p (gives.whole refl) ∙ ap (λ (behind : List ℕ). first_line p ++ 10 ∷ behind) (sym gives.behind ∙ misses.bytes_are ∙ sym (append_assoc misses.gone held left))
-          ∙ sym (append_assoc line (10 ∷ (misses.gone ++ held)) left);
+          bytes-line p (gives.whole refl) ∙ ap (λ (behind : List ℕ). first_line p ++ 10 ∷ behind) (sym gives.behind ∙ misses.bytes_are ∙ sym (append_assoc misses.gone buffered left))
+          ∙ sym (append_assoc line (10 ∷ (misses.gone ++ buffered)) left);
       line = line ++ 10 ∷ own;
-      behind = drop more held;
-      taken_is = cut-at more line misses.gone held;
+      behind = drop more buffered;
+      taken_is = cut-at more line misses.gone buffered;
       one =
           ap (λ (first : List ℕ). drop (due first) (after_line (line ++ 10 ∷ own))) (first_line-unended line own (first_line-is_unended p))
           ∙ ap (λ (behind : List ℕ). drop (due line) behind) (after_line-unended line own (first_line-is_unended p))
           ∙ drop_of_length-le own few;
-      near = omega (arith, length-drop more held, misses.near, misses.few, count);
+      near = omega (arith, length-drop more buffered, misses.near, misses.few, count);
       cuts = misses-by T mid new before after fault piece p q left gives misses leaves;
     }
 
@@ -259,6 +259,6 @@ next-reader r source behind =
     record {
       ended = behind.ended;
       nothing = behind.nothing;
-      last = λ e. let none : r.held ≡ [] = behind.last e in ap (λ (xs : List ℕ). position_or_len is_line_end xs) none ∙ sym (ap length none);
+      last = λ e. let none : r.buffered ≡ [] = behind.last e in ap (λ (xs : List ℕ). position_or_len is_line_end xs) none ∙ sym (ap length none);
       near = omega (arith, behind.near);
     }

@@ -20,15 +20,15 @@ opening_outcome true (Ok setting) = Err AlreadyStore
 opening_outcome true (Err at) = Ok new_setting
 
 -- the status says what the file holds
-abbrev pub TellsFile : Status → Type 0
-TellsFile (NotStore at) = ⊤
-TellsFile AlreadyStore = ⊤
-TellsFile other = ⊥
+abbrev pub IsOfFile : Status → Type 0
+IsOfFile (NotStore at) = ⊤
+IsOfFile AlreadyStore = ⊤
+IsOfFile other = ⊥
 
 -- a store was opened, or the answer says what the file holds instead, unless a call failed
 abbrev pub IsOpened : Result Seen Status → Result Setting Status → Type 0
 IsOpened (Ok store) wanted = wanted ≡ Ok store.setting
-IsOpened (Err status) wanted = TellsFile status → wanted ≡ Err status
+IsOpened (Err status) wanted = IsOfFile status → wanted ≡ Err status
 
 -- the same answer with the fault of a store as a status
 abbrev pub opening_result : Result Seen StoreFault → Result Seen Status
@@ -39,7 +39,7 @@ opening_result (Err fault) = Err (store_status fault)
 abbrev pub StopsOpening : Status → Type 0
 StopsOpening DiskFault = ⊤
 StopsOpening Memory = ⊤
-StopsOpening status = TellsFile status
+StopsOpening status = IsOfFile status
 
 -- the state after some of these events, the first ones in order
 pub record IsTreeAfter (s : State) (events : List Event) (now : State) : Type 0 where

@@ -71,6 +71,6 @@ is_disk_fault DiskFault = true
 is_disk_fault other = false
 
 -- the answer is a status that reports one
-abbrev pub tells_disk : {T : Type 0} → Result T Status → Bool
-tells_disk (Ok value) = false
-tells_disk (Err status) = is_disk_fault status
+abbrev pub reports_disk : {T : Type 0} → Result T Status → Bool
+reports_disk (Ok value) = false
+reports_disk (Err status) = is_disk_fault status

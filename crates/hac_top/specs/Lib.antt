@@ -3,7 +3,7 @@ pub mod Crashes
 pub mod Deciding
 pub mod Ends
 pub mod TakenLines
-pub mod Told
+pub mod Replies
 pub mod Run
 pub mod Storing
 pub mod Words

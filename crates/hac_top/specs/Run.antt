@@ -2,7 +2,7 @@
 use Rattle.std.specs.Prelude.{◌≡◌, ◌⊎◌, ℕ, ◌+◌, ◌<◌, ◌≤◌, ⊤, Bool, false, List, [], ◌++◌, length, take, drop, codes, Option, Some, IfOk}
 use Rattle.std.specs.Option.{IfSome}
 use Rattle.std.specs.Io.KnownBytes.{Appends}
-use Rattle.hac_outside.specs.Causes.{Rose, TellsFault}
+use Rattle.hac_outside.specs.Causes.{Rose, ReportsFault}
 use Rattle.hac_outside.specs.Known.{Known}
 use Rattle.hac_outside.specs.Seen.{SourceSeen, SinkSeen}
 use Rattle.hac_disk.specs.Images.{LeavesOnly}
@@ -16,7 +16,7 @@ use Rattle.hac_store.specs.Held.{held}
 use Rattle.hac_store.specs.Stores.{IsHeldAs, Stands}
 use Rattle.hac_top.specs.Crashes.{Holds, IsTreeAfter, IsTreeOfAnswered, Reopens, opening_outcome}
 use Rattle.hac_top.specs.Ends.{IsFinished, IsOpenStatus, finished_status, is_disk_fault, is_read_fault, is_write_fault}
-use Rattle.hac_top.specs.Told.{Told}
+use Rattle.hac_top.specs.Replies.{WritesReplies}
 use Rattle.hac_top.specs.declared.status.Status.{Status}
 use Rattle.hac_top.specs.declared.status.Status.TheVariants.{Done, SomeRefused, Usage, ReadFault, WriteFault, DiskFault, Memory, TooLong}
 use Rattle.shell_lang.specs.Reading.{piece_size}
@@ -41,7 +41,7 @@ AppendsSome old new bytes = (n : ℕ) × Appends old new (take n bytes)
 pub record RefusesWords (status : Status) (before after : Outside) : Type 0 where
   pub status_is : (status ≡ Usage) ⊎ (status ≡ WriteFault)
   pub unread : after.source ≡ before.source
-  pub told : status ≡ Usage → Appends before.sink.written after.sink.written usage_line
+  pub usage : status ≡ Usage → Appends before.sink.written after.sink.written usage_line
   pub some : AppendsSome before.sink.written after.sink.written usage_line
 
 -- at most one byte more than the limit of a script was taken
@@ -51,8 +51,8 @@ TakesWithin old new = Known (λ before after. length before ≤ length after + (
 -- What any run says of its source and sink. A fault that happened is reported, and no other is. Unless the sink failed,
 -- it has passed on all that it was written, if it had before.
 pub record Ends (status : Status) (before after : Outside) : Type 0 where
-  pub reads : TellsFault (is_read_fault status) before.source.faults after.source.faults
-  pub writes : TellsFault (is_write_fault status) before.sink.faults after.sink.faults
+  pub reads : ReportsFault (is_read_fault status) before.source.faults after.source.faults
+  pub writes : ReportsFault (is_write_fault status) before.sink.faults after.sink.faults
   pub within : TakesWithin before.source.left after.source.left
   pub passed : (status ≡ WriteFault → ⊥) → before.sink.held_back ≡ 0 → after.sink.held_back ≡ 0
 
@@ -110,10 +110,10 @@ AnswersBy other setting script done left = ⊤
 -- only where the sink failed.
 pub record Plays (status : Status) (setting : Setting) (script : List ℕ)
     (before after : Outside) : Type 0 where
-  pub told : Told (play nothing_given setting script) before.sink after.sink
-  pub whole : (status ≡ WriteFault → ⊥) → told.cut ≡ []
-  pub prompt : AnswersPromptly setting script told.done after.source.left
-  pub answers : AnswersBy status setting script told.done after.source.left
+  pub replies : WritesReplies (play nothing_given setting script) before.sink after.sink
+  pub whole : (status ≡ WriteFault → ⊥) → replies.cut ≡ []
+  pub prompt : AnswersPromptly setting script replies.done after.source.left
+  pub answers : AnswersBy status setting script replies.done after.source.left
 
 -- How a script is played from a store. Its replies are those of the plain tree. Where nothing was pending on
 -- the disk as it began, a crash leaves the tree with the events of each answered command, and at most those of the
@@ -123,7 +123,7 @@ pub record Played (fresh : Bool) (status : Status) (setting : Setting) (script :
     (stood : Type 0) (image : List ℕ → Type 0) : Type 0 where
   pub plays : Plays status setting script before after
   pub reopens : stood → (c : List ℕ) → image c → Reopens fresh (IsTreeOfAnswered setting.state
-      (play nothing_given setting script) plays.told.done) c
+      (play nothing_given setting script) plays.replies.done) c
   pub kept : stood → IsFinished status → (c : List ℕ) → image c →
       IsHeldAs c (left_by setting (play nothing_given setting script))
 
@@ -144,7 +144,7 @@ abbrev pub IsTreeOf : Setting → List ℕ → State → Type 0
 IsTreeOf setting script now = IsTreeAfter setting.state (all_events (play nothing_given setting script)) now
 
 -- How the script is played from a store that was opened, whatever source and disk tell. A crash at each moment leaves
--- the tree after some of the events. A call of the disk that failed is told, and no other.
+-- the tree after some of the events. A call of the disk that failed is reported, and no other.
 pub record PlaysStore {D : Type 0} (seen : D → Option (List ℕ)) (image : D → List ℕ → Type 0)
     (moment : D → ℕ) (image_since : D → ℕ → List ℕ → Type 0)
     (attached : D → Option (List (List ℕ × Bool))) (faults : D → ℕ) (old new : D)
@@ -156,7 +156,7 @@ pub record PlaysStore {D : Type 0} (seen : D → Option (List ℕ)) (image : D �
       LeavesOnly moment image_since old new (Holds (IsTreeOf setting script)))
   pub ends : Ends status before after
   pub names : attached new ≡ attached old
-  pub told : TellsFault (is_disk_fault status) (faults old) (faults new)
+  pub reported : ReportsFault (is_disk_fault status) (faults old) (faults new)
 
 -- The outcome of a run that goes on from a store. Where nothing was pending on the disk as it began, a crash at each
 -- moment leaves that tree after some of the events of the script; once it has begun to take the script, a crash leaves

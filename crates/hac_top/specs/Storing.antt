@@ -1,9 +1,9 @@
 -- What becomes of a store and of its disk as turns are stored and answered.
 use Rattle.std.specs.Prelude.{◌≡◌, ⊤, ℕ, Bool, false, List, [], ◌∷◌, Option, Result, Ok, Err, IfOk, IfErr}
 use Rattle.hac_disk.specs.Images.{LeavesOnly}
-use Rattle.hac_outside.specs.Causes.{TellsFault}
+use Rattle.hac_outside.specs.Causes.{ReportsFault}
 use Rattle.hac_outside.specs.Seen.{SinkSeen}
-use Rattle.hac_model.specs.Run.Play.{Setting, Turn, all_events, left_by}
+use Rattle.hac_model.specs.Run.Play.{Setting, Turn, all_events, left_by, turns_text}
 use Rattle.hac_model.specs.declared.events.Event.{Event}
 use Rattle.hac_model.specs.declared.limits.LimitWord.TheVariants.{Store}
 use Rattle.hac_model.specs.declared.replies.Refusal.TheVariants.{Limit}
@@ -13,8 +13,8 @@ use Rattle.hac_store.specs.Stores.{Bears, IsHeldAs, Seen, Stands}
 use Rattle.hac_store.specs.declared.fault.StoreFault.{StoreFault}
 use Rattle.hac_store.specs.declared.fault.StoreFault.TheVariants.{Full}
 use Rattle.hac_top.specs.Crashes.{Holds, IsTreeAfter}
-use Rattle.hac_top.specs.Ends.{is_disk_fault, store_status, tells_disk}
-use Rattle.hac_top.specs.Told.{CutsTelling, Tells, told_text}
+use Rattle.hac_top.specs.Ends.{is_disk_fault, store_status, reports_disk}
+use Rattle.hac_top.specs.Replies.{CutsWriting, WritesAll}
 use Rattle.hac_top.specs.declared.status.Status.{Status}
 use Rattle.hac_top.specs.declared.status.Status.TheVariants.{WriteFault, DiskFault, Memory}
 
@@ -25,7 +25,7 @@ storing_reply (Err Full) = Ok (Refused (Limit Store))
 storing_reply (Err fault) = Err (store_status fault)
 
 -- What became of the disk while a store went on by events: a crash at any moment leaves the tree after some of them.
--- A call of the disk that failed is told, and no other.
+-- A call of the disk that failed is reported, and no other.
 pub record Stores {D : Type 0} (seen : D → Option (List ℕ)) (image : D → List ℕ → Type 0)
     (moment : D → ℕ) (image_since : D → ℕ → List ℕ → Type 0)
     (attached : D → Option (List (List ℕ × Bool))) (faults : D → ℕ) (old new : D)
@@ -33,7 +33,7 @@ pub record Stores {D : Type 0} (seen : D → Option (List ℕ)) (image : D → L
   pub moments : Stands (seen old) (image old) setting →
       LeavesOnly moment image_since old new (Holds (IsTreeAfter setting.state events))
   pub names : attached new ≡ attached old
-  pub told : TellsFault failed (faults old) (faults new)
+  pub reported : ReportsFault failed (faults old) (faults new)
 
 -- a command is stopped by the disk, or because memory ran out
 abbrev pub StopsCommand : Status → Type 0
@@ -56,14 +56,14 @@ pub record StoresTurn {D : Type 0} (seen : D → Option (List ℕ)) (image : D �
     (before after : Seen) (turn : Turn) (result : Result Reply Status) : Type 0 where
   pub ok : IfOk result (HasStored seen image old new before after turn)
   pub err : IfErr result StopsCommand
-  pub stores : Stores seen image moment image_since attached faults old new before.setting (all_events (turn ∷ [])) (tells_disk result)
+  pub stores : Stores seen image moment image_since attached faults old new before.setting (all_events (turn ∷ [])) (reports_disk result)
 
 -- a line was answered: the replies of its turns were written, and the store has gone on by them
 pub record AnswersLine {D : Type 0} (seen : D → Option (List ℕ)) (image : D → List ℕ → Type 0)
     (moment : D → ℕ) (image_since : D → ℕ → List ℕ → Type 0)
     (attached : D → Option (List (List ℕ × Bool))) (faults : D → ℕ) (old new : D)
     (before after : Seen) (sink sink_after : SinkSeen) (answered : List Turn) : Type 0 where
-  pub replies : Tells sink sink_after (told_text answered)
+  pub replies : WritesAll sink sink_after (turns_text answered)
   pub store : after ≡ record before { setting = left_by before.setting answered }
   pub place : Bears (seen new) after
   pub stands : Stands (seen old) (image old) before.setting → Stands (seen new) (image new) after.setting
@@ -74,7 +74,7 @@ pub record StopsAnswer {D : Type 0} (seen : D → Option (List ℕ)) (image : D 
     (moment : D → ℕ) (image_since : D → ℕ → List ℕ → Type 0)
     (attached : D → Option (List (List ℕ × Bool))) (faults : D → ℕ) (old new : D)
     (setting : Setting) (sink sink_after : SinkSeen) (answered : List Turn) (status : Status) : Type 0 where
-  pub replies : CutsTelling status sink sink_after (told_text answered)
+  pub replies : CutsWriting status sink sink_after (turns_text answered)
   pub stored : status ≡ WriteFault → Stands (seen old) (image old) setting → (c : List ℕ) → image new c →
       IsHeldAs c (left_by setting answered)
   pub stores : Stores seen image moment image_since attached faults old new setting (all_events answered) (is_disk_fault status)

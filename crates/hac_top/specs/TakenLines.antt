@@ -8,7 +8,7 @@ use Rattle.hac_model.specs.declared.limits.LimitWord.TheVariants as limit
 use Rattle.hac_model.specs.declared.limits.TheConstants.{SCRIPT_LIMIT}
 use Rattle.hac_model.specs.declared.replies.Refusal.TheVariants.{Limit}
 use Rattle.hac_model.specs.declared.taken.Taken.{Taken}
-use Rattle.hac_outside.specs.Causes.{TellsFault}
+use Rattle.hac_outside.specs.Causes.{ReportsFault}
 use Rattle.hac_outside.specs.Known.{Known}
 use Rattle.hac_outside.specs.Seen.{SourceSeen}
 use Rattle.shell_lang.specs.Pieces.{GoesOn}
@@ -112,11 +112,11 @@ pub record StopsIn (status : Status) (bytes left : List ℕ) : Type 0 where
   pub cuts : CutsBy status taken
 
 -- What the reader took is what the source lost, and at most one byte of it lies beyond the limit of a script. A fault of
--- the source is told, and no other is.
+-- the source is reported, and no other is.
 pub record LeavesSource (failed : Bool) (old new : Reading) (before after : SourceSeen) : Type 0 where
   pub total : SameTotal old.taken before.left new.taken after.left
   pub limit : new.taken ≤ SCRIPT_LIMIT + 1
-  pub told : TellsFault failed before.faults after.faults
+  pub reported : ReportsFault failed before.faults after.faults
 
 -- a line was taken, or the script has ended
 pub record TakesLine (old new : Reading) (before after : SourceSeen) (line : Option TakenLine) : Type 0 where

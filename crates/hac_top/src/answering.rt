@@ -9,7 +9,7 @@ ghost use Rattle.hac_model.specs.Script.Printed.{text};
 ghost use Rattle.hac_store.specs.Stores.{Bears};
 ghost use Rattle.hac_top.specs.Storing.{AnswersLine, StopsAnswer};
 ghost use Rattle.hac_top.specs.TakenLines.{items_of_taken};
-ghost use Rattle.hac_top.specs.Told.{StopsTelling, Tells};
+ghost use Rattle.hac_top.specs.Replies.{StopsWriting, WritesAll};
 
 use crate::status::Status;
 use crate::storing::store_line;
@@ -57,7 +57,7 @@ impl Player {
         let TakenLine { piece, taken } = line;
         match piece {
             Piece::Bytes(line) => self.answer_line(output, disk, line, taken),
-            Piece::LongLine => self.tell(output, Reply::Refused(Refusal::Limit(LimitWord::Line))),
+            Piece::LongLine => self.reply_with(output, Reply::Refused(Refusal::Limit(LimitWord::Line))),
             Piece::Blank | Piece::End => Ok(()),
         }
     }
@@ -84,22 +84,22 @@ impl Player {
             (item_turn nothing_given self.old.store.setting (item_taken line taken) ∷ [])) }
     {
         let reply = store_line(self.alloc, &mut self.store, disk, line, taken)?;
-        self.tell(output, reply)
+        self.reply_with(output, reply)
     }
 
     // Writes a reply, and flushes it.
-    fn tell<K: Sink>(&mut self, output: &mut K, reply: Reply) -> Result<(), Status>
+    fn reply_with<K: Sink>(&mut self, output: &mut K, reply: Reply) -> Result<(), Status>
         ensures store { self.new.store ≡ self.old.store }
         ensures refused { OnOk result (self.new.refused ≡ (self.old.refused || is_refused reply)) }
-        ensures ok { OnOk result (Tells (K.seen output.old) (K.seen output.new)
+        ensures ok { OnOk result (WritesAll (K.seen output.old) (K.seen output.new)
             (text (reply ∷ []))) }
-        ensures err { IfErr result (λ status. StopsTelling status (K.seen output.old)
+        ensures err { IfErr result (λ status. StopsWriting status (K.seen output.old)
             (K.seen output.new) (text (reply ∷ []))) }
     {
         let bytes = print_reply(self.alloc, &reply);
         self.refused = self.refused | is_refused(&reply);
         drop(reply);
-        match tell_bytes(output, &bytes?) {
+        match write_now(output, &bytes?) {
             Ok(()) => Ok(()),
             Err(Failed) => Err(Status::WriteFault),
         }
@@ -116,7 +116,7 @@ fn is_refused(reply: &Reply) -> bool
 }
 
 /// Writes bytes and flushes them, so that their reader has them before anything else is done.
-pub fn tell_bytes<K: Sink>(output: &mut K, bytes: &[u8]) -> Result<(), Failed>
+pub fn write_now<K: Sink>(output: &mut K, bytes: &[u8]) -> Result<(), Failed>
     ensures ok { OnOk result (Appends (K.seen output.old).written
         (K.seen output.new).written bytes.now) }
     ensures passed { OnOk result ((K.seen output.new).held_back ≡ 0) }

@@ -2,14 +2,14 @@
 //! is made.
 ghost use Rattle.std.specs.Prelude.{◌≡◌, false, Err, IfOk, IfErr, IfSome};
 ghost use Rattle.hac_disk.specs.Images.{IsQuiet, LeavesOnly};
-ghost use Rattle.hac_disk.specs.Told.{IsSettled};
-ghost use Rattle.hac_outside.specs.Causes.{TellsFault};
+ghost use Rattle.hac_disk.specs.Contents.{IsSettled};
+ghost use Rattle.hac_outside.specs.Causes.{ReportsFault};
 ghost use Rattle.hac_store.specs.Faults.{is_disk_fault};
 ghost use Rattle.hac_store.specs.Held.{held};
 ghost use Rattle.hac_store.specs.Stores.{Bears, Stands};
 ghost use Rattle.hac_top.specs.Attaching.{AttachesStore, MayAttach};
 ghost use Rattle.hac_top.specs.Crashes.{IsOpened, Reopens, StopsOpening, opening_outcome, opening_result};
-ghost use Rattle.hac_top.specs.Ends.{tells_disk};
+ghost use Rattle.hac_top.specs.Ends.{reports_disk};
 ghost use Rattle.hac_top.specs.Words.{asked_of};
 
 use crate::status::{Status, store_status};
@@ -48,7 +48,7 @@ pub fn open_store<D: Disk>(
         (D.attached disk.new) }
     ensures attaches { (result ≡ Err Status.DiskFault → ⊥) →
         AttachesStore (D.attached disk.old) (asked_of options.entry) (D.attached disk.new) }
-    ensures faults { TellsFault (tells_disk result) (D.faults disk.old) (D.faults disk.new) }
+    ensures faults { ReportsFault (reports_disk result) (D.faults disk.old) (D.faults disk.new) }
 {
     if disk.attach(options.store, options.fresh).is_err() {
         return Err(Status::DiskFault);
@@ -71,7 +71,7 @@ fn load_or_create<D: Disk>(alloc: Global, fresh: bool, disk: &mut D) -> Result<S
     ensures quiet { IfSome (D.seen disk.old) (λ file. IfErr (opening_outcome fresh (held file))
         (λ _. IsQuiet D.seen D.image D.moment D.image_since disk.old disk.new)) }
     ensures attached { D.attached disk.new ≡ D.attached disk.old }
-    ensures faults { TellsFault (is_disk_fault result) (D.faults disk.old) (D.faults disk.new) }
+    ensures faults { ReportsFault (is_disk_fault result) (D.faults disk.old) (D.faults disk.new) }
 {
     if fresh {
         Store::create(alloc, disk)

@@ -3,17 +3,17 @@
 ghost use Rattle.std.specs.Prelude.{◌≡◌, ◌⊎◌, false, IfErr, IfSome, None, map, string_bytes};
 ghost use Rattle.std.specs.Io.KnownBytes.{Appends};
 ghost use Rattle.hac_disk.specs.Images.{IsQuiet, LeavesOnly};
-ghost use Rattle.hac_disk.specs.Told.{IsSettled};
+ghost use Rattle.hac_disk.specs.Contents.{IsSettled};
 ghost use Rattle.hac_model.specs.Script.CommandLine.{options};
-ghost use Rattle.hac_outside.specs.Causes.{TellsFault};
+ghost use Rattle.hac_outside.specs.Causes.{ReportsFault};
 ghost use Rattle.hac_store.specs.Held.{held};
 ghost use Rattle.hac_store.specs.Stores.{Bears};
 ghost use Rattle.hac_top.specs.Attaching.{AttachesStore, MayAttach};
-ghost use Rattle.hac_top.specs.Crashes.{TellsFile, opening_outcome};
+ghost use Rattle.hac_top.specs.Crashes.{IsOfFile, opening_outcome};
 ghost use Rattle.hac_top.specs.Ends.{end_status, is_disk_fault, is_write_fault};
 ghost use Rattle.hac_top.specs.Run.{AppendsSome, Ends, EndsSo, IfOpens, IsFaultless, PlaysStore, Ran, RefusesWords, outside, usage_line};
 
-use crate::answering::{Player, tell_bytes};
+use crate::answering::{Player, write_now};
 use crate::opening::open_store;
 use crate::status::Status;
 use crate::taking::take_line;
@@ -69,7 +69,7 @@ pub fn run<S: Source, K: Sink, D: Disk>(
         EndsSo wanted result × IsQuiet D.seen D.image D.moment D.image_since disk.old disk.new ×
         (input.new ≡ input.old) × (output.new ≡ output.old)))) }
     ensures file { IfSome (options (map string_bytes words.now))
-        (λ asked. IfSome (D.seen disk.old) (λ file. TellsFile result → opening_outcome asked.fresh
+        (λ asked. IfSome (D.seen disk.old) (λ file. IsOfFile result → opening_outcome asked.fresh
         (held file) ≡ Err result)) }
 
     // The disk is attached once, by the name that the words give.
@@ -81,11 +81,11 @@ pub fn run<S: Source, K: Sink, D: Disk>(
     // Each fault is reported, and nothing is left unflushed in the sink.
     ensures ends { Ends result (outside (S.seen input.old) (K.seen output.old))
         (outside (S.seen input.new) (K.seen output.new)) }
-    ensures disk_faults { TellsFault (is_disk_fault result) (D.faults disk.old)
+    ensures disk_faults { ReportsFault (is_disk_fault result) (D.faults disk.old)
         (D.faults disk.new) }
 {
     let Some(options) = read_words(words) else {
-        return tell_usage(output);
+        return write_usage(output);
     };
     match open_store(alloc, options, disk) {
         Ok(store) => play_store(alloc, store, input, output, disk),
@@ -93,16 +93,16 @@ pub fn run<S: Source, K: Sink, D: Disk>(
     }
 }
 
-fn tell_usage<K: Sink>(output: &mut K) -> Status
+fn write_usage<K: Sink>(output: &mut K) -> Status
     ensures status { (result ≡ Status.Usage) ⊎ (result ≡ Status.WriteFault) }
     ensures written { result ≡ Status.Usage → Appends (K.seen output.old).written
         (K.seen output.new).written usage_line }
     ensures passed { result ≡ Status.Usage → (K.seen output.new).held_back ≡ 0 }
     ensures some { AppendsSome (K.seen output.old).written (K.seen output.new).written usage_line }
-    ensures faults { TellsFault (is_write_fault result) (K.seen output.old).faults
+    ensures faults { ReportsFault (is_write_fault result) (K.seen output.old).faults
         (K.seen output.new).faults }
 {
-    match tell_bytes(output, b"usage: hac [--new] STORE\n") {
+    match write_now(output, b"usage: hac [--new] STORE\n") {
         Ok(()) => Status::Usage,
         Err(_) => Status::WriteFault,
     }

@@ -1,5 +1,5 @@
 //! Two checkpoints of a store, call by call. The program doesn't make these calls yet.
-ghost use Rattle.hac_disk.specs.Told.{RangeWithin};
+ghost use Rattle.hac_disk.specs.Contents.{RangeWithin};
 ghost use Rattle.std.specs.Prelude.{◌≡◌, ◌<◌, ◌-◌, ◌^◌};
 
 use hac_checkpoint::{Area, Root, Slot, area_place, close_and_fill, open_root, roots, write_area};

@@ -20,13 +20,13 @@ abbrev pub WordsStay : Type 0
 WordsStay = (text word : List ℕ) → Contains (rising_words text) word ↔ Contains (words text) word
 
 -- what rises and has the words of the text is the list of its words
-abbrev pub WordsAreTold : Type 0
-WordsAreTold =
-    (text : List ℕ) (told : List (List ℕ)) →
-    IsStrictlySortedBy (slice_cmp nat_cmp) told →
-    ((word : List ℕ) → Contains told word ↔ Contains (words text) word) →
-    told ≡ rising_words text
+abbrev pub WordsAreDetermined : Type 0
+WordsAreDetermined =
+    (text : List ℕ) (list : List (List ℕ)) →
+    IsStrictlySortedBy (slice_cmp nat_cmp) list →
+    ((word : List ℕ) → Contains list word ↔ Contains (words text) word) →
+    list ≡ rising_words text
 
 -- the text has a term exactly where its rising words have it
-abbrev pub TermsAreTold : Type 0
-TermsAreTold = (text : List ℕ) (term : Term) → has_term text term ≡ list_any (is_asked term) (rising_words text)
+abbrev pub TermsAreFound : Type 0
+TermsAreFound = (text : List ℕ) (term : Term) → has_term text term ≡ list_any (is_asked term) (rising_words text)

@@ -1,5 +1,5 @@
 //! Theorems over the definitions alone. Each is the contract of a function that does nothing.
-ghost use Rattle.hac_words.specs.Laws.{TermsAreTold, WordsAreTold, WordsAreWords, WordsRise, WordsStay};
+ghost use Rattle.hac_words.specs.Laws.{TermsAreFound, WordsAreDetermined, WordsAreWords, WordsRise, WordsStay};
 
 /// Each word of a text is a word by itself.
 pub fn words_are_words()
@@ -17,11 +17,11 @@ pub fn words_stay()
 {}
 
 /// No other list rises and has the words of the text.
-pub fn words_are_told()
-    ensures { WordsAreTold }
+pub fn words_are_determined()
+    ensures { WordsAreDetermined }
 {}
 
 /// Which terms a text has is known from the list of its words.
-pub fn terms_are_told()
-    ensures { TermsAreTold }
+pub fn terms_are_found()
+    ensures { TermsAreFound }
 {}

@@ -27,7 +27,7 @@ use Rattle.query_text.proofs.FaultLemmas.{is_found}
 use Rattle.query_text.proofs.PrintLemmas.{text_read}
 use Rattle.query_text.specs.Laws.{ArePaths, IsReadBack, word_to}
 use Rattle.query_text.specs.Printing.{path_at, are_known, pathed, printed_query}
-use Rattle.query_text.specs.declared.paths.Told.{Told}
+use Rattle.query_text.specs.declared.paths.NamedDir.{NamedDir}
 
 -- Paths.
 
@@ -57,7 +57,7 @@ chosen : (t : Bool) (path : List (List ℕ)) (rest : Option (List (List ℕ))) �
 chosen true path rest here there known = here
 chosen false path rest here there known = there known
 
-named_at : (paths : List Told) (dir : ℕ) → list_all (λ told. are_names told.path) paths ≡ true → is_some (path_at paths dir) ≡ true → Named (path_at paths dir)
+named_at : (paths : List NamedDir) (dir : ℕ) → list_all (λ told. are_names told.path) paths ≡ true → is_some (path_at paths dir) ≡ true → Named (path_at paths dir)
 named_at [] dir all known = cc
 named_at (told ∷ paths) dir all known =
     let both = and_parts (are_names told.path) (list_all (λ told. are_names told.path) paths) all in
@@ -69,7 +69,7 @@ dir_read : (found : Option (List (List ℕ))) → Named found → IsPath (option
 dir_read None is = elim is [ ]
 dir_read (Some path) is = (text_path path is, ap named (printed_path path is))
 
-module _ (paths : List Told) (all : list_all (λ told. are_names told.path) paths ≡ true) where
+module _ (paths : List NamedDir) (all : list_all (λ told. are_names told.path) paths ≡ true) where
   record Known (q : Formula ℕ) : Type 0 where
     terms : are_terms (pathed paths q) ≡ are_terms q
     dirs : ArePaths (pathed paths q)
@@ -115,7 +115,7 @@ long_read : (q : Formula PathWord) (long : Bool) (x : LimitWord) (r : Result (Fo
 long_read q true x r is = tt
 long_read q false x r is = is
 
-pub read_back : (paths : List Told) (q : Formula ℕ) → list_all (λ told. are_names told.path) paths ≡ true → are_known paths q ≡ true → are_terms q ≡ true
+pub read_back : (paths : List NamedDir) (q : Formula ℕ) → list_all (λ told. are_names told.path) paths ≡ true → are_known paths q ≡ true → are_terms q ≡ true
     → IsReadBack (named_by (word_to paths) q) (read_query (printed_query paths q))
 unfolding read_query
 read_back paths q all knows word =

@@ -9,14 +9,14 @@ use Rattle.hac_model.specs.Query.QueryReading.{negate, receive, after_and, after
 use Rattle.hac_model.specs.Query.Words.{lower_case}
 use Rattle.hac_model.specs.declared.reading.ByteKind.{ByteKind}
 use Rattle.hac_model.specs.declared.reading.ByteKind.TheVariants as kind
-use Rattle.hac_model.specs.declared.reading.Held.{Held}
+use Rattle.hac_model.specs.declared.reading.Ended.{Ended}
 use Rattle.hac_model.specs.declared.reading.Operand.TheVariants as operand
 use Rattle.hac_model.specs.declared.reading.Operator.TheVariants as operator
 use Rattle.hac_model.specs.declared.reading.Part.{Part}
 use Rattle.hac_model.specs.declared.reading.Reader.{Reader}
-use Rattle.hac_model.specs.declared.reading.Reader.TheVariants.{Wants, Holds}
+use Rattle.hac_model.specs.declared.reading.Reader.TheVariants.{Wants, Ends}
 use Rattle.hac_model.specs.declared.reading.Stack.{Stack}
-use Rattle.hac_model.specs.declared.reading.Stack.TheVariants.{Wanting, Holding}
+use Rattle.hac_model.specs.declared.reading.Stack.TheVariants.{Wanting, Ending}
 use Rattle.hac_model.specs.declared.reading.Wanted.{Wanted}
 use Rattle.query_text.proofs.KindLemmas.{kind_is, word_kind, space_kind, open_kind, close_kind, star_kind, brace_kind, end_brace_kind, backslash_kind, slash_kind, letter_word, ends_word, ends_sign, bare_step, escape_cases}
 use Rattle.query_text.proofs.TokenLemmas.{feed, feeds}
@@ -30,12 +30,12 @@ reads (b ∷ bytes) reader = option_and_then (reads bytes) (step b reader)
 
 space_stays : (s : Stack) → token_begins kind.Space 32 s ≡ Some (at s)
 space_stays (Wanting w) = refl
-space_stays (Holding h) = refl
+space_stays (Ending h) = refl
 
 -- a byte where no token is under way
 pub at_step : (b : ℕ) (s : Stack) → step b (at s) ≡ token_begins (kind_of b) b s
 at_step b (Wanting w) = refl
-at_step b (Holding h) = refl
+at_step b (Ending h) = refl
 
 pub spaces_skipped : (n : ℕ) (bytes : List ℕ) (s : Stack) → reads (spaced n bytes) (at s) ≡ reads bytes (at s)
 spaces_skipped zero bytes s = refl
@@ -45,7 +45,7 @@ spaces_skipped (suc n) bytes s =
 
 ended_at : (s : Stack) → read_whole (at s) ≡ ended_token s
 ended_at (Wanting w) = refl
-ended_at (Holding h) = refl
+ended_at (Ending h) = refl
 
 -- Runs.
 
@@ -97,10 +97,10 @@ not_operator run none = last (bytes_eq run (codes "AND")) (bytes_eq run (codes "
     last true b c e = cc
     last false true c e = cc
 
-pub after_word : (run : List ℕ) (w : Wanted) → is_operator run ≡ false → after_run run w ≡ Some (Holding (receive (leaf_part (Word (lower_case run))) w))
+pub after_word : (run : List ℕ) (w : Wanted) → is_operator run ≡ false → after_run run w ≡ Some (Ending (receive (leaf_part (Word (lower_case run))) w))
 unfolding after_run
 after_word run w none =
-    let other : Option Stack = Some (Holding (receive (leaf_part (Word (lower_case run))) w)) in
+    let other : Option Stack = Some (Ending (receive (leaf_part (Word (lower_case run))) w)) in
     ap (λ (t : Bool). cond t (Some (Wanting (negate w))) (cond (is_operator run) None other)) (not_operator run none)
     ∙ ap (λ (t : Bool). cond t None other) none
 
@@ -149,8 +149,8 @@ whole_path (b ∷ path) rest w (slash, all) =
 
 -- Tokens.
 
-letter : (b : ℕ) → kind_of b ≡ kind.Word → (rest : List ℕ) (h : Held) (next : Reader) → operator_begins kind.Word b h ≡ Some next
-    → reads (b ∷ rest) (Holds operator.Nothing h) ≡ reads rest next
+letter : (b : ℕ) → kind_of b ≡ kind.Word → (rest : List ℕ) (h : Ended) (next : Reader) → operator_begins kind.Word b h ≡ Some next
+    → reads (b ∷ rest) (Ends operator.Nothing h) ≡ reads rest next
 letter b is rest h next e = ap (λ (k : ByteKind). option_and_then (reads rest) (operator_begins k b h)) is ∙ ap (option_and_then (reads rest)) e
 
 capital : (b : ℕ) → 65 ≤ b → b ≤ 90 → kind_of b ≡ kind.Word
@@ -171,13 +171,13 @@ token_reads (Of (Word letters)) (Wanting w) body rest (is, none, e) ends =
     whole_run body rest w is
     ∙ run_over body rest w ends
     ∙ ap (option_and_then (λ s. reads rest (at s))) (after_word body w none)
-    ∙ ap (λ (x : List ℕ). reads rest (Holds operator.Nothing (receive (leaf_part (Word x)) w))) (sym e)
+    ∙ ap (λ (x : List ℕ). reads rest (Ends operator.Nothing (receive (leaf_part (Word x)) w))) (sym e)
 token_reads (Of (Prefix letters)) (Wanting w) body rest (run, is, e, b) ends =
     ap (λ (x : List ℕ). reads (x ++ rest) (Wants operand.Nothing w)) b
     ∙ ap (λ (x : List ℕ). reads x (Wants operand.Nothing w)) (append_assoc run (42 ∷ []) rest)
     ∙ whole_run run (42 ∷ rest) w is
     ∙ ap (λ (k : ByteKind). option_and_then (reads rest) (run_step k 42 run w)) star_kind
-    ∙ ap (λ (x : List ℕ). reads rest (Holds operator.Nothing (receive (leaf_part (Prefix x)) w))) (sym e)
+    ∙ ap (λ (x : List ℕ). reads rest (Ends operator.Nothing (receive (leaf_part (Prefix x)) w))) (sym e)
 token_reads (Of (Dir path)) (Wanting w) body rest (is, b) ends =
     ap (λ (x : List ℕ). reads (x ++ rest) (Wants operand.Nothing w)) b
     ∙ ap (λ (k : ByteKind). option_and_then (reads ((escaped path ++ (125 ∷ [])) ++ rest)) (operand_begins k 123 w)) brace_kind
@@ -187,27 +187,27 @@ token_reads (Of (Dir path)) (Wanting w) body rest (is, b) ends =
 token_reads Close (Wanting w) body rest is ends = tt
 token_reads And (Wanting w) body rest is ends = tt
 token_reads Or (Wanting w) body rest is ends = tt
-token_reads And (Holding h) body rest is ends =
-    ap (λ (x : List ℕ). reads (x ++ rest) (Holds operator.Nothing h)) is
-    ∙ letter 65 (capital 65 (omega arith) (omega arith)) (78 ∷ 68 ∷ rest) h (Holds operator.A h) refl
-    ∙ sign_over rest (after_and h) ends (Holds operator.And h) refl (λ b. refl)
-token_reads Or (Holding h) body rest is ends =
-    ap (λ (x : List ℕ). reads (x ++ rest) (Holds operator.Nothing h)) is
-    ∙ letter 79 (capital 79 (omega arith) (omega arith)) (82 ∷ rest) h (Holds operator.O h) refl
-    ∙ sign_over rest (after_or h) ends (Holds operator.Or h) refl (λ b. refl)
-token_reads Close (Holding h) body rest is ends = closes (leave h) refl
+token_reads And (Ending h) body rest is ends =
+    ap (λ (x : List ℕ). reads (x ++ rest) (Ends operator.Nothing h)) is
+    ∙ letter 65 (capital 65 (omega arith) (omega arith)) (78 ∷ 68 ∷ rest) h (Ends operator.A h) refl
+    ∙ sign_over rest (after_and h) ends (Ends operator.And h) refl (λ b. refl)
+token_reads Or (Ending h) body rest is ends =
+    ap (λ (x : List ℕ). reads (x ++ rest) (Ends operator.Nothing h)) is
+    ∙ letter 79 (capital 79 (omega arith) (omega arith)) (82 ∷ rest) h (Ends operator.O h) refl
+    ∙ sign_over rest (after_or h) ends (Ends operator.Or h) refl (λ b. refl)
+token_reads Close (Ending h) body rest is ends = closes (leave h) refl
   where
-    closes : (o : Option Held) → leave h ≡ o → IfSome (option_map Holding o) (λ next. reads (body ++ rest) (Holds operator.Nothing h) ≡ reads rest (at next))
+    closes : (o : Option Ended) → leave h ≡ o → IfSome (option_map Ending o) (λ next. reads (body ++ rest) (Ends operator.Nothing h) ≡ reads rest (at next))
     closes None e = tt
     closes (Some next) e =
-        ap (λ (x : List ℕ). reads (x ++ rest) (Holds operator.Nothing h)) is
+        ap (λ (x : List ℕ). reads (x ++ rest) (Ends operator.Nothing h)) is
         ∙ ap (λ (k : ByteKind). option_and_then (reads rest) (operator_begins k 41 h)) close_kind
-        ∙ ap (λ (o : Option Held). option_and_then (reads rest) (option_map (Holds operator.Nothing) o)) e
-token_reads Open (Holding h) body rest is ends = tt
-token_reads Not (Holding h) body rest is ends = tt
-token_reads (Of (Word letters)) (Holding h) body rest is ends = tt
-token_reads (Of (Prefix letters)) (Holding h) body rest is ends = tt
-token_reads (Of (Dir path)) (Holding h) body rest is ends = tt
+        ∙ ap (λ (o : Option Ended). option_and_then (reads rest) (option_map (Ends operator.Nothing) o)) e
+token_reads Open (Ending h) body rest is ends = tt
+token_reads Not (Ending h) body rest is ends = tt
+token_reads (Of (Word letters)) (Ending h) body rest is ends = tt
+token_reads (Of (Prefix letters)) (Ending h) body rest is ends = tt
+token_reads (Of (Dir path)) (Ending h) body rest is ends = tt
 
 module _ (ts : List Token) (rest all : List ℕ) (s : Stack) (part : Part) where
   goes : (o : Option Stack) → IfSome o (λ next. reads all (at s) ≡ reads rest (at next))

@@ -6,13 +6,13 @@ use Rattle.hac_model.specs.Query.Grammar.{BeginsQuery, Reads, SpellAll, Token, t
 use Rattle.hac_model.specs.Query.QueryReading.{join_or, receive, after_and, after_or, kind_of, operand_begins, operator_begins, run_step, brace_step, path_step, escape_step, sign_ends, step, read_whole, empty_level, fresh_reader, goes_on, read_on}
 use Rattle.hac_model.specs.Query.Words.{is_word_byte, lower_case}
 use Rattle.hac_model.specs.declared.reading.ByteKind.{ByteKind}
-use Rattle.hac_model.specs.declared.reading.Held.{Held}
+use Rattle.hac_model.specs.declared.reading.Ended.{Ended}
 use Rattle.hac_model.specs.declared.reading.Level.{Level}
 use Rattle.hac_model.specs.declared.reading.Operand.TheVariants as operand
 use Rattle.hac_model.specs.declared.reading.Operator.TheVariants as operator
 use Rattle.hac_model.specs.declared.reading.Part.{Part}
 use Rattle.hac_model.specs.declared.reading.Reader.{Reader}
-use Rattle.hac_model.specs.declared.reading.Reader.TheVariants.{Wants, Holds}
+use Rattle.hac_model.specs.declared.reading.Reader.TheVariants.{Wants, Ends}
 use Rattle.hac_model.specs.declared.reading.Stack.TheVariants.{Wanting}
 use Rattle.hac_model.specs.declared.reading.Wanted.{Wanted}
 use Rattle.query_text.proofs.ByteLemmas.{reads, spelled_reads}
@@ -52,12 +52,12 @@ more_of (Wants (operand.Run run) w) = 42 ∷ closings w.outer
 more_of (Wants operand.Brace w) = 47 ∷ 125 ∷ closings w.outer
 more_of (Wants (operand.Path path) w) = 125 ∷ closings w.outer
 more_of (Wants (operand.Escape path) w) = 92 ∷ 125 ∷ closings w.outer
-more_of (Holds operator.Nothing h) = closings h.outer
-more_of (Holds operator.A h) = 78 ∷ 68 ∷ 32 ∷ ending (after_and h)
-more_of (Holds operator.An h) = 68 ∷ 32 ∷ ending (after_and h)
-more_of (Holds operator.And h) = 32 ∷ ending (after_and h)
-more_of (Holds operator.O h) = 82 ∷ 32 ∷ ending (after_or h)
-more_of (Holds operator.Or h) = 32 ∷ ending (after_or h)
+more_of (Ends operator.Nothing h) = closings h.outer
+more_of (Ends operator.A h) = 78 ∷ 68 ∷ 32 ∷ ending (after_and h)
+more_of (Ends operator.An h) = 68 ∷ 32 ∷ ending (after_and h)
+more_of (Ends operator.And h) = 32 ∷ ending (after_and h)
+more_of (Ends operator.O h) = 82 ∷ 32 ∷ ending (after_or h)
+more_of (Ends operator.Or h) = 32 ∷ ending (after_or h)
 
 abbrev Leads : List ℕ → Reader → Type 0
 Leads bytes reader = (part : Part) × (reads bytes reader ≡ Some part)
@@ -67,20 +67,20 @@ module _ (bytes : List ℕ) where
       → (part : Part) × (option_and_then (reads bytes) (f found) ≡ Some part)
   on_kind f k found next is e (part, leads) = (part, ap (λ (k : ByteKind). option_and_then (reads bytes) (f k)) is ∙ ap (option_and_then (reads bytes)) e ∙ leads)
 
-closes : (ors : Option Part) (part : Part) (outer : List Level) → Leads (closings outer) (Holds operator.Nothing (record { ors = ors; part = part; outer = outer }))
+closes : (ors : Option Part) (part : Part) (outer : List Level) → Leads (closings outer) (Ends operator.Nothing (record { ors = ors; part = part; outer = outer }))
 closes ors part [] = (join_or ors part, refl)
 closes ors part (l ∷ outer) =
     let w : Wanted = record { level = l; outer = outer } in
-    let h : Held = receive (group_part (join_or ors part)) w in
-    on_kind (closings outer) (λ k. operator_begins k 41 (record { ors = ors; part = part; outer = l ∷ outer })) _ (kind_of 41) (Holds operator.Nothing h) close_kind refl
+    let h : Ended = receive (group_part (join_or ors part)) w in
+    on_kind (closings outer) (λ k. operator_begins k 41 (record { ors = ors; part = part; outer = l ∷ outer })) _ (kind_of 41) (Ends operator.Nothing h) close_kind refl
     (closes h.ors h.part outer)
 
-received : (part : Part) (w : Wanted) → Leads (closings w.outer) (Holds operator.Nothing (receive part w))
-received part w = let h : Held = receive part w in closes h.ors h.part w.outer
+received : (part : Part) (w : Wanted) → Leads (closings w.outer) (Ends operator.Nothing (receive part w))
+received part w = let h : Ended = receive part w in closes h.ors h.part w.outer
 
 starred : (run : List ℕ) (w : Wanted) → Leads (42 ∷ closings w.outer) (Wants (operand.Run run) w)
 starred run w =
-    on_kind (closings w.outer) (λ k. run_step k 42 run w) _ (kind_of 42) (Holds operator.Nothing (receive (leaf_part (Prefix (lower_case run))) w)) star_kind refl
+    on_kind (closings w.outer) (λ k. run_step k 42 run w) _ (kind_of 42) (Ends operator.Nothing (receive (leaf_part (Prefix (lower_case run))) w)) star_kind refl
     (received (leaf_part (Prefix (lower_case run))) w)
 
 a_word : is_word_byte 97 ≡ true
@@ -94,7 +94,7 @@ wanted w =
 
 pathed : (path : List ℕ) (w : Wanted) → Leads (125 ∷ closings w.outer) (Wants (operand.Path path) w)
 pathed path w =
-    on_kind (closings w.outer) (λ k. path_step k 125 path w) _ (kind_of 125) (Holds operator.Nothing (receive (leaf_part (Dir path)) w)) end_brace_kind refl
+    on_kind (closings w.outer) (λ k. path_step k 125 path w) _ (kind_of 125) (Ends operator.Nothing (receive (leaf_part (Dir path)) w)) end_brace_kind refl
     (received (leaf_part (Dir path)) w)
 
 spaced_sign : (reader : Reader) (w : Wanted) → ((k : ByteKind) → step 32 reader ≡ sign_ends (kind_of 32) 32 w) → Leads (32 ∷ ending w) reader
@@ -110,12 +110,12 @@ leads (Wants operand.Brace w) =
 leads (Wants (operand.Path path) w) = pathed path w
 leads (Wants (operand.Escape path) w) =
     on_kind (125 ∷ closings w.outer) (λ k. escape_step k 92 path w) _ (kind_of 92) (Wants (operand.Path (path ++ (92 ∷ []))) w) backslash_kind refl (pathed (path ++ (92 ∷ [])) w)
-leads (Holds operator.Nothing h) = closes h.ors h.part h.outer
-leads (Holds operator.A h) = spaced_sign (Holds operator.And h) (after_and h) (λ k. refl)
-leads (Holds operator.An h) = spaced_sign (Holds operator.And h) (after_and h) (λ k. refl)
-leads (Holds operator.And h) = spaced_sign (Holds operator.And h) (after_and h) (λ k. refl)
-leads (Holds operator.O h) = spaced_sign (Holds operator.Or h) (after_or h) (λ k. refl)
-leads (Holds operator.Or h) = spaced_sign (Holds operator.Or h) (after_or h) (λ k. refl)
+leads (Ends operator.Nothing h) = closes h.ors h.part h.outer
+leads (Ends operator.A h) = spaced_sign (Ends operator.And h) (after_and h) (λ k. refl)
+leads (Ends operator.An h) = spaced_sign (Ends operator.And h) (after_and h) (λ k. refl)
+leads (Ends operator.And h) = spaced_sign (Ends operator.And h) (after_and h) (λ k. refl)
+leads (Ends operator.O h) = spaced_sign (Ends operator.Or h) (after_or h) (λ k. refl)
+leads (Ends operator.Or h) = spaced_sign (Ends operator.Or h) (after_or h) (λ k. refl)
 
 -- Where reading stops.
 
@@ -144,15 +144,15 @@ pub record Stops (place : ℕ) (bytes : List ℕ) (reader : Reader) (at : ℕ) :
   pub dead : many < length bytes → after (take (suc many) bytes) reader ≡ None
   pub unread : reads bytes reader ≡ None
 
-abbrev Told : ℕ → List ℕ → Reader → Result Part ℕ → Type 0
-Told place bytes reader (Ok part) = reads bytes reader ≡ Some part
-Told place bytes reader (Err at) = Stops place bytes reader at
+abbrev NamedDir : ℕ → List ℕ → Reader → Result Part ℕ → Type 0
+NamedDir place bytes reader (Ok part) = reads bytes reader ≡ Some part
+NamedDir place bytes reader (Err at) = Stops place bytes reader at
 
 no_more : (bytes : List ℕ) (reader : Reader) (n : ℕ) → n ≤ 0 → (next : Reader) × (after (take n bytes) reader ≡ Some next)
 no_more bytes reader zero h = (reader, refl)
 no_more bytes reader (suc n) h = absurd (omega arith)
 
-told_end : (place : ℕ) (reader : Reader) (o : Option Part) → read_whole reader ≡ o → Told place [] reader (ok_or o place)
+told_end : (place : ℕ) (reader : Reader) (o : Option Part) → read_whole reader ≡ o → NamedDir place [] reader (ok_or o place)
 told_end place reader (Some part) e = e
 told_end place reader None e = record {
   many = 0;
@@ -164,7 +164,7 @@ told_end place reader None e = record {
 }
 
 module _ (place b : ℕ) (bytes : List ℕ) (reader next : Reader) (e : step b reader ≡ Some next) where
-  told_more : (result : Result Part ℕ) → Told (place + 1) bytes next result → Told place (b ∷ bytes) reader result
+  told_more : (result : Result Part ℕ) → NamedDir (place + 1) bytes next result → NamedDir place (b ∷ bytes) reader result
   told_more (Ok part) told = ap (option_and_then (reads bytes)) e ∙ told
   told_more (Err at) told = record {
     many = suc told.many;
@@ -182,7 +182,7 @@ module _ (place b : ℕ) (bytes : List ℕ) (reader next : Reader) (e : step b r
           (there.0, ap (option_and_then (after (take n bytes))) e ∙ there.1)
 
 told_byte : (place b : ℕ) (bytes : List ℕ) (reader : Reader) (follow : Reader → Result Part ℕ) (o : Option Reader) → step b reader ≡ o
-    → ((next : Reader) → Told (place + 1) bytes next (follow next)) → Told place (b ∷ bytes) reader (goes_on place follow o)
+    → ((next : Reader) → NamedDir (place + 1) bytes next (follow next)) → NamedDir place (b ∷ bytes) reader (goes_on place follow o)
 told_byte place b bytes reader follow None e told = record {
   many = 0;
   is = omega arith;
@@ -193,7 +193,7 @@ told_byte place b bytes reader follow None e told = record {
 }
 told_byte place b bytes reader follow (Some next) e told = told_more place b bytes reader next e (follow next) (told next)
 
-told : (bytes : List ℕ) (place : ℕ) (reader : Reader) → Told place bytes reader (read_on place bytes reader)
+told : (bytes : List ℕ) (place : ℕ) (reader : Reader) → NamedDir place bytes reader (read_on place bytes reader)
 unfolding read_on
 told [] place reader = told_end place reader (read_whole reader) refl
 told (b ∷ bytes) place reader = told_byte place b bytes reader (read_on (place + 1) bytes) (step b reader) refl (λ next. told bytes (place + 1) next)
@@ -214,7 +214,7 @@ begins_none bytes e (more, part, is) =
 unread_none : (bytes : List ℕ) → reads bytes fresh_reader ≡ None → (part : Part) → Reads bytes part → ⊥
 unread_none bytes e part is = let h : Some part ≡ None = sym (is_reads bytes part is) ∙ e in cc
 
-found : (bytes : List ℕ) (result : Result Part ℕ) → Told 1 bytes fresh_reader result → IsFound bytes result
+found : (bytes : List ℕ) (result : Result Part ℕ) → NamedDir 1 bytes fresh_reader result → IsFound bytes result
 found bytes (Ok part) told = reads_is bytes part told
 found bytes (Err at) told =
     let is : at ≡ suc told.many = told.is ∙ omega arith in

@@ -11,15 +11,15 @@ use Rattle.hac_model.specs.Query.QueryReading.{enter, negate, receive, after_and
 use Rattle.hac_model.specs.Query.Words.{is_word_byte, lower_case}
 use Rattle.hac_model.specs.declared.reading.ByteKind.{ByteKind}
 use Rattle.hac_model.specs.declared.reading.ByteKind.TheVariants as kind
-use Rattle.hac_model.specs.declared.reading.Held.{Held}
+use Rattle.hac_model.specs.declared.reading.Ended.{Ended}
 use Rattle.hac_model.specs.declared.reading.Operand.TheVariants as operand
 use Rattle.hac_model.specs.declared.reading.Operator.{Operator}
 use Rattle.hac_model.specs.declared.reading.Operator.TheVariants as operator
 use Rattle.hac_model.specs.declared.reading.Part.{Part}
 use Rattle.hac_model.specs.declared.reading.Reader.{Reader}
-use Rattle.hac_model.specs.declared.reading.Reader.TheVariants.{Wants, Holds}
+use Rattle.hac_model.specs.declared.reading.Reader.TheVariants.{Wants, Ends}
 use Rattle.hac_model.specs.declared.reading.Stack.{Stack}
-use Rattle.hac_model.specs.declared.reading.Stack.TheVariants.{Wanting, Holding}
+use Rattle.hac_model.specs.declared.reading.Stack.TheVariants.{Wanting, Ending}
 use Rattle.hac_model.specs.declared.reading.Wanted.{Wanted}
 use Rattle.query_text.proofs.ByteLemmas.{reads}
 use Rattle.query_text.proofs.KindLemmas.{IsKind, kind_is, IsEnd, kind_ends, IsPathKind, path_bare}
@@ -32,12 +32,12 @@ pending (Wants (operand.Run run) w) = run
 pending (Wants operand.Brace w) = 123 ∷ []
 pending (Wants (operand.Path path) w) = 123 ∷ escaped path
 pending (Wants (operand.Escape path) w) = 123 ∷ (escaped path ++ (92 ∷ []))
-pending (Holds operator.Nothing h) = []
-pending (Holds operator.A h) = 65 ∷ []
-pending (Holds operator.An h) = 65 ∷ 78 ∷ []
-pending (Holds operator.And h) = 65 ∷ 78 ∷ 68 ∷ []
-pending (Holds operator.O h) = 79 ∷ []
-pending (Holds operator.Or h) = 79 ∷ 82 ∷ []
+pending (Ends operator.Nothing h) = []
+pending (Ends operator.A h) = 65 ∷ []
+pending (Ends operator.An h) = 65 ∷ 78 ∷ []
+pending (Ends operator.And h) = 65 ∷ 78 ∷ 68 ∷ []
+pending (Ends operator.O h) = 79 ∷ []
+pending (Ends operator.Or h) = 79 ∷ 82 ∷ []
 
 -- they are those of such a token
 abbrev pub Proper : Reader → Type 0
@@ -48,7 +48,7 @@ Proper other = ⊤
 
 abbrev pub before : Reader → Stack
 before (Wants read w) = Wanting w
-before (Holds read h) = Holding h
+before (Ends read h) = Ending h
 
 -- the bytes spell tokens that lead to the query
 abbrev pub Shown : List ℕ → Stack → Part → Type 0
@@ -90,7 +90,7 @@ unfolding after_run
 run_token run w is = pick (bytes_eq run (codes "NOT")) (is_operator run) refl refl
   where
     pick : (a b : Bool) → bytes_eq run (codes "NOT") ≡ a → is_operator run ≡ b
-        → IfSome (cond a (Some (Wanting (negate w))) (cond b None (Some (Holding (receive (leaf_part (Word (lower_case run))) w)))))
+        → IfSome (cond a (Some (Wanting (negate w))) (cond b None (Some (Ending (receive (leaf_part (Word (lower_case run))) w)))))
         (λ next. (t : Token) × Spells t run × (feed t (Wanting w) ≡ Some next) × ((rest : List ℕ) → EndsRun rest → EndsToken t rest))
     pick true b e f = (Not, (bytes_eq-Decides run (codes "NOT")).0 e, refl, λ rest ends. ends)
     pick false true e f = tt
@@ -126,21 +126,21 @@ module _ (bytes : List ℕ) (part : Part) (known : (reader : Reader) → Proper 
   wanted_shown kind.Control b w is e = cc
   wanted_shown kind.Foreign b w is e = cc
 
-  sign_shown : (t u : Bool) (b : ℕ) (h : Held) → (b == 65) ≡ t → (b == 79) ≡ u
-      → option_and_then (reads bytes) (cond t (Some (Holds operator.A h)) (cond u (Some (Holds operator.O h)) None)) ≡ Some part → Shown (b ∷ bytes) (Holding h) part
-  sign_shown true u b h is other e = subst (λ (x : ℕ). Shown (x ∷ bytes) (Holding h) part) (sym (eqb-true b 65 is)) (known (Holds operator.A h) tt e)
-  sign_shown false true b h is other e = subst (λ (x : ℕ). Shown (x ∷ bytes) (Holding h) part) (sym (eqb-true b 79 other)) (known (Holds operator.O h) tt e)
+  sign_shown : (t u : Bool) (b : ℕ) (h : Ended) → (b == 65) ≡ t → (b == 79) ≡ u
+      → option_and_then (reads bytes) (cond t (Some (Ends operator.A h)) (cond u (Some (Ends operator.O h)) None)) ≡ Some part → Shown (b ∷ bytes) (Ending h) part
+  sign_shown true u b h is other e = subst (λ (x : ℕ). Shown (x ∷ bytes) (Ending h) part) (sym (eqb-true b 65 is)) (known (Ends operator.A h) tt e)
+  sign_shown false true b h is other e = subst (λ (x : ℕ). Shown (x ∷ bytes) (Ending h) part) (sym (eqb-true b 79 other)) (known (Ends operator.O h) tt e)
   sign_shown false false b h is other e = cc
 
-  close_shown : (b : ℕ) (h : Held) (o : Option Held) → b ≡ 41 → leave h ≡ o → option_and_then (reads bytes) (option_map (Holds operator.Nothing) o) ≡ Some part → Shown (b ∷ bytes) (Holding h) part
+  close_shown : (b : ℕ) (h : Ended) (o : Option Ended) → b ≡ 41 → leave h ≡ o → option_and_then (reads bytes) (option_map (Ends operator.Nothing) o) ≡ Some part → Shown (b ∷ bytes) (Ending h) part
   close_shown b h None is left e = cc
   close_shown b h (Some next) is left e =
-      token_shown Close (Holding h) (Holding next) (b ∷ []) bytes part (ap (λ (x : ℕ). x ∷ []) is) tt (ap (option_map Holding) left) (known (Holds operator.Nothing next) tt e)
+      token_shown Close (Ending h) (Ending next) (b ∷ []) bytes part (ap (λ (x : ℕ). x ∷ []) is) tt (ap (option_map Ending) left) (known (Ends operator.Nothing next) tt e)
 
   -- where an operand ended
-  held_shown : (k : ByteKind) (b : ℕ) (h : Held) → IsKind k b → option_and_then (reads bytes) (operator_begins k b h) ≡ Some part → Shown (b ∷ bytes) (Holding h) part
+  held_shown : (k : ByteKind) (b : ℕ) (h : Ended) → IsKind k b → option_and_then (reads bytes) (operator_begins k b h) ≡ Some part → Shown (b ∷ bytes) (Ending h) part
   held_shown kind.Word b h is e = sign_shown (b == 65) (b == 79) b h refl refl e
-  held_shown kind.Space b h is e = subst (λ (x : ℕ). Shown (x ∷ bytes) (Holding h) part) (sym is) (space_shown bytes (Holding h) part (known (Holds operator.Nothing h) tt e))
+  held_shown kind.Space b h is e = subst (λ (x : ℕ). Shown (x ∷ bytes) (Ending h) part) (sym is) (space_shown bytes (Ending h) part (known (Ends operator.Nothing h) tt e))
   held_shown kind.Close b h is e = close_shown b h (leave h) is refl e
   held_shown kind.Open b h is e = cc
   held_shown kind.Brace b h is e = cc
@@ -153,7 +153,7 @@ module _ (bytes : List ℕ) (part : Part) (known : (reader : Reader) → Proper 
 
   begun_shown : (k : ByteKind) (b : ℕ) (s : Stack) → IsKind k b → option_and_then (reads bytes) (token_begins k b s) ≡ Some part → Shown (b ∷ bytes) s part
   begun_shown k b (Wanting w) is e = wanted_shown k b w is e
-  begun_shown k b (Holding h) is e = held_shown k b h is e
+  begun_shown k b (Ending h) is e = held_shown k b h is e
 
   and_then_again : {A B C : Type 0} (f : B → Option C) (g : A → Option B) (o : Option A)
       → option_and_then f (option_and_then g o) ≡ option_and_then (λ x. option_and_then f (g x)) o
@@ -173,8 +173,8 @@ module _ (bytes : List ℕ) (part : Part) (known : (reader : Reader) → Proper 
       subst (λ (x : List ℕ). Shown x (Wanting w) part) (append_assoc run (b ∷ []) bytes) (known (Wants (operand.Run (run ++ (b ∷ []))) w) (run_more run b proper is) e)
   in_run kind.Star b run w is proper e =
       subst (λ (x : List ℕ). Shown x (Wanting w) part) (append_assoc run (b ∷ []) bytes)
-      (token_shown (Of (Prefix (lower_case run))) (Wanting w) (Holding (receive (leaf_part (Prefix (lower_case run))) w)) (run ++ (b ∷ [])) bytes part
-      (run, proper, refl, ap (λ (x : ℕ). run ++ (x ∷ [])) is) tt refl (known (Holds operator.Nothing (receive (leaf_part (Prefix (lower_case run))) w)) tt e))
+      (token_shown (Of (Prefix (lower_case run))) (Wanting w) (Ending (receive (leaf_part (Prefix (lower_case run))) w)) (run ++ (b ∷ [])) bytes part
+      (run, proper, refl, ap (λ (x : ℕ). run ++ (x ∷ [])) is) tt refl (known (Ends operator.Nothing (receive (leaf_part (Prefix (lower_case run))) w)) tt e))
   in_run kind.Space b run w is proper e = ended_run kind.Space b run w is tt proper e
   in_run kind.Open b run w is proper e = ended_run kind.Open b run w is tt proper e
   in_run kind.Close b run w is proper e = ended_run kind.Close b run w is tt proper e
@@ -215,8 +215,8 @@ module _ (bytes : List ℕ) (part : Part) (known : (reader : Reader) → Proper 
       → option_and_then (reads bytes) (path_step k b path w) ≡ Some part → Shown (123 ∷ (escaped path ++ (b ∷ bytes))) (Wanting w) part
   in_path kind.EndBrace b path w is proper e =
       subst (λ (x : List ℕ). Shown x (Wanting w) part) (ap (λ (x : List ℕ). 123 ∷ x) (append_assoc (escaped path) (b ∷ []) bytes))
-      (token_shown (Of (Dir path)) (Wanting w) (Holding (receive (leaf_part (Dir path)) w)) (123 ∷ (escaped path ++ (b ∷ []))) bytes part
-      (proper, ap (λ (x : ℕ). 123 ∷ (escaped path ++ (x ∷ []))) is) tt refl (known (Holds operator.Nothing (receive (leaf_part (Dir path)) w)) tt e))
+      (token_shown (Of (Dir path)) (Wanting w) (Ending (receive (leaf_part (Dir path)) w)) (123 ∷ (escaped path ++ (b ∷ []))) bytes part
+      (proper, ap (λ (x : ℕ). 123 ∷ (escaped path ++ (x ∷ []))) is) tt refl (known (Ends operator.Nothing (receive (leaf_part (Dir path)) w)) tt e))
   in_path kind.Backslash b path w is proper e =
       subst (λ (x : List ℕ). Shown x (Wanting w) part)
       (ap (λ (x : List ℕ). 123 ∷ x) (append_assoc (escaped path) (92 ∷ []) bytes ∙ ap (λ (x : ℕ). escaped path ++ (x ∷ bytes)) (sym is)))
@@ -259,13 +259,13 @@ module _ (bytes : List ℕ) (part : Part) (known : (reader : Reader) → Proper 
   in_escape kind.Foreign b path w is proper e = cc
 
   -- behind an operator
-  in_sign : (k : ByteKind) (b : ℕ) (t : Token) (body : List ℕ) (h : Held) (w : Wanted) → IsKind k b → Spells t body → feed t (Holding h) ≡ Some (Wanting w)
-      → ((rest : List ℕ) → EndsRun rest → EndsToken t rest) → option_and_then (reads bytes) (sign_ends k b w) ≡ Some part → Shown (body ++ (b ∷ bytes)) (Holding h) part
+  in_sign : (k : ByteKind) (b : ℕ) (t : Token) (body : List ℕ) (h : Ended) (w : Wanted) → IsKind k b → Spells t body → feed t (Ending h) ≡ Some (Wanting w)
+      → ((rest : List ℕ) → EndsRun rest → EndsToken t rest) → option_and_then (reads bytes) (sign_ends k b w) ≡ Some part → Shown (body ++ (b ∷ bytes)) (Ending h) part
   in_sign kind.Word b t body h w is spells fed may e = cc
   in_sign kind.Star b t body h w is spells fed may e = cc
-  in_sign kind.Space b t body h w is spells fed may e = token_shown t (Holding h) (Wanting w) body (b ∷ bytes) part spells (may (b ∷ bytes) (kind_ends kind.Space b is tt)) fed (wanted_shown kind.Space b w is e)
-  in_sign kind.Open b t body h w is spells fed may e = token_shown t (Holding h) (Wanting w) body (b ∷ bytes) part spells (may (b ∷ bytes) (kind_ends kind.Open b is tt)) fed (wanted_shown kind.Open b w is e)
-  in_sign kind.Brace b t body h w is spells fed may e = token_shown t (Holding h) (Wanting w) body (b ∷ bytes) part spells (may (b ∷ bytes) (kind_ends kind.Brace b is tt)) fed (wanted_shown kind.Brace b w is e)
+  in_sign kind.Space b t body h w is spells fed may e = token_shown t (Ending h) (Wanting w) body (b ∷ bytes) part spells (may (b ∷ bytes) (kind_ends kind.Space b is tt)) fed (wanted_shown kind.Space b w is e)
+  in_sign kind.Open b t body h w is spells fed may e = token_shown t (Ending h) (Wanting w) body (b ∷ bytes) part spells (may (b ∷ bytes) (kind_ends kind.Open b is tt)) fed (wanted_shown kind.Open b w is e)
+  in_sign kind.Brace b t body h w is spells fed may e = token_shown t (Ending h) (Wanting w) body (b ∷ bytes) part spells (may (b ∷ bytes) (kind_ends kind.Brace b is tt)) fed (wanted_shown kind.Brace b w is e)
   in_sign kind.Close b t body h w is spells fed may e = cc
   in_sign kind.EndBrace b t body h w is spells fed may e = cc
   in_sign kind.Backslash b t body h w is spells fed may e = cc
@@ -273,15 +273,15 @@ module _ (bytes : List ℕ) (part : Part) (known : (reader : Reader) → Proper 
   in_sign kind.Control b t body h w is spells fed may e = cc
   in_sign kind.Foreign b t body h w is spells fed may e = cc
 
-  letter_shown : (t : Bool) (b c : ℕ) (body : List ℕ) (h : Held) (next : Operator) → (b == c) ≡ t → pending (Holds next h) ≡ body ++ (c ∷ [])
-      → option_and_then (reads bytes) (cond t (Some (Holds next h)) None) ≡ Some part → Shown (body ++ (b ∷ bytes)) (Holding h) part
+  letter_shown : (t : Bool) (b c : ℕ) (body : List ℕ) (h : Ended) (next : Operator) → (b == c) ≡ t → pending (Ends next h) ≡ body ++ (c ∷ [])
+      → option_and_then (reads bytes) (cond t (Some (Ends next h)) None) ≡ Some part → Shown (body ++ (b ∷ bytes)) (Ending h) part
   letter_shown false b c body h next is more e = cc
   letter_shown true b c body h next is more e =
-      subst (λ (x : List ℕ). Shown x (Holding h) part)
+      subst (λ (x : List ℕ). Shown x (Ending h) part)
       (ap (λ (x : List ℕ). x ++ bytes) more ∙ append_assoc body (c ∷ []) bytes ∙ ap (λ (x : ℕ). body ++ (x ∷ bytes)) (sym (eqb-true b c is)))
-      (known (Holds next h) (any next) e)
+      (known (Ends next h) (any next) e)
     where
-      any : (next : Operator) → Proper (Holds next h)
+      any : (next : Operator) → Proper (Ends next h)
       any operator.Nothing = tt
       any operator.A = tt
       any operator.An = tt
@@ -296,12 +296,12 @@ module _ (bytes : List ℕ) (part : Part) (known : (reader : Reader) → Proper 
   byte_shown k b (Wants operand.Brace w) is proper e = in_brace k b w is e
   byte_shown k b (Wants (operand.Path path) w) is proper e = in_path k b path w is proper e
   byte_shown k b (Wants (operand.Escape path) w) is proper e = in_escape k b path w is proper e
-  byte_shown k b (Holds operator.Nothing h) is proper e = held_shown k b h is e
-  byte_shown k b (Holds operator.A h) is proper e = letter_shown (b == 78) b 78 (65 ∷ []) h operator.An refl refl e
-  byte_shown k b (Holds operator.An h) is proper e = letter_shown (b == 68) b 68 (65 ∷ 78 ∷ []) h operator.And refl refl e
-  byte_shown k b (Holds operator.And h) is proper e = in_sign k b And (65 ∷ 78 ∷ 68 ∷ []) h (after_and h) is refl refl (λ rest ends. ends) e
-  byte_shown k b (Holds operator.O h) is proper e = letter_shown (b == 82) b 82 (79 ∷ []) h operator.Or refl refl e
-  byte_shown k b (Holds operator.Or h) is proper e = in_sign k b Or (79 ∷ 82 ∷ []) h (after_or h) is refl refl (λ rest ends. ends) e
+  byte_shown k b (Ends operator.Nothing h) is proper e = held_shown k b h is e
+  byte_shown k b (Ends operator.A h) is proper e = letter_shown (b == 78) b 78 (65 ∷ []) h operator.An refl refl e
+  byte_shown k b (Ends operator.An h) is proper e = letter_shown (b == 68) b 68 (65 ∷ 78 ∷ []) h operator.And refl refl e
+  byte_shown k b (Ends operator.And h) is proper e = in_sign k b And (65 ∷ 78 ∷ 68 ∷ []) h (after_and h) is refl refl (λ rest ends. ends) e
+  byte_shown k b (Ends operator.O h) is proper e = letter_shown (b == 82) b 82 (79 ∷ []) h operator.Or refl refl e
+  byte_shown k b (Ends operator.Or h) is proper e = in_sign k b Or (79 ∷ 82 ∷ []) h (after_or h) is refl refl (λ rest ends. ends) e
 
 end_shown : (reader : Reader) (part : Part) → Proper reader → read_whole reader ≡ Some part → Shown (pending reader ++ []) (before reader) part
 end_shown (Wants operand.Nothing w) part proper e = cc
@@ -309,12 +309,12 @@ end_shown (Wants (operand.Run run) w) part proper e = run_shown run [] w part en
 end_shown (Wants operand.Brace w) part proper e = cc
 end_shown (Wants (operand.Path path) w) part proper e = cc
 end_shown (Wants (operand.Escape path) w) part proper e = cc
-end_shown (Holds operator.Nothing h) part proper e = ([], (zero, refl), e)
-end_shown (Holds operator.A h) part proper e = cc
-end_shown (Holds operator.An h) part proper e = cc
-end_shown (Holds operator.And h) part proper e = cc
-end_shown (Holds operator.O h) part proper e = cc
-end_shown (Holds operator.Or h) part proper e = cc
+end_shown (Ends operator.Nothing h) part proper e = ([], (zero, refl), e)
+end_shown (Ends operator.A h) part proper e = cc
+end_shown (Ends operator.An h) part proper e = cc
+end_shown (Ends operator.And h) part proper e = cc
+end_shown (Ends operator.O h) part proper e = cc
+end_shown (Ends operator.Or h) part proper e = cc
 
 -- bytes that lead to a query spell tokens that do
 pub shown : (bytes : List ℕ) (part : Part) (reader : Reader) → Proper reader → reads bytes reader ≡ Some part → Shown (pending reader ++ bytes) (before reader) part

@@ -7,17 +7,17 @@ use Rattle.hac_model.specs.Query.QueryReading.{join_and, join_or, nots_part, emp
 use Rattle.hac_model.specs.declared.reading.Level.{Level}
 use Rattle.hac_model.specs.declared.reading.Part.{Part}
 use Rattle.hac_model.specs.declared.reading.Stack.{Stack}
-use Rattle.hac_model.specs.declared.reading.Stack.TheVariants.{Wanting, Holding}
+use Rattle.hac_model.specs.declared.reading.Stack.TheVariants.{Wanting, Ending}
 use Rattle.hac_model.specs.declared.reading.Wanted.{Wanted}
 
 -- a token behind what was read
 abbrev pub feed : Token → Stack → Option Stack
 feed Open (Wanting w) = Some (Wanting (enter w))
 feed Not (Wanting w) = Some (Wanting (negate w))
-feed (Of l) (Wanting w) = Some (Holding (receive (leaf_part l) w))
-feed And (Holding h) = Some (Wanting (after_and h))
-feed Or (Holding h) = Some (Wanting (after_or h))
-feed Close (Holding h) = option_map Holding (leave h)
+feed (Of l) (Wanting w) = Some (Ending (receive (leaf_part l) w))
+feed And (Ending h) = Some (Wanting (after_and h))
+feed Or (Ending h) = Some (Wanting (after_or h))
+feed Close (Ending h) = option_map Ending (leave h)
 feed other stack = None
 
 -- the query to which tokens lead behind what was read
@@ -32,7 +32,7 @@ abbrev wanting : Level → List Level → Stack
 wanting l outer = Wanting (record { level = l; outer = outer })
 
 abbrev holding : Option Part → Part → List Level → Stack
-holding ors part outer = Holding (record { ors = ors; part = part; outer = outer })
+holding ors part outer = Ending (record { ors = ors; part = part; outer = outer })
 
 -- The tokens of a tree lead to its meaning.
 
@@ -43,8 +43,8 @@ LeadsTo query t =
 LeadsTo and_rule t =
     (ors : Option Part) (outer : List Level) (rest : List Token) →
     feeds (tokens t ++ rest) (wanting (level ors None 0) outer) ≡ feeds rest (holding ors (meaning t) outer)
-LeadsTo not_rule t = (w : Wanted) (rest : List Token) → feeds (tokens t ++ rest) (Wanting w) ≡ feeds rest (Holding (receive (meaning t) w))
-LeadsTo prim t = (w : Wanted) (rest : List Token) → feeds (tokens t ++ rest) (Wanting w) ≡ feeds rest (Holding (receive (meaning t) w))
+LeadsTo not_rule t = (w : Wanted) (rest : List Token) → feeds (tokens t ++ rest) (Wanting w) ≡ feeds rest (Ending (receive (meaning t) w))
+LeadsTo prim t = (w : Wanted) (rest : List Token) → feeds (tokens t ++ rest) (Wanting w) ≡ feeds rest (Ending (receive (meaning t) w))
 
 leads : {rule : Rule} (t : Tree rule) → LeadsTo rule t
 leads (of_and t) = λ outer rest. (None, meaning t, refl, leads t None outer rest)
@@ -67,7 +67,7 @@ leads (group t) = λ w rest.
     let inner = leads t (w.level ∷ w.outer) (Close ∷ rest) in
     ap (λ (ts : List Token). feeds ts (Wanting (enter w))) (append_assoc (tokens t) (Close ∷ []) rest)
     ∙ inner.3
-    ∙ ap (λ (p : Part). feeds rest (Holding (receive (group_part p) w))) inner.2
+    ∙ ap (λ (p : Part). feeds rest (Ending (receive (group_part p) w))) inner.2
 leads (leaf l) = λ w rest. refl
 
 pub complete : (t : Tree query) → feeds (tokens t) (wanting empty_level []) ≡ Some (meaning t)
@@ -103,7 +103,7 @@ OuterOf (l ∷ outer) ts = (a : List Token) × (b : List Token) × OuterOf outer
 -- the tokens were read to this state
 abbrev Stands : Stack → List Token → Type 0
 Stands (Wanting w) ts = (a : List Token) × (b : List Token) × OuterOf w.outer a × LevelOf w.level b × (ts ≡ a ++ b)
-Stands (Holding h) ts =
+Stands (Ending h) ts =
     (a : List Token) × (b : List Token) × (c : List Token) × OuterOf h.outer a × OrsOf h.ors b × Grown and_rule c h.part × (ts ≡ a ++ (b ++ c))
 
 grow-nots : (n : ℕ) (c : List Token) (part : Part) → Grown not_rule c part → Grown not_rule (nots n ++ c) (nots_part n part)
@@ -132,7 +132,7 @@ rearranged : (a b c d e : List Token) → (a ++ (b ++ (c ++ d))) ++ e ≡ a ++ (
 rearranged a b c d e = simp append_assoc
 
 -- an operand behind the tokens
-received : (w : Wanted) (ts c : List Token) (part : Part) → Stands (Wanting w) ts → Grown prim c part → Stands (Holding (receive part w)) (ts ++ c)
+received : (w : Wanted) (ts c : List Token) (part : Part) → Stands (Wanting w) ts → Grown prim c part → Stands (Ending (receive part w)) (ts ++ c)
 received w ts c part (a, b, outer, (x, y, ors, ands, is), all) (t, e, m) =
     let negated = grow-nots w.level.nots c part (of_prim t, e, m) in
     let joined = grow-and w.level.ands y (nots w.level.nots ++ c) (nots_part w.level.nots part) ands negated in (
@@ -161,7 +161,7 @@ shut : (a b c d : List Token) → ((a ++ (b ++ (Open ∷ []))) ++ (c ++ d)) ++ (
 shut a b c d = simp append_assoc
 
 closed : (ors : Option Part) (part : Part) (outer : List Level) (ts : List Token) → Stands (holding ors part outer) ts
-    → IfSome (option_map Holding (grouped (join_or ors part) outer)) (λ s. Stands s (ts ++ (Close ∷ [])))
+    → IfSome (option_map Ending (grouped (join_or ors part) outer)) (λ s. Stands s (ts ++ (Close ∷ [])))
 closed ors part [] ts stands = tt
 closed ors part (l ∷ outer) ts (a, b, c, (x, y, below, lev, is), joins, grown, all) =
     let inner = grow-or ors b c part joins grown in
@@ -196,24 +196,24 @@ fed (Of l) (Wanting w) ts stands = received w ts (Of l ∷ []) (leaf_part l) sta
 fed Close (Wanting w) ts stands = tt
 fed And (Wanting w) ts stands = tt
 fed Or (Wanting w) ts stands = tt
-fed And (Holding h) ts (a, b, c, outer, ors, grown, all) = (
+fed And (Ending h) ts (a, b, c, outer, ors, grown, all) = (
   a,
   b ++ ((c ++ (And ∷ [])) ++ []),
   outer,
   (b, c ++ (And ∷ []), ors, (c, grown, refl), refl),
   ap (λ (ts : List Token). ts ++ (And ∷ [])) all ∙ joined a b c And,
 )
-fed Or (Holding h) ts (a, b, c, outer, ors, grown, all) = (
+fed Or (Ending h) ts (a, b, c, outer, ors, grown, all) = (
   a,
   ((b ++ c) ++ (Or ∷ [])) ++ ([] ++ []),
   outer,
   ((b ++ c) ++ (Or ∷ []), [], (b ++ c, grow-or h.ors b c h.part ors grown, refl), refl, refl),
   ap (λ (ts : List Token). ts ++ (Or ∷ [])) all ∙ chosen a b c Or,
 )
-fed Close (Holding h) ts stands = closed h.ors h.part h.outer ts stands
-fed Open (Holding h) ts stands = tt
-fed Not (Holding h) ts stands = tt
-fed (Of l) (Holding h) ts stands = tt
+fed Close (Ending h) ts stands = closed h.ors h.part h.outer ts stands
+fed Open (Ending h) ts stands = tt
+fed Not (Ending h) ts stands = tt
+fed (Of l) (Ending h) ts stands = tt
 
 finished : (ors : Option Part) (part : Part) (outer : List Level) (ts : List Token) (read : Part) → Stands (holding ors part outer) ts
     → ungrouped (join_or ors part) outer ≡ Some read → Grown query (ts ++ []) read
@@ -231,7 +231,7 @@ module _ (read : Part) (ts : List Token) (done : List Token) where
 
 grown : (ts : List Token) (s : Stack) (done : List Token) (read : Part) → Stands s done → feeds ts s ≡ Some read → Grown query (done ++ ts) read
 grown [] (Wanting w) done read stands e = cc
-grown [] (Holding h) done read stands e = finished h.ors h.part h.outer done read stands e
+grown [] (Ending h) done read stands e = finished h.ors h.part h.outer done read stands e
 grown (t ∷ ts) s done read stands e =
     let tree = goes read ts (done ++ (t ∷ [])) (feed t s) (fed t s done stands) (λ s stands e. grown ts s (done ++ (t ∷ [])) read stands e) e in
     (tree.0, tree.1 ∙ append_assoc done (t ∷ []) ts, tree.2)

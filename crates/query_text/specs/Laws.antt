@@ -14,7 +14,7 @@ use Rattle.hac_model.specs.declared.replies.Refusal.{Refusal}
 use Rattle.hac_model.specs.declared.replies.Refusal.TheVariants.{Limit}
 use Rattle.hac_model.specs.declared.reading.Part.{Part}
 use Rattle.query_text.specs.Printing.{path_at, are_known, printed_query}
-use Rattle.query_text.specs.declared.paths.Told.{Told}
+use Rattle.query_text.specs.declared.paths.NamedDir.{NamedDir}
 
 -- no bytes are two queries
 abbrev pub AtMostOneReading : Type 0
@@ -70,12 +70,12 @@ IsReadBack asked (Err (Limit word)) = ⊤
 IsReadBack asked (Err other) = ⊥
 
 -- the word that leads from the root to a directory
-abbrev pub word_to : List Told → ℕ → PathWord
+abbrev pub word_to : List NamedDir → ℕ → PathWord
 word_to paths dir = record { absolute = true; ups = 0; names = option_map_or (λ path. path) (path_at paths dir) [] }
 
 -- a query of a state as it is printed is read as that query, its directories named by the words that lead to them, but
 -- for the limits of its text
 abbrev pub PrintedQueryIsReadBack : Type 0
 PrintedQueryIsReadBack =
-    (paths : List Told) (asked : Formula ℕ) → list_all (λ told. are_names told.path) paths ≡ true → are_known paths asked ≡ true → are_terms asked ≡ true
+    (paths : List NamedDir) (asked : Formula ℕ) → list_all (λ named. are_names named.path) paths ≡ true → are_known paths asked ≡ true → are_terms asked ≡ true
     → IsReadBack (named_by (word_to paths) asked) (read_query (printed_query paths asked))

@@ -3,7 +3,7 @@ ghost use Rattle.std.specs.Prelude.{◌≡◌, ◌+◌, IfOk};
 ghost use Rattle.hac_model.specs.Query.Grammar as grammar;
 ghost use Rattle.hac_model.specs.Query.QueryReading as reading;
 
-use hac_model::reading::{Held, Level, Part, Wanted};
+use hac_model::reading::{Ended, Level, Part, Wanted};
 use hac_model::{Memory, Pile, Query};
 use std::alloc::Global;
 
@@ -47,13 +47,13 @@ pub(crate) fn negate(wanted: Wanted) -> Result<Wanted, Memory>
 }
 
 /// Behind the operand that was wanted.
-pub(crate) fn receive(alloc: Global, part: Part, wanted: Wanted) -> Result<Held, Memory>
-    ensures { IfOk result (λ held. held ≡ reading.receive part wanted) }
+pub(crate) fn receive(alloc: Global, part: Part, wanted: Wanted) -> Result<Ended, Memory>
+    ensures { IfOk result (λ ended. ended ≡ reading.receive part wanted) }
 {
     let Wanted { level, outer } = wanted;
     let Level { ors, ands, nots } = level;
     let part = and_nots(alloc, ands, nots, part)?;
-    Ok(Held { ors, part, outer })
+    Ok(Ended { ors, part, outer })
 }
 
 /// A part behind `nots` `NOT`s, joined with what comes before its `AND`.
@@ -70,10 +70,10 @@ fn and_nots(alloc: Global, ands: Option<Part>, nots: u64, part: Part) -> Result<
 }
 
 /// Behind `AND`.
-pub(crate) fn after_and(held: Held) -> Wanted
-    ensures { result ≡ reading.after_and held }
+pub(crate) fn after_and(ended: Ended) -> Wanted
+    ensures { result ≡ reading.after_and ended }
 {
-    let Held { ors, part, outer } = held;
+    let Ended { ors, part, outer } = ended;
     Wanted {
         level: Level {
             ors,
@@ -85,10 +85,10 @@ pub(crate) fn after_and(held: Held) -> Wanted
 }
 
 /// Behind `OR`.
-pub(crate) fn after_or(alloc: Global, held: Held) -> Result<Wanted, Memory>
-    ensures { IfOk result (λ wanted. wanted ≡ reading.after_or held) }
+pub(crate) fn after_or(alloc: Global, ended: Ended) -> Result<Wanted, Memory>
+    ensures { IfOk result (λ wanted. wanted ≡ reading.after_or ended) }
 {
-    let Held { ors, part, outer } = held;
+    let Ended { ors, part, outer } = ended;
     let whole = join_or(alloc, ors, part)?;
     Ok(Wanted {
         level: Level {
@@ -101,17 +101,17 @@ pub(crate) fn after_or(alloc: Global, held: Held) -> Result<Wanted, Memory>
 }
 
 /// Behind `)`.
-pub(crate) fn leave(alloc: Global, held: Held) -> Result<Option<Held>, Memory>
-    ensures { IfOk result (λ left. left ≡ reading.leave held) }
+pub(crate) fn leave(alloc: Global, ended: Ended) -> Result<Option<Ended>, Memory>
+    ensures { IfOk result (λ left. left ≡ reading.leave ended) }
 {
-    let Held { ors, part, outer } = held;
+    let Ended { ors, part, outer } = ended;
     let whole = join_or(alloc, ors, part)?;
     grouped(alloc, whole, outer)
 }
 
 /// The part in parentheses, given what comes before each open one.
-fn grouped(alloc: Global, part: Part, mut outer: Pile<Level>) -> Result<Option<Held>, Memory>
-    ensures { IfOk result (λ held. held ≡ reading.grouped part outer) }
+fn grouped(alloc: Global, part: Part, mut outer: Pile<Level>) -> Result<Option<Ended>, Memory>
+    ensures { IfOk result (λ ended. ended ≡ reading.grouped part outer) }
 {
     match outer.pop() {
         None => Ok(None),
@@ -129,10 +129,10 @@ fn grouped(alloc: Global, part: Part, mut outer: Pile<Level>) -> Result<Option<H
 }
 
 /// The query, where nothing follows.
-pub(crate) fn finish(alloc: Global, held: Held) -> Result<Option<Part>, Memory>
-    ensures { IfOk result (λ part. part ≡ reading.finish held) }
+pub(crate) fn finish(alloc: Global, ended: Ended) -> Result<Option<Part>, Memory>
+    ensures { IfOk result (λ part. part ≡ reading.finish ended) }
 {
-    let Held { ors, part, outer } = held;
+    let Ended { ors, part, outer } = ended;
     let whole = join_or(alloc, ors, part)?;
     Ok(ungrouped(whole, outer))
 }

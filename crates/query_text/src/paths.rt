@@ -7,7 +7,7 @@ use std::marker::Model;
 
 /// A directory and its path.
 #[derive(Debug, Drop)]
-pub struct Told {
+pub struct NamedDir {
     /// The directory.
     pub dir: Number,
     /// The names that lead to it from the root.
@@ -16,13 +16,13 @@ pub struct Told {
 
 /// The paths of directories: of each directory the first one that it was given.
 #[derive(Debug, Drop)]
-pub struct Paths(Vec<Told>);
+pub struct Paths(Vec<NamedDir>);
 
 impl Model for Paths {
     ghost use Rattle.std.specs.Prelude.{List};
-    ghost use Rattle.query_text.specs.declared.paths.Told.{Told};
+    ghost use Rattle.query_text.specs.declared.paths.NamedDir.{NamedDir};
 
-    ghost Value = { List Told };
+    ghost Value = { List NamedDir };
 
     ghost view = { λ paths. paths.0.items };
 }
@@ -40,12 +40,12 @@ impl Paths {
         ensures ok { OnOk result (self.new ≡ self.old ++ record { dir = dir; path = path } ∷ []) }
         ensures err { OnErr result (self.new ≡ self.old) }
     {
-        self.0.push(Told { dir, path })?;
+        self.0.push(NamedDir { dir, path })?;
         Ok(())
     }
 
     /// What was given, in order.
-    pub(crate) fn as_slice(&self) -> &[Told]
+    pub(crate) fn as_slice(&self) -> &[NamedDir]
         ensures { result.now ≡ self.now }
     {
         self.0.as_slice()

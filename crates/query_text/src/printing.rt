@@ -5,7 +5,7 @@ ghost use Rattle.hac_model.specs.Query.Grammar.{escape, escaped};
 ghost use Rattle.hac_model.specs.Query.QueryText as text;
 ghost use Rattle.query_text.specs.Printing.{are_known, dir_path, path_at, printed_query};
 
-use crate::paths::{Paths, Told};
+use crate::paths::{Paths, NamedDir};
 use hac_model::{Memory, Name, Node, Number, Path, Query, Term};
 use hac_names::print_path;
 use std::alloc::Global;
@@ -135,13 +135,13 @@ fn braced(alloc: Global, path: &Path) -> Result<Vec<u8>, Memory>
 }
 
 /// The path of a directory, if it was given one.
-fn find(paths: &[Told], dir: Number) -> Option<&Path>
+fn find(paths: &[NamedDir], dir: Number) -> Option<&Path>
     ensures { MatchOption result (path_at paths.now dir ≡ None)
         (λ path. path_at paths.now dir ≡ Some path.now) }
 {
-    for told in paths {
-        if told.dir == dir {
-            return Some(&told.path);
+    for named in paths {
+        if named.dir == dir {
+            return Some(&named.path);
         }
     }
     None

@@ -7,7 +7,7 @@ ghost use Rattle.hac_model.specs.Query.Words as words;
 
 use crate::joining::{after_and, after_or, empty_level, enter, finish, leave, negate, receive};
 use crate::kinds::kind_of;
-use hac_model::reading::{ByteKind, Held, Operand, Operator, Part, Reader, Stack, Wanted};
+use hac_model::reading::{ByteKind, Ended, Operand, Operator, Part, Reader, Stack, Wanted};
 use hac_model::{Memory, Name, Pile, Query, Term, Text};
 use std::alloc::Global;
 
@@ -32,7 +32,7 @@ pub(crate) fn step(alloc: Global, reader: Reader, byte: u8) -> Result<Option<Rea
         Reader::Wants(operand, wanted) => {
             operand_step(alloc, kind_of(byte), byte, operand, wanted)
         }
-        Reader::Holds(operator, held) => operator_step(alloc, kind_of(byte), byte, operator, held),
+        Reader::Ends(operator, ended) => operator_step(alloc, kind_of(byte), byte, operator, ended),
     }
 }
 
@@ -42,7 +42,7 @@ pub(crate) fn ended(alloc: Global, reader: Reader) -> Result<Option<Part>, Memor
 {
     match reader {
         Reader::Wants(operand, wanted) => ended_wanting(alloc, operand, wanted),
-        Reader::Holds(operator, held) => ended_holding(alloc, operator, held),
+        Reader::Ends(operator, ended) => end_behind_operand(alloc, operator, ended),
     }
 }
 
@@ -55,13 +55,13 @@ fn ended_wanting(alloc: Global, operand: Operand, wanted: Wanted) -> Result<Opti
     }
 }
 
-fn ended_holding(alloc: Global, operator: Operator, held: Held) -> Result<Option<Part>, Memory>
-    ensures { IfOk result (λ part. part ≡ reading.read_whole (Reader.Holds operator held)) }
+fn end_behind_operand(alloc: Global, operator: Operator, ended: Ended) -> Result<Option<Part>, Memory>
+    ensures { IfOk result (λ part. part ≡ reading.read_whole (Reader.Ends operator ended)) }
 {
     match operator {
-        Operator::Nothing => finish(alloc, held),
+        Operator::Nothing => finish(alloc, ended),
         _ => {
-            drop(held);
+            drop(ended);
             Ok(None)
         }
     }
@@ -72,7 +72,7 @@ fn ended_run(alloc: Global, run: Text, wanted: Wanted) -> Result<Option<Part>, M
         (reading.after_run run wanted)) }
 {
     match after_run(alloc, run, wanted)? {
-        Some(Stack::Holding(held)) => finish(alloc, held),
+        Some(Stack::Ending(ended)) => finish(alloc, ended),
         _ => Ok(None),
     }
 }
@@ -149,7 +149,7 @@ fn run_ends(
 {
     match after_run(alloc, run, wanted)? {
         Some(Stack::Wanting(wanted)) => operand_begins(alloc, kind, byte, wanted),
-        Some(Stack::Holding(held)) => operator_begins(alloc, kind, byte, held),
+        Some(Stack::Ending(ended)) => operator_begins(alloc, kind, byte, ended),
         None => Ok(None),
     }
 }
@@ -165,13 +165,13 @@ fn after_run(alloc: Global, run: Text, wanted: Wanted) -> Result<Option<Stack>, 
             drop(wanted);
             Ok(None)
         }
-        word => Ok(Some(Stack::Holding(after_word(alloc, word, wanted)?))),
+        word => Ok(Some(Stack::Ending(after_word(alloc, word, wanted)?))),
     }
 }
 
 /// Behind a word that is no operator.
-fn after_word(alloc: Global, word: &[u8], wanted: Wanted) -> Result<Held, Memory>
-    ensures { IfOk result (λ held. held ≡ reading.receive
+fn after_word(alloc: Global, word: &[u8], wanted: Wanted) -> Result<Ended, Memory>
+    ensures { IfOk result (λ ended. ended ≡ reading.receive
         (grammar.leaf_part (grammar.Word (words.lower_case word.now))) wanted) }
 {
     match lower_case(alloc, word) {
@@ -246,28 +246,28 @@ fn operator_step(
     kind: ByteKind,
     byte: u8,
     operator: Operator,
-    held: Held,
+    ended: Ended,
 ) -> Result<Option<Reader>, Memory>
-    ensures { IfOk result (λ next. next ≡ reading.operator_step kind byte operator held) }
+    ensures { IfOk result (λ next. next ≡ reading.operator_step kind byte operator ended) }
 {
     match operator {
-        Operator::Nothing => operator_begins(alloc, kind, byte, held),
-        Operator::A => Ok(letter(b'N', byte, Operator::An, held)),
-        Operator::An => Ok(letter(b'D', byte, Operator::And, held)),
-        Operator::And => sign_ends(alloc, kind, byte, after_and(held)),
-        Operator::O => Ok(letter(b'R', byte, Operator::Or, held)),
-        Operator::Or => sign_ends(alloc, kind, byte, after_or(alloc, held)?),
+        Operator::Nothing => operator_begins(alloc, kind, byte, ended),
+        Operator::A => Ok(letter(b'N', byte, Operator::An, ended)),
+        Operator::An => Ok(letter(b'D', byte, Operator::And, ended)),
+        Operator::And => sign_ends(alloc, kind, byte, after_and(ended)),
+        Operator::O => Ok(letter(b'R', byte, Operator::Or, ended)),
+        Operator::Or => sign_ends(alloc, kind, byte, after_or(alloc, ended)?),
     }
 }
 
 /// A byte that is to be the next letter of an operator.
-fn letter(wanted: u8, byte: u8, next: Operator, held: Held) -> Option<Reader>
-    ensures { result ≡ (if byte == wanted then Some (Reader.Holds next held) else None) }
+fn letter(wanted: u8, byte: u8, next: Operator, ended: Ended) -> Option<Reader>
+    ensures { result ≡ (if byte == wanted then Some (Reader.Ends next ended) else None) }
 {
     if byte == wanted {
-        Some(Reader::Holds(next, held))
+        Some(Reader::Ends(next, ended))
     } else {
-        drop(held);
+        drop(ended);
         None
     }
 }
@@ -277,41 +277,41 @@ fn operator_begins(
     alloc: Global,
     kind: ByteKind,
     byte: u8,
-    held: Held,
+    ended: Ended,
 ) -> Result<Option<Reader>, Memory>
-    ensures { IfOk result (λ next. next ≡ reading.operator_begins kind byte held) }
+    ensures { IfOk result (λ next. next ≡ reading.operator_begins kind byte ended) }
 {
     match kind {
-        ByteKind::Word => Ok(sign_begins(byte, held)),
-        ByteKind::Space => Ok(Some(Reader::Holds(Operator::Nothing, held))),
-        ByteKind::Close => closed(alloc, held),
+        ByteKind::Word => Ok(sign_begins(byte, ended)),
+        ByteKind::Space => Ok(Some(Reader::Ends(Operator::Nothing, ended))),
+        ByteKind::Close => closed(alloc, ended),
         _ => {
-            drop(held);
+            drop(ended);
             Ok(None)
         }
     }
 }
 
 /// The first letter of an operator.
-fn sign_begins(byte: u8, held: Held) -> Option<Reader>
-    ensures { result ≡ reading.sign_begins byte held }
+fn sign_begins(byte: u8, ended: Ended) -> Option<Reader>
+    ensures { result ≡ reading.sign_begins byte ended }
 {
     match byte {
-        b'A' => Some(Reader::Holds(Operator::A, held)),
-        b'O' => Some(Reader::Holds(Operator::O, held)),
+        b'A' => Some(Reader::Ends(Operator::A, ended)),
+        b'O' => Some(Reader::Ends(Operator::O, ended)),
         _ => {
-            drop(held);
+            drop(ended);
             None
         }
     }
 }
 
-fn closed(alloc: Global, held: Held) -> Result<Option<Reader>, Memory>
-    ensures { IfOk result (λ next. next ≡ option_map (Reader.Holds Operator.Nothing)
-        (reading.leave held)) }
+fn closed(alloc: Global, ended: Ended) -> Result<Option<Reader>, Memory>
+    ensures { IfOk result (λ next. next ≡ option_map (Reader.Ends Operator.Nothing)
+        (reading.leave ended)) }
 {
-    match leave(alloc, held)? {
-        Some(held) => Ok(Some(Reader::Holds(Operator::Nothing, held))),
+    match leave(alloc, ended)? {
+        Some(ended) => Ok(Some(Reader::Ends(Operator::Nothing, ended))),
         None => Ok(None),
     }
 }
@@ -336,11 +336,11 @@ fn sign_ends(
 
 /// Behind a leaf.
 fn received(alloc: Global, query: Query<Name>, wanted: Wanted) -> Result<Option<Reader>, Memory>
-    ensures { IfOk result (λ next. next ≡ Some (Reader.Holds Operator.Nothing
+    ensures { IfOk result (λ next. next ≡ Some (Reader.Ends Operator.Nothing
         (reading.receive (record { query = query; nesting = 0 }) wanted))) }
 {
-    let held = receive(alloc, leaf_part(query), wanted)?;
-    Ok(Some(Reader::Holds(Operator::Nothing, held)))
+    let ended = receive(alloc, leaf_part(query), wanted)?;
+    Ok(Some(Reader::Ends(Operator::Nothing, ended)))
 }
 
 fn leaf_part(query: Query<Name>) -> Part

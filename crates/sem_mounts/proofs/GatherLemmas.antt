@@ -9,7 +9,7 @@ use Rattle.std.specs.List.Sorted.{IsStrictlySortedBy}
 use Rattle.std.proofs.lemmas.List.{map-append, map_more, take-append-drop}
 use Rattle.std.proofs.lemmas.List.Sums.{take_while-cons}
 use Rattle.std.proofs.lemmas.Map.Made.{is_some-lookup}
-use Rattle.hac_outside.specs.Causes.{TellsFault}
+use Rattle.hac_outside.specs.Causes.{ReportsFault}
 use Rattle.hac_model.specs.declared.spaces.Asks.{Asks}
 use Rattle.hac_model.specs.declared.spaces.Search.{Search}
 use Rattle.sem_mounts.specs.Answering.{AreRisingNames}
@@ -90,7 +90,7 @@ behind : {A B : Type 0} (old now new : SpacesSeen) (front back : List (List ℕ)
 behind old now new front back answers result first then = record {
   attached = then.attached ∙ first.attached;
   contents = then.contents ∙ first.contents;
-  cause = subst (λ (n : ℕ). TellsFault (is_space_fault result) n new.faults) first.cause then.cause;
+  cause = subst (λ (n : ℕ). ReportsFault (is_space_fault result) n new.faults) first.cause then.cause;
   ends = ends-behind old now front back result first.attached first.ends then.ends;
 }
 

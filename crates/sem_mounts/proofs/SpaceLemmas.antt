@@ -8,7 +8,7 @@ use Rattle.std.specs.Str.{bytes_eq}
 use Rattle.std.proofs.lemmas.Bool.{false≢true}
 use Rattle.std.proofs.lemmas.Map.Made.{is_some-lookup}
 use Rattle.hac_outside.specs.Calls.{next_number}
-use Rattle.hac_outside.specs.Causes.{TellsFault}
+use Rattle.hac_outside.specs.Causes.{ReportsFault}
 use Rattle.sem_mounts.specs.Catalogue.{Document, catalogue}
 use Rattle.sem_mounts.specs.Memory.{is_out_of_memory}
 use Rattle.sem_mounts.specs.Reading.{attach_fault}
@@ -33,7 +33,7 @@ pub says-found : (file : List ℕ) (files : List (List ℕ × List ℕ)) (bytes 
 says-found file files bytes documents found says = rw (found, says) refl
 
 -- a fault that is counted is told
-pub told_fault : (failed : Bool) (before now : ℕ) → before < 2 ^ 64 → now ≡ (if failed then next_number before else before) → TellsFault failed before now
+pub told_fault : (failed : Bool) (before now : ℕ) → before < 2 ^ 64 → now ≡ (if failed then next_number before else before) → ReportsFault failed before now
 told_fault true before now fits counted = rw counted (omega (arith, fits), omega arith)
 told_fault false before now fits counted = counted
 

@@ -4,7 +4,7 @@ use Rattle.std.specs.List.{find, list_any, take_while}
 use Rattle.std.specs.Map.{lookup}
 use Rattle.std.specs.Option.{option_and_then, option_map, option_to_list, unwrap_or}
 use Rattle.std.specs.Str.{bytes_eq}
-use Rattle.hac_outside.specs.Causes.{TellsFault}
+use Rattle.hac_outside.specs.Causes.{ReportsFault}
 use Rattle.hac_model.specs.declared.spaces.Answers.{Answers}
 use Rattle.hac_model.specs.declared.spaces.Asks.{Asks}
 use Rattle.sem_mounts.specs.Answering.{AreRisingNames, names_with, text_at}
@@ -72,5 +72,5 @@ Ends spaces asked (Err gather.Memory) = ⊤
 pub record AreGathered {A : Type 0} (old new : SpacesSeen) (asked : List (List ℕ)) (result : Result A GatherFault) : Type 0 where
   pub attached : new.attached ≡ old.attached
   pub contents : new.contents ≡ old.contents
-  pub cause : TellsFault (is_space_fault result) old.faults new.faults
+  pub cause : ReportsFault (is_space_fault result) old.faults new.faults
   pub ends : Ends old asked result

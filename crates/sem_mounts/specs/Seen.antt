@@ -4,7 +4,7 @@ use Rattle.std.specs.List.{list_any}
 use Rattle.std.specs.Map.{lookup}
 use Rattle.std.specs.Option.{option_and_then, option_map}
 use Rattle.std.specs.Str.{bytes_eq}
-use Rattle.hac_outside.specs.Causes.{TellsFault}
+use Rattle.hac_outside.specs.Causes.{ReportsFault}
 use Rattle.sem_mounts.specs.Catalogue.{Document, catalogue}
 use Rattle.sem_mounts.specs.declared.faults.AttachFault.{AttachFault}
 use Rattle.sem_mounts.specs.declared.faults.AttachFault.TheVariants as attach
@@ -85,7 +85,7 @@ pub record AreAsked {A : Type 0} (old new : SpacesSeen) (name : List ℕ) (resul
   pub attached : new.attached ≡ old.attached
   pub contents : new.contents ≡ old.contents
   pub absent : is_absent result ≡ not (is_attached old name)
-  pub cause : TellsFault (is_failed result) old.faults new.faults
+  pub cause : ReportsFault (is_failed result) old.faults new.faults
 
 -- this is what the documents of the space say, if they are told
 abbrev pub IsSaid : {A : Type 0} → SpacesSeen → List ℕ → (List Document → A) → A → Type 0

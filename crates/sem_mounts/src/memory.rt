@@ -4,7 +4,7 @@ ghost use Rattle.std.specs.Map.{lookup};
 ghost use Rattle.std.specs.Option.{option_copied, option_map};
 ghost use Rattle.std.specs.Str.{bytes_eq};
 ghost use Rattle.hac_outside.specs.Calls.{next_number};
-ghost use Rattle.hac_outside.specs.Causes.{TellsFault};
+ghost use Rattle.hac_outside.specs.Causes.{ReportsFault};
 ghost use Rattle.sem_mounts.specs.Answering.{AreRisingNames, names_with, text_at};
 ghost use Rattle.sem_mounts.specs.Catalogue.{names};
 ghost use Rattle.sem_mounts.specs.Memory.{FailsToAnswer, FailsToAttach, IsNextCall, is_out_of_memory};
@@ -89,7 +89,7 @@ impl Spaces for MemorySpaces {
             ≡ (if is_ok result then (seen_of self.old).attached ++ name.now ∷ []
             else (seen_of self.old).attached) }
         ensures contents { Attaches name.now file.now result self.old.contents self.new.contents }
-        ensures cause { TellsFault (is_attach_failed result) self.old.faults self.new.faults }
+        ensures cause { ReportsFault (is_attach_failed result) self.old.faults self.new.faults }
 
         // Which calls fail, where there is memory.
         ensures plan { IsNextCall self.old self.new (is_attach_failed result)

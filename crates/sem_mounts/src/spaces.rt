@@ -1,7 +1,7 @@
 //! Spaces: where the documents of mounts come from.
 ghost use Rattle.std.specs.Prelude.{◌≡◌, ◌++◌, ◌∷◌, [], IfOk, IfSome, false, if◌then◌else◌, is_ok, map};
 ghost use Rattle.std.specs.Option.{option_map};
-ghost use Rattle.hac_outside.specs.Causes.{TellsFault};
+ghost use Rattle.hac_outside.specs.Causes.{ReportsFault};
 ghost use Rattle.hac_outside.specs.Known.{Known};
 ghost use Rattle.sem_mounts.specs.Answering.{AreRisingNames, names_with, text_at};
 ghost use Rattle.sem_mounts.specs.Catalogue.{names};
@@ -24,7 +24,7 @@ pub trait Spaces {
             else (seen self.old).attached) }
         ensures contents { Known (Attaches name.now file.now result)
             (seen self.old).contents (seen self.new).contents }
-        ensures cause { TellsFault (is_attach_failed result)
+        ensures cause { ReportsFault (is_attach_failed result)
             (seen self.old).faults (seen self.new).faults };
 
     /// The names of the documents of a space, rising.

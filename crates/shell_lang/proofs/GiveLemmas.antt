@@ -27,67 +27,67 @@ from_line line ended bytes rest h =
     ] h
 
 -- more behind it doesn't take a line's end away
-is_first_ended-ended : (held more : List ℕ) → position_or_len is_line_end held < length held → nat_lt (position_or_len is_line_end (held ++ more)) (length (held ++ more)) ≡ true
-is_first_ended-ended held more h = rw (position-ended held more h, length-append held more) (grind (arith, common_steps))
+is_first_ended-ended : (buffered more : List ℕ) → position_or_len is_line_end buffered < length buffered → nat_lt (position_or_len is_line_end (buffered ++ more)) (length (buffered ++ more)) ≡ true
+is_first_ended-ended buffered more h = rw (position-ended buffered more h, length-append buffered more) (grind (arith, common_steps))
 
 -- with more behind it, an ended first line is given as it is
-ended_line_given : (held more : List ℕ) (ended : Bool) → ended ≡ false → position_or_len is_line_end held < length held →
-    GivesLine (piece_of (take (position_or_len is_line_end held) held)) ended (held ++ more) (drop (position_or_len is_line_end held + 1) held ++ more)
-ended_line_given held more ended goes h =
+ended_line_given : (buffered more : List ℕ) (ended : Bool) → ended ≡ false → position_or_len is_line_end buffered < length buffered →
+    GivesLine (piece_of (take (position_or_len is_line_end buffered) buffered)) ended (buffered ++ more) (drop (position_or_len is_line_end buffered + 1) buffered ++ more)
+ended_line_given buffered more ended goes h =
     record {
-      line = ap (λ (line : List ℕ). piece_of line) (sym (first_line-ended held more h));
-      some = omega (arith, length-append held more);
-      behind = sym (after_line-ended held more h);
-      whole = λ _. is_first_ended-ended held more h;
+      line = ap (λ (line : List ℕ). piece_of line) (sym (first_line-ended buffered more h));
+      some = omega (arith, length-append buffered more);
+      behind = sym (after_line-ended buffered more h);
+      whole = λ _. is_first_ended-ended buffered more h;
       last = λ e. absurd cc;
     }
 
--- where a line with its end is held, the source has not ended
-goes_on : (reading : Reading) → (reading.ended ≡ true → IsUnended reading.held) → position_or_len is_line_end reading.held < length reading.held → reading.ended ≡ false
+-- where a line with its end is buffered, the source has not ended
+goes_on : (reading : Reading) → (reading.ended ≡ true → IsUnended reading.buffered) → position_or_len is_line_end reading.buffered < length reading.buffered → reading.ended ≡ false
 goes_on reading last inside =
-    elim reading.ended as (λ b. (b ≡ true → IsUnended reading.held) → b ≡ false) [
-      | true ↦ (λ last. let unended : IsUnended reading.held = last refl in absurd (omega (arith, unended, inside)))
+    elim reading.ended as (λ b. (b ≡ true → IsUnended reading.buffered) → b ≡ false) [
+      | true ↦ (λ last. let unended : IsUnended reading.buffered = last refl in absurd (omega (arith, unended, inside)))
       | false ↦ (λ last. refl)
     ] last
 
 -- an ended line is given of what is pending
-gives-ended : (old left : Option (List ℕ)) (mid : Reading) → Keeps old (prepend_known mid.held left) → position_or_len is_line_end mid.held < length mid.held → mid.ended ≡ false →
-    Known (GivesPiece (piece_of (take (position_or_len is_line_end mid.held) mid.held)) mid.ended) old (prepend_known (drop (position_or_len is_line_end mid.held + 1) mid.held) left)
+gives-ended : (old left : Option (List ℕ)) (mid : Reading) → Keeps old (prepend_known mid.buffered left) → position_or_len is_line_end mid.buffered < length mid.buffered → mid.ended ≡ false →
+    Known (GivesPiece (piece_of (take (position_or_len is_line_end mid.buffered) mid.buffered)) mid.ended) old (prepend_known (drop (position_or_len is_line_end mid.buffered + 1) mid.buffered) left)
 gives-ended None left mid keeps inside goes = tt
 gives-ended (Some x) None mid keeps inside goes = absurd keeps
 gives-ended (Some x) (Some y) mid keeps inside goes =
-    let line = take (position_or_len is_line_end mid.held) mid.held in
-    let rest = drop (position_or_len is_line_end mid.held + 1) mid.held ++ y in
-    subst (λ (bytes : List ℕ). GivesPiece (piece_of (take (position_or_len is_line_end mid.held) mid.held)) mid.ended bytes (drop (position_or_len is_line_end mid.held + 1) mid.held ++ y)) keeps
-    (from_line line mid.ended (mid.held ++ y) rest (ended_line_given mid.held y mid.ended goes inside))
+    let line = take (position_or_len is_line_end mid.buffered) mid.buffered in
+    let rest = drop (position_or_len is_line_end mid.buffered + 1) mid.buffered ++ y in
+    subst (λ (bytes : List ℕ). GivesPiece (piece_of (take (position_or_len is_line_end mid.buffered) mid.buffered)) mid.ended bytes (drop (position_or_len is_line_end mid.buffered + 1) mid.buffered ++ y)) keeps
+    (from_line line mid.ended (mid.buffered ++ y) rest (ended_line_given mid.buffered y mid.ended goes inside))
 
 -- the same of what the call that gives an ended line answers
 pub gives-ended-told : (result : Result Piece LineFault) (old mid new : Reading) (before after : SourceSeen) (end : ℕ) → IsReaderOf mid after → ReadsOn old mid before after →
-    IsLineFound (Ended end) mid → IfOk result (λ piece. piece ≡ piece_of (take end mid.held)) → OnOk result (new ≡ record mid { held = drop (end + 1) mid.held }) →
-    IfOk result (λ piece. Known (GivesPiece piece new.ended) (prepend_known old.held before.left) (prepend_known new.held after.left))
+    IsLineFound (Ended end) mid → IfOk result (λ piece. piece ≡ piece_of (take end mid.buffered)) → OnOk result (new ≡ record mid { buffered = drop (end + 1) mid.buffered }) →
+    IfOk result (λ piece. Known (GivesPiece piece new.ended) (prepend_known old.buffered before.left) (prepend_known new.buffered after.left))
 gives-ended-told (Ok piece) old mid new before after end source reads found piece_is new_is =
-    let inside : position_or_len is_line_end mid.held < length mid.held = rw (sym found.0) found.1 in
-    let given = gives-ended (prepend_known old.held before.left) after.left mid reads.pending inside (goes_on mid source.last inside) in
-    let here : Known (GivesPiece (piece_of (take end mid.held)) mid.ended) (prepend_known old.held before.left) (prepend_known (drop (end + 1) mid.held) after.left) =
-    subst (λ (n : ℕ). Known (GivesPiece (piece_of (take n mid.held)) mid.ended) (prepend_known old.held before.left) (prepend_known (drop (n + 1) mid.held) after.left)) (sym found.0) given in
-    subst (λ (p : Piece). Known (GivesPiece p new.ended) (prepend_known old.held before.left) (prepend_known new.held after.left)) (sym piece_is)
-    (subst (λ (r : Reading). Known (GivesPiece (piece_of (take end mid.held)) r.ended) (prepend_known old.held before.left) (prepend_known r.held after.left)) (sym new_is) here)
+    let inside : position_or_len is_line_end mid.buffered < length mid.buffered = rw (sym found.0) found.1 in
+    let given = gives-ended (prepend_known old.buffered before.left) after.left mid reads.pending inside (goes_on mid source.last inside) in
+    let here : Known (GivesPiece (piece_of (take end mid.buffered)) mid.ended) (prepend_known old.buffered before.left) (prepend_known (drop (end + 1) mid.buffered) after.left) =
+    subst (λ (n : ℕ). Known (GivesPiece (piece_of (take n mid.buffered)) mid.ended) (prepend_known old.buffered before.left) (prepend_known (drop (n + 1) mid.buffered) after.left)) (sym found.0) given in
+    subst (λ (p : Piece). Known (GivesPiece p new.ended) (prepend_known old.buffered before.left) (prepend_known new.buffered after.left)) (sym piece_is)
+    (subst (λ (r : Reading). Known (GivesPiece (piece_of (take end mid.buffered)) r.ended) (prepend_known old.buffered before.left) (prepend_known r.buffered after.left)) (sym new_is) here)
 gives-ended-told (Err fault) old mid new before after end source reads found piece_is new_is = tt
 
 -- a reader is behind a line that was given
 pub line-ended : (result : Result Piece LineFault) (mid new : Reading) (after : SourceSeen) (end : ℕ) → IsReaderOf mid after → IsLineFound (Ended end) mid →
-    OnOk result (new ≡ record mid { held = drop (end + 1) mid.held }) → OnErr result (new ≡ mid) → MatchResult result (λ _. IsReaderBehind 0 new after) (λ _. IsReaderOf new after)
+    OnOk result (new ≡ record mid { buffered = drop (end + 1) mid.buffered }) → OnErr result (new ≡ mid) → MatchResult result (λ _. IsReaderBehind 0 new after) (λ _. IsReaderOf new after)
 line-ended (Ok piece) mid new after end source found new_is same =
     subst (λ (r : Reading). IsReaderBehind 0 r after) (sym new_is) (record {
       ended = source.ended;
       nothing = source.nothing;
-      last = λ e. let unended : IsUnended mid.held = source.last e in absurd (omega (arith, unended, found.0, found.1));
-      near = omega (arith, source.near, found.0, found.1, length-drop (end + 1) mid.held);
+      last = λ e. let unended : IsUnended mid.buffered = source.last e in absurd (omega (arith, unended, found.0, found.1));
+      near = omega (arith, source.near, found.0, found.1, length-drop (end + 1) mid.buffered);
     })
 line-ended (Err fault) mid new after end source found new_is same = subst (λ (r : Reading). IsReaderOf r after) (sym same) source
 
--- and where all that is held was given
-pub line-last : (result : Result Piece LineFault) (mid new : Reading) (after : SourceSeen) → IsReaderOf mid after → OnOk result (new ≡ record mid { held = [] }) → OnErr result (new ≡ mid) →
+-- and where all that is buffered was given
+pub line-last : (result : Result Piece LineFault) (mid new : Reading) (after : SourceSeen) → IsReaderOf mid after → OnOk result (new ≡ record mid { buffered = [] }) → OnErr result (new ≡ mid) →
     MatchResult result (λ _. IsReaderBehind 0 new after) (λ _. IsReaderOf new after)
 line-last (Ok piece) mid new after source new_is same =
     subst (λ (r : Reading). IsReaderBehind 0 r after) (sym new_is) (record { ended = source.ended; nothing = source.nothing; last = λ e. refl; near = omega arith })

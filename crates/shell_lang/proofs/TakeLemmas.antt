@@ -34,23 +34,23 @@ scanned-moved start scanned count bytes begun known inside =
           omega (arith, known, behind))
     ] refl
 
--- bytes within the limit that are given from what is held leave a reader sound
-pub reading-moved : (old : Reading) (count : ℕ) → IsReading old → count ≤ within old → IsReading (record { held = drop count old.held; taken = old.taken; ended = old.ended })
+-- bytes within the limit that are given from what is buffered leave a reader sound
+pub reading-moved : (old : Reading) (count : ℕ) → IsReading old → count ≤ within old → IsReading (record { buffered = drop count old.buffered; taken = old.taken; ended = old.ended })
 reading-moved old count sound inside =
     record {
-      kept = omega (arith, sound.kept, length-drop count old.held);
+      kept = omega (arith, sound.kept, length-drop count old.buffered);
       limit = sound.limit;
       ended = sound.ended;
-      given = omega (arith, sound.given, sound.limit, inside, length-drop count old.held);
+      given = omega (arith, sound.given, sound.limit, inside, length-drop count old.buffered);
     }
 
 -- bytes that came, of which the first were given
-consumes-moved : (all after : Option (List ℕ)) (front held : List ℕ) (count : ℕ) → Consumes all (prepend_known held after) front → Consumes all (prepend_known (drop count held) after) (front ++ take count held)
-consumes-moved None after front held count h = search rules
-consumes-moved (Some x) None front held count h = absurd h
-consumes-moved (Some x) (Some y) front held count h =
-    h ∙ ap (λ (xs : List ℕ). front ++ (xs ++ y)) (sym (take-append-drop count held)) ∙ ap (λ (xs : List ℕ). front ++ xs) (append_assoc (take count held) (drop count held) y)
-    ∙ sym (append_assoc front (take count held) (drop count held ++ y))
+consumes-moved : (all after : Option (List ℕ)) (front buffered : List ℕ) (count : ℕ) → Consumes all (prepend_known buffered after) front → Consumes all (prepend_known (drop count buffered) after) (front ++ take count buffered)
+consumes-moved None after front buffered count h = search rules
+consumes-moved (Some x) None front buffered count h = absurd h
+consumes-moved (Some x) (Some y) front buffered count h =
+    h ∙ ap (λ (xs : List ℕ). front ++ (xs ++ y)) (sym (take-append-drop count buffered)) ∙ ap (λ (xs : List ℕ). front ++ xs) (append_assoc (take count buffered) (drop count buffered) y)
+    ∙ sym (append_assoc front (take count buffered) (drop count buffered ++ y))
 
 consumes-kept : (all mid new : Option (List ℕ)) (front : List ℕ) → Consumes all mid front → Keeps mid new → Consumes all new front
 consumes-kept None mid new front h keeps = search rules
@@ -76,9 +76,9 @@ came-short count bytes fewer =
     let short : nat_lt (length bytes) count ≡ true = grind (arith, common_steps, fewer) in
     ap (λ (b : Bool). if b then Short else (if nat_le count TEXT_LIMIT then Whole (take count bytes) else Dropped)) short
 
-at-end : (held : List ℕ) (left : Option (List ℕ)) → held ≡ [] → IsAtEnd left → IsAtEnd (prepend_known held left)
-at-end held None none end = tt
-at-end held (Some l) none end = ap (λ (xs : List ℕ). xs ++ l) none ∙ end
+at-end : (buffered : List ℕ) (left : Option (List ℕ)) → buffered ≡ [] → IsAtEnd left → IsAtEnd (prepend_known buffered left)
+at-end buffered None none end = tt
+at-end buffered (Some l) none end = ap (λ (xs : List ℕ). xs ++ l) none ∙ end
 
 keeps-all : (all : Option (List ℕ)) → Keeps all all
 keeps-all None = search rules
@@ -105,25 +105,25 @@ takes-all ended (Some x) (Some y) asked front h counted last =
       last = last;
     }
 
-misses : (fault : LineFault) (asked : ℕ) (now : Reading) (old left : Option (List ℕ)) (gone : List ℕ) → Consumes old (prepend_known now.held left) gone → (asked ≤ TEXT_LIMIT → gone ≡ []) → length gone ≤ asked →
-    length gone + length now.held < asked + piece_size → ((fault ≡ why.Memory → ⊥) → length gone + within now < asked) → Known (Misses fault asked now) old left
+misses : (fault : LineFault) (asked : ℕ) (now : Reading) (old left : Option (List ℕ)) (gone : List ℕ) → Consumes old (prepend_known now.buffered left) gone → (asked ≤ TEXT_LIMIT → gone ≡ []) → length gone ≤ asked →
+    length gone + length now.buffered < asked + piece_size → ((fault ≡ why.Memory → ⊥) → length gone + within now < asked) → Known (Misses fault asked now) old left
 misses fault asked now None left gone h kept few near missing = tt
 misses fault asked now (Some x) None gone h kept few near missing = absurd h
 misses fault asked now (Some x) (Some y) gone h kept few near missing = record { gone = gone; bytes_are = h; kept = kept; few = few; near = near; missing = missing }
 
--- bytes that a text may have were read, and all that came are held
+-- bytes that a text may have were read, and all that came are buffered
 pub record KeepsOn (asked : ℕ) (old now : Reading) (before after : SourceSeen) : Type 0 where
   pub reads : ReadsOn old now before after
-  pub last : now.ended ≡ true → (now.held ≡ []) ⊎ (within now < asked)
-  pub near : length now.held < asked + piece_size
+  pub last : now.ended ≡ true → (now.buffered ≡ []) ⊎ (within now < asked)
+  pub near : length now.buffered < asked + piece_size
 
 -- none was read yet
 pub keeps-first : (asked : ℕ) (old : Reading) (before : SourceSeen) → IsReaderBehind asked old before → KeepsOn asked old old before before
 keeps-first asked old before source =
     record {
       reads = record {
-        pending = keeps-all (prepend_known old.held before.left);
-        held = ([], sym (append-nil old.held));
+        pending = keeps-all (prepend_known old.buffered before.left);
+        buffered = ([], sym (append-nil old.buffered));
         taken = omega arith;
         given = refl;
         total = same-total old.taken before.left;
@@ -138,7 +138,7 @@ keeps-first asked old before source =
 -- of bytes that a text may not have some came, which are gone, and so many are still due
 pub record DropsOn (asked due : ℕ) (old now : Reading) (before after : SourceSeen) : Type 0 where
   pub gone : List ℕ
-  pub bytes : Consumes (prepend_known old.held before.left) (prepend_known now.held after.left) gone
+  pub bytes : Consumes (prepend_known old.buffered before.left) (prepend_known now.buffered after.left) gone
   pub counted : length gone + due ≡ asked
   pub given : given now ≡ given old + length gone
   pub total : SameTotal old.taken before.left now.taken after.left
@@ -150,7 +150,7 @@ pub drops-first : (asked : ℕ) (old : Reading) (before : SourceSeen) → IsRead
 drops-first asked old before source =
     record {
       gone = [];
-      bytes = kept-all (prepend_known old.held before.left);
+      bytes = kept-all (prepend_known old.buffered before.left);
       counted = omega arith;
       given = omega arith;
       total = same-total old.taken before.left;
@@ -158,47 +158,47 @@ drops-first asked old before source =
       source = source;
     }
 
--- bytes that are held are dropped
+-- bytes that are buffered are dropped
 pub drops-moved : (asked due count : ℕ) (old now new : Reading) (before after : SourceSeen) → DropsOn asked due old now before after → IsReading now → count ≡ min due (within now) →
-    new ≡ record now { held = drop count now.held } → DropsOn asked (due - count) old new before after
+    new ≡ record now { buffered = drop count now.buffered } → DropsOn asked (due - count) old new before after
 drops-moved asked due count old now new before after was sound count_is new_is =
-    let inside : count ≤ length now.held = omega (arith, count_is) in
-    let part : length (take count now.held) ≡ count = length-take-le count now.held inside in
+    let inside : count ≤ length now.buffered = omega (arith, count_is) in
+    let part : length (take count now.buffered) ≡ count = length-take-le count now.buffered inside in
     subst (λ (r : Reading). DropsOn asked (due - count) old r before after) (sym new_is) (record {
-      gone = was.gone ++ take count now.held;
-      bytes = consumes-moved (prepend_known old.held before.left) after.left was.gone now.held count was.bytes;
-      counted = omega (arith, was.counted, count_is, part, length-append was.gone (take count now.held));
-      given = omega (arith, was.given, sound.kept, inside, part, length-drop count now.held, length-append was.gone (take count now.held));
+      gone = was.gone ++ take count now.buffered;
+      bytes = consumes-moved (prepend_known old.buffered before.left) after.left was.gone now.buffered count was.bytes;
+      counted = omega (arith, was.counted, count_is, part, length-append was.gone (take count now.buffered));
+      given = omega (arith, was.given, sound.kept, inside, part, length-drop count now.buffered, length-append was.gone (take count now.buffered));
       total = was.total;
       stays = was.stays;
       source = record {
         ended = was.source.ended;
         nothing = was.source.nothing;
         last = λ e. ap (λ (xs : List ℕ). drop count xs) (was.source.last e) ∙ drop-nil count;
-        near = omega (arith, was.source.near, count_is, inside, length-drop count now.held);
+        near = omega (arith, was.source.near, count_is, inside, length-drop count now.buffered);
       };
     })
 
--- where bytes are still due, all that is held within the limit was dropped
-pub nothing-held : (now new : Reading) (due count : ℕ) → count ≡ min due (within now) → new ≡ record now { held = drop count now.held } → 0 < due - count → new.taken ≤ SCRIPT_LIMIT → new.held ≡ []
+-- where bytes are still due, all that is buffered within the limit was dropped
+pub nothing-held : (now new : Reading) (due count : ℕ) → count ≡ min due (within now) → new ≡ record now { buffered = drop count now.buffered } → 0 < due - count → new.taken ≤ SCRIPT_LIMIT → new.buffered ≡ []
 nothing-held now new due count count_is new_is more within_limit =
-    let held : new.held ≡ drop count now.held = ap (λ (r : Reading). r.held) new_is in
+    let buffered : new.buffered ≡ drop count now.buffered = ap (λ (r : Reading). r.buffered) new_is in
     let taken : new.taken ≡ now.taken = ap (λ (r : Reading). r.taken) new_is in
-    no_bytes new.held (omega (arith, ap length held, taken, length-drop count now.held, count_is, more, within_limit))
+    no_bytes new.buffered (omega (arith, ap length buffered, taken, length-drop count now.buffered, count_is, more, within_limit))
 
-pub within-dropped : (now new : Reading) (due count : ℕ) → count ≡ min due (within now) → new ≡ record now { held = drop count now.held } → 0 < due - count → within new < due - count
+pub within-dropped : (now new : Reading) (due count : ℕ) → count ≡ min due (within now) → new ≡ record now { buffered = drop count now.buffered } → 0 < due - count → within new < due - count
 within-dropped now new due count count_is new_is more =
-    let held : new.held ≡ drop count now.held = ap (λ (r : Reading). r.held) new_is in
+    let buffered : new.buffered ≡ drop count now.buffered = ap (λ (r : Reading). r.buffered) new_is in
     let taken : new.taken ≡ now.taken = ap (λ (r : Reading). r.taken) new_is in
-    omega (arith, ap length held, taken, length-drop count now.held, count_is, more)
+    omega (arith, ap length buffered, taken, length-drop count now.buffered, count_is, more)
 
--- nothing was held, and more was read
-pub drops-filled : (asked due : ℕ) (old now new : Reading) (before mid after : SourceSeen) → DropsOn asked due old now before mid → 0 < due → now.held ≡ [] → ReadsOn now new mid after →
-    length new.held ≤ length now.held + piece_size → (new.ended ≡ true → new.held ≡ now.held) → DropsOn asked due old new before after
+-- nothing was buffered, and more was read
+pub drops-filled : (asked due : ℕ) (old now new : Reading) (before mid after : SourceSeen) → DropsOn asked due old now before mid → 0 < due → now.buffered ≡ [] → ReadsOn now new mid after →
+    length new.buffered ≤ length now.buffered + piece_size → (new.ended ≡ true → new.buffered ≡ now.buffered) → DropsOn asked due old new before after
 drops-filled asked due old now new before mid after was more none reads near end =
     record {
       gone = was.gone;
-      bytes = consumes-kept (prepend_known old.held before.left) (prepend_known now.held mid.left) (prepend_known new.held after.left) was.gone was.bytes reads.pending;
+      bytes = consumes-kept (prepend_known old.buffered before.left) (prepend_known now.buffered mid.left) (prepend_known new.buffered after.left) was.gone was.bytes reads.pending;
       counted = was.counted;
       given = reads.given ∙ was.given;
       total = total_on old.taken now.taken new.taken before.left mid.left after.left was.total reads.total;
@@ -217,8 +217,8 @@ drops-all asked due old now before after was sound none many =
     let over : nat_le asked TEXT_LIMIT ≡ false = grind (arith, common_steps, many) in
     record {
       bytes =
-          subst (λ (b : Bool). Known (Takes (if b then Whole was.gone else Dropped) asked now.ended) (prepend_known old.held before.left) (prepend_known now.held after.left)) over
-          (takes-all now.ended (prepend_known old.held before.left) (prepend_known now.held after.left) asked was.gone was.bytes (omega (arith, was.counted, none)) (λ e. at-end now.held after.left (was.source.last e) (was.source.nothing e)));
+          subst (λ (b : Bool). Known (Takes (if b then Whole was.gone else Dropped) asked now.ended) (prepend_known old.buffered before.left) (prepend_known now.buffered after.left)) over
+          (takes-all now.ended (prepend_known old.buffered before.left) (prepend_known now.buffered after.left) asked was.gone was.bytes (omega (arith, was.counted, none)) (λ e. at-end now.buffered after.left (was.source.last e) (was.source.nothing e)));
       kept = many;
       short = λ e. cc;
       further = omega (arith, was.given);
@@ -231,7 +231,7 @@ pub drops-falls : (fault : LineFault) (asked due : ℕ) (old now : Reading) (bef
 drops-falls fault asked due old now before after was many more =
     record {
       bytes =
-          misses fault asked now (prepend_known old.held before.left) after.left was.gone was.bytes (λ few. absurd (omega (arith, few, many))) (omega (arith, was.counted))
+          misses fault asked now (prepend_known old.buffered before.left) after.left was.gone was.bytes (λ few. absurd (omega (arith, few, many))) (omega (arith, was.counted))
           (omega (arith, was.counted, was.source.near)) (λ _. omega (arith, was.counted, more));
       source = record { ended = was.source.ended; nothing = was.source.nothing; last = was.source.last; near = omega (arith, was.source.near, was.counted) };
     }

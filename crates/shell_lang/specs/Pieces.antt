@@ -31,18 +31,18 @@ GivesPiece Blank ended bytes rest = GivesLine Blank ended bytes rest
 GivesPiece (Bytes line) ended bytes rest = GivesLine (Bytes line) ended bytes rest
 GivesPiece LongLine ended bytes rest = GivesLine LongLine ended bytes rest
 
--- one byte more than the limit of a script was taken, and no line that ends within the limit is held
+-- one byte more than the limit of a script was taken, and no line that ends within the limit is buffered
 pub record IsPastLimit (reading : Reading) : Type 0 where
   pub taken : reading.taken ≡ SCRIPT_LIMIT + 1
   pub ended : reading.ended ≡ false
-  pub held : 0 < length reading.held
-  pub unended : IsUnended (take (length reading.held - 1) reading.held)
+  pub buffered : 0 < length reading.buffered
+  pub unended : IsUnended (take (length reading.buffered - 1) reading.buffered)
 
 -- a line that is given lies within the limit, and the reader has gone on; it holds less than one piece then
 pub record GoesOn (old new : Reading) : Type 0 where
   pub further : given old < given new
   pub limit : given new ≤ SCRIPT_LIMIT
-  pub near : length new.held < piece_size
+  pub near : length new.buffered < piece_size
 
 -- how the piece meets the limit of a script
 abbrev pub PieceAdvances : Piece → Reading → Reading → Type 0
@@ -51,9 +51,9 @@ PieceAdvances Blank old new = GoesOn old new
 PieceAdvances (Bytes line) old new = GoesOn old new
 PieceAdvances LongLine old new = GoesOn old new
 
--- where the first line of what is held ends
+-- where the first line of what is buffered ends
 abbrev pub IsLineFound : Found → Reading → Type 0
 IsLineFound (Ended end) reading =
-    (end ≡ position_or_len is_line_end reading.held) × (end < length reading.held) × (given reading + end < SCRIPT_LIMIT)
-IsLineFound Last reading = (reading.ended ≡ true) × IsUnended reading.held
+    (end ≡ position_or_len is_line_end reading.buffered) × (end < length reading.buffered) × (given reading + end < SCRIPT_LIMIT)
+IsLineFound Last reading = (reading.ended ≡ true) × IsUnended reading.buffered
 IsLineFound Past reading = IsPastLimit reading

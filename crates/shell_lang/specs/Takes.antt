@@ -24,7 +24,7 @@ IsTakenOf count Dropped = TEXT_LIMIT < count
 IsTakenOf count Short = 0 < count
 
 -- The bytes that were asked for are taken, and lie within the limit of a script. Too few are there only where the source
--- has ended. Less than one piece is held then.
+-- has ended. Less than one piece is buffered then.
 pub record GivesPut (taken : Taken) (count : ℕ) (old new : Reading) (before after : SourceSeen) : Type 0 where
   pub bytes : Known (Takes taken count new.ended) (pending old before.left) (pending new after.left)
   pub kept : IsTakenOf count taken
@@ -33,18 +33,18 @@ pub record GivesPut (taken : Taken) (count : ℕ) (old new : Reading) (before af
   pub limit : given new ≤ SCRIPT_LIMIT
   pub source : IsReaderBehind 0 new after
 
--- how many of the bytes that are held lie within the limit of a script
+-- how many of the bytes that are buffered lie within the limit of a script
 abbrev pub within : Reading → ℕ
-within reading = length reading.held - (reading.taken - SCRIPT_LIMIT)
+within reading = length reading.buffered - (reading.taken - SCRIPT_LIMIT)
 
--- Not all bytes were given: those that came are held, or where a text may not have as many, they are gone. Behind those
--- that are due less than one piece is held, and unless memory ran out, some are missing.
+-- Not all bytes were given: those that came are buffered, or where a text may not have as many, they are gone. Behind those
+-- that are due less than one piece is buffered, and unless memory ran out, some are missing.
 pub record Misses (fault : LineFault) (count : ℕ) (new : Reading) (bytes left : List ℕ) : Type 0 where
   pub gone : List ℕ
-  pub bytes_are : bytes ≡ gone ++ (new.held ++ left)
+  pub bytes_are : bytes ≡ gone ++ (new.buffered ++ left)
   pub kept : count ≤ TEXT_LIMIT → gone ≡ []
   pub few : length gone ≤ count
-  pub near : length gone + length new.held < count + piece_size
+  pub near : length gone + length new.buffered < count + piece_size
   pub missing : (fault ≡ Memory → ⊥) → length gone + within new < count
 
 -- a fault came before the bytes were given, and they may be asked for again

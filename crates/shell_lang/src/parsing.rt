@@ -14,7 +14,7 @@ use std::alloc::Global;
 /// The command that a line spells, or the first refusal of its spelling. `taken` is what came of
 /// the bytes behind the line, where it asks for any.
 pub fn parse_line(alloc: Global, line: &[u8], taken: Option<Taken>) -> Result<Line, Deny>
-    ensures told { Answers result (item_taken line.now taken) }
+    ensures line { Answers result (item_taken line.now taken) }
     ensures spelled { IfOk result (λ line. IsTrue (is_spelled line.command)) }
 {
     if line.len() > LINE_LIMIT {

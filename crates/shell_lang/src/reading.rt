@@ -2,7 +2,7 @@
 ghost use Rattle.std.specs.Prelude.{◌≡◌, ℕ, ◌+◌, ◌-◌, ◌<◌, ◌≤◌, ◌⊎◌, ◌++◌, true, false, [], length, vec_len, take, drop, max, IfOk, OnOk, OnErr, IsErrOf, IfSome, IfNone, MatchOption, MatchResult, slice_index, ◌==◌, position};
 ghost use Rattle.std.specs.List.{position_or_len};
 ghost use Rattle.std.specs.Io.KnownBytes.{Keeps};
-ghost use Rattle.hac_outside.specs.Causes.{TellsFault};
+ghost use Rattle.hac_outside.specs.Causes.{ReportsFault};
 ghost use Rattle.hac_model.specs.Bytes.{is_line_end};
 ghost use Rattle.hac_model.specs.Script.Lines.{is_quiet};
 ghost use Rattle.hac_model.specs.declared.limits.TheConstants.{TEXT_LIMIT};
@@ -66,7 +66,7 @@ impl From<AllocError> for LineFault {
 pub struct Reader {
     alloc: Global,
     bytes: Vec<u8>,
-    // Where what is held begins.
+    // Where what is buffered begins.
     start: usize,
     // Where scanning goes on: between the two there is no line end.
     scanned: usize,
@@ -88,7 +88,7 @@ impl Model for Reader {
     ghost invariant = { IsReader };
 }
 
-/// Where the first line of what is held ends.
+/// Where the first line of what is buffered ends.
 #[derive(Clone, Copy, Debug)]
 enum Found {
     /// At a line end.
@@ -102,7 +102,7 @@ enum Found {
 impl Reader {
     /// A reader that has read nothing.
     pub fn new(alloc: Global) -> Result<Reader, Memory>
-        ensures { IfOk result (λ reader. reader ≡ record { held = []; taken = 0; ended = false }) }
+        ensures { IfOk result (λ reader. reader ≡ record { buffered = []; taken = 0; ended = false }) }
     {
         let bytes = Vec::with_capacity(alloc, PIECE)?;
         Ok(Reader {
@@ -115,7 +115,7 @@ impl Reader {
         })
     }
 
-    /// The next line of the script, or its end. It reads only where no line is held, and never
+    /// The next line of the script, or its end. It reads only where no line is buffered, and never
     /// behind the end.
     pub fn next_line<S: Source>(&mut self, source: &mut S) -> Result<Piece, LineFault>
         // A reader is given the source that it began with.
@@ -131,9 +131,9 @@ impl Reader {
             (pending self.new (S.seen source.new).left)) }
         ensures past { IsErrOf result LineFault.TooLong → IsPastLimit self.new }
 
-        // A line that is held is given without a read, so a fault of reading comes only if none is.
-        ensures unended { IsErrOf result LineFault.Read → IsUnended self.new.held }
-        ensures unread { is_first_ended self.old.held ≡ true → source.new ≡ source.old }
+        // A line that is buffered is given without a read, so a fault of reading comes only if none is.
+        ensures unended { IsErrOf result LineFault.Read → IsUnended self.new.buffered }
+        ensures unread { is_first_ended self.old.buffered ≡ true → source.new ≡ source.old }
         ensures source { MatchResult result (λ _. IsReaderBehind 0 self.new (S.seen source.new))
             (λ _. IsReaderOf self.new (S.seen source.new)) }
         ensures leaves { LeavesReader result self.old self.new (S.seen source.old)
@@ -146,18 +146,18 @@ impl Reader {
         }
     }
 
-    /// Reads until the first line is held, or all that there is of it.
+    /// Reads until the first line is buffered, or all that there is of it.
     fn find_line<S: Source>(&mut self, source: &mut S) -> Result<Found, LineFault>
         requires { IsReaderOf self.old (S.seen source.old) }
         ensures found { IfOk result (λ found. IsLineFound found self.new) }
         ensures sound { IsReading self.new }
         ensures reads { ReadsOn self.old self.new (S.seen source.old) (S.seen source.new) }
         ensures source { IsReaderOf self.new (S.seen source.new) }
-        ensures unread { is_first_ended self.old.held ≡ true → source.new ≡ source.old }
+        ensures unread { is_first_ended self.old.buffered ≡ true → source.new ≡ source.old }
         ensures unended { OnErr result
-            ((self.new.ended ≡ false) × (self.new.taken ≤ SCRIPT_LIMIT) × IsUnended self.new.held) }
+            ((self.new.ended ≡ false) × (self.new.taken ≤ SCRIPT_LIMIT) × IsUnended self.new.buffered) }
         ensures not_long { IsErrOf result LineFault.TooLong → ⊥ }
-        ensures faults { TellsFault (is_read_fault result) (S.seen source.old).faults
+        ensures faults { ReportsFault (is_read_fault result) (S.seen source.old).faults
             (S.seen source.new).faults }
     {
         loop {
@@ -169,22 +169,22 @@ impl Reader {
         }
     }
 
-    /// Remembers that what is held has no line end.
+    /// Remembers that what is buffered has no line end.
     fn mark_scanned(&mut self)
-        requires { IsUnended self.old.held }
+        requires { IsUnended self.old.buffered }
         ensures { self.new ≡ self.old }
     {
         self.scanned = self.bytes.len();
     }
 
-    /// Where the first line ends by what is held. None where more is to be read.
+    /// Where the first line ends by what is buffered. None where more is to be read.
     fn look(&self) -> Option<Found>
         ensures sound { IsReading self.now }
         ensures found { IfSome result (λ found. IsLineFound found self.now) }
         ensures none { IfNone result
-            ((self.now.ended ≡ false) × (self.now.taken ≤ SCRIPT_LIMIT) × IsUnended self.now.held) }
+            ((self.now.ended ≡ false) × (self.now.taken ≤ SCRIPT_LIMIT) × IsUnended self.now.buffered) }
     {
-        match line_end(self.held(), self.scanned - self.start) {
+        match line_end(self.buffered(), self.scanned - self.start) {
             Some(end) => Some(self.found_at(end)),
             None if self.ended => Some(Found::Last),
             None if self.taken > SCRIPT_LIMIT => Some(Found::Past),
@@ -194,11 +194,11 @@ impl Reader {
 
     /// Whether the line end at `end` is within the limit of a script.
     fn found_at(&self, end: usize) -> Found
-        requires place { end ≡ position_or_len is_line_end self.now.held }
-        requires inside { end < length self.now.held }
+        requires place { end ≡ position_or_len is_line_end self.now.buffered }
+        requires inside { end < length self.now.buffered }
         ensures { IsLineFound result self.now }
     {
-        let given = self.taken - self.held().len() as u64;
+        let given = self.taken - self.buffered().len() as u64;
         if given + (end as u64) < SCRIPT_LIMIT {
             Found::Ended(end)
         } else {
@@ -206,8 +206,8 @@ impl Reader {
         }
     }
 
-    fn held(&self) -> &[u8]
-        ensures held { result.now ≡ self.now.held }
+    fn buffered(&self) -> &[u8]
+        ensures buffered { result.now ≡ self.now.buffered }
         ensures sound { IsReading self.now }
     {
         &self.bytes[self.start..]
@@ -218,16 +218,16 @@ impl Reader {
         requires source { (S.seen source.old).ended ≡ false }
         requires open { self.old.ended ≡ false }
         requires room { self.old.taken ≤ SCRIPT_LIMIT }
-        requires few { length self.old.held ≤ max (position_or_len is_line_end self.old.held)
+        requires few { length self.old.buffered ≤ max (position_or_len is_line_end self.old.buffered)
             TEXT_LIMIT }
         ensures reads { ReadsOn self.old self.new (S.seen source.old) (S.seen source.new) }
         ensures ok { OnOk result ((self.new.ended ≡ true) ⊎ (self.old.taken < self.new.taken)) }
         ensures err { OnErr result (self.new ≡ self.old) }
         ensures not_long { IsErrOf result LineFault.TooLong → ⊥ }
         ensures sound { IsReading self.new }
-        ensures near { length self.new.held ≤ length self.old.held + piece_size }
-        ensures end { self.new.ended ≡ true → self.new.held ≡ self.old.held }
-        ensures faults { TellsFault (is_read_fault result) (S.seen source.old).faults
+        ensures near { length self.new.buffered ≤ length self.old.buffered + piece_size }
+        ensures end { self.new.ended ≡ true → self.new.buffered ≡ self.old.buffered }
+        ensures faults { ReportsFault (is_read_fault result) (S.seen source.old).faults
             (S.seen source.new).faults }
     {
         drop_front(&mut self.bytes, self.start);
@@ -248,32 +248,32 @@ impl Reader {
     /// Gives the first `count` bytes as a line, and drops the first `end`.
     fn give(&mut self, count: usize, end: usize) -> Result<Piece, LineFault>
         requires order { count ≤ end }
-        requires inside { end ≤ length self.old.held }
+        requires inside { end ≤ length self.old.buffered }
         requires limit { given self.old + end ≤ SCRIPT_LIMIT }
-        ensures piece { IfOk result (λ piece. piece ≡ piece_of (take count self.old.held)) }
-        ensures ok { OnOk result (self.new ≡ record self.old { held = drop end self.old.held }) }
+        ensures piece { IfOk result (λ piece. piece ≡ piece_of (take count self.old.buffered)) }
+        ensures ok { OnOk result (self.new ≡ record self.old { buffered = drop end self.old.buffered }) }
         ensures err { OnErr result (self.new ≡ self.old) }
         ensures memory { OnErr result (IsErrOf result LineFault.Memory) }
         ensures sound { IsReading self.new }
     {
-        let piece = piece_of(self.alloc, &self.held()[..count])?;
+        let piece = piece_of(self.alloc, &self.buffered()[..count])?;
         self.start += end;
         self.scanned = self.start;
         Ok(piece)
     }
 
-    /// Gives all that is held as the last line.
+    /// Gives all that is buffered as the last line.
     fn give_last(&mut self) -> Result<Piece, LineFault>
         requires { self.old.ended ≡ true }
-        ensures none { self.old.held ≡ [] → (result ≡ Ok Piece.End) × (self.new ≡ self.old) }
-        ensures piece { 0 < length self.old.held →
-            IfOk result (λ piece. piece ≡ piece_of self.old.held) }
-        ensures ok { OnOk result (self.new ≡ record self.old { held = [] }) }
+        ensures none { self.old.buffered ≡ [] → (result ≡ Ok Piece.End) × (self.new ≡ self.old) }
+        ensures piece { 0 < length self.old.buffered →
+            IfOk result (λ piece. piece ≡ piece_of self.old.buffered) }
+        ensures ok { OnOk result (self.new ≡ record self.old { buffered = [] }) }
         ensures err { OnErr result (self.new ≡ self.old) }
         ensures memory { OnErr result (IsErrOf result LineFault.Memory) }
         ensures sound { IsReading self.new }
     {
-        let all = self.held().len();
+        let all = self.buffered().len();
         if all == 0 {
             return Ok(Piece::End);
         }
@@ -306,7 +306,7 @@ fn read_onto<S: Source>(
         × Keeps (S.seen source.old).left (S.seen source.new).left) }
     ensures open { OnErr result ((S.seen source.new).ended ≡ false) }
     ensures not_long { IsErrOf result LineFault.TooLong → ⊥ }
-    ensures faults { TellsFault (is_read_fault result) (S.seen source.old).faults
+    ensures faults { ReportsFault (is_read_fault result) (S.seen source.old).faults
         (S.seen source.new).faults }
 {
     bytes.reserve(PIECE)?;

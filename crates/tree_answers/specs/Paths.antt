@@ -4,12 +4,12 @@ use Rattle.hac_model.specs.Tree.Depends.{named_in}
 use Rattle.hac_model.specs.Query.Formula.{Formula}
 use Rattle.hac_model.specs.Tree.{path_of}
 use Rattle.hac_model.specs.declared.states.State.{State}
-use Rattle.query_text.specs.declared.paths.Told.{Told}
+use Rattle.query_text.specs.declared.paths.NamedDir.{NamedDir}
 
 -- a directory with its path
-abbrev pub told_of : State → ℕ → Told
-told_of s dir = record { dir = dir; path = path_of s dir }
+abbrev pub named_dir : State → ℕ → NamedDir
+named_dir s dir = record { dir = dir; path = path_of s dir }
 
 -- the paths of the directories that a query names were added
-abbrev pub AddsPaths : State → Formula ℕ → List Told → List Told → Type 0
-AddsPaths s query old new = new ≡ old ++ map (told_of s) (named_in query)
+abbrev pub AddsPaths : State → Formula ℕ → List NamedDir → List NamedDir → Type 0
+AddsPaths s query old new = new ≡ old ++ map (named_dir s) (named_in query)

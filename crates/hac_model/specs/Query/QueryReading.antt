@@ -17,7 +17,7 @@ use Rattle.hac_model.specs.declared.limits.TheConstants.{QUERY_LIMIT, TERMS_LIMI
 use Rattle.hac_model.specs.declared.paths.PathWord.{PathWord}
 use Rattle.hac_model.specs.declared.reading.ByteKind.{ByteKind}
 use Rattle.hac_model.specs.declared.reading.ByteKind.TheVariants.{Word, Space, Open, Close, Star, Brace, EndBrace, Backslash, Slash, Control, Foreign}
-use Rattle.hac_model.specs.declared.reading.Held.{Held}
+use Rattle.hac_model.specs.declared.reading.Ended.{Ended}
 use Rattle.hac_model.specs.declared.reading.Level.{Level}
 use Rattle.hac_model.specs.declared.reading.Operand.{Operand}
 use Rattle.hac_model.specs.declared.reading.Operand.TheVariants as operand
@@ -25,9 +25,9 @@ use Rattle.hac_model.specs.declared.reading.Operator.{Operator}
 use Rattle.hac_model.specs.declared.reading.Operator.TheVariants as operator
 use Rattle.hac_model.specs.declared.reading.Part.{Part}
 use Rattle.hac_model.specs.declared.reading.Reader.{Reader}
-use Rattle.hac_model.specs.declared.reading.Reader.TheVariants.{Wants, Holds}
+use Rattle.hac_model.specs.declared.reading.Reader.TheVariants.{Wants, Ends}
 use Rattle.hac_model.specs.declared.reading.Stack.{Stack}
-use Rattle.hac_model.specs.declared.reading.Stack.TheVariants.{Wanting, Holding}
+use Rattle.hac_model.specs.declared.reading.Stack.TheVariants.{Wanting, Ending}
 use Rattle.hac_model.specs.declared.reading.Wanted.{Wanted}
 use Rattle.hac_model.specs.declared.replies.Refusal.{Refusal}
 use Rattle.hac_model.specs.declared.replies.Refusal.TheVariants.{BadQuery, Limit}
@@ -62,28 +62,28 @@ abbrev pub negate : Wanted → Wanted
 negate w = record { level = record { ors = w.level.ors; ands = w.level.ands; nots = suc w.level.nots }; outer = w.outer }
 
 -- behind the operand that was wanted
-abbrev pub receive : Part → Wanted → Held
+abbrev pub receive : Part → Wanted → Ended
 receive part w = record { ors = w.level.ors; part = join_and w.level.ands (nots_part w.level.nots part); outer = w.outer }
 
 -- all that was read from the last open parenthesis on
-abbrev pub whole_part : Held → Part
+abbrev pub whole_part : Ended → Part
 whole_part h = join_or h.ors h.part
 
 -- behind `AND`
-abbrev pub after_and : Held → Wanted
+abbrev pub after_and : Ended → Wanted
 after_and h = record { level = record { ors = h.ors; ands = Some h.part; nots = 0 }; outer = h.outer }
 
 -- behind `OR`
-abbrev pub after_or : Held → Wanted
+abbrev pub after_or : Ended → Wanted
 after_or h = record { level = record { ors = Some (whole_part h); ands = None; nots = 0 }; outer = h.outer }
 
 -- a part in parentheses, given what comes before each open one
-abbrev pub grouped : Part → List Level → Option Held
+abbrev pub grouped : Part → List Level → Option Ended
 grouped part [] = None
 grouped part (level ∷ outer) = Some (receive (group_part part) (record { level = level; outer = outer }))
 
 -- behind `)`
-abbrev pub leave : Held → Option Held
+abbrev pub leave : Ended → Option Ended
 leave h = grouped (whole_part h) h.outer
 
 -- the part where no parenthesis is open
@@ -92,7 +92,7 @@ ungrouped part [] = Some part
 ungrouped part (level ∷ outer) = None
 
 -- the query, where nothing follows
-abbrev pub finish : Held → Option Part
+abbrev pub finish : Ended → Option Part
 finish h = ungrouped (whole_part h) h.outer
 
 -- Bytes.
@@ -121,32 +121,32 @@ operand_begins Brace b w = Some (Wants operand.Brace w)
 operand_begins other b w = None
 
 -- the run of an operator that is due begins with a letter
-abbrev pub sign_begins : ℕ → Held → Option Reader
-sign_begins b h = if b == 65 then Some (Holds operator.A h) else (if b == 79 then Some (Holds operator.O h) else None)
+abbrev pub sign_begins : ℕ → Ended → Option Reader
+sign_begins b h = if b == 65 then Some (Ends operator.A h) else (if b == 79 then Some (Ends operator.O h) else None)
 
 -- a byte behind a token, where an operand ended
-abbrev pub operator_begins : ByteKind → ℕ → Held → Option Reader
+abbrev pub operator_begins : ByteKind → ℕ → Ended → Option Reader
 operator_begins Word b h = sign_begins b h
-operator_begins Space b h = Some (Holds operator.Nothing h)
-operator_begins Close b h = option_map (Holds operator.Nothing) (leave h)
+operator_begins Space b h = Some (Ends operator.Nothing h)
+operator_begins Close b h = option_map (Ends operator.Nothing) (leave h)
 operator_begins other b h = None
 
 -- where no token is under way
 abbrev pub at : Stack → Reader
 at (Wanting w) = Wants operand.Nothing w
-at (Holding h) = Holds operator.Nothing h
+at (Ending h) = Ends operator.Nothing h
 
 -- behind a run that ended where an operand was wanted: `NOT`, or a word
 unfoldable pub after_run : List ℕ → Wanted → Option Stack
 after_run run w =
     if bytes_eq run (codes "NOT") then Some (Wanting (negate w))
     else (if is_operator run then None
-    else Some (Holding (receive (leaf_part (leaf.Word (lower_case run))) w)))
+    else Some (Ending (receive (leaf_part (leaf.Word (lower_case run))) w)))
 
 -- a byte behind a token
 abbrev pub token_begins : ByteKind → ℕ → Stack → Option Reader
 token_begins kind b (Wanting w) = operand_begins kind b w
-token_begins kind b (Holding h) = operator_begins kind b h
+token_begins kind b (Ending h) = operator_begins kind b h
 
 -- a byte behind a run that ended
 abbrev pub run_ends : ByteKind → ℕ → List ℕ → Wanted → Option Reader
@@ -155,7 +155,7 @@ run_ends kind b run w = option_and_then (token_begins kind b) (after_run run w)
 -- a byte behind a part of a run
 abbrev pub run_step : ByteKind → ℕ → List ℕ → Wanted → Option Reader
 run_step Word b run w = Some (Wants (operand.Run (run ++ b ∷ [])) w)
-run_step Star b run w = Some (Holds operator.Nothing (receive (leaf_part (leaf.Prefix (lower_case run))) w))
+run_step Star b run w = Some (Ends operator.Nothing (receive (leaf_part (leaf.Prefix (lower_case run))) w))
 run_step other b run w = run_ends other b run w
 
 -- a byte behind an opening brace: a path begins with a slash
@@ -165,7 +165,7 @@ brace_step other b w = None
 
 -- a byte behind a part of a path
 abbrev pub path_step : ByteKind → ℕ → List ℕ → Wanted → Option Reader
-path_step EndBrace b path w = Some (Holds operator.Nothing (receive (leaf_part (leaf.Dir path)) w))
+path_step EndBrace b path w = Some (Ends operator.Nothing (receive (leaf_part (leaf.Dir path)) w))
 path_step Backslash b path w = Some (Wants (operand.Escape path) w)
 path_step Control b path w = None
 path_step other b path w = Some (Wants (operand.Path (path ++ b ∷ [])) w)
@@ -191,18 +191,18 @@ sign_ends Star b w = None
 sign_ends other b w = operand_begins other b w
 
 -- a byte where an operand ended
-abbrev pub operator_step : ByteKind → ℕ → Operator → Held → Option Reader
+abbrev pub operator_step : ByteKind → ℕ → Operator → Ended → Option Reader
 operator_step kind b operator.Nothing h = operator_begins kind b h
-operator_step kind b operator.A h = if b == 78 then Some (Holds operator.An h) else None
-operator_step kind b operator.An h = if b == 68 then Some (Holds operator.And h) else None
+operator_step kind b operator.A h = if b == 78 then Some (Ends operator.An h) else None
+operator_step kind b operator.An h = if b == 68 then Some (Ends operator.And h) else None
 operator_step kind b operator.And h = sign_ends kind b (after_and h)
-operator_step kind b operator.O h = if b == 82 then Some (Holds operator.Or h) else None
+operator_step kind b operator.O h = if b == 82 then Some (Ends operator.Or h) else None
 operator_step kind b operator.Or h = sign_ends kind b (after_or h)
 
 -- a byte of a kind behind what was read
 abbrev pub kind_step : ByteKind → ℕ → Reader → Option Reader
 kind_step kind b (Wants read w) = operand_step kind b read w
-kind_step kind b (Holds read h) = operator_step kind b read h
+kind_step kind b (Ends read h) = operator_step kind b read h
 
 -- a byte behind what was read; None where no query goes on so
 abbrev pub step : ℕ → Reader → Option Reader
@@ -211,14 +211,14 @@ step b reader = kind_step (kind_of b) b reader
 -- the query, where a token ended and nothing follows
 abbrev pub ended_token : Stack → Option Part
 ended_token (Wanting w) = None
-ended_token (Holding h) = finish h
+ended_token (Ending h) = finish h
 
 -- the query that was read, where nothing follows
 abbrev pub read_whole : Reader → Option Part
 read_whole (Wants (operand.Run run) w) = option_and_then ended_token (after_run run w)
 read_whole (Wants read w) = None
-read_whole (Holds operator.Nothing h) = finish h
-read_whole (Holds read h) = None
+read_whole (Ends operator.Nothing h) = finish h
+read_whole (Ends read h) = None
 
 -- nothing was read
 abbrev pub fresh_reader : Reader

@@ -1,5 +1,5 @@
 -- A whole run: each command is answered, and changes the state for those behind it.
-use Rattle.std.specs.Prelude.{ℕ, zero, suc, ◌+◌, ◌&&◌, nat_lt, if◌then◌else◌, Bool, true, false, List, [], ◌∷◌, ◌++◌, length, filter, map, take, Option, None, Some, Result, Ok, Err}
+use Rattle.std.specs.Prelude.{ℕ, zero, suc, ◌+◌, ◌&&◌, nat_lt, if◌then◌else◌, Bool, true, false, List, [], ◌∷◌, ◌++◌, length, filter, take, Option, None, Some, Result, Ok, Err}
 use Rattle.std.specs.List.{flat_map, list_any}
 use Rattle.std.specs.Option.{option_map_or}
 use Rattle.hac_model.specs.Run.Answers.{first_cause}
@@ -9,6 +9,7 @@ use Rattle.hac_model.specs.Script.Lines.{Item}
 use Rattle.hac_model.specs.Run.Given.{Given, given_behind, next_fault, no_answers}
 use Rattle.hac_model.specs.Run.Refusals.{cause, events_of, led_to}
 use Rattle.hac_model.specs.Run.Resolving.{resolve}
+use Rattle.hac_model.specs.Script.Printed.{reply_text}
 use Rattle.hac_model.specs.Script.{script}
 use Rattle.hac_model.specs.declared.events.Event.{Event}
 use Rattle.hac_model.specs.declared.events.Event.TheVariants.{Step}
@@ -99,9 +100,13 @@ turns given setting (item ∷ items) =
 abbrev pub play : Given → Setting → List ℕ → List Turn
 play given setting bytes = turns given setting (script bytes)
 
--- what is read off turns
-abbrev pub replies : List Turn → List Reply
-replies told = map (λ turn. turn.reply) told
+-- what is written of a turn: its reply
+abbrev pub turn_text : Turn → List ℕ
+turn_text turn = reply_text turn.reply
+
+-- what is written of turns, one behind the other
+abbrev pub turns_text : List Turn → List ℕ
+turns_text turns = flat_map turn_text turns
 
 -- what is left after turns
 abbrev pub left_by : Setting → List Turn → Setting

@@ -69,4 +69,4 @@ reply_text (Lines lines) = flat_map ended lines ++ ended (codes "ok")
 reply_text (Refused refusal) = ended (codes "no " ++ refusal_text refusal)
 
 abbrev pub text : List Reply → List ℕ
-text told = flat_map reply_text told
+text replies = flat_map reply_text replies

@@ -6,7 +6,7 @@ use Rattle.hac_model.specs.declared.events.Event.TheVariants.{Cd}
 use Rattle.hac_model.specs.declared.states.Session.{Session}
 use Rattle.hac_model.specs.declared.states.State.{State}
 
--- the directory in which a session stands: the root, unless it is told to stand elsewhere
+-- the directory in which a session stands: the root, unless it was sent elsewhere
 abbrev pub stands_in : List Session → List ℕ → ℕ
 stands_in [] name = 0
 stands_in (session ∷ sessions) name = if bytes_eq session.name name then session.dir else stands_in sessions name

@@ -23,7 +23,7 @@ impl Reader {
         ensures fault { IfErr result (λ fault. FallsShort fault asked self.old self.new
             (S.seen source.old) (S.seen source.new)) }
 
-        // Bytes that are held are given without a read, so a fault comes only where some are
+        // Bytes that are buffered are given without a read, so a fault comes only where some are
         // missing.
         ensures unread { asked ≤ within self.old → source.new ≡ source.old }
         ensures leaves { LeavesReader result self.old self.new (S.seen source.old)
@@ -85,12 +85,12 @@ impl Reader {
         }
     }
 
-    /// How many of the bytes that are held lie within the limit of a script.
+    /// How many of the bytes that are buffered lie within the limit of a script.
     fn within(&self) -> usize
         ensures count { result ≡ within self.now }
         ensures sound { IsReading self.now }
     {
-        self.held().len() - self.taken.saturating_sub(SCRIPT_LIMIT) as usize
+        self.buffered().len() - self.taken.saturating_sub(SCRIPT_LIMIT) as usize
     }
 
     /// Whether the source has ended. A script of which a byte beyond the limit was taken is too
@@ -110,21 +110,21 @@ impl Reader {
     /// Gives the first `count` bytes as a text.
     fn give_text(&mut self, count: usize) -> Result<Taken, LineFault>
         requires inside { count ≤ within self.old }
-        ensures text { IfOk result (λ taken. taken ≡ Whole (take count self.old.held)) }
-        ensures ok { OnOk result (self.new ≡ record self.old { held = drop count self.old.held }) }
+        ensures text { IfOk result (λ taken. taken ≡ Whole (take count self.old.buffered)) }
+        ensures ok { OnOk result (self.new ≡ record self.old { buffered = drop count self.old.buffered }) }
         ensures err { OnErr result (self.new ≡ self.old) }
         ensures memory { OnErr result (IsErrOf result LineFault.Memory) }
     {
-        let text = Vec::from_slice(self.alloc, &self.held()[..count])?;
+        let text = Vec::from_slice(self.alloc, &self.buffered()[..count])?;
         self.skip(count);
         Ok(Taken::Whole(Text::new(text)))
     }
 
-    /// Leaves out at most `most` of the bytes that are held, none beyond the limit of a script, and
+    /// Leaves out at most `most` of the bytes that are buffered, none beyond the limit of a script, and
     /// answers how many.
     fn drop_held(&mut self, most: u64) -> u64
         ensures count { result ≡ min most (within self.old) }
-        ensures held { self.new ≡ record self.old { held = drop result self.old.held } }
+        ensures buffered { self.new ≡ record self.old { buffered = drop result self.old.buffered } }
         ensures was { IsReading self.old }
         ensures sound { IsReading self.new }
     {
@@ -141,7 +141,7 @@ impl Reader {
     /// Leaves out the first `count` bytes.
     fn skip(&mut self, count: usize)
         requires inside { count ≤ within self.old }
-        ensures held { self.new ≡ record self.old { held = drop count self.old.held } }
+        ensures buffered { self.new ≡ record self.old { buffered = drop count self.old.buffered } }
         ensures sound { IsReading self.new }
     {
         self.start += count;

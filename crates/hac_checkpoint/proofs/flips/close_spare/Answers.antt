@@ -1,5 +1,5 @@
 use Rattle.std.proofs.Common.{◌≡◌, true, IfSome, rules, [], ◌∷◌, sym, ◌∙◌, ap, subst, arith}
-use Rattle.hac_disk.specs.Told.{RangeWithin}
+use Rattle.hac_disk.specs.Contents.{RangeWithin}
 use Rattle.hac_disk.proofs.Moments.{then_run}
 use Rattle.hac_checkpoint.specs.Flips.{HasRoot, HasSpareSlot, other_slot}
 use Rattle.hac_checkpoint.specs.Roots.{gate_of, is_open}

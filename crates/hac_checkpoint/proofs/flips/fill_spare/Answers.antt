@@ -1,5 +1,5 @@
 use Rattle.std.proofs.Common.{◌+◌, ◌∙◌, ap, subst, arith}
-use Rattle.hac_disk.specs.Told.{RangeWithin}
+use Rattle.hac_disk.specs.Contents.{RangeWithin}
 use Rattle.hac_checkpoint.specs.Flips.{HasRoot, HasSpareSlot, IsFilled, other_slot}
 use Rattle.hac_checkpoint.specs.Roots.{gate_of}
 use Rattle.hac_checkpoint.proofs.FlipLemmas.{filled, filling, length-body}

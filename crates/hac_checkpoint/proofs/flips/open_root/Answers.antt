@@ -1,5 +1,5 @@
 use Rattle.std.proofs.Common.{◌⊎◌, [], ◌∷◌, subst}
-use Rattle.hac_disk.specs.Told.{RangeWithin}
+use Rattle.hac_disk.specs.Contents.{RangeWithin}
 use Rattle.hac_checkpoint.specs.Flips.{HasRoot, IsFilled, next_root, other_slot}
 use Rattle.hac_checkpoint.specs.Roots.{gate_of}
 use Rattle.hac_checkpoint.proofs.FlipLemmas.{opened, opening}

@@ -1,5 +1,5 @@
 use Rattle.std.proofs.Common.{◌∙◌, subst}
-use Rattle.hac_disk.specs.Told.{Written}
+use Rattle.hac_disk.specs.Contents.{Written}
 use Rattle.hac_journal.specs.Records.{contents_of, log_of}
 use Rattle.hac_journal.proofs.AppendLemmas.{behind-moments, both-moments}
 use Rattle.hac_journal.proofs.CrashLemmas.{written-joined}

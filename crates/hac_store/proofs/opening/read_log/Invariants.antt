@@ -1,6 +1,6 @@
 use Rattle.std.proofs.Common.{◌≡◌, ◌-◌, ◌^◌}
 use Rattle.hac_disk.specs.Images.{IsQuiet}
-use Rattle.hac_disk.specs.Told.{StandAt}
+use Rattle.hac_disk.specs.Contents.{StandAt}
 use Rattle.hac_model.specs.Tree.Valid.{IsValid}
 use Rattle.hac_store.proofs.ReadLemmas.{IsRead}
 use Rattle.hac_store.proofs.opening.read_log.Given as goal

@@ -1,5 +1,5 @@
 use Rattle.std.proofs.Common.{sym}
-use Rattle.hac_disk.specs.Told.{IsSettled}
+use Rattle.hac_disk.specs.Contents.{IsSettled}
 use Rattle.hac_top.specs.Run.{outside}
 use Rattle.hac_top.proofs.OpenedLemmas.{ran-opened, ran-unopened}
 use Rattle.hac_top.proofs.running.run.Goals as goal

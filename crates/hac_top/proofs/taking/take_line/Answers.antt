@@ -4,7 +4,7 @@ use Rattle.std.proofs.lemmas.Result.{err_from_is_err_and}
 use Rattle.hac_model.specs.declared.taken.Taken.{Taken}
 use Rattle.shell_lang.specs.Reading.{pending}
 use Rattle.shell_lang.specs.declared.reading.Piece.{Piece}
-use Rattle.hac_top.proofs.TakenLemmas.{goes-line, held-stop, leaves-on, next-reader, stops-taking, taken-gives, taken-stop}
+use Rattle.hac_top.proofs.TakenLemmas.{goes-line, buffered-stop, leaves-on, next-reader, stops-taking, taken-gives, taken-stop}
 use Rattle.hac_top.proofs.taking.take_line.Goals as goal
 
 pub returns-in_err-piece-clause-stops : goal.returns-in_err-piece-clause-stops
@@ -17,7 +17,7 @@ returns-in_err-piece-clause-stops g c =
     let was = c.in_err-piece.ensures in
     rw (stop.1 ∙ ap Err stop.2)
     (stops-taking Piece old new (seen c.args.input.now) (seen c.next_line.new.source) fault was.leaves
-    (held-stop fault (pending old (seen c.args.input.now).left) (seen c.next_line.new.source).left new was.source.near was.err (λ read. was.unended (ap Err read)) (λ past. was.past (ap Err past))))
+    (buffered-stop fault (pending old (seen c.args.input.now).left) (seen c.next_line.new.source).left new was.source.near was.err (λ read. was.unended (ap Err read)) (λ past. was.past (ap Err past))))
 
 pub returns-in-Ok-clause-line : goal.returns-in-Ok-clause-line
 returns-in-Ok-clause-line g c =
@@ -34,7 +34,7 @@ returns-in-Ok-clause-line g c =
           c.in_default.not-End c.in_ok-piece.ensures.piece (rw c.due_of.ensures at c.in-Ok.ensures.given.bytes) c.in-Ok.ensures.leaves.stays;
       advances = record { further = omega (arith, goes.further, given.further); limit = given.limit; near = omega (arith, given.source.near) };
       reader = next-reader new (seen c.take_due.new.input) given.source;
-      source = record { total = leaves.total; limit = leaves.sound.limit; told = c.in-Ok.ensures.leaves.faults ∙ c.in_ok-piece.ensures.leaves.faults };
+      source = record { total = leaves.total; limit = leaves.sound.limit; reported = c.in-Ok.ensures.leaves.faults ∙ c.in_ok-piece.ensures.leaves.faults };
     }
 
 pub returns-in-Err-clause-stops : goal.returns-in-Err-clause-stops

@@ -1,6 +1,6 @@
 use Rattle.std.proofs.Common.{◌≡◌, ◌-◌, ◌^◌, length}
 use Rattle.hac_disk.specs.Images.{IsQuiet}
-use Rattle.hac_disk.specs.Told.{StandAt}
+use Rattle.hac_disk.specs.Contents.{StandAt}
 use Rattle.hac_journal.specs.Finding.{held_from}
 use Rattle.hac_journal.proofs.reading.LogReader.next.Given as goal
 

@@ -1,6 +1,6 @@
 use Rattle.std.proofs.Common.{◌≡◌, ℕ, List, [], inr, inl, ◌∙◌, Err, ap, refl, subst, sym, true}
 use Rattle.std.proofs.lemmas.Result.{err_from_is_err_and}
-use Rattle.hac_disk.specs.Told.{Written}
+use Rattle.hac_disk.specs.Contents.{Written}
 use Rattle.hac_journal.specs.Records.{log_of}
 use Rattle.hac_model.specs.Laws.{AllHappen}
 use Rattle.hac_model.specs.Tree.Valid.{IsValid}
@@ -61,7 +61,7 @@ returns-in-Ok g c =
           put-moments disk.seen disk.image disk.moment disk.image_since g.met.D.Disk.only_now old new z events c.args.payloads.now c.requires.texts stored
           (λ past. let never = full.1 past in cc) (rw size at c.append.ensures.any_moment);
       names = c.append.ensures.attached;
-      told = c.in-Ok.ensures.none (λ fails. cc);
+      reported = c.in-Ok.ensures.none (λ fails. cc);
     }
 
 pub returns-in-Err-Disk : goal.returns-in-Err-Disk
@@ -88,7 +88,7 @@ returns-in-Err-Disk g c =
           put-moments disk.seen disk.image disk.moment disk.image_since g.met.D.Disk.only_now old new z events c.args.payloads.now c.requires.texts stored
           (λ past. c.append.ensures.unwritten (inl (full.1 past))) (rw size at c.append.ensures.any_moment);
       names = c.append.ensures.attached;
-      told = (c.append.ensures.later, c.append.ensures.cause failed);
+      reported = (c.append.ensures.later, c.append.ensures.cause failed);
     }
 
 pub returns-in-Err-Full : goal.returns-in-Err-Full

@@ -11,7 +11,7 @@ invariant-loop-found g l =
     record {
       reads : ReadsOn l.fn.self l.self (seen l.fn.source) (seen l.source);
       source : IsReaderOf l.self (seen l.source);
-      unread : is_first_ended l.fn.self.held ≡ true → l.source ≡ l.fn.source;
+      unread : is_first_ended l.fn.self.buffered ≡ true → l.source ≡ l.fn.source;
       faults : (seen l.source).faults ≡ (seen l.fn.source).faults;
     }
 

@@ -2,12 +2,12 @@
 use Rattle.std.proofs.Common.{◌≡◌, List, ℕ, None, Some, IfSome, refl, subst}
 use Rattle.std.specs.declared.option.Option.{Option}
 use Rattle.hac_disk.specs.Images.{Only, overlaid}
-use Rattle.hac_disk.specs.Told.{IsSettled, Written}
+use Rattle.hac_disk.specs.Contents.{IsSettled, Written}
 
 -- a fact that follows from each file that the disk may tell
-pub if_told : (seen : Option (List ℕ)) (P : Type 0) → ((file : List ℕ) → seen ≡ Some file → P) → IfSome seen (λ _. P)
-if_told None P then_p = tt
-if_told (Some file) P then_p = then_p file refl
+pub if_known : (seen : Option (List ℕ)) (P : Type 0) → ((file : List ℕ) → seen ≡ Some file → P) → IfSome seen (λ _. P)
+if_known None P then_p = tt
+if_known (Some file) P then_p = then_p file refl
 
 -- what was written to a file whose bytes the disk tells
 pub told-written : (seen new : Option (List ℕ)) (file bytes : List ℕ) (at : ℕ) → seen ≡ Some file → Written seen at bytes new → new ≡ Some (overlaid at bytes file)

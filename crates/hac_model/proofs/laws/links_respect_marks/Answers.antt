@@ -1,5 +1,5 @@
 use Rattle.hac_model.proofs.MarkLawLemmas.{added-provided, found-indexed, links-unmarked, removed-not_provided}
-use Rattle.hac_model.proofs.laws.links_are_told.Goals as goal
+use Rattle.hac_model.proofs.laws.links_respect_marks.Goals as goal
 
 pub returns-clause-unmarked : goal.returns-clause-unmarked
 returns-clause-unmarked c = links-unmarked

@@ -28,12 +28,12 @@ abbrev pub StandAt : Option (List ℕ) → ℕ → List ℕ → Type 0
 StandAt None at bytes = ⊤
 StandAt (Some file) at bytes = bytes ≡ take (length bytes) (drop at file)
 
--- the bytes were written, and a disk that told its bytes still does
+-- the bytes were written, and if they were known before, they still are
 abbrev pub Written : Option (List ℕ) → ℕ → List ℕ → Option (List ℕ) → Type 0
 Written None at bytes new = new ≡ None
 Written (Some old) at bytes new = new ≡ Some (overlaid at bytes old)
 
--- at most the n bytes from this place on were changed, and a disk that told its bytes still does
+-- at most the n bytes from this place on were changed, and if they were known before, they still are
 abbrev pub WrittenInPart : Option (List ℕ) → ℕ → ℕ → Option (List ℕ) → Type 0
 WrittenInPart None at n new = new ≡ None
 WrittenInPart (Some old) at n None = ⊥

@@ -1,5 +1,5 @@
-use Rattle.hac_top.proofs.TellingLemmas.{some-flushed}
-use Rattle.hac_top.proofs.answering.tell_bytes.Goals as goal
+use Rattle.hac_top.proofs.ReplyLemmas.{some-flushed}
+use Rattle.hac_top.proofs.answering.write_now.Goals as goal
 
 pub returns-clause-err : goal.returns-clause-err
 returns-clause-err g c =
