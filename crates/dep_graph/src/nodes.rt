@@ -1,5 +1,6 @@
 //! The nodes of a graph by number, each changed by itself. Nothing here knows where an edge leads.
-ghost use Rattle.std.specs.Prelude.{◌≡◌, ◌⊎◌, ◌==◌, ℕ, [], true, false, nat_eq, if◌then◌else◌, IsTrue, OnErr, OnOk, length};
+ghost use Rattle.std.specs.Prelude.{◌≡◌, ◌⊎◌, ◌==◌, ℕ, [], true, false, nat_eq, if◌then◌else◌};
+ghost use Rattle.std.specs.Prelude.{IsTrue, OnErr, OnOk, length};
 ghost use Rattle.dep_graph.specs.Inner.{has_node, is_bare, kept_in};
 
 use hac_model::{Memory, Number};

@@ -1,10 +1,12 @@
 //! The fields that are numbers or runs of bytes.
-ghost use Rattle.std.specs.Prelude.{◌≡◌, ◌≤◌, ◌+◌, ◌&&◌, if◌then◌else◌, nat_le, length, take, drop, Some, None};
+ghost use Rattle.std.specs.Prelude.{◌≡◌, ◌≤◌, ◌+◌, ◌&&◌, if◌then◌else◌, nat_le, length, take, drop};
+ghost use Rattle.std.specs.Prelude.{Some, None};
 ghost use Rattle.std.specs.Int.{w8, w16, w32};
 ghost use Rattle.std.specs.List.{list_all};
 ghost use Rattle.std.specs.Option.{option_copied};
 ghost use Rattle.hac_model.specs.Payload.Fields.{num};
-ghost use Rattle.hac_model.specs.Payload.Payloads.{name_field, space_field, target_field, text_field, is_path_word};
+ghost use Rattle.hac_model.specs.Payload.Payloads.{name_field, space_field, target_field};
+ghost use Rattle.hac_model.specs.Payload.Payloads.{text_field, is_path_word};
 ghost use Rattle.hac_model.specs.Payload.QueryFields.{word_field};
 ghost use Rattle.hac_model.specs.Script.SpaceNames.{is_space_byte, is_space_name};
 ghost use Rattle.event_codec.specs.Reading.{GivesField, run_in};

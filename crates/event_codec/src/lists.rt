@@ -1,7 +1,9 @@
 //! The fields that are lists, read and written: a number, and as many items.
-ghost use Rattle.std.specs.Prelude.{◌≡◌, ◌<◌, ◌^◌, ℕ, List, Option, None, nat_lt, ◌++◌, IsTrue, OnOk, length};
+ghost use Rattle.std.specs.Prelude.{◌≡◌, ◌<◌, ◌^◌, ℕ, List, Option, None, nat_lt, ◌++◌, IsTrue};
+ghost use Rattle.std.specs.Prelude.{OnOk, length};
 ghost use Rattle.std.specs.Option.{option_copied};
-ghost use Rattle.hac_model.specs.Payload.Fields.{Field, checked, items_at, items_fit, items_text, num};
+ghost use Rattle.hac_model.specs.Payload.Fields.{Field, checked, items_at, items_fit, items_text};
+ghost use Rattle.hac_model.specs.Payload.Fields.{num};
 ghost use Rattle.hac_model.specs.Tree.Listing.{is_before};
 ghost use Rattle.hac_model.specs.Payload.Payloads.{docs_field, name_field, nums, rises, told_field};
 ghost use Rattle.event_codec.specs.Reading.{GivesField};

@@ -1,8 +1,10 @@
 //! Queries. Their parts are read one by one, and then joined, so that no bytes make this go deep.
 ghost use Rattle.std.specs.Prelude.{◌≡◌, ◌∷◌, [], IfOk, OnOk, length};
 ghost use Rattle.hac_model.specs.Payload.Fields.{failing_at};
-ghost use Rattle.hac_model.specs.Payload.QueryFields.{built, put, query_field, token_at, tokens_at, word_field};
-ghost use Rattle.hac_model.specs.declared.limits.TheConstants.{NESTING_LIMIT, QUERY_LIMIT, TERMS_LIMIT};
+ghost use Rattle.hac_model.specs.Payload.QueryFields.{built, put, query_field, token_at, tokens_at};
+ghost use Rattle.hac_model.specs.Payload.QueryFields.{word_field};
+ghost use Rattle.hac_model.specs.declared.limits.TheConstants.{NESTING_LIMIT, QUERY_LIMIT};
+ghost use Rattle.hac_model.specs.declared.limits.TheConstants.{TERMS_LIMIT};
 ghost use Rattle.event_codec.specs.Reading.{GivesField, GivesSeen};
 ghost use Rattle.event_codec.specs.Tokens.{TakesTwo, token_of, tokens_of};
 

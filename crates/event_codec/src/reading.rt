@@ -2,7 +2,8 @@
 ghost use Rattle.std.specs.Option.{option_map_or};
 ghost use Rattle.std.specs.Prelude.{◌≡◌, ◌+◌, ◌-◌, IfOk, List, ℕ, Ok, Err, length};
 ghost use Rattle.hac_model.specs.Payload.Fields.{way_at};
-ghost use Rattle.hac_model.specs.Payload.Payloads.{event_field, event_ways, mark_field, mark_ways, mount_ways, payload_field, query_ways, spelled};
+ghost use Rattle.hac_model.specs.Payload.Payloads.{event_field, event_ways, mark_field, mark_ways};
+ghost use Rattle.hac_model.specs.Payload.Payloads.{mount_ways, payload_field, query_ways, spelled};
 ghost use Rattle.event_codec.specs.Reading.{GivesField, IsSpellable, ReadsPayload};
 ghost use Rattle.event_codec.specs.declared.faults.CodecFault.TheVariants as codec;
 

@@ -1,6 +1,7 @@
 //! Events as the bytes of a payload.
 ghost use Rattle.std.specs.Prelude.{◌≡◌, ◌++◌, IsTrue, IfOk, OnOk};
-ghost use Rattle.hac_model.specs.Payload.Payloads.{event_field, event_text, is_spellable, mark_field};
+ghost use Rattle.hac_model.specs.Payload.Payloads.{event_field, event_text, is_spellable};
+ghost use Rattle.hac_model.specs.Payload.Payloads.{mark_field};
 
 use crate::lists::{put_docs, put_told};
 use crate::putting::{

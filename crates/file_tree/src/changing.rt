@@ -1,8 +1,11 @@
 //! Changes of the tree. Those that may want memory are prepared, and no change itself takes any.
-ghost use Rattle.std.specs.Prelude.{◌≡◌, ◌<◌, ◌-◌, ◌++◌, ◌∷◌, ◌&&◌, ◌||◌, [], true, not, ℕ, List, length, remove, if◌then◌else◌, IfOk, OnOk, OnErr, IsSome, IsTrue, Option};
+ghost use Rattle.std.specs.Prelude.{◌≡◌, ◌<◌, ◌-◌, ◌++◌, ◌∷◌, ◌&&◌, ◌||◌, [], true, not, ℕ, List};
+ghost use Rattle.std.specs.Prelude.{length, remove, if◌then◌else◌, IfOk, OnOk, OnErr, IsSome};
+ghost use Rattle.std.specs.Prelude.{IsTrue, Option};
 ghost use Rattle.std.specs.BTreeSet.{contains};
 ghost use Rattle.std.specs.Ordering.{nat_cmp};
-ghost use Rattle.hac_model.specs.Tree.Events.{added, apply, asking, changed_at, edited, indexed, plain_body, removed, reseated, rewritten};
+ghost use Rattle.hac_model.specs.Tree.Events.{added, apply, asking, changed_at, edited, indexed};
+ghost use Rattle.hac_model.specs.Tree.Events.{plain_body, removed, reseated, rewritten};
 ghost use Rattle.hac_model.specs.Tree.{entry_at, is_directory_at, is_file_at};
 ghost use Rattle.file_tree.specs.Answers.{entry_kind, is_dirty_at};
 ghost use Rattle.file_tree.specs.Changes.{GotReady, HasBecome, MayBecome};

@@ -1,7 +1,8 @@
 //! How much a state would hold after an event, before anything changes.
 ghost use Rattle.std.specs.Prelude.{◌≡◌, ◌<◌, ◌^◌, ℕ, List, length, max, IsTrue, IsSome};
 ghost use Rattle.std.specs.Option.{option_copied, option_map_or};
-ghost use Rattle.hac_model.specs.Tree.Events.{added, apply, changed_at, edited, indexed, removed, reseated, rewritten};
+ghost use Rattle.hac_model.specs.Tree.Events.{added, apply, changed_at, edited, indexed, removed};
+ghost use Rattle.hac_model.specs.Tree.Events.{reseated, rewritten};
 ghost use Rattle.hac_model.specs.Tree.Limits.{counts, long_paths};
 ghost use Rattle.hac_model.specs.Tree.{entry_at, is_directory_at, is_file_at};
 ghost use Rattle.hac_model.specs.Tree.Valid.{IsLayout};

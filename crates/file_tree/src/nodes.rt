@@ -1,9 +1,12 @@
 //! The nodes of a tree by number, each changed by itself. Nothing here knows how they fit together.
-ghost use Rattle.std.specs.Prelude.{◌≡◌, ℕ, ◌<◌, [], Some, None, nat_eq, if◌then◌else◌, length, remove, false, IsSome, IsTrue, OnOk};
+ghost use Rattle.std.specs.Prelude.{◌≡◌, ℕ, ◌<◌, [], Some, None, nat_eq, if◌then◌else◌, length};
+ghost use Rattle.std.specs.Prelude.{remove, false, IsSome, IsTrue, OnOk};
 ghost use Rattle.std.specs.Option.{option_copied, option_map};
 ghost use Rattle.indexmap.specs.IndexMap.{get};
-ghost use Rattle.file_tree.specs.Nodes.{body_from, body_of, entry_of, has_node, kids_of, name_of, placed_at};
-ghost use Rattle.hac_model.specs.Tree.Events.{asking, edited, indexed, plain_body, reseated, rewritten};
+ghost use Rattle.file_tree.specs.Nodes.{body_from, body_of, entry_of, has_node, kids_of, name_of};
+ghost use Rattle.file_tree.specs.Nodes.{placed_at};
+ghost use Rattle.hac_model.specs.Tree.Events.{asking, edited, indexed, plain_body, reseated};
+ghost use Rattle.hac_model.specs.Tree.Events.{rewritten};
 ghost use Rattle.hac_model.specs.Tree.{is_dirty, query_in, shown_text};
 
 use hac_model::{Memory, Name, Number, Query, Text};

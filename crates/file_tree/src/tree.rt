@@ -1,11 +1,13 @@
 //! The tree itself, and what it says of its entries.
-ghost use Rattle.std.specs.Prelude.{◌≡◌, ◌==◌, is_some, Some, IfOk, IfSome, IsTrue, IsSome, [], length, map};
+ghost use Rattle.std.specs.Prelude.{◌≡◌, ◌==◌, is_some, Some, IfOk, IfSome, IsTrue, IsSome, []};
+ghost use Rattle.std.specs.Prelude.{length, map};
 ghost use Rattle.std.specs.Option.{option_copied, option_map, option_map_or, option_and_then};
 ghost use Rattle.hac_model.specs.Tree.Events.{is_bare, next_dirty};
 ghost use Rattle.hac_model.specs.Tree.Limits.{counts};
 ghost use Rattle.hac_model.specs.Tree.Links.{parent_of, query_at, shown_of};
 ghost use Rattle.hac_model.specs.Tree.Listing.{children};
-ghost use Rattle.hac_model.specs.Tree.{body_at, child, empty, entry_at, is_directory_at, is_file_at, is_made_directory, text_in};
+ghost use Rattle.hac_model.specs.Tree.{body_at, child, empty, entry_at, is_directory_at};
+ghost use Rattle.hac_model.specs.Tree.{is_file_at, is_made_directory, text_in};
 ghost use Rattle.hac_model.specs.Tree.Valid.{IsLayout};
 ghost use Rattle.file_tree.specs.Answers.{entry_kind_at, entry_kind, is_dirty_at, next_from};
 ghost use Rattle.file_tree.specs.Nodes.{body_of};

@@ -5,7 +5,8 @@ ghost use Rattle.byteorder.specs.Endian.{little_bytes};
 ghost use Rattle.hac_outside.specs.Causes.{HasCause};
 ghost use Rattle.hac_disk.specs.Images.{IsQuiet, LeavesOnly};
 ghost use Rattle.hac_disk.specs.Contents.{RangeWithin};
-ghost use Rattle.hac_checkpoint.specs.Flips.{HasRoot, HasSpareSlot, IsFilled, next_root, other_slot};
+ghost use Rattle.hac_checkpoint.specs.Flips.{HasRoot, HasSpareSlot, IsFilled, next_root};
+ghost use Rattle.hac_checkpoint.specs.Flips.{other_slot};
 ghost use Rattle.hac_checkpoint.specs.Roots.{gate_of, is_open};
 ghost use Rattle.hac_checkpoint.specs.Writes.{IsSettledWith, WritesWithin};
 

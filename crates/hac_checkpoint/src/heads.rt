@@ -4,7 +4,9 @@ ghost use Rattle.std.specs.Prelude.{◌≡◌, ◌+◌, ◌≤◌, ◌^◌, IfOk
 ghost use Rattle.hac_outside.specs.Causes.{HasCause, Rose};
 ghost use Rattle.hac_disk.specs.Images.{IsQuiet};
 ghost use Rattle.hac_disk.specs.Contents.{RangeWithin};
-ghost use Rattle.hac_checkpoint.specs.Roots.{IsHeadRoot, IsRootSeen, agreeing, counting, gate_of, generation, higher, is_open, named, root_of, slots, start, store_name};
+ghost use Rattle.hac_checkpoint.specs.Roots.{IsHeadRoot, IsRootSeen, agreeing, counting, gate_of};
+ghost use Rattle.hac_checkpoint.specs.Roots.{generation, higher, is_open, named, root_of, slots};
+ghost use Rattle.hac_checkpoint.specs.Roots.{start, store_name};
 
 use byteorder::{ByteOrder, LittleEndian};
 use hac_disk::Disk;

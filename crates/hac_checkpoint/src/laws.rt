@@ -1,5 +1,7 @@
 //! Theorems on roots and areas alone. Each is the contract of a function that does nothing.
-ghost use Rattle.hac_checkpoint.specs.Laws.{AreasAreFound, ClosedGatesAreKept, NewAreasLieApart, RecordsAreKept, RootsAgree, RootsStartBehind, WritesLeaveAreas, WritesLeaveRoots};
+ghost use Rattle.hac_checkpoint.specs.Laws.{AreasAreFound, ClosedGatesAreKept, NewAreasLieApart};
+ghost use Rattle.hac_checkpoint.specs.Laws.{RecordsAreKept, RootsAgree, RootsStartBehind};
+ghost use Rattle.hac_checkpoint.specs.Laws.{WritesLeaveAreas, WritesLeaveRoots};
 
 /// The head of a store alone decides its root, and the root's area begins behind the head.
 pub fn roots_agree()

@@ -9,7 +9,8 @@ ghost use Rattle.hac_model.specs.Run.Refusals.{cause, early_refusal};
 ghost use Rattle.hac_model.specs.Run.Resolving.{resolve};
 ghost use Rattle.hac_model.specs.Tree.{empty};
 ghost use Rattle.hac_model.specs.Tree.Valid.{IsValid};
-ghost use Rattle.hac_core.specs.Drafts.{CanSettle, IsDraft, IsDraftFor, IsDraftOf, Settles, reads, settled_events};
+ghost use Rattle.hac_core.specs.Drafts.{CanSettle, IsDraft, IsDraftFor, IsDraftOf, Settles, reads};
+ghost use Rattle.hac_core.specs.Drafts.{settled_events};
 ghost use Rattle.hac_core.specs.Fitting.{FitsAs};
 
 use crate::blocking::unblocked;

@@ -1,7 +1,8 @@
 //! What blocks a mark, and the removal of a directory that a query names.
 ghost use Rattle.std.specs.Prelude.{IsTrue};
 ghost use Rattle.hac_model.specs.Run.Answers.{Passes};
-ghost use Rattle.hac_model.specs.Run.Refusals.{already_cause, referenced_cause, unlinked_cause, unmarked_cause};
+ghost use Rattle.hac_model.specs.Run.Refusals.{already_cause, referenced_cause, unlinked_cause};
+ghost use Rattle.hac_model.specs.Run.Refusals.{unmarked_cause};
 ghost use Rattle.hac_model.specs.Tree.{is_file_at};
 
 use hac_model::{Deny, Number, Refusal};

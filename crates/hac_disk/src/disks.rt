@@ -3,7 +3,8 @@ ghost use Rattle.std.specs.Prelude.{◌≡◌, ◌≤◌, ℕ, Bool, List, IfOk,
 ghost use Rattle.std.specs.declared.option.Option.{Option};
 ghost use Rattle.hac_outside.specs.Causes.{HasCause};
 ghost use Rattle.hac_disk.specs.Images.{Elapses, Follows, IsQuiet, Torn};
-ghost use Rattle.hac_disk.specs.Contents.{Attaches, HasLength, IsSettled, RangeWithin, StandAt, StartsWithin, Written, WrittenInPart};
+ghost use Rattle.hac_disk.specs.Contents.{Attaches, HasLength, IsSettled, RangeWithin, StandAt};
+ghost use Rattle.hac_disk.specs.Contents.{StartsWithin, Written, WrittenInPart};
 
 use hac_outside::Failed;
 

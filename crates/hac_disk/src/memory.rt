@@ -1,11 +1,15 @@
 //! A disk in memory. It keeps what it held at first and each call since, so that it can tell what a
 //! crash may leave; and it fails at chosen calls.
-ghost use Rattle.std.specs.Prelude.{◌≡◌, ◌⊎◌, ◌-◌, ◌<◌, ◌↔◌, ◌==◌, [], IfOk, IsErr, OnErr, OnOk, if◌then◌else◌, is_ok, length};
+ghost use Rattle.std.specs.Prelude.{◌≡◌, ◌⊎◌, ◌-◌, ◌<◌, ◌↔◌, ◌==◌, [], IfOk, IsErr, OnErr, OnOk};
+ghost use Rattle.std.specs.Prelude.{if◌then◌else◌, is_ok, length};
 ghost use Rattle.hac_outside.specs.Causes.{HasCause};
 ghost use Rattle.hac_disk.specs.Images.{Elapses, Follows, IsQuiet, Torn};
-ghost use Rattle.hac_disk.specs.Memory.{Attached, IsFailing, IsNextCall, Synced, TouchesGap, Wrote, attached_to, left_after, left_since, moment_of, bytes_of_disk, with_call};
+ghost use Rattle.hac_disk.specs.Memory.{Attached, IsFailing, IsNextCall, Synced, TouchesGap, Wrote};
+ghost use Rattle.hac_disk.specs.Memory.{attached_to, left_after, left_since, moment_of};
+ghost use Rattle.hac_disk.specs.Memory.{bytes_of_disk, with_call};
 ghost use Rattle.hac_disk.specs.Parts.{contents};
-ghost use Rattle.hac_disk.specs.Contents.{Attaches, HasLength, IsSettled, RangeWithin, StandAt, StartsWithin, Written, WrittenInPart};
+ghost use Rattle.hac_disk.specs.Contents.{Attaches, HasLength, IsSettled, RangeWithin, StandAt};
+ghost use Rattle.hac_disk.specs.Contents.{StartsWithin, Written, WrittenInPart};
 
 use super::disks::Disk;
 use super::parts::{joined, read_parts, write_parts};

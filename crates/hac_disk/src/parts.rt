@@ -1,5 +1,6 @@
 //! The file of a disk in memory: a head, a gap of zeros that takes no memory, and a tail.
-ghost use Rattle.std.specs.Prelude.{◌≡◌, ◌⊎◌, ◌+◌, ◌<◌, ◌≤◌, ◌↔◌, ◌^◌, ◌++◌, false, true, max, IfOk, length, take, drop, slice_index, vec_capacity, vec_len};
+ghost use Rattle.std.specs.Prelude.{◌≡◌, ◌⊎◌, ◌+◌, ◌<◌, ◌≤◌, ◌↔◌, ◌^◌, ◌++◌, false, true, max};
+ghost use Rattle.std.specs.Prelude.{IfOk, length, take, drop, slice_index, vec_capacity, vec_len};
 ghost use Rattle.hac_disk.specs.Images.{overlaid};
 ghost use Rattle.hac_disk.specs.Parts.{contents};
 

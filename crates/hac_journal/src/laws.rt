@@ -1,5 +1,6 @@
 //! Theorems on records alone. Each is the contract of a function that does nothing.
-ghost use Rattle.hac_journal.specs.Laws.{ClosedIsFound, FoundAlong, FoundIsClosed, FoundIsWhole, NoneIsClosed, RecordsAreFound};
+ghost use Rattle.hac_journal.specs.Laws.{ClosedIsFound, FoundAlong, FoundIsClosed, FoundIsWhole};
+ghost use Rattle.hac_journal.specs.Laws.{NoneIsClosed, RecordsAreFound};
 
 /// Records of a file are found one by one, up to the closed gate behind them.
 pub fn records_are_found()

@@ -1,5 +1,6 @@
 //! Going over a log, record by record, while the disk is read in larger pieces.
-ghost use Rattle.std.specs.Prelude.{◌≡◌, ◌+◌, ◌<◌, ◌≤◌, ◌^◌, [], IfOk, IsErrOf, MatchOption, drop, length, take};
+ghost use Rattle.std.specs.Prelude.{◌≡◌, ◌+◌, ◌<◌, ◌≤◌, ◌^◌, [], IfOk, IsErrOf, MatchOption, drop};
+ghost use Rattle.std.specs.Prelude.{length, take};
 ghost use Rattle.hac_outside.specs.Causes.{Rose};
 ghost use Rattle.hac_disk.specs.Images.{IsQuiet};
 ghost use Rattle.hac_disk.specs.Contents.{HasLength, StandAt};

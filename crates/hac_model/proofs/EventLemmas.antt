@@ -66,11 +66,13 @@ cause-parts s r h =
     let early = no_cause (blocked s r) (layout_cause s r ∷ cycle_cause s r ∷ []) both.0 in
     let layout = no_cause (layout_cause s r) (cycle_cause s r ∷ []) early.1 in
     let cycle = no_cause (cycle_cause s r) [] layout.1 in
-    let answers = no_cause (answer_cause no_answers s r) [] both.1 in
-    (early.0, cycle.0, 
+    let answers = no_cause (answer_cause no_answers s r) [] both.1 in (
+      early.0,
+      cycle.0,
       passed-both (led_to no_answers s r)
-      (no_limit (first_passed (layout_limits (counts (led_to no_answers s r)))) layout.0)
-      (no_limit (first_passed (answer_limits (counts (led_to no_answers s r)))) answers.0))
+          (no_limit (first_passed (layout_limits (counts (led_to no_answers s r)))) layout.0)
+          (no_limit (first_passed (answer_limits (counts (led_to no_answers s r)))) answers.0),
+    )
 
 lives-some : (s : State) (n : ℕ) → is_live s.entries n ≡ true → (n == 0) ≡ false → is_some (entry_at s.entries n) ≡ true
 lives-some s n lives other = ap (λ (b : Bool). b || is_some (entry_at s.entries n)) (sym other) ∙ lives

@@ -160,8 +160,8 @@ turn_of-leads given setting next reply events state whole end =
     let steps = steps_behind given.steps next in
     record {
       state =
-      stored-all steps next.state ∙ ap (apply_all (stored next.state)) (steps-stored given.steps next) ∙ ap (λ (s : State). apply_all s steps) state
-      ∙ sym (apply_all-append events steps (stored setting.state));
+          stored-all steps next.state ∙ ap (apply_all (stored next.state)) (steps-stored given.steps next) ∙ ap (λ (s : State). apply_all s steps) state
+          ∙ sym (apply_all-append events steps (stored setting.state));
       whole = ap (λ (s : State). apply_all s steps) whole ∙ sym (apply_all-append events steps setting.state);
       end = ap (λ (end : ℕ). end_behind end steps) end ∙ sym (end_behind-append events steps setting.end);
     }
@@ -174,9 +174,9 @@ command-leads given setting (Err refusal) = refused-leads given setting refusal
 command-leads given setting (Ok command) =
     elim (turn_cause setting command) as (λ o. Leads setting (option_map_or (refused given setting) o (answered given setting command))) [
       | None ↦ turn_of-leads given setting (left setting command) (Lines (data_lines no_answers setting.state command)) (stored_events setting.state command)
-        (stored-all (events_of no_answers setting.state command) setting.state)
-        (ap (apply_all setting.state) (sym (stores-all setting.state command)))
-        refl
+          (stored-all (events_of no_answers setting.state command) setting.state)
+          (ap (apply_all setting.state) (sym (stores-all setting.state command)))
+          refl
       | Some refusal ↦ refused-leads given setting refusal
     ]
 

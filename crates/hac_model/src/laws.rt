@@ -1,5 +1,17 @@
 //! Theorems over the definitions alone. Each is the contract of a function that does nothing.
-ghost use Rattle.hac_model.specs.Laws.{MarksAreSet, MarksStay, QueriesLeaveMarks, MarksGo, LinksAreUnmarked, FoundAreIndexed, AddedAreProvided, RemovedAreNotProvided, ScriptsJoin, WholeIsLines, WholeIsFront, WholeIsLongest, EmptyIsValid, EventsKeepValid, BareCommutes, FactsFollow, PartsTellState, LinesSpell, CommandsHappen, StepsAreDue, StepsClean, IndexCleans, ScriptsKeepValid, EventsLead, EventsEnd, AcceptedAreSpelled, SessionsAreNotStored, FullStore, FirstEnd, FirstCommandLines, NoCommandLines, LinksStay, LinksAreOnly, ValidIsAcyclic, PlainTellsState, LooksFind, LooksTell, MovesRename, PrintedTextIsRead, PrintedTextIsOneLine, QuotedWordIsRead, QuotesAreOneSpelling, FirstListings, MovedListings};
+ghost use Rattle.hac_model.specs.Laws.{MarksAreSet, MarksStay, QueriesLeaveMarks, MarksGo};
+ghost use Rattle.hac_model.specs.Laws.{LinksAreUnmarked, FoundAreIndexed, AddedAreProvided};
+ghost use Rattle.hac_model.specs.Laws.{RemovedAreNotProvided, ScriptsJoin, WholeIsLines};
+ghost use Rattle.hac_model.specs.Laws.{WholeIsFront, WholeIsLongest, EmptyIsValid, EventsKeepValid};
+ghost use Rattle.hac_model.specs.Laws.{BareCommutes, FactsFollow, PartsTellState, LinesSpell};
+ghost use Rattle.hac_model.specs.Laws.{CommandsHappen, StepsAreDue, StepsClean, IndexCleans};
+ghost use Rattle.hac_model.specs.Laws.{ScriptsKeepValid, EventsLead, EventsEnd, AcceptedAreSpelled};
+ghost use Rattle.hac_model.specs.Laws.{SessionsAreNotStored, FullStore, FirstEnd};
+ghost use Rattle.hac_model.specs.Laws.{FirstCommandLines, NoCommandLines, LinksStay, LinksAreOnly};
+ghost use Rattle.hac_model.specs.Laws.{ValidIsAcyclic, PlainTellsState, LooksFind, LooksTell};
+ghost use Rattle.hac_model.specs.Laws.{MovesRename, PrintedTextIsRead, PrintedTextIsOneLine};
+ghost use Rattle.hac_model.specs.Laws.{QuotedWordIsRead, QuotesAreOneSpelling, FirstListings};
+ghost use Rattle.hac_model.specs.Laws.{MovedListings};
 
 /// Two joined scripts are played one after the other, where the first one consists of whole lines,
 /// each with its end and the bytes that belong to it. No line looks further ahead, and none looks

@@ -1,6 +1,7 @@
 //! How an item is linked in a semantic directory.
 ghost use Rattle.std.specs.Prelude.{◌≡◌};
-ghost use Rattle.hac_model.specs.Tree.Kinds.{is_linked, is_permanent, is_prohibited, is_transient, is_unlinked};
+ghost use Rattle.hac_model.specs.Tree.Kinds.{is_linked, is_permanent, is_prohibited, is_transient};
+ghost use Rattle.hac_model.specs.Tree.Kinds.{is_unlinked};
 
 use crate::numbers::Number;
 

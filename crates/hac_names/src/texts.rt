@@ -1,9 +1,11 @@
 //! Texts as they are printed, and as they are read where a command spells one. What a text says is
 //! not known here.
-ghost use Rattle.std.specs.Prelude.{◌≡◌, ◌++◌, ◌<◌, ◌&&◌, ◌+◌, ◌*◌, length, is_some, IfSome, IfOk, OnOk};
+ghost use Rattle.std.specs.Prelude.{◌≡◌, ◌++◌, ◌<◌, ◌&&◌, ◌+◌, ◌*◌, length, is_some, IfSome, IfOk};
+ghost use Rattle.std.specs.Prelude.{OnOk};
 ghost use Rattle.std.specs.Char.{digit_char, digit_value, is_digit};
 ghost use Rattle.std.specs.Option.{option_map};
-ghost use Rattle.hac_model.specs.Script.Texts.{escape_meaning, escape_of, escaped_text, hex_of, hex_byte, escaped_byte, text_of};
+ghost use Rattle.hac_model.specs.Script.Texts.{escape_meaning, escape_of, escaped_text, hex_of};
+ghost use Rattle.hac_model.specs.Script.Texts.{hex_byte, escaped_byte, text_of};
 ghost use Rattle.hac_names.specs.Spelling.{SpellsFirst};
 
 use hac_model::Memory;

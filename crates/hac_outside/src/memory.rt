@@ -1,5 +1,6 @@
 //! A source and a sink in memory, which cut their bytes into pieces and fail at chosen calls.
-ghost use Rattle.std.specs.Prelude.{◌≡◌, ◌≢◌, ◌<◌, ◌≤◌, ◌-◌, ◌↔◌, ◌⊎◌, [], false, Contains, IfOk, IsErr, Ok, OnErr, OnOk, length, min, slice_get, take};
+ghost use Rattle.std.specs.Prelude.{◌≡◌, ◌≢◌, ◌<◌, ◌≤◌, ◌-◌, ◌↔◌, ◌⊎◌, [], false, Contains, IfOk};
+ghost use Rattle.std.specs.Prelude.{IsErr, Ok, OnErr, OnOk, length, min, slice_get, take};
 ghost use Rattle.std.specs.Io.{ReadsAtMost, WritesAtMost};
 ghost use Rattle.std.specs.Io.KnownBytes.{Keeps, ReadConsumes, WriteAppends};
 ghost use Rattle.hac_outside.specs.Causes.{HasCause};

@@ -3,7 +3,8 @@ ghost use Rattle.std.specs.Prelude.{◌≡◌, ◌||◌, ◌∷◌, [], false, I
 ghost use Rattle.std.specs.Io.KnownBytes.{Appends};
 ghost use Rattle.hac_outside.specs.Causes.{HasCause};
 ghost use Rattle.hac_outside.specs.Seen.{WritesSome};
-ghost use Rattle.hac_model.specs.Run.Play.{has_refusal, is_refused, item_turn, nothing_given, turns};
+ghost use Rattle.hac_model.specs.Run.Play.{has_refusal, is_refused, item_turn, nothing_given};
+ghost use Rattle.hac_model.specs.Run.Play.{turns};
 ghost use Rattle.hac_model.specs.Script.Lines.{item_taken};
 ghost use Rattle.hac_model.specs.Script.Printed.{text};
 ghost use Rattle.hac_store.specs.Stores.{Bears};

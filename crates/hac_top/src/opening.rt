@@ -8,7 +8,8 @@ ghost use Rattle.hac_store.specs.Faults.{is_disk_fault};
 ghost use Rattle.hac_store.specs.Held.{held};
 ghost use Rattle.hac_store.specs.Stores.{Bears, Stands};
 ghost use Rattle.hac_top.specs.Attaching.{AttachesStore, MayAttach};
-ghost use Rattle.hac_top.specs.Crashes.{IsOpened, Reopens, StopsOpening, opening_outcome, opening_result};
+ghost use Rattle.hac_top.specs.Crashes.{IsOpened, Reopens, StopsOpening, opening_outcome};
+ghost use Rattle.hac_top.specs.Crashes.{opening_result};
 ghost use Rattle.hac_top.specs.Ends.{reports_disk};
 ghost use Rattle.hac_top.specs.Words.{asked_of};
 

@@ -11,7 +11,8 @@ ghost use Rattle.hac_store.specs.Stores.{Bears};
 ghost use Rattle.hac_top.specs.Attaching.{AttachesStore, MayAttach};
 ghost use Rattle.hac_top.specs.Crashes.{IsOfFile, opening_outcome};
 ghost use Rattle.hac_top.specs.Ends.{end_status, is_disk_fault, is_write_fault};
-ghost use Rattle.hac_top.specs.Run.{AppendsSome, Ends, EndsSo, IfOpens, IsFaultless, PlaysStore, Ran, RefusesWords, outside, usage_line};
+ghost use Rattle.hac_top.specs.Run.{AppendsSome, Ends, EndsSo, IfOpens, IsFaultless, PlaysStore};
+ghost use Rattle.hac_top.specs.Run.{Ran, RefusesWords, outside, usage_line};
 
 use crate::answering::{Player, write_now};
 use crate::opening::open_store;

@@ -1,7 +1,8 @@
 //! Taking the next line of the script, with the bytes that belong to it.
 ghost use Rattle.std.specs.Prelude.{◌≡◌, ◌≤◌, IfOk, IfErr};
 ghost use Rattle.std.specs.Option.{unwrap_or};
-ghost use Rattle.shell_lang.specs.Reading.{given, IsReading, IsReaderBehind, IsReaderOf, LeavesReader};
+ghost use Rattle.shell_lang.specs.Reading.{given, IsReading, IsReaderBehind, IsReaderOf};
+ghost use Rattle.shell_lang.specs.Reading.{LeavesReader};
 ghost use Rattle.shell_lang.specs.Takes.{FallsShort};
 ghost use Rattle.hac_top.specs.TakenLines.{GivesDue, StopsTaking, TakesLine, due_of_piece};
 

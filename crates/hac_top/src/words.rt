@@ -3,7 +3,8 @@
 ghost use Rattle.std.specs.Prelude.{◌≡◌, ◌∷◌, [], false, List, ℕ, map, string_bytes};
 ghost use Rattle.std.specs.Option.{option_map};
 ghost use Rattle.hac_model.specs.Script.CommandLine.{options, is_option};
-ghost use Rattle.hac_top.specs.Words.{asked_of, asked_on, asked_after, asked_with_name, asked_with_option};
+ghost use Rattle.hac_top.specs.Words.{asked_of, asked_on, asked_after, asked_with_name};
+ghost use Rattle.hac_top.specs.Words.{asked_with_option};
 
 /// What the words ask for.
 #[derive(Clone, Copy, Debug)]

@@ -1,5 +1,6 @@
 //! Theorems over the definitions alone. Each is the contract of a function that does nothing.
-ghost use Rattle.hac_words.specs.Laws.{TermsAreFound, WordsAreDetermined, WordsAreWords, WordsRise, WordsStay};
+ghost use Rattle.hac_words.specs.Laws.{TermsAreFound, WordsAreDetermined, WordsAreWords, WordsRise};
+ghost use Rattle.hac_words.specs.Laws.{WordsStay};
 
 /// Each word of a text is a word by itself.
 pub fn words_are_words()

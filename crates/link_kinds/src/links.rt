@@ -1,11 +1,14 @@
 //! Links: the kind of each item in each semantic directory. It knows nothing of what makes an item
 //! a link.
-ghost use Rattle.std.specs.Prelude.{◌≡◌, ◌==◌, ◌&&◌, ◌||◌, ◌<◌, ◌+◌, length, max, ℕ, IfOk, IsTrue, None, Some, OnErr, OnOk, false, if◌then◌else◌, nat_eq, not};
+ghost use Rattle.std.specs.Prelude.{◌≡◌, ◌==◌, ◌&&◌, ◌||◌, ◌<◌, ◌+◌, length, max, ℕ, IfOk, IsTrue};
+ghost use Rattle.std.specs.Prelude.{None, Some, OnErr, OnOk, false, if◌then◌else◌, nat_eq, not};
 ghost use Rattle.indexmap.specs.IndexMap.{get, spare};
 ghost use Rattle.set_pool.specs.Rising.{first_from};
 ghost use Rattle.set_pool.specs.Sets as pool_sets;
 ghost use Rattle.link_kinds.specs.Kinds.{items_of, no_lists, with_kind};
-ghost use Rattle.link_kinds.specs.Seen.{AllApart, ChangesDir, DropsItem, IsEmpty, LinkListsRise, LosesOneAtMost, SameKinds, SameLinks, has_sets, kind_at, lists_in, permanent_in, prohibited_in, transient_in};
+ghost use Rattle.link_kinds.specs.Seen.{AllApart, ChangesDir, DropsItem, IsEmpty, LinkListsRise};
+ghost use Rattle.link_kinds.specs.Seen.{LosesOneAtMost, SameKinds, SameLinks, has_sets, kind_at};
+ghost use Rattle.link_kinds.specs.Seen.{lists_in, permanent_in, prohibited_in, transient_in};
 
 use crate::sets::DirSets;
 use hac_model::{Kind, Memory, Number};

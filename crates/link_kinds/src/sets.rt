@@ -2,7 +2,8 @@
 ghost use Rattle.std.specs.Prelude.{◌≡◌, ◌+◌, ◌<◌, ◌≤◌, [], length, None, Some};
 ghost use Rattle.set_pool.specs.Rising.{first_from};
 ghost use Rattle.set_pool.specs.Sets.{AllListsRise, SameLive};
-ghost use Rattle.link_kinds.specs.Kept.{AreDistinct, AreFresh, AreLive, ChangesAll, OthersStay, dir_lists};
+ghost use Rattle.link_kinds.specs.Kept.{AreDistinct, AreFresh, AreLive, ChangesAll, OthersStay};
+ghost use Rattle.link_kinds.specs.Kept.{dir_lists};
 ghost use Rattle.link_kinds.specs.Kinds.{items_of, kind_in, with_kind};
 ghost use Rattle.link_kinds.specs.Seen.{LosesOneAtMost};
 

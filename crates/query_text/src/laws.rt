@@ -1,5 +1,7 @@
 //! Theorems over the definitions alone. Each is the contract of a function that does nothing.
-ghost use Rattle.query_text.specs.Laws.{AtMostOneReading, ParenthesesAreNeeded, PrintedQueryIsRead, PrintedQueryIsReadBack, QueriesAreFound, QueriesAreRead, ReadQueriesAreSpelled};
+ghost use Rattle.query_text.specs.Laws.{AtMostOneReading, ParenthesesAreNeeded, PrintedQueryIsRead};
+ghost use Rattle.query_text.specs.Laws.{PrintedQueryIsReadBack, QueriesAreFound, QueriesAreRead};
+ghost use Rattle.query_text.specs.Laws.{ReadQueriesAreSpelled};
 
 /// No bytes are two queries.
 pub fn at_most_one_reading()

@@ -1,5 +1,6 @@
 //! Queries as they are printed.
-ghost use Rattle.std.specs.Prelude.{◌≡◌, ◌++◌, codes, is_some, IfOk, IsTrue, MatchOption, None, Some};
+ghost use Rattle.std.specs.Prelude.{◌≡◌, ◌++◌, codes, is_some, IfOk, IsTrue, MatchOption, None};
+ghost use Rattle.std.specs.Prelude.{Some};
 ghost use Rattle.hac_model.specs.Tree.Paths.{path_text};
 ghost use Rattle.hac_model.specs.Query.Grammar.{escape, escaped};
 ghost use Rattle.hac_model.specs.Query.QueryText as text;

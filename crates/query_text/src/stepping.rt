@@ -1,5 +1,6 @@
 //! What one byte more makes of what was read of a query.
-ghost use Rattle.std.specs.Prelude.{◌≡◌, ◌==◌, ◌∷◌, ◌++◌, [], if◌then◌else◌, option_and_then, Ok, Err, Some, IfOk, MatchResult};
+ghost use Rattle.std.specs.Prelude.{◌≡◌, ◌==◌, ◌∷◌, ◌++◌, [], if◌then◌else◌, option_and_then, Ok};
+ghost use Rattle.std.specs.Prelude.{Err, Some, IfOk, MatchResult};
 ghost use Rattle.std.specs.Option.{option_map};
 ghost use Rattle.hac_model.specs.Query.Grammar as grammar;
 ghost use Rattle.hac_model.specs.Query.QueryReading as reading;

@@ -3,7 +3,8 @@ ghost use Rattle.std.specs.Prelude.{◌≡◌, ◌∷◌, [], IfNone, IfOk, IfSo
 ghost use Rattle.std.specs.Option.{option_and_then, option_map, option_to_list, unwrap_or};
 ghost use Rattle.sem_mounts.specs.Answering.{AreRisingNames, names_with, text_at};
 ghost use Rattle.sem_mounts.specs.Catalogue.{names};
-ghost use Rattle.sem_mounts.specs.Gathering.{AreAnswers, AreGathered, asked_spaces, documents_in, gather_fault};
+ghost use Rattle.sem_mounts.specs.Gathering.{AreAnswers, AreGathered, asked_spaces, documents_in};
+ghost use Rattle.sem_mounts.specs.Gathering.{gather_fault};
 
 use crate::entries::{copy_of, push};
 use crate::faults::SpaceFault;

@@ -1,5 +1,7 @@
 //! Spaces in memory, which fail at chosen calls.
-ghost use Rattle.std.specs.Prelude.{◌≡◌, ◌⊎◌, ◌↔◌, ◌++◌, ◌∷◌, [], false, Contains, IfOk, IsErr, IsFalse, IsTrue, OnErr, OnOk, if◌then◌else◌, is_ok, not, refl, Some};
+ghost use Rattle.std.specs.Prelude.{◌≡◌, ◌⊎◌, ◌↔◌, ◌++◌, ◌∷◌, [], false, Contains, IfOk, IsErr};
+ghost use Rattle.std.specs.Prelude.{IsFalse, IsTrue, OnErr, OnOk, if◌then◌else◌, is_ok, not, refl};
+ghost use Rattle.std.specs.Prelude.{Some};
 ghost use Rattle.std.specs.Map.{lookup};
 ghost use Rattle.std.specs.Option.{option_copied, option_map};
 ghost use Rattle.std.specs.Str.{bytes_eq};
@@ -7,8 +9,10 @@ ghost use Rattle.hac_outside.specs.Calls.{next_number};
 ghost use Rattle.hac_outside.specs.Causes.{ReportsFault};
 ghost use Rattle.sem_mounts.specs.Answering.{AreRisingNames, names_with, text_at};
 ghost use Rattle.sem_mounts.specs.Catalogue.{names};
-ghost use Rattle.sem_mounts.specs.Memory.{FailsToAnswer, FailsToAttach, IsNextCall, is_out_of_memory};
-ghost use Rattle.sem_mounts.specs.Seen.{AreAsked, Attaches, IsSaid, has_entry, is_absent, is_attach_failed, is_attached, is_failed};
+ghost use Rattle.sem_mounts.specs.Memory.{FailsToAnswer, FailsToAttach, IsNextCall};
+ghost use Rattle.sem_mounts.specs.Memory.{is_out_of_memory};
+ghost use Rattle.sem_mounts.specs.Seen.{AreAsked, Attaches, IsSaid, has_entry, is_absent};
+ghost use Rattle.sem_mounts.specs.Seen.{is_attach_failed, is_attached, is_failed};
 
 use crate::catalogues::read_catalogue;
 use crate::documents::Docs;

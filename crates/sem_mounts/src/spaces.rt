@@ -1,11 +1,13 @@
 //! Spaces: where the documents of mounts come from.
-ghost use Rattle.std.specs.Prelude.{◌≡◌, ◌++◌, ◌∷◌, [], IfOk, IfSome, false, if◌then◌else◌, is_ok, map};
+ghost use Rattle.std.specs.Prelude.{◌≡◌, ◌++◌, ◌∷◌, [], IfOk, IfSome, false, if◌then◌else◌, is_ok};
+ghost use Rattle.std.specs.Prelude.{map};
 ghost use Rattle.std.specs.Option.{option_map};
 ghost use Rattle.hac_outside.specs.Causes.{ReportsFault};
 ghost use Rattle.hac_outside.specs.Known.{Known};
 ghost use Rattle.sem_mounts.specs.Answering.{AreRisingNames, names_with, text_at};
 ghost use Rattle.sem_mounts.specs.Catalogue.{names};
-ghost use Rattle.sem_mounts.specs.Seen.{AreAsked, Attaches, IsSaid, SpacesSeen, is_attach_failed, is_attached};
+ghost use Rattle.sem_mounts.specs.Seen.{AreAsked, Attaches, IsSaid, SpacesSeen, is_attach_failed};
+ghost use Rattle.sem_mounts.specs.Seen.{is_attached};
 
 use crate::faults::{AttachFault, SpaceFault};
 use hac_model::{Name, Term};

@@ -1,5 +1,6 @@
 //! Puts a number into a tree. Where a block is needed, one is taken from those that were set aside.
-ghost use Rattle.std.specs.Prelude.{◌≡◌, ◌≢◌, ◌+◌, ◌<◌, ◌≤◌, ◌↔◌, [], ◌∷◌, ◌++◌, IsTrue, not, vec_len};
+ghost use Rattle.std.specs.Prelude.{◌≡◌, ◌≢◌, ◌+◌, ◌<◌, ◌≤◌, ◌↔◌, [], ◌∷◌, ◌++◌, IsTrue, not};
+ghost use Rattle.std.specs.Prelude.{vec_len};
 ghost use Rattle.set_pool.specs.Rising.{Rises, inserted, is_among};
 ghost use Rattle.set_pool.specs.Rows.{LiesAt, members};
 ghost use Rattle.set_pool.specs.Trees.{TakesOneAtMost, numbers_in};

@@ -1,8 +1,11 @@
 //! The pool: sets by name, and what was set aside for those to come. It knows nothing of how a set
 //! is kept.
-ghost use Rattle.std.specs.Prelude.{◌≡◌, ◌+◌, ◌<◌, ◌≤◌, [], length, max, not, IfOk, IsTrue, None, OnErr, OnOk, Some, false, vec_len, ℕ};
+ghost use Rattle.std.specs.Prelude.{◌≡◌, ◌+◌, ◌<◌, ◌≤◌, [], length, max, not, IfOk, IsTrue, None};
+ghost use Rattle.std.specs.Prelude.{OnErr, OnOk, Some, false, vec_len, ℕ};
 ghost use Rattle.set_pool.specs.Rising.{first_from, inserted, is_among, removed};
-ghost use Rattle.set_pool.specs.Sets.{AllListsRise, BeginsSet, Changes, Clears, Drops, EndsSet, Joins, Leaves, SameLive, SameMembers, SameSets, SpendsNone, SpendsOne, is_in, is_live, list_of, members_of};
+ghost use Rattle.set_pool.specs.Sets.{AllListsRise, BeginsSet, Changes, Clears, Drops, EndsSet};
+ghost use Rattle.set_pool.specs.Sets.{Joins, Leaves, SameLive, SameMembers, SameSets, SpendsNone};
+ghost use Rattle.set_pool.specs.Sets.{SpendsOne, is_in, is_live, list_of, members_of};
 
 use crate::rows::Row;
 use crate::slots::Slots;

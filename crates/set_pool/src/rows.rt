@@ -1,5 +1,6 @@
 //! A row: one to seven numbers that rise, in 64 bytes. It knows nothing of the sides beside it.
-ghost use Rattle.std.specs.Prelude.{◌≡◌, ◌≢◌, ◌↔◌, [], ◌∷◌, ◌++◌, List, ℕ, IsTrue, MatchBool, ◌≤◌, false, length, nat_lt};
+ghost use Rattle.std.specs.Prelude.{◌≡◌, ◌≢◌, ◌↔◌, [], ◌∷◌, ◌++◌, List, ℕ, IsTrue, MatchBool, ◌≤◌};
+ghost use Rattle.std.specs.Prelude.{false, length, nat_lt};
 ghost use Rattle.arrayvec.specs.ArrayVec.{array_vec_len};
 ghost use Rattle.std.specs.List.{prefix_len};
 ghost use Rattle.set_pool.specs.Rising.{Rises, first_from, inserted, is_among, removed};

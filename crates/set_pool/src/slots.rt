@@ -1,9 +1,11 @@
 //! The names of sets, and the tree of each that is live. A name is the place of its slot; those
 //! that are free stand on a stack within the slots, so that a name that was freed is used again. It
 //! knows nothing of what is reserved.
-ghost use Rattle.std.specs.Prelude.{◌≡◌, ◌+◌, ◌<◌, ◌≤◌, [], length, not, false, IsTrue, OnErr, OnOk, vec_len};
+ghost use Rattle.std.specs.Prelude.{◌≡◌, ◌+◌, ◌<◌, ◌≤◌, [], length, not, false, IsTrue, OnErr};
+ghost use Rattle.std.specs.Prelude.{OnOk, vec_len};
 ghost use Rattle.set_pool.specs.Rising.{Rises, inserted, is_among, removed};
-ghost use Rattle.set_pool.specs.Lists.{AllRise, ChangesAt, DropsAt, SameLists, is_live_at, members_at};
+ghost use Rattle.set_pool.specs.Lists.{AllRise, ChangesAt, DropsAt, SameLists, is_live_at};
+ghost use Rattle.set_pool.specs.Lists.{members_at};
 ghost use Rattle.set_pool.specs.Slots.{link_of, members_in, slots_without};
 ghost use Rattle.set_pool.specs.Trees.{TakesOneAtMost};
 

@@ -1,7 +1,8 @@
 //! A line's command. What a command does is not known here.
 ghost use Rattle.std.specs.Prelude.{IfOk, IsTrue};
 ghost use Rattle.hac_model.specs.Run.Answers.{Answers};
-ghost use Rattle.hac_model.specs.Script.Lines.{alone, called_with, command_with, is_spelled, item_taken, named_command};
+ghost use Rattle.hac_model.specs.Script.Lines.{alone, called_with, command_with, is_spelled};
+ghost use Rattle.hac_model.specs.Script.Lines.{item_taken, named_command};
 ghost use Rattle.hac_model.specs.declared.commands.Command.TheVariants.{Index, Counts};
 
 use crate::putting::{is_put, parse_put};

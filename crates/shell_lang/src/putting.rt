@@ -5,7 +5,8 @@ ghost use Rattle.std.specs.List.{list_all};
 ghost use Rattle.std.specs.Str.{bytes_eq};
 ghost use Rattle.std.specs.Str.Parse.{digits_value};
 ghost use Rattle.hac_model.specs.Run.Answers.{Answers, AnswersSeen};
-ghost use Rattle.hac_model.specs.Script.Lines.{asked, is_put, put_at, put_length, put_of, put_words};
+ghost use Rattle.hac_model.specs.Script.Lines.{asked, is_put, put_at, put_length, put_of};
+ghost use Rattle.hac_model.specs.Script.Lines.{put_words};
 ghost use Rattle.hac_model.specs.Script.Puts.{is_length};
 
 use crate::paths::parse_path;

@@ -1,5 +1,7 @@
 //! Lines out of a stream of bytes, in whatever pieces the stream comes.
-ghost use Rattle.std.specs.Prelude.{◌≡◌, ℕ, ◌+◌, ◌-◌, ◌<◌, ◌≤◌, ◌⊎◌, ◌++◌, true, false, [], length, vec_len, take, drop, max, IfOk, OnOk, OnErr, IsErrOf, IfSome, IfNone, MatchOption, MatchResult, slice_index, ◌==◌, position};
+ghost use Rattle.std.specs.Prelude.{◌≡◌, ℕ, ◌+◌, ◌-◌, ◌<◌, ◌≤◌, ◌⊎◌, ◌++◌, true, false, [], length};
+ghost use Rattle.std.specs.Prelude.{vec_len, take, drop, max, IfOk, OnOk, OnErr, IsErrOf, IfSome};
+ghost use Rattle.std.specs.Prelude.{IfNone, MatchOption, MatchResult, slice_index, ◌==◌, position};
 ghost use Rattle.std.specs.List.{position_or_len};
 ghost use Rattle.std.specs.Io.KnownBytes.{Keeps};
 ghost use Rattle.hac_outside.specs.Causes.{ReportsFault};
@@ -8,8 +10,11 @@ ghost use Rattle.hac_model.specs.Script.Lines.{is_quiet};
 ghost use Rattle.hac_model.specs.declared.limits.TheConstants.{TEXT_LIMIT};
 ghost use Rattle.hac_model.specs.Script.{is_first_ended};
 ghost use Rattle.hac_outside.specs.Known.{Known};
-ghost use Rattle.shell_lang.specs.Reading.{pending, given, is_read_fault, piece_size, IsUnended, IsReading, IsReaderBehind, IsReaderOf, LeavesReader, ReadsOn, ReadsPiece};
-ghost use Rattle.shell_lang.specs.Pieces.{piece_of, GivesPiece, PieceAdvances, IsLineFound, IsPastLimit};
+ghost use Rattle.shell_lang.specs.Reading.{pending, given, is_read_fault, piece_size, IsUnended};
+ghost use Rattle.shell_lang.specs.Reading.{IsReading, IsReaderBehind, IsReaderOf, LeavesReader};
+ghost use Rattle.shell_lang.specs.Reading.{ReadsOn, ReadsPiece};
+ghost use Rattle.shell_lang.specs.Pieces.{piece_of, GivesPiece, PieceAdvances, IsLineFound};
+ghost use Rattle.shell_lang.specs.Pieces.{IsPastLimit};
 
 mod taking;
 

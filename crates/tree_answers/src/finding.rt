@@ -1,6 +1,7 @@
 //! The links that queries give to directories, found anew where a command asks for them.
 ghost use Rattle.std.specs.Prelude.{◌≡◌, ◌≤◌, IfOk, IsTrue, OnOk};
-ghost use Rattle.hac_model.specs.Tree.Links.{atom, column, has, holds, is_unmarked, links, parent_of, provide, satisfies};
+ghost use Rattle.hac_model.specs.Tree.Links.{atom, column, has, holds, is_unmarked, links};
+ghost use Rattle.hac_model.specs.Tree.Links.{parent_of, provide, satisfies};
 ghost use Rattle.hac_model.specs.Tree.{is_file_at};
 ghost use Rattle.link_kinds.specs.Seen.{LinkListsRise, transient_in};
 ghost use Rattle.tree_answers.specs.Finding.{AreFound, GetsFound, GetsOne, finds};

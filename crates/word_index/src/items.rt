@@ -1,5 +1,6 @@
 //! The words of each item, in a map by its number.
-ghost use Rattle.std.specs.Prelude.{◌≡◌, ◌⊎◌, ◌==◌, ℕ, [], true, false, nat_eq, if◌then◌else◌, IsTrue, OnErr, OnOk, length};
+ghost use Rattle.std.specs.Prelude.{◌≡◌, ◌⊎◌, ◌==◌, ℕ, [], true, false, nat_eq, if◌then◌else◌};
+ghost use Rattle.std.specs.Prelude.{IsTrue, OnErr, OnOk, length};
 ghost use Rattle.word_index.specs.Items.{SameWords, has_place, is_bare, words_in};
 
 use hac_model::{Memory, Name, Number, Words};

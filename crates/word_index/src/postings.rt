@@ -1,11 +1,14 @@
 //! Postings: for each word a set of the items that have it. They know nothing of what else an item
 //! has.
-ghost use Rattle.std.specs.Prelude.{◌≡◌, ◌<◌, ◌≤◌, ◌+◌, ◌&&◌, ◌||◌, ◌==◌, ◌⊎◌, ℕ, List, IfOk, IsTrue, None, OnErr, OnOk, Some, false, if◌then◌else◌, true, length, not};
+ghost use Rattle.std.specs.Prelude.{◌≡◌, ◌<◌, ◌≤◌, ◌+◌, ◌&&◌, ◌||◌, ◌==◌, ◌⊎◌, ℕ, List, IfOk};
+ghost use Rattle.std.specs.Prelude.{IsTrue, None, OnErr, OnOk, Some, false, if◌then◌else◌, true};
+ghost use Rattle.std.specs.Prelude.{length, not};
 ghost use Rattle.std.specs.BTreeMap.{IsUnchanged, get, is_at};
 ghost use Rattle.std.specs.Cmp.Lexicographic.{slice_cmp};
 ghost use Rattle.std.specs.Ordering.{nat_cmp};
 ghost use Rattle.std.specs.Str.{bytes_eq};
-ghost use Rattle.word_index.specs.Posted.{FewerSets, IsPosted, SameItems, SameSets, has_set, is_posted};
+ghost use Rattle.word_index.specs.Posted.{FewerSets, IsPosted, SameItems, SameSets, has_set};
+ghost use Rattle.word_index.specs.Posted.{is_posted};
 ghost use Rattle.word_index.specs.Words.{has_word};
 
 use hac_model::{Memory, Name, Number};

@@ -1,5 +1,6 @@
 //! The bytes that follow a line, in whatever pieces the stream comes.
-ghost use Rattle.std.specs.Prelude.{◌≡◌, ◌+◌, ◌<◌, ◌≤◌, false, length, min, take, drop, IfOk, IfErr, OnOk, OnErr, IsErrOf};
+ghost use Rattle.std.specs.Prelude.{◌≡◌, ◌+◌, ◌<◌, ◌≤◌, false, length, min, take, drop, IfOk};
+ghost use Rattle.std.specs.Prelude.{IfErr, OnOk, OnErr, IsErrOf};
 ghost use Rattle.hac_model.specs.declared.taken.Taken.TheVariants.{Whole};
 ghost use Rattle.shell_lang.specs.Reading.{IsReading, IsReaderBehind, LeavesReader};
 ghost use Rattle.shell_lang.specs.Takes.{GivesPut, FallsShort, within};
