@@ -39,7 +39,8 @@ impl Room {
 
     /// Whether a part that may have `nots` `NOT`s may come. It makes room for what the part joins.
     pub(crate) fn take(&mut self, nots: u64, token: &Token) -> Result<bool, Memory>
-        ensures { IfOk result (λ taken. TakesPart nots (token_of token.now) self.old self.new taken) }
+        ensures { IfOk result (λ taken. TakesPart nots (token_of token.now) self.old
+            self.new taken) }
     {
         match token {
             Token::Term(term) => Ok(self.take_term(term.letters().len() as u64)),

@@ -86,7 +86,8 @@ impl Machine {
         requires made { IsDraft self.now.state draft }
         requires reads { reads draft ≡ true }
         ensures reply { (command : Resolved) → IsDraftFor self.now.state command draft →
-            IfOk result (λ reply. reply ≡ Reply.Lines (data_lines no_answers self.now.state command)) }
+            IfOk result (λ reply. reply ≡ Reply.Lines
+            (data_lines no_answers self.now.state command)) }
         ensures cause { (command : Resolved) → IsDraftFor self.now.state command draft →
             cause no_answers self.now.state command ≡ None }
     {
@@ -148,7 +149,8 @@ impl Machine {
 
     /// Applies the prepared events. This takes no memory, and can't fail.
     pub fn commit(&mut self)
-        ensures { self.new ≡ record { state = apply_all self.old.state self.old.ready; ready = [] } }
+        ensures { self.new ≡ record { state = apply_all self.old.state self.old.ready;
+            ready = [] } }
     {
         self.kept.commit();
     }

@@ -77,11 +77,14 @@ pub trait Disk {
         ensures cause { HasCause (faults self.old) (faults self.new) result };
 
     // What a read gives is an image.
-    ghost read_is_image: { (disk : Self) (file : List ℕ) → seen disk ≡ Some file → image disk file };
+    ghost read_is_image: { (disk : Self) (file : List ℕ) → seen disk ≡ Some file →
+        image disk file };
 
     // This moment is one of those since an earlier one.
-    ghost counts_now: { (disk : Self) (t : ℕ) (c : List ℕ) → t ≤ moment disk → image disk c → image_since disk t c };
+    ghost counts_now: { (disk : Self) (t : ℕ) (c : List ℕ) → t ≤ moment disk → image disk c →
+        image_since disk t c };
 
     // Since this moment there is no other.
-    ghost only_now: { (disk : Self) (c : List ℕ) → image_since disk (moment disk) c → image disk c };
+    ghost only_now: { (disk : Self) (c : List ℕ) → image_since disk (moment disk) c →
+        image disk c };
 }

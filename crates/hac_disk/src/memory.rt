@@ -188,7 +188,8 @@ impl Disk for MemoryDisk {
 
     fn write_at(&mut self, at: u64, bytes: &[u8]) -> Result<(), Failed>
         requires { StartsWithin (bytes_of_disk self.old) at }
-        ensures written { OnOk result (Written (bytes_of_disk self.old) at bytes.now (bytes_of_disk self.new)) }
+        ensures written { OnOk result (Written (bytes_of_disk self.old) at bytes.now
+            (bytes_of_disk self.new)) }
         ensures in_part { OnErr result (WrittenInPart (bytes_of_disk self.old) at (length bytes.now)
             (bytes_of_disk self.new)) }
         ensures images { Follows (Torn at (length bytes.now)) (left_after self.old)

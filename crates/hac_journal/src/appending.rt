@@ -40,7 +40,8 @@ pub fn append<D: Disk>(
     // all.
     ensures any_moment { IfSome (D.seen disk.old) (λ _.
         ((c : List ℕ) → D.image disk.old c → ClosedAt end c)
-        → LeavesOnly D.moment D.image_since disk.old disk.new (Appending end (log_of (contents_of payloads.now)) (D.image disk.old))) }
+        → LeavesOnly D.moment D.image_since disk.old disk.new
+        (Appending end (log_of (contents_of payloads.now)) (D.image disk.old))) }
 
     ensures attached { D.attached disk.new ≡ D.attached disk.old }
     ensures later { D.faults disk.old ≤ D.faults disk.new }

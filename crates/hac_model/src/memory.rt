@@ -1,4 +1,4 @@
-//! Want of memory, the one answer that any call which allocates may give.
+//! Out of memory: the one answer that any call which allocates may give.
 ghost use Rattle.std.specs.Prelude.{◌≡◌};
 
 use std::alloc::{AllocError, AllocFailed};

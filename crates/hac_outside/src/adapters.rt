@@ -34,7 +34,8 @@ impl<R: Read> StdSource<R> {
 }
 
 impl<R: Read> Source for StdSource<R> {
-    ghost seen = { λ source. record { left = R.remaining source.inner; faults = source.faults; ended = source.ended } };
+    ghost seen = { λ source. record
+        { left = R.remaining source.inner; faults = source.faults; ended = source.ended } };
 
     fn read(&mut self, into: &mut [u8]) -> Result<usize, Failed> {
         let result = read_again(&mut self.inner, into);
@@ -92,7 +93,8 @@ impl<W: Write> Sink for StdSink<W> {
     ghost use Rattle.hac_outside.specs.Causes.{HasCause};
     ghost use Rattle.hac_outside.specs.Seen.{HoldsMore};
 
-    ghost seen = { λ sink. record { written = W.contents sink.inner; held_back = sink.held_back; faults = sink.faults } };
+    ghost seen = { λ sink. record { written = W.contents sink.inner; held_back = sink.held_back;
+        faults = sink.faults } };
 
     fn write(&mut self, bytes: &[u8]) -> Result<usize, Failed>
         ensures bound { WritesAtMost result bytes.now }

@@ -73,7 +73,8 @@ impl MemorySource {
 impl Source for MemorySource {
     ghost use Rattle.std.specs.Prelude.{Some};
 
-    ghost seen = { λ source. record { left = Some source.left; faults = source.faults; ended = source.ended } };
+    ghost seen = { λ source. record
+        { left = Some source.left; faults = source.faults; ended = source.ended } };
 
     fn read(&mut self, into: &mut [u8]) -> Result<usize, Failed>
         requires { self.old.ended ≡ false }
@@ -156,7 +157,8 @@ impl Model for MemorySink {
       faults = sink.calls.faults;
     } };
 
-    ghost invariant = { λ sink. (sink.flushed ≤ vec_len sink.bytes) × (vec_len sink.bytes + sink.room ≤ vec_capacity sink.bytes) };
+    ghost invariant = { λ sink. (sink.flushed ≤ vec_len sink.bytes)
+        × (vec_len sink.bytes + sink.room ≤ vec_capacity sink.bytes) };
 }
 
 impl MemorySink {

@@ -8,7 +8,7 @@ use Rattle.hac_disk.proofs.Moments.{quiet_leaves, then_quiet, then_run, weaken}
 use Rattle.hac_disk.proofs.ContentsLemmas.{if_known, told-settled}
 use Rattle.hac_journal.specs.Appending.{ClosedAt}
 use Rattle.hac_model.specs.Run.Play.{new_setting}
-use Rattle.hac_store.specs.Creating.{Becomes, IsReady, IsUnheld}
+use Rattle.hac_store.specs.Creating.{Becomes, IsReady, HoldsNone}
 use Rattle.hac_store.specs.Held.{held}
 use Rattle.hac_store.specs.Stores.{IsNewOrNone, Stands}
 use Rattle.hac_store.specs.declared.creating.TheConstants.{NEW}
@@ -88,10 +88,10 @@ module _ {D : Type 0} (seen : D → Option (List ℕ)) (image : D → List ℕ �
   Settled disk = IsSettled (seen disk) (image disk)
 
   -- no write yet, where the file is settled and holds no store
-  quiet-run : (old new : D) (file : List ℕ) → seen old ≡ Some file → Settled old → IsUnheld (seen old) → Quiet old new → LeavesNew old new
+  quiet-run : (old new : D) (file : List ℕ) → seen old ≡ Some file → Settled old → HoldsNone (seen old) → Quiet old new → LeavesNew old new
   quiet-run old new file is settled unheld quiet =
       quiet_leaves moment image_since seen image old new IsNewOrNone
-      (λ c since. unheld-new c (subst (λ f. IsErr (held f)) (sym (told-settled (seen old) file (image old) is settled c (only_now old c since))) (subst IsUnheld is unheld))) quiet
+      (λ c since. unheld-new c (subst (λ f. IsErr (held f)) (sym (told-settled (seen old) file (image old) is settled c (only_now old c since))) (subst HoldsNone is unheld))) quiet
 
   -- one write to a settled file
   write-run : (mid new : D) (at n : ℕ) (file : List ℕ) → seen mid ≡ Some file → Settled mid → Runs mid new at n → ((c : List ℕ) → Torn at n file c → IsNewOrNone c) → LeavesNew mid new
@@ -106,7 +106,7 @@ module _ {D : Type 0} (seen : D → Option (List ℕ)) (image : D → List ℕ �
       subst (λ s. IsSettled s (image mid)) (sym now) (λ c left. only c (quiet.images c left))
 
   -- one write behind quiet calls
-  write-new : (old mid new : D) (at n : ℕ) → Settled old → IsUnheld (seen old) → Quiet old mid → Runs mid new at n
+  write-new : (old mid new : D) (at n : ℕ) → Settled old → HoldsNone (seen old) → Quiet old mid → Runs mid new at n
       → ((file c : List ℕ) → seen old ≡ Some file → Torn at n file c → IsNewOrNone c) → Leaves old new
   write-new old mid new at n settled unheld quiet run each =
       if_known (seen old) (LeavesNew old new) (λ file is.
@@ -114,20 +114,20 @@ module _ {D : Type 0} (seen : D → Option (List ℕ)) (image : D → List ℕ �
       (write-run mid new at n file (quiet.same ∙ is) (quiet-settled old mid file is settled quiet) run (λ c torn. each file c is torn)))
 
   -- the gate is closed
-  pub close-new : (old mid new : D) (into : List ℕ) → Settled old → IsUnheld (seen old) → HasByteAt (seen old) 0 → Quiet old mid → StandAt (seen old) 0 into
+  pub close-new : (old mid new : D) (into : List ℕ) → Settled old → HoldsNone (seen old) → HasByteAt (seen old) 0 → Quiet old mid → StandAt (seen old) 0 into
       → 0 < length into → slice_index into 0 ≡ 1 → Runs mid new 0 1 → Leaves old new
   close-new old mid new into settled unheld some quiet read long gate run =
       write-new old mid new 0 1 settled unheld quiet run
-      (λ file c is torn. torn-shut file c (subst IsUnheld is unheld) (subst (λ s. HasByteAt s 0) is some) (read-gate file into (subst (λ s. StandAt s 0 into) is read) long ∙ gate) torn)
+      (λ file c is torn. torn-shut file c (subst HoldsNone is unheld) (subst (λ s. HasByteAt s 0) is some) (read-gate file into (subst (λ s. StandAt s 0 into) is read) long ∙ gate) torn)
 
   -- an empty file gets all of a new store but its open gate
-  pub first-new : (old mid new : D) (len : ℕ) → Settled old → IsUnheld (seen old) → Quiet old mid → HasLength (seen old) len → len ≡ 0 → Runs mid new 0 65 → Leaves old new
+  pub first-new : (old mid new : D) (len : ℕ) → Settled old → HoldsNone (seen old) → Quiet old mid → HasLength (seen old) len → len ≡ 0 → Runs mid new 0 65 → Leaves old new
   first-new old mid new len settled unheld quiet long none run =
       write-new old mid new 0 65 settled unheld quiet run
       (λ file c is torn. torn-first file c (sym (subst (λ s. HasLength s len) is long) ∙ none) torn)
 
   -- the rest of a new store is written behind a closed gate
-  pub behind-new : (old len mid new : D) (n : ℕ) → Settled old → IsUnheld (seen old) → Quiet old len → Leaves len mid
+  pub behind-new : (old len mid new : D) (n : ℕ) → Settled old → HoldsNone (seen old) → Quiet old len → Leaves len mid
       → Becomes (seen len) (ClosedAt 0) (seen mid) → Settled mid → Runs mid new 1 n → Leaves old new
   behind-new old len mid new n settled unheld quiet closing shut kept run =
       if_known (seen old) (LeavesNew old new) (λ file is.

@@ -13,9 +13,9 @@ none_in (Some (NotStore at)) = Ok tt
 none_in (Some other) = Err other
 
 -- the file holds no store
-abbrev pub IsUnheld : Option (List ℕ) → Type 0
-IsUnheld None = ⊤
-IsUnheld (Some file) = IsErr (held file)
+abbrev pub HoldsNone : Option (List ℕ) → Type 0
+HoldsNone None = ⊤
+HoldsNone (Some file) = IsErr (held file)
 
 -- a disk whose bytes were known goes on so, and has this
 abbrev pub Becomes : Option (List ℕ) → (List ℕ → Type 0) → Option (List ℕ) → Type 0

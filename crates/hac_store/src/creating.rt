@@ -5,7 +5,7 @@ ghost use Rattle.hac_disk.specs.Images.{IsQuiet, LeavesOnly};
 ghost use Rattle.hac_disk.specs.Contents.{HasByteAt, IsSettled};
 ghost use Rattle.hac_journal.specs.Appending.{ClosedAt};
 ghost use Rattle.hac_model.specs.Run.Play.{new_setting};
-ghost use Rattle.hac_store.specs.Creating.{Becomes, IsReady, IsUnheld, none_in};
+ghost use Rattle.hac_store.specs.Creating.{Becomes, IsReady, HoldsNone, none_in};
 ghost use Rattle.hac_store.specs.Faults.{is_disk_fault};
 ghost use Rattle.hac_store.specs.Held.{held};
 ghost use Rattle.hac_store.specs.Stores.{Bears, IsNewOrNone, Stands, first_store};
@@ -45,7 +45,8 @@ impl Store {
         ensures kind { ((at : ℕ) → result ≡ Err (StoreFault.NotStore at) → ⊥) ×
             (result ≡ Err StoreFault.Full → ⊥) }
         ensures attached { D.attached disk.new ≡ D.attached disk.old }
-        ensures faults { ReportsFault (is_disk_fault result) (D.faults disk.old) (D.faults disk.new) }
+        ensures faults { ReportsFault (is_disk_fault result) (D.faults disk.old)
+            (D.faults disk.new) }
     {
         disk.sync()?;
         none(read_store(alloc, disk).err())?;
@@ -67,7 +68,7 @@ fn none(found: Option<StoreFault>) -> Result<(), StoreFault>
 // Makes a new store over a file that holds none.
 fn new_store<D: Disk>(alloc: Global, disk: &mut D) -> Result<Store, StoreFault>
     requires settled { IsSettled (D.seen disk.old) (D.image disk.old) }
-    requires unheld { IsUnheld (D.seen disk.old) }
+    requires unheld { HoldsNone (D.seen disk.old) }
     ensures made { IfOk result (λ store. store ≡ first_store) }
     ensures stands { IfSome (D.seen disk.old) (λ _. OnOk result
         (Stands (D.seen disk.new) (D.image disk.new) new_setting)) }
@@ -100,7 +101,7 @@ fn new_store<D: Disk>(alloc: Global, disk: &mut D) -> Result<Store, StoreFault>
 // Writes the bytes of a new store over a file that holds none.
 fn write_new<D: Disk>(disk: &mut D) -> Result<(), Failed>
     requires settled { IsSettled (D.seen disk.old) (D.image disk.old) }
-    requires unheld { IsUnheld (D.seen disk.old) }
+    requires unheld { HoldsNone (D.seen disk.old) }
     ensures stands { IfSome (D.seen disk.old) (λ _. OnOk result
         (Stands (D.seen disk.new) (D.image disk.new) new_setting)) }
     ensures place { OnOk result (HasByteAt (D.seen disk.new) new_setting.end) }
@@ -116,7 +117,7 @@ fn write_new<D: Disk>(disk: &mut D) -> Result<(), Failed>
 // Writes all of a new store but its open gate.
 fn write_head<D: Disk>(disk: &mut D) -> Result<(), Failed>
     requires settled { IsSettled (D.seen disk.old) (D.image disk.old) }
-    requires unheld { IsUnheld (D.seen disk.old) }
+    requires unheld { HoldsNone (D.seen disk.old) }
     ensures ready { OnOk result (Becomes (D.seen disk.old) IsReady (D.seen disk.new)) }
     ensures settled { OnOk result (IsSettled (D.seen disk.new) (D.image disk.new)) }
     ensures any_moment { IfSome (D.seen disk.old)
@@ -135,7 +136,7 @@ fn write_head<D: Disk>(disk: &mut D) -> Result<(), Failed>
 fn close<D: Disk>(disk: &mut D) -> Result<(), Failed>
     requires some { HasByteAt (D.seen disk.old) 0 }
     requires settled { IsSettled (D.seen disk.old) (D.image disk.old) }
-    requires unheld { IsUnheld (D.seen disk.old) }
+    requires unheld { HoldsNone (D.seen disk.old) }
     ensures shut { OnOk result (Becomes (D.seen disk.old) (ClosedAt 0) (D.seen disk.new)) }
     ensures settled { OnOk result (IsSettled (D.seen disk.new) (D.image disk.new)) }
     ensures any_moment { IfSome (D.seen disk.old)

@@ -39,7 +39,8 @@ impl Store {
         ensures kind { (result ≡ Err StoreFault.AlreadyStore → ⊥) ×
             (result ≡ Err StoreFault.Full → ⊥) }
         ensures attached { D.attached disk.new ≡ D.attached disk.old }
-        ensures faults { ReportsFault (is_disk_fault result) (D.faults disk.old) (D.faults disk.new) }
+        ensures faults { ReportsFault (is_disk_fault result) (D.faults disk.old)
+            (D.faults disk.new) }
     {
         disk.sync()?;
         read_store(alloc, disk)

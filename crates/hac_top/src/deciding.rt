@@ -40,7 +40,8 @@ pub fn decide(
 // What is to be done about a line that spells a command.
 fn decide_line(machine: &Machine, line: Line) -> Result<Decision, Memory>
     requires { IsTrue (is_spelled line.command) }
-    ensures { IfOk result (Decides machine.now.state (λ setting. item_turn nothing_given setting (Ok line))) }
+    ensures { IfOk result (Decides machine.now.state
+        (λ setting. item_turn nothing_given setting (Ok line))) }
 {
     match machine.check(line) {
         Ok(draft) => decide_draft(machine, draft),
@@ -52,7 +53,8 @@ fn decide_line(machine: &Machine, line: Line) -> Result<Decision, Memory>
 fn decide_draft(machine: &Machine, draft: Draft) -> Result<Decision, Memory>
     requires { IsDraft machine.now.state draft }
     ensures { (command : Resolved) → IsDraftFor machine.now.state command draft →
-        IfOk result (Decides machine.now.state (λ setting. command_turn nothing_given setting (Ok command))) }
+        IfOk result (Decides machine.now.state
+        (λ setting. command_turn nothing_given setting (Ok command))) }
 {
     if draft.reads() {
         let reply = machine.ask(draft)?;

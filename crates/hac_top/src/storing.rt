@@ -35,7 +35,8 @@ pub fn store_line<D: Disk>(
     requires intact { store.old.broken ≡ false }
     requires place { Bears (D.seen disk.old) store.old }
     ensures { StoresTurn D.seen D.image D.moment D.image_since D.attached D.faults disk.old disk.new
-        store.old store.new (item_turn nothing_given store.old.setting (item_taken line taken)) result }
+        store.old store.new (item_turn nothing_given store.old.setting
+        (item_taken line taken)) result }
 {
     let decision = decide(alloc, store.machine(), line, taken)?;
     match decision {

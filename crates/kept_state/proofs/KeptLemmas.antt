@@ -24,7 +24,7 @@ use Rattle.link_kinds.specs.Kinds.{Lists}
 use Rattle.link_kinds.specs.Seen.{has_sets, lists_in, permanent_in, prohibited_in}
 use Rattle.kept_state.specs.Kept.{IsKept}
 use Rattle.kept_state.specs.Parts.{AreAlike, IsLinked, facts_kept, state_of}
-use Rattle.kept_state.specs.Ready.{IsPut, IsReady, MayPut, Suits, ready_events}
+use Rattle.kept_state.specs.Ready.{IsCommitted, IsReady, CanCommit, IsPreparedFor, ready_events}
 use Rattle.kept_state.specs.declared.parts.Parts.{Parts}
 use Rattle.kept_state.specs.declared.ready.Ready.{Ready}
 use Rattle.kept_state.specs.declared.ready.Ready.TheVariants.{Change}
@@ -101,7 +101,7 @@ module _ (kept : Parts) (event : Event) where
   next-tree h ok = next-layout kept.tree.state (facts_kept kept) event h.valid ok
 
 -- what was prepared is ready
-pub kept-ready : (kept new : Parts) (ready : Ready) (event : Event) (edges : Option NewEdges) (told : Counts) → IsLinked kept → AreAlike kept new → IsTrue (accepted (state_of kept) event) → Suits event edges new → told ≡ counts (apply (state_of kept) event) →
+pub kept-ready : (kept new : Parts) (ready : Ready) (event : Event) (edges : Option NewEdges) (told : Counts) → IsLinked kept → AreAlike kept new → IsTrue (accepted (state_of kept) event) → IsPreparedFor event edges new → told ≡ counts (apply (state_of kept) event) →
     ready ≡ Change event edges told → IsKept (record { parts = new; ready = ready })
 kept-ready kept new ready event edges told h same ok fits all is =
     let state = sym (alike-state kept new same) in
@@ -112,7 +112,7 @@ kept-ready kept new ready event edges told h same ok fits all is =
     })
 
 -- what is ready may be applied
-pub may-put : (kept : Parts) (ready : Ready) (event : Event) (edges : Option NewEdges) (told : Counts) → IsLinked kept → IsReady ready kept → AllHappen (state_of kept) (ready_events ready) → ready ≡ Change event edges told → MayPut event told kept
+pub may-put : (kept : Parts) (ready : Ready) (event : Event) (edges : Option NewEdges) (told : Counts) → IsLinked kept → IsReady ready kept → AllHappen (state_of kept) (ready_events ready) → ready ≡ Change event edges told → CanCommit event told kept
 may-put kept ready event edges told h fits happen is =
     let ok : IsTrue (accepted (state_of kept) event) = (subst (λ (r : Ready). AllHappen (state_of kept) (ready_events r)) is happen).0 in
     record {
@@ -127,7 +127,7 @@ module _ (kept new : Parts) (event : Event) (h : IsLinked kept) (ok : IsTrue (ac
 
   -- it is put by what it does to the tree, the marks and the graph
   pub put : new.tree.state ≡ bare_after event kept.tree.state → ((n : ℕ) → lists_in new.marks n ≡ unfound (now n).marks) → ((n : ℕ) → edges_of new.graph n ≡ (now n).edges) →
-      ((n : ℕ) → [] ≡ (now n).answers) → ((n : ℕ) → IsTrue (has_sets new.marks n) → IsTrue (has_edges (now n).edges)) → IsPut event kept new
+      ((n : ℕ) → [] ≡ (now n).answers) → ((n : ℕ) → IsTrue (has_sets new.marks n) → IsTrue (has_edges (now n).edges)) → IsCommitted event kept new
   put tree marks edges answers sets = record {
     state = led;
     linked = record {
@@ -149,7 +149,7 @@ module _ (kept new : Parts) (event : Event) (h : IsLinked kept) (ok : IsTrue (ac
       led = next-state kept.tree.state (facts_kept kept) event h.valid ok h.own new.tree.state tree (facts_kept new) facts
 
   -- an event that tells no facts
-  pub put-still : now ≡ facts_kept kept → new.tree.state ≡ bare_after event kept.tree.state → new.marks ≡ kept.marks → new.graph ≡ kept.graph → IsPut event kept new
+  pub put-still : now ≡ facts_kept kept → new.tree.state ≡ bare_after event kept.tree.state → new.marks ≡ kept.marks → new.graph ≡ kept.graph → IsCommitted event kept new
   put-still still tree marks graph =
       put tree
       (λ n. ap (λ m. lists_in m n) marks ∙ kept-lists kept h n ∙ ap (λ (facts : ℕ → Facts). unfound (facts n).marks) (sym still))

@@ -31,7 +31,7 @@ use Rattle.link_kinds.specs.Kinds.{no_lists, with_kind}
 use Rattle.link_kinds.specs.Seen.{ChangesDir, DropsItem, Known, LinkListsRise, SameLinks, has_sets, lists_in, permanent_in, prohibited_in, transient_in}
 use Rattle.link_kinds.proofs.PutLemmas.{inserted-put, removed-without}
 use Rattle.kept_state.specs.Parts.{AreEdges, AreMovedEdges, IsLinked, facts_kept, state_of}
-use Rattle.kept_state.specs.Ready.{IsPut}
+use Rattle.kept_state.specs.Ready.{IsCommitted}
 use Rattle.kept_state.specs.declared.parts.Parts.{Parts}
 use Rattle.kept_state.proofs.KeptLemmas.{has_edges, kept-edges, kept-lists, lists-still, put, sets-edges, unfound}
 use Rattle.kept_state.proofs.ReadyLemmas.{possible-of}
@@ -80,7 +80,7 @@ module _ (kept : Parts) where
 
 module _ (kept : Parts) (h : IsLinked kept) (dir : ℕ) (name : List ℕ) (asked : Formula ℕ) (ok : IsTrue (accepted (state_of kept) (event.Smkdir dir name asked []))) (edges : NewEdges) (are : AreEdges kept.graph kept.tree.state.next dir asked edges) where
   pub semantic-put : (tree : tree.Seen) (edges_now : graph.Seen) → tree.state ≡ added kept.tree.state dir name (Semantic asked [] []) → ((q : ℕ) → edges_of edges_now q ≡ replaced (edges_of kept.graph) edges.dir edges.edges.items q) →
-      IsPut (event.Smkdir dir name asked []) kept (record { tree = tree; marks = kept.marks; graph = edges_now })
+      IsCommitted (event.Smkdir dir name asked []) kept (record { tree = tree; marks = kept.marks; graph = edges_now })
   semantic-put tree edges_now is each =
       put kept (record { tree = tree; marks = kept.marks; graph = edges_now }) (event.Smkdir dir name asked []) h ok is
       (λ n. lists-still kept h t.next new n none)
@@ -105,7 +105,7 @@ module _ (kept : Parts) (h : IsLinked kept) (dir : ℕ) (name : List ℕ) (asked
 
 module _ (kept : Parts) (h : IsLinked kept) (dir : ℕ) (asked : Formula ℕ) (ok : IsTrue (accepted (state_of kept) (event.Setq dir asked []))) (edges : NewEdges) (are : AreEdges kept.graph dir (parent_of kept.tree.state dir) asked edges) where
   pub query-put : (tree : tree.Seen) (edges_now : graph.Seen) → tree.state ≡ changed_at kept.tree.state dir (edited (asking asked)) →
-      ((q : ℕ) → edges_of edges_now q ≡ replaced (edges_of kept.graph) edges.dir edges.edges.items q) → IsPut (event.Setq dir asked []) kept (record { tree = tree; marks = kept.marks; graph = edges_now })
+      ((q : ℕ) → edges_of edges_now q ≡ replaced (edges_of kept.graph) edges.dir edges.edges.items q) → IsCommitted (event.Setq dir asked []) kept (record { tree = tree; marks = kept.marks; graph = edges_now })
   query-put tree edges_now is each =
       put kept (record { tree = tree; marks = kept.marks; graph = edges_now }) (event.Setq dir asked []) h ok is
       (λ n. lists-still kept h dir new n refl)
@@ -119,7 +119,7 @@ module _ (kept : Parts) (h : IsLinked kept) (dir : ℕ) (asked : Formula ℕ) (o
 -- A directory loses its marks and its edges.
 
 pub dir-gone : (kept : Parts) (e : Event) (dir : ℕ) → IsLinked kept → IsTrue (accepted (state_of kept) e) → ((n : ℕ) → facts_after e kept.tree.state (facts_kept kept) n ≡ cond (n == dir) no_facts (facts_kept kept n)) → (tree : tree.Seen) (marks : Known) (edges_now : graph.Seen) →
-    tree.state ≡ bare_after e kept.tree.state → ((q : ℕ) → edges_of edges_now q ≡ replaced (edges_of kept.graph) dir [] q) → ChangesDir kept.marks marks dir no_lists → ((n : ℕ) → has_sets marks n ≡ (has_sets kept.marks n && not (n == dir))) → IsPut e kept (record { tree = tree; marks = marks; graph = edges_now })
+    tree.state ≡ bare_after e kept.tree.state → ((q : ℕ) → edges_of edges_now q ≡ replaced (edges_of kept.graph) dir [] q) → ChangesDir kept.marks marks dir no_lists → ((n : ℕ) → has_sets marks n ≡ (has_sets kept.marks n && not (n == dir))) → IsCommitted e kept (record { tree = tree; marks = marks; graph = edges_now })
 dir-gone kept e dir h ok gone tree marks edges_now is each drops sets =
     put kept (record { tree = tree; marks = marks; graph = edges_now }) e h ok is
     (λ n. drops n ∙ at (n == dir) n ∙ ap (λ (facts : Facts). unfound facts.marks) (sym (gone n)))
@@ -143,7 +143,7 @@ module _ (kept : Parts) (h : IsLinked kept) (mark : Mark) (ok : IsTrue (accepted
       let s = state_of kept in
       (mark-parts s mark.dir mark.item mark.kind (possible-of s (event.Mark mark) ok)).2
 
-  pub mark-put : (marks : Known) → LinkListsRise kept.marks → ChangesDir kept.marks marks mark.dir (with_kind mark.kind mark.item (lists_in kept.marks mark.dir)) → SameLinks kept.marks marks → IsPut (event.Mark mark) kept (record { tree = kept.tree; marks = marks; graph = kept.graph })
+  pub mark-put : (marks : Known) → LinkListsRise kept.marks → ChangesDir kept.marks marks mark.dir (with_kind mark.kind mark.item (lists_in kept.marks mark.dir)) → SameLinks kept.marks marks → IsCommitted (event.Mark mark) kept (record { tree = kept.tree; marks = marks; graph = kept.graph })
   mark-put marks rise change sets =
       put kept (record { tree = kept.tree; marks = marks; graph = kept.graph }) (event.Mark mark) h ok refl
       (λ n. change n ∙ at (n == mark.dir) n)
@@ -182,7 +182,7 @@ module _ (kept : Parts) (h : IsLinked kept) (entry dir : ℕ) (name : List ℕ) 
     abbrev new-facts : Facts
     new-facts = record (facts_kept kept entry) { edges = edges_to dir (query_at kept.tree.state entry) }
 
-    moved : (edges_now : graph.Seen) → ((n : ℕ) → edges_of edges_now n ≡ (cond (n == entry) new-facts (facts_kept kept n)).edges) → IsPut (event.Mv entry dir name) kept (record { tree = tree; marks = kept.marks; graph = edges_now })
+    moved : (edges_now : graph.Seen) → ((n : ℕ) → edges_of edges_now n ≡ (cond (n == entry) new-facts (facts_kept kept n)).edges) → IsCommitted (event.Mv entry dir name) kept (record { tree = tree; marks = kept.marks; graph = edges_now })
     moved edges_now each =
         put kept (record { tree = tree; marks = kept.marks; graph = edges_now }) (event.Mv entry dir name) h ok is
         (λ n. lists-still kept h entry new-facts n refl) each (λ n. answers-put (n == entry) new-facts (facts_kept kept n) refl refl)
@@ -200,7 +200,7 @@ module _ (kept : Parts) (h : IsLinked kept) (entry dir : ℕ) (name : List ℕ) 
             ∙ ap (λ (k : ℕ). has_edges (edges_of kept.graph k)) (sym (eqb-true n entry here)) ∙ has
         asks n false here has = has
 
-    pub plain-moved : edges ≡ None → IsPut (event.Mv entry dir name) kept (record { tree = tree; marks = kept.marks; graph = kept.graph })
+    pub plain-moved : edges ≡ None → IsCommitted (event.Mv entry dir name) kept (record { tree = tree; marks = kept.marks; graph = kept.graph })
     plain-moved none = moved kept.graph (λ n. at n (n == entry) refl)
       where
         asks : query_at kept.tree.state entry ≡ None
@@ -217,7 +217,7 @@ module _ (kept : Parts) (h : IsLinked kept) (entry dir : ℕ) (name : List ℕ) 
         at n false here = refl
 
     pub semantic-moved : (new : NewEdges) (edges_now : graph.Seen) → edges ≡ Some new → ((q : ℕ) → edges_of edges_now q ≡ replaced (edges_of kept.graph) new.dir new.edges.items q) →
-        IsPut (event.Mv entry dir name) kept (record { tree = tree; marks = kept.marks; graph = edges_now })
+        IsCommitted (event.Mv entry dir name) kept (record { tree = tree; marks = kept.marks; graph = edges_now })
     semantic-moved new edges_now some each =
         moved edges_now (λ n.
         each n ∙ (λ i. replaced (edges_of kept.graph) (fits.2.dir_is i) ((fits.2.edges_are ∙ sym (ap (edges_to dir) fits.1)) i) n)
@@ -228,7 +228,7 @@ module _ (kept : Parts) (h : IsLinked kept) (entry dir : ℕ) (name : List ℕ) 
 
 -- A file goes.
 
-pub removed-put : (kept : Parts) (entry : ℕ) → IsLinked kept → IsTrue (accepted (state_of kept) (event.Rm entry)) → (tree : tree.Seen) (marks : Known) → tree.state ≡ removed kept.tree.state entry → DropsItem kept.marks marks entry → SameLinks kept.marks marks → IsPut (event.Rm entry) kept (record { tree = tree; marks = marks; graph = kept.graph })
+pub removed-put : (kept : Parts) (entry : ℕ) → IsLinked kept → IsTrue (accepted (state_of kept) (event.Rm entry)) → (tree : tree.Seen) (marks : Known) → tree.state ≡ removed kept.tree.state entry → DropsItem kept.marks marks entry → SameLinks kept.marks marks → IsCommitted (event.Rm entry) kept (record { tree = tree; marks = marks; graph = kept.graph })
 removed-put kept entry h ok tree marks is drops sets =
     put kept (record { tree = tree; marks = marks; graph = kept.graph }) (event.Rm entry) h ok is
     (λ n. drops n ∙ ap (with_kind Unlinked entry) (kept-lists kept h n) ∙ (λ i. record { transient = []; permanent = removed-without entry (permanent_in kept.marks n) i; prohibited = removed-without entry (prohibited_in kept.marks n) i }))

@@ -18,15 +18,15 @@ use Rattle.kept_state.specs.declared.ready.Ready.{Ready}
 use Rattle.kept_state.specs.declared.ready.Ready.TheVariants.{Nothing, Change, Steps}
 
 -- the tree, the marks and the graph are ready for an event, with these edges
-abbrev pub Suits : Event → Option NewEdges → Parts → Type 0
-Suits (Mkdir dir name) edges kept = kept.tree.ready ≡ tree.Add dir kind.Dir
-Suits (NewFile dir name text) edges kept = kept.tree.ready ≡ tree.Add dir kind.File
-Suits (Rewrite file text) edges kept = kept.tree.ready ≡ tree.Text file
-Suits (Smkdir dir name query told) edges kept = (kept.tree.ready ≡ tree.Add dir kind.Semantic) × HasEdges kept.graph kept.tree.state.next dir query edges
-Suits (Setq dir query told) edges kept = HasEdges kept.graph dir (parent_of kept.tree.state dir) query edges
-Suits (Mark mark) edges kept = IsTrue (has_sets kept.marks mark.dir) × (0 < kept.marks.spare)
-Suits (Mv entry dir name) edges kept = (kept.tree.ready ≡ tree.Move dir) × AreMovedEdges kept.tree.state kept.graph entry dir edges
-Suits other edges kept = ⊤
+abbrev pub IsPreparedFor : Event → Option NewEdges → Parts → Type 0
+IsPreparedFor (Mkdir dir name) edges kept = kept.tree.ready ≡ tree.Add dir kind.Dir
+IsPreparedFor (NewFile dir name text) edges kept = kept.tree.ready ≡ tree.Add dir kind.File
+IsPreparedFor (Rewrite file text) edges kept = kept.tree.ready ≡ tree.Text file
+IsPreparedFor (Smkdir dir name query told) edges kept = (kept.tree.ready ≡ tree.Add dir kind.Semantic) × HasEdges kept.graph kept.tree.state.next dir query edges
+IsPreparedFor (Setq dir query told) edges kept = HasEdges kept.graph dir (parent_of kept.tree.state dir) query edges
+IsPreparedFor (Mark mark) edges kept = IsTrue (has_sets kept.marks mark.dir) × (0 < kept.marks.spare)
+IsPreparedFor (Mv entry dir name) edges kept = (kept.tree.ready ≡ tree.Move dir) × AreMovedEdges kept.tree.state kept.graph entry dir edges
+IsPreparedFor other edges kept = ⊤
 
 -- the events that were prepared
 abbrev pub ready_events : Ready → List Event
@@ -37,16 +37,16 @@ ready_events (Steps count) = replicate count Step
 -- the parts are ready for them, and the counts are those of the state after the event
 abbrev pub IsReady : Ready → Parts → Type 0
 IsReady Nothing kept = ⊤
-IsReady (Change event edges counts) kept = Suits event edges kept × (counts ≡ limits.counts (apply (state_of kept) event))
+IsReady (Change event edges counts) kept = IsPreparedFor event edges kept × (counts ≡ limits.counts (apply (state_of kept) event))
 IsReady (Steps count) kept = ⊤
 
 -- an event may be applied, and so to the tree, which then holds this much
-pub record MayPut (event : Event) (counts : Counts) (kept : Parts) : Type 0 where
+pub record CanCommit (event : Event) (counts : Counts) (kept : Parts) : Type 0 where
   pub linked : IsLinked kept
   pub happens : IsTrue (accepted (state_of kept) event)
   pub tree : MayBecome (bare_after event kept.tree.state) counts
 
 -- it is applied
-pub record IsPut (event : Event) (old new : Parts) : Type 0 where
+pub record IsCommitted (event : Event) (old new : Parts) : Type 0 where
   pub state : state_of new ≡ apply (state_of old) event
   pub linked : IsLinked new

@@ -147,7 +147,8 @@ impl KeptState {
     pub fn prepare(&mut self, alloc: Global, event: Event, counts: Counts) -> Result<(), Memory>
         requires accepted { IsTrue (accepted self.old.state event) }
         requires counts { counts ≡ limits.counts (apply self.old.state event) }
-        ensures ok { OnOk result (self.new ≡ record { state = self.old.state; ready = event ∷ [] }) }
+        ensures ok { OnOk result (self.new
+            ≡ record { state = self.old.state; ready = event ∷ [] }) }
         ensures err { OnErr result (self.new ≡ record { state = self.old.state; ready = [] }) }
     {
         self.ready.set(Ready::Nothing);
@@ -177,7 +178,8 @@ impl KeptState {
 
     /// Applies the prepared events. This takes no memory, and can't fail.
     pub fn commit(&mut self)
-        ensures { self.new ≡ record { state = apply_all self.old.state self.old.ready; ready = [] } }
+        ensures { self.new ≡ record { state = apply_all self.old.state self.old.ready;
+            ready = [] } }
     {
         let ready = mem::replace(&mut self.ready, Ready::Nothing);
         put(&mut self.parts, ready);

@@ -7,7 +7,7 @@ ghost use Rattle.hac_model.specs.Tree.{is_directory_at};
 ghost use Rattle.file_tree.specs.declared.ready.Ready.TheVariants as tree;
 ghost use Rattle.link_kinds.specs.Seen.{LinkListsRise, has_sets};
 ghost use Rattle.kept_state.specs.Parts.{AreAlike, AreMovedEdges, HasEdges, IsLinked, state_of};
-ghost use Rattle.kept_state.specs.Ready.{IsPut, IsReady, MayPut, Suits, ready_events};
+ghost use Rattle.kept_state.specs.Ready.{IsCommitted, IsReady, CanCommit, IsPreparedFor, ready_events};
 
 use crate::parts::Parts;
 use dep_graph::NewEdges;
@@ -49,7 +49,7 @@ pub fn prepare(alloc: Global, kept: &mut Parts, event: &Event) -> Result<Option<
     requires linked { IsLinked kept.old }
     requires accepted { IsTrue (accepted (state_of kept.old) event.now) }
     ensures alike { AreAlike kept.old kept.new }
-    ensures suits { IfOk result (λ edges. Suits event.now edges kept.new) }
+    ensures suits { IfOk result (λ edges. IsPreparedFor event.now edges kept.new) }
 {
     match event {
         Event::Mkdir { dir, .. } => prepare_entry(kept, *dir, EntryKind::Dir),
@@ -165,9 +165,9 @@ pub fn put(kept: &mut Parts, ready: Ready)
 
 /// Applies the event that was prepared.
 fn apply(kept: &mut Parts, event: Event, edges: Option<NewEdges>, counts: Counts)
-    requires may { MayPut event counts kept.old }
-    requires suits { Suits event edges kept.old }
-    ensures { IsPut event kept.old kept.new }
+    requires may { CanCommit event counts kept.old }
+    requires suits { IsPreparedFor event edges kept.old }
+    ensures { IsCommitted event kept.old kept.new }
 {
     match event {
         Event::Mkdir { dir, name } => put_directory(kept, dir, name, counts),
@@ -192,18 +192,18 @@ fn apply(kept: &mut Parts, event: Event, edges: Option<NewEdges>, counts: Counts
 
 /// Adds the plain directory that was prepared.
 fn put_directory(kept: &mut Parts, dir: Number, name: Name, counts: Counts)
-    requires may { MayPut (Event.Mkdir dir name) counts kept.old }
-    requires suits { Suits (Event.Mkdir dir name) None kept.old }
-    ensures { IsPut (Event.Mkdir dir name) kept.old kept.new }
+    requires may { CanCommit (Event.Mkdir dir name) counts kept.old }
+    requires suits { IsPreparedFor (Event.Mkdir dir name) None kept.old }
+    ensures { IsCommitted (Event.Mkdir dir name) kept.old kept.new }
 {
     kept.tree.add(dir, name, NewBody::Dir, counts);
 }
 
 /// Adds the file that was prepared.
 fn put_file(kept: &mut Parts, dir: Number, name: Name, text: Text, counts: Counts)
-    requires may { MayPut (Event.NewFile dir name text) counts kept.old }
-    requires suits { Suits (Event.NewFile dir name text) None kept.old }
-    ensures { IsPut (Event.NewFile dir name text) kept.old kept.new }
+    requires may { CanCommit (Event.NewFile dir name text) counts kept.old }
+    requires suits { IsPreparedFor (Event.NewFile dir name text) None kept.old }
+    ensures { IsCommitted (Event.NewFile dir name text) kept.old kept.new }
 {
     kept.tree.add(dir, name, NewBody::File(text), counts);
 }
@@ -217,9 +217,9 @@ fn put_semantic(
     edges: Option<NewEdges>,
     counts: Counts,
 )
-    requires may { MayPut (Event.Smkdir dir name query []) counts kept.old }
-    requires suits { Suits (Event.Smkdir dir name query []) edges kept.old }
-    ensures { IsPut (Event.Smkdir dir name query []) kept.old kept.new }
+    requires may { CanCommit (Event.Smkdir dir name query []) counts kept.old }
+    requires suits { IsPreparedFor (Event.Smkdir dir name query []) edges kept.old }
+    ensures { IsCommitted (Event.Smkdir dir name query []) kept.old kept.new }
 {
     let Some(edges) = edges else { unreachable!() };
     kept.tree.add(dir, name, NewBody::Semantic(query), counts);
@@ -234,9 +234,9 @@ fn put_query(
     edges: Option<NewEdges>,
     counts: Counts,
 )
-    requires may { MayPut (Event.Setq dir query []) counts kept.old }
-    requires suits { Suits (Event.Setq dir query []) edges kept.old }
-    ensures { IsPut (Event.Setq dir query []) kept.old kept.new }
+    requires may { CanCommit (Event.Setq dir query []) counts kept.old }
+    requires suits { IsPreparedFor (Event.Setq dir query []) edges kept.old }
+    ensures { IsCommitted (Event.Setq dir query []) kept.old kept.new }
 {
     let Some(edges) = edges else { unreachable!() };
     kept.tree.set_query(dir, query, counts);
@@ -245,8 +245,8 @@ fn put_query(
 
 /// Removes a directory's query, with its edges and all its marks.
 fn drop_query(kept: &mut Parts, dir: Number, counts: Counts)
-    requires { MayPut (Event.Unq dir) counts kept.old }
-    ensures { IsPut (Event.Unq dir) kept.old kept.new }
+    requires { CanCommit (Event.Unq dir) counts kept.old }
+    ensures { IsCommitted (Event.Unq dir) kept.old kept.new }
 {
     kept.tree.clear_query(dir, counts);
     kept.graph.drop_node(dir);
@@ -257,8 +257,8 @@ fn drop_query(kept: &mut Parts, dir: Number, counts: Counts)
 fn put_mark(kept: &mut Parts, mark: Mark)
     requires linked { IsLinked kept.old }
     requires happens { IsTrue (accepted (state_of kept.old) (Event.Mark mark)) }
-    requires suits { Suits (Event.Mark mark) None kept.old }
-    ensures { IsPut (Event.Mark mark) kept.old kept.new }
+    requires suits { IsPreparedFor (Event.Mark mark) None kept.old }
+    ensures { IsCommitted (Event.Mark mark) kept.old kept.new }
 {
     know_lists(&kept.marks);
     kept.marks.set_kind(mark.dir, mark.item, mark.kind);
@@ -273,9 +273,9 @@ fn know_lists(marks: &Links)
 
 /// Gives a file the text that was prepared.
 fn put_text(kept: &mut Parts, file: Number, text: Text, counts: Counts)
-    requires may { MayPut (Event.Rewrite file text) counts kept.old }
-    requires suits { Suits (Event.Rewrite file text) None kept.old }
-    ensures { IsPut (Event.Rewrite file text) kept.old kept.new }
+    requires may { CanCommit (Event.Rewrite file text) counts kept.old }
+    requires suits { IsPreparedFor (Event.Rewrite file text) None kept.old }
+    ensures { IsCommitted (Event.Rewrite file text) kept.old kept.new }
 {
     kept.tree.set_text(file, text, counts);
 }
@@ -289,9 +289,9 @@ fn put_moved(
     edges: Option<NewEdges>,
     counts: Counts,
 )
-    requires may { MayPut (Event.Mv entry dir name) counts kept.old }
-    requires suits { Suits (Event.Mv entry dir name) edges kept.old }
-    ensures { IsPut (Event.Mv entry dir name) kept.old kept.new }
+    requires may { CanCommit (Event.Mv entry dir name) counts kept.old }
+    requires suits { IsPreparedFor (Event.Mv entry dir name) edges kept.old }
+    ensures { IsCommitted (Event.Mv entry dir name) kept.old kept.new }
 {
     kept.tree.move_to(entry, dir, name, counts);
     if let Some(edges) = edges {
@@ -301,8 +301,8 @@ fn put_moved(
 
 /// Removes a file, with all marks on it.
 fn drop_file(kept: &mut Parts, entry: Number, counts: Counts)
-    requires { MayPut (Event.Rm entry) counts kept.old }
-    ensures { IsPut (Event.Rm entry) kept.old kept.new }
+    requires { CanCommit (Event.Rm entry) counts kept.old }
+    ensures { IsCommitted (Event.Rm entry) kept.old kept.new }
 {
     kept.tree.remove(entry, counts);
     kept.marks.drop_item(entry);
@@ -310,8 +310,8 @@ fn drop_file(kept: &mut Parts, entry: Number, counts: Counts)
 
 /// Removes a directory, with its edges and all its marks.
 fn drop_directory(kept: &mut Parts, dir: Number, counts: Counts)
-    requires { MayPut (Event.Rmdir dir) counts kept.old }
-    ensures { IsPut (Event.Rmdir dir) kept.old kept.new }
+    requires { CanCommit (Event.Rmdir dir) counts kept.old }
+    ensures { IsCommitted (Event.Rmdir dir) kept.old kept.new }
 {
     kept.tree.remove(dir, counts);
     kept.graph.drop_node(dir);
@@ -322,7 +322,7 @@ fn drop_directory(kept: &mut Parts, dir: Number, counts: Counts)
 fn put_step(kept: &mut Parts)
     requires linked { IsLinked kept.old }
     requires happens { IsTrue (accepted (state_of kept.old) Event.Step) }
-    ensures { IsPut Event.Step kept.old kept.new }
+    ensures { IsCommitted Event.Step kept.old kept.new }
 {
     kept.tree.step();
 }

@@ -107,7 +107,8 @@ enum Found {
 impl Reader {
     /// A reader that has read nothing.
     pub fn new(alloc: Global) -> Result<Reader, Memory>
-        ensures { IfOk result (λ reader. reader ≡ record { buffered = []; taken = 0; ended = false }) }
+        ensures { IfOk result (λ reader. reader
+            ≡ record { buffered = []; taken = 0; ended = false }) }
     {
         let bytes = Vec::with_capacity(alloc, PIECE)?;
         Ok(Reader {
@@ -136,7 +137,7 @@ impl Reader {
             (pending self.new (S.seen source.new).left)) }
         ensures past { IsErrOf result LineFault.TooLong → IsPastLimit self.new }
 
-        // A line that is buffered is given without a read, so a fault of reading comes only if none is.
+        // A buffered line is given without a read, so a fault of reading comes only if there is none.
         ensures unended { IsErrOf result LineFault.Read → IsUnended self.new.buffered }
         ensures unread { is_first_ended self.old.buffered ≡ true → source.new ≡ source.old }
         ensures source { MatchResult result (λ _. IsReaderBehind 0 self.new (S.seen source.new))
@@ -160,7 +161,8 @@ impl Reader {
         ensures source { IsReaderOf self.new (S.seen source.new) }
         ensures unread { is_first_ended self.old.buffered ≡ true → source.new ≡ source.old }
         ensures unended { OnErr result
-            ((self.new.ended ≡ false) × (self.new.taken ≤ SCRIPT_LIMIT) × IsUnended self.new.buffered) }
+            ((self.new.ended ≡ false) × (self.new.taken ≤ SCRIPT_LIMIT)
+            × IsUnended self.new.buffered) }
         ensures not_long { IsErrOf result LineFault.TooLong → ⊥ }
         ensures faults { ReportsFault (is_read_fault result) (S.seen source.old).faults
             (S.seen source.new).faults }
@@ -187,7 +189,8 @@ impl Reader {
         ensures sound { IsReading self.now }
         ensures found { IfSome result (λ found. IsLineFound found self.now) }
         ensures none { IfNone result
-            ((self.now.ended ≡ false) × (self.now.taken ≤ SCRIPT_LIMIT) × IsUnended self.now.buffered) }
+            ((self.now.ended ≡ false) × (self.now.taken ≤ SCRIPT_LIMIT)
+            × IsUnended self.now.buffered) }
     {
         match line_end(self.buffered(), self.scanned - self.start) {
             Some(end) => Some(self.found_at(end)),
@@ -223,7 +226,8 @@ impl Reader {
         requires source { (S.seen source.old).ended ≡ false }
         requires open { self.old.ended ≡ false }
         requires room { self.old.taken ≤ SCRIPT_LIMIT }
-        requires few { length self.old.buffered ≤ max (position_or_len is_line_end self.old.buffered)
+        requires few { length self.old.buffered ≤ max
+            (position_or_len is_line_end self.old.buffered)
             TEXT_LIMIT }
         ensures reads { ReadsOn self.old self.new (S.seen source.old) (S.seen source.new) }
         ensures ok { OnOk result ((self.new.ended ≡ true) ⊎ (self.old.taken < self.new.taken)) }
@@ -256,7 +260,8 @@ impl Reader {
         requires inside { end ≤ length self.old.buffered }
         requires limit { given self.old + end ≤ SCRIPT_LIMIT }
         ensures piece { IfOk result (λ piece. piece ≡ piece_of (take count self.old.buffered)) }
-        ensures ok { OnOk result (self.new ≡ record self.old { buffered = drop end self.old.buffered }) }
+        ensures ok { OnOk result (self.new
+            ≡ record self.old { buffered = drop end self.old.buffered }) }
         ensures err { OnErr result (self.new ≡ self.old) }
         ensures memory { OnErr result (IsErrOf result LineFault.Memory) }
         ensures sound { IsReading self.new }

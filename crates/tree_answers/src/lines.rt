@@ -12,7 +12,8 @@ use std::alloc::Global;
 
 /// The data lines of a command. One that changes the state has none.
 pub fn data_lines(alloc: Global, kept: &KeptState, command: &Resolved) -> Result<Vec<Name>, Memory>
-    ensures { IfOk result (λ lines. lines.items ≡ data_lines no_answers kept.now.state command.now) }
+    ensures { IfOk result (λ lines. lines.items ≡ data_lines no_answers kept.now.state
+        command.now) }
 {
     match command {
         Resolved::Cat { entry } => text_lines(alloc, kept, *entry),

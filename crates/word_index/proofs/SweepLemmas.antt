@@ -101,7 +101,7 @@ swept-more first old new had word same before fewer used w some is = by_had (had
     by_had true there some = before w there (fewer w is)
     by_had false there some = own ((bytes_decides w word).0 some)
 
--- want of memory: the words that got sets were swept
+-- memory ran out: the words that got sets were swept
 pub swept-back : (old made new : Posted) (words : List (List ℕ)) → SameItems old made → ((w : List ℕ) → IsTrue (has_set made w) → IsTrue (has_set old w || has_word words w)) → FewerSets made new → ((w : List ℕ) → IsTrue (has_word words w) → IsTrue (has_set new w) → IsPosted made w) → (w : List ℕ) → IsTrue (has_set new w) → IsTrue (has_set old w) ⊎ IsPosted old w
 swept-back old made new words same within fewer used w is = by_old (has_set old w) refl (within w (fewer w is))
   where

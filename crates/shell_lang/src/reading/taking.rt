@@ -112,7 +112,8 @@ impl Reader {
     fn give_text(&mut self, count: usize) -> Result<Taken, LineFault>
         requires inside { count ≤ within self.old }
         ensures text { IfOk result (λ taken. taken ≡ Whole (take count self.old.buffered)) }
-        ensures ok { OnOk result (self.new ≡ record self.old { buffered = drop count self.old.buffered }) }
+        ensures ok { OnOk result (self.new
+            ≡ record self.old { buffered = drop count self.old.buffered }) }
         ensures err { OnErr result (self.new ≡ self.old) }
         ensures memory { OnErr result (IsErrOf result LineFault.Memory) }
     {
@@ -121,7 +122,7 @@ impl Reader {
         Ok(Taken::Whole(Text::new(text)))
     }
 
-    /// Leaves out at most `most` of the bytes that are buffered, none beyond the limit of a script, and
+    /// Leaves out at most `most` of the buffered bytes, none beyond the limit of a script, and
     /// answers how many.
     fn drop_held(&mut self, most: u64) -> u64
         ensures count { result ≡ min most (within self.old) }
