@@ -111,9 +111,6 @@ dirty_count-is es = refl
 
 -- After a body was edited. Counts of kinds stay where the edit keeps the kind, as those of texts do.
 
-pub weight-within : (s : State) (n : ℕ) (e : Entry) → entry_at s.entries n ≡ Some e → file_bytes e.body ≤ text_size s.entries
-weight-within s n e found = measured-holds file_bytes s.entries n e found
-
 -- the edit leaves files files, and queries as they are
 pub record KeepsKind (edit : Body → Body) : Type 0 where
   pub directories : (body : Body) → is_directory (edit body) ≡ is_directory body

@@ -238,10 +238,3 @@ pub play-line : (setting : Setting) (b : List ℕ) →
     play nothing_given setting b
     ≡ turns nothing_given setting (first_items b) ++ play nothing_given (left_by setting (turns nothing_given setting (first_items b))) (after_item b)
 play-line setting b = ap (turns nothing_given setting) (script-step b) ∙ turns-joined setting (first_items b) (script (after_item b))
-
--- a whole line in front of anything is played first
-pub play-of_line : (setting : Setting) (line xs more : List ℕ) → position_or_len is_line_end line ≡ length line → due line ≡ length xs →
-    play nothing_given setting (line ++ 10 ∷ (xs ++ more))
-    ≡ turns nothing_given setting (items_of line xs) ++ play nothing_given (left_by setting (turns nothing_given setting (items_of line xs))) more
-play-of_line setting line xs more unended asked =
-    ap (turns nothing_given setting) (script-line line xs more unended asked) ∙ turns-joined setting (items_of line xs) (script more)

@@ -1,5 +1,5 @@
 -- What is looked up after the bodies of all entries were edited.
-use Rattle.std.proofs.Common.{◌≡◌, ℕ, zero, suc, Bool, true, false, cond, List, [], ◌∷◌, length, map, reverse, refl, ap, sym, ◌∙◌, arith}
+use Rattle.std.proofs.Common.{◌≡◌, ℕ, zero, suc, Bool, true, false, cond, List, [], ◌∷◌, length, map, refl, ap, sym, ◌∙◌, arith}
 use Rattle.std.specs.Prelude.{◌==◌, ◌&&◌, ◌||◌, ◌++◌, Option, Some, None, IsTrue, is_some}
 use Rattle.std.specs.Option.{option_map, option_map_or}
 use Rattle.std.specs.List.{AllByRecursion, list_all}
@@ -8,7 +8,7 @@ use Rattle.hac_model.specs.Tree.Events.{edited}
 use Rattle.hac_model.specs.Tree.Limits.{answer_limits, are_paths_short, counts, directory_count, file_count, first_passed, layout_limits, long_paths, passed, semantic_count, text_size, file_bytes}
 use Rattle.hac_model.specs.Tree.Limits as limits_of
 use Rattle.hac_model.specs.Tree.Names.{is_name}
-use Rattle.hac_model.specs.Tree.{ancestors, body_at, child, entry_at, is_directory, is_directory_at, is_file, is_path_short, lineage, path_of, query_in}
+use Rattle.hac_model.specs.Tree.{ancestors, body_at, child, entry_at, is_directory, is_directory_at, is_file, is_path_short, lineage, query_in}
 use Rattle.hac_model.specs.Tree.Valid.{IsLayout, IsSound, NamesDiffer, NumbersRise}
 use Rattle.hac_model.specs.declared.limits.LimitWord.TheVariants.{Texts, Dirs, Semantics, Path, Items, Numbers}
 use Rattle.hac_model.specs.declared.limits.TheConstants.{DIRS_LIMIT, ITEMS_LIMIT, NUMBERS_LIMIT, SEMANTICS_LIMIT, TEXTS_LIMIT}
@@ -18,7 +18,7 @@ use Rattle.hac_model.specs.declared.states.State.{State}
 use Rattle.hac_model.proofs.ChangeLemmas.{all-weaker}
 use Rattle.hac_model.proofs.CountLemmas.{directory_count-is, is_queried, measured, measured-cons, one_if}
 use Rattle.hac_model.proofs.DepthLemmas.{names_of, short-names}
-use Rattle.hac_model.proofs.PathLemmas.{ancestors_by, limit, lineage-is, path-names}
+use Rattle.hac_model.proofs.PathLemmas.{ancestors_by, limit, lineage-is}
 
 pub all-map : {X Y : Type 0} (P : Y → Type 0) (f : X → Y) (xs : List X) → AllByRecursion (λ x. P (f x)) xs → AllByRecursion P (map f xs)
 all-map P f [] h = tt
@@ -79,9 +79,6 @@ paths-mapped edit es = each es
 -- the state in which the bodies were edited
 abbrev pub mapped : (Body → Body) → State → State
 mapped edit s = record s { entries = map (edited edit) s.entries }
-
-pub path_of-mapped : (edit : Body → Body) (s : State) (n : ℕ) → path_of (mapped edit s) n ≡ path_of s n
-path_of-mapped edit s n = path-names (mapped edit s) n ∙ ap reverse (lineage-mapped edit s.entries n) ∙ sym (path-names s n)
 
 -- An edit that keeps kinds and queries, and makes no text longer.
 pub record KeepsMeasures (edit : Body → Body) : Type 0 where

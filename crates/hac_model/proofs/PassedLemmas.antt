@@ -4,11 +4,11 @@ use Rattle.std.specs.Prelude.{nat_lt, filter, Some, None}
 use Rattle.std.specs.Option.{option_map_or}
 use Rattle.std.specs.List.{AllByRecursion}
 use Rattle.std.proofs.lemmas.Bool.{ltb-false, le-ltb}
-use Rattle.hac_model.specs.Tree.Events.{apply, changed_at, edited, forgetting, indexed, is_bare, next_dirty, removed}
+use Rattle.hac_model.specs.Tree.Events.{apply, changed_at, edited, indexed, is_bare, next_dirty, removed}
 use Rattle.hac_model.specs.Tree.Limits.{directory_count, passed, text_size, file_bytes}
-use Rattle.hac_model.specs.Tree.{is_directory, is_file, is_file_at}
+use Rattle.hac_model.specs.Tree.{is_directory, is_file}
 use Rattle.hac_model.specs.Tree.Valid.{IsLayout}
-use Rattle.hac_model.specs.declared.events.Event.TheVariants.{Rm, Rmdir, Step}
+use Rattle.hac_model.specs.declared.events.Event.TheVariants.{Rmdir, Step}
 use Rattle.hac_model.specs.declared.limits.TheConstants.{DIRS_LIMIT, SEMANTICS_LIMIT, ITEMS_LIMIT}
 use Rattle.hac_model.specs.declared.states.Body.{Body}
 use Rattle.hac_model.specs.declared.states.State.{State}
@@ -16,8 +16,7 @@ use Rattle.hac_model.proofs.ChangeLemmas.{is_kept}
 use Rattle.hac_model.proofs.CountLemmas.{directory_count-edited, directory_count-is, file_count-edited, indexed-keeps, KeepsKind, measured-fewer, one_if, is_queried, semantic_count-edited, text_size-indexed}
 use Rattle.hac_model.proofs.DepthLemmas.{paths-edited, paths-removed}
 use Rattle.hac_model.proofs.LimitLemmas.{IsWithinLimits, limits-none, limits-within}
-use Rattle.hac_model.proofs.MapLemmas.{mapped-passes}
-use Rattle.hac_model.proofs.ValidLemmas.{bare-all, file-bare, forgetting-measures}
+use Rattle.hac_model.proofs.ValidLemmas.{bare-all}
 
 -- a smaller count is within the limit too
 smaller : (limit m n : ℕ) → m ≤ n → nat_lt limit n ≡ false → nat_lt limit m ≡ false
@@ -55,9 +54,6 @@ removed-passes s n h bare =
       items = smaller _ _ _ (measured-fewer (one_if is_file) n s.entries) old.items;
       numbers = old.numbers;
     })
-
-pub file-passes : (s : State) (file : ℕ) → IsLayout s → is_file_at s.entries file ≡ true → passed (apply s (Rm file)) ≡ None
-file-passes s file h there = mapped-passes (forgetting file) (removed s file) (forgetting-measures file) (removed-passes s file h (file-bare s file h there))
 
 pub bare-passes : (s : State) (dir : ℕ) → IsLayout s → is_bare s.entries dir ≡ true → passed (apply s (Rmdir dir)) ≡ None
 bare-passes s dir h bare = removed-passes s dir h (bare-all s.entries dir bare)

@@ -1,5 +1,5 @@
 -- What a run is given from outside, beside its store and its script.
-use Rattle.std.specs.Prelude.{ℕ, zero, suc, List, [], ◌∷◌, drop, Option, None}
+use Rattle.std.specs.Prelude.{ℕ, List, [], ◌∷◌, drop, Option, None}
 use Rattle.hac_model.specs.declared.spaces.Answers.{Answers}
 
 -- For each command in order the space that failed as the command asked it, where one did: behind the end of the list
