@@ -69,8 +69,7 @@ fn tokens(alloc: Global, bytes: &mut Bytes) -> Result<Vec<Token>, Fault>
 }
 
 /// The part at the front, where `terms` terms may still come.
-#[tactic(auto, unfolding(hac_model::specs::Payload::Fields::choice_at,
-    hac_model::specs::Payload::Fields::way_at))]
+#[tactic(auto, unfolding(hac_model::specs::Payload::Fields::choice_at, hac_model::specs::Payload::Fields::way_at))]
 fn next_token(alloc: Global, bytes: &mut Bytes, terms: u64) -> Result<Token, Fault>
     ensures { GivesSeen token_of result bytes.new (token_at terms bytes.old) }
 {

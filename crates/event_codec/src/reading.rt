@@ -55,8 +55,7 @@ fn bad(size: usize, left: usize) -> CodecFault
 }
 
 /// The event of a payload, behind the byte that says so.
-#[tactic(auto, unfolding(hac_model::specs::Payload::Fields::choice_at,
-    hac_model::specs::Payload::Fields::way_at))]
+#[tactic(auto, unfolding(hac_model::specs::Payload::Fields::choice_at, hac_model::specs::Payload::Fields::way_at))]
 fn payload_at(alloc: Global, bytes: &mut Bytes) -> Result<Event, Fault>
     ensures { GivesField result bytes.new (payload_field.read bytes.old) }
 {

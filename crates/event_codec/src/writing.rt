@@ -11,8 +11,7 @@ use hac_model::{Event, Memory};
 use std::alloc::Global;
 
 /// The payload of an event. Where a session stands is never written, so a `Cd` has none.
-#[tactic(auto, unfolding(hac_model::specs::Payload::Payloads::event_text,
-    hac_model::specs::Payload::Payloads::is_spellable))]
+#[tactic(auto, unfolding(hac_model::specs::Payload::Payloads::event_text, hac_model::specs::Payload::Payloads::is_spellable))]
 pub fn write_event(alloc: Global, event: &Event) -> Result<Vec<u8>, Memory>
     requires { IsTrue (is_spellable event.now) }
     ensures { IfOk result (λ bytes. bytes.items ≡ event_text event.now) }

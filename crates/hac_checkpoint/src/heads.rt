@@ -188,8 +188,7 @@ fn higher_root(image: &[u8]) -> Result<Root, Stop>
 }
 
 // Where the slot that counts has its start.
-#[tactic(auto, using(std::proofs::lemmas::List::take_rest),
-    unfolding(crate::specs::Roots::counting))]
+#[tactic(auto, using(std::proofs::lemmas::List::take_rest), unfolding(crate::specs::Roots::counting))]
 fn counting_root(image: &[u8], slot: Slot) -> Result<Root, Stop>
     ensures { result ≡ counting slot image.now }
 {

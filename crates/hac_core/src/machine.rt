@@ -149,8 +149,10 @@ impl Machine {
 
     /// Applies the prepared events. This takes no memory, and can't fail.
     pub fn commit(&mut self)
-        ensures { self.new ≡ record { state = apply_all self.old.state self.old.ready;
-            ready = [] } }
+        ensures { self.new ≡ record {
+          state = apply_all self.old.state self.old.ready;
+          ready = [];
+        } }
     {
         self.kept.commit();
     }

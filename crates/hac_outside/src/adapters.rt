@@ -93,8 +93,11 @@ impl<W: Write> Sink for StdSink<W> {
     ghost use Rattle.hac_outside.specs.Causes.{HasCause};
     ghost use Rattle.hac_outside.specs.Seen.{HoldsMore};
 
-    ghost seen = { λ sink. record { written = W.contents sink.inner; held_back = sink.held_back;
-        faults = sink.faults } };
+    ghost seen = { λ sink. record {
+      written = W.contents sink.inner;
+      held_back = sink.held_back;
+      faults = sink.faults;
+    } };
 
     fn write(&mut self, bytes: &[u8]) -> Result<usize, Failed>
         ensures bound { WritesAtMost result bytes.now }

@@ -58,7 +58,10 @@ impl Player {
         let TakenLine { piece, taken } = line;
         match piece {
             Piece::Bytes(line) => self.answer_line(output, disk, line, taken),
-            Piece::LongLine => self.reply_with(output, Reply::Refused(Refusal::Limit(LimitWord::Line))),
+            Piece::LongLine => self.reply_with(
+                output,
+                Reply::Refused(Refusal::Limit(LimitWord::Line)),
+            ),
             Piece::Blank | Piece::End => Ok(()),
         }
     }

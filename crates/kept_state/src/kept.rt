@@ -178,8 +178,10 @@ impl KeptState {
 
     /// Applies the prepared events. This takes no memory, and can't fail.
     pub fn commit(&mut self)
-        ensures { self.new ≡ record { state = apply_all self.old.state self.old.ready;
-            ready = [] } }
+        ensures { self.new ≡ record {
+          state = apply_all self.old.state self.old.ready;
+          ready = [];
+        } }
     {
         let ready = mem::replace(&mut self.ready, Ready::Nothing);
         put(&mut self.parts, ready);

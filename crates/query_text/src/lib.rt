@@ -12,6 +12,6 @@ mod reading;
 mod stepping;
 
 pub use faults::QueryFault;
-pub use paths::{Paths, NamedDir};
+pub use paths::{NamedDir, Paths};
 pub use printing::print;
 pub use reading::{parse, terms_left};

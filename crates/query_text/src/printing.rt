@@ -6,7 +6,7 @@ ghost use Rattle.hac_model.specs.Query.Grammar.{escape, escaped};
 ghost use Rattle.hac_model.specs.Query.QueryText as text;
 ghost use Rattle.query_text.specs.Printing.{are_known, dir_path, path_at, printed_query};
 
-use crate::paths::{Paths, NamedDir};
+use crate::paths::{NamedDir, Paths};
 use hac_model::{Memory, Name, Node, Number, Path, Query, Term};
 use hac_names::print_path;
 use std::alloc::Global;

@@ -56,7 +56,11 @@ fn ended_wanting(alloc: Global, operand: Operand, wanted: Wanted) -> Result<Opti
     }
 }
 
-fn end_behind_operand(alloc: Global, operator: Operator, ended: Ended) -> Result<Option<Part>, Memory>
+fn end_behind_operand(
+    alloc: Global,
+    operator: Operator,
+    ended: Ended,
+) -> Result<Option<Part>, Memory>
     ensures { IfOk result (λ part. part ≡ reading.read_whole (Reader.Ends operator ended)) }
 {
     match operator {

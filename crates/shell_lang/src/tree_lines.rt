@@ -45,8 +45,7 @@ pub fn limited_text(bytes: Text) -> Result<Text, Deny>
 }
 
 /// `ls` with a path or without, from what follows `ls`.
-#[tactic(auto, unfolding(hac_model::specs::Script::Lines::ls_of,
-    hac_model::specs::Script::Lines::one_path))]
+#[tactic(auto, unfolding(hac_model::specs::Script::Lines::ls_of, hac_model::specs::Script::Lines::one_path))]
 pub fn parse_ls(alloc: Global, arguments: &[u8]) -> Result<Command, Deny>
     ensures { Answers result (ls_of arguments.now) }
 {
