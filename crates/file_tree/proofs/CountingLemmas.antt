@@ -3,7 +3,7 @@ use Rattle.std.proofs.Common.{◌≡◌, ℕ, ◌+◌, ◌≤◌, Bool, true, fa
 use Rattle.std.specs.Prelude.{Some, None, not, nat_le, nat_lt, filter}
 use Rattle.std.proofs.lemmas.Bool.Decides.{nat_tests}
 use Rattle.hac_model.specs.Tree.Events.{added, changed_in, changed_at, edited, removed, reseated}
-use Rattle.hac_model.specs.Tree.Limits.{are_paths_short, counts, long_paths, passed, file_bytes}
+use Rattle.hac_model.specs.Tree.Limits.{are_paths_short, counts, long_paths, passed_limit, file_bytes}
 use Rattle.hac_model.specs.Tree.{entry_at, is_directory, is_directory_at, is_dirty, is_file, path_of}
 use Rattle.hac_model.specs.Tree.Valid.{IsLayout}
 use Rattle.hac_model.specs.declared.counts.Counts.{Counts}
@@ -37,7 +37,7 @@ abbrev pub new_entry : State → ℕ → List ℕ → Body → Entry
 new_entry s dir name new = record { number = s.next; parent = dir; name = name; body = new }
 
 -- no path is long where no limit is passed
-pub long-none : (s : State) → passed s ≡ None → long_paths s.entries ≡ 0
+pub long-none : (s : State) → passed_limit s ≡ None → long_paths s.entries ≡ 0
 long-none s within = let limits : IsWithinLimits s = limits-within s within in ap (λ (b : Bool). cond {A = ℕ} b 0 1) limits.paths
 
 module _ (s : State) (h : IsLayout s) where

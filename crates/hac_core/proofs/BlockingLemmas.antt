@@ -3,7 +3,7 @@ use Rattle.std.proofs.Common.{◌≡◌, ℕ, cond, List, [], ◌∷◌, subst, 
 use Rattle.std.specs.Prelude.{⊤, Option, Some, None, Result, IsTrue}
 use Rattle.hac_model.specs.Run.Answers.{Passes, Refuses, first_cause}
 use Rattle.hac_model.specs.Tree.Bare.{bare}
-use Rattle.hac_model.specs.Run.Refusals.{already_cause, blocked, directory_cause, filled_cause, plain_cause, referenced_cause, root_cause, taken_cause, under_cause, unlinked_cause, unmarked_cause, written_cause}
+use Rattle.hac_model.specs.Run.Refusals.{already_cause, blocking_cause, directory_cause, filled_cause, plain_cause, referenced_cause, root_cause, taken_cause, under_cause, unlinked_cause, unmarked_cause, written_cause}
 use Rattle.hac_model.specs.declared.places.Place.{Place}
 use Rattle.hac_model.specs.declared.places.Place.TheVariants.{There, Free}
 use Rattle.hac_model.specs.declared.replies.Refusal.TheVariants as refusal
@@ -68,19 +68,19 @@ joined (Some e) b c = refl
 joined None (Some e) c = refl
 joined None None c = refl
 
-parted : (s : State) (r : Resolved) → first_cause (tree_cause s r ∷ link_cause s r ∷ []) ≡ blocked s r
+parted : (s : State) (r : Resolved) → first_cause (tree_cause s r ∷ link_cause s r ∷ []) ≡ blocking_cause s r
 parted s (Rmdir dir) = joined (root_cause dir) (filled_cause s dir) (referenced_cause s dir)
 parted s (Sln item dir) = joined (directory_cause s item) (plain_cause s dir) (already_cause s item dir)
 parted s (Srm item dir) = joined (directory_cause s item) (plain_cause s dir) (unlinked_cause s item dir)
 parted s (Sforget item dir) = joined (directory_cause s item) (plain_cause s dir) (unmarked_cause s item dir)
-parted s other = alone (blocked s other)
+parted s other = alone (blocking_cause s other)
 
 -- a command that the tree refuses is refused, and one that it lets pass is refused for what else blocks it
-pub blocked-early : (s : State) (r : Resolved) (deny : Deny) → Refuses deny (tree_cause s r) → Refuses deny (blocked s r)
+pub blocked-early : (s : State) (r : Resolved) (deny : Deny) → Refuses deny (tree_cause s r) → Refuses deny (blocking_cause s r)
 blocked-early s r (deny.Refused e) h = sym (parted s r) ∙ ap (λ (o : Option Refusal). first_cause (o ∷ link_cause s r ∷ [])) h
 blocked-early s r deny.Memory h = tt
 
-pub blocked-late : {A : Type 0} (s : State) (r : Resolved) (result : Result A Deny) → tree_cause s r ≡ None → Passes result (link_cause s r) → Passes result (blocked s r)
+pub blocked-late : {A : Type 0} (s : State) (r : Resolved) (result : Result A Deny) → tree_cause s r ≡ None → Passes result (link_cause s r) → Passes result (blocking_cause s r)
 blocked-late s r result free passes =
     subst (λ (cause : Option Refusal). Passes result cause) (sym (ap (λ (o : Option Refusal). first_cause (o ∷ link_cause s r ∷ [])) free ∙ single (link_cause s r)) ∙ parted s r) passes
   where

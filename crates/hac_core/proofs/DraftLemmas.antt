@@ -5,10 +5,10 @@ use Rattle.std.specs.Option.{option_map, option_map_or}
 use Rattle.hac_model.specs.Laws.{AllHappen}
 use Rattle.hac_model.specs.Run.Answers.{Passes, Refuses, first_cause}
 use Rattle.hac_model.specs.Run.Given.{no_answers}
-use Rattle.hac_model.specs.Run.Refusals.{answer_cause, blocked, cause, cycle_against, cycle_cause, early_cause, event_of, events_of, layout_cause, led_to}
+use Rattle.hac_model.specs.Run.Refusals.{answer_cause, blocking_cause, cause, cycle_against, cycle_cause, early_cause, event_of, events_of, layout_cause, led_to}
 use Rattle.hac_model.specs.Run.Standing.{AllStand}
 use Rattle.hac_model.specs.Tree.Events.{apply_all, dirty}
-use Rattle.hac_model.specs.Tree.Limits.{answer_limits, counts, first_passed, layout_limits, passed}
+use Rattle.hac_model.specs.Tree.Limits.{answer_limits, counts, first_passed, layout_limits, passed_limit}
 use Rattle.hac_model.specs.Tree.Valid.{IsValid}
 use Rattle.hac_model.specs.declared.counts.Counts.{Counts}
 use Rattle.hac_model.specs.declared.events.Event.{Event}
@@ -44,7 +44,7 @@ made-events s Index e is = absurd cc
 made-events s r e is = ap (λ (o : Option Event). option_map_or (λ e. e ∷ []) o []) is
 
 -- where a command leads to a valid state and lets no directory depend on itself, nothing refuses it that doesn't block it
-led-free : (s : State) (r : Resolved) → IsValid (led_to no_answers s r) → blocked s r ≡ None → cycle_cause s r ≡ None → (early_cause s r ≡ None) × (cause no_answers s r ≡ None)
+led-free : (s : State) (r : Resolved) → IsValid (led_to no_answers s r) → blocking_cause s r ≡ None → cycle_cause s r ≡ None → (early_cause s r ≡ None) × (cause no_answers s r ≡ None)
 led-free s r h free acyclic =
     let limits = valid-limits (led_to no_answers s r) h in
     let early : early_cause s r ≡ None = λ i. first_cause (free i ∷ option_map Limit (limits.0 i) ∷ acyclic i ∷ []) in
@@ -52,7 +52,7 @@ led-free s r h free acyclic =
 
 module _ (s : State) (h : IsValid s) where
   -- a command that reads leaves the state
-  reads-free : (r : Resolved) → is_reading r ≡ true → blocked s r ≡ None → (early_cause s r ≡ None) × (cause no_answers s r ≡ None)
+  reads-free : (r : Resolved) → is_reading r ≡ true → blocking_cause s r ≡ None → (early_cause s r ≡ None) × (cause no_answers s r ≡ None)
   reads-free (command.Cat entry) reads free = led-free s (command.Cat entry) h free refl
   reads-free (command.Ls dir) reads free = led-free s (command.Ls dir) h free refl
   reads-free (command.Query dir) reads free = led-free s (command.Query dir) h free refl
@@ -61,7 +61,7 @@ module _ (s : State) (h : IsValid s) where
   reads-free command.Counts reads free = led-free s command.Counts h free refl
   reads-free other reads free = absurd cc
 
-  pub draft-reads : (r shown : Resolved) → AllStand s r → blocked s r ≡ None → (shown ≡ r) × (is_reading r ≡ true) → IsDraftFor s r (Reads shown)
+  pub draft-reads : (r shown : Resolved) → AllStand s r → blocking_cause s r ≡ None → (shown ≡ r) × (is_reading r ≡ true) → IsDraftFor s r (Reads shown)
   draft-reads r shown stands free made = record { stands = stands; cause = (reads-free r made.1 free).0; known = made }
 
   -- indexing leads to a valid state
@@ -73,11 +73,11 @@ module _ (s : State) (h : IsValid s) where
       record { stands = stands; cause = subst (λ (r : Resolved). early_cause s r ≡ None) (sym made.0) index-free.0; known = made }
 
   -- the causes against an event are those against its command
-  change-early : (r : Resolved) (e : Event) → blocked s r ≡ None → event_of r ≡ Some e → early_cause s r ≡ change_cause s e
+  change-early : (r : Resolved) (e : Event) → blocking_cause s r ≡ None → event_of r ≡ Some e → early_cause s r ≡ change_cause s e
   change-early r e free is =
       λ i. first_cause (free i ∷ option_map Limit (first_passed (layout_limits (counts (apply_all s (made-events s r e is i))))) ∷ option_and_then (cycle_against s) (is i) ∷ [])
 
-  draft-changes : (r : Resolved) (e : Event) (draft : Known) → AllStand s r → blocked s r ≡ None → event_of r ≡ Some e → IsChange s e draft → change_cause s e ≡ None → IsDraftFor s r draft
+  draft-changes : (r : Resolved) (e : Event) (draft : Known) → AllStand s r → blocking_cause s r ≡ None → event_of r ≡ Some e → IsChange s e draft → change_cause s e ≡ None → IsDraftFor s r draft
   draft-changes r e (Changes change) stands free is made none =
       record { stands = stands; cause = change-early r e free is ∙ none; known = (is ∙ ap (λ (e : Event). some e) (sym made.0), made.1) }
     where
@@ -86,7 +86,7 @@ module _ (s : State) (h : IsValid s) where
   draft-changes r e (Reads shown) stands free is made none = absurd made
   draft-changes r e (Indexes count) stands free is made none = absurd made
 
-  change-refuses : (r : Resolved) (e : Event) (deny : Deny) → blocked s r ≡ None → event_of r ≡ Some e → Refuses deny (change_cause s e) → Refuses deny (early_cause s r)
+  change-refuses : (r : Resolved) (e : Event) (deny : Deny) → blocking_cause s r ≡ None → event_of r ≡ Some e → Refuses deny (change_cause s e) → Refuses deny (early_cause s r)
   change-refuses r e deny free is refuses = subst (Refuses deny) (sym (change-early r e free is)) refuses
 
   -- the limits that depend on spaces, by the counts of the change
@@ -123,10 +123,10 @@ module _ (s : State) (h : IsValid s) where
       })
 
   pub reads-cause : (r shown : Resolved) → IsDraftFor s r (Reads shown) → cause no_answers s r ≡ None
-  reads-cause r shown draft = (reads-free r draft.known.1 (no_cause (blocked s r) (layout_cause s r ∷ cycle_cause s r ∷ []) draft.cause).0).1
+  reads-cause r shown draft = (reads-free r draft.known.1 (no_cause (blocking_cause s r) (layout_cause s r ∷ cycle_cause s r ∷ []) draft.cause).0).1
 
 -- the draft of an event, or why there is none
-pub drafts-change : (s : State) → IsValid s → (r : Resolved) (e : Event) (result : Result Known Deny) → AllStand s r → blocked s r ≡ None → event_of r ≡ Some e → IfOk result (IsChange s e) → OnOk result (change_cause s e ≡ None) → IfErr result (λ deny. Refuses deny (change_cause s e)) → IfOk result (IsDraftFor s r) × IfErr result (λ deny. Refuses deny (early_cause s r))
+pub drafts-change : (s : State) → IsValid s → (r : Resolved) (e : Event) (result : Result Known Deny) → AllStand s r → blocking_cause s r ≡ None → event_of r ≡ Some e → IfOk result (IsChange s e) → OnOk result (change_cause s e ≡ None) → IfErr result (λ deny. Refuses deny (change_cause s e)) → IfOk result (IsDraftFor s r) × IfErr result (λ deny. Refuses deny (early_cause s r))
 drafts-change s h r e (Ok draft) stands free is made none refuses = (draft-changes s h r e draft stands free is made none, tt)
 drafts-change s h r e (Err deny) stands free is made none refuses = (tt, change-refuses s h r e deny free is refuses)
 

@@ -1,7 +1,7 @@
 -- What blocks a command, by the part of the state that says so.
 use Rattle.std.specs.Prelude.{ℕ, List, [], ◌∷◌, Option, None}
 use Rattle.hac_model.specs.Run.Answers.{first_cause}
-use Rattle.hac_model.specs.Run.Refusals.{already_cause, blocked, directory_cause, filled_cause, plain_cause, referenced_cause, root_cause, unlinked_cause, unmarked_cause}
+use Rattle.hac_model.specs.Run.Refusals.{already_cause, blocking_cause, directory_cause, filled_cause, plain_cause, referenced_cause, root_cause, unlinked_cause, unmarked_cause}
 use Rattle.hac_model.specs.declared.replies.Refusal.{Refusal}
 use Rattle.hac_model.specs.declared.resolved.Resolved.{Resolved}
 use Rattle.hac_model.specs.declared.resolved.Resolved.TheVariants.{Rmdir, Sln, Srm, Sforget}
@@ -17,7 +17,7 @@ tree_cause s (Rmdir dir) = first_cause (root_cause dir ∷ filled_cause s dir �
 tree_cause s (Sln item dir) = item_cause s item dir
 tree_cause s (Srm item dir) = item_cause s item dir
 tree_cause s (Sforget item dir) = item_cause s item dir
-tree_cause s other = blocked s other
+tree_cause s other = blocking_cause s other
 
 -- what links, marks and the queries of other directories say of it
 abbrev pub link_cause : State → Resolved → Option Refusal

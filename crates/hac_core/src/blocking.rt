@@ -1,7 +1,7 @@
 //! What blocks a command whose paths were followed. Limits are left out.
 ghost use Rattle.std.specs.Prelude.{◌≡◌, IsTrue};
 ghost use Rattle.hac_model.specs.Run.Answers.{Passes};
-ghost use Rattle.hac_model.specs.Run.Refusals.{blocked, directory_cause, filled_cause, plain_cause};
+ghost use Rattle.hac_model.specs.Run.Refusals.{blocking_cause, directory_cause, filled_cause, plain_cause};
 ghost use Rattle.hac_model.specs.Run.Refusals.{root_cause, taken_cause, under_cause, written_cause};
 ghost use Rattle.hac_model.specs.Run.Standing.{AllStand, StandsAt};
 ghost use Rattle.hac_model.specs.Tree.Events.{is_inside};
@@ -18,7 +18,7 @@ use std::alloc::Global;
 /// before what links, marks and other queries say.
 pub fn unblocked(alloc: Global, kept: &KeptState, command: &Resolved) -> Result<(), Deny>
     requires { AllStand kept.now.state command.now }
-    ensures { Passes result (blocked kept.now.state command.now) }
+    ensures { Passes result (blocking_cause kept.now.state command.now) }
 {
     match fits_tree(kept, command) {
         Ok(()) => fits_links(alloc, kept, command),

@@ -4,7 +4,7 @@ ghost use Rattle.hac_model.specs.Run.Answers.{Answers};
 ghost use Rattle.hac_model.specs.Run.Resolving.{resolved};
 ghost use Rattle.hac_model.specs.Tree.{is_directory_at};
 
-use crate::resolving::{directory, entry, listed, numbered, place};
+use crate::resolving::{directory, entry, listed_directory, numbered_query, place};
 use file_tree::Tree;
 use hac_model::{Command, Deny, Number, PathWord, RawQuery, Refusal, Resolved, Text};
 use std::alloc::Global;
@@ -79,7 +79,7 @@ fn ls(tree: &Tree, base: Number, path: &Option<PathWord>) -> Result<Resolved, De
     requires { IsTrue (is_directory_at tree.now.state.entries base) }
     ensures { Answers result (resolved tree.now.state base (Command.Ls path.now)) }
 {
-    let dir = listed(tree, base, path)?;
+    let dir = listed_directory(tree, base, path)?;
     Ok(Resolved::Ls { dir })
 }
 
@@ -114,7 +114,7 @@ fn smkdir(
     ensures { Answers result (resolved tree.now.state base (Command.Smkdir path.now query)) }
 {
     let place = place(tree, base, path)?;
-    match numbered(alloc, tree, base, query) {
+    match numbered_query(alloc, tree, base, query) {
         Ok(query) => Ok(Resolved::Smkdir { place, query }),
         Err(deny) => Err(deny),
     }
@@ -132,7 +132,7 @@ fn setq(
     ensures { Answers result (resolved tree.now.state base (Command.Setq path.now query)) }
 {
     let dir = directory(tree, base, path)?;
-    match numbered(alloc, tree, base, query) {
+    match numbered_query(alloc, tree, base, query) {
         Ok(query) => Ok(Resolved::Setq { dir, query }),
         Err(deny) => Err(deny),
     }
@@ -161,7 +161,7 @@ fn sls(tree: &Tree, base: Number, path: &Option<PathWord>) -> Result<Resolved, D
     requires { IsTrue (is_directory_at tree.now.state.entries base) }
     ensures { Answers result (resolved tree.now.state base (Command.Sls path.now)) }
 {
-    let dir = listed(tree, base, path)?;
+    let dir = listed_directory(tree, base, path)?;
     Ok(Resolved::Sls { dir })
 }
 
@@ -200,6 +200,6 @@ fn find(alloc: Global, tree: &Tree, base: Number, query: RawQuery) -> Result<Res
     requires { IsTrue (is_directory_at tree.now.state.entries base) }
     ensures { Answers result (resolved tree.now.state base (Command.Find query)) }
 {
-    let query = numbered(alloc, tree, base, query)?;
+    let query = numbered_query(alloc, tree, base, query)?;
     Ok(Resolved::Find { query })
 }

@@ -2,7 +2,7 @@
 ghost use Rattle.std.specs.Prelude.{◌≡◌, IfOk, IfErr, IsTrue, None, OnOk, OnErr, Ok};
 ghost use Rattle.std.specs.Option.{option_map};
 ghost use Rattle.hac_model.specs.Run.Answers.{Passes, Refuses};
-ghost use Rattle.hac_model.specs.Run.Refusals.{blocked, early_cause};
+ghost use Rattle.hac_model.specs.Run.Refusals.{blocking_cause, early_cause};
 ghost use Rattle.hac_model.specs.Run.Standing.{AllStand};
 ghost use Rattle.hac_model.specs.Tree.Events.{is_placed};
 ghost use Rattle.hac_model.specs.Tree.Limits.{answer_limits, first_passed};
@@ -19,7 +19,7 @@ use std::alloc::Global;
 /// itself, or let a directory depend on itself.
 pub fn drafted(alloc: Global, kept: &KeptState, command: Resolved) -> Result<Draft, Deny>
     requires stands { AllStand kept.now.state command }
-    requires free { blocked kept.now.state command ≡ None }
+    requires free { blocking_cause kept.now.state command ≡ None }
     ensures draft { IfOk result (IsDraftFor kept.now.state command) }
     ensures refused { IfErr result (λ deny. Refuses deny (early_cause kept.now.state command)) }
 {

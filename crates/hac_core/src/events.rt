@@ -1,6 +1,6 @@
 //! What a command makes: an event, index steps, or nothing.
 ghost use Rattle.std.specs.Prelude.{◌≡◌, None};
-ghost use Rattle.hac_model.specs.Run.Refusals.{blocked, marks, writes};
+ghost use Rattle.hac_model.specs.Run.Refusals.{blocking_cause, marks, writes};
 ghost use Rattle.hac_model.specs.Tree.Events.{dirty};
 ghost use Rattle.hac_core.specs.Drafts.{IsFree, Makes};
 
@@ -21,7 +21,7 @@ pub enum Made {
 
 /// What a command makes that nothing blocks.
 pub fn made_by(alloc: Global, kept: &KeptState, command: Resolved) -> Made
-    requires { blocked kept.now.state command ≡ None }
+    requires { blocking_cause kept.now.state command ≡ None }
     ensures { Makes kept.now.state command result }
 {
     match command {

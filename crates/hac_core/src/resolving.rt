@@ -1,7 +1,7 @@
 //! Where path words lead.
 ghost use Rattle.std.specs.Prelude.{◌≡◌, ◌++◌, ◌∷◌, [], IfOk, IsTrue};
 ghost use Rattle.hac_model.specs.Run.Answers.{Answers};
-ghost use Rattle.hac_model.specs.Run.Resolving.{place, entry, directory, listed, numbered};
+ghost use Rattle.hac_model.specs.Run.Resolving.{place, entry, directory, listed_directory, numbered_query};
 ghost use Rattle.hac_model.specs.Tree.{is_directory_at, path_of};
 
 use file_tree::{Stop, Tree};
@@ -58,9 +58,9 @@ pub fn directory(tree: &Tree, base: Number, word: &PathWord) -> Result<Number, D
 }
 
 /// The directory to which a path word leads, the one that it would go on from if none is given.
-pub fn listed(tree: &Tree, base: Number, word: &Option<PathWord>) -> Result<Number, Deny>
+pub fn listed_directory(tree: &Tree, base: Number, word: &Option<PathWord>) -> Result<Number, Deny>
     requires { IsTrue (is_directory_at tree.now.state.entries base) }
-    ensures { Answers result (listed tree.now.state base word.now) }
+    ensures { Answers result (listed_directory tree.now.state base word.now) }
 {
     match word {
         Some(word) => directory(tree, base, word),
@@ -69,30 +69,30 @@ pub fn listed(tree: &Tree, base: Number, word: &Option<PathWord>) -> Result<Numb
 }
 
 /// The query with each directory by its number. It goes down as deep as the query does.
-pub fn numbered(
+pub fn numbered_query(
     alloc: Global,
     tree: &Tree,
     base: Number,
     query: RawQuery,
 ) -> Result<Query<Number>, Deny>
     requires { IsTrue (is_directory_at tree.now.state.entries base) }
-    ensures { Answers result (numbered tree.now.state base query) }
+    ensures { Answers result (numbered_query tree.now.state base query) }
 {
     match query.node {
         Node::Term(term) => Ok(Query::term(term)),
         Node::Dir(word) => Ok(Query::dir(directory(tree, base, &word)?)),
         Node::Not(query) => {
-            let inner = numbered(alloc, tree, base, Box::into_inner(query))?;
+            let inner = numbered_query(alloc, tree, base, Box::into_inner(query))?;
             Ok(Query::negation(alloc, inner)?)
         }
         Node::And(left, right) => {
-            let first = numbered(alloc, tree, base, Box::into_inner(left))?;
-            let second = numbered(alloc, tree, base, Box::into_inner(right))?;
+            let first = numbered_query(alloc, tree, base, Box::into_inner(left))?;
+            let second = numbered_query(alloc, tree, base, Box::into_inner(right))?;
             Ok(Query::both(alloc, first, second)?)
         }
         Node::Or(left, right) => {
-            let first = numbered(alloc, tree, base, Box::into_inner(left))?;
-            let second = numbered(alloc, tree, base, Box::into_inner(right))?;
+            let first = numbered_query(alloc, tree, base, Box::into_inner(left))?;
+            let second = numbered_query(alloc, tree, base, Box::into_inner(right))?;
             Ok(Query::either(alloc, first, second)?)
         }
     }

@@ -6,7 +6,7 @@ use Rattle.std.proofs.lemmas.Bool.{and_parts, cases_eq, eqb-true}
 use Rattle.hac_model.specs.Tree.Depends.{Among, IsAcyclic, Leads, Reaches, cycle_of_move, cycle_over, depends, named_in}
 use Rattle.hac_model.specs.Tree.Events.{accepted, added, apply, are_directories, asking, changed_at, edited, forgetting, forgotten, indexed, is_possible, marked, next_dirty, plain_body, removed, reseated, rewritten}
 use Rattle.hac_model.specs.Query.Formula.{Formula}
-use Rattle.hac_model.specs.Tree.Limits.{passed}
+use Rattle.hac_model.specs.Tree.Limits.{passed_limit}
 use Rattle.hac_model.specs.Tree.Links.{parent_of, query_at}
 use Rattle.hac_model.specs.Query.Queries.{is_query}
 use Rattle.hac_model.specs.Tree.{empty, entry_at, is_directory, is_directory_at, is_made_directory, query_in}
@@ -217,7 +217,7 @@ apply-acyclic s (Mkdir dir name) h ok = added-acyclic s dir name Dir h (λ e ins
 apply-acyclic s (NewFile dir name text) h ok = added-acyclic s dir name (File text true None) h (λ e inside. absurd inside)
 apply-acyclic s (Rewrite file text) h ok = edited-acyclic s file (rewritten text) (rewritten-edges text) h.acyclic
 apply-acyclic s (Smkdir dir name query told) h ok =
-    let parts = accepted-parts (is_possible s (Smkdir dir name query told)) (passed (added s dir name (Semantic query [] []))) ok in
+    let parts = accepted-parts (is_possible s (Smkdir dir name query told)) (passed_limit (added s dir name (Semantic query [] []))) ok in
     let fits = smkdir-parts s dir name query told parts.0 in
     let named = and_parts (is_query query) (are_directories s (named_in query)) fits.1 in
     let parent = (free-parts s dir name fits.0).0 in
@@ -226,12 +226,12 @@ apply-acyclic s (Smkdir dir name query told) h ok =
       | inr more ↦ among-directory s (named_in query) e named.1 more
     ])
 apply-acyclic s (Setq dir query told) h ok =
-    let parts = accepted-parts (is_possible s (Setq dir query told)) (passed (changed_at s dir (edited (asking query)))) ok in
+    let parts = accepted-parts (is_possible s (Setq dir query told)) (passed_limit (changed_at s dir (edited (asking query)))) ok in
     setq-acyclic s dir query h.acyclic (setq-parts s dir query told parts.0).2
 apply-acyclic s (Unq dir) h ok = edited-acyclic s dir plain_body plain-edges h.acyclic
 apply-acyclic s (Mark mark) h ok = edited-acyclic s mark.dir (marked mark.item mark.kind) (marked-edges mark.item mark.kind) h.acyclic
 apply-acyclic s (Mv entry dir name) h ok =
-    let parts = accepted-parts (is_possible s (Mv entry dir name)) (passed (changed_at s entry (reseated dir name))) ok in
+    let parts = accepted-parts (is_possible s (Mv entry dir name)) (passed_limit (changed_at s entry (reseated dir name))) ok in
     moved-acyclic s entry dir name h.acyclic (move-parts s entry dir name parts.0).3
 apply-acyclic s (Rm file) h ok = forgotten-acyclic (removed s file) file (removed-acyclic s file h.acyclic)
 apply-acyclic s (Rmdir dir) h ok = removed-acyclic s dir h.acyclic

@@ -9,14 +9,14 @@ use Rattle.hac_model.specs.Tree.Depends.{depends, named_in, names_directory, ref
 use Rattle.hac_model.specs.Tree.Events.{are_directories, dirty, edited, is_bare, is_free, is_inside, may_ask}
 use Rattle.hac_model.specs.Query.Formula.{Formula}
 use Rattle.hac_model.specs.Query.Formula as query
-use Rattle.hac_model.specs.Tree.Limits.{answer_limits, layout_limits, counts, first_passed, passed, file_bytes}
+use Rattle.hac_model.specs.Tree.Limits.{answer_limits, layout_limits, counts, first_passed, passed_limit, file_bytes}
 use Rattle.hac_model.specs.Tree.Links.{has, parent_of, query_at}
 use Rattle.hac_model.specs.Tree.Listing.{children, entry_line, in_order, is_before, letter, put_in_order}
 use Rattle.hac_model.specs.Tree.Looks.{look, stands_at, stop_at, ways}
 use Rattle.hac_model.specs.Tree.Names.{is_name}
 use Rattle.hac_model.specs.Tree.Paths.{join, without_last}
 use Rattle.hac_model.specs.Query.Queries.{is_query}
-use Rattle.hac_model.specs.Run.Resolving.{directory, entry, item_and_dir, listed, numbered, place, resolved, standing}
+use Rattle.hac_model.specs.Run.Resolving.{directory, entry, item_and_dir, listed_directory, numbered_query, place, resolved, wanted_entry}
 use Rattle.hac_model.specs.Tree.{body_at, child, entry_at, extends, is_directory, is_directory_at, is_dirty, is_file, is_file_at, path_of, query_in, text_in}
 use Rattle.hac_model.specs.Tree.Valid.{IsLayout, IsSound, NamesDiffer, NumbersRise}
 use Rattle.hac_model.specs.declared.commands.Command.{Command}
@@ -184,7 +184,7 @@ module _ (s : State) (base : ℕ) where
   place-bare : (word : PathWord) → place (bare s) base word ≡ place s base word
   place-bare word = ap (λ (path : List (List ℕ)). look (bare s) (join path word)) (path_of-bare s base) ∙ look-bare s (join (path_of s base) word)
 
-  standing-bare : (found : Place) → standing (bare s) found ≡ standing s found
+  standing-bare : (found : Place) → wanted_entry (bare s) found ≡ wanted_entry s found
   standing-bare (There number) = refl
   standing-bare (Free dir name) = ap (λ (path : List (List ℕ)). Err (NoPath (path ++ name ∷ []))) (path_of-bare s dir)
 
@@ -194,11 +194,11 @@ module _ (s : State) (base : ℕ) where
   directory-leads : (word : PathWord) → directory (bare s) base word ≡ directory s base word
   directory-leads word = λ i. and_then (λ number. cond (directory-bare s number i) (Ok number) (Err (NotDir (path_of-bare s number i)))) (entry-bare word i)
 
-  listed-bare : (word : Option PathWord) → listed (bare s) base word ≡ listed s base word
+  listed-bare : (word : Option PathWord) → listed_directory (bare s) base word ≡ listed_directory s base word
   listed-bare None = refl
   listed-bare (Some word) = directory-leads word
 
-  numbered-bare : (raw : Formula PathWord) → numbered (bare s) base raw ≡ numbered s base raw
+  numbered-bare : (raw : Formula PathWord) → numbered_query (bare s) base raw ≡ numbered_query s base raw
   numbered-bare (query.Term term) = refl
   numbered-bare (query.Dir word) = ap (and_then (λ dir. Ok (query.Dir dir))) (directory-leads word)
   numbered-bare (query.Not raw) = ap (and_then (λ inner. Ok (query.Not inner))) (numbered-bare raw)
@@ -253,8 +253,8 @@ counts-bare s = λ i. record {
     ones : (test : Body → Bool) → ((body : Body) → test (bare_body body) ≡ test body) → measured (one_if test) (map (edited bare_body) s.entries) ≡ measured (one_if test) s.entries
     ones test same = measured-bare (one_if test) s.entries (λ body. ap (λ (b : Bool). cond {A = ℕ} b 1 0) (same body))
 
-pub passed-bare : (s : State) → passed (bare s) ≡ passed s
-unfolding passed
+pub passed-bare : (s : State) → passed_limit (bare s) ≡ passed_limit s
+unfolding passed_limit
 passed-bare s = ap (λ c. first_passed (layout_limits c ++ answer_limits c)) (counts-bare s)
 
 -- What is in a directory.

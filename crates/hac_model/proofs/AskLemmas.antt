@@ -7,7 +7,7 @@ use Rattle.std.proofs.lemmas.Bool.{and_from, and_parts, eqb-false, not-true}
 use Rattle.hac_model.specs.Tree.Depends.{named_in, names_directory}
 use Rattle.hac_model.specs.Tree.Events.{accepted, added, apply, are_directories, asking, changed_at, edited, forgetting, forgotten, indexed, is_possible, marked, may_ask, next_dirty, plain_body, removed, reseated, rewritten, without}
 use Rattle.hac_model.specs.Query.Formula.{Formula}
-use Rattle.hac_model.specs.Tree.Limits.{passed}
+use Rattle.hac_model.specs.Tree.Limits.{passed_limit}
 use Rattle.hac_model.specs.Tree.Links.{has, is_item}
 use Rattle.hac_model.specs.Query.Queries.{is_query}
 use Rattle.hac_model.specs.Tree.{entry_at, is_directory, is_directory_at, is_file, is_file_at, is_made_directory, query_in}
@@ -204,30 +204,30 @@ apply-queries s (Mkdir dir name) h ok = added-asks s dir name Dir h tt
 apply-queries s (NewFile dir name text) h ok = added-asks s dir name (File text true None) h tt
 apply-queries s (Rewrite file text) h ok = changed-asks s file (edited (rewritten text)) (λ e. refl) (λ e. (rewritten-keeps text).directories e.body) (λ e. (rewritten-keeps text).files e.body) (λ e there. rewritten-asks (apply s (Rewrite file text)) text e.body there) h
 apply-queries s (Smkdir dir name query told) h ok =
-    let parts = accepted-parts (is_possible s (Smkdir dir name query told)) (passed (added s dir name (Semantic query [] []))) ok in
+    let parts = accepted-parts (is_possible s (Smkdir dir name query told)) (passed_limit (added s dir name (Semantic query [] []))) ok in
     let fits = (smkdir-parts s dir name query told parts.0).1 in
     let t : State = added s dir name (Semantic query [] []) in
     added-asks s dir name (Semantic query [] []) h (record { fits = ask-stays s t query (λ d inside there. added-directories s dir name (Semantic query [] []) d there) fits; added = record { rise = tt; items = tt }; removed = record { rise = tt; items = tt }; apart = tt })
 apply-queries s (Setq dir query told) h ok =
-    let parts = accepted-parts (is_possible s (Setq dir query told)) (passed (changed_at s dir (edited (asking query)))) ok in
+    let parts = accepted-parts (is_possible s (Setq dir query told)) (passed_limit (changed_at s dir (edited (asking query)))) ok in
     let t : State = changed_at s dir (edited (asking query)) in
     let fits = ask-stays s t query (λ d inside there. edited-directories s dir (asking query) (asking-kind query) d there) (setq-parts s dir query told parts.0).1 in
     changed-asks s dir (edited (asking query)) (λ e. refl) (λ e. asking-kind query e.body) (λ e. asking-file query e.body) (λ e there. asking-asks t query e.body fits there) h
 apply-queries s (Unq dir) h ok = changed-asks s dir (edited plain_body) (λ e. refl) (λ e. plain-kind e.body) (λ e. plain-file e.body) (λ e there. plain-asks (apply s (Unq dir)) e.body there) h
 apply-queries s (Mark mark) h ok =
     let edit : Body → Body = marked mark.item mark.kind in
-    let parts = accepted-parts (is_possible s (Mark mark)) (passed (changed_at s mark.dir (edited edit))) ok in
+    let parts = accepted-parts (is_possible s (Mark mark)) (passed_limit (changed_at s mark.dir (edited edit))) ok in
     let item = edited-items s mark.dir edit (marked-file mark.item mark.kind) mark.item (mark-parts s mark.dir mark.item mark.kind parts.0).0 in
     changed-asks s mark.dir (edited edit) (λ e. refl) (λ e. marked-kind mark.item mark.kind e.body) (λ e. marked-file mark.item mark.kind e.body) (λ e there. marked-asks (apply s (Mark mark)) mark.item mark.kind e.body item there) h
 apply-queries s (Mv entry dir name) h ok = changed-asks s entry (reseated dir name) (λ e. refl) (λ e. refl) (λ e. refl) (λ e there. there) h
 apply-queries s (Rm file) h ok =
-    let parts = accepted-parts (is_file_at s.entries file) (passed (forgotten (removed s file) file)) ok in
+    let parts = accepted-parts (is_file_at s.entries file) (passed_limit (forgotten (removed s file) file)) ok in
     let t : State = forgotten (removed s file) file in
     all-map (λ e. AsksWell t e.body) (edited (forgetting file)) (filter (is_kept file) s.entries)
     (all-filter (λ e. AsksWell t (forgetting file e.body)) (is_kept file) s.entries
     (all-weaker (λ e. AsksWell s e.body) (λ e. AsksWell t (forgetting file e.body)) s.entries (λ e asks. forgotten-asks s file e.body h.layout parts.0 asks) h.queries))
 apply-queries s (Rmdir dir) h ok =
-    let parts = accepted-parts (is_possible s (Rmdir dir)) (passed (removed s dir)) ok in
+    let parts = accepted-parts (is_possible s (Rmdir dir)) (passed_limit (removed s dir)) ok in
     let fits = rmdir-parts s dir parts.0 in
     all-filter (λ e. AsksWell (removed s dir) e.body) (is_kept dir) s.entries (all-unreferenced s dir s.entries h.layout fits.0 fits.2 h.queries)
 apply-queries s Step h ok = elim (next_dirty s.entries) as (λ o. AllByRecursion (λ e. AsksWell (option_map_or (λ file. changed_at s file (edited indexed)) o s) e.body) (option_map_or (λ file. changed_at s file (edited indexed)) o s).entries) [

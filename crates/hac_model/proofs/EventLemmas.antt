@@ -9,11 +9,11 @@ use Rattle.hac_model.specs.Run.Answers.{first_cause}
 use Rattle.hac_model.specs.Tree.Events.{accepted, apply, apply_all, changed_at, dirty, edited, indexed, is_bare, is_free, is_clear, is_inside, is_placed, is_possible, is_unreferenced, may_ask, next_dirty}
 use Rattle.hac_model.specs.Tree.Depends.{cycle_of_move, cycle_over, names_directory, referrers}
 use Rattle.hac_model.specs.Laws.{AllHappen}
-use Rattle.hac_model.specs.Tree.Limits.{answer_limits, counts, dirty_count, first_passed, is_text, layout_limits, passed}
+use Rattle.hac_model.specs.Tree.Limits.{answer_limits, counts, dirty_count, first_passed, is_text, layout_limits, passed_limit}
 use Rattle.hac_model.specs.Script.Lines.{is_spelled}
 use Rattle.hac_model.specs.Tree.Links.{has, is_item, is_permanent, is_prohibited, is_semantic, links, parent_of}
 use Rattle.hac_model.specs.Run.Given.{no_answers}
-use Rattle.hac_model.specs.Run.Refusals.{already_cause, answer_cause, blocked, cause, cycle_by, cycle_cause, directory_cause, early_cause, event_of, events_of, filled_cause, layout_cause, least_path, led_to, plain_cause, referenced_cause, root_cause, taken_cause, under_cause, unlinked_cause, unmarked_cause}
+use Rattle.hac_model.specs.Run.Refusals.{already_cause, answer_cause, blocking_cause, cause, cycle_by, cycle_cause, directory_cause, early_cause, event_of, events_of, filled_cause, layout_cause, least_path, led_to, plain_cause, referenced_cause, root_cause, taken_cause, under_cause, unlinked_cause, unmarked_cause}
 use Rattle.hac_model.specs.Run.Resolving.{resolve}
 use Rattle.hac_model.specs.Run.Standing.{AllStand}
 use Rattle.hac_model.specs.Tree.{entry_at, is_directory_at, is_dirty, is_file_at, is_live, is_made_directory, path_of}
@@ -60,10 +60,10 @@ no_limit None h = refl
 no_limit (Some word) h = absurd cc
 
 -- nothing blocks the event, no directory would depend on itself, and the next state exceeds no limit
-pub cause-parts : (s : State) (r : Resolved) → cause no_answers s r ≡ None → (blocked s r ≡ None) × (cycle_cause s r ≡ None) × (passed (led_to no_answers s r) ≡ None)
+pub cause-parts : (s : State) (r : Resolved) → cause no_answers s r ≡ None → (blocking_cause s r ≡ None) × (cycle_cause s r ≡ None) × (passed_limit (led_to no_answers s r) ≡ None)
 cause-parts s r h =
     let both = no_cause (early_cause s r) (answer_cause no_answers s r ∷ []) h in
-    let early = no_cause (blocked s r) (layout_cause s r ∷ cycle_cause s r ∷ []) both.0 in
+    let early = no_cause (blocking_cause s r) (layout_cause s r ∷ cycle_cause s r ∷ []) both.0 in
     let layout = no_cause (layout_cause s r) (cycle_cause s r ∷ []) early.1 in
     let cycle = no_cause (cycle_cause s r) [] layout.1 in
     let answers = no_cause (answer_cause no_answers s r) [] both.1 in (
@@ -120,7 +120,7 @@ steps-clean s h ok =
           let old : one_if is_dirty there.0.body ≡ 1 = ap (λ (b : Bool). cond {A = ℕ} b 1 0) there.2 in
           let new : one_if is_dirty (indexed there.0.body) ≡ 0 = ap (λ (b : Bool). cond {A = ℕ} b 1 0) (clean-indexed there.0.body) in
           omega (arith, less, old, new, dirty_count-is s.entries, dirty_count-is (changed_at s n (edited indexed)).entries))
-    ] refl (and_parts (is_some (next_dirty s.entries)) (is_none (passed (apply s Step))) ok).0
+    ] refl (and_parts (is_some (next_dirty s.entries)) (is_none (passed_limit (apply s Step))) ok).0
 
 -- a step can happen where a file is dirty
 pub step-due : (s : State) (n : ℕ) → IsLayout s → dirty s ≡ suc n → IsTrue (accepted s Step)
@@ -190,7 +190,7 @@ module _ (s : State) (h : IsLayout s) where
   pub file-there : (n : ℕ) → is_live s.entries n ≡ true → directory_cause s n ≡ None → is_file_at s.entries n ≡ true
   file-there n lives free = file-or_directory s n h (is-live s.entries n lives) (no_refusal (is_directory_at s.entries n) (refusal.NotFile (path_of s n)) free)
 
-  pub unblocked-placed : (r : Resolved) → AllStand s r → blocked s r ≡ None → IfSome (event_of r) (λ e. IsTrue (is_placed s e))
+  pub unblocked-placed : (r : Resolved) → AllStand s r → blocking_cause s r ≡ None → IfSome (event_of r) (λ e. IsTrue (is_placed s e))
   unblocked-placed (Mkdir (There number)) there free = tt
   unblocked-placed (Mkdir (Free dir name)) there free = there
   unblocked-placed (Rmdir dir) there free =
@@ -221,7 +221,7 @@ module _ (s : State) (h : IsLayout s) where
   unblocked-placed other there free = tt
 
   -- and against which nothing stands
-  unblocked-clear : (r : Resolved) → AllStand s r → blocked s r ≡ None → cycle_cause s r ≡ None → IfSome (event_of r) (λ e. IsTrue (is_clear s e))
+  unblocked-clear : (r : Resolved) → AllStand s r → blocking_cause s r ≡ None → cycle_cause s r ≡ None → IfSome (event_of r) (λ e. IsTrue (is_clear s e))
   unblocked-clear (Mkdir (There number)) there free acyclic = tt
   unblocked-clear (Mkdir (Free dir name)) there free acyclic = refl
   unblocked-clear (Rmdir dir) there free acyclic =
@@ -249,13 +249,13 @@ module _ (s : State) (h : IsLayout s) where
   unblocked-clear other there free acyclic = tt
 
 -- one event, or none, happens
-made-happens : (s : State) (o : Option Event) → IfSome o (λ e. IsTrue (is_placed s e)) → IfSome o (λ e. IsTrue (is_clear s e)) → passed (apply_all s (option_map_or (λ e. e ∷ []) o [])) ≡ None → AllHappen s (option_map_or (λ e. e ∷ []) o [])
+made-happens : (s : State) (o : Option Event) → IfSome o (λ e. IsTrue (is_placed s e)) → IfSome o (λ e. IsTrue (is_clear s e)) → passed_limit (apply_all s (option_map_or (λ e. e ∷ []) o [])) ≡ None → AllHappen s (option_map_or (λ e. e ∷ []) o [])
 made-happens s None placed clear limits = tt
 made-happens s (Some e) placed clear limits =
     let possible = and_from (is_clear s e) (is_placed s e) clear placed in
-    (and_from (is_possible s e) (is_none (passed (apply s e))) possible (ap (λ (o : Option LimitWord). is_none o) limits), tt)
+    (and_from (is_possible s e) (is_none (passed_limit (apply s e))) possible (ap (λ (o : Option LimitWord). is_none o) limits), tt)
 
-pub unblocked-happen : (s : State) (r : Resolved) → IsValid s → AllStand s r → blocked s r ≡ None → cycle_cause s r ≡ None → passed (led_to no_answers s r) ≡ None → AllHappen s (events_of no_answers s r)
+pub unblocked-happen : (s : State) (r : Resolved) → IsValid s → AllStand s r → blocking_cause s r ≡ None → cycle_cause s r ≡ None → passed_limit (led_to no_answers s r) ≡ None → AllHappen s (events_of no_answers s r)
 unblocked-happen s Index h there free acyclic limits = steps-happen (dirty s) s h refl
 unblocked-happen s r h there free acyclic limits =
     made-happens s (event_of r) (unblocked-placed s h.layout r there free) (unblocked-clear s h.layout r there free acyclic) limits

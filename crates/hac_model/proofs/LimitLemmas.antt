@@ -1,7 +1,7 @@
 -- A state that exceeds no limit is within each of them.
 use Rattle.std.proofs.Common.{◌≡◌, Bool, true, false, cond, refl, ap, ◌∙◌, List, [], ◌∷◌, ◌++◌}
 use Rattle.std.specs.Prelude.{nat_lt, Option, Some, None}
-use Rattle.hac_model.specs.Tree.Limits.{answer_limits, are_paths_short, counts, directory_count, file_count, first_passed, layout_limits, long_paths, passed, semantic_count, text_size}
+use Rattle.hac_model.specs.Tree.Limits.{answer_limits, are_paths_short, counts, directory_count, file_count, first_passed, layout_limits, long_paths, passed_limit, semantic_count, text_size}
 use Rattle.hac_model.specs.declared.limits.Limit.{Limit}
 use Rattle.hac_model.specs.declared.limits.TheConstants.{TEXTS_LIMIT, DIRS_LIMIT, SEMANTICS_LIMIT, ITEMS_LIMIT, NUMBERS_LIMIT}
 use Rattle.hac_model.specs.declared.limits.LimitWord.{LimitWord}
@@ -41,8 +41,8 @@ short-paths es h = elim (are_paths_short es) as (λ b. nat_lt 0 (cond b 0 1) ≡
 pub paths-short : (es : List Entry) → are_paths_short es ≡ true → nat_lt 0 (long_paths es) ≡ false
 paths-short es h = ap (λ (b : Bool). nat_lt 0 (cond b 0 1)) h
 
-pub limits-within : (s : State) → passed s ≡ None → IsWithinLimits s
-unfolding passed
+pub limits-within : (s : State) → passed_limit s ≡ None → IsWithinLimits s
+unfolding passed_limit
 limits-within s h =
     let texts = first-behind _ _ h in
     let dirs = first-behind _ _ texts.1 in
@@ -52,8 +52,8 @@ limits-within s h =
     let numbers = first-behind _ _ items.1 in
     record { texts = texts.0; dirs = dirs.0; semantics = semantics.0; paths = short-paths s.entries paths.0; items = items.0; numbers = numbers.0 }
 
-pub limits-none : (s : State) → IsWithinLimits s → passed s ≡ None
-unfolding passed
+pub limits-none : (s : State) → IsWithinLimits s → passed_limit s ≡ None
+unfolding passed_limit
 limits-none s h =
     first-before _ _ h.texts
     (first-before _ _ h.dirs
@@ -67,6 +67,6 @@ passed-append : (xs ys : List Limit) → first_passed xs ≡ None → first_pass
 passed-append [] ys h k = k
 passed-append (x ∷ xs) ys h k = let parts = first-behind x xs h in first-before x (xs ++ ys) parts.0 (passed-append xs ys parts.1 k)
 
-pub passed-both : (s : State) → first_passed (layout_limits (counts s)) ≡ None → first_passed (answer_limits (counts s)) ≡ None → passed s ≡ None
-unfolding passed
+pub passed-both : (s : State) → first_passed (layout_limits (counts s)) ≡ None → first_passed (answer_limits (counts s)) ≡ None → passed_limit s ≡ None
+unfolding passed_limit
 passed-both s h k = passed-append (layout_limits (counts s)) (answer_limits (counts s)) h k

@@ -5,7 +5,7 @@ use Rattle.std.specs.Option.{option_map, option_map_or}
 use Rattle.std.specs.List.{AllByRecursion, list_all}
 use Rattle.std.specs.Str.{bytes_eq}
 use Rattle.hac_model.specs.Tree.Events.{edited}
-use Rattle.hac_model.specs.Tree.Limits.{answer_limits, are_paths_short, counts, directory_count, file_count, first_passed, layout_limits, long_paths, passed, semantic_count, text_size, file_bytes}
+use Rattle.hac_model.specs.Tree.Limits.{answer_limits, are_paths_short, counts, directory_count, file_count, first_passed, layout_limits, long_paths, passed_limit, semantic_count, text_size, file_bytes}
 use Rattle.hac_model.specs.Tree.Limits as limits_of
 use Rattle.hac_model.specs.Tree.Names.{is_name}
 use Rattle.hac_model.specs.Tree.{ancestors, body_at, child, entry_at, is_directory, is_directory_at, is_file, is_path_short, lineage, query_in}
@@ -120,14 +120,14 @@ counts-mapped edit s keeps = λ i. first_passed (
     paths : long_paths (map (edited edit) es) ≡ long_paths es
     paths = ap (λ (b : Bool). cond {A = ℕ} b 0 1) (paths-mapped edit es)
 
-pub passed-mapped : (edit : Body → Body) (s : State) → KeepsMeasures edit → passed (mapped edit s) ≡ passed s
-unfolding passed
+pub passed-mapped : (edit : Body → Body) (s : State) → KeepsMeasures edit → passed_limit (mapped edit s) ≡ passed_limit s
+unfolding passed_limit
 passed-mapped edit s keeps = counts-mapped edit s keeps
 
-pub mapped-passes : (edit : Body → Body) (s : State) → KeepsMeasures edit → passed s ≡ None → passed (mapped edit s) ≡ None
+pub mapped-passes : (edit : Body → Body) (s : State) → KeepsMeasures edit → passed_limit s ≡ None → passed_limit (mapped edit s) ≡ None
 mapped-passes edit s keeps limits = passed-mapped edit s keeps ∙ limits
 
-pub measures-passed : (edit : Body → Body) (s : State) → KeepsMeasures edit → passed (mapped edit s) ≡ None → passed s ≡ None
+pub measures-passed : (edit : Body → Body) (s : State) → KeepsMeasures edit → passed_limit (mapped edit s) ≡ None → passed_limit s ≡ None
 measures-passed edit s keeps limits = sym (passed-mapped edit s keeps) ∙ limits
 
 -- and a tree stays one

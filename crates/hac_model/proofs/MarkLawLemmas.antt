@@ -10,7 +10,7 @@ use Rattle.hac_model.specs.Tree.Depends.{named_in}
 use Rattle.hac_model.specs.Tree.Events.{accepted, apply, is_possible, put_in, without}
 use Rattle.hac_model.specs.Tree.Facts.{Facts, Marks, facts_after, facts_at, facts_of, no_facts, put_at, with_mark}
 use Rattle.hac_model.specs.Tree.Kinds as kinds
-use Rattle.hac_model.specs.Tree.Limits.{passed}
+use Rattle.hac_model.specs.Tree.Limits.{passed_limit}
 use Rattle.hac_model.specs.Tree.Links.{column, found_by, has, holds, is_below, is_permanent, is_prohibited, is_semantic, is_unmarked, items, links, parent_of, passes, provide, satisfies, shown_of}
 use Rattle.hac_model.specs.Tree.{entry_at, permanent_in, prohibited_in}
 use Rattle.hac_model.specs.Tree.Valid.{AsksWell, IsValid}
@@ -44,7 +44,7 @@ module _ (s : State) (e : Event) (h : IsValid s) (ok : IsTrue (accepted s e)) (d
 
   law : facts_of (apply s e) dir ≡ new
   unfolding new
-  law = facts-law s e h.layout.numbers (accepted-parts (is_possible s e) (passed (apply s e)) ok).0 dir
+  law = facts-law s e h.layout.numbers (accepted-parts (is_possible s e) (passed_limit (apply s e)) ok).0 dir
 
   permanent-after : is_permanent (apply s e) dir item ≡ has new.marks.permanent item
   permanent-after = sym (marks-told (apply s e) dir item).0 ∙ ap (λ (facts : Facts). has facts.marks.permanent item) law

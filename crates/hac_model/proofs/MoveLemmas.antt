@@ -10,7 +10,7 @@ use Rattle.std.proofs.lemmas.List.{drop-append-le, length-map, length-reverse, l
 use Rattle.std.proofs.lemmas.List.Folds.{list_all-append}
 use Rattle.std.proofs.Math.Seq.{drop-length}
 use Rattle.hac_model.specs.Tree.Events.{accepted, added, apply, changed_in, changed_at, is_inside, is_possible, renamed, reseated}
-use Rattle.hac_model.specs.Tree.Limits.{are_paths_short, passed}
+use Rattle.hac_model.specs.Tree.Limits.{are_paths_short, passed_limit}
 use Rattle.hac_model.specs.Tree.{ancestors, entry_at, extends, is_path_short, lineage, path_of}
 use Rattle.hac_model.specs.Tree.Valid.{IsLayout}
 use Rattle.hac_model.specs.declared.events.Event.TheVariants.{Mv}
@@ -286,7 +286,7 @@ some-found es n h = elim (entry_at-cases es n) [
 -- an accepted move is one of an entry to a directory outside of it
 pub accepted-move : (s : State) (n dir : ℕ) (name : List ℕ) → IsTrue (accepted s (Mv n dir name)) → (e : Entry) × IsMove s n dir e
 accepted-move s n dir name ok =
-    let parts = accepted-parts (is_possible s (Mv n dir name)) (passed (changed_at s n (reseated dir name))) ok in
+    let parts = accepted-parts (is_possible s (Mv n dir name)) (passed_limit (changed_at s n (reseated dir name))) ok in
     let move = move-parts s n dir name parts.0 in
     let found = some-found s.entries n move.0 in
     (found.0, record { there = found.1; lives = directory-lives s.entries dir (free-parts s dir name move.1).0; outside = move.2 })

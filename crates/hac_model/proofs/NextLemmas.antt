@@ -4,7 +4,7 @@ use Rattle.std.specs.Prelude.{IsTrue}
 use Rattle.hac_model.specs.Tree.Bare.{bare}
 use Rattle.hac_model.specs.Tree.Events.{accepted, apply, is_possible}
 use Rattle.hac_model.specs.Tree.Facts.{Facts, bare_after, facts_after, facts_of, joined}
-use Rattle.hac_model.specs.Tree.Limits.{passed}
+use Rattle.hac_model.specs.Tree.Limits.{passed_limit}
 use Rattle.hac_model.specs.Tree.Valid.{IsLayout, IsValid}
 use Rattle.hac_model.specs.declared.events.Event.{Event}
 use Rattle.hac_model.specs.declared.states.State.{State}
@@ -35,7 +35,7 @@ module _ (tree : State) (facts : ℕ → Facts) (event : Event) (valid : IsValid
   module _ (own : (n : ℕ) → facts_of old n ≡ facts n) (after : State) (is : after ≡ bare_after event tree) (new : ℕ → Facts) (each : (n : ℕ) → new n ≡ facts_after event tree facts n) where
     told : (n : ℕ) → facts_of (apply old event) n ≡ new n
     told n =
-        facts-law old event valid.layout.numbers (accepted-parts (is_possible old event) (passed (apply old event)) ok).0 n
+        facts-law old event valid.layout.numbers (accepted-parts (is_possible old event) (passed_limit (apply old event)) ok).0 n
         ∙ facts-alike event old tree (facts_of old) n (bare-joined facts tree)
         ∙ ap (λ (f : ℕ → Facts). facts_after event tree f n) (λ i n. own n i)
         ∙ sym (each n)

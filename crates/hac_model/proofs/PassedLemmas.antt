@@ -5,7 +5,7 @@ use Rattle.std.specs.Option.{option_map_or}
 use Rattle.std.specs.List.{AllByRecursion}
 use Rattle.std.proofs.lemmas.Bool.{ltb-false, le-ltb}
 use Rattle.hac_model.specs.Tree.Events.{apply, changed_at, edited, indexed, is_bare, next_dirty, removed}
-use Rattle.hac_model.specs.Tree.Limits.{directory_count, passed, text_size, file_bytes}
+use Rattle.hac_model.specs.Tree.Limits.{directory_count, passed_limit, text_size, file_bytes}
 use Rattle.hac_model.specs.Tree.{is_directory, is_file}
 use Rattle.hac_model.specs.Tree.Valid.{IsLayout}
 use Rattle.hac_model.specs.declared.events.Event.TheVariants.{Rmdir, Step}
@@ -23,7 +23,7 @@ smaller : (limit m n : ℕ) → m ≤ n → nat_lt limit n ≡ false → nat_lt 
 smaller limit m n less within = let high : n ≤ limit = ltb-false limit n within in le-ltb limit m (omega arith)
 
 -- an edit that keeps kinds, and makes no text longer, exceeds no limit
-pub edited-passes : (s : State) (n : ℕ) (edit : Body → Body) → IsLayout s → KeepsKind edit → text_size (changed_at s n (edited edit)).entries ≤ text_size s.entries → passed (changed_at s n (edited edit)) ≡ None
+pub edited-passes : (s : State) (n : ℕ) (edit : Body → Body) → IsLayout s → KeepsKind edit → text_size (changed_at s n (edited edit)).entries ≤ text_size s.entries → passed_limit (changed_at s n (edited edit)) ≡ None
 edited-passes s n edit h keeps lighter =
     let old : IsWithinLimits s = limits-within s h.limits in
     limits-none (changed_at s n (edited edit)) (record {
@@ -36,14 +36,14 @@ edited-passes s n edit h keeps lighter =
     })
 
 -- a step exceeds no limit
-pub step-passes : (s : State) → IsLayout s → passed (apply s Step) ≡ None
-step-passes s h = elim (next_dirty s.entries) as (λ o. passed (option_map_or (λ file. changed_at s file (edited indexed)) o s) ≡ None) [
+pub step-passes : (s : State) → IsLayout s → passed_limit (apply s Step) ≡ None
+step-passes s h = elim (next_dirty s.entries) as (λ o. passed_limit (option_map_or (λ file. changed_at s file (edited indexed)) o s) ≡ None) [
   | None ↦ h.limits
   | Some file ↦ edited-passes s file indexed h indexed-keeps (text_size-indexed s file)
 ]
 
 -- nor does it once an empty entry is removed
-pub removed-passes : (s : State) (n : ℕ) → IsLayout s → AllByRecursion (λ e. n ≡ e.parent → ⊥) s.entries → passed (removed s n) ≡ None
+pub removed-passes : (s : State) (n : ℕ) → IsLayout s → AllByRecursion (λ e. n ≡ e.parent → ⊥) s.entries → passed_limit (removed s n) ≡ None
 removed-passes s n h bare =
     let old : IsWithinLimits s = limits-within s h.limits in
     limits-none (removed s n) (record {
@@ -55,5 +55,5 @@ removed-passes s n h bare =
       numbers = old.numbers;
     })
 
-pub bare-passes : (s : State) (dir : ℕ) → IsLayout s → is_bare s.entries dir ≡ true → passed (apply s (Rmdir dir)) ≡ None
+pub bare-passes : (s : State) (dir : ℕ) → IsLayout s → is_bare s.entries dir ≡ true → passed_limit (apply s (Rmdir dir)) ≡ None
 bare-passes s dir h bare = removed-passes s dir h (bare-all s.entries dir bare)

@@ -8,7 +8,7 @@ use Rattle.hac_model.specs.Tree.Events.{accepted, apply, apply_all, changed_at, 
 use Rattle.hac_model.specs.Tree.Sessions.{is_stored, stored}
 use Rattle.hac_model.specs.Script.Lines.{Item, is_quiet, is_spelled, item_of, items_of}
 use Rattle.hac_model.specs.Payload.Payloads.{event_text}
-use Rattle.hac_model.specs.Run.Play.{Given, Setting, Turn, after_events, all_events, answered, can_step, command_turn, data_lines, end_behind, events_in, full_cause, given_behind, have_room, item_turn, left_by, line_turn, no_answers, play, refused, steps_behind, stored_events, turn_cause, turn_of, turns}
+use Rattle.hac_model.specs.Run.Play.{Given, Setting, Turn, after_events, all_events, answered_turn, can_step, command_turn, data_lines, end_behind, events_in, full_cause, given_behind, have_room, item_turn, left_by, line_turn, no_answers, play, refused_turn, steps_behind, stored_events, turn_cause, turn_of, turns}
 use Rattle.hac_model.specs.Run.Given.{next_fault}
 use Rattle.hac_model.specs.Run.Refusals.{cause, events_of, led_to}
 use Rattle.hac_model.specs.Run.Resolving.{resolve}
@@ -54,7 +54,7 @@ steps-valid (suc n) setting h =
 command-valid : (given : Given) (setting : Setting) (line : Line) (r : Result Resolved Refusal) → IsValid setting.state → IsTrue (is_spelled line.command) → resolve setting.state line ≡ r → IsValid (command_turn given setting r).after.state
 command-valid given setting line (Err refusal) h spelled leads = steps-valid given.steps setting h
 command-valid given setting line (Ok command) h spelled leads =
-    elim (turn_cause setting command) as (λ o. turn_cause setting command ≡ o → IsValid (option_map_or (refused given setting) o (answered given setting command)).after.state) [
+    elim (turn_cause setting command) as (λ o. turn_cause setting command ≡ o → IsValid (option_map_or (refused_turn given setting) o (answered_turn given setting command)).after.state) [
       | None ↦ (λ free. steps-valid given.steps (left setting command)
           (all-valid (events_of no_answers setting.state command) setting.state h (commands-happen setting.state line command h spelled leads (no_cause (cause no_answers setting.state command) (full_cause setting command ∷ []) free).0)))
       | Some refusal ↦ (λ _. steps-valid given.steps setting h)
@@ -66,7 +66,7 @@ line-valid given setting (Err refusal) spelled h = steps-valid given.steps setti
 
 pub turn-valid : (given : Given) (setting : Setting) (item : Item) → IsItem item → IsValid setting.state → IsValid (item_turn given setting item).after.state
 turn-valid given setting item spelled h =
-    elim (next_fault given) as (λ o. IsValid (option_map_or (λ space. refused given setting (SpaceFault space)) o (line_turn given setting item)).after.state) [
+    elim (next_fault given) as (λ o. IsValid (option_map_or (λ space. refused_turn given setting (SpaceFault space)) o (line_turn given setting item)).after.state) [
       | None ↦ line-valid given setting item spelled h
       | Some space ↦ steps-valid given.steps setting h
     ]
@@ -165,13 +165,13 @@ turn_of-leads given setting next reply events state whole end =
       end = ap (λ (end : ℕ). end_behind end steps) end ∙ sym (end_behind-append events steps setting.end);
     }
 
-refused-leads : (given : Given) (setting : Setting) (refusal : Refusal) → Leads setting (refused given setting refusal)
+refused-leads : (given : Given) (setting : Setting) (refusal : Refusal) → Leads setting (refused_turn given setting refusal)
 refused-leads given setting refusal = turn_of-leads given setting setting (Refused refusal) [] refl refl refl
 
 command-leads : (given : Given) (setting : Setting) (r : Result Resolved Refusal) → Leads setting (command_turn given setting r)
 command-leads given setting (Err refusal) = refused-leads given setting refusal
 command-leads given setting (Ok command) =
-    elim (turn_cause setting command) as (λ o. Leads setting (option_map_or (refused given setting) o (answered given setting command))) [
+    elim (turn_cause setting command) as (λ o. Leads setting (option_map_or (refused_turn given setting) o (answered_turn given setting command))) [
       | None ↦ turn_of-leads given setting (left setting command) (Lines (data_lines no_answers setting.state command)) (stored_events setting.state command)
           (stored-all (events_of no_answers setting.state command) setting.state)
           (ap (apply_all setting.state) (sym (stores-all setting.state command)))
@@ -185,7 +185,7 @@ line-leads given setting (Err refusal) = refused-leads given setting refusal
 
 turn-leads : (given : Given) (setting : Setting) (item : Item) → Leads setting (item_turn given setting item)
 turn-leads given setting item =
-    elim (next_fault given) as (λ o. Leads setting (option_map_or (λ space. refused given setting (SpaceFault space)) o (line_turn given setting item))) [
+    elim (next_fault given) as (λ o. Leads setting (option_map_or (λ space. refused_turn given setting (SpaceFault space)) o (line_turn given setting item))) [
       | None ↦ line-leads given setting item
       | Some space ↦ refused-leads given setting (SpaceFault space)
     ]

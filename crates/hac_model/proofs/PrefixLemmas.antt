@@ -7,15 +7,15 @@ use Rattle.std.specs.Option.{option_map}
 use Rattle.std.proofs.lemmas.List.Sums.{prefix_len-le-length}
 use Rattle.std.proofs.lemmas.Grind.{common_steps}
 
-passed : (b : Bool) (n whole rest : ℕ) → (n ≤ whole → whole ≡ n + rest) → suc n ≤ cond b (1 + whole) 0 → cond b (1 + whole) 0 ≡ suc n + rest
-passed true n whole rest step h = let k : n ≤ whole = omega arith in omega (arith, step k)
-passed false n whole rest step h = absurd (omega arith)
+passed_limit : (b : Bool) (n whole rest : ℕ) → (n ≤ whole → whole ≡ n + rest) → suc n ≤ cond b (1 + whole) 0 → cond b (1 + whole) 0 ≡ suc n + rest
+passed_limit true n whole rest step h = let k : n ≤ whole = omega arith in omega (arith, step k)
+passed_limit false n whole rest step h = absurd (omega arith)
 
 -- elements that pass may be left out before counting
 pub prefix_len-skip : {X : Type 0} (p : X → Bool) (n : ℕ) (xs : List X) → n ≤ prefix_len p xs → prefix_len p xs ≡ n + prefix_len p (drop n xs)
 prefix_len-skip p zero xs h = omega arith
 prefix_len-skip p (suc n) [] h = absurd (omega arith)
-prefix_len-skip p (suc n) (x ∷ xs) h = passed (p x) n (prefix_len p xs) (prefix_len p (drop n xs)) (prefix_len-skip p n xs) h
+prefix_len-skip p (suc n) (x ∷ xs) h = passed_limit (p x) n (prefix_len p xs) (prefix_len p (drop n xs)) (prefix_len-skip p n xs) h
 
 passed_front : (b : Bool) (n whole part front : ℕ) → (n ≤ whole → part ≡ front) → suc n ≤ cond b (1 + whole) 0 → cond b (1 + part) 0 ≡ suc front
 passed_front true n whole part front step h = let k : n ≤ whole = omega arith in omega (arith, step k)

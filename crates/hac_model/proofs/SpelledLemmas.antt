@@ -13,7 +13,7 @@ use Rattle.hac_model.specs.Tree.Events.{accepted, apply, are_directories, is_fre
 use Rattle.hac_model.specs.Payload.Fields.{num}
 use Rattle.hac_model.specs.Query.Formula.{Formula}
 use Rattle.hac_model.specs.Query.Formula as formula
-use Rattle.hac_model.specs.Tree.Limits.{is_text, passed}
+use Rattle.hac_model.specs.Tree.Limits.{is_text, passed_limit}
 use Rattle.hac_model.specs.Tree.Links.{is_semantic}
 use Rattle.hac_model.specs.Tree.Names.{is_name, is_name_byte}
 use Rattle.hac_model.specs.Payload.Payloads.{is_spellable, mark_field, name_field, text_field, told_field}
@@ -154,7 +154,7 @@ module _ (s : State) (h : IsValid s) where
   possible-spelled (Cd session dir) is = absurd cc
 
 pub accepted-spelled : (s : State) (e : Event) → IsValid s → IsTrue (accepted s e) → IsTrue (is_spellable e)
-accepted-spelled s e h is = possible-spelled s h e (accepted-parts (is_possible s e) (passed (apply s e)) is).0
+accepted-spelled s e h is = possible-spelled s h e (accepted-parts (is_possible s e) (passed_limit (apply s e)) is).0
 
 -- every session is in the root, so all of a valid state is stored
 pub all-stored : (s : State) → IsValid s → stored s ≡ s

@@ -5,7 +5,7 @@ use Rattle.std.proofs.lemmas.Bool.{and_from, and_parts}
 use Rattle.std.proofs.lemmas.List.Folds.{list_all-append}
 use Rattle.std.proofs.lemmas.Result.{IfOk-at_ok, IfOk-weaker}
 use Rattle.hac_model.specs.Run.Answers.{and_then}
-use Rattle.hac_model.specs.Run.Resolving.{directed, directory, entry, item_and_dir, listed, numbered, place, resolve, resolved, standing}
+use Rattle.hac_model.specs.Run.Resolving.{wanted_directory, directory, entry, item_and_dir, listed_directory, numbered_query, place, resolve, resolved, wanted_entry}
 use Rattle.hac_model.specs.Run.Standing.{AllStand, AreThere, StandsAt}
 use Rattle.hac_model.specs.Tree.Depends.{named_in}
 use Rattle.hac_model.specs.Tree.Events.{are_directories, may_ask}
@@ -71,23 +71,23 @@ module _ (s : State) (base : ℕ) (h : IsLayout s) (from : is_directory_at s.ent
   entry-lives : (word : PathWord) → IfOk (entry s base word) Lives
   entry-lives word = at (place s base word) refl
     where
-      at : (r : Result Place Refusal) → place s base word ≡ r → IfOk (and_then (standing s) r) Lives
+      at : (r : Result Place Refusal) → place s base word ≡ r → IfOk (and_then (wanted_entry s) r) Lives
       at (Ok (There n)) is = live-is s.entries n (place-lives s base word n is)
       at (Ok (Free dir name)) is = tt
       at (Err refusal) is = tt
 
   directory-stands : (word : PathWord) → IfOk (directory s base word) IsDirectory
-  directory-stands word = on-ok Lives IsDirectory (directed s) (entry s base word) (entry-lives word) (λ n lives. at n (is_directory_at s.entries n) refl)
+  directory-stands word = on-ok Lives IsDirectory (wanted_directory s) (entry s base word) (entry-lives word) (λ n lives. at n (is_directory_at s.entries n) refl)
     where
       at : (n : ℕ) (b : Bool) → is_directory_at s.entries n ≡ b → IfOk (if b then Ok n else Err (NotDir (path_of s n))) IsDirectory
       at n true is = is
       at n false is = tt
 
-  listed-stands : (word : Option PathWord) → IfOk (listed s base word) IsDirectory
+  listed-stands : (word : Option PathWord) → IfOk (listed_directory s base word) IsDirectory
   listed-stands (Some word) = directory-stands word
   listed-stands None = from
 
-  numbered-is : (raw : Formula PathWord) → IfOk (numbered s base raw) (IsNumbered s raw)
+  numbered-is : (raw : Formula PathWord) → IfOk (numbered_query s base raw) (IsNumbered s raw)
   numbered-is (query.Term term) = record { terms = refl; count = refl; letters = refl; nots = refl; named = refl }
   numbered-is (query.Dir word) =
       on-ok IsDirectory (IsNumbered s (query.Dir word)) (λ n. Ok (query.Dir n)) (directory s base word) (directory-stands word) (λ n there. record {
@@ -98,7 +98,7 @@ module _ (s : State) (base : ℕ) (h : IsLayout s) (from : is_directory_at s.ent
         named = and_from (is_directory_at s.entries n) true there refl;
       })
   numbered-is (query.Not raw) =
-      on-ok (IsNumbered s raw) (IsNumbered s (query.Not raw)) (λ q. Ok (query.Not q)) (numbered s base raw) (numbered-is raw) (λ q is. record {
+      on-ok (IsNumbered s raw) (IsNumbered s (query.Not raw)) (λ q. Ok (query.Not q)) (numbered_query s base raw) (numbered-is raw) (λ q is. record {
         terms = is.terms;
         count = is.count;
         letters = is.letters;
@@ -106,8 +106,8 @@ module _ (s : State) (base : ℕ) (h : IsLayout s) (from : is_directory_at s.ent
         named = is.named;
       })
   numbered-is (query.And left right) =
-      on-ok (IsNumbered s left) (IsNumbered s (query.And left right)) (λ p. and_then (λ q. Ok (query.And p q)) (numbered s base right)) (numbered s base left) (numbered-is left) (λ p l.
-      on-ok (IsNumbered s right) (IsNumbered s (query.And left right)) (λ q. Ok (query.And p q)) (numbered s base right) (numbered-is right) (λ q r. record {
+      on-ok (IsNumbered s left) (IsNumbered s (query.And left right)) (λ p. and_then (λ q. Ok (query.And p q)) (numbered_query s base right)) (numbered_query s base left) (numbered-is left) (λ p l.
+      on-ok (IsNumbered s right) (IsNumbered s (query.And left right)) (λ q. Ok (query.And p q)) (numbered_query s base right) (numbered-is right) (λ q r. record {
         terms = λ i. l.terms i && r.terms i;
         count = λ i. l.count i + r.count i;
         letters = λ i. l.letters i + r.letters i;
@@ -115,8 +115,8 @@ module _ (s : State) (base : ℕ) (h : IsLayout s) (from : is_directory_at s.ent
         named = directories-append s (named_in p) (named_in q) l.named r.named;
       }))
   numbered-is (query.Or left right) =
-      on-ok (IsNumbered s left) (IsNumbered s (query.Or left right)) (λ p. and_then (λ q. Ok (query.Or p q)) (numbered s base right)) (numbered s base left) (numbered-is left) (λ p l.
-      on-ok (IsNumbered s right) (IsNumbered s (query.Or left right)) (λ q. Ok (query.Or p q)) (numbered s base right) (numbered-is right) (λ q r. record {
+      on-ok (IsNumbered s left) (IsNumbered s (query.Or left right)) (λ p. and_then (λ q. Ok (query.Or p q)) (numbered_query s base right)) (numbered_query s base left) (numbered-is left) (λ p l.
+      on-ok (IsNumbered s right) (IsNumbered s (query.Or left right)) (λ q. Ok (query.Or p q)) (numbered_query s base right) (numbered-is right) (λ q r. record {
         terms = λ i. l.terms i && r.terms i;
         count = λ i. l.count i + r.count i;
         letters = λ i. l.letters i + r.letters i;
@@ -125,8 +125,8 @@ module _ (s : State) (base : ℕ) (h : IsLayout s) (from : is_directory_at s.ent
       }))
 
   -- so a query that a line spells may be asked
-  numbered-asks : (raw : Formula PathWord) → is_spelled_query raw ≡ true → IfOk (numbered s base raw) (λ asked. IsTrue (may_ask s asked))
-  numbered-asks raw spelled = IfOk-weaker (numbered s base raw) (IsNumbered s raw) (λ asked. IsTrue (may_ask s asked)) asks (numbered-is raw)
+  numbered-asks : (raw : Formula PathWord) → is_spelled_query raw ≡ true → IfOk (numbered_query s base raw) (λ asked. IsTrue (may_ask s asked))
+  numbered-asks raw spelled = IfOk-weaker (numbered_query s base raw) (IsNumbered s raw) (λ asked. IsTrue (may_ask s asked)) asks (numbered-is raw)
     where
       asks : (asked : Formula ℕ) → IsNumbered s raw asked → IsTrue (may_ask s asked)
       asks asked is =
@@ -144,11 +144,11 @@ module _ (s : State) (base : ℕ) (h : IsLayout s) (from : is_directory_at s.ent
   at-directory : (make : ℕ → Resolved) (word : PathWord) → ((n : ℕ) → IsDirectory n → AllStand s (make n)) → IfOk (and_then (λ n. Ok (make n)) (directory s base word)) (AllStand s)
   at-directory make word known = on-ok IsDirectory (AllStand s) (λ n. Ok (make n)) (directory s base word) (directory-stands word) known
 
-  at-listed : (make : ℕ → Resolved) (word : Option PathWord) → ((n : ℕ) → IsDirectory n → AllStand s (make n)) → IfOk (and_then (λ n. Ok (make n)) (listed s base word)) (AllStand s)
-  at-listed make word known = on-ok IsDirectory (AllStand s) (λ n. Ok (make n)) (listed s base word) (listed-stands word) known
+  at-listed : (make : ℕ → Resolved) (word : Option PathWord) → ((n : ℕ) → IsDirectory n → AllStand s (make n)) → IfOk (and_then (λ n. Ok (make n)) (listed_directory s base word)) (AllStand s)
+  at-listed make word known = on-ok IsDirectory (AllStand s) (λ n. Ok (make n)) (listed_directory s base word) (listed-stands word) known
 
-  asking : (make : Formula ℕ → Resolved) (raw : Formula PathWord) → is_spelled_query raw ≡ true → ((q : Formula ℕ) → IsTrue (may_ask s q) → AllStand s (make q)) → IfOk (and_then (λ q. Ok (make q)) (numbered s base raw)) (AllStand s)
-  asking make raw spelled known = on-ok (λ q. IsTrue (may_ask s q)) (AllStand s) (λ q. Ok (make q)) (numbered s base raw) (numbered-asks raw spelled) known
+  asking : (make : Formula ℕ → Resolved) (raw : Formula PathWord) → is_spelled_query raw ≡ true → ((q : Formula ℕ) → IsTrue (may_ask s q) → AllStand s (make q)) → IfOk (and_then (λ q. Ok (make q)) (numbered_query s base raw)) (AllStand s)
+  asking make raw spelled known = on-ok (λ q. IsTrue (may_ask s q)) (AllStand s) (λ q. Ok (make q)) (numbered_query s base raw) (numbered-asks raw spelled) known
 
   -- an item and a directory
   at-both : (make : ℕ → ℕ → Resolved) (item dir : PathWord) → ((n m : ℕ) → AreThere s n m → AllStand s (make n m)) → IfOk (item_and_dir make s base item dir) (AllStand s)
@@ -171,11 +171,11 @@ module _ (s : State) (base : ℕ) (h : IsLayout s) (from : is_directory_at s.ent
   resolved-stands (command.Rm path) spelled = at-entry Rm path (λ n lives. lives)
   resolved-stands (command.Smkdir path raw) spelled =
       let parts = and_parts (is_spelled_word path) (is_spelled_query raw) spelled in
-      on-ok (StandsAt s) (AllStand s) (λ p. and_then (λ q. Ok (Smkdir p q)) (numbered s base raw)) (place s base path) (place-stands path parts.0) (λ p there.
+      on-ok (StandsAt s) (AllStand s) (λ p. and_then (λ q. Ok (Smkdir p q)) (numbered_query s base raw)) (place s base path) (place-stands path parts.0) (λ p there.
       asking (Smkdir p) raw parts.1 (λ q may. (there, may)))
   resolved-stands (command.Setq path raw) spelled =
       let parts = and_parts (is_spelled_word path) (is_spelled_query raw) spelled in
-      on-ok IsDirectory (AllStand s) (λ n. and_then (λ q. Ok (Setq n q)) (numbered s base raw)) (directory s base path) (directory-stands path) (λ n there.
+      on-ok IsDirectory (AllStand s) (λ n. and_then (λ q. Ok (Setq n q)) (numbered_query s base raw)) (directory s base path) (directory-stands path) (λ n there.
       asking (Setq n) raw parts.1 (λ q may. (there, may)))
   resolved-stands (command.Unq path) spelled = at-directory Unq path (λ n there. there)
   resolved-stands (command.Query path) spelled = at-directory Query path (λ n there. there)

@@ -7,7 +7,7 @@ use Rattle.std.proofs.lemmas.Bool.{and_parts, eqb-false, not-true}
 use Rattle.hac_model.specs.Tree.Events.{accepted, added, apply, asking, changed_in, changed_at, edited, forgetting, forgotten, indexed, is_bare, is_free, is_inside, is_possible, is_unreferenced, marked, may_ask, may_mark, next_dirty, plain_body, removed, reseated, rewritten, is_placed}
 use Rattle.hac_model.specs.Tree.Depends.{cycle_of_move, cycle_over}
 use Rattle.hac_model.specs.Query.Formula.{Formula}
-use Rattle.hac_model.specs.Tree.Limits.{first_passed, is_text, passed, file_bytes}
+use Rattle.hac_model.specs.Tree.Limits.{first_passed, is_text, passed_limit, file_bytes}
 use Rattle.hac_model.specs.Tree.Links.{is_item, is_semantic, parent_of}
 use Rattle.hac_model.specs.Tree.Names.{is_name}
 use Rattle.hac_model.specs.Tree.{child, empty, entry_at, is_directory, is_directory_at, is_file, is_file_at, is_made_directory, query_in}
@@ -27,7 +27,7 @@ use Rattle.hac_model.proofs.PathLemmas.{root-none}
 use Rattle.hac_model.proofs.TreeLemmas.{directory-no_file}
 
 pub empty-layout : IsLayout empty
-unfolding passed first_passed
+unfolding passed_limit first_passed
 empty-layout = record { numbers = omega arith; names = tt; parents = tt; differ = tt; bodies = tt; limits = refl }
 
 pub none_from : {X : Type 0} (o : Option X) → is_none o ≡ true → o ≡ None
@@ -42,7 +42,7 @@ free-parts s dir name free =
     (first.0, first.1, none_from (child s.entries dir name) parts.1)
 
 -- a free place, taken by a sound body
-pub added-layout : (s : State) (dir : ℕ) (name : List ℕ) (body : Body) → IsLayout s → is_free s dir name ≡ true → IsSound body → passed (added s dir name body) ≡ None → IsLayout (added s dir name body)
+pub added-layout : (s : State) (dir : ℕ) (name : List ℕ) (body : Body) → IsLayout s → is_free s dir name ≡ true → IsSound body → passed_limit (added s dir name body) ≡ None → IsLayout (added s dir name body)
 added-layout s dir name body h free sound limits =
     let parts = free-parts s dir name free in
     let new : Entry = record { number = s.next; parent = dir; name = name; body = body } in
@@ -57,7 +57,7 @@ added-layout s dir name body h free sound limits =
     }
 
 -- a body is edited, and stays of its kind
-pub edited-layout : (s : State) (n : ℕ) (edit : Body → Body) → ((body : Body) → is_directory (edit body) ≡ is_directory body) → ((body : Body) → IsSound body → IsSound (edit body)) → IsLayout s → passed (changed_at s n (edited edit)) ≡ None → IsLayout (changed_at s n (edited edit))
+pub edited-layout : (s : State) (n : ℕ) (edit : Body → Body) → ((body : Body) → is_directory (edit body) ≡ is_directory body) → ((body : Body) → IsSound body → IsSound (edit body)) → IsLayout s → passed_limit (changed_at s n (edited edit)) ≡ None → IsLayout (changed_at s n (edited edit))
 edited-layout s n edit kind sound h limits =
     let change : Entry → Entry = edited edit in
     let same : (d : ℕ) → is_directory_at (changed_in n change s.entries) d ≡ is_directory_at s.entries d = λ d. directory-changed n change s.entries d (λ e. refl) (λ e. kind e.body) in
@@ -71,7 +71,7 @@ edited-layout s n edit kind sound h limits =
     }
 
 -- an entry goes to a free place
-pub reseated-layout : (s : State) (n dir : ℕ) (name : List ℕ) → IsLayout s → is_free s dir name ≡ true → passed (changed_at s n (reseated dir name)) ≡ None → IsLayout (changed_at s n (reseated dir name))
+pub reseated-layout : (s : State) (n dir : ℕ) (name : List ℕ) → IsLayout s → is_free s dir name ≡ true → passed_limit (changed_at s n (reseated dir name)) ≡ None → IsLayout (changed_at s n (reseated dir name))
 reseated-layout s n dir name h free limits =
     let parts = free-parts s dir name free in
     let change : Entry → Entry = reseated dir name in
@@ -86,7 +86,7 @@ reseated-layout s n dir name h free limits =
     }
 
 -- an empty entry is removed
-pub removed-layout : (s : State) (n : ℕ) → IsLayout s → AllByRecursion (λ e. n ≡ e.parent → ⊥) s.entries → passed (removed s n) ≡ None → IsLayout (removed s n)
+pub removed-layout : (s : State) (n : ℕ) → IsLayout s → AllByRecursion (λ e. n ≡ e.parent → ⊥) s.entries → passed_limit (removed s n) ≡ None → IsLayout (removed s n)
 removed-layout s n h bare limits =
     record {
       numbers = numbers-kept n 0 s.entries s.next h.numbers;
@@ -196,7 +196,7 @@ marked-sound n Transient other h = h
 marked-sound n Unlinked other h = h
 
 -- limits are passed with marks as without
-pub passed-forgotten : (s : State) (n : ℕ) → passed (forgotten s n) ≡ None → passed s ≡ None
+pub passed-forgotten : (s : State) (n : ℕ) → passed_limit (forgotten s n) ≡ None → passed_limit s ≡ None
 passed-forgotten s n h = measures-passed (forgetting n) s (forgetting-measures n) h
 
 -- What an event that is possible speaks of.
@@ -240,41 +240,41 @@ accepted-parts possible passes h = let parts = and_parts possible (is_none passe
 -- so the tree stays one
 pub apply-layout : (s : State) (event : Event) → IsLayout s → IsTrue (accepted s event) → IsLayout (apply s event)
 apply-layout s (Mkdir dir name) h ok =
-    let parts = accepted-parts (is_free s dir name) (passed (added s dir name Dir)) ok in
+    let parts = accepted-parts (is_free s dir name) (passed_limit (added s dir name Dir)) ok in
     added-layout s dir name Dir h parts.0 tt parts.1
 apply-layout s (NewFile dir name text) h ok =
-    let parts = accepted-parts (is_free s dir name && is_text text) (passed (added s dir name (File text true None))) ok in
+    let parts = accepted-parts (is_free s dir name && is_text text) (passed_limit (added s dir name (File text true None))) ok in
     let fits = and_parts (is_free s dir name) (is_text text) parts.0 in
     let sound : IsSoundFile text true None = record { fits = fits.1; shown_fits = refl; clean = λ clean. absurd cc } in
     added-layout s dir name (File text true None) h fits.0 sound parts.1
 apply-layout s (Rewrite file text) h ok =
-    let parts = accepted-parts (is_file_at s.entries file && is_text text) (passed (changed_at s file (edited (rewritten text)))) ok in
+    let parts = accepted-parts (is_file_at s.entries file && is_text text) (passed_limit (changed_at s file (edited (rewritten text)))) ok in
     let fits = and_parts (is_file_at s.entries file) (is_text text) parts.0 in
     edited-layout s file (rewritten text) (rewritten-kind text) (rewritten-sound text fits.1) h parts.1
 apply-layout s (Smkdir dir name query told) h ok =
-    let parts = accepted-parts (is_possible s (Smkdir dir name query told)) (passed (added s dir name (Semantic query [] []))) ok in
+    let parts = accepted-parts (is_possible s (Smkdir dir name query told)) (passed_limit (added s dir name (Semantic query [] []))) ok in
     added-layout s dir name (Semantic query [] []) h (smkdir-parts s dir name query told parts.0).0 tt parts.1
 apply-layout s (Setq dir query told) h ok =
-    let parts = accepted-parts (is_possible s (Setq dir query told)) (passed (changed_at s dir (edited (asking query)))) ok in
+    let parts = accepted-parts (is_possible s (Setq dir query told)) (passed_limit (changed_at s dir (edited (asking query)))) ok in
     edited-layout s dir (asking query) (asking-kind query) (asking-sound query) h parts.1
 apply-layout s (Unq dir) h ok =
-    let parts = accepted-parts (is_semantic s dir) (passed (changed_at s dir (edited plain_body))) ok in
+    let parts = accepted-parts (is_semantic s dir) (passed_limit (changed_at s dir (edited plain_body))) ok in
     edited-layout s dir plain_body plain-kind plain-sound h parts.1
 apply-layout s (Mark mark) h ok =
-    let parts = accepted-parts (is_possible s (Mark mark)) (passed (changed_at s mark.dir (edited (marked mark.item mark.kind)))) ok in
+    let parts = accepted-parts (is_possible s (Mark mark)) (passed_limit (changed_at s mark.dir (edited (marked mark.item mark.kind)))) ok in
     edited-layout s mark.dir (marked mark.item mark.kind) (marked-kind mark.item mark.kind) (marked-sound mark.item mark.kind) h parts.1
 apply-layout s (Mv entry dir name) h ok =
-    let parts = accepted-parts (is_possible s (Mv entry dir name)) (passed (changed_at s entry (reseated dir name))) ok in
+    let parts = accepted-parts (is_possible s (Mv entry dir name)) (passed_limit (changed_at s entry (reseated dir name))) ok in
     reseated-layout s entry dir name h (move-parts s entry dir name parts.0).1 parts.1
 apply-layout s (Rm file) h ok =
-    let parts = accepted-parts (is_file_at s.entries file) (passed (forgotten (removed s file) file)) ok in
+    let parts = accepted-parts (is_file_at s.entries file) (passed_limit (forgotten (removed s file) file)) ok in
     mapped-layout (forgetting file) (removed s file) (forgetting-measures file) (forgetting-sound file) (removed-layout s file h (file-bare s file h parts.0) (passed-forgotten (removed s file) file parts.1))
 apply-layout s (Rmdir dir) h ok =
-    let parts = accepted-parts (is_possible s (Rmdir dir)) (passed (removed s dir)) ok in
+    let parts = accepted-parts (is_possible s (Rmdir dir)) (passed_limit (removed s dir)) ok in
     removed-layout s dir h (bare-all s.entries dir (rmdir-parts s dir parts.0).1) parts.1
 apply-layout s Step h ok =
-    elim (next_dirty s.entries) as (λ o. (is_some o && is_none (passed (option_map_or (λ file. changed_at s file (edited indexed)) o s))) ≡ true → IsLayout (option_map_or (λ file. changed_at s file (edited indexed)) o s)) [
+    elim (next_dirty s.entries) as (λ o. (is_some o && is_none (passed_limit (option_map_or (λ file. changed_at s file (edited indexed)) o s))) ≡ true → IsLayout (option_map_or (λ file. changed_at s file (edited indexed)) o s)) [
       | None ↦ (λ ok. h)
-      | Some file ↦ (λ ok. edited-layout s file indexed indexed-kind indexed-sound h (none_from (passed (changed_at s file (edited indexed))) ok))
+      | Some file ↦ (λ ok. edited-layout s file indexed indexed-kind indexed-sound h (none_from (passed_limit (changed_at s file (edited indexed))) ok))
     ] ok
 apply-layout s other h ok = absurd cc

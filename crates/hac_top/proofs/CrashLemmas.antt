@@ -8,7 +8,7 @@ use Rattle.std.proofs.lemmas.Grind.{flat_map-append}
 use Rattle.hac_model.specs.Run.Answers.{first_cause}
 use Rattle.hac_model.specs.Tree.Events.{apply_all}
 use Rattle.hac_model.specs.Script.Lines.{Item}
-use Rattle.hac_model.specs.Run.Play.{Setting, Turn, all_events, answered, command_turn, events_before, events_in, item_turn, nothing_given, refused, turn_cause, turns}
+use Rattle.hac_model.specs.Run.Play.{Setting, Turn, all_events, answered_turn, command_turn, events_before, events_in, item_turn, nothing_given, refused_turn, turn_cause, turns}
 use Rattle.hac_model.specs.Run.Refusals.{cause}
 use Rattle.hac_model.specs.Run.Resolving.{resolve}
 use Rattle.hac_model.specs.declared.events.Event.{Event}
@@ -28,7 +28,7 @@ all_events-append xs ys = flat_map-append events_in xs ys
 command-steps : (setting : Setting) (r : Result Resolved Refusal) → (command_turn nothing_given setting r).steps ≡ []
 command-steps setting (Err refusal) = refl
 command-steps setting (Ok command) =
-    elim (turn_cause setting command) as (λ o. (option_map_or (refused nothing_given setting) o (answered nothing_given setting command)).steps ≡ []) [ None ↦ refl | Some refusal ↦ refl ]
+    elim (turn_cause setting command) as (λ o. (option_map_or (refused_turn nothing_given setting) o (answered_turn nothing_given setting command)).steps ≡ []) [ None ↦ refl | Some refusal ↦ refl ]
 
 pub turn-steps : (setting : Setting) (item : Item) → (item_turn nothing_given setting item).steps ≡ []
 turn-steps setting (Ok line) = command-steps setting (resolve setting.state line)

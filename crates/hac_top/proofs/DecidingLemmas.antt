@@ -7,7 +7,7 @@ use Rattle.hac_core.specs.declared.drafts.Known.{Known}
 use Rattle.hac_core.specs.declared.drafts.Known.TheVariants.{Reads, Changes, Indexes}
 use Rattle.hac_core.specs.declared.drafts.Settled.{Settled}
 use Rattle.hac_model.specs.Run.Answers.{first_cause}
-use Rattle.hac_model.specs.Run.Play.{Setting, Turn, answered, command_turn, data_lines, end_behind, full_cause, have_room, no_answers, nothing_given, refused}
+use Rattle.hac_model.specs.Run.Play.{Setting, Turn, answered_turn, command_turn, data_lines, end_behind, full_cause, have_room, no_answers, nothing_given, refused_turn}
 use Rattle.hac_model.specs.Run.Refusals.{answer_cause, cause, cause_against, early_cause, event_of, events_of}
 use Rattle.hac_model.specs.Tree.Events.{apply_all}
 use Rattle.hac_model.proofs.PlayLemmas.{stores-all}
@@ -56,7 +56,7 @@ reads-nothing s command (Changes change) for reads_it = absurd cc
 reads-nothing s command (Indexes count) for reads_it = absurd cc
 
 -- all events of a command are stored
-answered-is : (setting : Setting) (command : Resolved) → answered nothing_given setting command ≡ turn_with setting (Lines (data_lines no_answers setting.state command)) (events_of no_answers setting.state command)
+answered-is : (setting : Setting) (command : Resolved) → answered_turn nothing_given setting command ≡ turn_with setting (Lines (data_lines no_answers setting.state command)) (events_of no_answers setting.state command)
 answered-is setting command = λ i. record {
   reply = Lines (data_lines no_answers setting.state command);
   events = stores-all setting.state command i;
@@ -69,7 +69,7 @@ full-is setting command = ap (λ (events : List Event). if have_room setting eve
 
 -- the turn of a command that isn't refused is that of its lines and its events
 shown-by : (setting : Setting) (draft : Resolved) (o full : Option Refusal) → o ≡ None → full ≡ None →
-    option_map_or (refused nothing_given setting) (first_cause (o ∷ full ∷ [])) (answered nothing_given setting draft) ≡ answered nothing_given setting draft
+    option_map_or (refused_turn nothing_given setting) (first_cause (o ∷ full ∷ [])) (answered_turn nothing_given setting draft) ≡ answered_turn nothing_given setting draft
 shown-by setting draft None None free room = refl
 shown-by setting draft None (Some refusal) free room = absurd cc
 shown-by setting draft (Some refusal) full free room = absurd cc
@@ -84,12 +84,12 @@ shown-turn setting s command draft same for reads_it free =
 
 -- the turn of what is refused
 by-first : (setting : Setting) (command : Resolved) (o full : Option Refusal) (refusal : Refusal) → o ≡ Some refusal →
-    option_map_or (refused nothing_given setting) (first_cause (o ∷ full ∷ [])) (answered nothing_given setting command) ≡ refused nothing_given setting refusal
+    option_map_or (refused_turn nothing_given setting) (first_cause (o ∷ full ∷ [])) (answered_turn nothing_given setting command) ≡ refused_turn nothing_given setting refusal
 by-first setting command None full refusal is = absurd cc
-by-first setting command (Some other) full refusal is = let same : other ≡ refusal = cc in ap (refused nothing_given setting) same
+by-first setting command (Some other) full refusal is = let same : other ≡ refusal = cc in ap (refused_turn nothing_given setting) same
 
-pub refused-turn : (setting : Setting) (wanted : Result Resolved Refusal) (refusal : Refusal) → cause_against (cause no_answers setting.state) wanted ≡ Some refusal → command_turn nothing_given setting wanted ≡ refused nothing_given setting refusal
-refused-turn setting (Err other) refusal is = let same : other ≡ refusal = cc in ap (refused nothing_given setting) same
+pub refused-turn : (setting : Setting) (wanted : Result Resolved Refusal) (refusal : Refusal) → cause_against (cause no_answers setting.state) wanted ≡ Some refusal → command_turn nothing_given setting wanted ≡ refused_turn nothing_given setting refusal
+refused-turn setting (Err other) refusal is = let same : other ≡ refusal = cc in ap (refused_turn nothing_given setting) same
 refused-turn setting (Ok command) refusal is = by-first setting command (cause no_answers setting.state command) (full_cause setting command) refusal is
 
 -- what is refused early is refused
@@ -99,7 +99,7 @@ early-refused s (Ok command) refusal is = ap (λ (o : Option Refusal). first_cau
 
 -- what is denied is decided
 pub decides-denied : (why : Deny) (result : Result Decision Memory) (s : State) (turn : Setting → Turn) → IsDenial why result →
-    ((refusal : Refusal) → why ≡ deny.Refused refusal → (setting : Setting) → setting.state ≡ s → turn setting ≡ refused nothing_given setting refusal) → IfOk result (Decides s turn)
+    ((refusal : Refusal) → why ≡ deny.Refused refusal → (setting : Setting) → setting.state ≡ s → turn setting ≡ refused_turn nothing_given setting refusal) → IfOk result (Decides s turn)
 decides-denied (deny.Refused refusal) result s turn denies refuses =
     subst (λ (r : Result Decision Memory). IfOk r (Decides s turn)) (sym denies) (record { happen = tt; leads = refuses refusal refl })
 decides-denied deny.Memory (Ok decision) s turn denies refuses = absurd cc
@@ -112,8 +112,8 @@ decides-alike s turn other (Err memory) same decides = tt
 
 -- a command that changes the tree stores its events, if there is room for them
 stored-by : (setting : Setting) (command : Resolved) (o : Option Refusal) (room : Bool) → o ≡ None → data_lines no_answers setting.state command ≡ [] →
-    option_map_or (refused nothing_given setting) (first_cause (o ∷ (if room then None else Some (Limit Store)) ∷ [])) (answered nothing_given setting command)
-    ≡ (if room then turn_with setting (Lines []) (events_of no_answers setting.state command) else refused nothing_given setting (Limit Store))
+    option_map_or (refused_turn nothing_given setting) (first_cause (o ∷ (if room then None else Some (Limit Store)) ∷ [])) (answered_turn nothing_given setting command)
+    ≡ (if room then turn_with setting (Lines []) (events_of no_answers setting.state command) else refused_turn nothing_given setting (Limit Store))
 stored-by setting command None true free none = answered-is setting command ∙ ap (λ (lines : List (List ℕ)). turn_with setting (Lines lines) (events_of no_answers setting.state command)) none
 stored-by setting command None false free none = refl
 stored-by setting command (Some refusal) room free none = absurd cc
@@ -121,6 +121,6 @@ stored-by setting command (Some refusal) room free none = absurd cc
 pub storing-turn-is : (setting : Setting) (s : State) (command : Resolved) (draft : Known) → setting.state ≡ s → IsDraftFor s command draft → reads draft ≡ false → (settled : Settled) → Settles s command settled →
     command_turn nothing_given setting (Ok command) ≡ storing_turn setting (settled_events settled)
 storing-turn-is setting s command draft same for changes settled settles =
-    ap (λ (full : Option Refusal). option_map_or (refused nothing_given setting) (first_cause (cause no_answers setting.state command ∷ full ∷ [])) (answered nothing_given setting command)) (full-is setting command)
+    ap (λ (full : Option Refusal). option_map_or (refused_turn nothing_given setting) (first_cause (cause no_answers setting.state command ∷ full ∷ [])) (answered_turn nothing_given setting command)) (full-is setting command)
     ∙ stored-by setting command (cause no_answers setting.state command) (have_room setting (events_of no_answers setting.state command)) (ap (λ (t : State). cause no_answers t command) same ∙ settles.cause) (ap (λ (t : State). data_lines no_answers t command) same ∙ no-lines s command draft for changes)
     ∙ ap (storing_turn setting) (ap (λ (t : State). events_of no_answers t command) same ∙ sym settles.events)

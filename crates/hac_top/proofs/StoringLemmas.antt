@@ -5,7 +5,7 @@ use Rattle.std.proofs.Math.Seq.{take-length}
 use Rattle.hac_disk.specs.Images.{LeavesOnly}
 use Rattle.hac_disk.proofs.Moments.{started, weaken, then_run}
 use Rattle.hac_model.specs.Tree.Events.{apply_all, apply}
-use Rattle.hac_model.specs.Run.Play.{Setting, Turn, after_events, all_events, end_behind, have_room, left_by, nothing_given, refused, turns_text}
+use Rattle.hac_model.specs.Run.Play.{Setting, Turn, after_events, all_events, end_behind, have_room, left_by, nothing_given, refused_turn, turns_text}
 use Rattle.hac_model.specs.declared.events.Event.{Event}
 use Rattle.hac_model.specs.declared.limits.LimitWord.TheVariants.{Store}
 use Rattle.hac_model.specs.declared.replies.Refusal.TheVariants.{Limit}
@@ -46,8 +46,8 @@ held-between setting events c (inr after) =
     record { kept = after_events setting events; is = after; state = record { count = length events; within = omega arith; is = ap (apply_all setting.state) (sym (take-length events)) } }
 
 -- the turn that stores events, given whether there is room for them
-pub storing-turn : (setting : Setting) (events : List Event) (room : Bool) → have_room setting events ≡ room → storing_turn setting events ≡ (if room then turn_with setting (Lines []) events else refused nothing_given setting (Limit Store))
-storing-turn setting events room is = ap (λ (b : Bool). if b then turn_with setting (Lines []) events else refused nothing_given setting (Limit Store)) is
+pub storing-turn : (setting : Setting) (events : List Event) (room : Bool) → have_room setting events ≡ room → storing_turn setting events ≡ (if room then turn_with setting (Lines []) events else refused_turn nothing_given setting (Limit Store))
+storing-turn setting events room is = ap (λ (b : Bool). if b then turn_with setting (Lines []) events else refused_turn nothing_given setting (Limit Store)) is
 
 pub turn-events : (setting : Setting) (events : List Event) → have_room setting events ≡ true → all_events (storing_turn setting events ∷ []) ≡ events
 turn-events setting events room = ap (λ (turn : Turn). all_events (turn ∷ [])) (storing-turn setting events true room) ∙ append-nil (events ++ []) ∙ append-nil events
@@ -92,7 +92,7 @@ module _ {D : Type 0} {seen : D → Option (List ℕ)} {image : D → List ℕ �
 
   -- a line that is refused stores nothing
   pub refused-written : (disk : D) (store now : Seen) (sink sink_after : SinkSeen) (refusal : Refusal) (result : Result (Unit {0}) Status) → now ≡ store → Bears (seen disk) store → Stores seen image moment image_since attached faults disk disk store.setting [] false →
-      OnOk result (WritesAll sink sink_after (turns_text (refused nothing_given store.setting refusal ∷ []))) → OnOk result (AnswersLine seen image moment image_since attached faults disk disk store now sink sink_after (refused nothing_given store.setting refusal ∷ []))
+      OnOk result (WritesAll sink sink_after (turns_text (refused_turn nothing_given store.setting refusal ∷ []))) → OnOk result (AnswersLine seen image moment image_since attached faults disk disk store now sink sink_after (refused_turn nothing_given store.setting refusal ∷ []))
   refused-written disk store now sink sink_after refusal (Ok done) same place stores told =
       record {
         replies = told;

@@ -1,7 +1,7 @@
 -- What is decided about a line before the store is touched.
 use Rattle.std.specs.Prelude.{◌≡◌, ⊤, if◌then◌else◌, List, [], IsErr, Result, Ok}
 use Rattle.hac_core.specs.Drafts.{CanSettle, settled_events}
-use Rattle.hac_model.specs.Run.Play.{Setting, Turn, after_events, have_room, nothing_given, refused}
+use Rattle.hac_model.specs.Run.Play.{Setting, Turn, after_events, have_room, nothing_given, refused_turn}
 use Rattle.hac_model.specs.declared.events.Event.{Event}
 use Rattle.hac_model.specs.declared.limits.LimitWord.TheVariants.{Store}
 use Rattle.hac_model.specs.declared.memory.Memory.{Memory}
@@ -20,7 +20,7 @@ turn_with setting reply events = record { reply = reply; events = events; steps 
 
 -- the turn that stores events, or is refused where the store has no room for them
 abbrev pub storing_turn : Setting → List Event → Turn
-storing_turn setting events = if have_room setting events then turn_with setting (Lines []) events else refused nothing_given setting (Limit Store)
+storing_turn setting events = if have_room setting events then turn_with setting (Lines []) events else refused_turn nothing_given setting (Limit Store)
 
 -- the turn that a decision leads to
 abbrev pub decided_turn : Setting → Decision → Turn

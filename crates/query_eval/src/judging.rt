@@ -1,6 +1,6 @@
 //! The judging of one item by a query.
 ghost use Rattle.std.specs.Prelude.{◌≡◌};
-ghost use Rattle.hac_model.specs.Query.Queries.{judged};
+ghost use Rattle.hac_model.specs.Query.Queries.{query_meaning};
 
 use crate::atoms::Atoms;
 use hac_model::{Member, Node, Number, Query};
@@ -13,7 +13,7 @@ pub fn judge<A: Atoms, V: Member>(
     member: &V,
     item: Number,
 ) -> bool
-    ensures { result ≡ judged (A.atoms atoms.now) (V.provides member.now) query.now item }
+    ensures { result ≡ query_meaning (A.atoms atoms.now) (V.provides member.now) query.now item }
 {
     match &query.node {
         Node::Term(term) => atoms.has(term, item),

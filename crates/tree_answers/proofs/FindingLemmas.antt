@@ -9,7 +9,7 @@ use Rattle.hac_model.specs.Tree.Links.{atom, column, holds, is_item, passes, pro
 use Rattle.hac_model.specs.declared.marks.Kind.{Kind}
 use Rattle.hac_model.specs.declared.marks.Kind.TheVariants.{Transient, Permanent, Prohibited, Unlinked}
 use Rattle.hac_model.specs.declared.states.State.{State}
-use Rattle.hac_model.specs.Query.Queries.{judged}
+use Rattle.hac_model.specs.Query.Queries.{query_meaning}
 use Rattle.set_pool.specs.Rising.{is_among}
 use Rattle.hac_model.specs.Tree.Kinds.{is_transient}
 use Rattle.link_kinds.specs.Kinds.{Lists, kind_in}
@@ -19,7 +19,7 @@ use Rattle.tree_answers.specs.Finding.{GetsFound, GetsOne, finds, is_within}
 
 -- Judging one item by what is known of it.
 
-pub judged-found : (s : State) (found : Known) (asked : Formula ℕ) (item : ℕ) → judged (atom s) (λ dir item. provide s (column (transient_in found) item) dir item) asked item ≡ holds s (column (transient_in found) item) asked item
+pub judged-found : (s : State) (found : Known) (asked : Formula ℕ) (item : ℕ) → query_meaning (atom s) (λ dir item. provide s (column (transient_in found) item) dir item) asked item ≡ holds s (column (transient_in found) item) asked item
 judged-found s found (query.Term term) item = refl
 judged-found s found (query.Dir dir) item = refl
 judged-found s found (query.Not q) item = ap not (judged-found s found q item)

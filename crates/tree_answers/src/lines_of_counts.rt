@@ -3,7 +3,7 @@ ghost use Rattle.std.specs.Prelude.{◌≡◌, ◌≤◌, ◌∷◌, ◌++◌, �
 ghost use Rattle.std.specs.Prelude.{IsTrue, OnOk};
 ghost use Rattle.hac_model.specs.Tree.Depends.{Among};
 ghost use Rattle.hac_model.specs.Tree.Links.{is_semantic, permanent_count, prohibited_count};
-ghost use Rattle.hac_model.specs.Run.Play.{counted, counts_line};
+ghost use Rattle.hac_model.specs.Run.Play.{count_text, counts_line};
 ghost use Rattle.tree_answers.specs.Counting.{CanCount, HasAllLinks, link_count};
 ghost use Rattle.hac_model.specs.Run.Showing.{line_of_counts};
 
@@ -82,7 +82,7 @@ fn line_of_counts(
 
 /// Adds how much there is of one thing.
 fn push_count(alloc: Global, line: &mut Vec<u8>, word: &[u8], count: u64) -> Result<(), Memory>
-    ensures { OnOk result (line.new.items ≡ line.old.items ++ counted word.now count) }
+    ensures { OnOk result (line.new.items ≡ line.old.items ++ count_text word.now count) }
 {
     line.push(b' ')?;
     line.extend_from_slice(word)?;

@@ -39,12 +39,12 @@ named_in (query.And left right) = named_in left ++ named_in right
 named_in (query.Or left right) = named_in left ++ named_in right
 
 -- the item satisfies the query, given which items have a term and which a directory provides
-abbrev pub judged : (Term → ℕ → Bool) → (ℕ → ℕ → Bool) → Formula ℕ → ℕ → Bool
-judged has provides (query.Term term) item = has term item
-judged has provides (query.Dir dir) item = provides dir item
-judged has provides (query.Not query) item = not (judged has provides query item)
-judged has provides (query.And left right) item = judged has provides left item && judged has provides right item
-judged has provides (query.Or left right) item = judged has provides left item || judged has provides right item
+abbrev pub query_meaning : (Term → ℕ → Bool) → (ℕ → ℕ → Bool) → Formula ℕ → ℕ → Bool
+query_meaning has provides (query.Term term) item = has term item
+query_meaning has provides (query.Dir dir) item = provides dir item
+query_meaning has provides (query.Not query) item = not (query_meaning has provides query item)
+query_meaning has provides (query.And left right) item = query_meaning has provides left item && query_meaning has provides right item
+query_meaning has provides (query.Or left right) item = query_meaning has provides left item || query_meaning has provides right item
 
 -- ---- how much a query may hold
 

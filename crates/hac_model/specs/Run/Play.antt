@@ -20,7 +20,7 @@ use Rattle.hac_model.specs.declared.replies.Reply.{Reply}
 use Rattle.hac_model.specs.declared.replies.Reply.TheVariants.{Lines, Refused}
 use Rattle.hac_model.specs.declared.resolved.Resolved.{Resolved}
 use Rattle.hac_model.specs.declared.states.State.{State}
-pub use Rattle.hac_model.specs.Run.Showing.{counted, data_lines, found_line, kind_lines, line_of_counts, link_lines, counts_line, query_line, query_lines, text_line, text_lines}
+pub use Rattle.hac_model.specs.Run.Showing.{count_text, data_lines, found_line, kind_lines, line_of_counts, link_lines, counts_line, query_line, query_lines, text_line, text_lines}
 pub use Rattle.hac_model.specs.Run.Given.{Given, nothing_given, given_behind, no_answers}
 pub use Rattle.hac_model.specs.Run.Settings.{Setting, after_events, end_after, end_behind, have_room, new_setting}
 
@@ -52,16 +52,16 @@ turn_of given reply events setting = record {
 }
 
 -- a refused command changes nothing
-abbrev pub refused : Given → Setting → Refusal → Turn
-refused given setting refusal = turn_of given (Refused refusal) [] setting
+abbrev pub refused_turn : Given → Setting → Refusal → Turn
+refused_turn given setting refusal = turn_of given (Refused refusal) [] setting
 
 -- the events of a command that are stored: where a session stands is known to the run alone
 abbrev pub stored_events : State → Resolved → List Event
 stored_events s command = filter is_stored (events_of no_answers s command)
 
 -- a command that isn't refused shows its lines, and its events happen
-abbrev pub answered : Given → Setting → Resolved → Turn
-answered given setting command =
+abbrev pub answered_turn : Given → Setting → Resolved → Turn
+answered_turn given setting command =
     turn_of given (Lines (data_lines no_answers setting.state command)) (stored_events setting.state command) (record setting {
       state = led_to no_answers setting.state command;
       end = end_after setting (stored_events setting.state command);
@@ -77,18 +77,18 @@ turn_cause setting command = first_cause (cause no_answers setting.state command
 
 -- the turn of a command whose paths were followed
 abbrev pub command_turn : Given → Setting → Result Resolved Refusal → Turn
-command_turn given setting (Err refusal) = refused given setting refusal
-command_turn given setting (Ok command) = option_map_or (refused given setting) (turn_cause setting command) (answered given setting command)
+command_turn given setting (Err refusal) = refused_turn given setting refusal
+command_turn given setting (Ok command) = option_map_or (refused_turn given setting) (turn_cause setting command) (answered_turn given setting command)
 
 -- the turn of a line that no space fails: it is a command, or refused by its form
 abbrev pub line_turn : Given → Setting → Item → Turn
-line_turn given setting (Err refusal) = refused given setting refusal
+line_turn given setting (Err refusal) = refused_turn given setting refusal
 line_turn given setting (Ok line) = command_turn given setting (resolve setting.state line)
 
 -- the turn of a line: it is refused where a space failed as it asked
 abbrev pub item_turn : Given → Setting → Item → Turn
 item_turn given setting item =
-    option_map_or (λ space. refused given setting (SpaceFault space)) (next_fault given) (line_turn given setting item)
+    option_map_or (λ space. refused_turn given setting (SpaceFault space)) (next_fault given) (line_turn given setting item)
 
 -- the turns of lines in order
 abbrev pub turns : Given → Setting → List Item → List Turn

@@ -82,25 +82,25 @@ abbrev pub unmarked_cause : State → ℕ → ℕ → Option Refusal
 unmarked_cause s item dir = if is_permanent s dir item || is_prohibited s dir item then None else Some (NoMark (path_of s item))
 
 -- what blocks a command whose paths were followed
-abbrev pub blocked : State → Resolved → Option Refusal
-blocked s (Mkdir place) = taken_cause s place
-blocked s (Rmdir dir) = first_cause (root_cause dir ∷ filled_cause s dir ∷ referenced_cause s dir ∷ [])
-blocked s (Write place text) = written_cause s place
-blocked s (Cat entry) = directory_cause s entry
-blocked s (Ls dir) = None
-blocked s (Mv entry place) = first_cause (root_cause entry ∷ taken_cause s place ∷ under_cause s entry place ∷ [])
-blocked s (Rm entry) = first_cause (root_cause entry ∷ directory_cause s entry ∷ [])
-blocked s (Smkdir place query) = taken_cause s place
-blocked s (Setq dir query) = root_cause dir
-blocked s (Unq dir) = plain_cause s dir
-blocked s (Query dir) = plain_cause s dir
-blocked s (Sls dir) = plain_cause s dir
-blocked s (Sln item dir) = first_cause (directory_cause s item ∷ plain_cause s dir ∷ already_cause s item dir ∷ [])
-blocked s (Srm item dir) = first_cause (directory_cause s item ∷ plain_cause s dir ∷ unlinked_cause s item dir ∷ [])
-blocked s (Sforget item dir) = first_cause (directory_cause s item ∷ plain_cause s dir ∷ unmarked_cause s item dir ∷ [])
-blocked s (Find query) = None
-blocked s Index = None
-blocked s Counts = None
+abbrev pub blocking_cause : State → Resolved → Option Refusal
+blocking_cause s (Mkdir place) = taken_cause s place
+blocking_cause s (Rmdir dir) = first_cause (root_cause dir ∷ filled_cause s dir ∷ referenced_cause s dir ∷ [])
+blocking_cause s (Write place text) = written_cause s place
+blocking_cause s (Cat entry) = directory_cause s entry
+blocking_cause s (Ls dir) = None
+blocking_cause s (Mv entry place) = first_cause (root_cause entry ∷ taken_cause s place ∷ under_cause s entry place ∷ [])
+blocking_cause s (Rm entry) = first_cause (root_cause entry ∷ directory_cause s entry ∷ [])
+blocking_cause s (Smkdir place query) = taken_cause s place
+blocking_cause s (Setq dir query) = root_cause dir
+blocking_cause s (Unq dir) = plain_cause s dir
+blocking_cause s (Query dir) = plain_cause s dir
+blocking_cause s (Sls dir) = plain_cause s dir
+blocking_cause s (Sln item dir) = first_cause (directory_cause s item ∷ plain_cause s dir ∷ already_cause s item dir ∷ [])
+blocking_cause s (Srm item dir) = first_cause (directory_cause s item ∷ plain_cause s dir ∷ unlinked_cause s item dir ∷ [])
+blocking_cause s (Sforget item dir) = first_cause (directory_cause s item ∷ plain_cause s dir ∷ unmarked_cause s item dir ∷ [])
+blocking_cause s (Find query) = None
+blocking_cause s Index = None
+blocking_cause s Counts = None
 
 -- something is created where nothing is
 abbrev pub makes : Place → (ℕ → List ℕ → Event) → Option Event
@@ -168,7 +168,7 @@ cycle_cause s command = option_and_then (cycle_against s) (event_of command)
 -- the first cause that doesn't depend on spaces: what blocks the command, then the limits on the tree itself, then a
 -- cycle
 abbrev pub early_cause : State → Resolved → Option Refusal
-early_cause s command = first_cause (blocked s command ∷ layout_cause s command ∷ cycle_cause s command ∷ [])
+early_cause s command = first_cause (blocking_cause s command ∷ layout_cause s command ∷ cycle_cause s command ∷ [])
 
 -- the first cause of all: the limits that depend on what spaces answer come last
 abbrev pub cause : Answers → State → Resolved → Option Refusal

@@ -25,46 +25,46 @@ abbrev pub place : State → ℕ → PathWord → Result Place Refusal
 place s base word = look s (join (path_of s base) word)
 
 -- there is to be an entry there
-abbrev pub standing : State → Place → Result ℕ Refusal
-standing s (There number) = Ok number
-standing s (Free dir name) = Err (NoPath (path_of s dir ++ name ∷ []))
+abbrev pub wanted_entry : State → Place → Result ℕ Refusal
+wanted_entry s (There number) = Ok number
+wanted_entry s (Free dir name) = Err (NoPath (path_of s dir ++ name ∷ []))
 
 -- the entry to which a path word leads, or the root
 abbrev pub entry : State → ℕ → PathWord → Result ℕ Refusal
 entry s base word = do
   found ← place s base word
-  standing s found
+  wanted_entry s found
 
 -- the entry there is to be a directory
-abbrev pub directed : State → ℕ → Result ℕ Refusal
-directed s number = if is_directory_at s.entries number then Ok number else Err (NotDir (path_of s number))
+abbrev pub wanted_directory : State → ℕ → Result ℕ Refusal
+wanted_directory s number = if is_directory_at s.entries number then Ok number else Err (NotDir (path_of s number))
 
 -- the directory to which a path word leads
 abbrev pub directory : State → ℕ → PathWord → Result ℕ Refusal
 directory s base word = do
   number ← entry s base word
-  directed s number
+  wanted_directory s number
 
 -- the directory to which a path word leads, the one that it goes on from if none is given
-abbrev pub listed : State → ℕ → Option PathWord → Result ℕ Refusal
-listed s base word = option_map_or (directory s base) word (Ok base)
+abbrev pub listed_directory : State → ℕ → Option PathWord → Result ℕ Refusal
+listed_directory s base word = option_map_or (directory s base) word (Ok base)
 
 -- the query with each directory by its number
-abbrev pub numbered : State → ℕ → Formula PathWord → Result (Formula ℕ) Refusal
-numbered s base (query.Term term) = Ok (query.Term term)
-numbered s base (query.Dir word) = do
+abbrev pub numbered_query : State → ℕ → Formula PathWord → Result (Formula ℕ) Refusal
+numbered_query s base (query.Term term) = Ok (query.Term term)
+numbered_query s base (query.Dir word) = do
   dir ← directory s base word
   Ok (query.Dir dir)
-numbered s base (query.Not asked) = do
-  inner ← numbered s base asked
+numbered_query s base (query.Not asked) = do
+  inner ← numbered_query s base asked
   Ok (query.Not inner)
-numbered s base (query.And left right) = do
-  first ← numbered s base left
-  second ← numbered s base right
+numbered_query s base (query.And left right) = do
+  first ← numbered_query s base left
+  second ← numbered_query s base right
   Ok (query.And first second)
-numbered s base (query.Or left right) = do
-  first ← numbered s base left
-  second ← numbered s base right
+numbered_query s base (query.Or left right) = do
+  first ← numbered_query s base left
+  second ← numbered_query s base right
   Ok (query.Or first second)
 
 -- what is made of an item and a directory, to which two path words lead
@@ -89,7 +89,7 @@ resolved s base (command.Cat path) = do
   number ← entry s base path
   Ok (Cat number)
 resolved s base (command.Ls path) = do
-  dir ← listed s base path
+  dir ← listed_directory s base path
   Ok (Ls dir)
 resolved s base (command.Mv from to) = do
   number ← entry s base from
@@ -100,11 +100,11 @@ resolved s base (command.Rm path) = do
   Ok (Rm number)
 resolved s base (command.Smkdir path raw) = do
   found ← place s base path
-  asked ← numbered s base raw
+  asked ← numbered_query s base raw
   Ok (Smkdir found asked)
 resolved s base (command.Setq path raw) = do
   dir ← directory s base path
-  asked ← numbered s base raw
+  asked ← numbered_query s base raw
   Ok (Setq dir asked)
 resolved s base (command.Unq path) = do
   dir ← directory s base path
@@ -113,13 +113,13 @@ resolved s base (command.Query path) = do
   dir ← directory s base path
   Ok (Query dir)
 resolved s base (command.Sls path) = do
-  dir ← listed s base path
+  dir ← listed_directory s base path
   Ok (Sls dir)
 resolved s base (command.Sln item dir) = item_and_dir Sln s base item dir
 resolved s base (command.Srm item dir) = item_and_dir Srm s base item dir
 resolved s base (command.Sforget item dir) = item_and_dir Sforget s base item dir
 resolved s base (command.Find raw) = do
-  asked ← numbered s base raw
+  asked ← numbered_query s base raw
   Ok (Find asked)
 resolved s base command.Index = Ok Index
 resolved s base command.Counts = Ok Counts

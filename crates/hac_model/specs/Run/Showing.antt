@@ -42,24 +42,24 @@ abbrev pub found_line : State → ℕ → List ℕ
 found_line s item = codes "f " ++ path_text (path_of s item)
 
 -- how much there is of one thing
-abbrev pub counted : List ℕ → ℕ → List ℕ
-counted word count = codes " " ++ word ++ codes " " ++ decimal count
+abbrev pub count_text : List ℕ → ℕ → List ℕ
+count_text word count = codes " " ++ word ++ codes " " ++ decimal count
 
 -- the line of counts, of which the plain directories and the links of each kind are given apart
 abbrev pub line_of_counts : Counts → ℕ → ℕ → ℕ → ℕ → List ℕ
 line_of_counts counts plain transient permanent prohibited =
     codes "="
-    ++ counted (codes "files") counts.files
-    ++ counted (codes "documents") 0
-    ++ counted (codes "directories") plain
-    ++ counted (codes "semantic") counts.semantics
-    ++ counted (codes "mounts") 0
-    ++ counted (codes "symbolic") 0
-    ++ counted (codes "transient") transient
-    ++ counted (codes "permanent") permanent
-    ++ counted (codes "prohibited") prohibited
-    ++ counted (codes "dirty") counts.dirty
-    ++ counted (codes "next") counts.next
+    ++ count_text (codes "files") counts.files
+    ++ count_text (codes "documents") 0
+    ++ count_text (codes "directories") plain
+    ++ count_text (codes "semantic") counts.semantics
+    ++ count_text (codes "mounts") 0
+    ++ count_text (codes "symbolic") 0
+    ++ count_text (codes "transient") transient
+    ++ count_text (codes "permanent") permanent
+    ++ count_text (codes "prohibited") prohibited
+    ++ count_text (codes "dirty") counts.dirty
+    ++ count_text (codes "next") counts.next
 
 -- how much there is of everything
 abbrev pub counts_line : State → List ℕ

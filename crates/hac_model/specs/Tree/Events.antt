@@ -4,7 +4,7 @@ use Rattle.std.specs.List.{list_all}
 use Rattle.std.specs.Option.{option_map_or}
 use Rattle.hac_model.specs.Tree.Depends.{cycle_of_move, cycle_over, named_in, names_directory}
 use Rattle.hac_model.specs.Query.Formula.{Formula}
-use Rattle.hac_model.specs.Tree.Limits.{dirty_count, is_text, passed}
+use Rattle.hac_model.specs.Tree.Limits.{dirty_count, is_text, passed_limit}
 use Rattle.hac_model.specs.Tree.Links.{has, is_item, is_permanent, is_prohibited, is_semantic, links, parent_of}
 use Rattle.hac_model.specs.Tree.Names.{is_name}
 use Rattle.hac_model.specs.Query.Queries.{is_query}
@@ -188,7 +188,7 @@ apply s other = s
 
 -- the state accepts the event: what it refers to is there, and no limit is exceeded
 abbrev pub accepted : State → Event → Bool
-accepted s event = is_possible s event && is_none (passed (apply s event))
+accepted s event = is_possible s event && is_none (passed_limit (apply s event))
 
 -- the state after events, one after the other
 abbrev pub apply_all : State → List Event → State

@@ -90,5 +90,5 @@ first_passed [] = None
 first_passed (limit ∷ limits) = if nat_lt limit.most limit.count then Some limit.word else first_passed limits
 
 -- the first limit that the state exceeds
-unfoldable pub passed : State → Option LimitWord
-passed s = first_passed (layout_limits (counts s) ++ answer_limits (counts s))
+unfoldable pub passed_limit : State → Option LimitWord
+passed_limit s = first_passed (layout_limits (counts s) ++ answer_limits (counts s))

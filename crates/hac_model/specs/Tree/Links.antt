@@ -4,7 +4,7 @@ use Rattle.std.specs.List.{list_any, range_with_len}
 use Rattle.std.specs.Option.{option_map_or}
 use Rattle.hac_model.specs.Tree.Limits.{semantic_count}
 use Rattle.hac_model.specs.Query.Formula.{Formula}
-use Rattle.hac_model.specs.Query.Queries.{judged}
+use Rattle.hac_model.specs.Query.Queries.{query_meaning}
 use Rattle.hac_model.specs.Tree.{body_at, entry_at, extends, is_directory_at, is_file_at, path_of, permanent_in, prohibited_in, query_in, shown_text}
 use Rattle.hac_model.specs.Query.Words.{has_term}
 use Rattle.hac_model.specs.declared.marks.Kind.{Kind}
@@ -71,7 +71,7 @@ provide s linked dir item = is_below s dir item || (is_semantic s dir && (linked
 
 -- the item satisfies the query
 abbrev pub holds : State → (ℕ → Bool) → Formula ℕ → ℕ → Bool
-holds s linked query item = judged (atom s) (provide s linked) query item
+holds s linked query item = query_meaning (atom s) (provide s linked) query item
 
 -- the item satisfies the directory's query
 abbrev pub satisfies : State → (ℕ → Bool) → ℕ → ℕ → Bool

@@ -4,7 +4,7 @@ use Rattle.std.specs.List.{AllByRecursion}
 use Rattle.std.specs.Option.{option_map_or}
 use Rattle.hac_model.specs.Tree.Depends.{IsAcyclic}
 use Rattle.hac_model.specs.Query.Formula.{Formula}
-use Rattle.hac_model.specs.Tree.Limits.{is_text, passed}
+use Rattle.hac_model.specs.Tree.Limits.{is_text, passed_limit}
 use Rattle.hac_model.specs.Tree.Names.{is_name}
 use Rattle.hac_model.specs.Tree.Events.{may_ask}
 use Rattle.hac_model.specs.Tree.Links.{has, is_item}
@@ -46,7 +46,7 @@ pub record IsLayout (s : State) : Type 0 where
   pub differ : NamesDiffer s.entries
   pub bodies : AllByRecursion (λ entry. IsSound entry.body) s.entries
   -- so each path is short, which is to say that steps over parents end at the root
-  pub limits : passed s ≡ None
+  pub limits : passed_limit s ≡ None
 
 -- numbers that rise, from a bound on
 abbrev pub RiseFrom : ℕ → List ℕ → Type 0

@@ -1,7 +1,7 @@
 use Rattle.std.proofs.Common.{◌∙◌, sym}
 use Rattle.hac_model.specs.Tree.Events.{apply, is_possible}
 use Rattle.hac_model.specs.Tree.Facts.{facts_of}
-use Rattle.hac_model.specs.Tree.Limits.{passed}
+use Rattle.hac_model.specs.Tree.Limits.{passed_limit}
 use Rattle.hac_model.proofs.FactLemmas.{facts-bare, facts-law}
 use Rattle.hac_model.proofs.FillLemmas.{same-state}
 use Rattle.hac_model.proofs.ValidLemmas.{accepted-parts}
@@ -9,7 +9,7 @@ use Rattle.hac_model.proofs.laws.facts_follow.Goals as goal
 
 pub returns-clause-follow : goal.returns-clause-follow
 returns-clause-follow c = λ s event valid ok number.
-    facts-law s event valid.layout.numbers (accepted-parts (is_possible s event) (passed (apply s event)) ok).0 number
+    facts-law s event valid.layout.numbers (accepted-parts (is_possible s event) (passed_limit (apply s event)) ok).0 number
     ∙ sym (facts-bare event s (facts_of s) number)
 
 pub returns-clause-tell : goal.returns-clause-tell

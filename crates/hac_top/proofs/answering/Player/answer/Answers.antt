@@ -1,5 +1,5 @@
 use Rattle.std.proofs.Common.{[], ◌∷◌, refl}
-use Rattle.hac_model.specs.Run.Play.{all_events, nothing_given, refused}
+use Rattle.hac_model.specs.Run.Play.{all_events, nothing_given, refused_turn}
 use Rattle.hac_model.specs.Script.Printed.{text}
 use Rattle.hac_model.specs.declared.limits.LimitWord.TheVariants.{Line}
 use Rattle.hac_model.specs.declared.replies.Refusal.TheVariants.{Limit}
@@ -19,7 +19,7 @@ returns-in-LongLine-clause-err g c =
     let disk = g.D.Disk in
     let old = c.args.disk.now in
     let setting = c.args.self.now.store.setting in
-    let turn = refused nothing_given setting (Limit Line) in
+    let turn = refused_turn nothing_given setting (Limit Line) in
     rw c.in-LongLine.is
     (stops-written g.met.D.Disk.only_now old old setting (g.K.Sink.seen c.args.output.now) (g.K.Sink.seen c.reply_with.new.output) (turn ∷ []) (text (Refused (Limit Line) ∷ [])) c.reply_with.result
     refl (stores-nothing g.met.D.Disk.only_now old setting (all_events (turn ∷ [])))
