@@ -1,5 +1,5 @@
 -- What holds of stores by their definition alone.
-use Rattle.std.specs.Prelude.{◌≡◌, ℕ, List, [], ◌∷◌, replicate, IsTrue, Ok}
+use Rattle.std.specs.Prelude.{◌≡◌, ℕ, List, [], ◌∷◌, replicate, IsTrue}
 use Rattle.hac_disk.specs.Images.{overlaid}
 use Rattle.hac_journal.specs.Records.{log_of}
 use Rattle.hac_model.specs.Tree.Events.{accepted}
@@ -7,16 +7,15 @@ use Rattle.hac_model.specs.Payload.Payloads.{event_text}
 use Rattle.hac_model.specs.Run.Play.{Setting, after_events, have_room}
 use Rattle.hac_model.specs.declared.events.Event.{Event}
 use Rattle.hac_model.specs.declared.events.Event.TheVariants.{Step}
-use Rattle.hac_store.specs.Held.{held}
-use Rattle.hac_store.specs.Stores.{fit_behind}
+use Rattle.hac_store.specs.Stores.{IsHeldAs, fit_behind}
 
 -- where a file holds a store, and the record of an event that can happen is put at its end, the file holds what the
 -- event leads to
 abbrev pub AppendsExtend : Type 0
 AppendsExtend =
-    (file : List ℕ) (setting : Setting) (event : Event) → held file ≡ Ok setting → IsTrue (accepted setting.state event) →
+    (file : List ℕ) (setting : Setting) (event : Event) → IsHeldAs file setting → IsTrue (accepted setting.state event) →
     IsTrue (have_room setting (event ∷ [])) →
-    held (overlaid setting.end (log_of (event_text event ∷ [])) file) ≡ Ok (after_events setting (event ∷ []))
+    IsHeldAs (overlaid setting.end (log_of (event_text event ∷ [])) file) (after_events setting (event ∷ []))
 
 -- for index steps there is room just where as many records of two bytes fit
 abbrev pub StepsHaveRoom : Type 0

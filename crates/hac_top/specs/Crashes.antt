@@ -4,8 +4,7 @@ use Rattle.hac_model.specs.Tree.Events.{apply_all}
 use Rattle.hac_model.specs.Run.Play.{Setting, Turn, all_events, events_before, new_setting, tree_after}
 use Rattle.hac_model.specs.declared.events.Event.{Event}
 use Rattle.hac_model.specs.declared.states.State.{State}
-use Rattle.hac_store.specs.Held.{held}
-use Rattle.hac_store.specs.Stores.{Seen}
+use Rattle.hac_store.specs.Stores.{IsHeldAs, Seen}
 use Rattle.hac_store.specs.declared.fault.StoreFault.{StoreFault}
 use Rattle.hac_top.specs.Ends.{store_status}
 use Rattle.hac_top.specs.declared.status.Status.{Status}
@@ -50,13 +49,13 @@ pub record IsTreeAfter (s : State) (events : List Event) (now : State) : Type 0 
 -- the image is held, with a state such as this
 pub record Holds (P : State → Type 0) (image : List ℕ) : Type 0 where
   pub kept : Setting
-  pub is : held image ≡ Ok kept
+  pub is : IsHeldAs image kept
   pub state : P kept.state
 
 -- the same; or the image holds no store, as may be where a new one was asked for
 abbrev pub Reopens : Bool → (State → Type 0) → List ℕ → Type 0
 Reopens false P image = Holds P image
-Reopens true P image = (kept : Setting) → held image ≡ Ok kept → P kept.state
+Reopens true P image = (kept : Setting) → IsHeldAs image kept → P kept.state
 
 -- `done` turns were answered. The state is the tree after a prefix of their events which holds the events of each
 -- answered command, and of those behind them at most those of the command in hand.
