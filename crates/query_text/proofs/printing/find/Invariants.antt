@@ -3,5 +3,5 @@ use Rattle.query_text.specs.Printing.{path_at}
 use Rattle.query_text.proofs.printing.find.Given as goal
 
 -- the path is the one that the rest gives
-abbrev pub invariant-loop-told : goal.invariant-loop-told
-invariant-loop-told l = path_at (drop l.told-index l.paths) l.dir ≡ path_at l.paths l.dir
+abbrev pub invariant-loop-named : goal.invariant-loop-named
+invariant-loop-named l = path_at (drop l.named-index l.paths) l.dir ≡ path_at l.paths l.dir
