@@ -1,7 +1,8 @@
 //! What blocks a command whose paths were followed. Limits are left out.
 ghost use Rattle.std.specs.Prelude.{◌≡◌, IsTrue};
 ghost use Rattle.hac_model.specs.Run.Answers.{Passes};
-ghost use Rattle.hac_model.specs.Run.Refusals.{blocking_cause, directory_cause, filled_cause, plain_cause};
+ghost use Rattle.hac_model.specs.Run.Refusals.{blocking_cause, directory_cause, filled_cause};
+ghost use Rattle.hac_model.specs.Run.Refusals.{plain_cause};
 ghost use Rattle.hac_model.specs.Run.Refusals.{root_cause, taken_cause, under_cause, written_cause};
 ghost use Rattle.hac_model.specs.Run.Standing.{AllStand, StandsAt};
 ghost use Rattle.hac_model.specs.Tree.Events.{is_inside};

@@ -1,7 +1,8 @@
 //! Where path words lead.
 ghost use Rattle.std.specs.Prelude.{◌≡◌, ◌++◌, ◌∷◌, [], IfOk, IsTrue};
 ghost use Rattle.hac_model.specs.Run.Answers.{Answers};
-ghost use Rattle.hac_model.specs.Run.Resolving.{place, entry, directory, listed_directory, numbered_query};
+ghost use Rattle.hac_model.specs.Run.Resolving.{place, entry, directory, listed_directory};
+ghost use Rattle.hac_model.specs.Run.Resolving.{numbered_query};
 ghost use Rattle.hac_model.specs.Tree.{is_directory_at, path_of};
 
 use file_tree::{Stop, Tree};

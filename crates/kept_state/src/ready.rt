@@ -7,7 +7,8 @@ ghost use Rattle.hac_model.specs.Tree.{is_directory_at};
 ghost use Rattle.file_tree.specs.declared.ready.Ready.TheVariants as tree;
 ghost use Rattle.link_kinds.specs.Seen.{LinkListsRise, has_sets};
 ghost use Rattle.kept_state.specs.Parts.{AreAlike, AreMovedEdges, HasEdges, IsLinked, state_of};
-ghost use Rattle.kept_state.specs.Ready.{IsCommitted, IsReady, CanCommit, IsPreparedFor, ready_events};
+ghost use Rattle.kept_state.specs.Ready.{IsCommitted, IsReady, CanCommit, IsPreparedFor};
+ghost use Rattle.kept_state.specs.Ready.{ready_events};
 
 use crate::parts::Parts;
 use dep_graph::NewEdges;

@@ -137,7 +137,7 @@ impl Reader {
             (pending self.new (S.seen source.new).left)) }
         ensures past { IsErrOf result LineFault.TooLong → IsPastLimit self.new }
 
-        // A buffered line is given without a read, so a fault of reading comes only if there is none.
+        // A buffered line is given without a read, so reading fails only where there is none.
         ensures unended { IsErrOf result LineFault.Read → IsUnended self.new.buffered }
         ensures unread { is_first_ended self.old.buffered ≡ true → source.new ≡ source.old }
         ensures source { MatchResult result (λ _. IsReaderBehind 0 self.new (S.seen source.new))
