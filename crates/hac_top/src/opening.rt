@@ -4,7 +4,6 @@ ghost use Rattle.std.specs.Prelude.{◌≡◌, false, Err, IfOk, IfErr, IfSome};
 ghost use Rattle.hac_disk.specs.Images.{IsQuiet, LeavesOnly};
 ghost use Rattle.hac_disk.specs.Contents.{IsSettled};
 ghost use Rattle.hac_outside.specs.Causes.{ReportsFault};
-ghost use Rattle.hac_store.specs.Faults.{is_disk_fault};
 ghost use Rattle.hac_store.specs.Held.{held};
 ghost use Rattle.hac_store.specs.Stores.{Bears, Stands};
 ghost use Rattle.hac_top.specs.Attaching.{AttachesStore, MayAttach};
@@ -54,30 +53,10 @@ pub fn open_store<D: Disk>(
     if disk.attach(options.store, options.fresh).is_err() {
         return Err(Status::DiskFault);
     }
-    opening_result(load_or_create(alloc, options.fresh, disk))
-}
-
-// Loads the store of the disk, or makes a new one.
-fn load_or_create<D: Disk>(alloc: Global, fresh: bool, disk: &mut D) -> Result<Store, StoreFault>
-    ensures opened { IfSome (D.seen disk.old) (λ file. IsOpened (opening_result result)
-        (opening_outcome fresh (held file))) }
-    ensures intact { IfOk result (λ store. store.broken ≡ false) }
-    ensures place { IfOk result (λ store. Bears (D.seen disk.new) store) }
-    ensures stands { IfSome (D.seen disk.old) (λ _. IfOk result
-        (λ store. Stands (D.seen disk.new) (D.image disk.new) store.setting)) }
-    ensures any_moment { IfSome (D.seen disk.old) (λ file. IfOk (opening_outcome fresh (held file))
-        (λ setting. IsSettled (D.seen disk.old) (D.image disk.old) →
-        LeavesOnly D.moment D.image_since disk.old disk.new
-        (Reopens fresh (λ s. s ≡ setting.state)))) }
-    ensures quiet { IfSome (D.seen disk.old) (λ file. IfErr (opening_outcome fresh (held file))
-        (λ _. IsQuiet D.seen D.image D.moment D.image_since disk.old disk.new)) }
-    ensures attached { D.attached disk.new ≡ D.attached disk.old }
-    ensures faults { ReportsFault (is_disk_fault result) (D.faults disk.old) (D.faults disk.new) }
-{
-    if fresh {
-        Store::create(alloc, disk)
+    if options.fresh {
+        opening_result(Store::create(alloc, disk))
     } else {
-        Store::load(alloc, disk)
+        opening_result(Store::load(alloc, disk))
     }
 }
 
