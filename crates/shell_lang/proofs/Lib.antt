@@ -5,3 +5,10 @@ pub mod QuoteLemmas
 pub mod TakeLemmas
 pub mod RawLemmas
 pub mod PutLemmas
+pub mod GivenLemmas
+pub mod PathLemmas
+pub mod StepLemmas
+pub mod LineLemmas
+pub mod NestingLemmas
+pub mod AskedLemmas
+pub mod PrintedLemmas

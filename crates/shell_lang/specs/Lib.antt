@@ -4,3 +4,5 @@ pub mod Pieces
 pub mod Quotes
 pub mod Takes
 pub mod RawWords
+pub mod Limits
+pub mod Laws

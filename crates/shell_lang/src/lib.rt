@@ -2,15 +2,20 @@
 //! text. It knows nothing of what a command does.
 #![tactic(auto)]
 
+mod commands;
+pub mod laws;
 mod parsing;
 mod paths;
 mod printing;
 mod putting;
+mod queries;
 mod reading;
 mod shapes;
 mod tree_lines;
+mod word_texts;
 mod words;
 
+pub use commands::print_command;
 pub use parsing::parse_line;
 pub use printing::print_reply;
 pub use putting::put_length;

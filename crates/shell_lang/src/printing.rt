@@ -47,15 +47,15 @@ fn push_refusal(alloc: Global, out: &mut Vec<u8>, refusal: &Refusal) -> Result<(
     ensures { OnOk result (out.new.items ≡ out.old.items ++ refusal_text refusal.now) }
 {
     match refusal {
-        Refusal::BadLine => push_word(out, b"bad-line"),
-        Refusal::BadName => push_word(out, b"bad-name"),
+        Refusal::BadLine => push_bytes(out, b"bad-line"),
+        Refusal::BadName => push_bytes(out, b"bad-name"),
         Refusal::NoPath(path) => push_path(alloc, out, b"no-path ", path),
         Refusal::NotDir(path) => push_path(alloc, out, b"not-dir ", path),
         Refusal::NotFile(path) => push_path(alloc, out, b"not-file ", path),
         Refusal::Exists(path) => push_path(alloc, out, b"exists ", path),
         Refusal::NotEmpty(path) => push_path(alloc, out, b"not-empty ", path),
         Refusal::Under(path) => push_path(alloc, out, b"under ", path),
-        Refusal::Root => push_word(out, b"root"),
+        Refusal::Root => push_bytes(out, b"root"),
         Refusal::BadQuery(place) => push_number(alloc, out, b"bad-query ", *place),
         Refusal::Cycle(path) => push_path(alloc, out, b"cycle ", path),
         Refusal::Referenced(path) => push_path(alloc, out, b"referenced ", path),
@@ -70,17 +70,17 @@ fn push_refusal(alloc: Global, out: &mut Vec<u8>, refusal: &Refusal) -> Result<(
         Refusal::InMount(path) => push_path(alloc, out, b"in-mount ", path),
         Refusal::Loop(path) => push_path(alloc, out, b"loop ", path),
         Refusal::NotLink(path) => push_path(alloc, out, b"not-link ", path),
-        Refusal::ShortPut => push_word(out, b"short-put"),
+        Refusal::ShortPut => push_bytes(out, b"short-put"),
         Refusal::NotMount(path) => push_path(alloc, out, b"not-mount ", path),
         Refusal::Gone(path) => push_path(alloc, out, b"gone ", path),
     }
 }
 
-/// Appends a cause that has no detail.
-fn push_word(out: &mut Vec<u8>, cause: &[u8]) -> Result<(), Memory>
-    ensures { OnOk result (out.new.items ≡ out.old.items ++ cause.now) }
+/// Appends bytes as they are.
+pub fn push_bytes(out: &mut Vec<u8>, bytes: &[u8]) -> Result<(), Memory>
+    ensures { OnOk result (out.new.items ≡ out.old.items ++ bytes.now) }
 {
-    out.extend_from_slice(cause)?;
+    out.extend_from_slice(bytes)?;
     Ok(())
 }
 
@@ -91,11 +91,16 @@ fn push_path(alloc: Global, out: &mut Vec<u8>, cause: &[u8], path: &Path) -> Res
     push_detail(out, cause, print_path(alloc, path)?.as_bytes())
 }
 
-/// Appends a cause and a number.
-fn push_number(alloc: Global, out: &mut Vec<u8>, cause: &[u8], number: u64) -> Result<(), Memory>
-    ensures { OnOk result (out.new.items ≡ out.old.items ++ (cause.now ++ decimal number)) }
+/// Appends what stands before a number, and the number.
+pub fn push_number(
+    alloc: Global,
+    out: &mut Vec<u8>,
+    before: &[u8],
+    number: u64,
+) -> Result<(), Memory>
+    ensures { OnOk result (out.new.items ≡ out.old.items ++ (before.now ++ decimal number)) }
 {
-    push_detail(out, cause, number.to_string(alloc)?.as_bytes())
+    push_detail(out, before, number.to_string(alloc)?.as_bytes())
 }
 
 /// Appends a cause and its detail.

@@ -1,0 +1,193 @@
+-- Path words as they are printed: they are read as themselves, and stand on one line.
+use Rattle.std.proofs.Common.{◌≡◌, ℕ, zero, suc, ◌+◌, ◌-◌, true, false, Bool, cond, eqb, List, [], ◌∷◌, ◌++◌, length, get_or, refl, ap, sym, ◌∙◌, arith, codes, Ok, Err}
+use Rattle.std.specs.Prelude.{not, All, replicate, slice_index, Result, ◌||◌, if◌then◌else◌}
+use Rattle.std.specs.List.{list_all, list_any, flat_map, position_or_len}
+use Rattle.std.proofs.lemmas.Bool.{and_parts, and_from, or_from, not_from_true, true_from_ne_false, both_ways, cond-false}
+use Rattle.std.proofs.lemmas.List.{append-nil}
+use Rattle.std.proofs.lemmas.List.Folds.{list_all_at, list_all-append}
+use Rattle.std.proofs.lemmas.List.Splits.{slice_split_none, slice_split_at}
+use Rattle.std.proofs.lemmas.Bool.Decides.{nat_tests}
+use Rattle.hac_model.specs.Bytes.{is_backslash, is_line_end, is_quote, is_slash}
+use Rattle.hac_model.specs.Laws.{quoted_byte}
+use Rattle.hac_model.specs.Script.CommandTexts.{path_part, steps, word_text}
+use Rattle.hac_model.specs.Script.PathWords.{parts, is_part, is_long, is_bad, has_long_part, relative, at_root, before, untested_word, word_of}
+use Rattle.hac_model.specs.Tree.Names.{is_name, is_name_byte}
+use Rattle.hac_model.specs.Tree.Paths.{are_names, slashed, path_text}
+use Rattle.hac_model.specs.declared.paths.PathWord.{PathWord}
+use Rattle.hac_model.specs.declared.replies.Refusal.{Refusal}
+use Rattle.hac_model.proofs.WordLemmas.{leads_down, word_of-names}
+use Rattle.hac_names.proofs.Printed.{printed_path}
+use Rattle.shell_lang.proofs.GivenLemmas.{IsWord}
+
+-- What is known of a word that is read.
+
+pub record WordParts (word : PathWord) : Type 0 where
+  pub names : are_names word.names ≡ true
+  pub ups : word.absolute ≡ true → word.ups ≡ 0
+
+before-own : (idle up none : Bool) (part : List ℕ) (word : PathWord) → word.absolute ≡ false
+    → (cond idle word (cond up (record word { ups = word.ups + 1 })
+    (cond none (record word { names = part ∷ word.names })
+    (record word { ups = word.ups - 1 })))).absolute ≡ false
+before-own true up none part word own = own
+before-own false true none part word own = own
+before-own false false true part word own = own
+before-own false false false part word own = own
+
+relative-own : (ps : List (List ℕ)) → (relative ps).absolute ≡ false
+relative-own [] = refl
+relative-own (part ∷ ps) = before-own _ _ _ part (relative ps) (relative-own ps)
+
+rooted-ups : (slash : Bool) (word : PathWord) → word.absolute ≡ false → (cond slash (at_root word) word).absolute ≡ true → (cond slash (at_root word) word).ups ≡ 0
+rooted-ups true word own is = refl
+rooted-ups false word own is = absurd (let clash : false ≡ true = sym own ∙ is in cc)
+
+guard : (b : Bool) (refusal : Refusal) (other : Result PathWord Refusal) (word : PathWord) → cond b (Err refusal) other ≡ Ok word → other ≡ Ok word
+guard true refusal other word h = absurd cc
+guard false refusal other word h = h
+
+ok-same : (one other : PathWord) → (let read : Result PathWord Refusal = Ok one in read) ≡ Ok other → one ≡ other
+ok-same one other e = cc
+
+word-ups : (bytes : List ℕ) (word : PathWord) → word_of bytes ≡ Ok word → word.absolute ≡ true → word.ups ≡ 0
+unfolding word_of
+word-ups bytes word h is =
+    let same : untested_word bytes ≡ word = ok-same (untested_word bytes) word (guard (has_long_part bytes) _ _ word (guard (is_bad bytes) _ _ word h)) in
+    ap (λ (w : PathWord). w.ups) (sym same) ∙ rooted-ups (is_slash (slice_index bytes 0)) (relative (parts bytes)) (relative-own (parts bytes)) (ap (λ (w : PathWord). w.absolute) same ∙ is)
+
+pub word-parts : (word : PathWord) → IsWord word → WordParts word
+word-parts word (bytes, read) = record { names = word_of-names bytes word read; ups = word-ups bytes word read }
+
+-- The steps of a relative word.
+
+no_slash_byte : (b : ℕ) → is_name_byte b ≡ true → is_slash b ≡ false
+no_slash_byte b h = grind (arith, nat_tests)
+
+no_slash : (bytes : List ℕ) → is_part bytes ≡ true → All (λ b. is_slash b ≡ false) bytes
+no_slash bytes h k d within =
+    no_slash_byte (get_or bytes k d) (true_from_ne_false (is_name_byte (get_or bytes k d)) (λ bad. both_ways (is_part bytes) (list_all_at is_name_byte bytes k d within bad) h))
+
+parts-slashed : (front : List ℕ) (ps : List (List ℕ)) → is_part front ≡ true → list_all is_part ps ≡ true → parts (front ++ flat_map slashed ps) ≡ front ∷ ps
+parts-slashed front [] is all = ap parts (append-nil front) ∙ slice_split_none is_slash front (no_slash front is)
+parts-slashed front (next ∷ ps) is all =
+    let both = and_parts (is_part next) (list_all is_part ps) all in
+    slice_split_at is_slash front 47 (next ++ flat_map slashed ps) (no_slash front is) refl
+    ∙ ap (λ (rest : List (List ℕ)). front ∷ rest) (parts-slashed next ps both.0 both.1)
+
+names-parts : (names : List (List ℕ)) → are_names names ≡ true → list_all is_part names ≡ true
+names-parts [] h = refl
+names-parts (name ∷ names) h =
+    let p = and_parts (is_name name) (are_names names) h in
+    and_from (is_part name) (list_all is_part names) (leads_down name p.0).part (names-parts names p.1)
+
+steps-parts : (n : ℕ) (names : List (List ℕ)) → are_names names ≡ true → list_all is_part (replicate n (codes "..") ++ names) ≡ true
+steps-parts zero names h = names-parts names h
+steps-parts (suc n) names h = steps-parts n names h
+
+names-short : (names : List (List ℕ)) → are_names names ≡ true → list_any is_long names ≡ false
+names-short [] h = refl
+names-short (name ∷ names) h =
+    let p = and_parts (is_name name) (are_names names) h in
+    or_from (is_long name) (list_any is_long names) (leads_down name p.0).short (names-short names p.1)
+
+steps-short : (n : ℕ) (names : List (List ℕ)) → are_names names ≡ true → list_any is_long (replicate n (codes "..") ++ names) ≡ false
+steps-short zero names h = names-short names h
+steps-short (suc n) names h = steps-short n names h
+
+abbrev below : ℕ → List (List ℕ) → PathWord
+below n names = record { absolute = false; ups = n; names = names }
+
+names-lead : (names : List (List ℕ)) → are_names names ≡ true → relative names ≡ below 0 names
+names-lead [] h = refl
+names-lead (name ∷ names) h =
+    let p = and_parts (is_name name) (are_names names) h in
+    let n = leads_down name p.0 in
+    let moves = n.moves in
+    let down = n.down in
+    let rest = names-lead names p.1 in
+    rw (moves, down, rest) refl
+
+steps-lead : (n : ℕ) (names : List (List ℕ)) → are_names names ≡ true → relative (replicate n (codes "..") ++ names) ≡ below n names
+steps-lead zero names h = names-lead names h
+steps-lead (suc n) names h = ap (λ (w : PathWord). before (codes "..") w) (steps-lead n names h) ∙ ap (λ (m : ℕ). below m names) (omega arith)
+
+relative-read : (n : ℕ) (names : List (List ℕ)) → are_names names ≡ true → word_of (word_text (below n names)) ≡ Ok (below n names)
+unfolding word_of
+relative-read n names h =
+    let ps : List (List ℕ) = replicate n (codes "..") ++ names in
+    let text : List ℕ = codes "." ++ flat_map slashed ps in
+    let cut : parts text ≡ codes "." ∷ ps = parts-slashed (codes ".") ps refl (steps-parts n names h) in
+    let bad : is_bad text ≡ false =
+    or_from (eqb (length text) 0) (not (list_all is_part (parts text))) (grind (arith, nat_tests))
+    (not_from_true (list_all is_part (parts text)) (ap (list_all is_part) cut ∙ steps-parts n names h)) in
+    let long : has_long_part text ≡ false = ap (list_any is_long) cut ∙ steps-short n names h in
+    let word : untested_word text ≡ below n names = ap relative cut ∙ steps-lead n names h in
+    cond-false (is_bad text) _ _ bad ∙ cond-false (has_long_part text) _ _ long ∙ ap (λ (w : PathWord). Ok w) word
+
+read-back : (absolute : Bool) (n : ℕ) (names : List (List ℕ)) → are_names names ≡ true → (absolute ≡ true → n ≡ 0)
+    → (let word : PathWord = record { absolute = absolute; ups = n; names = names } in word_of (word_text word) ≡ Ok word)
+read-back true n names h none = printed_path names h ∙ ap (λ (m : ℕ). Ok (record { absolute = true; ups = m; names = names })) (sym (none refl))
+read-back false n names h none = relative-read n names h
+
+pub word_text-read : (word : PathWord) → WordParts word → word_of (word_text word) ≡ Ok word
+word_text-read word known = read-back word.absolute word.ups word.names known.names known.ups
+
+-- One line.
+
+-- the byte ends no line
+abbrev pub is_inner : ℕ → Bool
+is_inner b = not (is_line_end b)
+
+abbrev pub is_one_line : List ℕ → Bool
+is_one_line bytes = list_all is_inner bytes
+
+pub one_line-join : (a b : List ℕ) → is_one_line a ≡ true → is_one_line b ≡ true → is_one_line (a ++ b) ≡ true
+one_line-join a b p q = list_all-append is_inner a b ∙ and_from (is_one_line a) (is_one_line b) p q
+
+pub one_line-unended : (bytes : List ℕ) → is_one_line bytes ≡ true → position_or_len is_line_end bytes ≡ length bytes
+one_line-unended [] h = refl
+one_line-unended (b ∷ bytes) h =
+    let p = and_parts (is_inner b) (is_one_line bytes) h in
+    let rest = one_line-unended bytes p.1 in
+    ap (λ (t : Bool). cond t (1 + position_or_len is_line_end bytes) 0) p.0 ∙ omega (arith, rest)
+
+name_byte-inner : (b : ℕ) → is_name_byte b ≡ true → is_inner b ≡ true
+name_byte-inner b h = grind (arith, nat_tests)
+
+pub all-weaker : (p q : ℕ → Bool) → ((b : ℕ) → p b ≡ true → q b ≡ true) → (bytes : List ℕ) → list_all p bytes ≡ true → list_all q bytes ≡ true
+all-weaker p q weaker [] h = refl
+all-weaker p q weaker (b ∷ bytes) h =
+    let both = and_parts (p b) (list_all p bytes) h in
+    and_from (q b) (list_all q bytes) (weaker b both.0) (all-weaker p q weaker bytes both.1)
+
+slashed-one_line : (ps : List (List ℕ)) → list_all is_part ps ≡ true → is_one_line (flat_map slashed ps) ≡ true
+slashed-one_line [] all = refl
+slashed-one_line (part ∷ ps) all =
+    let both = and_parts (is_part part) (list_all is_part ps) all in
+    one_line-join part (flat_map slashed ps) (all-weaker is_name_byte is_inner name_byte-inner part both.0) (slashed-one_line ps both.1)
+
+path-one_line : (names : List (List ℕ)) → are_names names ≡ true → is_one_line (path_text names) ≡ true
+path-one_line [] h = refl
+path-one_line (name ∷ names) h = slashed-one_line (name ∷ names) (names-parts (name ∷ names) h)
+
+pub word-one_line : (word : PathWord) → WordParts word → is_one_line (word_text word) ≡ true
+word-one_line word known =
+    elim word.absolute as (λ a. is_one_line (if a then path_text word.names else codes "." ++ flat_map slashed (steps word)) ≡ true) [
+      | true ↦ path-one_line word.names known.names
+      | false ↦ slashed-one_line (steps word) (steps-parts word.ups word.names known.names)
+    ]
+
+-- a byte, with a backslash before it or not
+pub marked-one_line : (mark : Bool) (b : ℕ) → is_inner b ≡ true → is_one_line (if mark then 92 ∷ b ∷ [] else b ∷ []) ≡ true
+marked-one_line true b h = and_from (is_inner b) true h refl
+marked-one_line false b h = and_from (is_inner b) true h refl
+
+quoted-one_line : (bytes : List ℕ) → is_one_line bytes ≡ true → is_one_line (flat_map quoted_byte bytes) ≡ true
+quoted-one_line [] h = refl
+quoted-one_line (b ∷ bytes) h =
+    let both = and_parts (is_inner b) (is_one_line bytes) h in
+    one_line-join (quoted_byte b) (flat_map quoted_byte bytes) (marked-one_line (is_quote b || is_backslash b) b both.0) (quoted-one_line bytes both.1)
+
+pub path_part-one_line : (word : PathWord) → WordParts word → is_one_line (path_part word) ≡ true
+path_part-one_line word known =
+    one_line-join (flat_map quoted_byte (word_text word)) (34 ∷ []) (quoted-one_line (word_text word) (word-one_line word known)) refl
