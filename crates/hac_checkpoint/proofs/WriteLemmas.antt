@@ -97,7 +97,7 @@ module _ {D : Type 0} (seen : D → Option (List ℕ)) (image : D → List ℕ �
       let wider : (c : List ℕ) → TornFrom a (length bytes) (image old) c → TornFrom at n (image old) c =
       λ c torn. (torn.0, torn.1, torn-wider a (length bytes) at n torn.0 c low high torn.2) in
       record {
-        told = told-wider (seen old) (seen new) a (length bytes) at n low high (told-write result (seen old) (seen new) a bytes starts written in_part);
+        in_part = told-wider (seen old) (seen new) a (length bytes) at n low high (told-write result (seen old) (seen new) a bytes starts written in_part);
         images = λ c left. wider c (images c left);
         any_moment = weaken moment image_since old new (TornFrom a (length bytes) (image old)) (TornFrom at n (image old)) wider run;
       }
@@ -132,14 +132,14 @@ module _ {D : Type 0} (seen : D → Option (List ℕ)) (image : D → List ℕ �
   module _ (only_now : (disk : D) (c : List ℕ) → image_since disk (moment disk) c → image disk c) where
     within-none : (at n : ℕ) (disk : D) → Within at n disk disk
     within-none at n disk = record {
-      told = told-none (seen disk) at n;
+      in_part = told-none (seen disk) at n;
       images = λ c left. torn-from at n (image disk) c left;
       any_moment = started moment image_since disk (TornFrom at n (image disk)) (λ c since. torn-from at n (image disk) c (only_now disk c since));
     }
 
     pub within-quiet : (at n : ℕ) (old new : D) → IsQuiet seen image moment image_since old new → Within at n old new
     within-quiet at n old new quiet = record {
-      told = subst (WrittenInPart (seen old) at n) (sym quiet.same) (told-none (seen old) at n);
+      in_part = subst (WrittenInPart (seen old) at n) (sym quiet.same) (told-none (seen old) at n);
       images = λ c left. torn-from at n (image old) c (quiet.images c left);
       any_moment = then_quiet moment image_since seen image old old new (TornFrom at n (image old)) (within-none at n old).any_moment quiet;
     }
