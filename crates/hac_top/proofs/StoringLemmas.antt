@@ -87,8 +87,8 @@ module _ {D : Type 0} {seen : D → Option (List ℕ)} {image : D → List ℕ �
   stops-written old new setting sink sink_after answered bytes (Ok done) same stores stored reported = tt
   stops-written old new setting sink sink_after answered bytes (Err WriteFault) same stores stored told =
       record { replies = subst (λ (xs : List ℕ). WritesSome sink sink_after xs × ReportsFault true sink.faults sink_after.faults) same told; stored = λ _. stored; stores = stores }
-  stops-written old new setting sink sink_after answered bytes (Err Memory) same stores stored reported = record { replies = told; stored = λ write. cc; stores = stores }
-  stops-written old new setting sink sink_after answered bytes (Err other) same stores stored reported = absurd told
+  stops-written old new setting sink sink_after answered bytes (Err Memory) same stores stored reported = record { replies = reported; stored = λ write. cc; stores = stores }
+  stops-written old new setting sink sink_after answered bytes (Err other) same stores stored reported = absurd reported
 
   -- a line that is refused stores nothing
   pub refused-written : (disk : D) (store now : Seen) (sink sink_after : SinkSeen) (refusal : Refusal) (result : Result (Unit {0}) Status) → now ≡ store → Bears (seen disk) store → Stores seen image moment image_since attached faults disk disk store.setting [] false →
@@ -144,7 +144,7 @@ module _ {D : Type 0} {seen : D → Option (List ℕ)} {image : D → List ℕ �
 
 -- a count that rose since a later moment rose since an earlier one
 pub told-since : (failed : Bool) (a b c : ℕ) → b ≡ a → ReportsFault failed b c → ReportsFault failed a c
-told-since failed a b c same reported = subst (λ (n : ℕ). ReportsFault failed n c) same told
+told-since failed a b c same reported = subst (λ (n : ℕ). ReportsFault failed n c) same reported
 
 -- Index steps that are stored in parts.
 
