@@ -4,3 +4,5 @@ pub mod LineLemmas
 pub mod SplitLemmas
 pub mod TurnLemmas
 pub mod SpaceLemmas
+pub mod WordListLemmas
+pub mod OrderLemmas

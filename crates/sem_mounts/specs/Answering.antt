@@ -1,4 +1,5 @@
--- What a space answers, given its documents. This file moves to hac_model once the state has documents.
+-- What a space answers, given its documents. This file moves to hac_model once the state has
+-- documents.
 use Rattle.std.specs.Prelude.{ℕ, All, IsTrue, List, filter, Option}
 use Rattle.std.specs.Cmp.Lexicographic.{slice_cmp}
 use Rattle.std.specs.List.Sorted.{IsStrictlySortedBy}

@@ -1,9 +1,12 @@
--- What a catalogue says: bytes with one document on a line, its name, a tab and its text. This file moves to hac_model
+-- What a catalogue says: bytes with one document on a line, its name, a tab and its text. This file
+-- moves to hac_model
 -- once the state has documents.
-use Rattle.std.specs.Prelude.{ℕ, ◌+◌, ◌-◌, ◌==◌, Bool, if◌then◌else◌, nat_lt, List, [], ◌∷◌, length, map, Option, Some, None, Result, Ok, Err}
+use Rattle.std.specs.Prelude.{ℕ, ◌+◌, ◌-◌, ◌==◌, Bool, if◌then◌else◌, nat_lt, List, [], ◌∷◌, length}
+use Rattle.std.specs.Prelude.{map, Option, Some, None, Result, Ok, Err}
 use Rattle.std.specs.BTreeMap.{insert_entry}
 use Rattle.std.specs.Cmp.Lexicographic.{slice_cmp}
-use Rattle.std.specs.List.{after_first, before_first, list_all, list_any, onto_first, position_or_len}
+use Rattle.std.specs.List.{after_first, before_first, list_all, list_any, onto_first}
+use Rattle.std.specs.List.{position_or_len}
 use Rattle.std.specs.Option.{ok_or, option_and_then, option_map}
 use Rattle.std.specs.Ordering.{nat_cmp}
 use Rattle.std.specs.Str.{bytes_eq}
@@ -58,7 +61,8 @@ names documents = map (λ document. document.0) documents
 abbrev pub has_name : List Document → List ℕ → Bool
 has_name documents name = list_any (bytes_eq name) (names documents)
 
--- the documents and one more, in the order of their names; none where one of them has its name already
+-- the documents and one more, in the order of their names; none where one of them has its name
+-- already
 abbrev pub with_document : List Document → Document → Option (List Document)
 with_document documents document =
     if has_name documents document.0 then None
@@ -70,7 +74,8 @@ with_line documents line =
     if list_all is_space line then Some documents
     else option_and_then (with_document documents) (document_of line)
 
--- the documents with those of some lines, or the number of the first bad line. The first line has the number n, and the
+-- the documents with those of some lines, or the number of the first bad line. The first line has
+-- the number n, and the
 -- lines may have so many bytes.
 unfoldable pub with_lines : ℕ → ℕ → List (List ℕ) → List Document → Result (List Document) ℕ
 with_lines n room [] documents = Ok documents

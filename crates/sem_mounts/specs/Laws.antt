@@ -2,7 +2,8 @@
 use Rattle.std.specs.Prelude.{◌≡◌, [], ◌∷◌, codes, Ok, Err}
 use Rattle.sem_mounts.specs.Catalogue.{catalogue}
 
--- documents stand in the order of their names, a blank line has none, a tab of a text is a byte of it, and the last line
+-- documents stand in the order of their names, a blank line has none, a tab of a text is a byte of
+-- it, and the last line
 -- may have no end
 abbrev pub FirstCatalogues : Type 0
 FirstCatalogues =
@@ -12,7 +13,8 @@ FirstCatalogues =
     × (catalogue (codes "a\tx\ty") ≡ Ok ((codes "a", codes "x\ty") ∷ []))
     × (catalogue (codes "a\t") ≡ Ok ((codes "a", []) ∷ []))
 
--- bad lines: a name that was there, a bad escape, a name with a slash, no name, no tab, and a line that begins with `#`
+-- bad lines: a name that was there, a bad escape, a name with a slash, no name, no tab, and a line
+-- that begins with `#`
 abbrev pub BadLines : Type 0
 BadLines =
     (catalogue (codes "a\tx\n\na\ty\nb") ≡ Err 3) × (catalogue (codes "a\tx\nb\t\\q\n") ≡ Err 2)

@@ -5,3 +5,4 @@ pub mod Laws
 pub mod Reading
 pub mod Seen
 pub mod Memory
+pub mod WordLists

@@ -1,5 +1,6 @@
 -- What spaces in memory are seen as, and which of their calls fail.
-use Rattle.std.specs.Prelude.{◌≡◌, ◌⊎◌, ◌↔◌, ℕ, Bool, true, false, if◌then◌else◌, Contains, IsFalse, IsTrue, List, map, Some, Result, Err}
+use Rattle.std.specs.Prelude.{◌≡◌, ◌⊎◌, ◌↔◌, ℕ, Bool, true, false, if◌then◌else◌, Contains, IsFalse}
+use Rattle.std.specs.Prelude.{IsTrue, List, map, Some, Result, Err}
 use Rattle.hac_outside.specs.Calls.{next_number}
 use Rattle.sem_mounts.specs.Seen.{Contents, SpacesSeen, has_entry, is_attached}
 use Rattle.sem_mounts.specs.declared.faults.AttachFault.{AttachFault}
@@ -37,7 +38,8 @@ abbrev pub is_out_of_memory : {A : Type 0} → Result A AttachFault → Bool
 is_out_of_memory (Err attach.Memory) = true
 is_out_of_memory other = false
 
--- a call has been counted, and a fault where it failed, as it does exactly where it is to; the plan of the spaces stays
+-- a call has been counted, and a fault where it failed, as it does exactly where it is to; the plan
+-- of the spaces stays
 pub record IsNextCall (old new : MemoryState) (failed : Bool) (Fails : Type 0) : Type 0 where
   pub fails : IsTrue failed ↔ Fails
   pub failing : new.failing ≡ old.failing

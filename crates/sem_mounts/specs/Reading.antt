@@ -14,7 +14,8 @@ IsCatalogueFault (Bad line) wanted = wanted ≡ Err line
 IsCatalogueFault Memory wanted = ⊤
 
 -- the call gave the documents that are wanted, or the bad line, unless memory ran out
-abbrev pub ReadsCatalogue : Result (List Document) CatalogueFault → Result (List Document) ℕ → Type 0
+abbrev pub ReadsCatalogue : Result (List Document) CatalogueFault → Result (List Document) ℕ →
+    Type 0
 ReadsCatalogue result wanted = Gives IsCatalogueFault result wanted
 
 -- the documents are these with what was to be added, or they can't take it

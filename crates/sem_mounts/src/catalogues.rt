@@ -5,11 +5,12 @@ ghost use Rattle.hac_model.specs.Bytes.{is_space};
 ghost use Rattle.sem_mounts.specs.Catalogue.{catalogue, content, with_line};
 ghost use Rattle.sem_mounts.specs.Reading.{Adds, ReadsCatalogue, with_spelled};
 
-use crate::documents::{Docs, IndexedText};
+use crate::documents::Docs;
 use crate::limits::CATALOGUE_LIMIT;
 use crate::splitting::split_once;
+use crate::texts::Texts;
 use bstr::ByteSlice;
-use hac_model::{Memory, Name, TEXT_LIMIT};
+use hac_model::{Memory, Name, TEXT_LIMIT, Text};
 use hac_names::{is_name, parse_text};
 use std::alloc::Global;
 use thiserror::Error;
@@ -44,7 +45,7 @@ impl From<Memory> for CatalogueFault {
 pub fn read_catalogue(alloc: Global, bytes: &[u8]) -> Result<Docs, CatalogueFault>
     ensures { ReadsCatalogue result (catalogue bytes.now) }
 {
-    let mut documents = Docs::new(alloc);
+    let mut documents = Texts::new(alloc);
     let mut room = CATALOGUE_LIMIT;
     let mut number = 1;
     for line in bytes.lines_with_terminator() {
@@ -54,7 +55,7 @@ pub fn read_catalogue(alloc: Global, bytes: &[u8]) -> Result<Docs, CatalogueFaul
         room -= line.len();
         number += 1;
     }
-    Ok(documents)
+    Ok(Docs::new(alloc, documents)?)
 }
 
 /// A line without its end.
@@ -77,7 +78,7 @@ fn is_blank(line: &[u8]) -> bool
 /// Adds the document of a line, where the line isn't blank. Where the line is bad it doesn't, and
 /// says so.
 #[tactic(auto, unfolding(crate::specs::Catalogue::with_line))]
-fn take_line(alloc: Global, documents: &mut Docs, line: &[u8]) -> Result<bool, Memory>
+fn take_line(alloc: Global, documents: &mut Texts, line: &[u8]) -> Result<bool, Memory>
     ensures { IfOk result (Adds (with_line documents.old line.now) documents.new) }
 {
     if is_blank(line) {
@@ -93,7 +94,7 @@ fn take_line(alloc: Global, documents: &mut Docs, line: &[u8]) -> Result<bool, M
 /// where there is a document of the name, it doesn't, and says so.
 fn take_document(
     alloc: Global,
-    documents: &mut Docs,
+    documents: &mut Texts,
     name: &[u8],
     bytes: &[u8],
 ) -> Result<bool, Memory>
@@ -105,7 +106,7 @@ fn take_document(
     match parse_text(alloc, bytes)? {
         Some(text) if text.len() as u64 <= TEXT_LIMIT => {
             let name = Name::new(name.to_vec(alloc)?);
-            documents.add(name, IndexedText::new(alloc, text)?)
+            documents.add(name, Text::new(text))
         }
         _ => Ok(false),
     }

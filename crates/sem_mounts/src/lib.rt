@@ -13,9 +13,11 @@ mod limits;
 mod memory;
 mod spaces;
 mod splitting;
+mod texts;
+mod word_lists;
 
 pub use catalogues::{CatalogueFault, read_catalogue};
-pub use documents::{Docs, IndexedText};
+pub use documents::Docs;
 pub use faults::{AttachFault, SpaceFault};
 pub use files::CatalogueSpaces;
 pub use gathering::{GatherFault, gather};

@@ -6,13 +6,12 @@ ghost use Rattle.std.specs.Map.{lookup};
 ghost use Rattle.std.specs.Option.{option_copied, option_map};
 ghost use Rattle.std.specs.Str.{bytes_eq};
 ghost use Rattle.hac_outside.specs.Calls.{next_number};
-ghost use Rattle.hac_outside.specs.Causes.{ReportsFault};
 ghost use Rattle.sem_mounts.specs.Answering.{AreRisingNames, names_with, text_at};
 ghost use Rattle.sem_mounts.specs.Catalogue.{names};
 ghost use Rattle.sem_mounts.specs.Memory.{FailsToAnswer, FailsToAttach, IsNextCall};
 ghost use Rattle.sem_mounts.specs.Memory.{is_out_of_memory};
-ghost use Rattle.sem_mounts.specs.Seen.{AreAsked, Attaches, IsSaid, has_entry, is_absent};
-ghost use Rattle.sem_mounts.specs.Seen.{is_attach_failed, is_attached, is_failed};
+ghost use Rattle.sem_mounts.specs.Seen.{AreAsked, Attaches, CountsFault, IsSaid, has_entry};
+ghost use Rattle.sem_mounts.specs.Seen.{is_absent, is_attach_failed, is_attached, is_failed};
 
 use crate::catalogues::read_catalogue;
 use crate::documents::Docs;
@@ -93,7 +92,7 @@ impl Spaces for MemorySpaces {
             ≡ (if is_ok result then (seen_of self.old).attached ++ name.now ∷ []
             else (seen_of self.old).attached) }
         ensures contents { Attaches name.now file.now result self.old.contents self.new.contents }
-        ensures cause { ReportsFault (is_attach_failed result) self.old.faults self.new.faults }
+        ensures cause { CountsFault (is_attach_failed result) self.old.faults self.new.faults }
 
         // Which calls fail, where there is memory.
         ensures plan { IsNextCall self.old self.new (is_attach_failed result)
@@ -109,7 +108,7 @@ impl Spaces for MemorySpaces {
         Ok(())
     }
 
-    #[tactic(auto, using(crate::proofs::SpaceLemmas::told_fault))]
+    #[tactic(auto, using(crate::proofs::SpaceLemmas::counted_fault))]
     fn list(&mut self, name: &Name) -> Result<Vec<Name>, SpaceFault>
         ensures asked { AreAsked (seen_of self.old) (seen_of self.new) name.now result }
         ensures rising { IfOk result (λ found. AreRisingNames found.items) }
@@ -121,7 +120,7 @@ impl Spaces for MemorySpaces {
         Ok(asked(&mut self.calls, &self.spaces, name)?.names()?)
     }
 
-    #[tactic(auto, using(crate::proofs::SpaceLemmas::told_fault))]
+    #[tactic(auto, using(crate::proofs::SpaceLemmas::counted_fault))]
     fn search(&mut self, name: &Name, term: &Term) -> Result<Vec<Name>, SpaceFault>
         ensures asked { AreAsked (seen_of self.old) (seen_of self.new) name.now result }
         ensures said { IfOk result (λ found. IsSaid (seen_of self.old) name.now
@@ -132,7 +131,7 @@ impl Spaces for MemorySpaces {
         Ok(asked(&mut self.calls, &self.spaces, name)?.names_with(term)?)
     }
 
-    #[tactic(auto, using(crate::proofs::SpaceLemmas::told_fault))]
+    #[tactic(auto, using(crate::proofs::SpaceLemmas::counted_fault))]
     fn fetch(&mut self, name: &Name, document: &Name) -> Result<Option<Vec<u8>>, SpaceFault>
         ensures asked { AreAsked (seen_of self.old) (seen_of self.new) name.now result }
         ensures said { IfOk result (λ text. IsSaid (seen_of self.old) name.now

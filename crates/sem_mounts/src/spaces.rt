@@ -2,12 +2,11 @@
 ghost use Rattle.std.specs.Prelude.{◌≡◌, ◌++◌, ◌∷◌, [], IfOk, IfSome, false, if◌then◌else◌, is_ok};
 ghost use Rattle.std.specs.Prelude.{map};
 ghost use Rattle.std.specs.Option.{option_map};
-ghost use Rattle.hac_outside.specs.Causes.{ReportsFault};
 ghost use Rattle.hac_outside.specs.Known.{Known};
 ghost use Rattle.sem_mounts.specs.Answering.{AreRisingNames, names_with, text_at};
 ghost use Rattle.sem_mounts.specs.Catalogue.{names};
-ghost use Rattle.sem_mounts.specs.Seen.{AreAsked, Attaches, IsSaid, SpacesSeen, is_attach_failed};
-ghost use Rattle.sem_mounts.specs.Seen.{is_attached};
+ghost use Rattle.sem_mounts.specs.Seen.{AreAsked, Attaches, CountsFault, IsSaid, SpacesSeen};
+ghost use Rattle.sem_mounts.specs.Seen.{is_attach_failed, is_attached};
 
 use crate::faults::{AttachFault, SpaceFault};
 use hac_model::{Name, Term};
@@ -26,7 +25,7 @@ pub trait Spaces {
             else (seen self.old).attached) }
         ensures contents { Known (Attaches name.now file.now result)
             (seen self.old).contents (seen self.new).contents }
-        ensures cause { ReportsFault (is_attach_failed result)
+        ensures cause { CountsFault (is_attach_failed result)
             (seen self.old).faults (seen self.new).faults };
 
     /// The names of the documents of a space, rising.

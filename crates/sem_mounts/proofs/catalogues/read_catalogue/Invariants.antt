@@ -2,7 +2,8 @@ use Rattle.std.proofs.Common.{◌≡◌, ◌+◌, ◌≤◌, length}
 use Rattle.sem_mounts.specs.Catalogue.{catalogue, with_lines}
 use Rattle.sem_mounts.proofs.catalogues.read_catalogue.Given as goal
 
--- the lines that are left, among the documents so far, give what all lines give; and there are no more lines than bytes
+-- the lines that are left, among the documents so far, give what all lines give; and there are no
+-- more lines than bytes
 abbrev pub invariant-loop-line : goal.invariant-loop-line
 invariant-loop-line l =
     (goal.iterator-loop-line).can_next l.line-iterator

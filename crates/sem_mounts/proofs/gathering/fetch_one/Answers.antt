@@ -9,4 +9,6 @@ returns-in-Ok-clause-said g c =
     let given = c.in-Ok.ensures in
     let fetch = c.args.fetch.now in
     let text = option_map (λ text. text.items) c.in-Ok.bytes in
-    rw c.text_of.ensures (told (g.P.Spaces.seen c.args.spaces.now) fetch.space (λ documents. text_at documents fetch.document) text (g.met.P.Spaces.told c.args.spaces.now) given.asked.absent given.said)
+    rw c.text_of.ensures (told (g.P.Spaces.seen c.args.spaces.now) fetch.space (λ documents. text_at
+    documents fetch.document) text (g.met.P.Spaces.told c.args.spaces.now) given.asked.absent
+    given.said)

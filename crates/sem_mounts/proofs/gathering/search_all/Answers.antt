@@ -10,8 +10,11 @@ pub returns-in_err-search_one-clause-asked : goal.returns-in_err-search_one-clau
 returns-in_err-search_one-clause-asked g c =
     let seen = g.P.Spaces.seen in
     let same : c.from_residual.result ≡ Err c.in_err-search_one.field-0.0 = search rules in
-    rw same (next-stops (seen c.args.spaces.now) (seen c.loop-question.spaces) (seen c.search_one.new.spaces) c.args.searches.now c.loop-question.question-index c.question-item.result c.in_err-search_one.field-0.0
-    c.loop-question-test.true c.question-item.is c.loop-question.invariant.asked c.in_err-search_one.ensures.asked)
+    rw same (next-stops (seen c.args.spaces.now) (seen c.loop-question.spaces) (seen
+    c.search_one.new.spaces) c.args.searches.now c.loop-question.question-index
+    c.question-item.result c.in_err-search_one.field-0.0
+    c.loop-question-test.true c.question-item.is c.loop-question.invariant.asked
+    c.in_err-search_one.ensures.asked)
 
 pub loop-question-preserved : goal.loop-question-preserved
 loop-question-preserved g c =
@@ -19,10 +22,15 @@ loop-question-preserved g c =
     let was = c.loop-question.invariant in
     let given = c.in_ok-search_one.ensures in
     record {
-      asked = next-asked (seen c.args.spaces.now) (seen c.loop-question.spaces) (seen c.search_one.new.spaces) c.args.searches.now c.loop-question.question-index c.question-item.result c.in_ok-search_one.field-0
+      asked = next-asked (seen c.args.spaces.now) (seen c.loop-question.spaces) (seen
+          c.search_one.new.spaces) c.args.searches.now c.loop-question.question-index
+          c.question-item.result c.in_ok-search_one.field-0
           c.loop-question-test.true c.question-item.is was.asked given.asked;
       count = ap length c.in_ok-push.ensures.ok ∙ length_push _ _ ∙ ap (λ (n : ℕ). n + 1) was.count;
-      said = next-said (seen c.args.spaces.now).contents (seen c.loop-question.spaces).contents (λ contents question. names_with (documents_in contents question.space) question.term)
-          c.args.searches.now c.loop-question.question-index c.question-item.result c.loop-question.found.items c.push.new.list.items c.in_ok-search_one.field-0
-          c.loop-question-test.true c.question-item.is was.asked.contents c.in_ok-push.ensures.ok was.said given.said;
+      said = next-said (seen c.args.spaces.now).contents (seen c.loop-question.spaces).contents (λ
+          contents question. names_with (documents_in contents question.space) question.term)
+          c.args.searches.now c.loop-question.question-index c.question-item.result
+          c.loop-question.found.items c.push.new.list.items c.in_ok-search_one.field-0
+          c.loop-question-test.true c.question-item.is was.asked.contents c.in_ok-push.ensures.ok
+          was.said given.said;
     }

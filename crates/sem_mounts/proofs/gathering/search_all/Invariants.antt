@@ -9,8 +9,10 @@ abbrev pub invariant-loop-question : goal.invariant-loop-question
 invariant-loop-question g l =
     let seen = g.P.Spaces.seen in
     record {
-      asked : AreGathered {A = Unit {0}} (seen l.initial.spaces) (seen l.spaces) (map (λ question. question.space) (take l.question-index l.searches)) (Ok tt);
+      asked : AreGathered {A = Unit {0}} (seen l.initial.spaces) (seen l.spaces) (map (λ question.
+          question.space) (take l.question-index l.searches)) (Ok tt);
       count : length l.found.items ≡ l.question-index;
       said : IfSome (seen l.initial.spaces).contents (λ contents.
-          l.found.items ≡ map (λ question. names_with (documents_in contents question.space) question.term) (take l.question-index l.searches));
+          l.found.items ≡ map (λ question. names_with (documents_in contents question.space)
+          question.term) (take l.question-index l.searches));
     }

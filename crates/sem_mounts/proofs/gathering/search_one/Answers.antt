@@ -7,4 +7,6 @@ pub returns-in-Ok-clause-said : goal.returns-in-Ok-clause-said
 returns-in-Ok-clause-said g c =
     let given = c.in-Ok.ensures in
     let question = c.args.question.now in
-    rw c.new.ensures (told (g.P.Spaces.seen c.args.spaces.now) question.space (λ documents. names_with documents question.term) c.in-Ok.found.items (g.met.P.Spaces.told c.args.spaces.now) given.asked.absent given.said)
+    rw c.new.ensures (told (g.P.Spaces.seen c.args.spaces.now) question.space (λ documents.
+    names_with documents question.term) c.in-Ok.found.items (g.met.P.Spaces.told
+    c.args.spaces.now) given.asked.absent given.said)

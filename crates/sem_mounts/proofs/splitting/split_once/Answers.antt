@@ -5,7 +5,8 @@ use Rattle.sem_mounts.proofs.splitting.split_once.Goals as goal
 
 pub returns-in_err-place : goal.returns-in_err-place
 returns-in_err-place c =
-    rw c.from_residual.ensures (split_once-none (λ b. b == c.args.byte) c.args.bytes.now (rw c.in_err-place.was at c.find_byte.ensures))
+    rw c.from_residual.ensures (split_once-none (λ b. b == c.args.byte) c.args.bytes.now (rw
+    c.in_err-place.was at c.find_byte.ensures))
 
 pub returns : goal.returns
 returns c =

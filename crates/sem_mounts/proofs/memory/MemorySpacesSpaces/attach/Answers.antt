@@ -8,8 +8,15 @@ pub returns-clause-contents : goal.returns-clause-contents
 returns-clause-contents c =
     let says = rw c.as_slice.ensures at c.in_ok-documents.ensures in (
       c.in_ok-documents.documents,
-      rw (← c.self.view_is) (says-found c.args.file.now c.self.inside.files.items c.in_ok-bytes.bytes.now c.in_ok-documents.documents (rw c.deref.ensures.value at c.in_ok-bytes.ensures.bytes) says),
-      rw (← c.self.view_is, c.in_ok-push.ensures.ok, c.in_default.ensures.ok, c.in_ok-copy_of.ensures) refl,
+      rw (← c.self.view_is) (says-found c.args.file.now c.self.inside.files.items
+          c.in_ok-bytes.bytes.now c.in_ok-documents.documents (rw c.deref.ensures.value at
+          c.in_ok-bytes.ensures.bytes) says),
+      rw (
+        ← c.self.view_is,
+        c.in_ok-push.ensures.ok,
+        c.in_default.ensures.ok,
+        c.in_ok-copy_of.ensures,
+      ) refl,
     )
 
 pub returns-in_err-bytes-clause-plan : goal.returns-in_err-bytes-clause-plan

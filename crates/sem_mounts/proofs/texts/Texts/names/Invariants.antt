@@ -1,5 +1,5 @@
 use Rattle.std.proofs.Common.{◌≡◌, ◌++◌}
-use Rattle.sem_mounts.proofs.documents.Docs.names.Given as goal
+use Rattle.sem_mounts.proofs.texts.Texts.names.Given as goal
 
 -- the names so far, and those that are left
 abbrev pub invariant-loop-name : goal.invariant-loop-name
