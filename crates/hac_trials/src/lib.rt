@@ -1,23 +1,13 @@
-//! Trials of what no transcript can say: devices that fail, scripts that come in pieces, and calls
-//! that the program doesn't make yet, once each with ample memory. There is nothing here for other
-//! crates.
+//! Trials of what no transcript can say: devices that fail, scripts that come in pieces, and which
+//! events fit the machine. The trials of the crates below it have a crate of their own. There is
+//! nothing here for other crates.
 #![tactic(auto)]
 
 #[cfg(test)]
-mod areas;
-#[cfg(test)]
-mod calls;
-#[cfg(test)]
 mod devices;
 #[cfg(test)]
-mod files;
-#[cfg(test)]
-mod logs;
-#[cfg(test)]
-mod payloads;
+mod machines;
 #[cfg(test)]
 mod runs;
 #[cfg(test)]
 mod stores;
-#[cfg(test)]
-mod streams;
