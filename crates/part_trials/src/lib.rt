@@ -8,6 +8,8 @@ mod areas;
 #[cfg(test)]
 mod catalogues;
 #[cfg(test)]
+mod commands;
+#[cfg(test)]
 mod files;
 #[cfg(test)]
 mod gathering;
