@@ -5,7 +5,7 @@ use Rattle.std.proofs.lemmas.Bool.{and_parts}
 use Rattle.hac_model.specs.Tree.Events.{accepted, apply, is_free, is_possible, may_mark}
 use Rattle.hac_model.specs.Tree.Facts.{Facts, joined}
 use Rattle.hac_model.specs.Query.Formula.{Formula}
-use Rattle.hac_model.specs.Tree.Limits.{is_text, passed}
+use Rattle.hac_model.specs.Tree.Limits.{is_text, passed_limit}
 use Rattle.hac_model.specs.Tree.Links.{is_item, is_semantic}
 use Rattle.hac_model.specs.Tree.{is_directory_at}
 use Rattle.hac_model.specs.declared.events.Event.{Event}
@@ -20,7 +20,7 @@ free-directory : (facts : ℕ → Facts) (t : State) (dir : ℕ) (name : List �
 free-directory facts t dir name free = sym (same-directory (joined facts t) t (bare-joined facts t) dir) ∙ (free-parts (joined facts t) dir name free).0
 
 pub possible-of : (s : State) (e : Event) → IsTrue (accepted s e) → is_possible s e ≡ true
-possible-of s e ok = (accepted-parts (is_possible s e) (passed (apply s e)) ok).0
+possible-of s e ok = (accepted-parts (is_possible s e) (passed_limit (apply s e)) ok).0
 
 module _ (facts : ℕ → Facts) (t : State) (e : Event) (ok : IsTrue (accepted (joined facts t) e)) where
   pub mkdir-directory : (dir : ℕ) (name : List ℕ) → e ≡ event.Mkdir dir name → is_directory_at t.entries dir ≡ true
