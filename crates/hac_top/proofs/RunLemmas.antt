@@ -100,7 +100,7 @@ module _ (first : Setting) where
 
     pub state-is : setting.state ≡ apply_all first.state (all_events (turns_of first goes.played goes.last))
     state-is =
-        ap (λ (z : Setting). z.state) (goes.left_is ∙ ap (left_by first) items-are) ∙ states-lead first (script goes.played ++ first_items goes.last)
+        ap (λ (z : Setting). z.state) (goes.left_is ∙ ap (left_by first) items-are) ∙ states-lead nothing_given first (script goes.played ++ first_items goes.last)
         ∙ ap (λ (ts : List Turn). apply_all first.state (all_events ts)) (sym items-are)
 
     pub turns-are : play nothing_given first s ≡ turns_of first goes.played goes.last ++ play nothing_given setting p
@@ -299,11 +299,11 @@ module _ (first : Setting) where
         | inl place ↦
             subst (λ (n : ℕ). IsTreeOfAnswered first.state (play nothing_given first s) n (left_by setting now).state) (sym place)
             (some-answered first.state setting.state (left_by setting now).state setting (play nothing_given first s) done items rest all_is (few-items line setting) state_is
-            (tree-all setting.state (left_by setting now).state (all_events now) (states-lead setting items)))
+            (tree-all setting.state (left_by setting now).state (all_events now) (states-lead nothing_given setting items)))
         | inr place ↦
             subst (λ (n : ℕ). IsTreeOfAnswered first.state (play nothing_given first s) n (left_by setting now).state) (sym place)
             (all-answered first.state (left_by setting now).state setting (play nothing_given first s) (done ++ now) rest (all_is ∙ sym (append_assoc done now rest))
-            (states-lead setting items ∙ ap (λ (t : State). apply_all t (all_events now)) state_is ∙ sym (apply_all-append (all_events done) (all_events now) first.state) ∙ ap (apply_all first.state) (sym (all_events-append done now))))
+            (states-lead nothing_given setting items ∙ ap (λ (t : State). apply_all t (all_events now)) state_is ∙ sym (apply_all-append (all_events done) (all_events now) first.state) ∙ ap (apply_all first.state) (sym (all_events-append done now))))
       ] in
       record {
         plays = record {

@@ -2,7 +2,7 @@ use Rattle.std.proofs.Common.{◌≡◌, true, false, ap, rules, subst, sym, ◌
 use Rattle.std.specs.Prelude.{Ok, []}
 use Rattle.hac_core.specs.Drafts.{reads}
 use Rattle.hac_model.specs.Run.Answers.{Refuses}
-use Rattle.hac_model.specs.Run.Play.{command_turn, nothing_given}
+use Rattle.hac_model.specs.Run.Play.{command_turn, no_answers, nothing_given}
 use Rattle.hac_model.specs.Run.Refusals.{cause}
 use Rattle.hac_model.specs.declared.replies.Deny.{Deny}
 use Rattle.hac_model.specs.declared.replies.Reply.{Reply}
@@ -34,4 +34,4 @@ returns-in-Err c =
     decides-denied c.in-Err.deny c.refused.result c.args.machine.now.state (λ setting. command_turn nothing_given setting (Ok command)) c.refused.ensures
     (λ why is setting same.
     refused-turn setting (Ok command) why
-    (ap (λ (t : State). cause t command) same ∙ subst (λ (deny : Deny). Refuses deny (cause c.args.machine.now.state command)) is (c.in-Err.ensures.refused command for)))
+    (ap (λ (t : State). cause no_answers t command) same ∙ subst (λ (deny : Deny). Refuses deny (cause no_answers c.args.machine.now.state command)) is (c.in-Err.ensures.refused command for)))
