@@ -7,7 +7,7 @@ pub fn new_edges_keep_off()
     ensures { NewEdgesKeepOff }
 {}
 
-/// If one does, the directory is reached from itself after that.
+/// If a new edge does reach the directory, the directory then reaches itself.
 pub fn new_edges_return()
     ensures { NewEdgesReturn }
 {}

@@ -12,7 +12,7 @@ pub struct Part {
     pub nesting: u64,
 }
 
-/// What comes before an operand, from the last open parenthesis on.
+/// Before the operand that is wanted: what stands there from the last open parenthesis on.
 #[derive(Debug, Drop)]
 pub struct Level {
     /// What an `OR` joins to what follows.
@@ -32,7 +32,7 @@ pub struct Wanted {
     pub outer: Pile<Level>,
 }
 
-/// What ends with an operand.
+/// After an operand: that operand, and what stands before it.
 #[derive(Debug, Drop)]
 pub struct Ended {
     /// What an `OR` joins to the part, from the last open parenthesis on.

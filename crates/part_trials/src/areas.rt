@@ -18,20 +18,39 @@ const STATE: [u8; 20] = *b"\x02\x02\0\0\0\x01\0\0\0\x01\0\0\0\0\0\0\0\x01a\x02";
 #[test]
 fn areas_take_turns(rt: HostRuntime) -> Result<(), Fail> {
     let mut disk = FileDisk::new(&rt);
-    assert_eq!(rt; disk.attach("hac_area_test.store", true), Ok(()));
-    assert_eq!(rt; disk.write_at(0, &STORE), Ok(()));
+    expect_store(&rt, &mut disk);
     assert_eq!(rt; write_area(&mut disk, 78, &STATE), Ok(103));
     expect_flip(&rt, &mut disk, root(Slot::A, 1, 64), root(Slot::B, 2, 78));
     assert_eq!(rt; write_area(&mut disk, 64, b"hi"), Ok(71));
     expect_flip(&rt, &mut disk, root(Slot::B, 2, 78), root(Slot::A, 3, 64));
-    let mut bytes = [0; 17];
-    assert_eq!(rt; disk.read_at(26, &mut bytes), Ok(()));
-    assert_eq!(rt; bytes, *b"\x01\x02\0\0\0\0\0\0\0\x4e\0\0\0\0\0\0\0");
-    assert_eq!(rt; disk.read_at(62, &mut bytes), Ok(()));
-    assert_eq!(rt; bytes, *b"\0\0\x01\x02\0\0\0hi\0\0\0\0\x01a\0\x01");
+    expect_bytes(
+        &rt,
+        &mut disk,
+        26,
+        b"\x01\x02\0\0\0\0\0\0\0\x4e\0\0\0\0\0\0\0",
+    );
+    expect_bytes(
+        &rt,
+        &mut disk,
+        62,
+        b"\0\0\x01\x02\0\0\0hi\0\0\0\0\x01a\0\x01",
+    );
     drop(disk);
     fs::remove_file(&rt, "hac_area_test.store")?;
     Ok(())
+}
+
+/// The file is made, and the store is written to it.
+fn expect_store(rt: &impl Abort, disk: &mut FileDisk<'_>) {
+    assert_eq!(rt; disk.attach("hac_area_test.store", true), Ok(()));
+    assert_eq!(rt; disk.write_at(0, &STORE), Ok(()));
+}
+
+/// What the file has at a place.
+fn expect_bytes(rt: &impl Abort, disk: &mut FileDisk<'_>, at: u64, want: &[u8; 17]) {
+    let mut bytes = [0; 17];
+    assert_eq!(rt; disk.read_at(at, &mut bytes), Ok(()));
+    assert_eq!(rt; bytes, *want);
 }
 
 /// The one root counts up to the second half of the flip, and the other from then on.

@@ -8,10 +8,12 @@ use word_index::Index;
 
 #[test]
 fn item_has_its_words(rt: HostRuntime) -> Result<(), Fail> {
-    let index = indexed(rt.alloc(), b"Apples, or a pie")?;
+    let mut index = Index::new(rt.alloc())?;
+    let given = give(rt.alloc(), &mut index, 7, b"Apples, or a pie");
     let own = has_terms(rt.alloc(), &index, 7);
     let other = has_terms(rt.alloc(), &index, 8);
     drop(index);
+    given?;
     assert_eq!(rt; own?, [false, true, true]);
     assert_eq!(rt; other?, [false, false, false]);
     Ok(())
@@ -20,48 +22,51 @@ fn item_has_its_words(rt: HostRuntime) -> Result<(), Fail> {
 #[test]
 fn words_are_only_prepared(rt: HostRuntime) -> Result<(), Fail> {
     let mut index = Index::new(rt.alloc())?;
-    index.prepare(Number::new(7), words_of(rt.alloc(), b"apple pie")?)?;
+    let prepared = prepare(rt.alloc(), &mut index, 7, b"apple pie");
     let own = has_terms(rt.alloc(), &index, 7);
     drop(index);
+    prepared?;
     assert_eq!(rt; own?, [false, false, false]);
     Ok(())
 }
 
 #[test]
 fn words_are_put_in_place_of_others(rt: HostRuntime) -> Result<(), Fail> {
-    let mut index = indexed(rt.alloc(), b"a pie")?;
-    give(rt.alloc(), &mut index, 7, b"an apple")?;
+    let mut index = Index::new(rt.alloc())?;
+    let first = give(rt.alloc(), &mut index, 7, b"a pie");
+    let second = give(rt.alloc(), &mut index, 7, b"an apple");
     let own = has_terms(rt.alloc(), &index, 7);
     drop(index);
+    first?;
+    second?;
     assert_eq!(rt; own?, [true, false, true]);
     Ok(())
 }
 
 #[test]
 fn item_is_dropped(rt: HostRuntime) -> Result<(), Fail> {
-    let mut index = indexed(rt.alloc(), b"apple pie")?;
-    give(rt.alloc(), &mut index, 8, b"apple pie")?;
+    let mut index = Index::new(rt.alloc())?;
+    let first = give(rt.alloc(), &mut index, 7, b"apple pie");
+    let second = give(rt.alloc(), &mut index, 8, b"apple pie");
     index.drop_item(Number::new(7));
     let own = has_terms(rt.alloc(), &index, 7);
     let other = has_terms(rt.alloc(), &index, 8);
     drop(index);
+    first?;
+    second?;
     assert_eq!(rt; own?, [false, false, false]);
     assert_eq!(rt; other?, [true, true, true]);
     Ok(())
 }
 
-/// An index in which item 7 has the words of a text.
-fn indexed(alloc: Global, text: &[u8]) -> Result<Index, Memory> {
-    let mut index = Index::new(alloc)?;
-    match give(alloc, &mut index, 7, text) {
-        Ok(()) => Ok(index),
-        Err(error) => Err(error),
-    }
+/// Prepares the words of a text for an item.
+fn prepare(alloc: Global, index: &mut Index, item: u64, text: &[u8]) -> Result<(), Memory> {
+    index.prepare(Number::new(item), words_of(alloc, text)?)
 }
 
 /// An item gets the words of a text.
 fn give(alloc: Global, index: &mut Index, item: u64, text: &[u8]) -> Result<(), Memory> {
-    index.prepare(Number::new(item), words_of(alloc, text)?)?;
+    prepare(alloc, index, item, text)?;
     index.put();
     Ok(())
 }
