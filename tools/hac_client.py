@@ -18,7 +18,7 @@ import time
 from dataclasses import dataclass
 from pathlib import Path
 from types import TracebackType
-from typing import Callable, Dict, List, NoReturn, Optional, Tuple, Type
+from typing import Callable, Dict, List, NoReturn, Optional, Set, Tuple, Type
 
 TOP = Path(__file__).resolve().parent.parent
 
@@ -41,6 +41,7 @@ CAUSES: Dict[str, str] = {
     "under": "a directory can't be moved into itself",
     "not-empty": "the directory at this path isn't empty",
     "referenced": "the query of this directory names the one that was to be removed",
+    "busy": "this session stands in the directory that was to be removed",
     "not-linked": "the file isn't a link of that directory",
     "already": "the file is already a permanent link of that directory",
     "no-mark": "the file has no mark in that directory",
@@ -55,6 +56,7 @@ CAUSES: Dict[str, str] = {
     "limit dirs": "a store has at most 10,000 directories",
     "limit semantics": "a store has at most 1,000 semantic directories",
     "limit path": "a path has at most 64 names",
+    "limit sessions": "at most 64 sessions may stand elsewhere than in the root",
     "limit items": "a store has at most 65,536 files",
     "limit numbers": "a store has used up its numbers for new entries",
     "limit store": "the store file has its greatest length",
@@ -134,8 +136,14 @@ class Reply:
         return unspelled(self.lines[0][2:])
 
 
+_SESSION = re.compile(rb" *@([A-Za-z0-9_-]{1,32}) ")
+
+
 class Hac:
     """A run of hac on a store. While it lasts no other tool has the store.
+
+    A script has a greatest length. Before it would be passed, a new run begins, and its sessions go to where those of
+    the last one stood.
 
     The lock lies in a file beside the store. The program holds it too, so that after a tool was killed the next one
     waits until that program has ended.
@@ -146,6 +154,7 @@ class Hac:
         self.store = store
         self._program = find_program()
         self._lock = _locked(store, wait)
+        self._sessions: Set[bytes] = {b"main"}
         try:
             self._kept = () if self._lock is None else (self._lock,)
             if make and not store.exists():
@@ -174,19 +183,13 @@ class Hac:
         if is_silent(line) or b"\n" in line:
             raise ValueError(f"not a command: {line!r}")
         script = line + b"\n" + (body or b"")
-        if self._process.returncode is not None:
-            raise self._stopped()
-        if self._sent + len(script) > MAX_SCRIPT:
-            self._end()
-            self._process = self._start()
-        self._sent += len(script)
-        assert self._process.stdin is not None
-        try:
-            self._process.stdin.write(script)
-            self._process.stdin.flush()
-        except BrokenPipeError:
-            pass  # The replies end too, and then its status tells why.
-        return self._reply()
+        named = _SESSION.match(line)
+        if named:
+            self._sessions.add(named[1])
+        # A `pwd` of each session, which has 38 bytes at most, is to fit behind it.
+        if self._sent + len(script) + 38 * len(self._sessions) > MAX_SCRIPT:
+            self._go_on()
+        return self._answered(script)
 
     def put(self, path: bytes, text: bytes) -> Reply:
         return self.ask(b"put %s %d" % (word(path), len(text)), text)
@@ -227,6 +230,28 @@ class Hac:
             if not reply.ok and reply.refusal != b"exists " + made:
                 return reply
         return self.ls(path)
+
+    def _go_on(self) -> None:
+        """Begins a new run, with each session where it stands."""
+        places = {name: self._answered(b"@%s pwd\n" % name).lines[0][2:] for name in sorted(self._sessions)}
+        self._end()
+        self._process = self._start()
+        for name, place in places.items():
+            if place != b"/":
+                self._answered(b"@%s cd %s\n" % (name, word(place)))
+
+    def _answered(self, script: bytes) -> Reply:
+        """The reply to a line with the bytes that belong to it."""
+        if self._process.returncode is not None:
+            raise self._stopped()
+        self._sent += len(script)
+        assert self._process.stdin is not None
+        try:
+            self._process.stdin.write(script)
+            self._process.stdin.flush()
+        except BrokenPipeError:
+            pass  # The replies end too, and then its status tells why.
+        return self._reply()
 
     def _start(self) -> subprocess.Popen:
         self._sent = 0

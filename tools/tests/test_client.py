@@ -111,6 +111,18 @@ class Replies(ToolTest):
         # Three puts of 300 bytes and their lines are a script of less than 1,000, four are more.
         self.assertEqual((self.made / "runs").read_text(), "run\n" * 3)
 
+    def test_a_new_run_goes_on_where_sessions_stand(self) -> None:
+        self.make_store("mkdir /d", "mkdir /e", "mkdir /f")
+        with patch("hac_client.MAX_SCRIPT", 1000), Hac(self.store) as run:
+            for line in (b"cd /d", b"@bob cd /e", b"@amy cd /f", b'mv /f "/g h"'):
+                self.assertTrue(run.ask(line).ok)
+            for count in range(9):
+                self.assertTrue(run.ask(b"put %d 300" % count, b"x" * 300).ok)
+                self.assertTrue(run.ask(b" @bob  put %d 300" % count, b"x" * 300).ok)
+            self.assertEqual(len(run.ls(b"/d").lines), 9)
+            self.assertEqual(len(run.ls(b"/e").lines), 9)
+            self.assertEqual(run.ask(b"@amy pwd").lines, (b"= /g h",))
+
     def test_a_store_is_made_whole(self) -> None:
         with Hac(self.store, make=True):
             pass

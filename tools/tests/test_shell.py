@@ -52,10 +52,10 @@ class Terminal:
             seen += piece
         return seen.decode("utf-8", "replace").replace("\r\n", "\n")
 
-    def typed(self, keys: str) -> str:
+    def typed(self, keys: str, prompt: str = PROMPT) -> str:
         """What is shown when a line was typed, from its echo to the next prompt."""
         os.write(self.keys, keys.encode("utf-8", "surrogateescape") + b"\n")
-        return self.until(PROMPT)[: -len(PROMPT)]
+        return self.until(prompt)[: -len(prompt)]
 
     def close(self) -> None:
         """Ends a session that a test left."""
@@ -117,6 +117,25 @@ class Session(ToolTest):
         self.assertEqual(terminal.typed("ls"), "ls\nd a\nok\n")
         self.assertEqual(terminal.end(), 0)
 
+    def test_the_prompt_shows_where_the_session_stands(self) -> None:
+        terminal = self.begun("mkdir /a", 'mkdir "/a/to do"', "write /a/x apple")
+        self.assertEqual(terminal.typed("cd /a", "store:/a> "), "cd /a\nok\n")
+        self.assertEqual(terminal.typed("ls", "store:/a> "), "ls\nd to do\nf x\nok\n")
+        self.assertEqual(terminal.typed("cd none", "store:/a> "), "cd none\nno no-path /a/none\n")
+        self.assertEqual(terminal.typed('cd "to do"', "store:/a/to do> "), 'cd "to do"\nok\n')
+        self.assertEqual(terminal.typed("mv /a /ä", "store:/ä/to do> "), "mv /a /ä\nok\n")
+        self.assertEqual(terminal.typed("cat ../x", "store:/ä/to do> "), "cat ../x\n= apple\nok\n")
+        self.assertEqual(terminal.typed("cd"), "cd\nok\n")
+
+    def test_another_session(self) -> None:
+        terminal = self.begun("mkdir /a", "write /a/x apple")
+        self.assertEqual(terminal.typed("@bob cd /a"), "@bob cd /a\nok\n")
+        self.assertEqual(terminal.typed(" @bob  cat x"), " @bob  cat x\n= apple\nok\n")
+        self.assertEqual(terminal.typed("@bob find a b"), f"@bob find a b\n{' ' * (len(PROMPT) + 12)}^ no bad-query 3\n")
+        self.assertIn("use `edit PATH`", terminal.typed("@bob put x 3"))
+        for line in ("@bob exit", "@bob edit x", "@bob help", "@bob", "@b! ls"):
+            self.assertEqual(terminal.typed(line), f"{line}\nno bad-line\n")
+
     def test_line_editing_and_history(self) -> None:
         terminal = self.begun("mkdir /a")
         self.assertTrue(terminal.typed("l /\x01\x06s").endswith("\nd a\nok\n"))
@@ -144,6 +163,8 @@ class Session(ToolTest):
         self.assertTrue(terminal.typed("ls /notes/t\t\"").endswith("f x\nok\n"))
         self.assertTrue(terminal.typed('cat "/no\tto\tx\t').endswith("= apple\nok\n"))
         self.assertTrue(terminal.typed("find {/no\t} AND pear").endswith("\nok\n"))
+        self.assertTrue(terminal.typed("cd no\t", "store:/notes> ").endswith("\nok\n"))
+        self.assertTrue(terminal.typed("cat mo\t", "store:/notes> ").endswith("= pear\nok\n"))
 
     def test_the_caret(self) -> None:
         """Each mistake of the page on queries, and the same line with a caret under the byte that is named."""
@@ -182,6 +203,23 @@ class Session(ToolTest):
         self.assertEqual(self.tree(), {"/a": "one\\nmore\\n", "/new": "more\\n"})
         self.assertEqual(seen.read_text(), "one\n")
         self.assertEqual(list(self.made.glob("hac-*")), [])
+
+    def test_edit_by_a_relative_path(self) -> None:
+        editor = self.script("editor", 'echo more >>"$1"')
+        terminal = self.begun("mkdir /a", "mkdir /b", "write /a/x one\\n", EDITOR=str(editor), TMPDIR=str(self.made))
+        terminal.typed("cd /a", "store:/a> ")
+        for line, answer in {
+            "edit x": "ok",
+            "edit new": "ok",
+            "edit ../b/new": "ok",
+            "edit none/x": "no no-path /a/none",
+            "edit ..": "no not-file /",
+        }.items():
+            self.assertEqual(terminal.typed(line, "store:/a> "), f"{line}\n{answer}\n")
+        terminal.end()
+        self.assertEqual(
+            self.tree(), {"/a": "d", "/b": "d", "/a/new": "more\\n", "/a/x": "one\\nmore\\n", "/b/new": "more\\n"}
+        )
 
     def test_an_edited_text_is_not_lost(self) -> None:
         large = self.script("large", 'head -c 1048577 /dev/zero | tr "\\0" x >"$1"')
@@ -305,6 +343,30 @@ class Completion(ToolTest):
             b"smkdir /x {/notes/t": [b"smkdir /x {/notes/to do/"],
             b"write /x {/n": [],
             b"help no-p": [b"help no-path"],
+            b"@b": [],
+            b"@bob": [],
+            b" @bob  cou": [b" @bob  counts"],
         }.items():
             with self.subTest(typed=typed), Hac(self.store) as hac:
                 self.assertEqual(shell.Completer(hac).lines(typed), wanted)
+
+    def test_lines_where_the_session_stands(self) -> None:
+        self.make_store("mkdir /notes", 'mkdir "/notes/to do"', "write /notes/mon a", "mkdir /old", "write /old/mon a")
+        with Hac(self.store) as hac:
+            self.assertTrue(hac.ask(b"cd /notes").ok)
+            self.assertTrue(hac.ask(b"@bob cd /old").ok)
+            for typed, wanted in {
+                b"cat m": [b"cat mon "],
+                b"cat t": [b'cat "to do/'],
+                b"cat ../o": [b"cat ../old/"],
+                b"cat /o": [b"cat /old/"],
+                b"@bob cat m": [b"@bob cat mon "],
+                b"@bob cat t": [],
+                b"@bob mv mon /n": [b"@bob mv mon /notes/"],
+                b"@amy cat n": [b"@amy cat notes/"],
+                b"@b! cat n": [],
+                b"find {m": [],
+                b"find {/o": [b"find {/old/"],
+            }.items():
+                with self.subTest(typed=typed):
+                    self.assertEqual(shell.Completer(hac).lines(typed), wanted)

@@ -2,20 +2,18 @@
 ghost use Rattle.std.specs.Prelude.{◌≡◌, ◌≤◌, ◌+◌, ◌&&◌, if◌then◌else◌, nat_le, length, take, drop};
 ghost use Rattle.std.specs.Prelude.{Some, None};
 ghost use Rattle.std.specs.Int.{w8, w16, w32};
-ghost use Rattle.std.specs.List.{list_all};
 ghost use Rattle.std.specs.Option.{option_copied};
 ghost use Rattle.hac_model.specs.Payload.Fields.{num};
 ghost use Rattle.hac_model.specs.Payload.Payloads.{name_field, space_field, target_field};
 ghost use Rattle.hac_model.specs.Payload.Payloads.{text_field, is_path_word};
 ghost use Rattle.hac_model.specs.Payload.QueryFields.{word_field};
-ghost use Rattle.hac_model.specs.Script.SpaceNames.{is_space_byte, is_space_name};
 ghost use Rattle.event_codec.specs.Reading.{GivesField, run_in};
 
 use crate::bytes::Bytes;
 use crate::faults::Fault;
 use byteorder::{ByteOrder, LittleEndian};
 use hac_model::{NAME_LIMIT, Name, Number, QUERY_LIMIT, TEXT_LIMIT, Text};
-use hac_names::{has_long_part, is_bad, is_name};
+use hac_names::{has_long_part, is_bad, is_name, is_space_name};
 use hac_words::is_word;
 use std::alloc::Global;
 
@@ -105,27 +103,6 @@ pub(crate) fn space(alloc: Global, bytes: &mut Bytes) -> Result<Name, Fault>
         }
         _ => Err(bytes.bad()),
     }
-}
-
-/// Whether bytes are the name of a space: 1 to 32 ASCII letters, ASCII digits, `_` or `-`.
-#[tactic(auto, unfolding(hac_model::specs::Script::SpaceNames::is_space_name))]
-fn is_space_name(bytes: &[u8]) -> bool
-    ensures { result ≡ is_space_name bytes.now }
-{
-    !bytes.is_empty() && bytes.len() <= SPACE_LIMIT && are_space_bytes(bytes)
-}
-
-fn are_space_bytes(bytes: &[u8]) -> bool
-    ensures { result ≡ list_all is_space_byte bytes.now }
-{
-    bytes.iter().all(|b| is_space_byte(*b))
-}
-
-#[tactic(auto, unfolding(hac_model::specs::Script::SpaceNames::is_space_byte))]
-fn is_space_byte(b: u8) -> bool
-    ensures { result ≡ is_space_byte b }
-{
-    b.is_ascii_alphanumeric() || b == b'_' || b == b'-'
 }
 
 /// The bytes of a file.

@@ -1,14 +1,14 @@
 -- What blocks a command doesn't depend on marks, so the tree alone decides it.
 use Rattle.std.proofs.Common.{◌≡◌, ℕ, cond, List, [], ◌∷◌, subst, refl, ap, sym, ◌∙◌}
-use Rattle.std.specs.Prelude.{⊤, Option, Some, None, Result, IsTrue}
+use Rattle.std.specs.Prelude.{Option, Some, None, Result, IsTrue}
 use Rattle.hac_model.specs.Run.Answers.{Passes, Refuses, first_cause}
 use Rattle.hac_model.specs.Tree.Bare.{bare}
-use Rattle.hac_model.specs.Run.Refusals.{already_cause, blocking_cause, directory_cause, filled_cause, plain_cause, referenced_cause, root_cause, taken_cause, under_cause, unlinked_cause, unmarked_cause, written_cause}
+use Rattle.hac_model.specs.Run.Refusals.{already_cause, blocking_cause, busy_cause, directory_cause, filled_cause, plain_cause, referenced_cause, root_cause, session_cause, taken_cause, under_cause, unlinked_cause, unmarked_cause, written_cause}
 use Rattle.hac_model.specs.declared.places.Place.{Place}
 use Rattle.hac_model.specs.declared.places.Place.TheVariants.{There, Free}
 use Rattle.hac_model.specs.declared.replies.Refusal.TheVariants as refusal
 use Rattle.hac_model.specs.declared.resolved.Resolved.{Resolved}
-use Rattle.hac_model.specs.declared.resolved.Resolved.TheVariants.{Mkdir, Rmdir, Write, Cat, Mv, Rm, Smkdir, Unq, Query, Sls, Sln, Srm, Sforget}
+use Rattle.hac_model.specs.declared.resolved.Resolved.TheVariants.{Mkdir, Rmdir, Write, Cat, Cd, Mv, Rm, Smkdir, Unq, Query, Sls, Sln, Srm, Sforget}
 use Rattle.hac_model.specs.declared.states.State.{State}
 use Rattle.hac_core.specs.Blocking.{item_cause, link_cause, tree_cause}
 use Rattle.hac_model.specs.Tree.Valid.{IsLayout}
@@ -46,6 +46,7 @@ module _ (s t : State) (bares : bare s ≡ bare t) where
   same-tree (Rmdir dir) = λ i. first_cause (root_cause dir ∷ same-full_cause dir i ∷ [])
   same-tree (Write place text) = same-written place
   same-tree (Cat entry) = same-directory_cause entry
+  same-tree (Cd session dir) = refl
   same-tree (Mv entry place) = λ i. first_cause (root_cause entry ∷ same-taken place i ∷ same-under entry place i ∷ [])
   same-tree (Rm entry) = λ i. first_cause (root_cause entry ∷ same-directory_cause entry i ∷ [])
   same-tree (Smkdir place query) = same-taken place
@@ -63,13 +64,25 @@ alone : (o : Option Refusal) → first_cause (o ∷ None ∷ []) ≡ o
 alone None = refl
 alone (Some e) = refl
 
+lone : (o : Option Refusal) → first_cause (None ∷ o ∷ []) ≡ o
+lone None = refl
+lone (Some e) = refl
+
+split : (a b c d : Option Refusal) → first_cause (first_cause (a ∷ b ∷ []) ∷ first_cause (c ∷ d ∷ []) ∷ []) ≡ first_cause (a ∷ b ∷ c ∷ d ∷ [])
+split (Some e) b c d = refl
+split None (Some e) c d = refl
+split None None (Some e) d = refl
+split None None None (Some e) = refl
+split None None None None = refl
+
 joined : (a b c : Option Refusal) → first_cause (first_cause (a ∷ b ∷ []) ∷ c ∷ []) ≡ first_cause (a ∷ b ∷ c ∷ [])
 joined (Some e) b c = refl
 joined None (Some e) c = refl
 joined None None c = refl
 
 parted : (s : State) (r : Resolved) → first_cause (tree_cause s r ∷ link_cause s r ∷ []) ≡ blocking_cause s r
-parted s (Rmdir dir) = joined (root_cause dir) (filled_cause s dir) (referenced_cause s dir)
+parted s (Rmdir dir) = split (root_cause dir) (filled_cause s dir) (referenced_cause s dir) (busy_cause s dir)
+parted s (Cd session dir) = lone (session_cause s session dir)
 parted s (Sln item dir) = joined (directory_cause s item) (plain_cause s dir) (already_cause s item dir)
 parted s (Srm item dir) = joined (directory_cause s item) (plain_cause s dir) (unlinked_cause s item dir)
 parted s (Sforget item dir) = joined (directory_cause s item) (plain_cause s dir) (unmarked_cause s item dir)
@@ -82,11 +95,7 @@ blocked-early s r deny.Memory h = tt
 
 pub blocked-late : {A : Type 0} (s : State) (r : Resolved) (result : Result A Deny) → tree_cause s r ≡ None → Passes result (link_cause s r) → Passes result (blocking_cause s r)
 blocked-late s r result free passes =
-    subst (λ (cause : Option Refusal). Passes result cause) (sym (ap (λ (o : Option Refusal). first_cause (o ∷ link_cause s r ∷ [])) free ∙ single (link_cause s r)) ∙ parted s r) passes
-  where
-    single : (o : Option Refusal) → first_cause (None ∷ o ∷ []) ≡ o
-    single None = refl
-    single (Some e) = refl
+    subst (λ (cause : Option Refusal). Passes result cause) (sym (ap (λ (o : Option Refusal). first_cause (o ∷ link_cause s r ∷ [])) free ∙ lone (link_cause s r)) ∙ parted s r) passes
 
 -- an item that may be a link is a file
 pub item-file : (s : State) (item dir : ℕ) → IsLayout s → IsTrue (is_live s.entries item) → item_cause s item dir ≡ None → IsTrue (is_file_at s.entries item)

@@ -1,6 +1,6 @@
 -- What is known of a command that nothing blocks, and what it leads to.
-use Rattle.std.proofs.Common.{◌≡◌, ℕ, true, List, [], ◌∷◌, subst, refl, ap, sym, ◌∙◌}
-use Rattle.std.specs.Prelude.{⊤, replicate, Option, None, Some, Result, Ok, Err, IfErr, IfOk, OnOk, option_and_then}
+use Rattle.std.proofs.Common.{◌≡◌, ℕ, true, false, List, [], ◌∷◌, subst, refl, ap, sym, ◌∙◌, arith}
+use Rattle.std.specs.Prelude.{if◌then◌else◌, min, Option, None, Some, Result, Ok, Err, IfErr, IfOk, OnOk, option_and_then}
 use Rattle.std.specs.Option.{option_map, option_map_or}
 use Rattle.hac_model.specs.Laws.{AllHappen}
 use Rattle.hac_model.specs.Run.Answers.{Passes, Refuses, first_cause}
@@ -8,22 +8,22 @@ use Rattle.hac_model.specs.Run.Given.{no_answers}
 use Rattle.hac_model.specs.Run.Refusals.{answer_cause, blocking_cause, cause, cycle_against, cycle_cause, early_cause, event_of, events_of, layout_cause, led_to}
 use Rattle.hac_model.specs.Run.Standing.{AllStand}
 use Rattle.hac_model.specs.Tree.Events.{apply_all, dirty}
-use Rattle.hac_model.specs.Tree.Limits.{answer_limits, counts, first_passed, layout_limits, passed_limit}
+use Rattle.hac_model.specs.Tree.Limits.{answer_limits, counts, first_passed, layout_limits}
+use Rattle.hac_model.specs.Tree.Sessions.{is_stored}
 use Rattle.hac_model.specs.Tree.Valid.{IsValid}
 use Rattle.hac_model.specs.declared.counts.Counts.{Counts}
 use Rattle.hac_model.specs.declared.events.Event.{Event}
-use Rattle.hac_model.specs.declared.events.Event.TheVariants.{Step}
 use Rattle.hac_model.specs.declared.replies.Deny.{Deny}
 use Rattle.hac_model.specs.declared.replies.Deny.TheVariants.{Refused, Memory}
 use Rattle.hac_model.specs.declared.replies.Refusal.{Refusal}
 use Rattle.hac_model.specs.declared.replies.Refusal.TheVariants.{Limit}
 use Rattle.hac_model.specs.declared.resolved.Resolved.{Resolved}
 use Rattle.hac_model.specs.declared.resolved.Resolved.TheVariants as command
-use Rattle.hac_model.specs.declared.resolved.Resolved.TheVariants.{Index}
+use Rattle.hac_model.specs.declared.resolved.Resolved.TheVariants.{Index, Tick}
 use Rattle.hac_model.specs.declared.states.State.{State}
 use Rattle.hac_model.proofs.EventLemmas.{all-valid, cause-parts, no_cause, steps-happen, unblocked-happen}
 use Rattle.hac_model.proofs.LimitLemmas.{IsWithinLimits, first-before, limits-within, none-passed, paths-short}
-use Rattle.hac_core.specs.Drafts.{CanSettle, IsChange, IsCounted, IsDraftFor, Settles, change_cause, is_reading, settled_events}
+use Rattle.hac_core.specs.Drafts.{IsChange, IsCounted, IsDraftFor, MakesSteps, Settles, change_cause, is_indexing, is_reading, settled_change}
 use Rattle.hac_core.specs.declared.drafts.Change.{Change}
 use Rattle.hac_core.specs.declared.drafts.Known.{Known}
 use Rattle.hac_core.specs.declared.drafts.Known.TheVariants.{Reads, Changes, Indexes}
@@ -41,6 +41,7 @@ valid-limits s h =
 -- a command that makes one event has that one
 made-events : (s : State) (r : Resolved) (e : Event) → event_of r ≡ Some e → events_of no_answers s r ≡ e ∷ []
 made-events s Index e is = absurd cc
+made-events s (Tick steps) e is = absurd cc
 made-events s r e is = ap (λ (o : Option Event). option_map_or (λ e. e ∷ []) o []) is
 
 -- where a command leads to a valid state and lets no directory depend on itself, nothing refuses it that doesn't block it
@@ -55,6 +56,7 @@ module _ (s : State) (h : IsValid s) where
   reads-free : (r : Resolved) → is_reading r ≡ true → blocking_cause s r ≡ None → (early_cause s r ≡ None) × (cause no_answers s r ≡ None)
   reads-free (command.Cat entry) reads free = led-free s (command.Cat entry) h free refl
   reads-free (command.Ls dir) reads free = led-free s (command.Ls dir) h free refl
+  reads-free (command.Pwd dir) reads free = led-free s (command.Pwd dir) h free refl
   reads-free (command.Query dir) reads free = led-free s (command.Query dir) h free refl
   reads-free (command.Sls dir) reads free = led-free s (command.Sls dir) h free refl
   reads-free (command.Find query) reads free = led-free s (command.Find query) h free refl
@@ -65,12 +67,18 @@ module _ (s : State) (h : IsValid s) where
   draft-reads r shown stands free made = record { stands = stands; cause = (reads-free r made.1 free).0; known = made }
 
   -- indexing leads to a valid state
-  index-free : (early_cause s Index ≡ None) × (cause no_answers s Index ≡ None)
-  index-free = led-free s Index (all-valid (events_of no_answers s Index) s h (steps-happen (dirty s) s h refl)) refl refl
+  steps-lead : (r : Resolved) → is_indexing r ≡ true → AllHappen s (events_of no_answers s r)
+  steps-lead Index indexes = steps-happen (dirty s) s h (omega arith)
+  steps-lead (Tick steps) indexes = steps-happen (min steps (dirty s)) s h (omega arith)
+  steps-lead other indexes = absurd cc
 
-  pub draft-indexes : (r : Resolved) (count : ℕ) → AllStand s r → (r ≡ Index) × (count ≡ dirty s) → IsDraftFor s r (Indexes count)
-  draft-indexes r count stands made =
-      record { stands = stands; cause = subst (λ (r : Resolved). early_cause s r ≡ None) (sym made.0) index-free.0; known = made }
+  index-free : (r : Resolved) → is_indexing r ≡ true → (early_cause s r ≡ None) × (cause no_answers s r ≡ None)
+  index-free Index indexes = led-free s Index (all-valid (events_of no_answers s Index) s h (steps-lead Index refl)) refl refl
+  index-free (Tick steps) indexes = led-free s (Tick steps) (all-valid (events_of no_answers s (Tick steps)) s h (steps-lead (Tick steps) refl)) refl refl
+  index-free other indexes = absurd cc
+
+  pub draft-indexes : (r : Resolved) (count : ℕ) → AllStand s r → MakesSteps s r count → IsDraftFor s r (Indexes count)
+  draft-indexes r count stands made = record { stands = stands; cause = (index-free r made.0).0; known = made }
 
   -- the causes against an event are those against its command
   change-early : (r : Resolved) (e : Event) → blocking_cause s r ≡ None → event_of r ≡ Some e → early_cause s r ≡ change_cause s e
@@ -103,24 +111,28 @@ module _ (s : State) (h : IsValid s) where
       alone (Refused e) o h = ap (λ (o : Option Refusal). first_cause (o ∷ [])) h
       alone Memory o h = tt
 
-  settles-change : (r : Resolved) (change : Change) → IsDraftFor s r (Changes change) → option_map Limit (first_passed (answer_limits change.counts)) ≡ None → Settles s r (settled.Change change)
+  settles-change : (r : Resolved) (change : Change) → IsDraftFor s r (Changes change) → option_map Limit (first_passed (answer_limits change.counts)) ≡ None → Settles s r (settled_change change)
   settles-change r change draft within =
-      let free : cause no_answers s r ≡ None = λ i. first_cause (draft.cause i ∷ (answers-are r change draft.known.0 draft.known.1 ∙ within) i ∷ []) in
-      let parts = cause-parts s r free in
-      let events = made-events s r change.event draft.known.0 in
-      record {
-        cause = free;
-        events = sym events;
-        can = (subst (AllHappen s) events (unblocked-happen s r h draft.stands parts.0 parts.1 parts.2), draft.known.1);
-      }
+      elim (is_stored change.event) as (λ b. is_stored change.event ≡ b → Settles s r (if b then settled.Change change else settled.Session change.event)) [
+        | true ↦ (λ stored. record { cause = free; events = sym events; can = (happen, draft.known.1, stored) })
+        | false ↦ (λ moves. record { cause = free; events = sym events; can = (happen, moves) })
+      ] refl
+    where
+      free : cause no_answers s r ≡ None
+      free = λ i. first_cause (draft.cause i ∷ (answers-are r change draft.known.0 draft.known.1 ∙ within) i ∷ [])
+
+      events : events_of no_answers s r ≡ change.event ∷ []
+      events = made-events s r change.event draft.known.0
+
+      happen : AllHappen s (change.event ∷ [])
+      happen = let parts = cause-parts s r free in subst (AllHappen s) events (unblocked-happen s r h draft.stands parts.0 parts.1 parts.2)
 
   pub settles-steps : (r : Resolved) (count : ℕ) → IsDraftFor s r (Indexes count) → Settles s r (settled.Steps count)
-  settles-steps r count draft =
-      subst (λ (r : Resolved). Settles s r (settled.Steps count)) (sym draft.known.0) (record {
-        cause = index-free.1;
-        events = ap (λ (n : ℕ). replicate n Step) draft.known.1;
-        can = subst (λ (n : ℕ). AllHappen s (replicate n Step)) (sym draft.known.1) (steps-happen (dirty s) s h refl);
-      })
+  settles-steps r count draft = record {
+    cause = (index-free r draft.known.0).1;
+    events = sym draft.known.1;
+    can = subst (AllHappen s) draft.known.1 (steps-lead r draft.known.0);
+  }
 
   pub reads-cause : (r shown : Resolved) → IsDraftFor s r (Reads shown) → cause no_answers s r ≡ None
   reads-cause r shown draft = (reads-free r draft.known.1 (no_cause (blocking_cause s r) (layout_cause s r ∷ cycle_cause s r ∷ []) draft.cause).0).1
@@ -131,7 +143,7 @@ drafts-change s h r e (Ok draft) stands free is made none refuses = (draft-chang
 drafts-change s h r e (Err deny) stands free is made none refuses = (tt, change-refuses s h r e deny free is refuses)
 
 -- the outcome of a change, or why there is none
-pub settles-changed : (s : State) → IsValid s → (change : Change) (draft : Known) (result : Result Settled Deny) → Changes change ≡ draft → IfOk result (λ outcome. outcome ≡ settled.Change change) → Passes result (option_map Limit (first_passed (answer_limits change.counts))) →
+pub settles-changed : (s : State) → IsValid s → (change : Change) (draft : Known) (result : Result Settled Deny) → Changes change ≡ draft → IfOk result (λ outcome. outcome ≡ settled_change change) → Passes result (option_map Limit (first_passed (answer_limits change.counts))) →
     (r : Resolved) → IsDraftFor s r draft → IfOk result (Settles s r) × IfErr result (λ deny. Refuses deny (cause no_answers s r))
 settles-changed s h change draft (Ok outcome) is made passes r for =
     (subst (Settles s r) (sym made) (settles-change s h r change (subst (IsDraftFor s r) (sym is) for) passes), tt)

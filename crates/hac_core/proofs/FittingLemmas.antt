@@ -1,20 +1,15 @@
 -- Which events can happen, by the tree and by counts.
-use Rattle.std.proofs.Common.{◌≡◌, ℕ, Bool, true, false, cond, List, [], ◌∷◌, ◌++◌, refl, ap, sym, ◌∙◌}
-use Rattle.std.specs.Prelude.{◌==◌, ◌&&◌, not, length, nat_lt, Option, Some, None, is_none, IsTrue}
+use Rattle.std.proofs.Common.{◌≡◌, Bool, true, false, cond, List, [], ◌∷◌, ◌++◌, refl, ap, sym, ◌∙◌}
+use Rattle.std.specs.Prelude.{◌&&◌, nat_lt, Some, is_none}
 use Rattle.std.proofs.lemmas.Bool.{and_from}
 use Rattle.std.proofs.Math.Bool.{and-false}
-use Rattle.hac_model.specs.Tree.Bare.{bare}
-use Rattle.hac_model.specs.Tree.Events.{accepted, apply, is_clear, is_free, is_placed}
-use Rattle.hac_model.specs.Tree.Limits.{answer_limits, counts, first_passed, is_text, layout_limits, passed_limit}
+use Rattle.hac_model.specs.Tree.Events.{accepted, apply, is_clear, is_placed}
+use Rattle.hac_model.specs.Tree.Limits.{answer_limits, counts, first_passed, layout_limits, passed_limit}
 use Rattle.hac_model.specs.declared.counts.Counts.{Counts}
 use Rattle.hac_model.specs.declared.events.Event.{Event}
-use Rattle.hac_model.specs.declared.events.Event.TheVariants.{Mkdir, NewFile, Rewrite, Smkdir, Setq, Unq, Mark, Mv, Rm, Rmdir, Step}
 use Rattle.hac_model.specs.declared.limits.Limit.{Limit}
 use Rattle.hac_model.specs.declared.states.State.{State}
-use Rattle.hac_model.proofs.AlikeLemmas.{is_free-bare}
-use Rattle.hac_model.proofs.EventLemmas.{due}
 use Rattle.hac_core.specs.Fitting.{passes_none}
-use Rattle.kept_state.proofs.StateLemmas.{alike, same-asks, same-bare, same-dirty, same-file, same-inside, same-made, same-semantic, same-some}
 
 -- Limits.
 

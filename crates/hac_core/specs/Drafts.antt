@@ -1,5 +1,5 @@
 -- Commands that a state doesn't refuse so far, and what they lead to.
-use Rattle.std.specs.Prelude.{◌≡◌, ⊤, ℕ, Bool, true, false, List, [], ◌∷◌, replicate, Option, None, Some, Result, Ok}
+use Rattle.std.specs.Prelude.{◌≡◌, ⊤, ℕ, Bool, true, false, if◌then◌else◌, List, [], ◌∷◌, replicate, IsTrue, Option, None, Some, Ok}
 use Rattle.std.specs.Option.{option_map}
 use Rattle.hac_model.specs.Laws.{AllHappen}
 use Rattle.hac_model.specs.Run.Answers.{first_cause}
@@ -7,8 +7,9 @@ use Rattle.hac_model.specs.Run.Given.{no_answers}
 use Rattle.hac_model.specs.Run.Refusals.{cause, cycle_against, early_cause, event_of, events_of}
 use Rattle.hac_model.specs.Run.Resolving.{resolve}
 use Rattle.hac_model.specs.Run.Standing.{AllStand}
-use Rattle.hac_model.specs.Tree.Events.{apply, dirty}
+use Rattle.hac_model.specs.Tree.Events.{apply}
 use Rattle.hac_model.specs.Tree.Limits.{counts, first_passed, layout_limits}
+use Rattle.hac_model.specs.Tree.Sessions.{is_stored}
 use Rattle.hac_model.specs.declared.commands.Line.{Line}
 use Rattle.hac_model.specs.declared.events.Event.{Event}
 use Rattle.hac_model.specs.declared.events.Event.TheVariants.{Step}
@@ -17,7 +18,7 @@ use Rattle.hac_model.specs.declared.places.Place.TheVariants.{There, Free}
 use Rattle.hac_model.specs.declared.replies.Refusal.{Refusal}
 use Rattle.hac_model.specs.declared.replies.Refusal.TheVariants.{Limit}
 use Rattle.hac_model.specs.declared.resolved.Resolved.{Resolved}
-use Rattle.hac_model.specs.declared.resolved.Resolved.TheVariants.{Cat, Ls, Query, Sls, Find, Counts, Index}
+use Rattle.hac_model.specs.declared.resolved.Resolved.TheVariants.{Cat, Ls, Pwd, Query, Sls, Find, Counts, Index, Tick}
 use Rattle.hac_model.specs.declared.states.State.{State}
 use Rattle.hac_core.specs.declared.drafts.Change.{Change}
 use Rattle.hac_core.specs.declared.drafts.Known.{Known}
@@ -36,16 +37,27 @@ IsFree (Free dir name) = ⊤
 abbrev pub is_reading : Resolved → Bool
 is_reading (Cat entry) = true
 is_reading (Ls dir) = true
+is_reading (Pwd dir) = true
 is_reading (Query dir) = true
 is_reading (Sls dir) = true
 is_reading (Find query) = true
 is_reading Counts = true
 is_reading other = false
 
+-- the command makes index steps
+abbrev pub is_indexing : Resolved → Bool
+is_indexing Index = true
+is_indexing (Tick steps) = true
+is_indexing other = false
+
+-- it makes this many
+abbrev pub MakesSteps : State → Resolved → ℕ → Type 0
+MakesSteps s command count = (is_indexing command ≡ true) × (events_of no_answers s command ≡ replicate count Step)
+
 -- the command makes this event, or so many steps, or it is this one and only reads
 abbrev pub Makes : State → Resolved → Made → Type 0
 Makes s command (made.Event event) = event_of command ≡ Some event
-Makes s command (made.Steps count) = (command ≡ Index) × (count ≡ dirty s)
+Makes s command (made.Steps count) = MakesSteps s command count
 Makes s command (made.Nothing shown) = (shown ≡ command) × (is_reading command ≡ true)
 
 -- the change is counted: its counts are those of the state after its event
@@ -61,7 +73,7 @@ IsChange s event other = ⊥
 abbrev pub Knows : State → Resolved → Known → Type 0
 Knows s command (Reads shown) = (shown ≡ command) × (is_reading command ≡ true)
 Knows s command (Changes change) = (event_of command ≡ Some change.event) × IsCounted s change
-Knows s command (Indexes count) = (command ≡ Index) × (count ≡ dirty s)
+Knows s command (Indexes count) = MakesSteps s command count
 
 -- nothing refuses the command so far: the limits that depend on what spaces answer are left
 pub record IsDraftFor (s : State) (command : Resolved) (draft : Known) : Type 0 where
@@ -85,14 +97,20 @@ reads other = false
 abbrev pub change_cause : State → Event → Option Refusal
 change_cause s event = first_cause (option_map Limit (first_passed (layout_limits (counts (apply s event)))) ∷ cycle_against s event ∷ [])
 
+-- the outcome of a change: an event that moves a session isn't stored
+abbrev pub settled_change : Change → Settled
+settled_change change = if is_stored change.event then settled.Change change else settled.Session change.event
+
 -- the events of an outcome, one after the other
 abbrev pub settled_events : Settled → List Event
 settled_events (settled.Change change) = change.event ∷ []
+settled_events (settled.Session event) = event ∷ []
 settled_events (settled.Steps count) = replicate count Step
 
--- they can happen to the state, and a change is counted
+-- they can happen to the state; a change is counted, and is stored, as an event of a session is not
 abbrev pub CanSettle : State → Settled → Type 0
-CanSettle s (settled.Change change) = AllHappen s (change.event ∷ []) × IsCounted s change
+CanSettle s (settled.Change change) = AllHappen s (change.event ∷ []) × IsCounted s change × IsTrue (is_stored change.event)
+CanSettle s (settled.Session event) = AllHappen s (event ∷ []) × (is_stored event ≡ false)
 CanSettle s (settled.Steps count) = AllHappen s (replicate count Step)
 
 -- nothing refuses the command, and this is its outcome

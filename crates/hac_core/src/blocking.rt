@@ -10,13 +10,14 @@ ghost use Rattle.hac_model.specs.Tree.{is_live};
 ghost use Rattle.hac_core.specs.Blocking.{link_cause, tree_cause};
 
 use crate::marking::{linked, marked, not_permanent, unreferenced};
+use crate::sessions::{has_place, idle};
 use file_tree::Tree;
 use hac_model::{Deny, Number, Place, Refusal, Resolved};
 use kept_state::KeptState;
 use std::alloc::Global;
 
 /// Denies a command that something blocks, for the first such cause: what the tree says comes
-/// before what links, marks and other queries say.
+/// before what links, marks, other queries and sessions say.
 pub fn unblocked(alloc: Global, kept: &KeptState, command: &Resolved) -> Result<(), Deny>
     requires { AllStand kept.now.state command.now }
     ensures { Passes result (blocking_cause kept.now.state command.now) }
@@ -67,11 +68,17 @@ fn fits_tree_alone(tree: &Tree, command: &Resolved) -> Result<(), Deny>
             file(tree, *item)?;
             semantic(tree, *dir)
         }
-        Resolved::Ls { .. } | Resolved::Find { .. } | Resolved::Index | Resolved::Counts => Ok(()),
+        Resolved::Ls { .. }
+        | Resolved::Cd { .. }
+        | Resolved::Pwd { .. }
+        | Resolved::Find { .. }
+        | Resolved::Index
+        | Resolved::Tick { .. }
+        | Resolved::Counts => Ok(()),
     }
 }
 
-/// Denies a command that a link, a mark or another query blocks, where the tree doesn't.
+/// Denies a command that a link, a mark, another query or a session blocks, where the tree doesn't.
 fn fits_links(alloc: Global, kept: &KeptState, command: &Resolved) -> Result<(), Deny>
     requires stands { AllStand kept.now.state command.now }
     requires free { tree_cause kept.now.state command.now ≡ None }
@@ -79,7 +86,11 @@ fn fits_links(alloc: Global, kept: &KeptState, command: &Resolved) -> Result<(),
 {
     kept.know_valid();
     match command {
-        Resolved::Rmdir { dir } => unreferenced(alloc, kept, *dir),
+        Resolved::Rmdir { dir } => {
+            unreferenced(alloc, kept, *dir)?;
+            idle(kept, *dir)
+        }
+        Resolved::Cd { session, dir } => has_place(kept, session, *dir),
         Resolved::Sln { item, dir } => not_permanent(kept, *item, *dir),
         Resolved::Srm { item, dir } => linked(alloc, kept, *item, *dir),
         Resolved::Sforget { item, dir } => marked(kept, *item, *dir),

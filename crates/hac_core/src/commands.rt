@@ -1,17 +1,36 @@
 //! Each command with what its paths lead to, from left to right.
 ghost use Rattle.std.specs.Prelude.{◌≡◌, IsTrue};
 ghost use Rattle.hac_model.specs.Run.Answers.{Answers};
-ghost use Rattle.hac_model.specs.Run.Resolving.{resolved};
+ghost use Rattle.hac_model.specs.Run.Resolving.{resolved, resolved_for};
 ghost use Rattle.hac_model.specs.Tree.{is_directory_at};
 
-use crate::resolving::{directory, entry, listed_directory, numbered_query, place};
+use crate::resolving::{
+    directory, directory_or_root, entry, listed_directory, numbered_query, place,
+};
 use file_tree::Tree;
-use hac_model::{Command, Deny, Number, PathWord, RawQuery, Refusal, Resolved, Text};
+use hac_model::{Command, Deny, Name, Number, PathWord, RawQuery, Refusal, Resolved, Text};
 use std::alloc::Global;
 
-/// The command with what its paths lead to from a directory, or the first cause against it that
-/// lies in them.
-pub fn resolve(alloc: Global, tree: &Tree, base: Number, command: Command) -> Result<Resolved, Deny>
+/// The command of a session with what its paths lead to from a directory, or the first cause
+/// against it that lies in them.
+pub fn resolve(
+    alloc: Global,
+    tree: &Tree,
+    session: Name,
+    base: Number,
+    command: Command,
+) -> Result<Resolved, Deny>
+    requires { IsTrue (is_directory_at tree.now.state.entries base) }
+    ensures { Answers result (resolved_for tree.now.state session base command) }
+{
+    match command {
+        Command::Cd { path } => cd(tree, session, base, &path),
+        other => follow(alloc, tree, base, other),
+    }
+}
+
+/// The same for any command but `cd`, which needs its session.
+fn follow(alloc: Global, tree: &Tree, base: Number, command: Command) -> Result<Resolved, Deny>
     requires { IsTrue (is_directory_at tree.now.state.entries base) }
     ensures { Answers result (resolved tree.now.state base command) }
 {
@@ -21,6 +40,7 @@ pub fn resolve(alloc: Global, tree: &Tree, base: Number, command: Command) -> Re
         Command::Write { path, text } => write(tree, base, &path, text),
         Command::Cat { path } => cat(tree, base, &path),
         Command::Ls { path } => ls(tree, base, &path),
+        Command::Pwd => Ok(Resolved::Pwd { dir: base }),
         Command::Mv { from, to } => mv(tree, base, &from, &to),
         Command::Rm { path } => rm(tree, base, &path),
         Command::Smkdir { path, query } => smkdir(alloc, tree, base, &path, query),
@@ -33,6 +53,7 @@ pub fn resolve(alloc: Global, tree: &Tree, base: Number, command: Command) -> Re
         Command::Sforget { item, dir } => sforget(tree, base, &item, &dir),
         Command::Find { query } => find(alloc, tree, base, query),
         Command::Index => Ok(Resolved::Index),
+        Command::Tick { steps } => Ok(Resolved::Tick { steps }),
         Command::Counts => Ok(Resolved::Counts),
         _ => Err(Deny::Refused(Refusal::BadLine)),
     }
@@ -81,6 +102,17 @@ fn ls(tree: &Tree, base: Number, path: &Option<PathWord>) -> Result<Resolved, De
 {
     let dir = listed_directory(tree, base, path)?;
     Ok(Resolved::Ls { dir })
+}
+
+/// `cd` with a path or without.
+fn cd(tree: &Tree, session: Name, base: Number, path: &Option<PathWord>) -> Result<Resolved, Deny>
+    requires { IsTrue (is_directory_at tree.now.state.entries base) }
+    ensures { Answers result (resolved_for tree.now.state session base (Command.Cd path.now)) }
+{
+    match directory_or_root(tree, base, path) {
+        Ok(dir) => Ok(Resolved::Cd { session, dir }),
+        Err(deny) => Err(deny),
+    }
 }
 
 /// `mv FROM TO`.

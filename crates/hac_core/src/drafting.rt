@@ -7,6 +7,7 @@ ghost use Rattle.hac_model.specs.Run.Standing.{AllStand};
 ghost use Rattle.hac_model.specs.Tree.Events.{is_placed};
 ghost use Rattle.hac_model.specs.Tree.Limits.{answer_limits, first_passed};
 ghost use Rattle.hac_core.specs.Drafts.{IsChange, IsCounted, IsDraftFor, change_cause};
+ghost use Rattle.hac_core.specs.Drafts.{settled_change};
 
 use crate::cycles::acyclic;
 use crate::drafts::{Change, Draft, Known, Settled};
@@ -61,16 +62,29 @@ fn permitted(alloc: Global, kept: &KeptState, change: &Change) -> Result<(), Den
 
 /// The outcome of a change, unless it would exceed a limit on what spaces answer.
 pub fn settled(change: Change) -> Result<Settled, Deny>
-    ensures settled { IfOk result (λ settled. settled ≡ Settled.Change change) }
+    ensures settled { IfOk result (λ settled. settled ≡ settled_change change) }
     ensures limits { Passes result (option_map Refusal.Limit
         (first_passed (answer_limits change.counts))) }
 {
     match within(&change.counts.answer_limits()) {
-        Ok(()) => Ok(Settled::Change(change)),
+        Ok(()) => Ok(outcome(change)),
         Err(deny) => {
             drop(change);
             Err(deny)
         }
+    }
+}
+
+/// The outcome of a change: one that moves a session isn't stored.
+fn outcome(change: Change) -> Settled
+    ensures { result ≡ settled_change change }
+{
+    match change.event {
+        Event::Cd { session, dir } => Settled::Session(Event::Cd { session, dir }),
+        event => Settled::Change(Change {
+            event,
+            counts: change.counts,
+        }),
     }
 }
 

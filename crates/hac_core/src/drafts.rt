@@ -68,8 +68,10 @@ impl Draft {
 /// The outcome of a command that changes the state.
 #[derive(Debug, Drop)]
 pub enum Settled {
-    /// One event.
+    /// One event, which is to be stored.
     Change(Change),
+    /// An event that only moves a session. It is never stored.
+    Session(Event),
     /// This many index steps.
     Steps(u64),
 }

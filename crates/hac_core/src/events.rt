@@ -31,6 +31,7 @@ pub fn made_by(alloc: Global, kept: &KeptState, command: Resolved) -> Made
         }
         Resolved::Rmdir { dir } => Made::Event(Event::Rmdir { dir }),
         Resolved::Write { place, text } => Made::Event(writing(place, text)),
+        Resolved::Cd { session, dir } => Made::Event(Event::Cd { session, dir }),
         Resolved::Mv { entry, place } => {
             let (dir, name) = vacancy(place);
             Made::Event(Event::Mv { entry, dir, name })
@@ -55,6 +56,7 @@ pub fn made_by(alloc: Global, kept: &KeptState, command: Resolved) -> Made
         Resolved::Srm { item, dir } => Made::Event(marking(item, dir, Kind::Prohibited)),
         Resolved::Sforget { item, dir } => Made::Event(marking(item, dir, Kind::Unlinked)),
         Resolved::Index => Made::Steps(dirty(kept)),
+        Resolved::Tick { steps } => Made::Steps(steps.min(dirty(kept))),
         other => Made::Nothing(other),
     }
 }

@@ -10,7 +10,7 @@ use crate::blocking::is_inside;
 use crate::drafts::Change;
 use file_tree::Tree;
 use hac_model::{Counts, Event, Memory, Name, Number, Query, Seq, TEXT_LIMIT, Text, first_passed};
-use hac_names::is_name;
+use hac_names::{is_name, is_space_name};
 use kept_state::KeptState;
 use std::alloc::Global;
 use tree_answers::{is_unreferenced, may_mark};
@@ -80,15 +80,15 @@ fn is_placed_in(tree: &Tree, event: &Event) -> bool
         Event::Rm { entry } => tree.is_file(*entry),
         Event::Rmdir { dir } => tree.is_made_directory(*dir) && tree.children(*dir).is_empty(),
         Event::Step => tree.counts().dirty > 0,
-        Event::Ln { .. }
-        | Event::Smount { .. }
-        | Event::Ssync { .. }
-        | Event::Sumount { .. }
-        | Event::Cd { .. } => false,
+        Event::Cd { session, dir } => {
+            is_space_name(session.as_bytes()) && tree.is_directory(*dir)
+        }
+        Event::Ln { .. } | Event::Smount { .. } | Event::Ssync { .. } | Event::Sumount { .. } =>
+            false,
     }
 }
 
-/// Whether no mark, no link and no query of another directory blocks an event.
+/// Whether no mark, no link, no query of another directory and no session blocks an event.
 fn is_clear(alloc: Global, kept: &KeptState, event: &Event) -> Result<bool, Memory>
     requires { IsTrue (is_placed kept.now.state event.now) }
     ensures { IfOk result (λ is. is ≡ is_clear kept.now.state event.now) }
@@ -102,7 +102,8 @@ fn is_clear(alloc: Global, kept: &KeptState, event: &Event) -> Result<bool, Memo
             let way = kept.cycle_of_move(alloc, *entry, *dir)?;
             Ok(way.is_none())
         }
-        Event::Rmdir { dir } => is_unreferenced(kept, *dir),
+        Event::Rmdir { dir } => Ok(is_unreferenced(kept, *dir)? && !kept.is_busy(*dir)),
+        Event::Cd { session, dir } => Ok(kept.has_place_for(session, *dir)),
         Event::Mark(mark) => may_mark(alloc, kept, *mark),
         _ => Ok(true),
     }

@@ -14,6 +14,7 @@ mod fitting;
 mod machine;
 mod marking;
 mod resolving;
+mod sessions;
 
 pub use drafts::{Change, Draft, Settled};
 pub use machine::Machine;

@@ -2,7 +2,7 @@
 ghost use Rattle.std.specs.Prelude.{◌≡◌, [], IfOk, IfErr, IsTrue, None, OnOk, OnErr, true, false};
 ghost use Rattle.hac_model.specs.Run.Answers.{Answers, Refuses};
 ghost use Rattle.hac_model.specs.Tree.Events.{apply_all, dirty};
-ghost use Rattle.hac_model.specs.Script.Lines.{is_spelled};
+ghost use Rattle.hac_model.specs.Script.Lines.{is_spelled_line};
 ghost use Rattle.hac_model.specs.Run.Showing.{data_lines};
 ghost use Rattle.hac_model.specs.Run.Given.{no_answers};
 ghost use Rattle.hac_model.specs.Run.Refusals.{cause, early_refusal};
@@ -18,7 +18,7 @@ use crate::commands::resolve;
 use crate::drafting::{drafted, settled};
 use crate::drafts::{Change, Draft, Known, Settled};
 use crate::fitting::fits;
-use hac_model::{Deny, Event, Line, Memory, Number, Reply, Resolved, Seq};
+use hac_model::{Deny, Event, Line, Memory, Reply, Resolved, Seq};
 use kept_state::KeptState;
 use std::alloc::Global;
 use std::marker::Model;
@@ -66,7 +66,7 @@ impl Machine {
     /// for what the paths lead to, for what blocks it, for a limit on the tree itself, or because a
     /// directory would depend on itself, in this order.
     pub fn check(&self, line: Line) -> Result<Draft, Deny>
-        requires { IsTrue (is_spelled line.command) }
+        requires { IsTrue (is_spelled_line line) }
         ensures draft { IfOk result (IsDraftOf self.now.state line) }
         ensures refused { IfErr result (λ deny. Refuses deny (early_refusal self.now.state line)) }
     {
@@ -140,6 +140,10 @@ impl Machine {
             Settled::Change(Change { event, counts }) => {
                 self.kept.prepare(self.alloc, event, counts)
             }
+            Settled::Session(Event::Cd { session, dir }) => {
+                self.kept.prepare_session(self.alloc, session, dir)
+            }
+            Settled::Session(_) => unreachable!(),
             Settled::Steps(count) => {
                 self.kept.prepare_steps(count);
                 Ok(())
@@ -158,10 +162,11 @@ impl Machine {
     }
 }
 
-/// The command of a line with what its paths lead to, or the first cause against it that lies in
-/// them. All sessions stand in the root so far.
+/// The command of a line with what its paths lead to from where its session stands, or the first
+/// cause against it that lies in them.
 fn followed(alloc: Global, kept: &KeptState, line: Line) -> Result<Resolved, Deny>
     ensures { Answers result (resolve kept.now.state line) }
 {
-    resolve(alloc, kept.tree(), Number::ROOT, line.command)
+    let base = kept.stands_in(&line.session);
+    resolve(alloc, kept.tree(), line.session, base, line.command)
 }

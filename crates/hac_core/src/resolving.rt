@@ -1,7 +1,8 @@
 //! Where path words lead.
 ghost use Rattle.std.specs.Prelude.{◌≡◌, ◌++◌, ◌∷◌, [], IfOk, IsTrue};
 ghost use Rattle.hac_model.specs.Run.Answers.{Answers};
-ghost use Rattle.hac_model.specs.Run.Resolving.{place, entry, directory, listed_directory};
+ghost use Rattle.hac_model.specs.Run.Resolving.{place, entry, directory, directory_or_root};
+ghost use Rattle.hac_model.specs.Run.Resolving.{listed_directory};
 ghost use Rattle.hac_model.specs.Run.Resolving.{numbered_query};
 ghost use Rattle.hac_model.specs.Tree.{is_directory_at, path_of};
 
@@ -66,6 +67,17 @@ pub fn listed_directory(tree: &Tree, base: Number, word: &Option<PathWord>) -> R
     match word {
         Some(word) => directory(tree, base, word),
         None => Ok(base),
+    }
+}
+
+/// The directory to which a path word leads, the root if none is given.
+pub fn directory_or_root(tree: &Tree, base: Number, word: &Option<PathWord>) -> Result<Number, Deny>
+    requires { IsTrue (is_directory_at tree.now.state.entries base) }
+    ensures { Answers result (directory_or_root tree.now.state base word.now) }
+{
+    match word {
+        Some(word) => directory(tree, base, word),
+        None => Ok(Number::ROOT),
     }
 }
 

@@ -12,7 +12,7 @@ use Rattle.hac_model.specs.Query.Queries.{is_query}
 use Rattle.hac_model.specs.Tree.{empty, entry_at, is_directory, is_directory_at, is_made_directory, query_in}
 use Rattle.hac_model.specs.Tree.Valid.{AsksWell, IsLayout, IsValid}
 use Rattle.hac_model.specs.declared.events.Event.{Event}
-use Rattle.hac_model.specs.declared.events.Event.TheVariants.{Mkdir, NewFile, Rewrite, Mark, Mv, Rm, Rmdir, Setq, Smkdir, Step, Unq}
+use Rattle.hac_model.specs.declared.events.Event.TheVariants.{Mkdir, NewFile, Rewrite, Mark, Mv, Rm, Rmdir, Setq, Smkdir, Step, Unq, Cd}
 use Rattle.hac_model.specs.declared.marks.Kind.{Kind}
 use Rattle.hac_model.specs.declared.marks.Kind.TheVariants.{Transient, Permanent, Prohibited, Unlinked}
 use Rattle.hac_model.specs.declared.states.Body.{Body}
@@ -20,6 +20,7 @@ use Rattle.hac_model.specs.declared.states.Body.TheVariants.{File, Dir, Semantic
 use Rattle.hac_model.specs.declared.states.Entry.{Entry}
 use Rattle.hac_model.specs.declared.states.State.{State}
 use Rattle.hac_model.proofs.AskLemmas.{apply-queries}
+use Rattle.hac_model.proofs.SessionLemmas.{apply-sessions}
 use Rattle.hac_model.proofs.ChangeLemmas.{entry_at-changed, entry_at-gone, entry_at-kept, entry_at-new, entry_at-other, is_kept, touched}
 use Rattle.hac_model.proofs.CycleLemmas.{depends-is, edges_in, none-reaching}
 use Rattle.hac_model.proofs.GraphLemmas.{AreReplaced, never_returns-fewer, never_returns-replaced}
@@ -239,18 +240,14 @@ apply-acyclic s Step h ok = elim (next_dirty s.entries) as (λ o. IsAcyclic (opt
   | None ↦ h.acyclic
   | Some file ↦ edited-acyclic s file indexed indexed-edges h.acyclic
 ]
+apply-acyclic s (Cd session dir) h ok = h.acyclic
 apply-acyclic s other h ok = absurd cc
 
 pub empty-valid : IsValid empty
-empty-valid = record { layout = empty-layout; queries = tt; acyclic = (λ steps dir back. back.1); sessions = refl }
-
--- no event lets a session stand elsewhere yet
-pub apply-sessions : (s : State) (event : Event) → (apply s event).sessions ≡ s.sessions
-apply-sessions s Step = elim (next_dirty s.entries) as (λ o. (option_map_or (λ file. changed_at s file (edited indexed)) o s).sessions ≡ s.sessions) [ None ↦ refl | Some file ↦ refl ]
-apply-sessions s other = refl
+empty-valid = record { layout = empty-layout; queries = tt; acyclic = (λ steps dir back. back.1); sessions = record { names = tt; differ = tt; there = tt; elsewhere = tt; few = refl } }
 
 pub apply-valid : (s : State) (event : Event) → IsValid s → IsTrue (accepted s event) → IsValid (apply s event)
 apply-valid s event h ok =
     let layout = apply-layout s event h.layout ok in
     let queries = apply-queries s event h ok in
-    record { layout = layout; queries = queries; acyclic = apply-acyclic s event h ok; sessions = apply-sessions s event ∙ h.sessions }
+    record { layout = layout; queries = queries; acyclic = apply-acyclic s event h ok; sessions = apply-sessions s event h ok }

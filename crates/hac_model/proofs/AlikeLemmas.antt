@@ -16,7 +16,7 @@ use Rattle.hac_model.specs.Tree.Looks.{look, stands_at, stop_at, ways}
 use Rattle.hac_model.specs.Tree.Names.{is_name}
 use Rattle.hac_model.specs.Tree.Paths.{join, without_last}
 use Rattle.hac_model.specs.Query.Queries.{is_query}
-use Rattle.hac_model.specs.Run.Resolving.{directory, entry, item_and_dir, listed_directory, numbered_query, place, resolved, wanted_entry}
+use Rattle.hac_model.specs.Run.Resolving.{directory_or_root, resolved_for, directory, entry, item_and_dir, listed_directory, numbered_query, place, resolved, wanted_entry}
 use Rattle.hac_model.specs.Tree.{body_at, child, entry_at, extends, is_directory, is_directory_at, is_dirty, is_file, is_file_at, path_of, query_in, text_in}
 use Rattle.hac_model.specs.Tree.Valid.{IsLayout, IsSound, NamesDiffer, NumbersRise}
 use Rattle.hac_model.specs.declared.commands.Command.{Command}
@@ -198,6 +198,10 @@ module _ (s : State) (base : ℕ) where
   listed-bare None = refl
   listed-bare (Some word) = directory-leads word
 
+  rooted-bare : (word : Option PathWord) → directory_or_root (bare s) base word ≡ directory_or_root s base word
+  rooted-bare None = refl
+  rooted-bare (Some word) = directory-leads word
+
   numbered-bare : (raw : Formula PathWord) → numbered_query (bare s) base raw ≡ numbered_query s base raw
   numbered-bare (query.Term term) = refl
   numbered-bare (query.Dir word) = ap (and_then (λ dir. Ok (query.Dir dir))) (directory-leads word)
@@ -209,7 +213,7 @@ module _ (s : State) (base : ℕ) where
   item_and_dir-bare make item dir = λ i. and_then (λ first. and_then (λ second. Ok (make first second)) (directory-leads dir i)) (entry-bare item i)
 
   -- the outcome of a command
-  pub resolved-bare : (c : Command) → resolved (bare s) base c ≡ resolved s base c
+  resolved-bare : (c : Command) → resolved (bare s) base c ≡ resolved s base c
   resolved-bare (command.Mkdir path) = ap (and_then (λ found. Ok (done.Mkdir found))) (place-bare path)
   resolved-bare (command.Rmdir path) = ap (and_then (λ dir. Ok (done.Rmdir dir))) (directory-leads path)
   resolved-bare (command.Write path text) = ap (and_then (λ found. Ok (done.Write found text))) (place-bare path)
@@ -227,6 +231,10 @@ module _ (s : State) (base : ℕ) where
   resolved-bare (command.Sforget item dir) = item_and_dir-bare done.Sforget item dir
   resolved-bare (command.Find raw) = ap (and_then (λ asked. Ok (done.Find asked))) (numbered-bare raw)
   resolved-bare other = refl
+
+  pub for-bare : (session : List ℕ) (c : Command) → resolved_for (bare s) session base c ≡ resolved_for s session base c
+  for-bare session (command.Cd path) = ap (and_then (λ dir. Ok (done.Cd session dir))) (rooted-bare path)
+  for-bare session other = resolved-bare other
 
 -- How much there is.
 

@@ -13,7 +13,7 @@ use Rattle.hac_model.specs.Query.Queries.{is_query}
 use Rattle.hac_model.specs.Tree.{entry_at, is_directory, is_directory_at, is_file, is_file_at, is_made_directory, query_in}
 use Rattle.hac_model.specs.Tree.Valid.{AreMarks, AsksWell, IsLayout, IsValid}
 use Rattle.hac_model.specs.declared.events.Event.{Event}
-use Rattle.hac_model.specs.declared.events.Event.TheVariants.{Mkdir, NewFile, Rewrite, Mark, Mv, Rm, Rmdir, Setq, Smkdir, Step, Unq}
+use Rattle.hac_model.specs.declared.events.Event.TheVariants.{Mkdir, NewFile, Rewrite, Mark, Mv, Rm, Rmdir, Setq, Smkdir, Step, Unq, Cd}
 use Rattle.hac_model.specs.declared.marks.Kind.{Kind}
 use Rattle.hac_model.specs.declared.marks.Kind.TheVariants.{Transient, Permanent, Prohibited, Unlinked}
 use Rattle.hac_model.specs.declared.states.Body.{Body}
@@ -137,7 +137,7 @@ edited-items s n edit file m there = test-changed is_file n (edited edit) s.entr
 
 -- An entry goes.
 
-file-no_directory : (s : State) (file d : ℕ) → IsLayout s → is_file_at s.entries file ≡ true → is_directory_at s.entries d ≡ true → file ≡ d → ⊥
+pub file-no_directory : (s : State) (file d : ℕ) → IsLayout s → is_file_at s.entries file ≡ true → is_directory_at s.entries d ≡ true → file ≡ d → ⊥
 file-no_directory s file d h there dir same =
     let other : is_file_at s.entries d ≡ false = directory-no_file s.entries d (root-none s h) dir in
     let never : true ≡ false = sym there ∙ ap (is_file_at s.entries) same ∙ other in cc
@@ -234,4 +234,5 @@ apply-queries s Step h ok = elim (next_dirty s.entries) as (λ o. AllByRecursion
   | None ↦ h.queries
   | Some file ↦ changed-asks s file (edited indexed) (λ e. refl) (λ e. indexed-keeps.directories e.body) (λ e. indexed-keeps.files e.body) (λ e there. indexed-asks (changed_at s file (edited indexed)) e.body there) h
 ]
+apply-queries s (Cd session dir) h ok = all-stay s (apply s (Cd session dir)) (λ d there. there) (λ n there. there) h.queries
 apply-queries s other h ok = absurd cc

@@ -1,6 +1,6 @@
 -- The events of a command that isn't refused can happen, and steps leave fewer files dirty.
-use Rattle.std.proofs.Common.{◌≡◌, ℕ, zero, suc, ◌+◌, ◌<◌, Bool, true, false, cond, List, [], ◌∷◌, length, subst, refl, ap, sym, ◌∙◌, arith, zero-add}
-use Rattle.std.specs.Prelude.{◌==◌, ◌&&◌, ◌||◌, filter, map, not, nat_lt, replicate, Option, Some, None, Ok, IfSome, IsTrue, is_some, is_none}
+use Rattle.std.proofs.Common.{◌≡◌, ℕ, zero, suc, ◌+◌, ◌<◌, ◌≤◌, Bool, true, false, cond, List, [], ◌∷◌, length, subst, refl, ap, sym, ◌∙◌, arith, zero-add}
+use Rattle.std.specs.Prelude.{◌==◌, ◌&&◌, ◌||◌, filter, map, min, not, nat_lt, replicate, Option, Some, None, Ok, IfSome, IsTrue, is_some, is_none}
 use Rattle.std.specs.List.{list_all}
 use Rattle.std.specs.Option.{option_map, option_map_or}
 use Rattle.std.proofs.lemmas.Bool.{and_from, and_parts, not_from_false}
@@ -10,27 +10,31 @@ use Rattle.hac_model.specs.Tree.Events.{accepted, apply, apply_all, changed_at, 
 use Rattle.hac_model.specs.Tree.Depends.{cycle_of_move, cycle_over, names_directory, referrers}
 use Rattle.hac_model.specs.Laws.{AllHappen}
 use Rattle.hac_model.specs.Tree.Limits.{answer_limits, counts, dirty_count, first_passed, is_text, layout_limits, passed_limit}
-use Rattle.hac_model.specs.Script.Lines.{is_spelled}
+use Rattle.hac_model.specs.Script.Lines.{is_spelled_line}
+use Rattle.hac_model.specs.Script.SpaceNames.{is_space_name}
 use Rattle.hac_model.specs.Tree.Links.{has, is_item, is_permanent, is_prohibited, is_semantic, links, parent_of}
 use Rattle.hac_model.specs.Run.Given.{no_answers}
-use Rattle.hac_model.specs.Run.Refusals.{already_cause, answer_cause, blocking_cause, cause, cycle_by, cycle_cause, directory_cause, early_cause, event_of, events_of, filled_cause, layout_cause, least_path, led_to, plain_cause, referenced_cause, root_cause, taken_cause, under_cause, unlinked_cause, unmarked_cause}
+use Rattle.hac_model.specs.Run.Refusals.{already_cause, answer_cause, blocking_cause, busy_cause, cause, cycle_by, cycle_cause, directory_cause, early_cause, event_of, events_of, filled_cause, layout_cause, least_path, led_to, plain_cause, referenced_cause, root_cause, taken_cause, under_cause, unlinked_cause, unmarked_cause}
 use Rattle.hac_model.specs.Run.Resolving.{resolve}
 use Rattle.hac_model.specs.Run.Standing.{AllStand}
+use Rattle.hac_model.specs.Tree.Sessions.{are_few, is_busy, least_name, sessions_with, visitors}
 use Rattle.hac_model.specs.Tree.{entry_at, is_directory_at, is_dirty, is_file_at, is_live, is_made_directory, path_of}
 use Rattle.hac_model.specs.Tree.Valid.{IsLayout, IsValid, NumbersRise}
 use Rattle.hac_model.specs.declared.commands.Line.{Line}
 use Rattle.hac_model.specs.declared.events.Event.{Event}
 use Rattle.hac_model.specs.declared.events.Event.TheVariants.{Step}
 use Rattle.hac_model.specs.declared.limits.LimitWord.{LimitWord}
+use Rattle.hac_model.specs.declared.limits.LimitWord.TheVariants.{Sessions}
 use Rattle.hac_model.specs.declared.places.Place.TheVariants.{There, Free}
 use Rattle.hac_model.specs.declared.replies.Refusal.{Refusal}
 use Rattle.hac_model.specs.declared.replies.Refusal.TheVariants as refusal
 use Rattle.hac_model.specs.declared.replies.Refusal.TheVariants.{NoPath, NotDir}
 use Rattle.hac_model.specs.declared.resolved.Resolved.{Resolved}
-use Rattle.hac_model.specs.declared.resolved.Resolved.TheVariants.{Mkdir, Rmdir, Write, Mv, Rm, Smkdir, Setq, Unq, Sln, Srm, Sforget, Index}
+use Rattle.hac_model.specs.declared.resolved.Resolved.TheVariants.{Mkdir, Rmdir, Write, Cd, Mv, Rm, Smkdir, Setq, Unq, Sln, Srm, Sforget, Index, Tick}
 use Rattle.hac_model.specs.declared.states.Body.{Body}
 use Rattle.hac_model.specs.declared.states.Body.TheVariants.{File}
 use Rattle.hac_model.specs.declared.states.Entry.{Entry}
+use Rattle.hac_model.specs.declared.states.Session.{Session}
 use Rattle.hac_model.specs.declared.states.State.{State}
 use Rattle.hac_model.proofs.AcyclicLemmas.{apply-valid}
 use Rattle.hac_model.proofs.CountLemmas.{dirty_count-is, measured-changed, measured-cons, one_if}
@@ -127,11 +131,12 @@ pub step-due : (s : State) (n : ℕ) → IsLayout s → dirty s ≡ suc n → Is
 step-due s n h more = steps-due s h ∙ ap (λ (k : ℕ). nat_lt 0 k) more ∙ grind (arith, nat_tests)
 
 -- as many steps can happen as there are dirty files
-pub steps-happen : (n : ℕ) (s : State) → IsValid s → dirty s ≡ n → AllHappen s (replicate n Step)
-steps-happen zero s h none = tt
-steps-happen (suc n) s h more =
-    let due = step-due s n h.layout more in
-    let fewer : dirty (apply s Step) ≡ n = omega (arith, steps-clean s h.layout due, more) in
+pub steps-happen : (n : ℕ) (s : State) → IsValid s → n ≤ dirty s → AllHappen s (replicate n Step)
+steps-happen zero s h less = tt
+steps-happen (suc n) s h less =
+    let some : nat_lt 0 (dirty s) ≡ true = grind (arith, nat_tests, less) in
+    let due : IsTrue (accepted s Step) = steps-due s h.layout ∙ some in
+    let fewer : n ≤ dirty (apply s Step) = omega (arith, steps-clean s h.layout due, less) in
     (due, steps-happen n (apply s Step) (apply-valid s Step h due) fewer)
 
 -- and leave none dirty
@@ -169,6 +174,22 @@ unreferenced s dir none = all s.entries (no-paths (referrers s dir) (no-referenc
       | false ↦ (λ h. all es h)
     ] h
 
+-- where no session is found that stands in a directory, none does
+idle : (s : State) (dir : ℕ) → busy_cause s dir ≡ None → not (is_busy s.sessions dir) ≡ true
+idle s dir none = all s.sessions (no-busy (visitors s.sessions dir) none)
+  where
+    no-busy : (names : List (List ℕ)) → option_map refusal.Busy (least_name names) ≡ None → names ≡ []
+    no-busy [] h = refl
+    no-busy (name ∷ names) h = absurd cc
+
+    all : (ss : List Session) → visitors ss dir ≡ [] → not (is_busy ss dir) ≡ true
+    all [] h = refl
+    all (session ∷ ss) h =
+        elim (session.dir == dir) as (λ b. map (λ session. session.name) (cond b (session ∷ filter (λ session. session.dir == dir) ss) (filter (λ session. session.dir == dir) ss)) ≡ [] → not (b || is_busy ss dir) ≡ true) [
+          | true ↦ (λ h. absurd cc)
+          | false ↦ (λ h. all ss h)
+        ] h
+
 no-cycle : (s : State) (way : Option ℕ) → cycle_by s way ≡ None → way ≡ None
 no-cycle s None h = refl
 no-cycle s (Some dir) h = absurd cc
@@ -194,11 +215,12 @@ module _ (s : State) (h : IsLayout s) where
   unblocked-placed (Mkdir (There number)) there free = tt
   unblocked-placed (Mkdir (Free dir name)) there free = there
   unblocked-placed (Rmdir dir) there free =
-      let root = free-root s dir (filled_cause s dir ∷ referenced_cause s dir ∷ []) free in
-      let full = no_cause (filled_cause s dir) (referenced_cause s dir ∷ []) root.1 in
+      let root = free-root s dir (filled_cause s dir ∷ referenced_cause s dir ∷ busy_cause s dir ∷ []) free in
+      let full = no_cause (filled_cause s dir) (referenced_cause s dir ∷ busy_cause s dir ∷ []) root.1 in
       and_from (is_made_directory s.entries dir) (is_bare s.entries dir) (made s dir there root.0) (no_other (is_bare s.entries dir) (refusal.NotEmpty (path_of s dir)) full.0)
   unblocked-placed (Write (There number) text) there free = and_from (is_file_at s.entries number) (is_text text) (file-there number there.0 free) there.1
   unblocked-placed (Write (Free dir name) text) there free = and_from (is_free s dir name) (is_text text) there.0 there.1
+  unblocked-placed (Cd session dir) there free = and_from (is_space_name session) (is_directory_at s.entries dir) there.0 there.1
   unblocked-placed (Mv entry (There number)) there free = tt
   unblocked-placed (Mv entry (Free dir name)) there free =
       let root = free-root s entry (taken_cause s (Free dir name) ∷ under_cause s entry (Free dir name) ∷ []) free in
@@ -225,11 +247,13 @@ module _ (s : State) (h : IsLayout s) where
   unblocked-clear (Mkdir (There number)) there free acyclic = tt
   unblocked-clear (Mkdir (Free dir name)) there free acyclic = refl
   unblocked-clear (Rmdir dir) there free acyclic =
-      let root = free-root s dir (filled_cause s dir ∷ referenced_cause s dir ∷ []) free in
-      let full = no_cause (filled_cause s dir) (referenced_cause s dir ∷ []) root.1 in
-      unreferenced s dir (no_cause (referenced_cause s dir) [] full.1).0
+      let root = free-root s dir (filled_cause s dir ∷ referenced_cause s dir ∷ busy_cause s dir ∷ []) free in
+      let full = no_cause (filled_cause s dir) (referenced_cause s dir ∷ busy_cause s dir ∷ []) root.1 in
+      let named = no_cause (referenced_cause s dir) (busy_cause s dir ∷ []) full.1 in
+      and_from (is_unreferenced s dir) (not (is_busy s.sessions dir)) (unreferenced s dir named.0) (idle s dir (no_cause (busy_cause s dir) [] named.1).0)
   unblocked-clear (Write (There number) text) there free acyclic = refl
   unblocked-clear (Write (Free dir name) text) there free acyclic = refl
+  unblocked-clear (Cd session dir) there free acyclic = no_other (are_few (sessions_with session dir s.sessions)) (refusal.Limit Sessions) free
   unblocked-clear (Mv entry (There number)) there free acyclic = tt
   unblocked-clear (Mv entry (Free dir name)) there free acyclic = ap (λ (o : Option ℕ). is_none o) (no-cycle s (cycle_of_move s entry dir) acyclic)
   unblocked-clear (Rm entry) there free acyclic = refl
@@ -256,11 +280,12 @@ made-happens s (Some e) placed clear limits =
     (and_from (is_possible s e) (is_none (passed_limit (apply s e))) possible (ap (λ (o : Option LimitWord). is_none o) limits), tt)
 
 pub unblocked-happen : (s : State) (r : Resolved) → IsValid s → AllStand s r → blocking_cause s r ≡ None → cycle_cause s r ≡ None → passed_limit (led_to no_answers s r) ≡ None → AllHappen s (events_of no_answers s r)
-unblocked-happen s Index h there free acyclic limits = steps-happen (dirty s) s h refl
+unblocked-happen s Index h there free acyclic limits = steps-happen (dirty s) s h (omega arith)
+unblocked-happen s (Tick steps) h there free acyclic limits = steps-happen (min steps (dirty s)) s h (omega arith)
 unblocked-happen s r h there free acyclic limits =
     made-happens s (event_of r) (unblocked-placed s h.layout r there free) (unblocked-clear s h.layout r there free acyclic) limits
 
-pub commands-happen : (s : State) (line : Line) (r : Resolved) → IsValid s → IsTrue (is_spelled line.command) → resolve s line ≡ Ok r → cause no_answers s r ≡ None → AllHappen s (events_of no_answers s r)
+pub commands-happen : (s : State) (line : Line) (r : Resolved) → IsValid s → IsTrue (is_spelled_line line) → resolve s line ≡ Ok r → cause no_answers s r ≡ None → AllHappen s (events_of no_answers s r)
 commands-happen s line r h spelled leads free =
     let parts = cause-parts s r free in
     unblocked-happen s r h (line-stands s line r h spelled leads) parts.0 parts.1 parts.2

@@ -1,4 +1,4 @@
--- A state is its bare tree joined with its facts.
+-- A state is its bare tree joined with its facts and its sessions.
 use Rattle.std.proofs.Common.{◌≡◌, ℕ, List, [], ◌∷◌, map, refl, ap, sym, ◌∙◌}
 use Rattle.std.specs.Prelude.{Some, filter}
 use Rattle.std.specs.List.{AllByRecursion}
@@ -8,12 +8,13 @@ use Rattle.hac_model.specs.Tree.Facts.{Facts, bare_after, facts_at, facts_in, fa
 use Rattle.hac_model.specs.Tree.{entry_at}
 use Rattle.hac_model.specs.Tree.Valid.{NumbersRise}
 use Rattle.hac_model.specs.declared.events.Event.{Event}
-use Rattle.hac_model.specs.declared.events.Event.TheVariants.{Mark, Rm}
+use Rattle.hac_model.specs.declared.events.Event.TheVariants.{Mark, Rm, Step, Cd}
 use Rattle.hac_model.specs.declared.states.Body.{Body}
 use Rattle.hac_model.specs.declared.states.Body.TheVariants.{File, Dir, Symlink, Semantic, Mount}
 use Rattle.hac_model.specs.declared.states.Entry.{Entry}
+use Rattle.hac_model.specs.declared.states.Session.{Session}
 use Rattle.hac_model.specs.declared.states.State.{State}
-use Rattle.hac_model.proofs.AcyclicLemmas.{apply-sessions}
+use Rattle.hac_model.proofs.SessionLemmas.{sessions-follow}
 use Rattle.hac_model.proofs.BareLemmas.{changed-kept, forgotten-entries, marked-bare}
 use Rattle.hac_model.proofs.ChangeLemmas.{is_kept}
 use Rattle.hac_model.proofs.TreeLemmas.{all-entries}
@@ -43,8 +44,8 @@ bare-filled facts (Mount space documents answers) = refl
 abbrev IsFilled : State → Entry → Type 0
 IsFilled s e = filled_entry (facts_of s) (edited bare_body e) ≡ e
 
-pub rejoined : (s : State) → NumbersRise 0 s.entries s.next → s.sessions ≡ [] → joined (facts_of s) (bare s) ≡ s
-rejoined s rise none = λ i. record { next = s.next; entries = all s.entries (all-entries (IsFilled s) 0 s.entries s.next rise again) i; sessions = sym none i }
+pub rejoined : (s : State) → NumbersRise 0 s.entries s.next → joined (facts_of s) s.sessions (bare s) ≡ s
+rejoined s rise = λ i. record { next = s.next; entries = all s.entries (all-entries (IsFilled s) 0 s.entries s.next rise again) i; sessions = s.sessions }
   where
     again : (e : Entry) → entry_at s.entries e.number ≡ Some e → IsFilled s e
     again e found =
@@ -55,23 +56,23 @@ rejoined s rise none = λ i. record { next = s.next; entries = all s.entries (al
     all [] h = refl
     all (e ∷ es) h = λ i. h.0 i ∷ all es h.1 i
 
-pub joined-bare : (facts : ℕ → Facts) (t : State) → joined facts (bare t) ≡ joined facts t
-joined-bare facts t = λ i. record { next = t.next; entries = each t.entries i; sessions = [] }
+pub joined-bare : (facts : ℕ → Facts) (sessions : List Session) (t : State) → joined facts sessions (bare t) ≡ joined facts sessions t
+joined-bare facts sessions t = λ i. record { next = t.next; entries = each t.entries i; sessions = sessions }
   where
     each : (es : List Entry) → map (filled_entry facts) (map (edited bare_body) es) ≡ map (filled_entry facts) es
     each [] = refl
     each (e ∷ es) = λ i. record e { body = filled-bare (facts e.number) e.body i } ∷ each es i
 
-pub bare-joined : (facts : ℕ → Facts) (t : State) → bare (joined facts t) ≡ bare t
-bare-joined facts t = λ i. record { next = t.next; entries = each t.entries i; sessions = [] }
+pub bare-joined : (facts : ℕ → Facts) (sessions : List Session) (t : State) → bare (joined facts sessions t) ≡ bare t
+bare-joined facts sessions t = λ i. record { next = t.next; entries = each t.entries i; sessions = [] }
   where
     each : (es : List Entry) → map (edited bare_body) (map (filled_entry facts) es) ≡ map (edited bare_body) es
     each [] = refl
     each (e ∷ es) = λ i. record e { body = bare-filled (facts e.number) e.body i } ∷ each es i
 
--- states of one tree and equal facts are equal
-pub same-state : (s t : State) → NumbersRise 0 s.entries s.next → NumbersRise 0 t.entries t.next → s.sessions ≡ [] → t.sessions ≡ [] → bare s ≡ bare t → ((n : ℕ) → facts_of s n ≡ facts_of t n) → s ≡ t
-same-state s t rise grow none also bares facts = sym (rejoined s rise none) ∙ (λ i. joined (λ n. facts n i) (bares i)) ∙ rejoined t grow also
+-- states of one tree, equal facts and the same sessions are equal
+pub same-state : (s t : State) → NumbersRise 0 s.entries s.next → NumbersRise 0 t.entries t.next → s.sessions ≡ t.sessions → bare s ≡ bare t → ((n : ℕ) → facts_of s n ≡ facts_of t n) → s ≡ t
+same-state s t rise grow sessions bares facts = sym (rejoined s rise) ∙ (λ i. joined (λ n. facts n i) (sessions i) (bares i)) ∙ rejoined t grow
 
 -- the tree after an event is that of the state after it
 pub tree-law : (e : Event) (t : State) → bare (bare_after e t) ≡ bare (apply t e)
@@ -82,4 +83,6 @@ tree-law other t = refl
 pub tree-sessions : (e : Event) (t : State) → (bare_after e t).sessions ≡ t.sessions
 tree-sessions (Mark mark) t = refl
 tree-sessions (Rm entry) t = refl
-tree-sessions other t = apply-sessions t other
+tree-sessions (Cd session dir) t = refl
+tree-sessions Step t = sessions-follow t Step
+tree-sessions other t = refl

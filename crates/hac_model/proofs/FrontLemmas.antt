@@ -4,7 +4,7 @@ use Rattle.std.specs.Prelude.{nat_le, nat_lt, take, Option, None, Some, Err}
 use Rattle.std.specs.Option.{option_map, unwrap_or}
 use Rattle.std.proofs.lemmas.Bool.{le-ltb}
 use Rattle.std.proofs.lemmas.List.{take-append-le}
-use Rattle.hac_model.specs.Script.Lines.{Item, in_main, command_with, is_quiet, item_of, items_of, put_length}
+use Rattle.hac_model.specs.Script.Lines.{Item, is_quiet, item_of, items_of, line_with, put_length}
 use Rattle.hac_model.specs.Script.Puts.{came}
 use Rattle.hac_model.specs.Script.{due}
 use Rattle.hac_model.specs.declared.limits.LimitWord.TheVariants as limit
@@ -28,8 +28,8 @@ taken-front None xs more same = refl
 item-front : (line xs more : List ℕ) → unwrap_or (cond (nat_le (length line) LINE_LIMIT) (put_length line) None) 0 ≡ length xs → item_of line (xs ++ more) ≡ item_of line xs
 item-front line xs more same =
     elim (nat_le (length line) LINE_LIMIT) as (λ b. unwrap_or (cond b (put_length line) None) 0 ≡ length xs →
-    cond b (in_main (command_with line (option_map (λ count. came count (xs ++ more)) (put_length line)))) (Err (Limit limit.Line)) ≡ cond b (in_main (command_with line (option_map (λ count. came count xs) (put_length line)))) (Err (Limit limit.Line))) [
-      | true ↦ (λ same. ap (λ (taken : Option Taken). in_main (command_with line taken)) (taken-front (put_length line) xs more same))
+    cond b (line_with line (option_map (λ count. came count (xs ++ more)) (put_length line))) (Err (Limit limit.Line)) ≡ cond b (line_with line (option_map (λ count. came count xs) (put_length line))) (Err (Limit limit.Line))) [
+      | true ↦ (λ same. ap (λ (taken : Option Taken). line_with line taken) (taken-front (put_length line) xs more same))
       | false ↦ (λ same. refl)
     ] same
 

@@ -22,6 +22,7 @@ pub mod ScriptLemmas
 pub mod JoinLemmas
 pub mod StandLemmas
 pub mod EventLemmas
+pub mod SessionLemmas
 pub mod SpelledLemmas
 pub mod PlayLemmas
 pub mod PlainLemmas

@@ -11,9 +11,8 @@ use Rattle.hac_model.specs.Tree.Looks.{has_names, look}
 use Rattle.hac_model.specs.Tree.Names.{is_name}
 use Rattle.hac_model.specs.Tree.Paths.{are_names, join, without_last, origin}
 use Rattle.hac_model.specs.Run.Resolving.{place}
-use Rattle.hac_model.specs.Tree.Sessions.{stands_in}
 use Rattle.hac_model.specs.Tree.{child, entry_at, is_directory, is_directory_at, is_file, is_file_at, is_made_directory, path_of}
-use Rattle.hac_model.specs.Tree.Valid.{IsLayout, IsSound, IsValid}
+use Rattle.hac_model.specs.Tree.Valid.{IsLayout, IsSound}
 use Rattle.hac_model.specs.declared.paths.PathWord.{PathWord}
 use Rattle.hac_model.specs.declared.places.Place.{Place}
 use Rattle.hac_model.specs.declared.places.Place.TheVariants.{There, Free}
@@ -22,7 +21,6 @@ use Rattle.hac_model.specs.declared.replies.Refusal.TheVariants.{NoPath, NotDir}
 use Rattle.hac_model.specs.declared.states.Body.{Body}
 use Rattle.hac_model.specs.declared.states.Body.TheVariants.{File, Dir, Symlink, Semantic, Mount}
 use Rattle.hac_model.specs.declared.states.Entry.{Entry}
-use Rattle.hac_model.specs.declared.states.Session.{Session}
 use Rattle.hac_model.specs.declared.states.State.{State}
 use Rattle.hac_model.proofs.PathLemmas.{path_of-parent, path_of-root, from_root}
 use Rattle.hac_model.proofs.TreeLemmas.{Lives, child-entry, entry_at-all, entry_at-cases}
@@ -143,10 +141,6 @@ look-lives s path n h = walk-lives s.entries 0 [] path n (inl refl) (sym (look-w
 -- what it leads to and is missing is a free place
 pub look-free : (s : State) (path : List (List ℕ)) (dir : ℕ) (name : List ℕ) → IsLayout s → are_names path ≡ true → look s path ≡ Ok (Free dir name) → IsFreePlace s.entries dir name
 look-free s path dir name layout named h = walk-free s 0 [] path dir name layout refl named (sym (look-walk s path) ∙ h)
-
--- every session is in the root
-pub session-root : (s : State) (session : List ℕ) → IsValid s → stands_in s.sessions session ≡ 0
-session-root s session h = ap (λ (sessions : List Session). stands_in sessions session) h.sessions
 
 -- what a path word leads to lives
 pub place-lives : (s : State) (base : ℕ) (word : PathWord) (n : ℕ) → place s base word ≡ Ok (There n) → Lives s.entries n

@@ -1,12 +1,12 @@
 -- Scripts lead from valid states to valid states, by events one after the other.
 use Rattle.std.proofs.Common.{◌≡◌, ℕ, zero, suc, ◌+◌, Bool, true, false, cond, List, [], ◌∷◌, ◌++◌, length, refl, ap, sym, ◌∙◌}
-use Rattle.std.specs.Prelude.{if◌then◌else◌, nat_lt, filter, replicate, Some, None, Result, Ok, Err, IsTrue}
+use Rattle.std.specs.Prelude.{if◌then◌else◌, nat_lt, filter, Some, None, Result, Ok, Err, IsTrue}
 use Rattle.std.specs.List.{AllByRecursion}
 use Rattle.std.specs.Option.{option_map_or}
 use Rattle.std.proofs.lemmas.Bool.{and_parts}
 use Rattle.hac_model.specs.Tree.Events.{accepted, apply, apply_all, changed_at, dirty, edited, indexed, next_dirty}
 use Rattle.hac_model.specs.Tree.Sessions.{is_stored, stored}
-use Rattle.hac_model.specs.Script.Lines.{Item, is_quiet, is_spelled, item_of, items_of}
+use Rattle.hac_model.specs.Script.Lines.{Item, is_quiet, is_spelled_line, item_of, items_of}
 use Rattle.hac_model.specs.Payload.Payloads.{event_text}
 use Rattle.hac_model.specs.Run.Play.{Given, Setting, Turn, after_events, all_events, answered_turn, can_step, command_turn, data_lines, end_behind, events_in, full_cause, given_behind, have_room, item_turn, left_by, line_turn, no_answers, play, refused_turn, steps_behind, stored_events, turn_cause, turn_of, turns}
 use Rattle.hac_model.specs.Run.Given.{next_fault}
@@ -21,8 +21,7 @@ use Rattle.hac_model.specs.declared.replies.Refusal.TheVariants.{SpaceFault}
 use Rattle.hac_model.specs.declared.replies.Reply.{Reply}
 use Rattle.hac_model.specs.declared.replies.Reply.TheVariants.{Lines, Refused}
 use Rattle.hac_model.specs.declared.resolved.Resolved.{Resolved}
-use Rattle.hac_model.specs.declared.resolved.Resolved.TheVariants.{Mkdir, Write, Mv, Smkdir, Index}
-use Rattle.hac_model.specs.declared.places.Place.TheVariants.{There, Free}
+use Rattle.hac_model.specs.declared.resolved.Resolved.TheVariants.{Index}
 use Rattle.hac_model.specs.declared.events.Event.TheVariants as event
 use Rattle.hac_model.specs.declared.states.State.{State}
 use Rattle.hac_model.proofs.AcyclicLemmas.{apply-valid}
@@ -51,7 +50,7 @@ steps-valid (suc n) setting h =
     ] refl
 
 -- what a command leads to is valid
-command-valid : (given : Given) (setting : Setting) (line : Line) (r : Result Resolved Refusal) → IsValid setting.state → IsTrue (is_spelled line.command) → resolve setting.state line ≡ r → IsValid (command_turn given setting r).after.state
+command-valid : (given : Given) (setting : Setting) (line : Line) (r : Result Resolved Refusal) → IsValid setting.state → IsTrue (is_spelled_line line) → resolve setting.state line ≡ r → IsValid (command_turn given setting r).after.state
 command-valid given setting line (Err refusal) h spelled leads = steps-valid given.steps setting h
 command-valid given setting line (Ok command) h spelled leads =
     elim (turn_cause setting command) as (λ o. turn_cause setting command ≡ o → IsValid (option_map_or (refused_turn given setting) o (answered_turn given setting command)).after.state) [
@@ -114,23 +113,6 @@ stored-all (e ∷ events) s = stored-all events (apply s e) ∙ ap (λ (t : Stat
     at true = refl
     at false = refl
 
--- no command moves a session yet
-pub stores-all : (s : State) (r : Resolved) → stored_events s r ≡ events_of no_answers s r
-stores-all s (Mkdir (There number)) = refl
-stores-all s (Mkdir (Free dir name)) = refl
-stores-all s (Write (There number) text) = refl
-stores-all s (Write (Free dir name) text) = refl
-stores-all s (Mv entry (There number)) = refl
-stores-all s (Mv entry (Free dir name)) = refl
-stores-all s (Smkdir (There number) query) = refl
-stores-all s (Smkdir (Free dir name) query) = refl
-stores-all s Index = steps (dirty s)
-  where
-    steps : (n : ℕ) → filter is_stored (replicate n event.Step) ≡ replicate n event.Step
-    steps zero = refl
-    steps (suc n) = ap (λ (events : List Event). event.Step ∷ events) (steps n)
-stores-all s other = refl
-
 pub end_behind-append : (xs ys : List Event) (end : ℕ) → end_behind end (xs ++ ys) ≡ end_behind (end_behind end xs) ys
 end_behind-append [] ys end = refl
 end_behind-append (x ∷ xs) ys end = end_behind-append xs ys (end + 5 + length (event_text x))
@@ -138,7 +120,6 @@ end_behind-append (x ∷ xs) ys end = end_behind-append xs ys (end + 5 + length 
 -- a turn leaves what its events make of the state, and its store ends behind their records
 record Leads (setting : Setting) (turn : Turn) : Type 0 where
   state : stored turn.after.state ≡ apply_all (stored setting.state) (events_in turn)
-  whole : turn.after.state ≡ apply_all setting.state (events_in turn)
   end : turn.after.end ≡ end_behind setting.end (events_in turn)
 
 -- the steps that follow by themselves are stored
@@ -153,20 +134,19 @@ steps-stored (suc n) setting =
 
 -- a turn leads on where its command does
 turn_of-leads : (given : Given) (setting next : Setting) (reply : Reply) (events : List Event) →
-    stored next.state ≡ apply_all (stored setting.state) events → next.state ≡ apply_all setting.state events → next.end ≡ end_behind setting.end events →
+    stored next.state ≡ apply_all (stored setting.state) events → next.end ≡ end_behind setting.end events →
     Leads setting (turn_of given reply events next)
-turn_of-leads given setting next reply events state whole end =
+turn_of-leads given setting next reply events state end =
     let steps = steps_behind given.steps next in
     record {
       state =
           stored-all steps next.state ∙ ap (apply_all (stored next.state)) (steps-stored given.steps next) ∙ ap (λ (s : State). apply_all s steps) state
           ∙ sym (apply_all-append events steps (stored setting.state));
-      whole = ap (λ (s : State). apply_all s steps) whole ∙ sym (apply_all-append events steps setting.state);
       end = ap (λ (end : ℕ). end_behind end steps) end ∙ sym (end_behind-append events steps setting.end);
     }
 
 refused-leads : (given : Given) (setting : Setting) (refusal : Refusal) → Leads setting (refused_turn given setting refusal)
-refused-leads given setting refusal = turn_of-leads given setting setting (Refused refusal) [] refl refl refl
+refused-leads given setting refusal = turn_of-leads given setting setting (Refused refusal) [] refl refl
 
 command-leads : (given : Given) (setting : Setting) (r : Result Resolved Refusal) → Leads setting (command_turn given setting r)
 command-leads given setting (Err refusal) = refused-leads given setting refusal
@@ -174,7 +154,6 @@ command-leads given setting (Ok command) =
     elim (turn_cause setting command) as (λ o. Leads setting (option_map_or (refused_turn given setting) o (answered_turn given setting command))) [
       | None ↦ turn_of-leads given setting (left setting command) (Lines (data_lines no_answers setting.state command)) (stored_events setting.state command)
           (stored-all (events_of no_answers setting.state command) setting.state)
-          (ap (apply_all setting.state) (sym (stores-all setting.state command)))
           refl
       | Some refusal ↦ refused-leads given setting refusal
     ]
@@ -198,16 +177,6 @@ events-lead given setting (item ∷ items) =
     events-lead (given_behind 1 given) turn.after items
     ∙ ap (λ (s : State). apply_all s (all_events rest)) (turn-leads given setting item).state
     ∙ sym (apply_all-append (events_in turn) (all_events rest) (stored setting.state))
-
--- no event leaves the sessions yet, so the state itself is what its events make of it
-pub states-lead : (given : Given) (setting : Setting) (items : List Item) → (left_by setting (turns given setting items)).state ≡ apply_all setting.state (all_events (turns given setting items))
-states-lead given setting [] = refl
-states-lead given setting (item ∷ items) =
-    let turn = item_turn given setting item in
-    let rest = turns (given_behind 1 given) turn.after items in
-    states-lead (given_behind 1 given) turn.after items
-    ∙ ap (λ (s : State). apply_all s (all_events rest)) (turn-leads given setting item).whole
-    ∙ sym (apply_all-append (events_in turn) (all_events rest) setting.state)
 
 pub events-end : (given : Given) (setting : Setting) (items : List Item) → (left_by setting (turns given setting items)).end ≡ end_behind setting.end (all_events (turns given setting items))
 events-end given setting [] = refl

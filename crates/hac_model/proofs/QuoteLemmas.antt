@@ -8,7 +8,7 @@ use Rattle.std.proofs.lemmas.Bool.Decides.{nat_tests}
 use Rattle.hac_model.specs.Run.Answers.{◌>>=◌}
 use Rattle.hac_model.specs.Bytes.{is_backslash, is_quote}
 use Rattle.hac_model.specs.Script.LineWords.{first_word, in_front, is_word_end, quoted, quoted_escape, quoted_word}
-use Rattle.hac_model.specs.Laws.{in_quotes, quoted_byte}
+use Rattle.hac_model.specs.Script.LineWords.{in_quotes, quoted_byte}
 use Rattle.hac_model.specs.declared.replies.Refusal.{Refusal}
 use Rattle.hac_model.specs.declared.replies.Refusal.TheVariants.{BadLine}
 

@@ -1,37 +1,38 @@
--- Each event that can happen to a valid state has a spelling: its numbers have four bytes, and its names, texts and
+-- Each event that can happen to a valid state, and is stored, has a spelling: its numbers have four bytes, and its names, texts and
 -- queries are no longer than such may be.
-use Rattle.std.proofs.Common.{inl, inr, ◌≡◌, ℕ, ◌<◌, ◌≤◌, Bool, true, false, List, [], ◌∷◌, ◌++◌, length, refl, ap, sym, ◌∙◌, arith}
-use Rattle.std.specs.Prelude.{codes, not, option_and_then, ◌&&◌, ◌==◌, nat_le, Option, Some, None, IsTrue, is_some}
+use Rattle.std.proofs.Common.{inl, inr, ◌≡◌, ℕ, zero, suc, ◌<◌, ◌≤◌, Bool, true, false, List, [], ◌∷◌, ◌++◌, length, refl, ap, sym, ◌∙◌, arith}
+use Rattle.std.specs.Prelude.{codes, not, option_and_then, ◌&&◌, ◌||◌, ◌==◌, if◌then◌else◌, nat_le, Option, Some, None, IsTrue, is_some, is_none}
 use Rattle.std.proofs.lemmas.Bool.{and_from, and_parts, eqb-true}
 use Rattle.std.proofs.lemmas.Bool.Decides.{nat_tests}
 use Rattle.std.proofs.lemmas.List.Folds.{list_all-append}
 use Rattle.std.specs.List.{list_all}
 use Rattle.std.specs.Option.{option_map, option_map_or}
 use Rattle.std.specs.Str.{bytes_eq}
-use Rattle.hac_model.specs.Tree.Depends.{named_in}
-use Rattle.hac_model.specs.Tree.Events.{accepted, apply, are_directories, is_free, is_possible, may_ask, may_mark}
+use Rattle.hac_model.specs.Tree.Depends.{cycle_over, first_reaching, named_in, reaches}
+use Rattle.hac_model.specs.Tree.Events.{accepted, apply, are_directories, changed_at, edited, indexed, is_clear, is_free, is_placed, is_possible, is_unreferenced, may_ask, may_mark, next_dirty}
 use Rattle.hac_model.specs.Payload.Fields.{num}
 use Rattle.hac_model.specs.Query.Formula.{Formula}
 use Rattle.hac_model.specs.Query.Formula as formula
-use Rattle.hac_model.specs.Tree.Limits.{is_text, passed_limit}
-use Rattle.hac_model.specs.Tree.Links.{is_semantic}
+use Rattle.hac_model.specs.Tree.Limits.{is_text, passed_limit, semantic_count}
+use Rattle.hac_model.specs.Tree.Links.{has, is_permanent, is_semantic, links, parent_of, query_at, round, rounds}
 use Rattle.hac_model.specs.Tree.Names.{is_name, is_name_byte}
 use Rattle.hac_model.specs.Payload.Payloads.{is_spellable, mark_field, name_field, text_field, told_field}
 use Rattle.hac_model.specs.Query.Queries.{is_query}
 use Rattle.hac_model.specs.Payload.QueryFields.{are_nums, query_field}
-use Rattle.hac_model.specs.Tree.Sessions.{stored}
-use Rattle.hac_model.specs.Tree.{body_at, entry_at, is_directory, is_directory_at, is_file, is_file_at, query_in}
-use Rattle.hac_model.specs.Tree.Valid.{IsValid}
+use Rattle.hac_model.specs.Tree.Sessions.{is_busy, is_stored, stored}
+use Rattle.hac_model.specs.Tree.{body_at, entry_at, is_directory, is_directory_at, is_file, is_file_at, path_of, query_in}
+use Rattle.hac_model.specs.Tree.Valid.{AsksWell, IsValid}
 use Rattle.hac_model.specs.declared.events.Event.{Event}
 use Rattle.hac_model.specs.declared.events.Event.TheVariants.{Mkdir, NewFile, Rewrite, Ln, Mv, Rm, Rmdir, Smkdir, Setq, Unq, Mark, Smount, Ssync, Sumount, Step, Cd}
+use Rattle.hac_model.specs.declared.limits.LimitWord.{LimitWord}
 use Rattle.hac_model.specs.declared.limits.TheConstants.{NAME_LIMIT, NUMBERS_LIMIT, TEXT_LIMIT}
 use Rattle.hac_model.specs.declared.marks.Kind.{Kind}
 use Rattle.hac_model.specs.declared.marks.Kind.TheVariants.{Transient, Permanent, Prohibited, Unlinked}
 use Rattle.hac_model.specs.declared.states.Body.{Body}
 use Rattle.hac_model.specs.declared.states.Entry.{Entry}
-use Rattle.hac_model.specs.declared.states.Session.{Session}
 use Rattle.hac_model.specs.declared.states.State.{State}
-use Rattle.hac_model.proofs.AcyclicLemmas.{apply-valid}
+use Rattle.hac_model.proofs.AskLemmas.{asks-stays}
+use Rattle.hac_model.proofs.ChangeLemmas.{all-weaker}
 use Rattle.hac_model.proofs.LimitLemmas.{IsWithinLimits, limits-within}
 use Rattle.hac_model.proofs.TreeLemmas.{Lives, directory-lives, entry_at-below}
 use Rattle.hac_model.proofs.ValidLemmas.{accepted-parts, free-parts, mark-parts, move-parts, rmdir-parts, setq-parts, smkdir-parts}
@@ -119,47 +120,128 @@ module _ (s : State) (h : IsValid s) where
       query_of : Option Entry → Option (Formula ℕ)
       query_of o = option_and_then query_in (option_map (λ (e : Entry). e.body) o)
 
-  possible-spelled : (e : Event) → is_possible s e ≡ true → is_spellable e ≡ true
+  possible-spelled : (e : Event) → is_stored e ≡ true → is_possible s e ≡ true → is_spellable e ≡ true
   unfolding is_spellable
-  possible-spelled (Mkdir dir name) is = let place = place-fits dir name is in and_from (num.fits dir) (name_field.fits name) place.0 place.1
-  possible-spelled (NewFile dir name text) is =
+  possible-spelled (Mkdir dir name) kept is = let place = place-fits dir name is in and_from (num.fits dir) (name_field.fits name) place.0 place.1
+  possible-spelled (NewFile dir name text) kept is =
       let parts = and_parts (is_free s dir name) (is_text text) is in
       let place = place-fits dir name parts.0 in
       and_from (num.fits dir) _ place.0 (and_from (name_field.fits name) (text_field.fits text) place.1 (text-fits text parts.1))
-  possible-spelled (Rewrite file text) is =
+  possible-spelled (Rewrite file text) kept is =
       let parts = and_parts (is_file_at s.entries file) (is_text text) is in
       and_from (num.fits file) (text_field.fits text) (tested-fits file is_file parts.0) (text-fits text parts.1)
-  possible-spelled (Smkdir dir name query told) is =
+  possible-spelled (Smkdir dir name query told) kept is =
       let parts = smkdir-parts s dir name query told is in
       let place = place-fits dir name parts.0 in
       and_from (num.fits dir) _ place.0 (and_from (name_field.fits name) _ place.1 (and_from (query_field.fits query) (told_field.fits told) (query-fits query parts.1) (told-fits told parts.2)))
-  possible-spelled (Setq dir query told) is =
+  possible-spelled (Setq dir query told) kept is =
       let parts = setq-parts s dir query told is in
       and_from (num.fits dir) _ (tested-fits dir is_directory parts.0) (and_from (query_field.fits query) (told_field.fits told) (query-fits query parts.1) (told-fits told parts.3))
-  possible-spelled (Unq dir) is = semantic-fits dir is
-  possible-spelled (Mark set) is =
+  possible-spelled (Unq dir) kept is = semantic-fits dir is
+  possible-spelled (Mark set) kept is =
       let parts = mark-parts s set.dir set.item set.kind is in
       and_from (num.fits set.dir) _ (semantic-fits set.dir parts.1) (and_from (num.fits set.item) (mark_field.fits set.kind) (tested-fits set.item is_file parts.0) (mark-fits set.dir set.item set.kind parts.2))
-  possible-spelled (Mv entry dir name) is =
+  possible-spelled (Mv entry dir name) kept is =
       let parts = move-parts s entry dir name is in
       let place = place-fits dir name parts.1 in
       and_from (num.fits entry) _ (there-fits entry parts.0) (and_from (num.fits dir) (name_field.fits name) place.0 place.1)
-  possible-spelled (Rm entry) is = tested-fits entry is_file is
-  possible-spelled (Rmdir dir) is = tested-fits dir is_directory (rmdir-parts s dir is).0
-  possible-spelled Step is = refl
-  possible-spelled (Ln dir name target) is = absurd cc
-  possible-spelled (Smount dir name space docs told) is = absurd cc
-  possible-spelled (Ssync mount docs told) is = absurd cc
-  possible-spelled (Sumount mount) is = absurd cc
-  possible-spelled (Cd session dir) is = absurd cc
+  possible-spelled (Rm entry) kept is = tested-fits entry is_file is
+  possible-spelled (Rmdir dir) kept is = tested-fits dir is_directory (rmdir-parts s dir is).0
+  possible-spelled Step kept is = refl
+  possible-spelled (Ln dir name target) kept is = absurd cc
+  possible-spelled (Smount dir name space docs told) kept is = absurd cc
+  possible-spelled (Ssync mount docs told) kept is = absurd cc
+  possible-spelled (Sumount mount) kept is = absurd cc
+  possible-spelled (Cd session dir) kept is = absurd cc
 
-pub accepted-spelled : (s : State) (e : Event) → IsValid s → IsTrue (accepted s e) → IsTrue (is_spellable e)
-accepted-spelled s e h is = possible-spelled s h e (accepted-parts (is_possible s e) (passed_limit (apply s e)) is).0
+pub accepted-spelled : (s : State) (e : Event) → IsValid s → IsTrue (is_stored e) → IsTrue (accepted s e) → IsTrue (is_spellable e)
+accepted-spelled s e h kept is = possible-spelled s h e kept (accepted-parts (is_possible s e) (passed_limit (apply s e)) is).0
 
--- every session is in the root, so all of a valid state is stored
-pub all-stored : (s : State) → IsValid s → stored s ≡ s
-all-stored s h = ap (λ (sessions : List Session). record s { sessions = sessions }) (sym h.sessions)
+-- Where sessions stand plays no part in what is stored.
 
-pub not-stored : (s : State) (e : Event) → IsValid s → IsTrue (accepted s e) → IsTrue (accepted (stored s) e) × (stored (apply s e) ≡ apply (stored s) e)
-not-stored s e h is =
-    (ap (λ (t : State). accepted t e) (all-stored s h) ∙ is, all-stored (apply s e) (apply-valid s e h is) ∙ ap (λ (t : State). apply t e) (sym (all-stored s h)))
+-- what is stored of a valid state is valid
+pub stored-valid : (s : State) → IsValid s → IsValid (stored s)
+unfolding passed_limit
+stored-valid s h = record {
+  layout = record {
+    numbers = h.layout.numbers;
+    names = h.layout.names;
+    parents = h.layout.parents;
+    differ = h.layout.differ;
+    bodies = h.layout.bodies;
+    limits = h.layout.limits;
+  };
+  queries = all-weaker (λ e. AsksWell s e.body) (λ e. AsksWell (stored s) e.body) s.entries (λ e asks. asks-stays s (stored s) e.body (λ d there. there) (λ n there. there) asks) h.queries;
+  acyclic = h.acyclic;
+  sessions = record { names = tt; differ = tt; there = tt; elsewhere = tt; few = refl };
+}
+
+module _ (s : State) where
+  reaching-stored : (dir : ℕ) (others : List ℕ) → first_reaching (stored s) dir others ≡ first_reaching s dir others
+  unfolding first_reaching reaches
+  reaching-stored dir [] = refl
+  reaching-stored dir (other ∷ others) = ap (λ (o : Option ℕ). if reaches s other dir then Some other else o) (reaching-stored dir others)
+
+  moving-stored : (entry dir : ℕ) (o : Option (Formula ℕ)) → option_and_then (cycle_over (stored s) entry dir) o ≡ option_and_then (cycle_over s entry dir) o
+  moving-stored entry dir None = refl
+  moving-stored entry dir (Some query) = reaching-stored entry (dir ∷ named_in query)
+
+  rounds-stored : (n : ℕ) → rounds n (stored s) ≡ rounds n s
+  unfolding path_of
+  rounds-stored zero = refl
+  rounds-stored (suc n) = ap (round s) (rounds-stored n)
+
+  links-stored : links (stored s) ≡ links s
+  unfolding links
+  links-stored = rounds-stored (semantic_count s.entries)
+
+  marking-stored : (dir item : ℕ) (kind : Kind) → may_mark (stored s) dir item kind ≡ may_mark s dir item kind
+  marking-stored dir item Permanent = refl
+  marking-stored dir item Prohibited = ap (λ (found : ℕ → List ℕ). is_permanent s dir item || has (found dir) item) links-stored
+  marking-stored dir item Unlinked = refl
+  marking-stored dir item Transient = refl
+
+  placed-stored : (e : Event) → is_placed (stored s) e ≡ is_placed s e
+  unfolding path_of
+  placed-stored (Mkdir dir name) = refl
+  placed-stored (NewFile dir name text) = refl
+  placed-stored (Rewrite file text) = refl
+  placed-stored (Smkdir dir name query told) = refl
+  placed-stored (Setq dir query told) = refl
+  placed-stored (Unq dir) = refl
+  placed-stored (Mark mark) = refl
+  placed-stored (Mv entry dir name) = refl
+  placed-stored (Rm entry) = refl
+  placed-stored (Rmdir dir) = refl
+  placed-stored Step = refl
+  placed-stored other = refl
+
+  -- what is clear with sessions is clear without
+  clear-stored : (e : Event) → is_stored e ≡ true → is_clear s e ≡ true → is_clear (stored s) e ≡ true
+  clear-stored (Setq dir query told) kept clear = ap (λ (o : Option ℕ). is_none o) (reaching-stored dir (parent_of s dir ∷ named_in query)) ∙ clear
+  clear-stored (Mark mark) kept clear = marking-stored mark.dir mark.item mark.kind ∙ clear
+  clear-stored (Mv entry dir name) kept clear = ap (λ (o : Option ℕ). is_none o) (moving-stored entry dir (query_at s entry)) ∙ clear
+  clear-stored (Rmdir dir) kept clear = and_from (is_unreferenced s dir) true (and_parts (is_unreferenced s dir) (not (is_busy s.sessions dir)) clear).0 refl
+  clear-stored (Cd session dir) kept clear = absurd cc
+  clear-stored other kept clear = refl
+
+  passed-stored : (e : Event) → is_stored e ≡ true → passed_limit (apply (stored s) e) ≡ passed_limit (apply s e)
+  unfolding passed_limit
+  passed-stored Step kept = elim (next_dirty s.entries) as (λ o. passed_limit (option_map_or (λ file. changed_at (stored s) file (edited indexed)) o (stored s)) ≡ passed_limit (option_map_or (λ file. changed_at s file (edited indexed)) o s)) [ None ↦ refl | Some file ↦ refl ]
+  passed-stored (Cd session dir) kept = absurd cc
+  passed-stored other kept = refl
+
+  applied-stored : (e : Event) → is_stored e ≡ true → stored (apply s e) ≡ apply (stored s) e
+  applied-stored Step kept = elim (next_dirty s.entries) as (λ o. stored (option_map_or (λ file. changed_at s file (edited indexed)) o s) ≡ option_map_or (λ file. changed_at (stored s) file (edited indexed)) o (stored s)) [ None ↦ refl | Some file ↦ refl ]
+  applied-stored (Cd session dir) kept = absurd cc
+  applied-stored other kept = refl
+
+pub not-stored : (s : State) (e : Event) → IsValid s → IsTrue (is_stored e) → IsTrue (accepted s e) → IsTrue (accepted (stored s) e) × (stored (apply s e) ≡ apply (stored s) e)
+not-stored s e h kept is =
+    let parts = accepted-parts (is_possible s e) (passed_limit (apply s e)) is in
+    let possible = and_parts (is_clear s e) (is_placed s e) parts.0 in (
+      and_from (is_possible (stored s) e) (is_none (passed_limit (apply (stored s) e)))
+          (and_from (is_clear (stored s) e) (is_placed (stored s) e) (clear-stored s e kept possible.0) (placed-stored s e ∙ possible.1))
+          (ap (λ (o : Option LimitWord). is_none o) (passed-stored s e kept ∙ parts.1)),
+      applied-stored s e kept,
+    )

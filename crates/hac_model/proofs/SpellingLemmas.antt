@@ -4,19 +4,23 @@ use Rattle.std.specs.Prelude.{◌&&◌, ◌||◌, if◌then◌else◌, nat_le, c
 use Rattle.std.specs.List.{list_all}
 use Rattle.std.specs.Option.{ok_or}
 use Rattle.std.specs.Str.{bytes_eq}
-use Rattle.std.proofs.lemmas.Bool.{and_from, cond_both}
+use Rattle.std.specs.Str.Parse.{digits_value}
+use Rattle.std.proofs.lemmas.Bool.{and_from, and_parts, cond_both}
 use Rattle.hac_model.specs.Run.Answers.{◌>>=◌}
 use Rattle.hac_model.specs.Bytes.{is_space}
 use Rattle.hac_model.specs.Tree.Limits.{is_text}
-use Rattle.hac_model.specs.Script.LineWords.{first_word, after_space}
-use Rattle.hac_model.specs.Script.Lines.{Item, alone, called_with, command_with, each_path, find_of, in_main, is_put, is_spelled, item_of, item_taken, limited_text, ls_of, named_command, of_two_paths, one_path, only_path, only_word, path_and_query, put_at, put_of, put_words, taken_of, two_paths, write_of}
+use Rattle.hac_model.specs.Script.LineWords.{after_first_run, after_space, first_word}
+use Rattle.hac_model.specs.Script.Numbers.{are_steps, is_number, is_tick}
+use Rattle.hac_model.specs.Script.SessionWords.{main_session, named_session, names_session, session_name, session_words}
+use Rattle.hac_model.specs.Script.SpaceNames.{is_space_byte, is_space_name}
+use Rattle.hac_model.specs.Script.Lines.{Item, alone, called_with, command_with, each_path, find_of, is_put, is_spelled, is_spelled_line, item_of, item_taken, limited_text, line_with, maybe_path, named_command, of_two_paths, one_path, only_path, only_word, path_and_query, put_at, put_of, put_words, taken_of, tick_of, two_paths, write_of}
 use Rattle.hac_model.specs.Script.PathWords.{is_bad, word_of}
 use Rattle.hac_model.specs.Tree.Paths.{are_names}
 use Rattle.hac_model.specs.Query.Formula.{Formula}
 use Rattle.hac_model.specs.Query.QueryReading.{is_spelled_query, read_query}
 use Rattle.hac_model.specs.Script.Texts.{text_of}
 use Rattle.hac_model.specs.declared.commands.Command.{Command}
-use Rattle.hac_model.specs.declared.commands.Command.TheVariants.{Mkdir, Rmdir, Write, Cat, Ls, Mv, Rm, Smkdir, Setq, Unq, Query, Sls, Sln, Srm, Sforget, Find, Index, Counts}
+use Rattle.hac_model.specs.declared.commands.Command.TheVariants.{Mkdir, Rmdir, Write, Cat, Ls, Cd, Pwd, Mv, Rm, Smkdir, Setq, Unq, Query, Sls, Sln, Srm, Sforget, Find, Index, Tick, Counts}
 use Rattle.hac_model.specs.declared.commands.Line.{Line}
 use Rattle.hac_model.specs.declared.limits.LimitWord.TheVariants as limit
 use Rattle.hac_model.specs.declared.limits.TheConstants.{LINE_LIMIT}
@@ -87,11 +91,12 @@ spells_one command arguments spelled =
     spells-then (only_path arguments) _ (λ path given.
     command-spelled (command path) (spelled path (only_path-spelled (only_word arguments) path given)))
 
-spells_ls : (arguments : List ℕ) → Spells (ls_of arguments)
-unfolding Spells ls_of
-spells_ls arguments =
-    spells-if (list_all is_space arguments) (Ok (Ls None)) (one_path (λ path. Ls (Some path)) arguments)
-    (λ _. refl) (λ _. spells_one (λ path. Ls (Some path)) arguments (λ path names. names))
+spells_maybe : (command : Option PathWord → Command) (arguments : List ℕ) → is_spelled (command None) ≡ true
+    → ((path : PathWord) → are_names path.names ≡ true → is_spelled (command (Some path)) ≡ true) → Spells (maybe_path command arguments)
+unfolding maybe_path
+spells_maybe command arguments none some =
+    spells-if (list_all is_space arguments) (Ok (command None)) (one_path (λ path. command (Some path)) arguments)
+    (λ _. command-spelled (command None) none) (λ _. spells_one (λ path. command (Some path)) arguments some)
 
 spells_two : (command : PathWord → PathWord → Command) (arguments : List ℕ)
     → ((first second : PathWord) → are_names first.names ≡ true → are_names second.names ≡ true → is_spelled (command first second) ≡ true)
@@ -140,6 +145,15 @@ spells_alone : (command : Command) (arguments : List ℕ) → is_spelled command
 unfolding Spells alone
 spells_alone command arguments spelled = spells-if (list_all is_space arguments) (Ok command) (Err BadLine) (λ good. spelled) (λ bad. tt)
 
+tick-spelled : (word : List ℕ) → Spells (if is_tick word then Ok (Tick (digits_value 10 word)) else Err BadLine)
+tick-spelled word =
+    spells-if (is_tick word) (Ok (Tick (digits_value 10 word))) (Err BadLine)
+    (λ is. command-spelled (Tick (digits_value 10 word)) (and_parts (is_number word) (are_steps (digits_value 10 word)) is).1) (λ other. spells_bad_line)
+
+spells_tick : (arguments : List ℕ) → Spells (tick_of arguments)
+unfolding tick_of
+spells_tick arguments = spells-then (only_word arguments) _ (λ word _. tick-spelled word)
+
 spells_named : (name arguments : List ℕ) → Spells (named_command name arguments)
 spells_named name arguments =
     let P = Spells in
@@ -151,21 +165,24 @@ spells_named name arguments =
     (λ _. cond_both (bytes_eq name (codes "rmdir")) _ _ P (λ _. spells_one Rmdir arguments (λ path names. names))
     (λ _. cond_both (bytes_eq name (codes "write")) _ _ P (λ _. spells_write arguments)
     (λ _. cond_both (bytes_eq name (codes "cat")) _ _ P (λ _. spells_one Cat arguments (λ path names. names))
-    (λ _. cond_both (bytes_eq name (codes "ls")) _ _ P (λ _. spells_ls arguments)
+    (λ _. cond_both (bytes_eq name (codes "ls")) _ _ P (λ _. spells_maybe Ls arguments refl (λ path names. names))
+    (λ _. cond_both (bytes_eq name (codes "cd")) _ _ P (λ _. spells_maybe Cd arguments refl (λ path names. names))
+    (λ _. cond_both (bytes_eq name (codes "pwd")) _ _ P (λ _. spells_alone Pwd arguments refl)
     (λ _. cond_both (bytes_eq name (codes "mv")) _ _ P (λ _. spells_two Mv arguments both)
     (λ _. cond_both (bytes_eq name (codes "rm")) _ _ P (λ _. spells_one Rm arguments (λ path names. names))
     (λ _. cond_both (bytes_eq name (codes "smkdir")) _ _ P (λ _. spells_queried Smkdir arguments asks)
     (λ _. cond_both (bytes_eq name (codes "setq")) _ _ P (λ _. spells_queried Setq arguments asks)
     (λ _. cond_both (bytes_eq name (codes "unq")) _ _ P (λ _. spells_one Unq arguments (λ path names. names))
     (λ _. cond_both (bytes_eq name (codes "query")) _ _ P (λ _. spells_one Query arguments (λ path names. names))
-    (λ _. cond_both (bytes_eq name (codes "sls")) _ _ P (λ _. spells_one (λ path. Sls (Some path)) arguments (λ path names. names))
+    (λ _. cond_both (bytes_eq name (codes "sls")) _ _ P (λ _. spells_maybe Sls arguments refl (λ path names. names))
     (λ _. cond_both (bytes_eq name (codes "sln")) _ _ P (λ _. spells_two Sln arguments both)
     (λ _. cond_both (bytes_eq name (codes "srm")) _ _ P (λ _. spells_two Srm arguments both)
     (λ _. cond_both (bytes_eq name (codes "sforget")) _ _ P (λ _. spells_two Sforget arguments both)
     (λ _. cond_both (bytes_eq name (codes "find")) _ _ P (λ _. spells_find arguments)
     (λ _. cond_both (bytes_eq name (codes "index")) _ _ P (λ _. spells_alone Index arguments refl)
+    (λ _. cond_both (bytes_eq name (codes "tick")) _ _ P (λ _. spells_tick arguments)
     (λ _. cond_both (bytes_eq name (codes "counts")) _ _ P (λ _. spells_alone Counts arguments refl)
-    (λ _. spells_bad_line))))))))))))))))))
+    (λ _. spells_bad_line)))))))))))))))))))))
 
 spells_put_at : (word : List ℕ) (taken : Option Taken) → Spells (put_at word taken)
 unfolding Spells
@@ -183,36 +200,67 @@ spells_put arguments taken = spells-then (put_words arguments) _ (λ words _. sp
 spells_called : (name arguments : List ℕ) (taken : Option Taken) → Spells (called_with name arguments taken)
 spells_called name arguments taken = cond_both (is_put name) _ _ Spells (λ _. spells_put arguments taken) (λ _. spells_named name arguments)
 
-spells_with : (line : List ℕ) (taken : Option Taken) → Spells (command_with line taken)
-spells_with line taken = spells-then (first_word line) _ (λ name _. spells_called name.0 name.1 taken)
+spells_with : (bytes : List ℕ) (taken : Option Taken) → Spells (command_with bytes taken)
+spells_with bytes taken = spells-then (first_word bytes) _ (λ name _. spells_called name.0 name.1 taken)
 
--- an item is a line whose command has words that it may have, or a refusal
+-- The session.
+
+main-spelled : is_space_name main_session ≡ true
+unfolding is_space_byte is_space_name
+main-spelled = refl
+
+named-spelled : (line : List ℕ) (session : List ℕ × List ℕ) → named_session line ≡ Ok session → is_space_name session.0 ≡ true
+named-spelled line session given =
+    elim (is_space_name (session_name line)) as (λ b. is_space_name (session_name line) ≡ b
+    → (let read : Result (List ℕ × List ℕ) Refusal = if b then Ok (session_name line, after_first_run line) else Err BadLine in read) ≡ Ok session → is_space_name session.0 ≡ true) [
+      | true ↦ (λ is same. let even : (session_name line, after_first_run line) ≡ session = cc in ap (λ (w : List ℕ × List ℕ). is_space_name w.0) (sym even) ∙ is)
+      | false ↦ (λ other same. absurd cc)
+    ] refl given
+
+-- the name of a session is one that a space may have
+pub session-spelled : (line : List ℕ) (session : List ℕ × List ℕ) → session_words line ≡ Ok session → is_space_name session.0 ≡ true
+session-spelled line session given =
+    elim (names_session line) as (λ b. (let read : Result (List ℕ × List ℕ) Refusal = if b then named_session line else Ok (main_session, line) in read) ≡ Ok session → is_space_name session.0 ≡ true) [
+      | true ↦ (λ same. named-spelled line session same)
+      | false ↦ (λ same. let even : (main_session, line) ≡ session = cc in ap (λ (w : List ℕ × List ℕ). is_space_name w.0) (sym even) ∙ main-spelled)
+    ] given
+
+-- an item is a line whose session and command have words that they may have, or a refusal
 abbrev pub IsItem : Item → Type 0
-IsItem (Ok line) = IsTrue (is_spelled line.command)
+IsItem (Ok line) = IsTrue (is_spelled_line line)
 IsItem (Err refusal) = ⊤
 
-in_main-item : (command : Result Command Refusal) → Spells command → IsItem (in_main command)
+said-item : (name : List ℕ) (command : Result Command Refusal) → is_space_name name ≡ true → Spells command → IsItem (command >>= λ c. Ok (record { session = name; command = c }))
 unfolding Spells
-in_main-item (Ok command) h = h
-in_main-item (Err refusal) h = tt
+said-item name (Ok command) is h = and_from (is_space_name name) (is_spelled command) is h
+said-item name (Err refusal) is h = tt
+
+session-item : (session : Result (List ℕ × List ℕ) Refusal) (taken : Option Taken) → ((words : List ℕ × List ℕ) → session ≡ Ok words → is_space_name words.0 ≡ true)
+    → IsItem (session >>= λ words. command_with words.1 taken >>= λ c. Ok (record { session = words.0; command = c }))
+session-item (Ok words) taken is = said-item words.0 (command_with words.1 taken) (is words refl) (spells_with words.1 taken)
+session-item (Err refusal) taken is = tt
 
 item_taken-item : (line : List ℕ) (taken : Option Taken) → IsItem (item_taken line taken)
 item_taken-item line taken =
-    elim (nat_le (length line) LINE_LIMIT) as (λ b. IsItem (if b then in_main (command_with line taken) else Err (Limit limit.Line))) [
-      | true ↦ in_main-item (command_with line taken) (spells_with line taken)
+    elim (nat_le (length line) LINE_LIMIT) as (λ b. IsItem (if b then line_with line taken else Err (Limit limit.Line))) [
+      | true ↦ session-item (session_words line) taken (session-spelled line)
       | false ↦ tt
     ]
 
 pub item_of-item : (bytes behind : List ℕ) → IsItem (item_of bytes behind)
 item_of-item bytes behind = item_taken-item bytes (taken_of bytes behind)
 
-line-spelled : (item : Item) (line : Line) → IsItem item → item ≡ Ok line → IsTrue (is_spelled line.command)
-line-spelled (Ok given) line h same = let even : given ≡ line = cc in ap (λ (l : Line). is_spelled l.command) (sym even) ∙ h
+-- of a line both the session's name and the command are spelled
+pub spelled-parts : (line : Line) → IsTrue (is_spelled_line line) → IsTrue (is_space_name line.session) × IsTrue (is_spelled line.command)
+spelled-parts line h = and_parts (is_space_name line.session) (is_spelled line.command) h
+
+line-spelled : (item : Item) (line : Line) → IsItem item → item ≡ Ok line → IsTrue (is_spelled_line line)
+line-spelled (Ok given) line h same = let even : given ≡ line = cc in ap (λ (l : Line). is_spelled_line l) (sym even) ∙ h
 line-spelled (Err refusal) line h same = absurd cc
 
 -- whatever came of the bytes that a line asks for
-pub taken-spells : (line : List ℕ) (taken : Option Taken) (given : Line) → item_taken line taken ≡ Ok given → IsTrue (is_spelled given.command)
+pub taken-spells : (line : List ℕ) (taken : Option Taken) (given : Line) → item_taken line taken ≡ Ok given → IsTrue (is_spelled_line given)
 taken-spells line taken given same = line-spelled (item_taken line taken) given (item_taken-item line taken) same
 
-pub lines-spell : (bytes behind : List ℕ) (line : Line) → item_of bytes behind ≡ Ok line → IsTrue (is_spelled line.command)
+pub lines-spell : (bytes behind : List ℕ) (line : Line) → item_of bytes behind ≡ Ok line → IsTrue (is_spelled_line line)
 lines-spell bytes behind line same = taken-spells bytes (taken_of bytes behind) line same

@@ -5,7 +5,7 @@ use Rattle.std.proofs.lemmas.Bool.{and_from, and_parts}
 use Rattle.std.proofs.lemmas.List.Folds.{list_all-append}
 use Rattle.std.proofs.lemmas.Result.{IfOk-at_ok, IfOk-weaker}
 use Rattle.hac_model.specs.Run.Answers.{and_then}
-use Rattle.hac_model.specs.Run.Resolving.{wanted_directory, directory, entry, item_and_dir, listed_directory, numbered_query, place, resolve, resolved, wanted_entry}
+use Rattle.hac_model.specs.Run.Resolving.{wanted_directory, directory, directory_or_root, entry, item_and_dir, listed_directory, numbered_query, place, resolve, resolved, resolved_for, wanted_entry}
 use Rattle.hac_model.specs.Run.Standing.{AllStand, AreThere, StandsAt}
 use Rattle.hac_model.specs.Tree.Depends.{named_in}
 use Rattle.hac_model.specs.Tree.Events.{are_directories, may_ask}
@@ -18,7 +18,8 @@ use Rattle.hac_model.specs.Query.Formula.{Formula}
 use Rattle.hac_model.specs.Query.Formula as query
 use Rattle.hac_model.specs.Query.Queries.{are_terms, is_query, letter_count, not_count, term_count}
 use Rattle.hac_model.specs.Query.QueryReading.{are_rooted, is_spelled_query}
-use Rattle.hac_model.specs.Script.Lines.{is_spelled, is_spelled_word}
+use Rattle.hac_model.specs.Script.Lines.{is_spelled, is_spelled_line, is_spelled_word}
+use Rattle.hac_model.specs.Script.SpaceNames.{is_space_name}
 use Rattle.hac_model.specs.declared.commands.Command.{Command}
 use Rattle.hac_model.specs.declared.commands.Command.TheVariants as command
 use Rattle.hac_model.specs.declared.commands.Line.{Line}
@@ -29,9 +30,10 @@ use Rattle.hac_model.specs.declared.places.Place.TheVariants.{There, Free}
 use Rattle.hac_model.specs.declared.replies.Refusal.{Refusal}
 use Rattle.hac_model.specs.declared.replies.Refusal.TheVariants.{NotDir}
 use Rattle.hac_model.specs.declared.resolved.Resolved.{Resolved}
-use Rattle.hac_model.specs.declared.resolved.Resolved.TheVariants.{Mkdir, Rmdir, Write, Cat, Ls, Mv, Rm, Smkdir, Setq, Unq, Query, Sls, Sln, Srm, Sforget, Find}
+use Rattle.hac_model.specs.declared.resolved.Resolved.TheVariants.{Mkdir, Rmdir, Write, Cat, Ls, Cd, Mv, Rm, Smkdir, Setq, Unq, Query, Sls, Sln, Srm, Sforget, Find}
 use Rattle.hac_model.specs.declared.states.State.{State}
-use Rattle.hac_model.proofs.LookLemmas.{place-free, place-lives, session-root}
+use Rattle.hac_model.proofs.LookLemmas.{place-free, place-lives}
+use Rattle.hac_model.proofs.SessionLemmas.{session-there}
 use Rattle.hac_model.proofs.TreeLemmas.{directory-lives, live-is}
 
 -- what is known of a value is known of what comes of it
@@ -86,6 +88,10 @@ module _ (s : State) (base : ℕ) (h : IsLayout s) (from : is_directory_at s.ent
   listed-stands : (word : Option PathWord) → IfOk (listed_directory s base word) IsDirectory
   listed-stands (Some word) = directory-stands word
   listed-stands None = from
+
+  rooted-stands : (word : Option PathWord) → IfOk (directory_or_root s base word) IsDirectory
+  rooted-stands (Some word) = directory-stands word
+  rooted-stands None = refl
 
   numbered-is : (raw : Formula PathWord) → IfOk (numbered_query s base raw) (IsNumbered s raw)
   numbered-is (query.Term term) = record { terms = refl; count = refl; letters = refl; nots = refl; named = refl }
@@ -156,7 +162,7 @@ module _ (s : State) (base : ℕ) (h : IsLayout s) (from : is_directory_at s.ent
       on-ok Lives (AllStand s) (λ n. and_then (λ m. Ok (make n m)) (directory s base dir)) (entry s base item) (entry-lives item) (λ n lives.
       at-directory (make n) dir (λ m there. known n m (lives, there)))
 
-  pub resolved-stands : (c : Command) → is_spelled c ≡ true → IfOk (resolved s base c) (AllStand s)
+  resolved-stands : (c : Command) → is_spelled c ≡ true → IfOk (resolved s base c) (AllStand s)
   resolved-stands (command.Mkdir path) spelled = at-place Mkdir path spelled (λ p there. there)
   resolved-stands (command.Rmdir path) spelled = at-directory Rmdir path (λ n there. there)
   resolved-stands (command.Write path text) spelled =
@@ -164,6 +170,7 @@ module _ (s : State) (base : ℕ) (h : IsLayout s) (from : is_directory_at s.ent
       at-place (λ p. Write p text) path parts.0 (λ p there. (there, parts.1))
   resolved-stands (command.Cat path) spelled = at-entry Cat path (λ n lives. lives)
   resolved-stands (command.Ls path) spelled = at-listed Ls path (λ n there. there)
+  resolved-stands command.Pwd spelled = from
   resolved-stands (command.Mv from to) spelled =
       let parts = and_parts (is_spelled_word from) (is_spelled_word to) spelled in
       on-ok Lives (AllStand s) (λ n. and_then (λ p. Ok (Mv n p)) (place s base to)) (entry s base from) (entry-lives from) (λ n lives.
@@ -188,11 +195,14 @@ module _ (s : State) (base : ℕ) (h : IsLayout s) (from : is_directory_at s.ent
   resolved-stands command.Counts spelled = tt
   resolved-stands other spelled = tt
 
--- where a session stands there is a directory
-pub session-directory : (s : State) (session : List ℕ) → IsValid s → is_directory_at s.entries (stands_in s.sessions session) ≡ true
-session-directory s session h = ap (λ (n : ℕ). is_directory_at s.entries n) (session-root s session h)
+  pub for-stands : (session : List ℕ) (c : Command) → is_space_name session ≡ true → is_spelled c ≡ true → IfOk (resolved_for s session base c) (AllStand s)
+  for-stands session (command.Cd path) named spelled =
+      on-ok IsDirectory (AllStand s) (λ n. Ok (Cd session n)) (directory_or_root s base path) (rooted-stands path) (λ n there. (named, there))
+  for-stands session other named spelled = resolved-stands other spelled
 
 -- so what a line leads to is there
-pub line-stands : (s : State) (line : Line) (r : Resolved) → IsValid s → IsTrue (is_spelled line.command) → resolve s line ≡ Ok r → AllStand s r
+pub line-stands : (s : State) (line : Line) (r : Resolved) → IsValid s → IsTrue (is_spelled_line line) → resolve s line ≡ Ok r → AllStand s r
 line-stands s line r h spelled leads =
-    IfOk-at_ok (AllStand s) leads (resolved-stands s (stands_in s.sessions line.session) h.layout (session-directory s line.session h) line.command spelled)
+    let parts = and_parts (is_space_name line.session) (is_spelled line.command) spelled in
+    IfOk-at_ok (AllStand s) leads
+    (for-stands s (stands_in s.sessions line.session) h.layout (session-there s s.sessions line.session h.sessions.there) line.session line.command parts.0 parts.1)

@@ -10,10 +10,11 @@ use Rattle.hac_model.specs.Query.Formula.{Formula}
 use Rattle.hac_model.specs.Tree.Limits.{first_passed, is_text, passed_limit, file_bytes}
 use Rattle.hac_model.specs.Tree.Links.{is_item, is_semantic, parent_of}
 use Rattle.hac_model.specs.Tree.Names.{is_name}
+use Rattle.hac_model.specs.Tree.Sessions.{is_busy}
 use Rattle.hac_model.specs.Tree.{child, empty, entry_at, is_directory, is_directory_at, is_file, is_file_at, is_made_directory, query_in}
 use Rattle.hac_model.specs.Tree.Valid.{IsLayout, IsSound, IsSoundFile}
 use Rattle.hac_model.specs.declared.events.Event.{Event}
-use Rattle.hac_model.specs.declared.events.Event.TheVariants.{Mkdir, NewFile, Rewrite, Mark, Mv, Rm, Rmdir, Setq, Smkdir, Step, Unq}
+use Rattle.hac_model.specs.declared.events.Event.TheVariants.{Mkdir, NewFile, Rewrite, Mark, Mv, Rm, Rmdir, Setq, Smkdir, Step, Unq, Cd}
 use Rattle.hac_model.specs.declared.limits.LimitWord.{LimitWord}
 use Rattle.hac_model.specs.declared.marks.Kind.{Kind}
 use Rattle.hac_model.specs.declared.marks.Kind.TheVariants.{Transient, Permanent, Prohibited, Unlinked}
@@ -227,11 +228,12 @@ move-parts s entry dir name h =
     let free = and_parts (is_some (entry_at s.entries entry)) (is_free s dir name) there.0 in
     (free.0, free.1, not-true (is_inside s dir entry) there.1, none_from (cycle_of_move s entry dir) way.0)
 
-pub rmdir-parts : (s : State) (dir : ℕ) → is_possible s (Rmdir dir) ≡ true → (is_made_directory s.entries dir ≡ true) × (is_bare s.entries dir ≡ true) × (is_unreferenced s dir ≡ true)
+pub rmdir-parts : (s : State) (dir : ℕ) → is_possible s (Rmdir dir) ≡ true → (is_made_directory s.entries dir ≡ true) × (is_bare s.entries dir ≡ true) × (is_unreferenced s dir ≡ true) × (is_busy s.sessions dir ≡ false)
 rmdir-parts s dir h =
-    let named = and_parts (is_unreferenced s dir) (is_placed s (Rmdir dir)) h in
-    let bare = and_parts (is_made_directory s.entries dir) (is_bare s.entries dir) named.1 in
-    (bare.0, bare.1, named.0)
+    let clear = and_parts (is_unreferenced s dir && not (is_busy s.sessions dir)) (is_placed s (Rmdir dir)) h in
+    let named = and_parts (is_unreferenced s dir) (not (is_busy s.sessions dir)) clear.0 in
+    let bare = and_parts (is_made_directory s.entries dir) (is_bare s.entries dir) clear.1 in
+    (bare.0, bare.1, named.0, not-true (is_busy s.sessions dir) named.1)
 
 -- an event that is accepted fits, and leads to a state that exceeds no limit
 pub accepted-parts : (possible : Bool) (passes : Option LimitWord) → (possible && is_none passes) ≡ true → (possible ≡ true) × (passes ≡ None)
@@ -277,4 +279,12 @@ apply-layout s Step h ok =
       | None ↦ (λ ok. h)
       | Some file ↦ (λ ok. edited-layout s file indexed indexed-kind indexed-sound h (none_from (passed_limit (changed_at s file (edited indexed))) ok))
     ] ok
+apply-layout s (Cd session dir) h ok = record {
+  numbers = h.numbers;
+  names = h.names;
+  parents = h.parents;
+  differ = h.differ;
+  bodies = h.bodies;
+  limits = (accepted-parts (is_possible s (Cd session dir)) (passed_limit (apply s (Cd session dir))) ok).1;
+}
 apply-layout s other h ok = absurd cc

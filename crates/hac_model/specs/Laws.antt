@@ -1,14 +1,14 @@
 -- Theorems over the definitions, each proved as the contract of a function of the module `laws`.
-use Rattle.std.specs.Prelude.{true, false, ◌≡◌, ⊤, ℕ, zero, suc, ◌≤◌, ◌+◌, length, if◌then◌else◌, ◌||◌, nat_lt, List, [], ◌∷◌, ◌++◌, None, Some, Ok, IsTrue, is_some, codes}
+use Rattle.std.specs.Prelude.{true, false, ◌≡◌, ⊤, ℕ, zero, suc, ◌≤◌, ◌+◌, length, nat_lt, List, [], ◌∷◌, ◌++◌, None, Some, Ok, IsTrue, is_some, codes}
 use Rattle.std.specs.List.{flat_map, position_or_len}
 use Rattle.hac_model.specs.Tree.Bare.{bare}
-use Rattle.hac_model.specs.Bytes.{is_backslash, is_line_end, is_quote}
+use Rattle.hac_model.specs.Bytes.{is_line_end}
 use Rattle.hac_model.specs.Script.CommandLine.{options}
 use Rattle.hac_model.specs.Tree.Depends.{IsAcyclic}
 use Rattle.hac_model.specs.Tree.Events.{accepted, apply, apply_all, dirty, renamed}
 use Rattle.hac_model.specs.Tree.Facts.{facts_after, facts_of}
-use Rattle.hac_model.specs.Script.LineWords.{first_word, is_word_end, quoted_word}
-use Rattle.hac_model.specs.Script.Lines.{Item, is_spelled, item_of}
+use Rattle.hac_model.specs.Script.LineWords.{first_word, in_quotes, is_word_end, quoted_word}
+use Rattle.hac_model.specs.Script.Lines.{Item, is_spelled_line, item_of}
 use Rattle.hac_model.specs.Tree.Links.{column, found_by, has, is_below, is_permanent, is_prohibited, is_semantic, links, provide, round, shown_of}
 use Rattle.hac_model.specs.Tree.Kinds as kinds
 use Rattle.hac_model.specs.Tree.Looks.{look, plain}
@@ -16,7 +16,7 @@ use Rattle.hac_model.specs.Script.Printed.{ended}
 use Rattle.hac_model.specs.Run.Refusals.{cause, events_of, led_to, marks}
 use Rattle.hac_model.specs.Run.Resolving.{resolve}
 use Rattle.hac_model.specs.Script.{due, whole}
-use Rattle.hac_model.specs.Tree.Sessions.{stored}
+use Rattle.hac_model.specs.Tree.Sessions.{is_stored, sessions_after, stored}
 use Rattle.hac_model.specs.Payload.Payloads.{is_spellable}
 use Rattle.hac_model.specs.Run.Play.{Given, Setting, all_events, end_after, given_behind, left_by, new_setting, no_answers, nothing_given, play, turns, turns_text}
 use Rattle.hac_model.specs.Script.Texts.{escaped_text, text_of}
@@ -76,14 +76,18 @@ FactsFollow =
     (s : State) (event : Event) → IsValid s → IsTrue (accepted s event) →
     (number : ℕ) → facts_of (apply s event) number ≡ facts_after event (bare s) (facts_of s) number
 
--- valid states of one tree are equal, if all numbers have the same facts
+-- what it does to sessions depends on them alone
+abbrev pub SessionsFollow : Type 0
+SessionsFollow = (s : State) (event : Event) → (apply s event).sessions ≡ sessions_after event s.sessions
+
+-- valid states of one tree and the same sessions are equal, if all numbers have the same facts
 abbrev pub PartsTellState : Type 0
 PartsTellState =
-    (s t : State) → IsValid s → IsValid t → bare s ≡ bare t → ((number : ℕ) → facts_of s number ≡ facts_of t number) → s ≡ t
+    (s t : State) → IsValid s → IsValid t → bare s ≡ bare t → s.sessions ≡ t.sessions → ((number : ℕ) → facts_of s number ≡ facts_of t number) → s ≡ t
 
--- a line spells a command only with words that the command may have
+-- a line spells a session's name and a command only with words that these may have
 abbrev pub LinesSpell : Type 0
-LinesSpell = (bytes behind : List ℕ) (line : Line) → item_of bytes behind ≡ Ok line → IsTrue (is_spelled line.command)
+LinesSpell = (bytes behind : List ℕ) (line : Line) → item_of bytes behind ≡ Ok line → IsTrue (is_spelled_line line)
 
 -- events can happen one after the other
 abbrev pub AllHappen : State → List Event → Type 0
@@ -93,7 +97,7 @@ AllHappen s (event ∷ events) = IsTrue (accepted s event) × AllHappen (apply s
 -- the events of a command that isn't refused can happen, all of them
 abbrev pub CommandsHappen : Type 0
 CommandsHappen =
-    (s : State) (line : Line) (command : Resolved) → IsValid s → IsTrue (is_spelled line.command) →
+    (s : State) (line : Line) (command : Resolved) → IsValid s → IsTrue (is_spelled_line line) →
     resolve s line ≡ Ok command → cause no_answers s command ≡ None → AllHappen s (events_of no_answers s command)
 
 -- a step can happen just where a file is dirty
@@ -126,14 +130,16 @@ EventsEnd =
     (given : Given) (setting : Setting) (items : List Item) →
     (left_by setting (turns given setting items)).end ≡ end_after setting (all_events (turns given setting items))
 
--- each event that a valid state accepts has a spelling
+-- each event that a valid state accepts and that is stored has a spelling
 abbrev pub AcceptedAreSpelled : Type 0
-AcceptedAreSpelled = (s : State) (event : Event) → IsValid s → IsTrue (accepted s event) → IsTrue (is_spellable event)
+AcceptedAreSpelled = (s : State) (event : Event) → IsValid s → IsTrue (is_stored event) → IsTrue (accepted s event) → IsTrue (is_spellable event)
 
--- where sessions stand is never stored: what can happen to a state can happen to what is stored of it, and leads to
--- what is stored of the outcome
+-- where sessions stand is never stored: what can happen to a state and is stored can happen to what is stored of it,
+-- and leads to what is stored of the outcome
 abbrev pub SessionsAreNotStored : Type 0
-SessionsAreNotStored = (s : State) (event : Event) → IsValid s → IsTrue (accepted s event) → IsTrue (accepted (stored s) event) × (stored (apply s event) ≡ apply (stored s) event)
+SessionsAreNotStored =
+    (s : State) (event : Event) → IsValid s → IsTrue (is_stored event) → IsTrue (accepted s event) →
+    IsTrue (accepted (stored s) event) × (stored (apply s event) ≡ apply (stored s) event)
 
 -- where no directory depends on itself, the links don't change when they are found anew
 abbrev pub LinksStay : Type 0
@@ -223,14 +229,6 @@ PrintedTextIsRead = (text : List ℕ) → text_of (escaped_text text) ≡ Some t
 -- and a printed text is one line
 abbrev pub PrintedTextIsOneLine : Type 0
 PrintedTextIsOneLine = (text : List ℕ) → position_or_len is_line_end (escaped_text text) ≡ length (escaped_text text)
-
--- a byte of a word in quotes
-abbrev pub quoted_byte : ℕ → List ℕ
-quoted_byte b = if is_quote b || is_backslash b then 92 ∷ b ∷ [] else b ∷ []
-
--- a word in quotes
-abbrev pub in_quotes : List ℕ → List ℕ
-in_quotes word = 34 ∷ (flat_map quoted_byte word ++ 34 ∷ [])
 
 -- any bytes can be a word in quotes, and are read as that word, whatever follows
 abbrev pub QuotedWordIsRead : Type 0

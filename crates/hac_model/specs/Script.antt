@@ -2,6 +2,8 @@
 pub mod Lines
 pub mod LineWords
 pub mod PathWords
+pub mod SessionWords
+pub mod Numbers
 pub mod Puts
 pub mod Printed
 pub mod Texts

@@ -3,7 +3,8 @@ ghost use Rattle.hac_model.specs.Laws.{MarksAreSet, MarksStay, QueriesLeaveMarks
 ghost use Rattle.hac_model.specs.Laws.{LinksAreUnmarked, FoundAreIndexed, AddedAreProvided};
 ghost use Rattle.hac_model.specs.Laws.{RemovedAreNotProvided, ScriptsJoin, WholeIsLines};
 ghost use Rattle.hac_model.specs.Laws.{WholeIsFront, WholeIsLongest, EmptyIsValid, EventsKeepValid};
-ghost use Rattle.hac_model.specs.Laws.{BareCommutes, FactsFollow, PartsTellState, LinesSpell};
+ghost use Rattle.hac_model.specs.Laws.{BareCommutes, FactsFollow, SessionsFollow, PartsTellState};
+ghost use Rattle.hac_model.specs.Laws.{LinesSpell};
 ghost use Rattle.hac_model.specs.Laws.{CommandsHappen, StepsAreDue, StepsClean, IndexCleans};
 ghost use Rattle.hac_model.specs.Laws.{ScriptsKeepValid, EventsLead, EventsEnd, AcceptedAreSpelled};
 ghost use Rattle.hac_model.specs.Laws.{SessionsAreNotStored, FullStore, FirstEnd};
@@ -46,10 +47,11 @@ pub fn bare_commutes()
 /// state is known by both.
 pub fn facts_follow()
     ensures follow { FactsFollow }
+    ensures sessions { SessionsFollow }
     ensures tell { PartsTellState }
 {}
 
-/// A command that a line spells has only words that it may have.
+/// A line spells a session's name and a command only with words that these may have.
 pub fn lines_spell()
     ensures { LinesSpell }
 {}
@@ -78,7 +80,7 @@ pub fn events_lead()
     ensures end { EventsEnd }
 {}
 
-/// An event that can happen can be stored.
+/// An event that can happen has a spelling, if it is one that is stored.
 pub fn accepted_events_are_spelled()
     ensures { AcceptedAreSpelled }
 {}

@@ -22,6 +22,9 @@ pub const TERMS_LIMIT: u64 = 64;
 /// The most parentheses and `NOT`s around any one term of a query.
 pub const NESTING_LIMIT: u64 = 32;
 
+/// The most files that one `tick` indexes.
+pub const TICK_LIMIT: u64 = 65_536;
+
 /// The most bytes of a script.
 pub const SCRIPT_LIMIT: u64 = 268_435_456;
 
@@ -37,6 +40,9 @@ pub const SEMANTICS_LIMIT: u64 = 1_000;
 
 /// The most names in the path of an entry.
 pub const PATH_LIMIT: u64 = 64;
+
+/// The most sessions that are in a directory other than the root.
+pub const SESSIONS_LIMIT: u64 = 64;
 
 /// The most files.
 pub const ITEMS_LIMIT: u64 = 65_536;

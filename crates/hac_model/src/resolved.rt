@@ -1,5 +1,5 @@
 //! Commands whose paths were followed: in place of each path there is what it leads to.
-use crate::bytes::Text;
+use crate::bytes::{Name, Text};
 use crate::numbers::Number;
 use crate::places::Place;
 use crate::queries::Query;
@@ -32,6 +32,18 @@ pub enum Resolved {
     },
     /// Lists a directory.
     Ls {
+        /// The directory.
+        dir: Number,
+    },
+    /// Makes a directory a session's.
+    Cd {
+        /// The session's name.
+        session: Name,
+        /// The directory.
+        dir: Number,
+    },
+    /// Shows the path of a session's directory.
+    Pwd {
         /// The directory.
         dir: Number,
     },
@@ -104,6 +116,11 @@ pub enum Resolved {
     },
     /// Indexes all dirty files.
     Index,
+    /// Indexes at most this many dirty files.
+    Tick {
+        /// The most steps.
+        steps: u64,
+    },
     /// Shows how many things of each kind there are.
     Counts,
 }

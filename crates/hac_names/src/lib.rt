@@ -7,10 +7,12 @@ pub mod laws;
 mod names;
 mod printing;
 mod reading;
+mod spaces;
 mod texts;
 
 pub use joining::join;
 pub use names::is_name;
 pub use printing::print_path;
 pub use reading::{NameFault, has_long_part, is_bad, parse_word};
+pub use spaces::is_space_name;
 pub use texts::{parse_text, print_text};

@@ -1,5 +1,5 @@
 -- What a crash may leave while a new store is being made.
-use Rattle.std.proofs.Common.{◌≡◌, ◌⊎◌, inl, inr, ℕ, ◌<◌, List, [], ◌∷◌, ◌++◌, length, take, drop, slice_index, None, Some, Ok, Err, Result, IfSome, OnOk, IsErr, refl, sym, ◌∙◌, ap, subst, arith, append_assoc}
+use Rattle.std.proofs.Common.{◌≡◌, ◌⊎◌, inl, inr, ℕ, ◌<◌, List, [], ◌∷◌, ◌++◌, length, take, drop, slice_index, None, Some, Ok, Err, Result, IfOk, IfSome, rules, OnOk, IsErr, refl, sym, ◌∙◌, ap, subst, arith, append_assoc}
 use Rattle.std.specs.declared.option.Option.{Option}
 use Rattle.std.proofs.lemmas.List.{get_or-take, drop_at, take_at, length-take}
 use Rattle.hac_disk.specs.Images.{IsQuiet, LeavesOnly, Torn, TornFrom, overlaid}
@@ -10,8 +10,11 @@ use Rattle.hac_journal.specs.Appending.{ClosedAt}
 use Rattle.hac_model.specs.Run.Play.{new_setting}
 use Rattle.hac_store.specs.Creating.{Becomes, IsReady, HoldsNone}
 use Rattle.hac_store.specs.Held.{held}
-use Rattle.hac_store.specs.Stores.{IsNewOrNone, Stands}
+use Rattle.hac_store.specs.Stores.{IsNewOrNone, Opens, Seen, Stands}
+use Rattle.hac_store.specs.declared.fault.StoreFault.{StoreFault}
+use Rattle.hac_model.specs.declared.states.State.{State}
 use Rattle.hac_store.specs.declared.creating.TheConstants.{NEW}
+use Rattle.hac_store.proofs.HeldLemmas.{held-stored}
 use Rattle.hac_store.proofs.NewLemmas.{opened-held, torn-behind, torn-first, torn-open, torn-shut, unheld-new}
 
 -- what follows where a call went well
@@ -49,6 +52,19 @@ rest-ready (Some old) (Some file) new shut written =
     ap (λ (l : List ℕ). take 64 (drop 1 l)) (append_assoc (take 1 file) (drop 1 NEW) behind)
     ∙ ap (take 64) (drop_at (take 1 file) (drop 1 NEW ++ behind) 1 one) ∙ take_at (drop 1 NEW) behind 64 refl in
     subst (Becomes (Some old) IsReady) (sym written) ready
+
+-- a store that was read from a settled disk: the disk stands for it
+pub loaded-stands : (old mid new : Option (List ℕ)) (image now : List ℕ → Type 0) (result : Result Seen StoreFault) → mid ≡ old → new ≡ mid → ((c : List ℕ) → now c → image c) → IsSettled mid image
+    → IfSome mid (λ file. Opens result (held file)) → IfSome old (λ _. IfOk result (λ store. Stands new now store.setting))
+loaded-stands old mid new image now result same also images settled opens =
+    subst (λ (o : Option (List ℕ)). IfSome o (λ _. IfOk result (λ store. Stands new now store.setting))) same
+    (subst (λ (o : Option (List ℕ)). IfSome mid (λ _. IfOk result (λ store. Stands o now store.setting))) (sym also) (at mid result settled opens))
+  where
+    at : (mid : Option (List ℕ)) (result : Result Seen StoreFault) → IsSettled mid image → IfSome mid (λ file. Opens result (held file)) → IfSome mid (λ _. IfOk result (λ store. Stands mid now store.setting))
+    at None result settled opens = search rules
+    at (Some file) (Err fault) settled opens = tt
+    at (Some file) (Ok store) settled opens =
+        λ c left. ap held (settled c (images c left)) ∙ opens ∙ ap (λ (s : State). Ok (record store.setting { state = s })) (sym (held-stored file store.setting opens))
 
 -- once its gate is open, it is a new store
 pub opened-stands : {E : Type 0} (result : Result Unit E) (seen mid new : Option (List ℕ)) (image : List ℕ → Type 0) → Becomes seen IsReady mid

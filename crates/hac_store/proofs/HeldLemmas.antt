@@ -15,14 +15,16 @@ use Rattle.hac_journal.proofs.CrashLemmas.{front-less}
 use Rattle.hac_journal.proofs.LawLemmas.{closed-is-found}
 use Rattle.hac_model.specs.Tree.Events.{apply_all}
 use Rattle.hac_model.specs.Payload.Payloads.{event_text}
-use Rattle.hac_model.specs.Run.Play.{Setting, after_events, end_behind}
+use Rattle.hac_model.specs.Run.Play.{Setting, after_events, end_behind, stored_setting}
 use Rattle.hac_model.specs.Tree.{empty}
+use Rattle.hac_model.specs.Tree.Sessions.{stored}
 use Rattle.hac_model.specs.Tree.Valid.{IsValid}
 use Rattle.hac_model.specs.declared.events.Event.{Event}
 use Rattle.hac_model.proofs.AcyclicLemmas.{empty-valid}
 use Rattle.hac_store.specs.Held.{Log, from_root, held, log, with_root}
 use Rattle.hac_store.specs.Stores.{HeldBetween}
-use Rattle.hac_store.proofs.LogLemmas.{Ends, AreStored, log-closed, log-ends, log-records, log-valid}
+use Rattle.hac_store.proofs.LogLemmas.{Ends, log-closed, log-ends, log-records, log-stored, log-valid}
+use Rattle.hac_store.proofs.StoredLemmas.{AreStored}
 
 -- the store of a root and the end of its log
 abbrev pub setting_of : Root → Log → Setting
@@ -68,6 +70,12 @@ held-valid file setting is =
     let parts = held-parts file setting is in
     log-valid empty parts.root.start file (record { state = setting.state; end = setting.end }) empty-valid parts.log_is
 
+-- all of it is stored: no session
+pub held-stored : (file : List ℕ) (setting : Setting) → held file ≡ Ok setting → stored setting.state ≡ setting.state
+held-stored file setting is =
+    let parts = held-parts file setting is in
+    log-stored empty parts.root.start file (record { state = setting.state; end = setting.end }) empty-valid refl parts.log_is
+
 -- a file that agrees with one that holds a store, up to the end of its log, and has a byte there
 module _ (c d : List ℕ) (z : Setting) (is : held d ≡ Ok z) (front : take z.end c ≡ take z.end d) (long : z.end < length c) where
   held-ends : Ends empty (held-parts d z is).root.start d (record { state = z.state; end = z.end })
@@ -102,13 +110,13 @@ log-some : (payloads : List (List ℕ)) → 0 < length (log_of payloads)
 log-some payloads = omega (arith, length-append (records_of payloads) (0 ∷ []))
 
 -- what an append leaves of a store
-pub held-appending : (image : List ℕ → Type 0) (z : Setting) (events : List Event) → ((d : List ℕ) → image d → held d ≡ Ok z)
-    → AreStored z.state events → end_behind z.end events < 2 ^ 32 → (c : List ℕ) → Appending z.end (log_of (map event_text events)) image c → HeldBetween z events c
+pub held-appending : (image : List ℕ → Type 0) (z : Setting) (events : List Event) → ((d : List ℕ) → image d → held d ≡ Ok (stored_setting z))
+    → AreStored (stored z.state) events → end_behind z.end events < 2 ^ 32 → (c : List ℕ) → Appending z.end (log_of (map event_text events)) image c → HeldBetween z events c
 held-appending image z events stands stored fits c left =
     let is = stands left.old left.from in
     ⊎_elim
-    (λ closed. inl (held-closed c left.old z is left.front closed.there closed))
-    (λ holds. inr (held-records c left.old z is left.front (holds-long z.end (log_of (map event_text events)) c (log-some (map event_text events)) holds) events stored fits holds))
+    (λ closed. inl (held-closed c left.old (stored_setting z) is left.front closed.there closed))
+    (λ holds. inr (held-records c left.old (stored_setting z) is left.front (holds-long z.end (log_of (map event_text events)) c (log-some (map event_text events)) holds) events stored fits holds))
     left.rest
 
 -- bytes that were put somewhere are there

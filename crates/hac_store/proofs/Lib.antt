@@ -5,3 +5,4 @@ pub mod NewLemmas
 pub mod PutLemmas
 pub mod ReadLemmas
 pub mod RoomLemmas
+pub mod StoredLemmas

@@ -1,6 +1,5 @@
 -- Logs, as they are read from a gate on.
 use Rattle.std.proofs.Common.{◌≡◌, ℕ, zero, suc, ◌+◌, ◌<◌, ◌≤◌, ◌^◌, Bool, true, false, if◌then◌else◌, List, [], ◌∷◌, length, take, map, Result, Ok, Err, IsTrue, refl, sym, ◌∙◌, ap, subst, arith}
-use Rattle.std.specs.Prelude.{⊤}
 use Rattle.std.proofs.lemmas.List.{drop_all}
 use Rattle.hac_checkpoint.specs.declared.heads.Stop.{Stop}
 use Rattle.hac_checkpoint.specs.declared.heads.Stop.TheVariants as stop
@@ -12,12 +11,15 @@ use Rattle.hac_journal.proofs.LawLemmas.{closed-is-found, found-is-closed, found
 use Rattle.hac_model.specs.Tree.Events.{accepted, apply, apply_all}
 use Rattle.hac_model.specs.Payload.Payloads.{event_text, is_spellable, spelled}
 use Rattle.hac_model.specs.Run.Play.{end_behind}
+use Rattle.hac_model.specs.Tree.Sessions.{is_stored, stored}
 use Rattle.hac_model.specs.Tree.Valid.{IsValid}
 use Rattle.hac_model.specs.declared.events.Event.{Event}
 use Rattle.hac_model.specs.declared.states.State.{State}
 use Rattle.hac_model.proofs.AcyclicLemmas.{apply-valid}
+use Rattle.hac_model.proofs.SpelledLemmas.{not-stored}
 use Rattle.event_codec.proofs.PayloadLemmas.{written_is_read}
 use Rattle.hac_store.specs.Held.{Log, after_found, go_on, after_payload, log, log_from}
+use Rattle.hac_store.proofs.StoredLemmas.{AreStored, spelled_kept}
 
 -- one step of a log that is read
 read-step : (n : ℕ) (s : State) (at : ℕ) (file : List ℕ) → log_from (suc n) s at file ≡ after_found s at (found_at at file) (λ new behind. log_from n new behind file)
@@ -110,38 +112,45 @@ read-ends (suc n) s at d l is =
 pub log-ends : (s : State) (at : ℕ) (d : List ℕ) (l : Log) → log s at d ≡ Ok l → Ends s at d l
 log-ends s at d l is = read-ends (length d) s at d l is
 
--- what a log leads to is valid
-judged-valid : (s : State) (at : ℕ) (event : Event) (b : Bool) (new : State) → accepted s event ≡ b → IsValid s
-    → (if b then Ok (apply s event) else Err (stop.BadAt (at + 5))) ≡ Ok new → IsValid new
-judged-valid s at event true new accepted h is = let same : apply s event ≡ new = cc in subst IsValid same (apply-valid s event h accepted)
-judged-valid s at event false new accepted h is = absurd (cc)
+-- what each stored event keeps that can happen, a log keeps
+module _ (P : State → Type 0) (each : (s : State) (event : Event) → P s → IsTrue (is_stored event) → IsTrue (accepted s event) → P (apply s event)) where
+  judged-keeps : (s : State) (at : ℕ) (event : Event) (b : Bool) (new : State) → accepted s event ≡ b → IsTrue (is_stored event) → P s
+      → (if b then Ok (apply s event) else Err (stop.BadAt (at + 5))) ≡ Ok new → P new
+  judged-keeps s at event true new accepted kept p is = let same : apply s event ≡ new = cc in subst P same (each s event p kept accepted)
+  judged-keeps s at event false new accepted kept p is = absurd (cc)
 
-after-valid : (s : State) (at : ℕ) (r : Result Event ℕ) (new : State) → IsValid s → after_payload s at r ≡ Ok new → IsValid new
-after-valid s at (Err offset) new h is = absurd (cc)
-after-valid s at (Ok event) new h is = judged-valid s at event (accepted s event) new refl h is
+  after-keeps : (s : State) (at : ℕ) (r : Result Event ℕ) (new : State) → ((event : Event) → r ≡ Ok event → IsTrue (is_stored event)) → P s → after_payload s at r ≡ Ok new → P new
+  after-keeps s at (Err offset) new kept p is = absurd (cc)
+  after-keeps s at (Ok event) new kept p is = judged-keeps s at event (accepted s event) new refl (kept event refl) p is
 
-found-valid : (n : ℕ) (s : State) (at : ℕ) (d : List ℕ) (l : Log) (found : Found) → IsValid s
-    → ((new : State) (behind : ℕ) → IsValid new → log_from n new behind d ≡ Ok l → IsValid l.state)
-    → after_found s at found (λ new behind. log_from n new behind d) ≡ Ok l → IsValid l.state
-found-valid n s at d l Short h rest is = absurd (cc)
-found-valid n s at d l Closed h rest is =
-    let same : record { state = s; end = at } ≡ l = cc in subst (λ (end : Log). IsValid end.state) same h
-found-valid n s at d l (Whole payload behind) h rest is =
-    let parts = go-parts (after_payload s at (spelled payload)) (λ new. log_from n new behind d) l is in
-    rest parts.0 behind (after-valid s at (spelled payload) parts.0 h parts.1) parts.2
+  found-keeps : (n : ℕ) (s : State) (at : ℕ) (d : List ℕ) (l : Log) (found : Found) → P s
+      → ((new : State) (behind : ℕ) → P new → log_from n new behind d ≡ Ok l → P l.state)
+      → after_found s at found (λ new behind. log_from n new behind d) ≡ Ok l → P l.state
+  found-keeps n s at d l Short p rest is = absurd (cc)
+  found-keeps n s at d l Closed p rest is =
+      let same : record { state = s; end = at } ≡ l = cc in subst (λ (end : Log). P end.state) same p
+  found-keeps n s at d l (Whole payload behind) p rest is =
+      let parts = go-parts (after_payload s at (spelled payload)) (λ new. log_from n new behind d) l is in
+      rest parts.0 behind (after-keeps s at (spelled payload) parts.0 (spelled_kept payload) p parts.1) parts.2
 
-read-valid : (n : ℕ) (s : State) (at : ℕ) (d : List ℕ) (l : Log) → IsValid s → log_from n s at d ≡ Ok l → IsValid l.state
-read-valid zero s at d l h is = let none = sym (read-none s at d) ∙ is in absurd (cc)
-read-valid (suc n) s at d l h is =
-    found-valid n s at d l (found_at at d) h (λ new behind valid. read-valid n new behind d l valid) (sym (read-step n s at d) ∙ is)
+  read-keeps : (n : ℕ) (s : State) (at : ℕ) (d : List ℕ) (l : Log) → P s → log_from n s at d ≡ Ok l → P l.state
+  read-keeps zero s at d l p is = let none = sym (read-none s at d) ∙ is in absurd (cc)
+  read-keeps (suc n) s at d l p is =
+      found-keeps n s at d l (found_at at d) p (λ new behind q. read-keeps n new behind d l q) (sym (read-step n s at d) ∙ is)
 
+-- so what it leads to is valid
 pub log-valid : (s : State) (at : ℕ) (d : List ℕ) (l : Log) → IsValid s → log s at d ≡ Ok l → IsValid l.state
-log-valid s at d l h is = read-valid (length d) s at d l h is
+log-valid s at d l h is = read-keeps IsValid (λ s event valid kept ok. apply-valid s event valid ok) (length d) s at d l h is
 
--- each event can happen to what those before it lead to, and has a spelling
-abbrev pub AreStored : State → List Event → Type 0
-AreStored s [] = ⊤
-AreStored s (event ∷ events) = IsTrue (accepted s event) × IsTrue (is_spellable event) × AreStored (apply s event) events
+-- and all of it is stored
+abbrev IsWhole : State → Type 0
+IsWhole s = IsValid s × (stored s ≡ s)
+
+pub log-stored : (s : State) (at : ℕ) (d : List ℕ) (l : Log) → IsValid s → stored s ≡ s → log s at d ≡ Ok l → stored l.state ≡ l.state
+log-stored s at d l valid whole is =
+    (read-keeps IsWhole
+    (λ s event old kept ok. let after = not-stored s event old.0 kept ok in (apply-valid s event old.0 ok, after.1 ∙ ap (λ (t : State). apply t event) old.1))
+    (length d) s at d l (valid, whole) is).1
 
 -- the end of a log doesn't fall
 pub end-grows : (events : List Event) (end : ℕ) → end ≤ end_behind end events

@@ -1,6 +1,6 @@
 -- What is left of a store whose log gets the records of events.
-use Rattle.std.proofs.Common.{◌≡◌, inl, ⊎_elim, Bool, false, ℕ, ◌+◌, ◌<◌, List, [], ◌∷◌, length, map, None, Some, IfSome, Result, Ok, Err, refl, sym, ◌∙◌, ap, subst, arith, Vec}
-use Rattle.std.specs.Prelude.{IsTrue}
+use Rattle.std.proofs.Common.{◌≡◌, inl, ⊎_elim, Bool, false, ℕ, zero, suc, ◌+◌, ◌<◌, List, [], ◌∷◌, length, map, None, Some, IfSome, Result, Ok, Err, refl, sym, ◌∙◌, ap, subst, arith, Vec}
+use Rattle.std.specs.Prelude.{IsTrue, replicate}
 use Rattle.std.specs.declared.alloc.Global.{Global}
 use Rattle.std.specs.declared.option.Option.{Option}
 use Rattle.std.proofs.lemmas.Bool.{cases_lt}
@@ -20,38 +20,41 @@ use Rattle.hac_core.specs.declared.drafts.Change.{Change}
 use Rattle.hac_core.specs.declared.drafts.Settled.{Settled}
 use Rattle.hac_core.specs.declared.drafts.Settled.TheVariants as settled
 use Rattle.hac_model.specs.Payload.Payloads.{event_text}
-use Rattle.hac_model.specs.Run.Play.{Setting, after_events, end_behind}
-use Rattle.hac_model.specs.Tree.Valid.{IsValid}
+use Rattle.hac_model.specs.Run.Play.{Setting, after_events, end_behind, stored_setting}
+use Rattle.hac_model.specs.Tree.Sessions.{is_stored, stored}
 use Rattle.hac_model.specs.declared.events.Event.{Event}
+use Rattle.hac_model.specs.declared.events.Event.TheVariants.{Step}
 use Rattle.hac_model.specs.declared.limits.TheConstants.{STORE_LIMIT}
 use Rattle.hac_model.specs.declared.states.State.{State}
-use Rattle.hac_model.proofs.AcyclicLemmas.{apply-valid}
-use Rattle.hac_model.proofs.SpelledLemmas.{accepted-spelled}
 use Rattle.hac_core.specs.Seen.{Seen as Kept}
 use Rattle.hac_outside.specs.Causes.{ReportsFault}
 use Rattle.hac_store.specs.Faults.{is_disk_fault}
 use Rattle.hac_store.specs.Held.{held}
 use Rattle.hac_store.specs.Storing.{StoresEvents, StoringEnds}
 use Rattle.hac_store.specs.declared.fault.StoreFault.{StoreFault}
-use Rattle.hac_store.specs.Stores.{HeldBetween, Seen, Stands, store_after}
+use Rattle.hac_store.specs.Stores.{AreForStore, HeldBetween, Seen, Stands, store_after, unstored_after}
 use Rattle.hac_store.proofs.HeldLemmas.{held-appending, held-gate, held-overlaid}
-use Rattle.hac_store.proofs.LogLemmas.{AreStored}
+use Rattle.hac_store.proofs.StoredLemmas.{AreStored}
 use Rattle.hac_store.proofs.RoomLemmas.{within-limit}
 
 -- what a settled outcome stands for can happen
 pub can-happen : (s : State) (outcome : Settled) → CanSettle s outcome → AllHappen s (settled_events outcome)
 can-happen s (settled.Change change) can = can.0
 can-happen s (settled.Steps count) can = can
+can-happen s (settled.Session event) can = can.0
 
--- an event that fits can be settled with its counts
-pub fits-settles : (s : State) (event : Event) (change : Change) → FitsAs s event (Some change) → CanSettle s (settled.Change change)
-fits-settles s event change fits = ((subst (λ (e : Event). IsTrue (accepted s e)) (sym fits.1) fits.0, tt), fits.2 ∙ ap (λ (e : Event). counts (apply s e)) (sym fits.1))
+-- index steps are stored
+pub steps-kept : (count : ℕ) → AreForStore (replicate count Step)
+steps-kept zero = tt
+steps-kept (suc count) = (refl, steps-kept count)
 
--- events that can happen one after the other have spellings
-pub all-stored : (events : List Event) (s : State) → IsValid s → AllHappen s events → AreStored s events
-all-stored [] s valid happen = tt
-all-stored (event ∷ events) s valid (happens, rest) =
-    (happens, accepted-spelled s event valid happens, all-stored events (apply s event) (apply-valid s event valid happens) rest)
+-- an event that fits and is stored can be settled with its counts
+pub fits-settles : (s : State) (event : Event) (change : Change) → IsTrue (is_stored event) → FitsAs s event (Some change) → CanSettle s (settled.Change change)
+fits-settles s event change kept fits = (
+  (subst (λ (e : Event). IsTrue (accepted s e)) (sym fits.1) fits.0, tt),
+  fits.2 ∙ ap (λ (e : Event). counts (apply s e)) (sym fits.1),
+  subst (λ (e : Event). IsTrue (is_stored e)) (sym fits.1) kept,
+)
 
 -- what is seen of a store whose machine and whose end have gone on
 pub put-seen : (seen : Seen) (s new : State) (start end generation to : ℕ) (slot : Slot) (broken : Bool) (events : List Event)
@@ -62,13 +65,22 @@ put-seen seen s new start end generation to slot broken events is state ends =
     let of : ℕ → State → Seen = λ to state. record { setting = record { state = state; start = start; end = to; generation = generation }; slot = slot; broken = broken } in
     ap (of to) state ∙ ap (λ (n : ℕ). of n (apply_all s events)) ends ∙ ap (λ (x : Seen). store_after x events) is
 
+-- and of one whose session moved
+pub stood-seen : (seen : Seen) (s new : State) (start end generation : ℕ) (slot : Slot) (broken : Bool) (event : Event)
+    → record { setting = record { state = s; start = start; end = end; generation = generation }; slot = slot; broken = broken } ≡ seen
+    → new ≡ apply_all s (event ∷ [])
+    → record { setting = record { state = new; start = start; end = end; generation = generation }; slot = slot; broken = broken } ≡ record seen { setting = unstored_after seen.setting event }
+stood-seen seen s new start end generation slot broken event is state =
+    let of : State → Seen = λ state. record { setting = record { state = state; start = start; end = end; generation = generation }; slot = slot; broken = broken } in
+    ap of state ∙ ap (λ (x : Seen). record x { setting = unstored_after x.setting event }) is
+
 -- the machine after what it was ready for
 pub put-state : (old ready new : Kept) (events : List Event) → ready ≡ record { state = old.state; ready = events }
     → new ≡ record { state = apply_all ready.state ready.ready; ready = [] } → new.state ≡ apply_all old.state events
 put-state old ready new events made gone = ap (λ (m : Kept). m.state) gone ∙ ap (λ (m : Kept). apply_all m.state m.ready) made
 
 -- what a store rests on
-pub stands-each : (seen : Option (List ℕ)) (image : List ℕ → Type 0) (z : Setting) → Stands seen image z → (c : List ℕ) → image c → held c ≡ Ok z
+pub stands-each : (seen : Option (List ℕ)) (image : List ℕ → Type 0) (z : Setting) → Stands seen image z → (c : List ℕ) → image c → held c ≡ Ok (stored_setting z)
 stands-each None image z stands = absurd stands
 stands-each (Some file) image z stands = stands
 
@@ -78,17 +90,21 @@ stands-told (Some file) image z P stands p = p
 
 -- the records were written, and last
 pub put-stands : (seen new : Option (List ℕ)) (image now : List ℕ → Type 0) (z : Setting) (events : List Event) (vs : List (Vec ℕ Global))
-    → ((file : List ℕ) → seen ≡ Some file → image file) → contents_of vs ≡ map event_text events → AreStored z.state events
+    → ((file : List ℕ) → seen ≡ Some file → image file) → contents_of vs ≡ map event_text events
+    → AreStored (stored z.state) events → stored (apply_all z.state events) ≡ apply_all (stored z.state) events
     → (STORE_LIMIT < z.end + length (log_of (contents_of vs)) → ⊥) → Written seen z.end (log_of (contents_of vs)) new → IsSettled new now
     → Stands seen image z → Stands new now (after_events z events)
-put-stands None new image now z events vs read texts stored fits written settled stands = absurd stands
-put-stands (Some file) new image now z events vs read texts stored fits written settled stands =
+put-stands None new image now z events vs read texts stored leads fits written settled stands = absurd stands
+put-stands (Some file) new image now z events vs read texts stored leads fits written settled stands =
     let bytes = overlaid z.end (log_of (contents_of vs)) file in
     let only = told-settled new bytes now written settled in
-    let same : held bytes ≡ Ok (after_events z events) =
+    let before = stored_setting z in
+    let same : held bytes ≡ Ok (after_events (stored_setting z) events) =
     ap (λ (l : List (List ℕ)). held (overlaid z.end (log_of l) file)) texts
-    ∙ held-overlaid file z events (stands file (read file refl)) stored (within-limit vs events z.end texts fits) in
-    let all : Stands (Some bytes) now (after_events z events) = λ c left. ap held (only c left) ∙ same in
+    ∙ held-overlaid file before events (stands file (read file refl)) stored (within-limit vs events z.end texts fits) in
+    let after : held bytes ≡ Ok (stored_setting (after_events z events)) =
+    same ∙ ap (λ (s : State). Ok (record z { state = s; end = end_behind z.end events })) (sym leads) in
+    let all : Stands (Some bytes) now (after_events z events) = λ c left. ap held (only c left) ∙ after in
     subst (λ s. Stands s now (after_events z events)) (sym written) all
 
 module _ {D : Type 0} (seen : D → Option (List ℕ)) (image : D → List ℕ → Type 0) (moment : D → ℕ) (image_since : D → ℕ → List ℕ → Type 0)
@@ -99,7 +115,7 @@ module _ {D : Type 0} (seen : D → Option (List ℕ)) (image : D → List ℕ �
       started moment image_since old (HeldBetween z events) (λ c since. inl (stands-each (seen old) (image old) z stands c (only_now old c since)))
 
   -- at each moment of an append
-  pub put-moments : (old new : D) (z : Setting) (events : List Event) (vs : List (Vec ℕ Global)) → contents_of vs ≡ map event_text events → AreStored z.state events
+  pub put-moments : (old new : D) (z : Setting) (events : List Event) (vs : List (Vec ℕ Global)) → contents_of vs ≡ map event_text events → AreStored (stored z.state) events
       → (STORE_LIMIT < z.end + length (log_of (contents_of vs)) → new ≡ old)
       → IfSome (seen old) (λ _. ((c : List ℕ) → image old c → ClosedAt z.end c) → LeavesOnly moment image_since old new (Appending z.end (log_of (contents_of vs)) (image old)))
       → Stands (seen old) (image old) z → LeavesOnly moment image_since old new (HeldBetween z events)
@@ -110,7 +126,7 @@ module _ {D : Type 0} (seen : D → Option (List ℕ)) (image : D → List ℕ �
       (λ low.
       let fits : STORE_LIMIT < z.end + length (log_of (contents_of vs)) → ⊥ = λ past. omega (arith, low, past) in
       let run = stands-told (seen old) (image old) z (((c : List ℕ) → image old c → ClosedAt z.end c) → LeavesOnly moment image_since old new (Appending z.end (log_of (contents_of vs)) (image old))) stands appending
-      (λ c left. held-gate c z (each c left)) in
+      (λ c left. held-gate c (stored_setting z) (each c left)) in
       weaken moment image_since old new (Appending z.end (log_of (contents_of vs)) (image old)) (HeldBetween z events)
       (λ c left. held-appending (image old) z events each stored (within-limit vs events z.end texts fits) c (subst (λ l. Appending z.end (log_of l) (image old) c) texts left)) run)
       (cases_lt STORE_LIMIT (z.end + length (log_of (contents_of vs))))

@@ -13,6 +13,7 @@ use Rattle.hac_checkpoint.specs.declared.heads.Stop.TheVariants as stop
 use Rattle.hac_journal.specs.Finding.{TellsAt}
 use Rattle.hac_journal.specs.declared.finding.Next.TheVariants.{Entry, End, Bad}
 use Rattle.hac_model.specs.Run.Answers.{◌>>=◌}
+use Rattle.hac_model.specs.Run.Play.{stored_setting}
 use Rattle.hac_model.specs.Payload.Payloads.{all_of, payload_field, spelled}
 use Rattle.hac_model.specs.Payload.Payloads.{placed as within_payload}
 use Rattle.hac_model.specs.Tree.{empty}
@@ -24,7 +25,7 @@ use Rattle.hac_store.specs.Reading.{Judges, ReadsLog}
 use Rattle.hac_store.specs.Stores.{Opens, Seen, Stands}
 use Rattle.hac_store.specs.declared.fault.StoreFault.{StoreFault}
 use Rattle.hac_store.specs.declared.fault.StoreFault.TheVariants as fault
-use Rattle.hac_store.proofs.HeldLemmas.{held-log, held-root, setting_of}
+use Rattle.hac_store.proofs.HeldLemmas.{held-log, held-root, held-stored, setting_of}
 use Rattle.hac_store.proofs.LogLemmas.{log-closed, log-short, log-whole}
 
 -- so far the log of a file was read as what it is from here on
@@ -122,5 +123,6 @@ opened-stands (Ok store) (Some file) mid new image now same settled quiet images
     let told : new ≡ Some file = quiet ∙ same in
     let only = told-settled mid file image same settled in
     let is = subst (λ s. IfSome s (λ f. held f ≡ Ok store.setting)) same opens in
-    let stands : Stands (Some file) now store.setting = λ c left. ap held (only c (images c left)) ∙ is in
+    let kept : held file ≡ Ok (stored_setting store.setting) = is ∙ ap (λ (s : State). Ok (record store.setting { state = s })) (sym (held-stored file store.setting is)) in
+    let stands : Stands (Some file) now store.setting = λ c left. ap held (only c (images c left)) ∙ kept in
     subst (λ s. Stands s now store.setting) (sym told) stands

@@ -1,12 +1,14 @@
 -- A store as it is seen, and what a crash may leave of it.
-use Rattle.std.specs.Prelude.{◌≡◌, ◌⊎◌, ◌||◌, ◌==◌, ◌+◌, ◌*◌, nat_lt, ⊤, ℕ, Bool, false, List, Option, None, Some, Result, Ok, Err, refl}
+use Rattle.std.specs.Prelude.{◌≡◌, ◌⊎◌, ◌||◌, ◌==◌, ◌+◌, ◌*◌, nat_lt, ⊤, ℕ, Bool, IsTrue, false, List, [], ◌∷◌, Option, None, Some, Result, Ok, Err, refl}
 use Rattle.std.specs.Coded.{Coded, code_by, coded×, coded_bool, coded_ℕ}
 use Rattle.hac_checkpoint.specs.contracts.heads.Slot as slot
 use Rattle.hac_checkpoint.specs.declared.heads.Root.{Root}
 use Rattle.hac_checkpoint.specs.declared.heads.Slot.{Slot}
 use Rattle.hac_checkpoint.specs.declared.heads.Slot.TheVariants.{A}
 use Rattle.hac_disk.specs.Contents.{HasByteAt}
-use Rattle.hac_model.specs.Run.Play.{Setting, after_events, new_setting}
+use Rattle.hac_model.specs.Run.Play.{Setting, after_events, new_setting, stored_setting}
+use Rattle.hac_model.specs.Tree.Events.{apply}
+use Rattle.hac_model.specs.Tree.Sessions.{is_stored}
 use Rattle.hac_model.specs.Tree.{empty}
 use Rattle.hac_model.specs.declared.events.Event.{Event}
 use Rattle.hac_model.specs.contracts.states.State as state
@@ -42,6 +44,15 @@ fit_behind end records payload = records == 0 || nat_lt (end + records * (5 + pa
 abbrev pub store_after : Seen → List Event → Seen
 store_after store events = record store { setting = after_events store.setting events }
 
+-- all of these events are such as are stored
+abbrev pub AreForStore : List Event → Type 0
+AreForStore [] = ⊤
+AreForStore (event ∷ events) = IsTrue (is_stored event) × AreForStore events
+
+-- the setting after an event that isn't stored: the log ends where it did
+abbrev pub unstored_after : Setting → Event → Setting
+unstored_after setting event = record setting { state = apply setting.state event }
+
 -- a store that holds the root alone
 abbrev pub first_store : Seen
 first_store = record { setting = new_setting; slot = A; broken = false }
@@ -54,14 +65,15 @@ Bears seen store = HasByteAt seen store.setting.end
 abbrev pub IsHeldAs : List ℕ → Setting → Type 0
 IsHeldAs image setting = held image ≡ Ok setting
 
--- the disk tells its bytes, and whatever a crash leaves of them holds this
+-- the disk tells its bytes, and whatever a crash leaves of them holds what is stored of this
 abbrev pub Stands : Option (List ℕ) → (List ℕ → Type 0) → Setting → Type 0
 Stands None image setting = ⊥
-Stands (Some file) image setting = (c : List ℕ) → image c → IsHeldAs c setting
+Stands (Some file) image setting = (c : List ℕ) → image c → IsHeldAs c (stored_setting setting)
 
--- it holds what stood before events, or what they lead to: all of them happened, or none
+-- it holds what was stored before events, or what they make of that: all of them happened, or none
 abbrev pub HeldBetween : Setting → List Event → List ℕ → Type 0
-HeldBetween setting events c = IsHeldAs c setting ⊎ IsHeldAs c (after_events setting events)
+HeldBetween setting events c =
+    IsHeldAs c (stored_setting setting) ⊎ IsHeldAs c (after_events (stored_setting setting) events)
 
 -- if it holds anything, that is the root alone
 abbrev pub IsNewOrNone : List ℕ → Type 0

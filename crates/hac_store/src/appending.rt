@@ -1,6 +1,6 @@
 //! Events that are stored before they happen.
 ghost use Rattle.std.specs.Prelude.{◌≡◌, ◌∷◌, ◌<◌, [], false, length, map, replicate, IfOk};
-ghost use Rattle.std.specs.Prelude.{IsErrOf};
+ghost use Rattle.std.specs.Prelude.{IsErrOf, OnErr, OnOk};
 ghost use Rattle.hac_journal.specs.Records.{contents_of};
 ghost use Rattle.hac_model.specs.Laws.{AllHappen};
 ghost use Rattle.hac_model.specs.Payload.Payloads.{event_text};
@@ -8,7 +8,7 @@ ghost use Rattle.hac_model.specs.Run.Play.{have_room};
 ghost use Rattle.hac_model.specs.declared.events.Event.TheVariants as event;
 ghost use Rattle.hac_core.specs.Drafts.{CanSettle, settled_events};
 ghost use Rattle.hac_store.specs.Storing.{StoresEvents};
-ghost use Rattle.hac_store.specs.Stores.{Bears};
+ghost use Rattle.hac_store.specs.Stores.{AreForStore, Bears, unstored_after};
 
 use crate::fault::StoreFault;
 use crate::store::Store;
@@ -58,6 +58,18 @@ impl Store {
         self.put(disk, Settled::Steps(count), &payloads)
     }
 
+    /// Applies an event that isn't stored: it moves a session. After `Memory` all is as before.
+    pub fn stand(&mut self, event: Event) -> Result<(), Memory>
+        requires can { CanSettle self.old.setting.state (Settled.Session event) }
+        ensures moved { OnOk result (self.new ≡ record self.old
+            { setting = unstored_after self.old.setting event }) }
+        ensures stayed { OnErr result (self.new ≡ self.old) }
+    {
+        self.machine.prepare(Settled::Session(event))?;
+        self.machine.commit();
+        Ok(())
+    }
+
     // Puts the records of what is to happen behind the log, and then applies it.
     fn put<D: Disk>(
         &mut self,
@@ -68,6 +80,7 @@ impl Store {
         requires intact { self.old.broken ≡ false }
         requires some { 0 < length payloads.now }
         requires can { CanSettle self.old.setting.state settled }
+        requires stored { AreForStore (settled_events settled) }
         requires texts { contents_of payloads.now ≡ map event_text (settled_events settled) }
         requires place { Bears (D.seen disk.old) self.old }
         ensures { StoresEvents D.seen D.image D.moment D.image_since D.attached D.faults disk.old

@@ -1,6 +1,6 @@
 //! A tree that lives in a store: each event is a record of a log before it happens, and a crash
-//! loses none that was answered. This crate joins the machine to the disk, and knows nothing of
-//! lines and replies.
+//! loses none that was answered. Where sessions stand isn't stored. This crate joins the machine to
+//! the disk, and knows nothing of lines and replies.
 #![tactic(auto)]
 
 mod appending;
@@ -11,5 +11,5 @@ mod opening;
 mod store;
 
 pub use fault::StoreFault;
-pub use laws::{appends_extend, steps_have_room};
+pub use laws::{appends_extend, files_hold_no_session, steps_have_room};
 pub use store::Store;

@@ -1,10 +1,12 @@
 //! Opening a store: its log is read, and its events happen one by one.
 ghost use Rattle.std.specs.Prelude.{◌≡◌, ◌+◌, ◌<◌, ◌^◌, false, length, Ok, Err, IfOk, IfSome, OnOk};
+ghost use Rattle.std.specs.Prelude.{IsTrue};
 ghost use Rattle.hac_outside.specs.Causes.{ReportsFault};
 ghost use Rattle.hac_disk.specs.Images.{IsQuiet};
 ghost use Rattle.hac_disk.specs.Contents.{HasByteAt, IsSettled};
 ghost use Rattle.hac_model.specs.Tree.Events.{apply};
 ghost use Rattle.hac_model.specs.Payload.Payloads.{spelled};
+ghost use Rattle.hac_model.specs.Tree.Sessions.{is_stored};
 ghost use Rattle.hac_model.specs.Tree.Valid.{IsValid};
 ghost use Rattle.hac_checkpoint.specs.Roots.{root_of};
 ghost use Rattle.hac_core.specs.Drafts.{CanSettle};
@@ -111,6 +113,7 @@ fn read_log<D: Disk>(
 
 // Applies what the payload of a record says, given the place of its gate, and whether it is the
 // log's first.
+#[tactic(auto, using(crate::proofs::StoredLemmas::spelled_kept))]
 fn replay(
     alloc: Global,
     machine: &mut Machine,
@@ -137,6 +140,7 @@ fn replay(
 fn accept(machine: &mut Machine, at: u64, event: Event) -> Result<(), StoreFault>
     requires valid { IsValid machine.old.state }
     requires place { at + 5 < 2 ^ 64 }
+    requires stored { IsTrue (is_stored event) }
     ensures judged { Judges result machine.new.state
         (after_payload machine.old.state at (Ok event)) }
     ensures valid { OnOk result (IsValid machine.new.state) }

@@ -5,11 +5,9 @@ use Rattle.std.specs.Option.{option_map_or}
 use Rattle.std.proofs.Math.Seq.{take-append-add, take-length}
 use Rattle.std.proofs.lemmas.List.{take-append-le}
 use Rattle.std.proofs.lemmas.Grind.{flat_map-append}
-use Rattle.hac_model.specs.Run.Answers.{first_cause}
 use Rattle.hac_model.specs.Tree.Events.{apply_all}
 use Rattle.hac_model.specs.Script.Lines.{Item}
 use Rattle.hac_model.specs.Run.Play.{Setting, Turn, all_events, answered_turn, command_turn, events_before, events_in, item_turn, nothing_given, refused_turn, turn_cause, turns}
-use Rattle.hac_model.specs.Run.Refusals.{cause}
 use Rattle.hac_model.specs.Run.Resolving.{resolve}
 use Rattle.hac_model.specs.declared.events.Event.{Event}
 use Rattle.hac_model.specs.declared.replies.Refusal.{Refusal}

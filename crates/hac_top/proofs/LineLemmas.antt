@@ -10,6 +10,7 @@ use Rattle.hac_outside.specs.Known.{Known}
 use Rattle.hac_outside.specs.Seen.{SinkSeen, SourceSeen}
 use Rattle.hac_outside.proofs.KnownLemmas.{known-behind, known-joined, known-weaker}
 use Rattle.hac_model.specs.Run.Play.{Setting, all_events, has_refusal, left_by, nothing_given, play, turns}
+use Rattle.hac_model.specs.Tree.Sessions.{stored}
 use Rattle.hac_model.specs.declared.limits.TheConstants.{SCRIPT_LIMIT}
 use Rattle.hac_store.specs.Stores.{Bears, Seen, Stands}
 use Rattle.hac_store.proofs.PutLemmas.{stands-each}
@@ -178,16 +179,16 @@ module _ {D : Type 0} {seen : D → Option (List ℕ)} {image : D → List ℕ �
           (leaves-then false fresh_reader reader next before.source now.source source was.source takes.source).total
 
       -- what a crash leaves at each moment
-      line-moments : (new : D) → (Stands (seen mid) (image mid) store.setting → LeavesOnly moment image_since mid new (Holds (IsTreeAfter store.setting.state (all_events (turns nothing_given store.setting (items_of_taken line)))))) →
+      line-moments : (new : D) → (Stands (seen mid) (image mid) store.setting → LeavesOnly moment image_since mid new (Holds (IsTreeAfter (stored store.setting.state) (all_events (turns nothing_given store.setting (items_of_taken line)))))) →
           IfSome before.source.left (λ s. Stands (seen old) (image old) first → LeavesOnly moment image_since old new (Holds (IsTreeOf first s)))
       line-moments new run =
-          let here = Holds (IsTreeAfter store.setting.state (all_events (turns nothing_given store.setting (items_of_taken line)))) in
+          let here = Holds (IsTreeAfter (stored store.setting.state) (all_events (turns nothing_given store.setting (items_of_taken line)))) in
           both before.source.left (λ s. Stands (seen old) (image old) first → LeavesOnly moment image_since old mid (Holds (IsTreeOf first s)))
-          (λ s. (c : List ℕ) → Holds (IsTreeAfter store.setting.state (all_events (turns nothing_given store.setting (items_of_taken line)))) c → Holds (IsTreeOf first s) c)
+          (λ s. (c : List ℕ) → Holds (IsTreeAfter (stored store.setting.state) (all_events (turns nothing_given store.setting (items_of_taken line)))) c → Holds (IsTreeOf first s) c)
           (λ s. Stands (seen old) (image old) first → LeavesOnly moment image_since old new (Holds (IsTreeOf first s)))
           (λ s so_far then_all stands. then_run moment image_since old mid new (Holds (IsTreeOf first s)) (so_far stands) (weaken moment image_since mid new here (Holds (IsTreeOf first s)) then_all (run (was.stands stands))))
           was.moments
-          (given-script (λ s. (c : List ℕ) → Holds (IsTreeAfter store.setting.state (all_events (turns nothing_given store.setting (items_of_taken line)))) c → Holds (IsTreeOf first s) c)
+          (given-script (λ s. (c : List ℕ) → Holds (IsTreeAfter (stored store.setting.state) (all_events (turns nothing_given store.setting (items_of_taken line)))) c → Holds (IsTreeOf first s) c)
           (λ s p l _ goes gives.
           tree-of-line first s p false store.setting refused before.sink now.sink goes (items_of_taken line) (play nothing_given (left_by store.setting (turns nothing_given store.setting (items_of_taken line))) (next.buffered ++ l))
           (turns-next line next.ended p (next.buffered ++ l) store.setting gives)))

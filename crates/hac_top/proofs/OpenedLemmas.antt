@@ -7,10 +7,12 @@ use Rattle.hac_disk.specs.Contents.{IsSettled}
 use Rattle.hac_disk.proofs.Moments.{quiet_leaves, then_run, weaken}
 use Rattle.hac_outside.specs.Causes.{Rose, ReportsFault}
 use Rattle.hac_model.specs.Run.Play.{Setting, all_events, new_setting, nothing_given, play}
+use Rattle.hac_model.specs.Tree.Sessions.{stored}
 use Rattle.hac_model.specs.declared.events.Event.{Event}
 use Rattle.hac_model.specs.declared.states.State.{State}
 use Rattle.hac_store.specs.Held.{held}
 use Rattle.hac_store.specs.Stores.{IsNewOrNone, Stands}
+use Rattle.hac_store.proofs.HeldLemmas.{held-stored}
 use Rattle.hac_top.specs.Crashes.{Holds, IsOpened, IsTreeAfter, IsTreeOfAnswered, Reopens, StopsOpening, IsOfFile, opening_outcome}
 use Rattle.hac_top.specs.Ends.{IsFinished, IsOpenStatus, is_disk_fault}
 use Rattle.hac_top.specs.Run.{AnswersBy, Completes, Ends, HasBegun, IsFaultless, IsTreeOf, Outside, Played, Plays, PlaysStore, Ran}
@@ -28,8 +30,8 @@ if-value (Ok z) P fact = fact z refl
 if-value (Err e) P fact = search rules
 
 -- the file reopens as what the run goes on from
-file-reopens : (fresh : Bool) (file : List ℕ) (kept : Result Setting ℕ) → held file ≡ kept → (setting : Setting) → opening_outcome fresh kept ≡ Ok setting → Reopens fresh (λ s. s ≡ setting.state) file
-file-reopens false file (Ok kept) is setting goes = record { kept = kept; is = is; state = let same : kept ≡ setting = cc in ap (λ (z : Setting). z.state) same }
+file-reopens : (fresh : Bool) (file : List ℕ) (kept : Result Setting ℕ) → held file ≡ kept → (setting : Setting) → opening_outcome fresh kept ≡ Ok setting → Reopens fresh (λ s. s ≡ stored setting.state) file
+file-reopens false file (Ok kept) is setting goes = record { kept = kept; is = is; state = let same : kept ≡ setting = cc in sym (held-stored file kept is) ∙ ap (λ (z : Setting). stored z.state) same }
 file-reopens false file (Err at) is setting goes = absurd cc
 file-reopens true file (Ok kept) is setting goes = absurd cc
 file-reopens true file (Err at) is setting goes = λ other held_as. absurd (let never : Err at ≡ Ok other = sym is ∙ held_as in cc)
@@ -42,42 +44,42 @@ no-store (Err at) setting goes = (refl, cc)
 module _ {D : Type 0} (seen : D → Option (List ℕ)) (image : D → List ℕ → Type 0) (moment : D → ℕ) (image_since : D → ℕ → List ℕ → Type 0) (only_now : (disk : D) (c : List ℕ) → image_since disk (moment disk) c → image disk c) where
   -- what the run goes on from is all that a crash since may leave
   abbrev pub Opens : Bool → Option (List ℕ) → D → D → Type 0
-  Opens fresh told old new = IfSome told (λ file. IfOk (opening_outcome fresh (held file)) (λ setting. IsSettled told (image old) → LeavesOnly moment image_since old new (Reopens fresh (λ s. s ≡ setting.state))))
+  Opens fresh told old new = IfSome told (λ file. IfOk (opening_outcome fresh (held file)) (λ setting. IsSettled told (image old) → LeavesOnly moment image_since old new (Reopens fresh (λ s. s ≡ stored setting.state))))
 
-  begun : (fresh : Bool) (file : List ℕ) (old : D) (setting : Setting) → opening_outcome fresh (held file) ≡ Ok setting → IsSettled (Some file) (image old) → (c : List ℕ) → image_since old (moment old) c → Reopens fresh (λ s. s ≡ setting.state) c
+  begun : (fresh : Bool) (file : List ℕ) (old : D) (setting : Setting) → opening_outcome fresh (held file) ≡ Ok setting → IsSettled (Some file) (image old) → (c : List ℕ) → image_since old (moment old) c → Reopens fresh (λ s. s ≡ stored setting.state) c
   begun fresh file old setting goes settled c left =
-      subst (λ (xs : List ℕ). Reopens fresh (λ s. s ≡ setting.state) xs) (sym (settled c (only_now old c left))) (file-reopens fresh file (held file) refl setting goes)
+      subst (λ (xs : List ℕ). Reopens fresh (λ s. s ≡ stored setting.state) xs) (sym (settled c (only_now old c left))) (file-reopens fresh file (held file) refl setting goes)
 
   opens : (fresh : Bool) (told : Option (List ℕ)) (old new : D) →
-      ((file : List ℕ) → told ≡ Some file → (setting : Setting) → opening_outcome fresh (held file) ≡ Ok setting → IsSettled (Some file) (image old) → LeavesOnly moment image_since old new (Reopens fresh (λ s. s ≡ setting.state))) → Opens fresh told old new
+      ((file : List ℕ) → told ≡ Some file → (setting : Setting) → opening_outcome fresh (held file) ≡ Ok setting → IsSettled (Some file) (image old) → LeavesOnly moment image_since old new (Reopens fresh (λ s. s ≡ stored setting.state))) → Opens fresh told old new
   opens fresh None old new each = search rules
-  opens fresh (Some file) old new each = if-value (opening_outcome fresh (held file)) (λ setting. IsSettled (Some file) (image old) → LeavesOnly moment image_since old new (Reopens fresh (λ s. s ≡ setting.state))) (each file refl)
+  opens fresh (Some file) old new each = if-value (opening_outcome fresh (held file)) (λ setting. IsSettled (Some file) (image old) → LeavesOnly moment image_since old new (Reopens fresh (λ s. s ≡ stored setting.state))) (each file refl)
 
   -- nothing was written
   pub opens-quiet : (fresh : Bool) (told : Option (List ℕ)) (old new : D) → IsQuiet seen image moment image_since old new → Opens fresh told old new
   opens-quiet fresh told old new quiet =
-      opens fresh told old new (λ file is setting goes settled. quiet_leaves moment image_since seen image old new (Reopens fresh (λ s. s ≡ setting.state)) (begun fresh file old setting goes settled) quiet)
+      opens fresh told old new (λ file is setting goes settled. quiet_leaves moment image_since seen image old new (Reopens fresh (λ s. s ≡ stored setting.state)) (begun fresh file old setting goes settled) quiet)
 
   -- a new store was made, or part of it
   pub opens-new : (told : Option (List ℕ)) (old new : D) → IfSome told (λ file. IsErr (held file) → LeavesOnly moment image_since old new (λ c. image old c ⊎ IsNewOrNone c)) → Opens true told old new
   opens-new told old new made =
       opens true told old new (λ file is setting goes settled.
       let none = no-store (held file) setting goes in
-      weaken moment image_since old new (λ c. image old c ⊎ IsNewOrNone c) (Reopens true (λ s. s ≡ setting.state)) (of file setting goes settled none.1)
+      weaken moment image_since old new (λ c. image old c ⊎ IsNewOrNone c) (Reopens true (λ s. s ≡ stored setting.state)) (of file setting goes settled none.1)
       (subst (λ (o : Option (List ℕ)). IfSome o (λ f. IsErr (held f) → LeavesOnly moment image_since old new (λ c. image old c ⊎ IsNewOrNone c))) is made none.0))
     where
-      of : (file : List ℕ) (setting : Setting) → opening_outcome true (held file) ≡ Ok setting → IsSettled (Some file) (image old) → setting ≡ new_setting → (c : List ℕ) → image old c ⊎ IsNewOrNone c → Reopens true (λ s. s ≡ setting.state) c
-      of file setting goes settled is c (inl left) = subst (λ (xs : List ℕ). Reopens true (λ s. s ≡ setting.state) xs) (sym (settled c left)) (file-reopens true file (held file) refl setting goes)
-      of file setting goes settled is c (inr new) = λ kept held_as. new kept held_as ∙ ap (λ (z : Setting). z.state) (sym is)
+      of : (file : List ℕ) (setting : Setting) → opening_outcome true (held file) ≡ Ok setting → IsSettled (Some file) (image old) → setting ≡ new_setting → (c : List ℕ) → image old c ⊎ IsNewOrNone c → Reopens true (λ s. s ≡ stored setting.state) c
+      of file setting goes settled is c (inl left) = subst (λ (xs : List ℕ). Reopens true (λ s. s ≡ stored setting.state) xs) (sym (settled c left)) (file-reopens true file (held file) refl setting goes)
+      of file setting goes settled is c (inr new) = λ kept held_as. new kept held_as ∙ ap (λ (z : Setting). stored z.state) (sym is)
 
   -- the file was attached before
   pub opens-attached : (fresh : Bool) (old mid new : D) → IsQuiet seen image moment image_since old mid → Opens fresh (seen mid) mid new → Opens fresh (seen old) old new
   opens-attached fresh old mid new quiet opened =
       opens fresh (seen old) old new (λ file is setting goes settled.
-      let P = Reopens fresh (λ s. s ≡ setting.state) in
-      let now : IfOk (opening_outcome fresh (held file)) (λ z. IsSettled (Some file) (image mid) → LeavesOnly moment image_since mid new (Reopens fresh (λ s. s ≡ z.state))) = subst (λ (o : Option (List ℕ)). Opens fresh o mid new) (quiet.same ∙ is) opened in
+      let P = Reopens fresh (λ s. s ≡ stored setting.state) in
+      let now : IfOk (opening_outcome fresh (held file)) (λ z. IsSettled (Some file) (image mid) → LeavesOnly moment image_since mid new (Reopens fresh (λ s. s ≡ stored z.state))) = subst (λ (o : Option (List ℕ)). Opens fresh o mid new) (quiet.same ∙ is) opened in
       then_run moment image_since old mid new P (quiet_leaves moment image_since seen image old mid P (begun fresh file old setting goes settled) quiet)
-      (subst (λ (r : Result Setting Status). IfOk r (λ z. IsSettled (Some file) (image mid) → LeavesOnly moment image_since mid new (Reopens fresh (λ s. s ≡ z.state)))) goes now (λ c left. settled c (quiet.images c left))))
+      (subst (λ (r : Result Setting Status). IfOk r (λ z. IsSettled (Some file) (image mid) → LeavesOnly moment image_since mid new (Reopens fresh (λ s. s ≡ stored z.state)))) goes now (λ c left. settled c (quiet.images c left))))
 
 -- what has this, the other has
 reopens-weaker : (fresh : Bool) (P Q : State → Type 0) (image : List ℕ) → ((s : State) → P s → Q s) → Reopens fresh P image → Reopens fresh Q image
@@ -113,7 +115,7 @@ not-begun ends before unfinished (inr (inr finished)) = unfinished finished
 module _ {D : Type 0} (seen : D → Option (List ℕ)) (image : D → List ℕ → Type 0) (moment : D → ℕ) (image_since : D → ℕ → List ℕ → Type 0) (attached : D → Option (List (List ℕ × Bool))) (faults : D → ℕ) where
   -- what was left of the disk as the store was opened
   abbrev pub Opening : Bool → Type 0 → D → D → Setting → Type 0
-  Opening fresh settled old new setting = settled → LeavesOnly moment image_since old new (Reopens fresh (λ s. s ≡ setting.state))
+  Opening fresh settled old new setting = settled → LeavesOnly moment image_since old new (Reopens fresh (λ s. s ≡ stored setting.state))
 
   -- a store was opened
   module _ (counts_now : (disk : D) (t : ℕ) (c : List ℕ) → t ≤ moment disk → image disk c → image_since disk t c) (fresh : Bool) (settled : Type 0) (old mid new : D) (setting : Setting) (before after : Outside) (status : Status)
@@ -126,13 +128,13 @@ module _ {D : Type 0} (seen : D → Option (List ℕ)) (image : D → List ℕ �
         record {
           played = record {
             plays = played.plays;
-            reopens = λ _ c left. reopens fresh (IsTreeOfAnswered setting.state (play nothing_given setting script) played.plays.replies.done) c (played.reopens stands c left);
+            reopens = λ _ c left. reopens fresh (IsTreeOfAnswered (stored setting.state) (play nothing_given setting script) played.plays.replies.done) c (played.reopens stands c left);
             kept = λ _. played.kept stands;
           };
           moments = λ settles.
               then_run moment image_since old mid new (Reopens fresh (IsTreeOf setting script))
-              (weaken moment image_since old mid (Reopens fresh (λ s. s ≡ setting.state)) (Reopens fresh (IsTreeOf setting script))
-              (λ c holds. reopens-weaker fresh (λ s. s ≡ setting.state) (IsTreeOf setting script) c (λ s same. no-event setting.state s events same) holds) (opening settles))
+              (weaken moment image_since old mid (Reopens fresh (λ s. s ≡ stored setting.state)) (Reopens fresh (IsTreeOf setting script))
+              (λ c holds. reopens-weaker fresh (λ s. s ≡ stored setting.state) (IsTreeOf setting script) c (λ s same. no-event (stored setting.state) s events same) holds) (opening settles))
               (weaken moment image_since mid new (Holds (IsTreeOf setting script)) (Reopens fresh (IsTreeOf setting script)) (λ c holds. reopens fresh (IsTreeOf setting script) c holds) (moments stands));
           begun = λ _ _ c left.
               let run = moments stands in
@@ -169,13 +171,13 @@ module _ {D : Type 0} (seen : D → Option (List ℕ)) (image : D → List ℕ �
             plays = plays-stop setting ends Memory script script script false setting false before before goes left_is (λ none. none) (nothing-stops script script refl) (answers (length done));
             reopens = λ settles c now.
                 let run = opening settles in
-                reopens-weaker fresh (λ s. s ≡ setting.state) (IsTreeOfAnswered setting.state (play nothing_given setting script) (length done)) c
-                (λ s same. all-answered setting.state s setting (play nothing_given setting script) done (play nothing_given setting script) all_is (same ∙ state_is)) (run.each c (counts_now new (moment old) c run.later now));
+                reopens-weaker fresh (λ s. s ≡ stored setting.state) (IsTreeOfAnswered (stored setting.state) (play nothing_given setting script) (length done)) c
+                (λ s same. all-answered (stored setting.state) s setting (play nothing_given setting script) done (play nothing_given setting script) all_is (same ∙ state_is)) (run.each c (counts_now new (moment old) c run.later now));
             kept = λ _ finished. absurd (unfinished finished);
           };
           moments = λ settles.
-              weaken moment image_since old new (Reopens fresh (λ s. s ≡ setting.state)) (Reopens fresh (IsTreeOf setting script))
-              (λ c holds. reopens-weaker fresh (λ s. s ≡ setting.state) (IsTreeOf setting script) c (λ s same. no-event setting.state s (all_events (play nothing_given setting script)) same) holds) (opening settles);
+              weaken moment image_since old new (Reopens fresh (λ s. s ≡ stored setting.state)) (Reopens fresh (IsTreeOf setting script))
+              (λ c holds. reopens-weaker fresh (λ s. s ≡ stored setting.state) (IsTreeOf setting script) c (λ s same. no-event (stored setting.state) s (all_events (play nothing_given setting script)) same) holds) (opening settles);
           begun = λ _ begun. absurd (not-begun ends before unfinished begun);
           complete = complete;
         }

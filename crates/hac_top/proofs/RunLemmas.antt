@@ -9,13 +9,14 @@ use Rattle.hac_model.specs.Script.Lines.{Item}
 use Rattle.hac_model.specs.Script.{first_line, due, first_items, after_item, script, whole}
 use Rattle.hac_model.specs.declared.limits.TheConstants.{SCRIPT_LIMIT}
 use Rattle.hac_model.specs.Tree.Events.{apply_all}
-use Rattle.hac_model.specs.Run.Play.{Setting, Turn, all_events, has_refusal, is_refused, left_by, nothing_given, play, turns, turns_text}
+use Rattle.hac_model.specs.Run.Play.{Setting, Turn, all_events, has_refusal, is_refused, left_by, nothing_given, play, stored_setting, turns, turns_text}
+use Rattle.hac_model.specs.Tree.Sessions.{stored}
 use Rattle.hac_model.specs.declared.states.State.{State}
 use Rattle.hac_model.specs.declared.taken.Taken.{Taken}
 use Rattle.hac_model.specs.Laws.{AreLines}
 use Rattle.hac_model.proofs.JoinLemmas.{cut-append, left_by-append, play-line, scripts-joined, turns-joined, whole-line, whole-unended}
 use Rattle.hac_model.proofs.WholeLemmas.{whole-lines}
-use Rattle.hac_model.proofs.PlayLemmas.{apply_all-append, states-lead}
+use Rattle.hac_model.proofs.PlayLemmas.{apply_all-append, events-lead}
 use Rattle.hac_model.proofs.ScriptLemmas.{script-nothing}
 use Rattle.hac_store.specs.Held.{held}
 use Rattle.shell_lang.specs.Reading.{piece_size}
@@ -98,10 +99,10 @@ module _ (first : Setting) where
     items-are : turns_of first goes.played goes.last ≡ turns nothing_given first (script goes.played ++ first_items goes.last)
     items-are = sym (turns-joined first (script goes.played) (first_items goes.last))
 
-    pub state-is : setting.state ≡ apply_all first.state (all_events (turns_of first goes.played goes.last))
+    pub state-is : stored setting.state ≡ apply_all (stored first.state) (all_events (turns_of first goes.played goes.last))
     state-is =
-        ap (λ (z : Setting). z.state) (goes.left_is ∙ ap (left_by first) items-are) ∙ states-lead nothing_given first (script goes.played ++ first_items goes.last)
-        ∙ ap (λ (ts : List Turn). apply_all first.state (all_events ts)) (sym items-are)
+        ap (λ (z : Setting). stored z.state) (goes.left_is ∙ ap (left_by first) items-are) ∙ events-lead nothing_given first (script goes.played ++ first_items goes.last)
+        ∙ ap (λ (ts : List Turn). apply_all (stored first.state) (all_events ts)) (sym items-are)
 
     pub turns-are : play nothing_given first s ≡ turns_of first goes.played goes.last ++ play nothing_given setting p
     turns-are =
@@ -202,11 +203,11 @@ module _ (first : Setting) where
     answers-stop other l taken why stops on past total = tt
 
     -- what a crash leaves while lines in hand are stored is a tree of the whole run
-    pub tree-of-line : (items : List Item) (rest : List Turn) → play nothing_given setting p ≡ turns nothing_given setting items ++ rest → (c : List ℕ) → Holds (IsTreeAfter setting.state (all_events (turns nothing_given setting items))) c → Holds (IsTreeOf first s) c
+    pub tree-of-line : (items : List Item) (rest : List Turn) → play nothing_given setting p ≡ turns nothing_given setting items ++ rest → (c : List ℕ) → Holds (IsTreeAfter (stored setting.state) (all_events (turns nothing_given setting items))) c → Holds (IsTreeOf first s) c
     tree-of-line items rest is c holds =
         let done = turns_of first goes.played goes.last in
         let all_is : play nothing_given first s ≡ turns_of first goes.played goes.last ++ (turns nothing_given setting items ++ rest) = turns-are ∙ ap (λ (ts : List Turn). turns_of first goes.played goes.last ++ ts) is in
-        holds-weaker (IsTreeAfter setting.state (all_events (turns nothing_given setting items))) (IsTreeOf first s) c (λ t tree. tree-of-all first.state setting.state t (play nothing_given first s) done (turns nothing_given setting items) rest all_is state-is tree) holds
+        holds-weaker (IsTreeAfter (stored setting.state) (all_events (turns nothing_given setting items))) (IsTreeOf first s) c (λ t tree. tree-of-all (stored first.state) (stored setting.state) t (play nothing_given first s) done (turns nothing_given setting items) rest all_is state-is tree) holds
 
   -- a run that ends with all replies that it began
   abbrev pub plays-stop : (status why : Status) (s p l : List ℕ) (ended : Bool) (setting : Setting) (refused : Bool) (before after : Outside) (goes : Goes first s p ended setting refused before.sink after.sink) →
@@ -224,8 +225,8 @@ module _ (first : Setting) where
   -- what a crash leaves then is some of the events of the items in hand
   pub played-stop : (stood : Type 0) (image : List ℕ → Type 0) (status why : Status) (s p l : List ℕ) (ended : Bool) (setting : Setting) (refused : Bool) (before after : Outside) (goes : Goes first s p ended setting refused before.sink after.sink) →
       Some l ≡ after.source.left → (before.sink.held_back ≡ 0 → after.sink.held_back ≡ 0) → StopsIn why p l → AnswersBy status first s (length (turns_of first goes.played goes.last)) (Some l) →
-      (items : List Item) (rest : List Turn) → play nothing_given setting p ≡ turns nothing_given setting items ++ rest → length (turns nothing_given setting items) ≤ 1 → (stood → (c : List ℕ) → image c → Holds (IsTreeAfter setting.state (all_events (turns nothing_given setting items))) c) →
-      (stood → IsFinished status → (c : List ℕ) → image c → held c ≡ Ok (left_by first (play nothing_given first s))) → Played false status first s before after stood image
+      (items : List Item) (rest : List Turn) → play nothing_given setting p ≡ turns nothing_given setting items ++ rest → length (turns nothing_given setting items) ≤ 1 → (stood → (c : List ℕ) → image c → Holds (IsTreeAfter (stored setting.state) (all_events (turns nothing_given setting items))) c) →
+      (stood → IsFinished status → (c : List ℕ) → image c → held c ≡ Ok (stored_setting (left_by first (play nothing_given first s)))) → Played false status first s before after stood image
   played-stop stood image status why s p l ended setting refused before after goes left_is passed stops answers items rest is few some kept =
       let all_is = turns-are s p ended setting refused before.sink after.sink goes ∙ ap (λ (ts : List Turn). turns_of first goes.played goes.last ++ ts) is in
       record {
@@ -236,7 +237,7 @@ module _ (first : Setting) where
               kept = holds.kept;
               is = holds.is;
               state =
-                  some-answered first.state setting.state holds.kept.state setting (play nothing_given first s) (turns_of first goes.played goes.last) items rest all_is few (state-is s p ended setting refused before.sink after.sink goes) holds.state;
+                  some-answered (stored first.state) (stored setting.state) holds.kept.state setting (play nothing_given first s) (turns_of first goes.played goes.last) items rest all_is few (state-is s p ended setting refused before.sink after.sink goes) holds.state;
             };
         kept = kept;
       }
@@ -247,7 +248,7 @@ module _ (first : Setting) where
 
   -- the script has ended
   pub played-end : (stood : Type 0) (image : List ℕ → Type 0) (s p l behind : List ℕ) (taken : ℕ) (ended : Bool) (setting : Setting) (refused : Bool) (before after : Outside) (goes : Goes first s p ended setting refused before.sink after.sink) →
-      Some l ≡ after.source.left → (before.sink.held_back ≡ 0 → after.sink.held_back ≡ 0) → (p ≡ []) × (behind ++ l ≡ []) → taken + length l ≡ 0 + length s → taken ≤ SCRIPT_LIMIT → (stood → (c : List ℕ) → image c → held c ≡ Ok setting) →
+      Some l ≡ after.source.left → (before.sink.held_back ≡ 0 → after.sink.held_back ≡ 0) → (p ≡ []) × (behind ++ l ≡ []) → taken + length l ≡ 0 + length s → taken ≤ SCRIPT_LIMIT → (stood → (c : List ℕ) → image c → held c ≡ Ok (stored_setting setting)) →
       Played false (finished_status refused) first s before after stood image
   played-end stood image s p l behind taken ended setting refused before after goes left_is passed none total within stands =
       let done = turns_of first goes.played goes.last in
@@ -259,15 +260,15 @@ module _ (first : Setting) where
       record { read = ap Some nothing; within = omega (arith, total, within, ap length nothing); status_is = ap finished_status (goes.refused_is ∙ ap has_refusal (sym all)); all = ap length (sym all) } in
       played-stop stood image (finished_status refused) Memory s p l ended setting refused before after goes left_is passed (nothing-stops p l (none.0 ∙ sym nothing)) (answers-finished refused s (length done) (Some l) answers)
       [] (play nothing_given setting p) refl (omega arith)
-      (λ stood_now c left. record { kept = setting; is = stands stood_now c left; state = tree-all setting.state setting.state [] refl })
-      (λ stood_now _ c left. stands stood_now c left ∙ ap Ok (goes.left_is ∙ ap (left_by first) (sym all)))
+      (λ stood_now c left. record { kept = stored_setting setting; is = stands stood_now c left; state = tree-all (stored setting.state) (stored setting.state) [] refl })
+      (λ stood_now _ c left. stands stood_now c left ∙ ap (λ (z : Setting). Ok (stored_setting z)) (goes.left_is ∙ ap (left_by first) (sym all)))
 
   -- the sink failed while a line was answered, all of which was stored before
   pub played-cut : (stood : Type 0) (image : List ℕ → Type 0) (s p l behind : List ℕ) (line : TakenLine) (new_ended : Bool) (setting : Setting) (refused : Bool) (mid : SinkSeen) (before after : Outside) →
       Goes first s p false setting refused before.sink mid → Some l ≡ after.source.left → (before.sink.held_back ≡ 0 → mid.held_back ≡ 0) → GivesTaken line new_ended p (behind ++ l) → length behind < piece_size →
-      WritesSome mid after.sink (turns_text (turns nothing_given setting (items_of_taken line))) → (stood → (c : List ℕ) → image c → held c ≡ Ok (left_by setting (turns nothing_given setting (items_of_taken line)))) →
+      WritesSome mid after.sink (turns_text (turns nothing_given setting (items_of_taken line))) → (stood → (c : List ℕ) → image c → held c ≡ Ok (stored_setting (left_by setting (turns nothing_given setting (items_of_taken line))))) →
       Played false WriteFault first s before after stood image
-  played-cut stood image s p l behind line new_ended setting refused mid before after goes left_is passed gives near some stored =
+  played-cut stood image s p l behind line new_ended setting refused mid before after goes left_is passed gives near some was_stored =
       let items = items_of_taken line in
       let now = turns nothing_given setting (items_of_taken line) in
       let done = turns_of first goes.played goes.last in
@@ -294,16 +295,16 @@ module _ (first : Setting) where
         all = (stopped.front.0, stopped.front.1 ∙ ap (λ (ts : List Turn). ts ++ take stopped.front.0 now) done_is ∙ ap (λ (ts : List Turn). play nothing_given first (goes.played ++ goes.last) ++ take stopped.front.0 ts) now_is);
       } in
       -- either none of its replies was written whole, or the one that there is
-      let answered : (count : ℕ) → (count ≡ length (turns_of first goes.played goes.last)) ⊎ (count ≡ length (turns_of first goes.played goes.last ++ now)) → IsTreeOfAnswered first.state (play nothing_given first s) count (left_by setting now).state = λ told.
+      let answered : (count : ℕ) → (count ≡ length (turns_of first goes.played goes.last)) ⊎ (count ≡ length (turns_of first goes.played goes.last ++ now)) → IsTreeOfAnswered (stored first.state) (play nothing_given first s) count (stored (left_by setting now).state) = λ told.
       elim [
         | inl place ↦
-            subst (λ (n : ℕ). IsTreeOfAnswered first.state (play nothing_given first s) n (left_by setting now).state) (sym place)
-            (some-answered first.state setting.state (left_by setting now).state setting (play nothing_given first s) done items rest all_is (few-items line setting) state_is
-            (tree-all setting.state (left_by setting now).state (all_events now) (states-lead nothing_given setting items)))
+            subst (λ (n : ℕ). IsTreeOfAnswered (stored first.state) (play nothing_given first s) n (stored (left_by setting now).state)) (sym place)
+            (some-answered (stored first.state) (stored setting.state) (stored (left_by setting now).state) setting (play nothing_given first s) done items rest all_is (few-items line setting) state_is
+            (tree-all (stored setting.state) (stored (left_by setting now).state) (all_events now) (events-lead nothing_given setting items)))
         | inr place ↦
-            subst (λ (n : ℕ). IsTreeOfAnswered first.state (play nothing_given first s) n (left_by setting now).state) (sym place)
-            (all-answered first.state (left_by setting now).state setting (play nothing_given first s) (done ++ now) rest (all_is ∙ sym (append_assoc done now rest))
-            (states-lead nothing_given setting items ∙ ap (λ (t : State). apply_all t (all_events now)) state_is ∙ sym (apply_all-append (all_events done) (all_events now) first.state) ∙ ap (apply_all first.state) (sym (all_events-append done now))))
+            subst (λ (n : ℕ). IsTreeOfAnswered (stored first.state) (play nothing_given first s) n (stored (left_by setting now).state)) (sym place)
+            (all-answered (stored first.state) (stored (left_by setting now).state) setting (play nothing_given first s) (done ++ now) rest (all_is ∙ sym (append_assoc done now rest))
+            (events-lead nothing_given setting items ∙ ap (λ (t : State). apply_all t (all_events now)) state_is ∙ sym (apply_all-append (all_events done) (all_events now) (stored first.state)) ∙ ap (apply_all (stored first.state)) (sym (all_events-append done now))))
       ] in
       record {
         plays = record {
@@ -312,7 +313,7 @@ module _ (first : Setting) where
           prompt = subst (λ (o : Option (List ℕ)). AnswersPromptly first s stopped.replies.done o) left_is prompt;
           answers = tt;
         };
-        reopens = λ stands c left. record { kept = left_by setting now; is = stored stands c left; state = answered stopped.replies.done stopped.place };
+        reopens = λ stands c left. record { kept = stored_setting (left_by setting now); is = was_stored stands c left; state = answered stopped.replies.done stopped.place };
         kept = λ _ finished. absurd finished;
       }
 

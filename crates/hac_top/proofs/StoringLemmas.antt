@@ -1,11 +1,12 @@
 -- What becomes of the store and its disk as turns are stored, one call after another.
 use Rattle.std.proofs.Common.{◌≡◌, ℕ, true, false, Bool, List, [], ◌∷◌, ◌++◌, length, refl, ap, sym, subst, ◌∙◌, append-nil, arith, inl, inr, zero, suc, ◌+◌, ◌*◌, ◌<◌, ◌≤◌}
-use Rattle.std.specs.Prelude.{if◌then◌else◌, Option, Result, Ok, Err, IfErr, OnOk, ◌==◌, replicate}
+use Rattle.std.specs.Prelude.{if◌then◌else◌, filter, Option, None, Some, Result, Ok, Err, IfErr, OnOk, ◌==◌, replicate}
 use Rattle.std.proofs.Math.Seq.{take-length}
 use Rattle.hac_disk.specs.Images.{LeavesOnly}
 use Rattle.hac_disk.proofs.Moments.{started, weaken, then_run}
 use Rattle.hac_model.specs.Tree.Events.{apply_all, apply}
-use Rattle.hac_model.specs.Run.Play.{Setting, Turn, after_events, all_events, end_behind, have_room, left_by, nothing_given, refused_turn, turns_text}
+use Rattle.hac_model.specs.Run.Play.{Setting, Turn, after_events, all_events, end_behind, have_room, left_by, nothing_given, refused_turn, stored_setting, turns_text}
+use Rattle.hac_model.specs.Tree.Sessions.{is_stored, stored}
 use Rattle.hac_model.specs.declared.events.Event.{Event}
 use Rattle.hac_model.specs.declared.limits.LimitWord.TheVariants.{Store}
 use Rattle.hac_model.specs.declared.replies.Refusal.TheVariants.{Limit}
@@ -18,12 +19,12 @@ use Rattle.hac_top.specs.Replies.{StopsWriting, WritesAll}
 use Rattle.hac_top.specs.declared.status.Status.{Status}
 use Rattle.hac_store.specs.Held.{held}
 use Rattle.hac_store.specs.Storing.{StoresEvents}
-use Rattle.hac_store.specs.Stores.{Bears, HeldBetween, IsHeldAs, Seen, Stands, fit_behind, store_after}
+use Rattle.hac_store.specs.Stores.{Bears, HeldBetween, IsHeldAs, Seen, Stands, fit_behind, store_after, unstored_after}
 use Rattle.hac_store.specs.declared.fault.StoreFault.{StoreFault}
 use Rattle.hac_store.specs.declared.fault.StoreFault.TheVariants as fault
 use Rattle.hac_store.proofs.PutLemmas.{stands-each}
 use Rattle.hac_top.specs.Crashes.{Holds, IsTreeAfter}
-use Rattle.hac_top.specs.Deciding.{storing_turn, turn_with}
+use Rattle.hac_top.specs.Deciding.{standing_turn, storing_turn, turn_with}
 use Rattle.hac_top.specs.Storing.{AnswersLine, StopsAnswer, Stores, StoresTurn, storing_reply}
 use Rattle.hac_top.specs.declared.status.Status.TheVariants.{WriteFault, Memory}
 use Rattle.std.proofs.lemmas.Bool.Decides.{nat_tests}
@@ -32,18 +33,19 @@ use Rattle.hac_model.specs.Laws.{AllHappen}
 use Rattle.hac_model.specs.declared.events.Event.TheVariants.{Step}
 use Rattle.hac_model.specs.declared.limits.TheConstants.{STORE_LIMIT}
 use Rattle.hac_model.specs.declared.states.State.{State}
-use Rattle.hac_model.proofs.PlayLemmas.{apply_all-append, end_behind-append}
+use Rattle.hac_model.proofs.PlayLemmas.{apply_all-append, end_behind-append, stored-all}
 use Rattle.hac_store.proofs.RoomLemmas.{end-steps, steps-have-room}
+use Rattle.hac_store.proofs.StoredLemmas.{unstored-same}
 
 -- nothing of the events has happened
-pub held-before : (setting : Setting) (events : List Event) (c : List ℕ) → held c ≡ Ok setting → Holds (IsTreeAfter setting.state events) c
-held-before setting events c is = record { kept = setting; is = is; state = record { count = 0; within = omega arith; is = refl } }
+pub held-before : (setting : Setting) (events : List Event) (c : List ℕ) → held c ≡ Ok (stored_setting setting) → Holds (IsTreeAfter (stored setting.state) events) c
+held-before setting events c is = record { kept = stored_setting setting; is = is; state = record { count = 0; within = omega arith; is = refl } }
 
 -- some of them, or all
-held-between : (setting : Setting) (events : List Event) (c : List ℕ) → HeldBetween setting events c → Holds (IsTreeAfter setting.state events) c
+held-between : (setting : Setting) (events : List Event) (c : List ℕ) → HeldBetween setting events c → Holds (IsTreeAfter (stored setting.state) events) c
 held-between setting events c (inl before) = held-before setting events c before
 held-between setting events c (inr after) =
-    record { kept = after_events setting events; is = after; state = record { count = length events; within = omega arith; is = ap (apply_all setting.state) (sym (take-length events)) } }
+    record { kept = after_events (stored_setting setting) events; is = after; state = record { count = length events; within = omega arith; is = ap (apply_all (stored setting.state)) (sym (take-length events)) } }
 
 -- the turn that stores events, given whether there is room for them
 pub storing-turn : (setting : Setting) (events : List Event) (room : Bool) → have_room setting events ≡ room → storing_turn setting events ≡ (if room then turn_with setting (Lines []) events else refused_turn nothing_given setting (Limit Store))
@@ -52,6 +54,11 @@ storing-turn setting events room is = ap (λ (b : Bool). if b then turn_with set
 pub turn-events : (setting : Setting) (events : List Event) → have_room setting events ≡ true → all_events (storing_turn setting events ∷ []) ≡ events
 turn-events setting events room = ap (λ (turn : Turn). all_events (turn ∷ [])) (storing-turn setting events true room) ∙ append-nil (events ++ []) ∙ append-nil events
 
+-- a disk stands for all that is stored alike
+stands-same : (seen : Option (List ℕ)) (image : List ℕ → Type 0) (z w : Setting) → stored_setting z ≡ stored_setting w → Stands seen image z → Stands seen image w
+stands-same None image z w same stands = stands
+stands-same (Some file) image z w same stands = λ c left. stands c left ∙ ap Ok same
+
 module _ {D : Type 0} {seen : D → Option (List ℕ)} {image : D → List ℕ → Type 0} {moment : D → ℕ} {image_since : D → ℕ → List ℕ → Type 0} {attached : D → Option (List (List ℕ × Bool))} {faults : D → ℕ}
     (only_now : (disk : D) (c : List ℕ) → image_since disk (moment disk) c → image disk c) where
   -- the disk isn't touched
@@ -59,7 +66,7 @@ module _ {D : Type 0} {seen : D → Option (List ℕ)} {image : D → List ℕ �
   stores-nothing disk setting events =
       record {
         moments = λ stands.
-            started moment image_since disk (Holds (IsTreeAfter setting.state events)) (λ c left. held-before setting events c (stands-each (seen disk) (image disk) setting stands c (only_now disk c left)));
+            started moment image_since disk (Holds (IsTreeAfter (stored setting.state) events)) (λ c left. held-before setting events c (stands-each (seen disk) (image disk) setting stands c (only_now disk c left)));
         names = refl;
         reported = refl;
       }
@@ -68,6 +75,23 @@ module _ {D : Type 0} {seen : D → Option (List ℕ)} {image : D → List ℕ �
   pub answers-only : (disk : D) (store : Seen) (reply : Reply) → Bears (seen disk) store → StoresTurn seen image moment image_since attached faults disk disk store store (turn_with store.setting reply []) (Ok reply)
   answers-only disk store reply place =
       record { ok = record { reply_is = refl; store = refl; place = place; stands = λ stands. stands }; err = tt; stores = stores-nothing disk store.setting [] }
+
+  -- a session moves, and what is stored stays
+  pub moves-session : (disk : D) (store now : Seen) (event : Event) → is_stored event ≡ false → now ≡ record store { setting = unstored_after store.setting event } → Bears (seen disk) store →
+      StoresTurn seen image moment image_since attached faults disk disk store now (standing_turn store.setting event) (Ok (Lines []))
+  moves-session disk store now event unstored is place =
+      let kept : stored_setting store.setting ≡ stored_setting (unstored_after store.setting event) = ap (λ (s : State). record store.setting { state = s }) (sym (unstored-same store.setting.state event unstored)) in
+      record {
+        ok = record {
+          reply_is = refl;
+          store = is;
+          place = subst (λ (z : Seen). Bears (seen disk) z) (sym is) place;
+          stands = λ stands.
+              subst (λ (z : Seen). Stands (seen disk) (image disk) z.setting) (sym is) (stands-same (seen disk) (image disk) store.setting (unstored_after store.setting event) kept stands);
+        };
+        err = tt;
+        stores = stores-nothing disk store.setting [];
+      }
 
   -- memory runs out before anything is stored
   pub stops-first : (disk : D) (store : Seen) (turn : Turn) → StoresTurn seen image moment image_since attached faults disk disk store store turn (Err Memory)
@@ -82,7 +106,7 @@ module _ {D : Type 0} {seen : D → Option (List ℕ)} {image : D → List ℕ �
 
   -- a reply that is told once its turn is stored
   pub stops-written : (old new : D) (setting : Setting) (sink sink_after : SinkSeen) (answered : List Turn) (bytes : List ℕ) (result : Result (Unit {0}) Status) → bytes ≡ turns_text answered → Stores seen image moment image_since attached faults old new setting (all_events answered) false →
-      (Stands (seen old) (image old) setting → (c : List ℕ) → image new c → IsHeldAs c (left_by setting answered)) → IfErr result (λ status. StopsWriting status sink sink_after bytes) →
+      (Stands (seen old) (image old) setting → (c : List ℕ) → image new c → IsHeldAs c (stored_setting (left_by setting answered))) → IfErr result (λ status. StopsWriting status sink sink_after bytes) →
       IfErr result (StopsAnswer seen image moment image_since attached faults old new setting sink sink_after answered)
   stops-written old new setting sink sink_after answered bytes (Ok done) same stores stored reported = tt
   stops-written old new setting sink sink_after answered bytes (Err WriteFault) same stores stored told =
@@ -109,8 +133,8 @@ module _ {D : Type 0} {seen : D → Option (List ℕ)} {image : D → List ℕ �
   once old new before events failed room moments names told =
       record {
         moments = λ stands.
-            subst (λ (es : List Event). LeavesOnly moment image_since old new (Holds (IsTreeAfter before.setting.state es))) (sym (turn-events before.setting events room))
-            (weaken moment image_since old new (HeldBetween before.setting events) (Holds (IsTreeAfter before.setting.state events)) (held-between before.setting events) (moments stands));
+            subst (λ (es : List Event). LeavesOnly moment image_since old new (Holds (IsTreeAfter (stored before.setting.state) es))) (sym (turn-events before.setting events room))
+            (weaken moment image_since old new (HeldBetween before.setting events) (Holds (IsTreeAfter (stored before.setting.state) events)) (held-between before.setting events) (moments stands));
         names = names;
         reported = told;
       }
@@ -118,29 +142,29 @@ module _ {D : Type 0} {seen : D → Option (List ℕ)} {image : D → List ℕ �
   module _ {old new : D} {before after : Seen} {events : List Event} where
     pub stores-once : (result : Result (Unit {0}) StoreFault) → Bears (seen old) before → StoresEvents seen image moment image_since attached faults old new before after events result →
         StoresTurn seen image moment image_since attached faults old new before after (storing_turn before.setting events) (storing_reply result)
-    stores-once (Ok done) place stored =
-        let turn = storing-turn before.setting events true stored.ends.room in
+    stores-once (Ok done) place went =
+        let turn = storing-turn before.setting events true went.ends.room in
         record {
           ok = record {
             reply_is = ap (λ (t : Turn). t.reply) (sym turn);
-            store = stored.ends.store ∙ ap (λ (t : Turn). record before { setting = t.after }) (sym turn);
-            place = stored.ends.place;
-            stands = stored.stands;
+            store = went.ends.store ∙ ap (λ (t : Turn). record before { setting = t.after }) (sym turn);
+            place = went.ends.place;
+            stands = went.stands;
           };
           err = tt;
-          stores = once old new before events false stored.ends.room stored.moments stored.names stored.reported;
+          stores = once old new before events false went.ends.room went.moments went.names went.reported;
         }
-    stores-once (Err fault.Full) place stored =
-        subst (λ (store : Seen). StoresTurn seen image moment image_since attached faults old new before store (storing_turn before.setting events) (Ok (Refused (Limit Store)))) (sym stored.ends.1.0)
-        (subst (λ (disk : D). StoresTurn seen image moment image_since attached faults old disk before before (storing_turn before.setting events) (Ok (Refused (Limit Store)))) (sym stored.ends.1.1)
-        (full-turn old before events place stored.ends.0))
-    stores-once (Err fault.Memory) place stored =
-        subst (λ (store : Seen). StoresTurn seen image moment image_since attached faults old new before store (storing_turn before.setting events) (Err Memory)) (sym stored.ends.0)
-        (subst (λ (disk : D). StoresTurn seen image moment image_since attached faults old disk before before (storing_turn before.setting events) (Err Memory)) (sym stored.ends.1)
+    stores-once (Err fault.Full) place went =
+        subst (λ (store : Seen). StoresTurn seen image moment image_since attached faults old new before store (storing_turn before.setting events) (Ok (Refused (Limit Store)))) (sym went.ends.1.0)
+        (subst (λ (disk : D). StoresTurn seen image moment image_since attached faults old disk before before (storing_turn before.setting events) (Ok (Refused (Limit Store)))) (sym went.ends.1.1)
+        (full-turn old before events place went.ends.0))
+    stores-once (Err fault.Memory) place went =
+        subst (λ (store : Seen). StoresTurn seen image moment image_since attached faults old new before store (storing_turn before.setting events) (Err Memory)) (sym went.ends.0)
+        (subst (λ (disk : D). StoresTurn seen image moment image_since attached faults old disk before before (storing_turn before.setting events) (Err Memory)) (sym went.ends.1)
         (stops-first old before (storing_turn before.setting events)))
-    stores-once (Err fault.Disk) place stored = record { ok = tt; err = tt; stores = once old new before events true stored.ends.0 stored.moments stored.names stored.reported }
-    stores-once (Err (fault.NotStore at)) place stored = absurd stored.ends
-    stores-once (Err fault.AlreadyStore) place stored = absurd stored.ends
+    stores-once (Err fault.Disk) place went = record { ok = tt; err = tt; stores = once old new before events true went.ends.0 went.moments went.names went.reported }
+    stores-once (Err (fault.NotStore at)) place went = absurd went.ends
+    stores-once (Err fault.AlreadyStore) place went = absurd went.ends
 
 -- a count that rose since a later moment rose since an earlier one
 pub told-since : (failed : Bool) (a b c : ℕ) → b ≡ a → ReportsFault failed b c → ReportsFault failed a c
@@ -170,19 +194,33 @@ happen-behind s (suc n) m (suc k) few happen = happen-behind (apply s Step) n m 
 part-tree : (s : State) (n k : ℕ) → n ≤ k → IsTreeAfter s (steps k) (apply_all s (steps n))
 part-tree s n k few = record { count = n; within = omega (arith, few, length-replicate k Step); is = ap (apply_all s) (sym (take-replicate n k Step few)) }
 
+-- what is stored after steps is what they make of what was stored
+steps-stored : (setting : Setting) (n : ℕ) → stored_setting (after_events setting (steps n)) ≡ after_events (stored_setting setting) (steps n)
+steps-stored setting n =
+    ap (λ (s : State). record setting { state = s; end = end_behind setting.end (steps n) }) (stored-all (steps n) setting.state ∙ ap (apply_all (stored setting.state)) (kept n))
+  where
+    kept : (n : ℕ) → filter is_stored (steps n) ≡ steps n
+    kept zero = refl
+    kept (suc n) = ap (λ (events : List Event). Step ∷ events) (kept n)
+
 -- the steps of one part are some of all, where they happen behind the first ones
-part-held : (setting : Setting) (done batch count : ℕ) (c : List ℕ) → done + batch ≤ count → HeldBetween (after_events setting (steps done)) (steps batch) c → Holds (IsTreeAfter setting.state (steps count)) c
-part-held setting done batch count c few (inl before) = record { kept = after_events setting (steps done); is = before; state = part-tree setting.state done count (omega (arith, few)) }
+part-held : (setting : Setting) (done batch count : ℕ) (c : List ℕ) → done + batch ≤ count → HeldBetween (after_events setting (steps done)) (steps batch) c → Holds (IsTreeAfter (stored setting.state) (steps count)) c
+part-held setting done batch count c few (inl before) =
+    record {
+      kept = after_events (stored_setting setting) (steps done);
+      is = before ∙ ap Ok (steps-stored setting done);
+      state = part-tree (stored setting.state) done count (omega (arith, few));
+    }
 part-held setting done batch count c few (inr after) =
     record {
-      kept = after_events setting (steps (done + batch));
-      is = after ∙ ap Ok (after-steps setting done batch);
-      state = part-tree setting.state (done + batch) count few;
+      kept = after_events (stored_setting setting) (steps (done + batch));
+      is = after ∙ ap Ok (ap (λ (z : Setting). after_events z (steps batch)) (steps-stored setting done) ∙ after-steps (stored_setting setting) done batch);
+      state = part-tree (stored setting.state) (done + batch) count few;
     }
 
 -- the tree after some of the events of the turn that stores steps
 abbrev HoldsSome : Setting → ℕ → List ℕ → Type 0
-HoldsSome setting count c = Holds (IsTreeAfter setting.state (all_events (storing_turn setting (steps count) ∷ []))) c
+HoldsSome setting count c = Holds (IsTreeAfter (stored setting.state) (all_events (storing_turn setting (steps count) ∷ []))) c
 
 -- where all steps have room, so does a part behind the first ones
 part-room : (end done batch count : ℕ) → done + batch ≤ count → 0 < batch → fit_behind end count 2 ≡ true → fit_behind (end_behind end (steps done)) batch 2 ≡ true
@@ -241,40 +279,40 @@ module _ {D : Type 0} {seen : D → Option (List ℕ)} {image : D → List ℕ �
 
     module _ {new : D} {after : Seen} (batch : ℕ) (few : done + batch ≤ count) where
       part-moments : (result : Result (Unit {0}) StoreFault) → StoresEvents seen image moment image_since attached faults now new store after (steps batch) result → Stands (seen old) (image old) first.setting → LeavesOnly moment image_since old new (HoldsSome first.setting count)
-      part-moments result stored stands =
+      part-moments result went stands =
           then_run moment image_since old now new (HoldsSome first.setting count) (was.moments stands)
           (weaken moment image_since now new (HeldBetween store.setting (steps batch)) (HoldsSome first.setting count)
           (λ c between.
-          subst (λ (es : List Event). Holds (IsTreeAfter first.setting.state es) c) (sym (turn-events first.setting (steps count) (steps-have-room first.setting count ∙ was.room)))
-          (part-held first.setting done batch count c few (subst (λ (z : Seen). HeldBetween z.setting (steps batch) c) was.store_is between))) (stored.moments (was.stands stands)))
+          subst (λ (es : List Event). Holds (IsTreeAfter (stored first.setting.state) es) c) (sym (turn-events first.setting (steps count) (steps-have-room first.setting count ∙ was.room)))
+          (part-held first.setting done batch count c few (subst (λ (z : Seen). HeldBetween z.setting (steps batch) c) was.store_is between))) (went.moments (was.stands stands)))
 
       -- one part more
       pub part-stepped : StoresEvents seen image moment image_since attached faults now new store after (steps batch) (Ok tt) → (next : ℕ) → done + batch ≡ next → Stepped seen image moment image_since attached faults old new first after next count
-      part-stepped stored next is =
+      part-stepped went next is =
           record {
             room = was.room;
-            store_is = stored.ends.store ∙ ap (λ (z : Seen). store_after z (steps batch)) was.store_is ∙ ap (λ (z : Setting). record first { setting = z }) (after-steps first.setting done batch ∙ ap (λ (n : ℕ). after_events first.setting (steps n)) is);
-            place = stored.ends.place;
-            stands = λ stands. stored.stands (was.stands stands);
-            moments = part-moments (Ok tt) stored;
-            names = stored.names ∙ was.names;
-            quiet = stored.reported ∙ was.quiet;
+            store_is = went.ends.store ∙ ap (λ (z : Seen). store_after z (steps batch)) was.store_is ∙ ap (λ (z : Setting). record first { setting = z }) (after-steps first.setting done batch ∙ ap (λ (n : ℕ). after_events first.setting (steps n)) is);
+            place = went.ends.place;
+            stands = λ stands. went.stands (was.stands stands);
+            moments = part-moments (Ok tt) went;
+            names = went.names ∙ was.names;
+            quiet = went.reported ∙ was.quiet;
           }
 
       stopped : (failed : Bool) (reason : StoreFault) → StoresEvents seen image moment image_since attached faults now new store after (steps batch) (Err reason) → ReportsFault failed (faults now) (faults new) →
           Stores seen image moment image_since attached faults old new first.setting (all_events (storing_turn first.setting (steps count) ∷ [])) failed
-      stopped failed reason stored told =
-          record { moments = part-moments (Err reason) stored; names = stored.names ∙ was.names; reported = told-since failed (faults old) (faults now) (faults new) was.quiet told }
+      stopped failed reason went told =
+          record { moments = part-moments (Err reason) went; names = went.names ∙ was.names; reported = told-since failed (faults old) (faults now) (faults new) was.quiet told }
 
       -- or none, and then the disk failed or memory ran out, as there is room for all
       pub part-stopped : 0 < batch → (reason : StoreFault) → StoresEvents seen image moment image_since attached faults now new store after (steps batch) (Err reason) →
           StoresTurn seen image moment image_since attached faults old new first after (storing_turn first.setting (steps count)) (storing_reply (Err reason))
-      part-stopped some fault.Disk stored = record { ok = tt; err = tt; stores = stopped true fault.Disk stored stored.reported }
-      part-stopped some fault.Memory stored = record { ok = tt; err = tt; stores = stopped false fault.Memory stored stored.reported }
-      part-stopped some fault.Full stored =
+      part-stopped some fault.Disk went = record { ok = tt; err = tt; stores = stopped true fault.Disk went went.reported }
+      part-stopped some fault.Memory went = record { ok = tt; err = tt; stores = stopped false fault.Memory went went.reported }
+      part-stopped some fault.Full went =
           let fits : fit_behind store.setting.end batch 2 ≡ true =
           subst (λ (z : Seen). fit_behind z.setting.end batch 2 ≡ true) (sym was.store_is) (part-room first.setting.end done batch count few some was.room) in
-          let never : false ≡ true = sym stored.ends.0 ∙ steps-have-room store.setting batch ∙ fits in
+          let never : false ≡ true = sym went.ends.0 ∙ steps-have-room store.setting batch ∙ fits in
           absurd cc
-      part-stopped some (fault.NotStore at) stored = absurd stored.ends
-      part-stopped some fault.AlreadyStore stored = absurd stored.ends
+      part-stopped some (fault.NotStore at) went = absurd went.ends
+      part-stopped some fault.AlreadyStore went = absurd went.ends

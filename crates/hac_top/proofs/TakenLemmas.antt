@@ -1,6 +1,6 @@
 -- A line that is taken up with the bytes that belong to it.
 use Rattle.std.proofs.Common.{◌≡◌, ℕ, ◌+◌, ◌-◌, ◌<◌, ◌≤◌, Bool, true, false, List, [], ◌∷◌, ◌++◌, length, take, drop, refl, ap, sym, ◌∙◌, arith, append_assoc, append-nil, length-append, length-drop, subst, Option, Some, Result, Ok, Err}
-use Rattle.std.specs.Prelude.{nat_le}
+use Rattle.std.specs.Prelude.{if◌then◌else◌, nat_le, None}
 use Rattle.std.specs.List.{position_or_len}
 use Rattle.std.specs.Option.{option_map, unwrap_or}
 use Rattle.std.specs.Io.KnownBytes.{Keeps, prepend_known}
@@ -14,9 +14,12 @@ use Rattle.hac_outside.specs.Known.{Known}
 use Rattle.hac_outside.specs.Seen.{SourceSeen}
 use Rattle.hac_outside.proofs.KnownLemmas.{known-behind, known-joined, known-kept, known-weaker}
 use Rattle.hac_model.specs.Bytes.{is_line_end}
-use Rattle.hac_model.specs.Script.Lines.{bytes_due, items_of}
+use Rattle.hac_model.specs.Script.Lines.{bytes_due, is_quiet, item_of, items_of, line_with, put_length, taken_of}
 use Rattle.hac_model.specs.Script.Puts.{came}
 use Rattle.hac_model.specs.Script.{first_line, after_line, is_first_ended, due, after_item, first_items, whole}
+use Rattle.hac_model.specs.declared.limits.LimitWord.TheVariants as limit
+use Rattle.hac_model.specs.declared.limits.TheConstants.{LINE_LIMIT}
+use Rattle.hac_model.specs.declared.replies.Refusal.TheVariants.{Limit}
 use Rattle.hac_model.specs.declared.taken.Taken.{Taken}
 use Rattle.hac_model.proofs.JoinLemmas.{after_item-line, bytes-whole, first_items-line, whole-line, le-holds, first_line-is_unended, first_line-unended, after_line-unended, bytes-line, whole-short, whole-unended}
 use Rattle.shell_lang.specs.Pieces.{piece_of, GivesLine, GivesPiece, PieceAdvances, GoesOn, IsPastLimit}
@@ -25,7 +28,7 @@ use Rattle.shell_lang.specs.Takes.{Misses, within}
 use Rattle.shell_lang.specs.declared.reading.LineFault.{LineFault}
 use Rattle.shell_lang.specs.declared.reading.LineFault.TheVariants as why
 use Rattle.shell_lang.specs.declared.reading.Piece.{Piece}
-use Rattle.shell_lang.specs.declared.reading.Piece.TheVariants.{End}
+use Rattle.shell_lang.specs.declared.reading.Piece.TheVariants.{Blank, Bytes, LongLine, End}
 use Rattle.shell_lang.proofs.ReaderLemmas.{total_on}
 use Rattle.hac_top.specs.Ends.{line_status}
 use Rattle.hac_top.specs.TakenLines.{items_of_piece, due_of_piece, GivesTaken, GivesFrom, Gives, TakesDue, CutsBy, CutsLine, StopsIn, StopsTaking}
@@ -34,7 +37,24 @@ use Rattle.hac_top.specs.declared.status.Status.TheVariants as status
 
 -- the items of the piece that a line is given as, given what is taken of the bytes behind it, are the line's
 items-taken : (bytes behind : List ℕ) → items_of_piece (piece_of bytes) (option_map (λ count. came count behind) (bytes_due bytes)) ≡ items_of bytes behind
-items-taken bytes behind = grind (arith, common_steps)
+items-taken bytes behind =
+    elim (is_quiet bytes) as (λ q.
+    items_of_piece (if q then Blank else piece) (option_map (λ count. came count behind) (if q then None else due_bytes))
+    ≡ (if q then [] else item_of bytes behind ∷ [])) [
+      | true ↦ refl
+      | false ↦ elim (nat_le (length bytes) LINE_LIMIT) as (λ b. nat_le (length bytes) LINE_LIMIT ≡ b →
+          items_of_piece (if b then Bytes bytes else LongLine) (option_map (λ count. came count behind) (if b then put_length bytes else None))
+          ≡ item_of bytes behind ∷ []) [
+            | true ↦ (λ is. refl)
+            | false ↦ (λ is. ap (λ (b : Bool). (if b then line_with bytes (taken_of bytes behind) else Err (Limit limit.Line)) ∷ []) (sym is))
+          ] refl
+    ]
+  where
+    piece : Piece
+    piece = if nat_le (length bytes) LINE_LIMIT then Bytes bytes else LongLine
+
+    due_bytes : Option ℕ
+    due_bytes = if nat_le (length bytes) LINE_LIMIT then put_length bytes else None
 
 -- and so are the bytes that it asks for
 due_of_piece-piece_of : (bytes : List ℕ) → due_of_piece (piece_of bytes) ≡ bytes_due bytes

@@ -7,7 +7,8 @@ use Rattle.hac_outside.specs.Known.{Known}
 use Rattle.hac_outside.specs.Seen.{SourceSeen, SinkSeen}
 use Rattle.hac_disk.specs.Images.{LeavesOnly}
 use Rattle.hac_model.specs.Script.CommandLine.{Options}
-use Rattle.hac_model.specs.Run.Play.{Setting, all_events, has_refusal, left_by, nothing_given, play, turns}
+use Rattle.hac_model.specs.Run.Play.{Setting, all_events, has_refusal, left_by, nothing_given, play, stored_setting, turns}
+use Rattle.hac_model.specs.Tree.Sessions.{stored}
 use Rattle.hac_model.specs.Script.Printed.{ended}
 use Rattle.hac_model.specs.Script.{after_item, first_items, whole}
 use Rattle.hac_model.specs.declared.limits.TheConstants.{SCRIPT_LIMIT}
@@ -117,15 +118,15 @@ pub record Plays (status : Status) (setting : Setting) (script : List ℕ)
 
 -- How a script is played from a store. Its replies are those of the plain tree. Where nothing was pending on
 -- the disk as it began, a crash leaves the tree with the events of each answered command, and at most those of the
--- command in hand besides; and where the script has ended, it leaves what the last command left.
+-- command in hand besides; and where the script has ended, it leaves what is stored of what the last command left.
 pub record Played (fresh : Bool) (status : Status) (setting : Setting) (script : List ℕ)
     (before after : Outside)
     (stood : Type 0) (image : List ℕ → Type 0) : Type 0 where
   pub plays : Plays status setting script before after
-  pub reopens : stood → (c : List ℕ) → image c → Reopens fresh (IsTreeOfAnswered setting.state
+  pub reopens : stood → (c : List ℕ) → image c → Reopens fresh (IsTreeOfAnswered (stored setting.state)
       (play nothing_given setting script) plays.replies.done) c
   pub kept : stood → IsFinished status → (c : List ℕ) → image c →
-      IsHeldAs c (left_by setting (play nothing_given setting script))
+      IsHeldAs c (stored_setting (left_by setting (play nothing_given setting script)))
 
 -- the run has begun: a byte of the script was taken, or one of a reply was written, or the script has ended
 abbrev pub HasBegun : Status → Outside → Outside → Type 0
@@ -139,9 +140,9 @@ pub record Completes (status : Status) (script : List ℕ) : Type 0 where
   pub within : length script ≤ SCRIPT_LIMIT → IsFinished status ⊎ (status ≡ Memory)
   pub past : SCRIPT_LIMIT < length script → (status ≡ TooLong) ⊎ (status ≡ Memory)
 
--- the tree after some of the events of a script, the first ones in order
+-- what was stored, after some of the events of a script, the first ones in order
 abbrev pub IsTreeOf : Setting → List ℕ → State → Type 0
-IsTreeOf setting script now = IsTreeAfter setting.state (all_events (play nothing_given setting script)) now
+IsTreeOf setting script now = IsTreeAfter (stored setting.state) (all_events (play nothing_given setting script)) now
 
 -- How the script is played from a store that was opened, whatever source and disk tell. A crash at each moment leaves
 -- the tree after some of the events. A call of the disk that failed is reported, and no other.

@@ -3,7 +3,8 @@ use Rattle.std.specs.Prelude.{◌≡◌, ⊤, ℕ, Bool, false, List, [], ◌∷
 use Rattle.hac_disk.specs.Images.{LeavesOnly}
 use Rattle.hac_outside.specs.Causes.{ReportsFault}
 use Rattle.hac_outside.specs.Seen.{SinkSeen}
-use Rattle.hac_model.specs.Run.Play.{Setting, Turn, all_events, left_by, turns_text}
+use Rattle.hac_model.specs.Run.Play.{Setting, Turn, all_events, left_by, stored_setting, turns_text}
+use Rattle.hac_model.specs.Tree.Sessions.{stored}
 use Rattle.hac_model.specs.declared.events.Event.{Event}
 use Rattle.hac_model.specs.declared.limits.LimitWord.TheVariants.{Store}
 use Rattle.hac_model.specs.declared.replies.Refusal.TheVariants.{Limit}
@@ -31,7 +32,7 @@ pub record Stores {D : Type 0} (seen : D → Option (List ℕ)) (image : D → L
     (attached : D → Option (List (List ℕ × Bool))) (faults : D → ℕ) (old new : D)
     (setting : Setting) (events : List Event) (failed : Bool) : Type 0 where
   pub moments : Stands (seen old) (image old) setting →
-      LeavesOnly moment image_since old new (Holds (IsTreeAfter setting.state events))
+      LeavesOnly moment image_since old new (Holds (IsTreeAfter (stored setting.state) events))
   pub names : attached new ≡ attached old
   pub reported : ReportsFault failed (faults old) (faults new)
 
@@ -76,5 +77,5 @@ pub record StopsAnswer {D : Type 0} (seen : D → Option (List ℕ)) (image : D 
     (setting : Setting) (sink sink_after : SinkSeen) (answered : List Turn) (status : Status) : Type 0 where
   pub replies : CutsWriting status sink sink_after (turns_text answered)
   pub stored : status ≡ WriteFault → Stands (seen old) (image old) setting → (c : List ℕ) → image new c →
-      IsHeldAs c (left_by setting answered)
+      IsHeldAs c (stored_setting (left_by setting answered))
   pub stores : Stores seen image moment image_since attached faults old new setting (all_events answered) (is_disk_fault status)

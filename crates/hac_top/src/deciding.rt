@@ -2,7 +2,7 @@
 ghost use Rattle.std.specs.Prelude.{IfOk, IsTrue, Ok};
 ghost use Rattle.hac_core.specs.Drafts.{IsDraft, IsDraftFor};
 ghost use Rattle.hac_model.specs.declared.resolved.Resolved.{Resolved};
-ghost use Rattle.hac_model.specs.Script.Lines.{is_spelled};
+ghost use Rattle.hac_model.specs.Script.Lines.{is_spelled_line};
 ghost use Rattle.hac_model.specs.Run.Play.{command_turn, item_turn, nothing_given};
 ghost use Rattle.hac_top.specs.Deciding.{Decides, IsDenial};
 ghost use Rattle.hac_model.specs.Script.Lines.{item_taken};
@@ -17,7 +17,7 @@ use std::alloc::Global;
 pub enum Decision {
     /// To give this reply. The tree stays as it is.
     Answer(Reply),
-    /// To store these events, if there is room for them.
+    /// To let these events happen, if there is room for those that are stored.
     Change(Settled),
 }
 
@@ -39,7 +39,7 @@ pub fn decide(
 
 // What is to be done about a line that spells a command.
 fn decide_line(machine: &Machine, line: Line) -> Result<Decision, Memory>
-    requires { IsTrue (is_spelled line.command) }
+    requires { IsTrue (is_spelled_line line) }
     ensures { IfOk result (Decides machine.now.state
         (λ setting. item_turn nothing_given setting (Ok line))) }
 {

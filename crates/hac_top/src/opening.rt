@@ -4,6 +4,7 @@ ghost use Rattle.std.specs.Prelude.{◌≡◌, false, Err, IfOk, IfErr, IfSome};
 ghost use Rattle.hac_disk.specs.Images.{IsQuiet, LeavesOnly};
 ghost use Rattle.hac_disk.specs.Contents.{IsSettled};
 ghost use Rattle.hac_outside.specs.Causes.{ReportsFault};
+ghost use Rattle.hac_model.specs.Tree.Sessions.{stored};
 ghost use Rattle.hac_store.specs.Held.{held};
 ghost use Rattle.hac_store.specs.Stores.{Bears, Stands};
 ghost use Rattle.hac_top.specs.Attaching.{AttachesStore, MayAttach};
@@ -37,7 +38,7 @@ pub fn open_store<D: Disk>(
         (opening_outcome options.entry.fresh (held file))
         (λ setting. IsSettled (D.seen disk.old) (D.image disk.old) →
         LeavesOnly D.moment D.image_since disk.old disk.new
-        (Reopens options.entry.fresh (λ s. s ≡ setting.state)))) }
+        (Reopens options.entry.fresh (λ s. s ≡ stored setting.state)))) }
 
     // Where the file holds no store, or one that is in the way, nothing is written.
     ensures quiet { IfSome (D.seen disk.old) (λ file. IfErr

@@ -1,12 +1,12 @@
 //! Storing: what a line changes is in the store, and then in the tree, before its reply is given.
 ghost use Rattle.std.specs.Prelude.{◌≡◌, false, replicate};
-ghost use Rattle.hac_core.specs.Drafts.{CanSettle, settled_events};
+ghost use Rattle.hac_core.specs.Drafts.{CanSettle};
 ghost use Rattle.hac_model.specs.Laws.{AllHappen};
 ghost use Rattle.hac_model.specs.Run.Play.{item_turn, nothing_given};
 ghost use Rattle.hac_model.specs.Script.Lines.{item_taken};
 ghost use Rattle.hac_model.specs.declared.events.Event.TheVariants as event;
 ghost use Rattle.hac_store.specs.Stores.{Bears};
-ghost use Rattle.hac_top.specs.Deciding.{storing_turn};
+ghost use Rattle.hac_top.specs.Deciding.{settled_turn, storing_turn};
 ghost use Rattle.hac_top.specs.Storing.{StoresTurn, storing_reply};
 
 use crate::deciding::{Decision, decide};
@@ -56,7 +56,7 @@ fn storing_reply(alloc: Global, stored: Result<(), StoreFault>) -> Result<Reply,
     }
 }
 
-// Stores the events of a command, and applies them. `Full` comes before any write.
+// Applies the events of a command, once those are stored that are. `Full` comes before any write.
 fn store_events<D: Disk>(
     store: &mut Store,
     disk: &mut D,
@@ -66,12 +66,12 @@ fn store_events<D: Disk>(
     requires place { Bears (D.seen disk.old) store.old }
     requires can { CanSettle store.old.setting.state settled }
     ensures { StoresTurn D.seen D.image D.moment D.image_since D.attached D.faults disk.old disk.new
-        store.old store.new (storing_turn store.old.setting (settled_events settled))
-        (storing_reply result) }
+        store.old store.new (settled_turn store.old.setting settled) (storing_reply result) }
 {
     match settled {
         Settled::Change(change) => store.command(disk, change),
         Settled::Steps(count) => store_steps(store, disk, count),
+        Settled::Session(event) => Ok(store.stand(event)?),
     }
 }
 

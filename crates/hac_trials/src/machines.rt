@@ -1,4 +1,7 @@
 //! Whether events fit a machine, which the program asks of the events of a store alone.
+ghost use Rattle.std.specs.Prelude.{IfOk, IsTrue};
+ghost use Rattle.hac_model.specs.Tree.Sessions.{is_stored};
+
 use hac_core::{Machine, Settled};
 use hac_model::{Event, Memory, Name, Number, Query, Seq};
 use std::alloc::{AllocError, Global};
@@ -25,8 +28,10 @@ fn which_happen(alloc: Global, machine: &mut Machine) -> Result<[bool; 6], Memor
     ])
 }
 
-/// Whether an event fits. If so, it happens.
-fn happens(machine: &mut Machine, event: Event) -> Result<bool, Memory> {
+/// Whether an event that is stored fits. If so, it happens.
+fn happens(machine: &mut Machine, event: Event) -> Result<bool, Memory>
+    requires { IsTrue (is_stored event) }
+{
     match machine.fits(event)? {
         Some(change) => {
             machine.prepare(Settled::Change(change))?;
@@ -38,7 +43,9 @@ fn happens(machine: &mut Machine, event: Event) -> Result<bool, Memory> {
 }
 
 /// A directory is created in the root.
-fn mkdir(alloc: Global, letters: &[u8]) -> Result<Event, AllocError> {
+fn mkdir(alloc: Global, letters: &[u8]) -> Result<Event, AllocError>
+    ensures { IfOk result (λ event. IsTrue (is_stored event)) }
+{
     Ok(Event::Mkdir {
         dir: Number::ROOT,
         name: Name::new(Vec::from_slice(alloc, letters)?),
@@ -46,7 +53,9 @@ fn mkdir(alloc: Global, letters: &[u8]) -> Result<Event, AllocError> {
 }
 
 /// The first entry gets a query, which asks for what a directory provides.
-fn setq(alloc: Global, on: u64) -> Event {
+fn setq(alloc: Global, on: u64) -> Event
+    ensures { IsTrue (is_stored result) }
+{
     Event::Setq {
         dir: Number::new(1),
         query: Query::dir(Number::new(on)),
@@ -54,7 +63,9 @@ fn setq(alloc: Global, on: u64) -> Event {
     }
 }
 
-fn rmdir(dir: u64) -> Event {
+fn rmdir(dir: u64) -> Event
+    ensures { IsTrue (is_stored result) }
+{
     Event::Rmdir {
         dir: Number::new(dir),
     }

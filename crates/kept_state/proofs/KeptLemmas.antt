@@ -10,6 +10,7 @@ use Rattle.hac_model.specs.Tree.Facts.{Facts, Marks, bare_after, facts_after, fa
 use Rattle.hac_model.specs.Query.Formula.{Formula}
 use Rattle.hac_model.specs.Tree.Limits.{counts}
 use Rattle.hac_model.specs.Tree.Links.{is_semantic, parent_of, query_at}
+use Rattle.hac_model.specs.Tree.Sessions.{is_stored, sessions_after}
 use Rattle.hac_model.specs.Tree.Valid.{IsLayout, IsValid}
 use Rattle.hac_model.specs.declared.counts.Counts.{Counts}
 use Rattle.hac_model.specs.declared.events.Event.{Event}
@@ -56,7 +57,7 @@ module _ (old new : Parts) (same : AreAlike old new) where
   alike-facts n = λ i. record { marks = record { permanent = (same.kinds n i).permanent; prohibited = (same.kinds n i).prohibited }; answers = []; edges = same.edges n i }
 
   pub alike-state : state_of new ≡ state_of old
-  alike-state = λ i. joined (λ n. alike-facts n i) (same.state i)
+  alike-state = λ i. joined (λ n. alike-facts n i) (same.sessions i) (same.state i)
 
   pub alike-linked : IsLinked old → IsLinked new
   alike-linked h = record {
@@ -64,7 +65,7 @@ module _ (old new : Parts) (same : AreAlike old new) where
     own = λ n. ap (λ (s : State). facts_of s n) alike-state ∙ h.own n ∙ sym (alike-facts n);
     found = λ d. ap (λ (lists : Lists). lists.transient) (same.kinds d) ∙ h.found d;
     sets = λ d has. ap (λ (s : State). is_semantic s d) alike-state ∙ either (has_sets old.marks d) d refl (same.sets d has);
-    sessions = ap (λ (s : State). s.sessions) same.state ∙ h.sessions;
+    alone = ap (λ (s : State). s.sessions) same.state ∙ h.alone;
   }
     where
       either : (b : Bool) (d : ℕ) → has_sets old.marks d ≡ b → (b || is_semantic old.tree.state d) ≡ true → is_semantic (state_of old) d ≡ true
@@ -98,16 +99,16 @@ module _ (kept : Parts) (event : Event) where
 
   -- the tree after it is one
   pub next-tree : IsLinked kept → IsTrue (accepted (state_of kept) event) → IsLayout (bare_after event kept.tree.state)
-  next-tree h ok = next-layout kept.tree.state (facts_kept kept) event h.valid ok
+  next-tree h ok = next-layout kept.tree.state (facts_kept kept) kept.sessions event h.valid ok
 
 -- what was prepared is ready
-pub kept-ready : (kept new : Parts) (ready : Ready) (event : Event) (edges : Option NewEdges) (told : Counts) → IsLinked kept → AreAlike kept new → IsTrue (accepted (state_of kept) event) → IsPreparedFor event edges new → told ≡ counts (apply (state_of kept) event) →
+pub kept-ready : (kept new : Parts) (ready : Ready) (event : Event) (edges : Option NewEdges) (told : Counts) → IsLinked kept → AreAlike kept new → IsTrue (accepted (state_of kept) event) → IsTrue (is_stored event) → IsPreparedFor event edges new → told ≡ counts (apply (state_of kept) event) →
     ready ≡ Change event edges told → IsKept (record { parts = new; ready = ready })
-kept-ready kept new ready event edges told h same ok fits all is =
+kept-ready kept new ready event edges told h same ok kept_too fits all is =
     let state = sym (alike-state kept new same) in
     subst (λ (r : Ready). IsKept (record { parts = new; ready = r })) (sym is) (record {
       linked = alike-linked kept new same h;
-      ready = (fits, all ∙ ap (λ (s : State). counts (apply s event)) state);
+      ready = (fits, all ∙ ap (λ (s : State). counts (apply s event)) state, kept_too);
       happen = (subst (λ (s : State). IsTrue (accepted s event)) state ok, tt);
     })
 
@@ -121,21 +122,25 @@ may-put kept ready event edges told h fits happen is =
       tree = record { layout = next-tree kept event h ok; counts_are = (subst (λ (r : Ready). IsReady r kept) is fits).1 ∙ next-counts kept event };
     }
 
+-- and it is one that is stored
+pub ready-stored : (kept : Parts) (ready : Ready) (event : Event) (edges : Option NewEdges) (told : Counts) → IsReady ready kept → ready ≡ Change event edges told → IsTrue (is_stored event)
+ready-stored kept ready event edges told fits is = (subst (λ (r : Ready). IsReady r kept) is fits).2
+
 module _ (kept new : Parts) (event : Event) (h : IsLinked kept) (ok : IsTrue (accepted (state_of kept) event)) where
   abbrev now : ℕ → Facts
   now = facts_after event kept.tree.state (facts_kept kept)
 
   -- it is put by what it does to the tree, the marks and the graph
   pub put : new.tree.state ≡ bare_after event kept.tree.state → ((n : ℕ) → lists_in new.marks n ≡ unfound (now n).marks) → ((n : ℕ) → edges_of new.graph n ≡ (now n).edges) →
-      ((n : ℕ) → [] ≡ (now n).answers) → ((n : ℕ) → IsTrue (has_sets new.marks n) → IsTrue (has_edges (now n).edges)) → IsCommitted event kept new
-  put tree marks edges answers sets = record {
+      ((n : ℕ) → [] ≡ (now n).answers) → ((n : ℕ) → IsTrue (has_sets new.marks n) → IsTrue (has_edges (now n).edges)) → new.sessions ≡ sessions_after event kept.sessions → IsCommitted event kept new
+  put tree marks edges answers sets sessions = record {
     state = led;
     linked = record {
       valid = subst (λ (s : State). IsValid s) (sym led) (apply-valid (state_of kept) event h.valid ok);
       own = own;
       sets = λ n has. semantic-edges (state_of new) n (now n) (own n ∙ facts n) ∙ sets n has;
       found = λ d. ap (λ (lists : Lists). lists.transient) (marks d);
-      sessions = ap (λ (s : State). s.sessions) tree ∙ tree-sessions event kept.tree.state ∙ h.sessions;
+      alone = ap (λ (s : State). s.sessions) tree ∙ tree-sessions event kept.tree.state ∙ h.alone;
     };
   }
     where
@@ -143,16 +148,17 @@ module _ (kept new : Parts) (event : Event) (h : IsLinked kept) (ok : IsTrue (ac
       facts n = λ i. record { marks = record { permanent = (marks n i).permanent; prohibited = (marks n i).prohibited }; answers = answers n i; edges = edges n i }
 
       own : (n : ℕ) → facts_of (state_of new) n ≡ facts_kept new n
-      own = next-own kept.tree.state (facts_kept kept) event h.valid ok h.own new.tree.state tree (facts_kept new) facts
+      own = next-own kept.tree.state (facts_kept kept) kept.sessions event h.valid ok h.own new.tree.state tree (facts_kept new) facts new.sessions sessions
 
       led : state_of new ≡ apply (state_of kept) event
-      led = next-state kept.tree.state (facts_kept kept) event h.valid ok h.own new.tree.state tree (facts_kept new) facts
+      led = next-state kept.tree.state (facts_kept kept) kept.sessions event h.valid ok h.own new.tree.state tree (facts_kept new) facts new.sessions sessions
 
   -- an event that tells no facts
-  pub put-still : now ≡ facts_kept kept → new.tree.state ≡ bare_after event kept.tree.state → new.marks ≡ kept.marks → new.graph ≡ kept.graph → IsCommitted event kept new
-  put-still still tree marks graph =
+  pub put-still : now ≡ facts_kept kept → new.tree.state ≡ bare_after event kept.tree.state → new.marks ≡ kept.marks → new.graph ≡ kept.graph → new.sessions ≡ sessions_after event kept.sessions → IsCommitted event kept new
+  put-still still tree marks graph sessions =
       put tree
       (λ n. ap (λ m. lists_in m n) marks ∙ kept-lists kept h n ∙ ap (λ (facts : ℕ → Facts). unfound (facts n).marks) (sym still))
       (λ n. ap (λ g. edges_of g n) graph ∙ ap (λ (facts : ℕ → Facts). (facts n).edges) (sym still))
       (λ n. ap (λ (facts : ℕ → Facts). (facts n).answers) (sym still))
       (λ n has. ap (λ (facts : ℕ → Facts). has_edges (facts n).edges) still ∙ sets-edges kept h n (ap (λ m. has_sets m n) (sym marks) ∙ has))
+      sessions

@@ -9,7 +9,8 @@ use Rattle.hac_model.specs.Tree.Events.{accepted, added, asking, changed_at, edi
 use Rattle.hac_model.specs.Tree.Facts.{Facts, Marks, bare_after, edges_to, facts_after, facts_at, no_facts, with_mark}
 use Rattle.hac_model.specs.Query.Formula.{Formula}
 use Rattle.hac_model.specs.Tree.Limits.{is_text}
-use Rattle.hac_model.specs.Tree.Links.{is_item, is_semantic, parent_of, query_at}
+use Rattle.hac_model.specs.Tree.Links.{parent_of, query_at}
+use Rattle.hac_model.specs.Tree.Sessions.{sessions_after}
 use Rattle.hac_model.specs.Tree.{body_at, entry_at, is_directory, is_file, is_file_at}
 use Rattle.hac_model.specs.declared.events.Event.{Event}
 use Rattle.hac_model.specs.declared.events.Event.TheVariants as event
@@ -80,13 +81,14 @@ module _ (kept : Parts) where
 
 module _ (kept : Parts) (h : IsLinked kept) (dir : ℕ) (name : List ℕ) (asked : Formula ℕ) (ok : IsTrue (accepted (state_of kept) (event.Smkdir dir name asked []))) (edges : NewEdges) (are : AreEdges kept.graph kept.tree.state.next dir asked edges) where
   pub semantic-put : (tree : tree.Seen) (edges_now : graph.Seen) → tree.state ≡ added kept.tree.state dir name (Semantic asked [] []) → ((q : ℕ) → edges_of edges_now q ≡ replaced (edges_of kept.graph) edges.dir edges.edges.items q) →
-      IsCommitted (event.Smkdir dir name asked []) kept (record { tree = tree; marks = kept.marks; graph = edges_now })
+      IsCommitted (event.Smkdir dir name asked []) kept (record { tree = tree; marks = kept.marks; graph = edges_now; sessions = kept.sessions })
   semantic-put tree edges_now is each =
-      put kept (record { tree = tree; marks = kept.marks; graph = edges_now }) (event.Smkdir dir name asked []) h ok is
+      put kept (record { tree = tree; marks = kept.marks; graph = edges_now; sessions = kept.sessions }) (event.Smkdir dir name asked []) h ok is
       (λ n. lists-still kept h t.next new n none)
       (λ n. each n ∙ (λ i. replaced (edges_of kept.graph) (are.dir_is i) (are.edges_are i) n) ∙ edges-put (n == t.next) new (facts_kept kept n))
       (λ n. answers-put (n == t.next) new (facts_kept kept n) refl refl)
       (λ n has. some-edges (n == t.next) new (facts_kept kept n) refl (sets-edges kept h n has))
+      refl
     where
       t : State
       t = kept.tree.state
@@ -105,27 +107,29 @@ module _ (kept : Parts) (h : IsLinked kept) (dir : ℕ) (name : List ℕ) (asked
 
 module _ (kept : Parts) (h : IsLinked kept) (dir : ℕ) (asked : Formula ℕ) (ok : IsTrue (accepted (state_of kept) (event.Setq dir asked []))) (edges : NewEdges) (are : AreEdges kept.graph dir (parent_of kept.tree.state dir) asked edges) where
   pub query-put : (tree : tree.Seen) (edges_now : graph.Seen) → tree.state ≡ changed_at kept.tree.state dir (edited (asking asked)) →
-      ((q : ℕ) → edges_of edges_now q ≡ replaced (edges_of kept.graph) edges.dir edges.edges.items q) → IsCommitted (event.Setq dir asked []) kept (record { tree = tree; marks = kept.marks; graph = edges_now })
+      ((q : ℕ) → edges_of edges_now q ≡ replaced (edges_of kept.graph) edges.dir edges.edges.items q) → IsCommitted (event.Setq dir asked []) kept (record { tree = tree; marks = kept.marks; graph = edges_now; sessions = kept.sessions })
   query-put tree edges_now is each =
-      put kept (record { tree = tree; marks = kept.marks; graph = edges_now }) (event.Setq dir asked []) h ok is
+      put kept (record { tree = tree; marks = kept.marks; graph = edges_now; sessions = kept.sessions }) (event.Setq dir asked []) h ok is
       (λ n. lists-still kept h dir new n refl)
       (λ n. each n ∙ (λ i. replaced (edges_of kept.graph) (are.dir_is i) (are.edges_are i) n) ∙ edges-put (n == dir) new (facts_kept kept n))
       (λ n. answers-put (n == dir) new (facts_kept kept n) refl refl)
       (λ n has. some-edges (n == dir) new (facts_kept kept n) refl (sets-edges kept h n has))
+      refl
     where
       new : Facts
       new = record (facts_kept kept dir) { edges = parent_of kept.tree.state dir ∷ named_in asked }
 
 -- A directory loses its marks and its edges.
 
-pub dir-gone : (kept : Parts) (e : Event) (dir : ℕ) → IsLinked kept → IsTrue (accepted (state_of kept) e) → ((n : ℕ) → facts_after e kept.tree.state (facts_kept kept) n ≡ cond (n == dir) no_facts (facts_kept kept n)) → (tree : tree.Seen) (marks : Known) (edges_now : graph.Seen) →
-    tree.state ≡ bare_after e kept.tree.state → ((q : ℕ) → edges_of edges_now q ≡ replaced (edges_of kept.graph) dir [] q) → ChangesDir kept.marks marks dir no_lists → ((n : ℕ) → has_sets marks n ≡ (has_sets kept.marks n && not (n == dir))) → IsCommitted e kept (record { tree = tree; marks = marks; graph = edges_now })
-dir-gone kept e dir h ok gone tree marks edges_now is each drops sets =
-    put kept (record { tree = tree; marks = marks; graph = edges_now }) e h ok is
+pub dir-gone : (kept : Parts) (e : Event) (dir : ℕ) → IsLinked kept → IsTrue (accepted (state_of kept) e) → ((n : ℕ) → facts_after e kept.tree.state (facts_kept kept) n ≡ cond (n == dir) no_facts (facts_kept kept n)) → kept.sessions ≡ sessions_after e kept.sessions → (tree : tree.Seen) (marks : Known) (edges_now : graph.Seen) →
+    tree.state ≡ bare_after e kept.tree.state → ((q : ℕ) → edges_of edges_now q ≡ replaced (edges_of kept.graph) dir [] q) → ChangesDir kept.marks marks dir no_lists → ((n : ℕ) → has_sets marks n ≡ (has_sets kept.marks n && not (n == dir))) → IsCommitted e kept (record { tree = tree; marks = marks; graph = edges_now; sessions = kept.sessions })
+dir-gone kept e dir h ok gone still tree marks edges_now is each drops sets =
+    put kept (record { tree = tree; marks = marks; graph = edges_now; sessions = kept.sessions }) e h ok is
     (λ n. drops n ∙ at (n == dir) n ∙ ap (λ (facts : Facts). unfound facts.marks) (sym (gone n)))
     (λ n. each n ∙ edges-put (n == dir) no_facts (facts_kept kept n) ∙ ap (λ (facts : Facts). facts.edges) (sym (gone n)))
     (λ n. answers-put (n == dir) no_facts (facts_kept kept n) refl refl ∙ ap (λ (facts : Facts). facts.answers) (sym (gone n)))
     (λ n has. ap (λ (facts : Facts). has_edges facts.edges) (gone n) ∙ left (n == dir) n (sym (sets n) ∙ has))
+    still
   where
     left : (b : Bool) (n : ℕ) → IsTrue (has_sets kept.marks n && not b) → IsTrue (has_edges (cond b no_facts (facts_kept kept n)).edges)
     left true n has = let never : false ≡ true = sym (and-false (has_sets kept.marks n)) ∙ has in absurd cc
@@ -143,13 +147,14 @@ module _ (kept : Parts) (h : IsLinked kept) (mark : Mark) (ok : IsTrue (accepted
       let s = state_of kept in
       (mark-parts s mark.dir mark.item mark.kind (possible-of s (event.Mark mark) ok)).2
 
-  pub mark-put : (marks : Known) → LinkListsRise kept.marks → ChangesDir kept.marks marks mark.dir (with_kind mark.kind mark.item (lists_in kept.marks mark.dir)) → SameLinks kept.marks marks → IsCommitted (event.Mark mark) kept (record { tree = kept.tree; marks = marks; graph = kept.graph })
+  pub mark-put : (marks : Known) → LinkListsRise kept.marks → ChangesDir kept.marks marks mark.dir (with_kind mark.kind mark.item (lists_in kept.marks mark.dir)) → SameLinks kept.marks marks → IsCommitted (event.Mark mark) kept (record { tree = kept.tree; marks = marks; graph = kept.graph; sessions = kept.sessions })
   mark-put marks rise change sets =
-      put kept (record { tree = kept.tree; marks = marks; graph = kept.graph }) (event.Mark mark) h ok refl
+      put kept (record { tree = kept.tree; marks = marks; graph = kept.graph; sessions = kept.sessions }) (event.Mark mark) h ok refl
       (λ n. change n ∙ at (n == mark.dir) n)
       (λ n. edges-still n (n == mark.dir) refl)
       (λ n. answers-put (n == mark.dir) new (facts_kept kept n) refl refl)
       (λ n has. ap has_edges (sym (edges-still n (n == mark.dir) refl)) ∙ sets-edges kept h n (sym (sets n) ∙ has))
+      refl
     where
       old : Marks
       old = (facts_kept kept mark.dir).marks
@@ -182,11 +187,12 @@ module _ (kept : Parts) (h : IsLinked kept) (entry dir : ℕ) (name : List ℕ) 
     abbrev new-facts : Facts
     new-facts = record (facts_kept kept entry) { edges = edges_to dir (query_at kept.tree.state entry) }
 
-    moved : (edges_now : graph.Seen) → ((n : ℕ) → edges_of edges_now n ≡ (cond (n == entry) new-facts (facts_kept kept n)).edges) → IsCommitted (event.Mv entry dir name) kept (record { tree = tree; marks = kept.marks; graph = edges_now })
+    moved : (edges_now : graph.Seen) → ((n : ℕ) → edges_of edges_now n ≡ (cond (n == entry) new-facts (facts_kept kept n)).edges) → IsCommitted (event.Mv entry dir name) kept (record { tree = tree; marks = kept.marks; graph = edges_now; sessions = kept.sessions })
     moved edges_now each =
-        put kept (record { tree = tree; marks = kept.marks; graph = edges_now }) (event.Mv entry dir name) h ok is
+        put kept (record { tree = tree; marks = kept.marks; graph = edges_now; sessions = kept.sessions }) (event.Mv entry dir name) h ok is
         (λ n. lists-still kept h entry new-facts n refl) each (λ n. answers-put (n == entry) new-facts (facts_kept kept n) refl refl)
         (λ n has. asks n (n == entry) refl (sets-edges kept h n has))
+        refl
       where
         -- it asks what it asked
         same : (q : Option (Formula ℕ)) (parent : ℕ) → has_edges (edges_to dir q) ≡ has_edges (option_map_or (λ q. parent ∷ named_in q) q [])
@@ -200,7 +206,7 @@ module _ (kept : Parts) (h : IsLinked kept) (entry dir : ℕ) (name : List ℕ) 
             ∙ ap (λ (k : ℕ). has_edges (edges_of kept.graph k)) (sym (eqb-true n entry here)) ∙ has
         asks n false here has = has
 
-    pub plain-moved : edges ≡ None → IsCommitted (event.Mv entry dir name) kept (record { tree = tree; marks = kept.marks; graph = kept.graph })
+    pub plain-moved : edges ≡ None → IsCommitted (event.Mv entry dir name) kept (record { tree = tree; marks = kept.marks; graph = kept.graph; sessions = kept.sessions })
     plain-moved none = moved kept.graph (λ n. at n (n == entry) refl)
       where
         asks : query_at kept.tree.state entry ≡ None
@@ -217,7 +223,7 @@ module _ (kept : Parts) (h : IsLinked kept) (entry dir : ℕ) (name : List ℕ) 
         at n false here = refl
 
     pub semantic-moved : (new : NewEdges) (edges_now : graph.Seen) → edges ≡ Some new → ((q : ℕ) → edges_of edges_now q ≡ replaced (edges_of kept.graph) new.dir new.edges.items q) →
-        IsCommitted (event.Mv entry dir name) kept (record { tree = tree; marks = kept.marks; graph = edges_now })
+        IsCommitted (event.Mv entry dir name) kept (record { tree = tree; marks = kept.marks; graph = edges_now; sessions = kept.sessions })
     semantic-moved new edges_now some each =
         moved edges_now (λ n.
         each n ∙ (λ i. replaced (edges_of kept.graph) (fits.2.dir_is i) ((fits.2.edges_are ∙ sym (ap (edges_to dir) fits.1)) i) n)
@@ -228,8 +234,8 @@ module _ (kept : Parts) (h : IsLinked kept) (entry dir : ℕ) (name : List ℕ) 
 
 -- A file goes.
 
-pub removed-put : (kept : Parts) (entry : ℕ) → IsLinked kept → IsTrue (accepted (state_of kept) (event.Rm entry)) → (tree : tree.Seen) (marks : Known) → tree.state ≡ removed kept.tree.state entry → DropsItem kept.marks marks entry → SameLinks kept.marks marks → IsCommitted (event.Rm entry) kept (record { tree = tree; marks = marks; graph = kept.graph })
+pub removed-put : (kept : Parts) (entry : ℕ) → IsLinked kept → IsTrue (accepted (state_of kept) (event.Rm entry)) → (tree : tree.Seen) (marks : Known) → tree.state ≡ removed kept.tree.state entry → DropsItem kept.marks marks entry → SameLinks kept.marks marks → IsCommitted (event.Rm entry) kept (record { tree = tree; marks = marks; graph = kept.graph; sessions = kept.sessions })
 removed-put kept entry h ok tree marks is drops sets =
-    put kept (record { tree = tree; marks = marks; graph = kept.graph }) (event.Rm entry) h ok is
+    put kept (record { tree = tree; marks = marks; graph = kept.graph; sessions = kept.sessions }) (event.Rm entry) h ok is
     (λ n. drops n ∙ ap (with_kind Unlinked entry) (kept-lists kept h n) ∙ (λ i. record { transient = []; permanent = removed-without entry (permanent_in kept.marks n) i; prohibited = removed-without entry (prohibited_in kept.marks n) i }))
-    (λ n. refl) (λ n. refl) (λ n has. sets-edges kept h n (sym (sets n) ∙ has))
+    (λ n. refl) (λ n. refl) (λ n has. sets-edges kept h n (sym (sets n) ∙ has)) refl

@@ -28,7 +28,7 @@ prohibited-fact s n = elim (entry_at s.entries n) as (λ (o : Option Entry). opt
 
 module _ (kept : Parts) (h : IsLinked kept) where
   pub tree-of : IsTreeOf (state_of kept) kept.tree.state
-  tree-of = record { bares = bare-joined (facts_kept kept) kept.tree.state; layout = tree-layout kept h; sessions = h.sessions }
+  tree-of = record { bares = bare-joined (facts_kept kept) kept.sessions kept.tree.state; layout = tree-layout kept h; sessions = h.alone }
 
   pub marks-of : AreMarksOf (state_of kept) kept.marks
   marks-of = record {

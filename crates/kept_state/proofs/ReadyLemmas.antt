@@ -1,48 +1,49 @@
 -- What an event needs so that it can be prepared.
 use Rattle.std.proofs.Common.{◌≡◌, ℕ, true, List, subst, sym, ◌∙◌}
-use Rattle.std.specs.Prelude.{◌&&◌, IsTrue}
+use Rattle.std.specs.Prelude.{IsTrue}
 use Rattle.std.proofs.lemmas.Bool.{and_parts}
-use Rattle.hac_model.specs.Tree.Events.{accepted, apply, is_free, is_possible, may_mark}
+use Rattle.hac_model.specs.Tree.Events.{accepted, apply, is_free, is_possible}
 use Rattle.hac_model.specs.Tree.Facts.{Facts, joined}
 use Rattle.hac_model.specs.Query.Formula.{Formula}
 use Rattle.hac_model.specs.Tree.Limits.{is_text, passed_limit}
-use Rattle.hac_model.specs.Tree.Links.{is_item, is_semantic}
+use Rattle.hac_model.specs.Tree.Links.{is_semantic}
 use Rattle.hac_model.specs.Tree.{is_directory_at}
 use Rattle.hac_model.specs.declared.events.Event.{Event}
 use Rattle.hac_model.specs.declared.events.Event.TheVariants as event
 use Rattle.hac_model.specs.declared.marks.Mark.{Mark}
+use Rattle.hac_model.specs.declared.states.Session.{Session}
 use Rattle.hac_model.specs.declared.states.State.{State}
 use Rattle.hac_model.proofs.FillLemmas.{bare-joined}
 use Rattle.hac_model.proofs.ValidLemmas.{accepted-parts, free-parts, mark-parts, move-parts, smkdir-parts}
 use Rattle.kept_state.proofs.StateLemmas.{same-directory, same-semantic}
 
-free-directory : (facts : ℕ → Facts) (t : State) (dir : ℕ) (name : List ℕ) → is_free (joined facts t) dir name ≡ true → is_directory_at t.entries dir ≡ true
-free-directory facts t dir name free = sym (same-directory (joined facts t) t (bare-joined facts t) dir) ∙ (free-parts (joined facts t) dir name free).0
+free-directory : (facts : ℕ → Facts) (sessions : List Session) (t : State) (dir : ℕ) (name : List ℕ) → is_free (joined facts sessions t) dir name ≡ true → is_directory_at t.entries dir ≡ true
+free-directory facts sessions t dir name free = sym (same-directory (joined facts sessions t) t (bare-joined facts sessions t) dir) ∙ (free-parts (joined facts sessions t) dir name free).0
 
 pub possible-of : (s : State) (e : Event) → IsTrue (accepted s e) → is_possible s e ≡ true
 possible-of s e ok = (accepted-parts (is_possible s e) (passed_limit (apply s e)) ok).0
 
-module _ (facts : ℕ → Facts) (t : State) (e : Event) (ok : IsTrue (accepted (joined facts t) e)) where
+module _ (facts : ℕ → Facts) (sessions : List Session) (t : State) (e : Event) (ok : IsTrue (accepted (joined facts sessions t) e)) where
   pub mkdir-directory : (dir : ℕ) (name : List ℕ) → e ≡ event.Mkdir dir name → is_directory_at t.entries dir ≡ true
-  mkdir-directory dir name is = free-directory facts t dir name (possible-of (joined facts t) (event.Mkdir dir name) (subst (λ (e : Event). IsTrue (accepted (joined facts t) e)) is ok))
+  mkdir-directory dir name is = free-directory facts sessions t dir name (possible-of (joined facts sessions t) (event.Mkdir dir name) (subst (λ (e : Event). IsTrue (accepted (joined facts sessions t) e)) is ok))
 
   pub file-directory : (dir : ℕ) (name text : List ℕ) → e ≡ event.NewFile dir name text → is_directory_at t.entries dir ≡ true
   file-directory dir name text is =
-      let possible = possible-of (joined facts t) (event.NewFile dir name text) (subst (λ (e : Event). IsTrue (accepted (joined facts t) e)) is ok) in
-      free-directory facts t dir name (and_parts (is_free (joined facts t) dir name) (is_text text) possible).0
+      let possible = possible-of (joined facts sessions t) (event.NewFile dir name text) (subst (λ (e : Event). IsTrue (accepted (joined facts sessions t) e)) is ok) in
+      free-directory facts sessions t dir name (and_parts (is_free (joined facts sessions t) dir name) (is_text text) possible).0
 
   pub smkdir-directory : (dir : ℕ) (name : List ℕ) (query : Formula ℕ) (told : List (List ℕ)) → e ≡ event.Smkdir dir name query told → is_directory_at t.entries dir ≡ true
   smkdir-directory dir name query told is =
-      let possible = possible-of (joined facts t) (event.Smkdir dir name query told) (subst (λ (e : Event). IsTrue (accepted (joined facts t) e)) is ok) in
-      free-directory facts t dir name (smkdir-parts (joined facts t) dir name query told possible).0
+      let possible = possible-of (joined facts sessions t) (event.Smkdir dir name query told) (subst (λ (e : Event). IsTrue (accepted (joined facts sessions t) e)) is ok) in
+      free-directory facts sessions t dir name (smkdir-parts (joined facts sessions t) dir name query told possible).0
 
   pub move-directory : (entry dir : ℕ) (name : List ℕ) → e ≡ event.Mv entry dir name → is_directory_at t.entries dir ≡ true
   move-directory entry dir name is =
-      let possible = possible-of (joined facts t) (event.Mv entry dir name) (subst (λ (e : Event). IsTrue (accepted (joined facts t) e)) is ok) in
-      free-directory facts t dir name (move-parts (joined facts t) entry dir name possible).1
+      let possible = possible-of (joined facts sessions t) (event.Mv entry dir name) (subst (λ (e : Event). IsTrue (accepted (joined facts sessions t) e)) is ok) in
+      free-directory facts sessions t dir name (move-parts (joined facts sessions t) entry dir name possible).1
 
   pub mark-directory : (mark : Mark) → e ≡ event.Mark mark → is_semantic t mark.dir ≡ true
   mark-directory mark is =
-      let s = joined facts t in
+      let s = joined facts sessions t in
       let possible = possible-of s (event.Mark mark) (subst (λ (e : Event). IsTrue (accepted s e)) is ok) in
-      sym (same-semantic s t (bare-joined facts t) mark.dir) ∙ (mark-parts s mark.dir mark.item mark.kind possible).1
+      sym (same-semantic s t (bare-joined facts sessions t) mark.dir) ∙ (mark-parts s mark.dir mark.item mark.kind possible).1

@@ -1,5 +1,5 @@
 -- What a linked tree says of its state: all but marks is in the tree alone.
-use Rattle.std.proofs.Common.{◌≡◌, ℕ, List, [], map, refl, ap, subst, sym, ◌∙◌}
+use Rattle.std.proofs.Common.{◌≡◌, ℕ, List, map, refl, ap, subst, sym, ◌∙◌}
 use Rattle.std.specs.Prelude.{◌==◌, ◌&&◌, not, length, nat_lt, Option, Some, None, is_some, option_and_then}
 use Rattle.std.specs.Option.{option_map}
 use Rattle.hac_model.specs.Tree.Bare.{bare, bare_body}
@@ -8,17 +8,18 @@ use Rattle.hac_model.specs.Tree.Events.{apply, dirty, edited, is_bare, is_free, 
 use Rattle.hac_model.specs.Query.Formula.{Formula}
 use Rattle.hac_model.specs.Tree.Limits.{counts, is_text}
 use Rattle.hac_model.specs.Tree.Links.{is_semantic, parent_of, query_at, shown_of}
-use Rattle.hac_model.specs.Run.Resolving.{resolved}
+use Rattle.hac_model.specs.Run.Resolving.{resolved_for}
+use Rattle.hac_model.specs.Script.SpaceNames.{is_space_name}
 use Rattle.hac_model.specs.Tree.{entry_at, is_directory, is_directory_at, is_file_at, is_made_directory, path_of, shown_text}
 use Rattle.hac_model.specs.Tree.Valid.{IsLayout}
 use Rattle.hac_model.specs.declared.commands.Command.{Command}
 use Rattle.hac_model.specs.declared.events.Event.{Event}
-use Rattle.hac_model.specs.declared.events.Event.TheVariants.{Mkdir, NewFile, Rewrite, Smkdir, Setq, Unq, Mark, Mv, Rm, Rmdir, Step}
+use Rattle.hac_model.specs.declared.events.Event.TheVariants.{Mkdir, NewFile, Rewrite, Smkdir, Setq, Unq, Mark, Mv, Rm, Rmdir, Step, Cd}
 use Rattle.hac_model.specs.declared.states.Body.{Body}
 use Rattle.hac_model.specs.declared.states.Body.TheVariants.{File, Dir, Symlink, Semantic, Mount}
 use Rattle.hac_model.specs.declared.states.Entry.{Entry}
 use Rattle.hac_model.specs.declared.states.State.{State}
-use Rattle.hac_model.proofs.AlikeLemmas.{bare-kind, counts-bare, depends-bare, directory-bare, dirty-same, entry_at-bare, file-bare, layout-bare, layout-unbare, is_bare-bare, is_free-bare, is_inside-bare, may_ask-bare, parent_of-bare, path_of-bare, query_at-bare, referrers-bare, resolved-bare, some-bare}
+use Rattle.hac_model.proofs.AlikeLemmas.{bare-kind, counts-bare, depends-bare, directory-bare, dirty-same, entry_at-bare, file-bare, layout-bare, layout-unbare, is_bare-bare, is_free-bare, is_inside-bare, may_ask-bare, parent_of-bare, path_of-bare, query_at-bare, referrers-bare, for-bare, some-bare}
 use Rattle.hac_model.proofs.BareLemmas.{bare-commutes}
 use Rattle.hac_model.proofs.EventLemmas.{due}
 use Rattle.hac_model.proofs.FillLemmas.{bare-joined}
@@ -114,11 +115,12 @@ module _ (s t : State) (bares : bare s ≡ bare t) where
   same-placed (Rm entry) = same-file entry
   same-placed (Rmdir dir) = λ i. same-made dir i && same-bare dir i
   same-placed Step = due s.entries ∙ ap (λ (k : ℕ). nat_lt 0 k) (same-dirty) ∙ sym (due t.entries)
+  same-placed (Cd session dir) = λ i. is_space_name session && same-directory dir i
   same-placed other = refl
 
   -- the outcome of a command
-  pub same-resolved : (base : ℕ) (c : Command) → resolved s base c ≡ resolved t base c
-  same-resolved base c = alike (λ s. resolved s base c) (λ s. resolved-bare s base c)
+  pub same-resolved : (session : List ℕ) (base : ℕ) (c : Command) → resolved_for s session base c ≡ resolved_for t session base c
+  same-resolved session base c = alike (λ s. resolved_for s session base c) (λ s. for-bare s base session c)
 
 -- states that are one without their facts stay so by an event
 pub same-next-bare : (s t : State) → bare s ≡ bare t → (e : Event) → bare (apply s e) ≡ bare (apply t e)
@@ -126,8 +128,8 @@ same-next-bare s t bares e = bare-commutes s e ∙ ap (λ (x : State). bare (app
 
 -- the tree that is kept has no facts
 pub kept-bares : (kept : Parts) → bare (state_of kept) ≡ bare kept.tree.state
-kept-bares kept = bare-joined (facts_kept kept) kept.tree.state
+kept-bares kept = bare-joined (facts_kept kept) kept.sessions kept.tree.state
 
 -- the tree itself is one
 pub tree-layout : (kept : Parts) → IsLinked kept → IsLayout kept.tree.state
-tree-layout kept h = layout-unbare kept.tree.state (subst IsLayout (bare-joined (facts_kept kept) kept.tree.state) (layout-bare (state_of kept) h.valid.layout))
+tree-layout kept h = layout-unbare kept.tree.state (subst IsLayout (bare-joined (facts_kept kept) kept.sessions kept.tree.state) (layout-bare (state_of kept) h.valid.layout))

@@ -1,4 +1,4 @@
--- A tree with the marks of its semantic directories, and with what depends on what.
+-- A tree with the marks of its semantic directories, with what depends on what, and with its sessions.
 use Rattle.std.specs.Prelude.{◌≡◌, ℕ, ◌||◌, [], ◌∷◌, Option, Some, None, IsTrue}
 use Rattle.hac_model.specs.Tree.Depends.{named_in}
 use Rattle.hac_model.specs.Tree.Facts.{Facts, Marks, facts_of, joined}
@@ -20,11 +20,11 @@ marks_kept links dir = record { permanent = permanent_in links dir; prohibited =
 abbrev pub facts_kept : Parts → ℕ → Facts
 facts_kept kept number = record { marks = marks_kept kept.marks number; answers = []; edges = edges_of kept.graph number }
 
--- the state: the tree, in which each semantic directory has its marks
+-- the state: the tree, in which each semantic directory has its marks, and the sessions
 abbrev pub state_of : Parts → State
-state_of kept = joined (facts_kept kept) kept.tree.state
+state_of kept = joined (facts_kept kept) kept.sessions kept.tree.state
 
--- the tree, the marks and the graph are those of one valid state
+-- the tree, the marks, the graph and the sessions are those of one valid state
 pub record IsLinked (kept : Parts) : Type 0 where
   pub valid : IsValid (state_of kept)
   -- nothing else is kept of any number
@@ -33,7 +33,8 @@ pub record IsLinked (kept : Parts) : Type 0 where
   pub found : (dir : ℕ) → transient_in kept.marks dir ≡ []
   -- only semantic directories have sets of marks
   pub sets : (dir : ℕ) → IsTrue (has_sets kept.marks dir) → IsTrue (is_semantic (state_of kept) dir)
-  pub sessions : kept.tree.state.sessions ≡ []
+  -- and the tree keeps no sessions
+  pub alone : kept.tree.state.sessions ≡ []
 
 -- the one has what the other has, and may be ready for something else, as a semantic directory for marks
 pub record AreAlike (old new : Parts) : Type 0 where
@@ -41,12 +42,14 @@ pub record AreAlike (old new : Parts) : Type 0 where
   pub kinds : SameKinds old.marks new.marks
   pub sets : (dir : ℕ) → IsTrue (has_sets new.marks dir) → IsTrue (has_sets old.marks dir || is_semantic old.tree.state dir)
   pub edges : (dir : ℕ) → edges_of new.graph dir ≡ edges_of old.graph dir
+  pub sessions : new.sessions ≡ old.sessions
 
 -- the same, and the tree and the marks are ready for what they were ready for
 pub record KeepsTree (old new : Parts) : Type 0 where
   pub tree : new.tree ≡ old.tree
   pub marks : new.marks ≡ old.marks
   pub edges : (dir : ℕ) → edges_of new.graph dir ≡ edges_of old.graph dir
+  pub sessions : new.sessions ≡ old.sessions
 
 -- the graph is ready for the edges of a directory with this parent and this query
 pub record AreEdges (ready_for : graph.Seen) (dir parent : ℕ) (asked : Formula ℕ) (edges : NewEdges) : Type 0 where

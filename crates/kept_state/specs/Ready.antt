@@ -4,9 +4,10 @@ use Rattle.hac_model.specs.Tree.Events.{accepted, apply}
 use Rattle.hac_model.specs.Tree.Facts.{bare_after}
 use Rattle.hac_model.specs.Tree.Limits as limits
 use Rattle.hac_model.specs.Tree.Links.{parent_of}
+use Rattle.hac_model.specs.Tree.Sessions.{is_stored, sessions_with}
 use Rattle.hac_model.specs.declared.counts.Counts.{Counts}
 use Rattle.hac_model.specs.declared.events.Event.{Event}
-use Rattle.hac_model.specs.declared.events.Event.TheVariants.{Mkdir, NewFile, Rewrite, Smkdir, Setq, Mark, Mv, Step}
+use Rattle.hac_model.specs.declared.events.Event.TheVariants.{Mkdir, NewFile, Rewrite, Smkdir, Setq, Mark, Mv, Step, Cd}
 use Rattle.dep_graph.specs.declared.graph.NewEdges.{NewEdges}
 use Rattle.file_tree.specs.Changes.{MayBecome}
 use Rattle.file_tree.specs.declared.ready.Ready.TheVariants as tree
@@ -15,7 +16,7 @@ use Rattle.link_kinds.specs.Seen.{has_sets}
 use Rattle.kept_state.specs.Parts.{AreMovedEdges, HasEdges, IsLinked, state_of}
 use Rattle.kept_state.specs.declared.parts.Parts.{Parts}
 use Rattle.kept_state.specs.declared.ready.Ready.{Ready}
-use Rattle.kept_state.specs.declared.ready.Ready.TheVariants.{Nothing, Change, Steps}
+use Rattle.kept_state.specs.declared.ready.Ready.TheVariants.{Nothing, Change, Session, Steps}
 
 -- the tree, the marks and the graph are ready for an event, with these edges
 abbrev pub IsPreparedFor : Event → Option NewEdges → Parts → Type 0
@@ -32,12 +33,15 @@ IsPreparedFor other edges kept = ⊤
 abbrev pub ready_events : Ready → List Event
 ready_events Nothing = []
 ready_events (Change event edges counts) = event ∷ []
+ready_events (Session session dir sessions) = Cd session dir ∷ []
 ready_events (Steps count) = replicate count Step
 
--- the parts are ready for them, and the counts are those of the state after the event
+-- the parts are ready for them, and the counts or the sessions are those of the state after the event
 abbrev pub IsReady : Ready → Parts → Type 0
 IsReady Nothing kept = ⊤
-IsReady (Change event edges counts) kept = IsPreparedFor event edges kept × (counts ≡ limits.counts (apply (state_of kept) event))
+IsReady (Change event edges counts) kept =
+    IsPreparedFor event edges kept × (counts ≡ limits.counts (apply (state_of kept) event)) × IsTrue (is_stored event)
+IsReady (Session session dir sessions) kept = sessions ≡ sessions_with session dir kept.sessions
 IsReady (Steps count) kept = ⊤
 
 -- an event may be applied, and so to the tree, which then holds this much

@@ -7,16 +7,18 @@ ghost use Rattle.hac_model.specs.Tree.Limits as limits;
 ghost use Rattle.hac_model.specs.Tree.Limits.{counts};
 ghost use Rattle.hac_model.specs.Tree.Links.{parent_of};
 ghost use Rattle.hac_model.specs.Tree.{empty, path_of};
+ghost use Rattle.hac_model.specs.Tree.Sessions.{are_few, is_busy, is_stored, least_name};
+ghost use Rattle.hac_model.specs.Tree.Sessions.{sessions_with, stands_in, visitors};
 ghost use Rattle.hac_model.specs.Tree.Valid.{IsValid};
 ghost use Rattle.hac_model.specs.Tree.Events.{is_placed};
 ghost use Rattle.kept_state.specs.Readers.{AreEdgesOf, AreMarksOf, IsTreeOf, mark_at};
 
-use crate::edges;
 use crate::parts::Parts;
 use crate::ready::{Ready, prepare, put};
+use crate::{edges, sessions};
 use dep_graph::Graph;
 use file_tree::Tree;
-use hac_model::{Counts, Event, Kind, Memory, Number, Path, Query};
+use hac_model::{Counts, Event, Kind, Memory, Name, Number, Path, Query, Seq};
 use link_kinds::Links;
 use std::alloc::Global;
 use std::marker::Model;
@@ -132,6 +134,36 @@ impl KeptState {
         edges::cycle_of_move(alloc, &self.parts, entry, dir)
     }
 
+    /// The directory in which a session stands.
+    pub fn stands_in(&self, session: &Name) -> Number
+        ensures { result ≡ stands_in self.now.state.sessions session.now }
+    {
+        sessions::stands_in(self.parts.sessions.as_slice(), session)
+    }
+
+    /// Whether a session stands in a directory.
+    pub fn is_busy(&self, dir: Number) -> bool
+        ensures { result ≡ is_busy self.now.state.sessions dir }
+    {
+        sessions::is_busy(self.parts.sessions.as_slice(), dir)
+    }
+
+    /// The least of the names of the sessions that stand in a directory, if any do.
+    pub fn least_visitor(&self, dir: Number) -> Result<Option<Name>, Memory>
+        ensures { IfOk result (λ least. least
+            ≡ least_name (visitors self.now.state.sessions dir)) }
+    {
+        sessions::least_visitor(self.parts.sessions.as_slice(), dir)
+    }
+
+    /// Whether a session may stand in a directory: no more sessions than may then stand elsewhere
+    /// than in the root.
+    pub fn has_place_for(&self, session: &Name, dir: Number) -> bool
+        ensures { result ≡ are_few (sessions_with session.now dir self.now.state.sessions) }
+    {
+        sessions::has_place_for(self.parts.sessions.as_slice(), session, dir)
+    }
+
     /// How much the state would hold after an event. What it refers to is in the state; it may
     /// exceed limits.
     pub fn counts_after(&self, event: &Event) -> Counts
@@ -141,11 +173,12 @@ impl KeptState {
         self.parts.tree.counts_after(event)
     }
 
-    /// Takes the memory that an event wants, so that `commit` can apply it. How much the state then
+    /// Takes the memory that an event wants that is stored, so that `commit` can apply it. How much the state then
     /// holds is given. The state doesn't change, whatever the answer, and what was prepared before
     /// is dropped.
     pub fn prepare(&mut self, alloc: Global, event: Event, counts: Counts) -> Result<(), Memory>
         requires accepted { IsTrue (accepted self.old.state event) }
+        requires stored { IsTrue (is_stored event) }
         requires counts { counts ≡ limits.counts (apply self.old.state event) }
         ensures ok { OnOk result (self.new
             ≡ record { state = self.old.state; ready = event ∷ [] }) }
@@ -166,6 +199,29 @@ impl KeptState {
                 Err(memory)
             }
         }
+    }
+
+    /// The same for a session that is to stand in another directory.
+    pub fn prepare_session(
+        &mut self,
+        alloc: Global,
+        session: Name,
+        dir: Number,
+    ) -> Result<(), Memory>
+        requires { IsTrue (accepted self.old.state (Event.Cd session dir)) }
+        ensures ok { OnOk result (self.new
+            ≡ record { state = self.old.state; ready = Event.Cd session dir ∷ [] }) }
+        ensures err { OnErr result (self.new ≡ record { state = self.old.state; ready = [] }) }
+    {
+        self.ready.set(Ready::Nothing);
+        let kept = self.parts.sessions.as_slice();
+        let sessions = Seq::new(sessions::sessions_with(alloc, kept, &session, dir)?);
+        self.ready.set(Ready::Session {
+            session,
+            dir,
+            sessions,
+        });
+        Ok(())
     }
 
     /// Gets ready for steps, which want no memory.

@@ -1,5 +1,5 @@
-//! The state as a machine keeps it: a tree, the marks of semantic directories, and what depends on
-//! what. It is seen as that state and as the events for which memory was taken: each is prepared
+//! The state as a machine keeps it: a tree, the marks of semantic directories, what depends on what,
+//! and where sessions stand. It is seen as that state and as the events for which memory was taken: each is prepared
 //! with memory, and then applied without any. It knows no command, no path and no link that a query
 //! finds.
 #![tactic(auto)]
@@ -8,6 +8,7 @@ mod edges;
 mod kept;
 mod parts;
 mod ready;
+mod sessions;
 
 pub use edges::push_named;
 pub use kept::KeptState;

@@ -1,4 +1,4 @@
-//! A tree with the marks of its semantic directories, and with what depends on what.
+//! A tree with the marks of its semantic directories, what depends on what, and its sessions.
 ghost use Rattle.std.specs.Prelude.{◌≡◌, IfOk};
 ghost use Rattle.hac_model.specs.Tree.{empty};
 ghost use Rattle.kept_state.specs.Parts.{AreEdges, AreMovedEdges, IsLinked, KeepsTree, state_of};
@@ -6,11 +6,11 @@ ghost use Rattle.kept_state.specs.Parts.{AreEdges, AreMovedEdges, IsLinked, Keep
 use crate::edges::edges_of;
 use dep_graph::{Graph, NewEdges};
 use file_tree::Tree;
-use hac_model::{Memory, Number, Query};
+use hac_model::{Memory, Number, Query, Seq, Session};
 use link_kinds::Links;
 use std::alloc::Global;
 
-/// A tree, its marks and its graph. That they fit one another is said by `IsLinked` of the specs.
+/// A tree, its marks, its graph and its sessions. That they fit one another is said by `IsLinked` of the specs.
 #[derive(Drop)]
 pub struct Parts {
     /// The tree, without marks.
@@ -19,6 +19,8 @@ pub struct Parts {
     pub marks: Links,
     /// What each semantic directory depends on: its own directory, then those that its query names.
     pub graph: Graph,
+    /// The sessions that stand in a directory other than the root.
+    pub sessions: Seq<Session>,
 }
 
 impl Parts {
@@ -33,6 +35,7 @@ impl Parts {
             tree,
             marks,
             graph: Graph::new(alloc),
+            sessions: Seq::new(Vec::new(alloc)),
         })
     }
 

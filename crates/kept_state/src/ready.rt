@@ -3,6 +3,7 @@ ghost use Rattle.std.specs.Prelude.{◌≡◌, ◌<◌, [], IfOk, IsTrue, None, 
 ghost use Rattle.hac_model.specs.Laws.{AllHappen};
 ghost use Rattle.hac_model.specs.Tree.Events.{accepted, apply_all};
 ghost use Rattle.hac_model.specs.Tree.Links.{is_semantic, parent_of};
+ghost use Rattle.hac_model.specs.Tree.Sessions.{is_stored, sessions_with};
 ghost use Rattle.hac_model.specs.Tree.{is_directory_at};
 ghost use Rattle.file_tree.specs.declared.ready.Ready.TheVariants as tree;
 ghost use Rattle.link_kinds.specs.Seen.{LinkListsRise, has_sets};
@@ -13,7 +14,7 @@ ghost use Rattle.kept_state.specs.Ready.{ready_events};
 use crate::parts::Parts;
 use dep_graph::NewEdges;
 use file_tree::{EntryKind, NewBody};
-use hac_model::{Counts, Event, Mark, Memory, Name, Number, Query, Text};
+use hac_model::{Counts, Event, Mark, Memory, Name, Number, Query, Seq, Session, Text};
 use link_kinds::Links;
 use std::alloc::Global;
 use std::mem;
@@ -32,6 +33,15 @@ pub enum Ready {
         /// How much the state will hold.
         counts: Counts,
     },
+    /// A session is to stand in another directory.
+    Session {
+        /// The session's name.
+        session: Name,
+        /// The directory.
+        dir: Number,
+        /// The sessions then.
+        sessions: Seq<Session>,
+    },
     /// This many files are to be indexed.
     Steps(u64),
 }
@@ -45,10 +55,11 @@ impl Ready {
     }
 }
 
-/// Takes the memory that an event wants. The state doesn't change, whatever the answer.
+/// Takes the memory that an event wants that is stored. The state doesn't change, whatever the answer.
 pub fn prepare(alloc: Global, kept: &mut Parts, event: &Event) -> Result<Option<NewEdges>, Memory>
     requires linked { IsLinked kept.old }
     requires accepted { IsTrue (accepted (state_of kept.old) event.now) }
+    requires stored { IsTrue (is_stored event.now) }
     ensures alike { AreAlike kept.old kept.new }
     ensures suits { IfOk result (λ edges. IsPreparedFor event.now edges kept.new) }
 {
@@ -160,6 +171,11 @@ pub fn put(kept: &mut Parts, ready: Ready)
             edges,
             counts,
         } => apply(kept, event, edges, counts),
+        Ready::Session {
+            session,
+            dir,
+            sessions,
+        } => put_session(kept, session, dir, sessions),
         Ready::Steps(count) => put_steps(kept, count),
     }
 }
@@ -168,6 +184,7 @@ pub fn put(kept: &mut Parts, ready: Ready)
 fn apply(kept: &mut Parts, event: Event, edges: Option<NewEdges>, counts: Counts)
     requires may { CanCommit event counts kept.old }
     requires suits { IsPreparedFor event edges kept.old }
+    requires stored { IsTrue (is_stored event) }
     ensures { IsCommitted event kept.old kept.new }
 {
     match event {
@@ -317,6 +334,17 @@ fn drop_directory(kept: &mut Parts, dir: Number, counts: Counts)
     kept.tree.remove(dir, counts);
     kept.graph.drop_node(dir);
     kept.marks.drop_dir(dir);
+}
+
+/// Lets a session stand in another directory.
+fn put_session(kept: &mut Parts, session: Name, dir: Number, sessions: Seq<Session>)
+    requires linked { IsLinked kept.old }
+    requires happens { IsTrue (accepted (state_of kept.old) (Event.Cd session dir)) }
+    requires sessions { sessions ≡ sessions_with session dir kept.old.sessions }
+    ensures { IsCommitted (Event.Cd session dir) kept.old kept.new }
+{
+    drop(session);
+    kept.sessions = sessions;
 }
 
 /// Indexes a file.

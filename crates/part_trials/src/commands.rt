@@ -1,5 +1,6 @@
-//! Commands as they are printed: lines that are read as the same commands.
-use shell_lang::{parse_line, print_command};
+//! Lines: which commands and sessions they spell, and how these are printed.
+use hac_model::{Deny, Refusal};
+use shell_lang::{parse_line, print_command, put_length};
 use std::alloc::Global;
 use std::process::Abort;
 use std::test::Fail;
@@ -14,6 +15,9 @@ fn prints_commands(rt: HostRuntime) -> Result<(), Fail> {
         ),
         (b"write /n a\\nb", b"put \"/n\" 3\na\nb"),
         (b"ls", b"ls\n"),
+        (b"  @bob   cd ..", b"@bob cd \"./..\"\n"),
+        (b"@main tick \"10\"", b"tick 10\n"),
+        (b"@a-_1 sls", b"@a-_1 sls\n"),
         (
             b"smkdir \"/my s\" (Apple*) AND NOT {/a}",
             b"smkdir \"/my s\" apple* AND NOT {/a}\n",
@@ -30,5 +34,36 @@ fn expect_printed(rt: &impl Abort, alloc: Global, line: &[u8], want: &[u8]) -> R
     let printed = print_command(alloc, &command);
     drop(command);
     assert_eq!(rt; printed?.as_slice(), want);
+    Ok(())
+}
+
+#[test]
+fn refuses_lines(rt: HostRuntime) -> Result<(), Fail> {
+    for line in [
+        b"@bob ".as_slice(),
+        b"@ bob pwd",
+        b"@b.b pwd",
+        b"@bob @bob pwd",
+        b"\"@bob\" pwd",
+        b"@\"bob\" pwd",
+        b"pwd /",
+        b"tick",
+        b"tick 01",
+        b"tick 65537",
+    ] {
+        expect_bad(&rt, rt.alloc(), line);
+    }
+    Ok(())
+}
+
+fn expect_bad(rt: &impl Abort, alloc: Global, line: &[u8]) {
+    let fault = parse_line(alloc, line, None).err();
+    assert_eq!(rt; fault, Some(Deny::Refused(Refusal::BadLine)), "{line:?}");
+}
+
+#[test]
+fn counts_bytes_of_puts(rt: HostRuntime) -> Result<(), Fail> {
+    assert_eq!(rt; put_length(b"@bob put /a 3"), Some(3));
+    assert_eq!(rt; put_length(b"@b.b put /a 3"), None);
     Ok(())
 }

@@ -1,5 +1,5 @@
 -- What a call answers that reads a query.
-use Rattle.std.specs.Prelude.{◌≡◌, ⊤, ℕ, Result, Ok, Err}
+use Rattle.std.specs.Prelude.{◌≡◌, ⊤, ℕ, Result, Err}
 use Rattle.hac_model.specs.Run.Answers.{Gives}
 use Rattle.hac_model.specs.declared.reading.Part.{Part}
 use Rattle.hac_model.specs.declared.replies.Refusal.{Refusal}

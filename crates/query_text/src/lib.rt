@@ -13,5 +13,5 @@ mod stepping;
 
 pub use faults::QueryFault;
 pub use paths::{NamedDir, Paths};
-pub use printing::print;
+pub use printing::{around, braced, joined, print, term_text};
 pub use reading::{parse, terms_left};

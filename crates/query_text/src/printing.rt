@@ -1,7 +1,6 @@
 //! Queries as they are printed.
 ghost use Rattle.std.specs.Prelude.{◌≡◌, ◌++◌, codes, is_some, IfOk, IsTrue, MatchOption, None};
 ghost use Rattle.std.specs.Prelude.{Some};
-ghost use Rattle.hac_model.specs.Tree.Paths.{path_text};
 ghost use Rattle.hac_model.specs.Query.Grammar.{escape, escaped};
 ghost use Rattle.hac_model.specs.Query.QueryText as text;
 ghost use Rattle.query_text.specs.Printing.{are_known, dir_path, path_at, printed_query};
@@ -86,7 +85,7 @@ fn is_joined(query: &Query<Number>) -> bool
 }
 
 /// The bytes, in parentheses where they are needed.
-fn around(alloc: Global, needed: bool, bytes: Vec<u8>) -> Result<Vec<u8>, Memory>
+pub fn around(alloc: Global, needed: bool, bytes: Vec<u8>) -> Result<Vec<u8>, Memory>
     ensures { IfOk result (λ all. all.items ≡ text.around needed bytes.items) }
 {
     if needed {
@@ -97,7 +96,7 @@ fn around(alloc: Global, needed: bool, bytes: Vec<u8>) -> Result<Vec<u8>, Memory
 }
 
 /// Three runs of bytes, one after the other.
-fn joined(alloc: Global, first: &[u8], second: &[u8], third: &[u8]) -> Result<Vec<u8>, Memory>
+pub fn joined(alloc: Global, first: &[u8], second: &[u8], third: &[u8]) -> Result<Vec<u8>, Memory>
     ensures { IfOk result (λ all. all.items ≡ first.now ++ (second.now ++ third.now)) }
 {
     let mut all = first.to_vec(alloc)?;
@@ -106,7 +105,8 @@ fn joined(alloc: Global, first: &[u8], second: &[u8], third: &[u8]) -> Result<Ve
     Ok(all)
 }
 
-fn term_text(alloc: Global, term: &Term) -> Result<Vec<u8>, Memory>
+/// A term as it is printed.
+pub fn term_text(alloc: Global, term: &Term) -> Result<Vec<u8>, Memory>
     ensures { IfOk result (λ bytes. bytes.items ≡ text.term_text term.now) }
 {
     match term {
@@ -121,17 +121,16 @@ fn dir_text(alloc: Global, dir: Number, paths: &Paths) -> Result<Vec<u8>, Memory
         (escaped (dir_path paths.now dir) ++ codes "}")) }
 {
     match find(paths.as_slice(), dir) {
-        Some(path) => braced(alloc, path),
+        Some(path) => braced(alloc, print_path(alloc, path)?.as_bytes()),
         None => unreachable!(),
     }
 }
 
-fn braced(alloc: Global, path: &Path) -> Result<Vec<u8>, Memory>
-    ensures { IfOk result (λ bytes. bytes.items ≡ codes "{" ++
-        (escaped (path_text path.now) ++ codes "}")) }
+/// The bytes of a path between braces.
+pub fn braced(alloc: Global, path: &[u8]) -> Result<Vec<u8>, Memory>
+    ensures { IfOk result (λ bytes. bytes.items ≡ codes "{" ++ (escaped path.now ++ codes "}")) }
 {
-    let printed = print_path(alloc, path)?;
-    let spelled = escaped(alloc, printed.as_bytes())?;
+    let spelled = escaped(alloc, path)?;
     joined(alloc, b"{".as_slice(), spelled.as_slice(), b"}".as_slice())
 }
 

@@ -4,18 +4,22 @@ use Rattle.std.specs.Prelude.{◌||◌, if◌then◌else◌, nat_le, codes, Opti
 use Rattle.std.specs.List.{list_all}
 use Rattle.std.specs.Option.{ok_or}
 use Rattle.std.specs.Str.{bytes_eq}
-use Rattle.std.proofs.lemmas.Bool.{cond_both}
+use Rattle.std.specs.Str.Parse.{digits_value}
+use Rattle.std.proofs.lemmas.Bool.{and_parts, cond_both}
 use Rattle.hac_model.specs.Run.Answers.{◌>>=◌}
 use Rattle.hac_model.specs.Bytes.{is_space}
 use Rattle.hac_model.specs.Tree.Limits.{is_text}
 use Rattle.hac_model.specs.Script.LineWords.{first_word, after_space}
-use Rattle.hac_model.specs.Script.Lines.{Item, alone, called_with, command_with, each_path, find_of, in_main, is_put, limited_text, ls_of, named_command, of_two_paths, one_path, only_path, only_word, path_and_query, put_at, put_of, put_words, two_paths, write_of}
+use Rattle.hac_model.specs.Script.Numbers.{are_steps, is_number, is_tick}
+use Rattle.hac_model.specs.Script.SessionWords.{session_words}
+use Rattle.hac_model.specs.Script.SpaceNames.{is_space_name}
+use Rattle.hac_model.specs.Script.Lines.{Item, alone, called_with, command_with, each_path, find_of, is_put, limited_text, line_with, maybe_path, named_command, of_two_paths, one_path, only_path, only_word, path_and_query, put_at, put_of, put_words, tick_of, two_paths, write_of}
 use Rattle.hac_model.specs.Script.PathWords.{is_bad, word_of}
 use Rattle.hac_model.specs.Query.Formula.{Formula}
 use Rattle.hac_model.specs.Query.QueryReading.{read_query}
 use Rattle.hac_model.specs.Script.Texts.{text_of}
 use Rattle.hac_model.specs.declared.commands.Command.{Command}
-use Rattle.hac_model.specs.declared.commands.Command.TheVariants.{Mkdir, Rmdir, Write, Cat, Ls, Mv, Rm, Smkdir, Setq, Unq, Query, Sls, Sln, Srm, Sforget, Find, Index, Counts}
+use Rattle.hac_model.specs.declared.commands.Command.TheVariants.{Mkdir, Rmdir, Write, Cat, Ls, Cd, Pwd, Mv, Rm, Smkdir, Setq, Unq, Query, Sls, Sln, Srm, Sforget, Find, Index, Tick, Counts}
 use Rattle.hac_model.specs.declared.commands.Line.{Line}
 use Rattle.hac_model.specs.declared.limits.LimitWord.TheVariants as limit
 use Rattle.hac_model.specs.declared.limits.TheConstants.{LINE_LIMIT}
@@ -24,6 +28,7 @@ use Rattle.hac_model.specs.declared.replies.Refusal.{Refusal}
 use Rattle.hac_model.specs.declared.replies.Refusal.TheVariants.{BadLine, BadName, Limit}
 use Rattle.hac_model.specs.declared.taken.Taken.{Taken}
 use Rattle.hac_model.specs.declared.taken.Taken.TheVariants.{Whole, Dropped, Short}
+use Rattle.hac_model.proofs.SpellingLemmas.{spelled-parts, taken-spells}
 use Rattle.shell_lang.specs.Laws.{IsGiven}
 
 -- some bytes are read as this path word
@@ -42,19 +47,23 @@ Given (Write path text) = IsWord path × (is_text text ≡ true)
 Given (Cat path) = IsWord path
 Given (Ls None) = ⊤
 Given (Ls (Some path)) = IsWord path
+Given (Cd None) = ⊤
+Given (Cd (Some path)) = IsWord path
+Given Pwd = ⊤
 Given (Mv from to) = IsWord from × IsWord to
 Given (Rm path) = IsWord path
 Given (Smkdir path query) = IsWord path × IsAsked query
 Given (Setq path query) = IsWord path × IsAsked query
 Given (Unq path) = IsWord path
 Given (Query path) = IsWord path
-Given (Sls None) = ⊥
+Given (Sls None) = ⊤
 Given (Sls (Some path)) = IsWord path
 Given (Sln item dir) = IsWord item × IsWord dir
 Given (Srm item dir) = IsWord item × IsWord dir
 Given (Sforget item dir) = IsWord item × IsWord dir
 Given (Find query) = IsAsked query
 Given Index = ⊤
+Given (Tick steps) = are_steps steps ≡ true
 Given Counts = ⊤
 Given other = ⊥
 
@@ -107,10 +116,12 @@ unfolding one_path
 gives_one command arguments parts =
     gives-then (only_path arguments) _ (λ path given. command-given (command path) (parts path (only_path-word (only_word arguments) path given)))
 
-gives_ls : (arguments : List ℕ) → Gives (ls_of arguments)
-unfolding Gives ls_of
-gives_ls arguments =
-    gives-if (list_all is_space arguments) (Ok (Ls None)) (one_path (λ path. Ls (Some path)) arguments) tt (gives_one (λ path. Ls (Some path)) arguments (λ path is. is))
+gives_maybe : (command : Option PathWord → Command) (arguments : List ℕ) → Given (command None) → ((path : PathWord) → IsWord path → Given (command (Some path)))
+    → Gives (maybe_path command arguments)
+unfolding maybe_path
+gives_maybe command arguments none some =
+    gives-if (list_all is_space arguments) (Ok (command None)) (one_path (λ path. command (Some path)) arguments)
+    (command-given (command None) none) (gives_one (λ path. command (Some path)) arguments some)
 
 gives_two : (command : PathWord → PathWord → Command) (arguments : List ℕ)
     → ((first second : PathWord) → IsWord first → IsWord second → Given (command first second)) → Gives (of_two_paths command arguments)
@@ -155,6 +166,15 @@ gives_alone : (command : Command) (arguments : List ℕ) → Given command → G
 unfolding Gives alone
 gives_alone command arguments given = gives-if (list_all is_space arguments) (Ok command) (Err BadLine) given tt
 
+tick-given : (word : List ℕ) → Gives (if is_tick word then Ok (Tick (digits_value 10 word)) else Err BadLine)
+tick-given word =
+    cond_both (is_tick word) _ _ Gives
+    (λ is. command-given (Tick (digits_value 10 word)) (and_parts (is_number word) (are_steps (digits_value 10 word)) is).1) (λ _. gives_bad_line)
+
+gives_tick : (arguments : List ℕ) → Gives (tick_of arguments)
+unfolding tick_of
+gives_tick arguments = gives-then (only_word arguments) _ (λ word _. tick-given word)
+
 gives_named : (name arguments : List ℕ) → Gives (named_command name arguments)
 gives_named name arguments =
     let P = Gives in
@@ -162,21 +182,24 @@ gives_named name arguments =
     (λ _. cond_both (bytes_eq name (codes "rmdir")) _ _ P (λ _. gives_one Rmdir arguments (λ path is. is))
     (λ _. cond_both (bytes_eq name (codes "write")) _ _ P (λ _. gives_write arguments)
     (λ _. cond_both (bytes_eq name (codes "cat")) _ _ P (λ _. gives_one Cat arguments (λ path is. is))
-    (λ _. cond_both (bytes_eq name (codes "ls")) _ _ P (λ _. gives_ls arguments)
+    (λ _. cond_both (bytes_eq name (codes "ls")) _ _ P (λ _. gives_maybe Ls arguments tt (λ path is. is))
+    (λ _. cond_both (bytes_eq name (codes "cd")) _ _ P (λ _. gives_maybe Cd arguments tt (λ path is. is))
+    (λ _. cond_both (bytes_eq name (codes "pwd")) _ _ P (λ _. gives_alone Pwd arguments tt)
     (λ _. cond_both (bytes_eq name (codes "mv")) _ _ P (λ _. gives_two Mv arguments (λ a b p q. (p, q)))
     (λ _. cond_both (bytes_eq name (codes "rm")) _ _ P (λ _. gives_one Rm arguments (λ path is. is))
     (λ _. cond_both (bytes_eq name (codes "smkdir")) _ _ P (λ _. gives_asking Smkdir arguments (λ a b p q. (p, q)))
     (λ _. cond_both (bytes_eq name (codes "setq")) _ _ P (λ _. gives_asking Setq arguments (λ a b p q. (p, q)))
     (λ _. cond_both (bytes_eq name (codes "unq")) _ _ P (λ _. gives_one Unq arguments (λ path is. is))
     (λ _. cond_both (bytes_eq name (codes "query")) _ _ P (λ _. gives_one Query arguments (λ path is. is))
-    (λ _. cond_both (bytes_eq name (codes "sls")) _ _ P (λ _. gives_one (λ path. Sls (Some path)) arguments (λ path is. is))
+    (λ _. cond_both (bytes_eq name (codes "sls")) _ _ P (λ _. gives_maybe Sls arguments tt (λ path is. is))
     (λ _. cond_both (bytes_eq name (codes "sln")) _ _ P (λ _. gives_two Sln arguments (λ a b p q. (p, q)))
     (λ _. cond_both (bytes_eq name (codes "srm")) _ _ P (λ _. gives_two Srm arguments (λ a b p q. (p, q)))
     (λ _. cond_both (bytes_eq name (codes "sforget")) _ _ P (λ _. gives_two Sforget arguments (λ a b p q. (p, q)))
     (λ _. cond_both (bytes_eq name (codes "find")) _ _ P (λ _. gives_find arguments)
     (λ _. cond_both (bytes_eq name (codes "index")) _ _ P (λ _. gives_alone Index arguments tt)
+    (λ _. cond_both (bytes_eq name (codes "tick")) _ _ P (λ _. gives_tick arguments)
     (λ _. cond_both (bytes_eq name (codes "counts")) _ _ P (λ _. gives_alone Counts arguments tt)
-    (λ _. gives_bad_line))))))))))))))))))
+    (λ _. gives_bad_line)))))))))))))))))))))
 
 gives_put_at : (word : List ℕ) (taken : Option Taken) → Gives (put_at word taken)
 unfolding Gives
@@ -193,25 +216,35 @@ gives_put arguments taken = gives-then (put_words arguments) _ (λ words _. give
 gives_called : (name arguments : List ℕ) (taken : Option Taken) → Gives (called_with name arguments taken)
 gives_called name arguments taken = cond_both (is_put name) _ _ Gives (λ _. gives_put arguments taken) (λ _. gives_named name arguments)
 
-gives_with : (line : List ℕ) (taken : Option Taken) → Gives (command_with line taken)
-gives_with line taken = gives-then (first_word line) _ (λ name _. gives_called name.0 name.1 taken)
+gives_with : (bytes : List ℕ) (taken : Option Taken) → Gives (command_with bytes taken)
+gives_with bytes taken = gives-then (first_word bytes) _ (λ name _. gives_called name.0 name.1 taken)
 
--- a line that is read: its session, and the parts of its command
+-- a line that is read: its session has a name, and the command its parts
 pub record GivenLine (line : Line) : Type 0 where
-  pub session : line ≡ record { session = codes "main"; command = line.command }
+  pub session : is_space_name line.session ≡ true
   pub parts : Given line.command
 
-in_main-given : (command : Result Command Refusal) (line : Line) → Gives command → in_main command ≡ Ok line → GivenLine line
+said-given : (name : List ℕ) (command : Result Command Refusal) (line : Line) → Gives command →
+    (let item : Item = command >>= λ c. Ok (record { session = name; command = c }) in item) ≡ Ok line → Given line.command
 unfolding Gives
-in_main-given (Ok command) line h same =
-    let made : Line = record { session = codes "main"; command = command } in
+said-given name (Ok command) line h same =
+    let made : Line = record { session = name; command = command } in
     let even : made ≡ line = cc in
-    subst GivenLine even (record { session = refl; parts = h })
-in_main-given (Err refusal) line h same = absurd cc
+    subst (λ (l : Line). Given l.command) even h
+said-given name (Err refusal) line h same = absurd cc
 
-pub given-line : (line : Line) → IsGiven line → GivenLine line
-given-line line (bytes, taken, given) =
-    elim (nat_le (length bytes) LINE_LIMIT) as (λ b. (let item : Item = if b then in_main (command_with bytes taken) else Err (Limit limit.Line) in item) ≡ Ok line → GivenLine line) [
-      | true ↦ (λ same. in_main-given (command_with bytes taken) line (gives_with bytes taken) same)
+session-given : (session : Result (List ℕ × List ℕ) Refusal) (taken : Option Taken) (line : Line) →
+    (let item : Item = session >>= λ words. command_with words.1 taken >>= λ c. Ok (record { session = words.0; command = c }) in item) ≡ Ok line → Given line.command
+session-given (Ok words) taken line same = said-given words.0 (command_with words.1 taken) line (gives_with words.1 taken) same
+session-given (Err refusal) taken line same = absurd cc
+
+line-given : (line : Line) → IsGiven line → Given line.command
+line-given line (bytes, taken, given) =
+    elim (nat_le (length bytes) LINE_LIMIT) as (λ b. (let item : Item = if b then line_with bytes taken else Err (Limit limit.Line) in item) ≡ Ok line → Given line.command) [
+      | true ↦ (λ same. session-given (session_words bytes) taken line same)
       | false ↦ (λ same. absurd cc)
     ] given
+
+pub given-line : (line : Line) → IsGiven line → GivenLine line
+given-line line given =
+    record { session = (spelled-parts line (taken-spells given.0 given.1 line given.2)).0; parts = line-given line given }

@@ -1,4 +1,4 @@
-pub mod LengthLemmas
+pub mod NumberLemmas
 pub mod ReaderLemmas
 pub mod GiveLemmas
 pub mod QuoteLemmas

@@ -5,7 +5,7 @@ use Rattle.std.specs.Char.{is_ascii_digit}
 use Rattle.std.specs.Fmt.{digits}
 use Rattle.std.specs.List.{before_first, list_all, position_or_len, prefix_len}
 use Rattle.std.specs.Str.{bytes_eq}
-use Rattle.std.specs.Str.Parse.{AllDigits}
+use Rattle.std.specs.Str.Parse.{AllDigits, digits_value}
 use Rattle.std.proofs.Math.Seq.{drop-append_seam, take-append_seam}
 use Rattle.std.proofs.lemmas.Bool.{and_from, and_parts}
 use Rattle.std.proofs.lemmas.Bool.Decides.{nat_tests}
@@ -14,16 +14,18 @@ use Rattle.std.proofs.lemmas.Str.Parse.{digit_from_value}
 use Rattle.hac_model.specs.Run.Answers.{◌>>=◌}
 use Rattle.hac_model.specs.Bytes.{is_quote, is_space}
 use Rattle.hac_model.specs.Query.Formula.{Formula}
-use Rattle.hac_model.specs.Laws.{in_quotes}
+use Rattle.hac_model.specs.Script.LineWords.{in_quotes}
 use Rattle.hac_model.specs.Query.QueryReading.{read_query}
 use Rattle.hac_model.specs.Query.QueryText.{named_by, query_text}
 use Rattle.hac_model.specs.Script.CommandTexts.{number_part, path_part, query_part, word_text}
 use Rattle.hac_model.specs.Script.LineWords.{after_first_run, after_space, first_run, first_word, is_word_end, quoted_word, skip_spaces, word_at}
-use Rattle.hac_model.specs.Script.Lines.{each_path, find_of, of_two_paths, one_path, only_word, path_and_query, put_words, two_paths}
+use Rattle.hac_model.specs.Script.Lines.{each_path, find_of, of_two_paths, one_path, only_word, path_and_query, put_words, tick_of, two_paths}
 use Rattle.hac_model.specs.Script.PathWords.{has_long_part, is_bad, untested_word, word_of}
-use Rattle.hac_model.specs.Script.Puts.{is_length}
+use Rattle.hac_model.specs.Script.Numbers.{are_steps, is_number, is_tick}
+use Rattle.hac_model.specs.Script.SessionWords.{main_session, named_session, names_session, session_words}
+use Rattle.hac_model.specs.Script.SpaceNames.{is_space_byte, is_space_name}
 use Rattle.hac_model.specs.declared.commands.Command.{Command}
-use Rattle.hac_model.specs.declared.commands.Command.TheVariants.{Find}
+use Rattle.hac_model.specs.declared.commands.Command.TheVariants.{Find, Tick}
 use Rattle.hac_model.specs.declared.limits.LimitWord.{LimitWord}
 use Rattle.hac_model.specs.declared.limits.LimitWord.TheVariants as limit
 use Rattle.hac_model.specs.declared.paths.PathWord.{PathWord}
@@ -60,26 +62,66 @@ run-length (b ∷ word) rest all ends =
 unskipped : (b : ℕ) (bytes : List ℕ) → is_space b ≡ false → skip_spaces (b ∷ bytes) ≡ b ∷ bytes
 unskipped b bytes dull = ap (λ (t : Bool). drop (cond t (1 + prefix_len is_space bytes) 0) (b ∷ bytes)) dull
 
--- a word that needs no quotes is read as it is
-pub plain-read : (b : ℕ) (word rest : List ℕ) → is_space b ≡ false → is_quote b ≡ false → list_all is_unspaced word ≡ true → is_word_end rest ≡ true
-    → first_word (b ∷ (word ++ rest)) ≡ Ok (b ∷ word, rest)
-plain-read b word rest dull other all ends =
+-- what begins with a byte that is no space: the first run of it, and what follows that
+pub record RunAt (b : ℕ) (word rest : List ℕ) : Type 0 where
+  pub skipped : skip_spaces (b ∷ (word ++ rest)) ≡ b ∷ (word ++ rest)
+  pub run : first_run (b ∷ (word ++ rest)) ≡ b ∷ word
+  pub behind : after_first_run (b ∷ (word ++ rest)) ≡ rest
+
+pub run-at : (b : ℕ) (word rest : List ℕ) → is_space b ≡ false → list_all is_unspaced word ≡ true → is_word_end rest ≡ true → RunAt b word rest
+run-at b word rest dull all ends =
     let skipped : skip_spaces (b ∷ (word ++ rest)) ≡ b ∷ (word ++ rest) = unskipped b (word ++ rest) dull in
-    let some : (length (b ∷ (word ++ rest)) == 0) ≡ false = grind (arith, nat_tests) in
     let inner : list_all is_unspaced (b ∷ word) ≡ true = and_from (is_unspaced b) (list_all is_unspaced word) (ap not dull) all in
     let run : first_run (b ∷ (word ++ rest)) ≡ b ∷ word =
     ap (λ (bytes : List ℕ). before_first is_space bytes) skipped
     ∙ ap (λ (n : ℕ). take n (b ∷ (word ++ rest))) (run-length (b ∷ word) rest inner ends)
     ∙ take-append_seam (b ∷ word) rest in
-    let behind : after_first_run (b ∷ (word ++ rest)) ≡ rest =
-    ap (λ (w : List ℕ). drop (length w) (skip_spaces (b ∷ (word ++ rest)))) run
-    ∙ ap (λ (bytes : List ℕ). drop (length (b ∷ word)) bytes) skipped
-    ∙ drop-append_seam (b ∷ word) rest in
-    ap (λ (bytes : List ℕ). word_at bytes) skipped
+    record {
+      skipped = skipped;
+      run = run;
+      behind = ap (λ (w : List ℕ). drop (length w) (skip_spaces (b ∷ (word ++ rest)))) run
+          ∙ ap (λ (bytes : List ℕ). drop (length (b ∷ word)) bytes) skipped
+          ∙ drop-append_seam (b ∷ word) rest;
+    }
+
+-- a word that needs no quotes is read as it is
+pub plain-read : (b : ℕ) (word rest : List ℕ) → is_space b ≡ false → is_quote b ≡ false → list_all is_unspaced word ≡ true → is_word_end rest ≡ true
+    → first_word (b ∷ (word ++ rest)) ≡ Ok (b ∷ word, rest)
+plain-read b word rest dull other all ends =
+    let at = run-at b word rest dull all ends in
+    let some : (length (b ∷ (word ++ rest)) == 0) ≡ false = grind (arith, nat_tests) in
+    ap (λ (bytes : List ℕ). word_at bytes) at.skipped
     ∙ ap (λ (t : Bool). if t then Err BadLine else (if is_quote b then quoted_word (word ++ rest) else Ok (first_run (b ∷ (word ++ rest)), after_first_run (b ∷ (word ++ rest))))) some
     ∙ ap (λ (t : Bool). if t then quoted_word (word ++ rest) else Ok (first_run (b ∷ (word ++ rest)), after_first_run (b ∷ (word ++ rest)))) other
-    ∙ ap (λ (w : List ℕ). Ok (w, after_first_run (b ∷ (word ++ rest)))) run
-    ∙ ap (λ (r : List ℕ). Ok (b ∷ word, r)) behind
+    ∙ ap (λ (w : List ℕ). Ok (w, after_first_run (b ∷ (word ++ rest)))) at.run
+    ∙ ap (λ (r : List ℕ). Ok (b ∷ word, r)) at.behind
+
+-- A session's name.
+
+space_byte-plain : (b : ℕ) → is_space_byte b ≡ true → is_unspaced b ≡ true
+unfolding is_space_byte
+space_byte-plain b h = grind (arith, nat_tests)
+
+space_byte-inner : (b : ℕ) → is_space_byte b ≡ true → is_inner b ≡ true
+unfolding is_space_byte
+space_byte-inner b h = grind (arith, nat_tests)
+
+space_name-bytes : (name : List ℕ) → is_space_name name ≡ true → list_all is_space_byte name ≡ true
+unfolding is_space_name
+space_name-bytes name h = (and_parts (nat_le 1 (length name) && nat_le (length name) 32) (list_all is_space_byte name) h).1
+
+pub name-one_line : (name : List ℕ) → is_space_name name ≡ true → is_one_line name ≡ true
+name-one_line name h = all-weaker is_space_byte is_inner space_byte-inner name (space_name-bytes name h)
+
+-- a line that names its session is parted there
+pub session-read : (name rest : List ℕ) → is_space_name name ≡ true → is_word_end rest ≡ true → session_words (64 ∷ (name ++ rest)) ≡ Ok (name, rest)
+session-read name rest h ends =
+    let at = run-at 64 name rest refl (all-weaker is_space_byte is_unspaced space_byte-plain name (space_name-bytes name h)) ends in
+    let named : names_session (64 ∷ (name ++ rest)) ≡ true = ap (λ (bytes : List ℕ). slice_index bytes 0 == 64) at.skipped in
+    ap (λ (t : Bool). if t then named_session (64 ∷ (name ++ rest)) else Ok (main_session, 64 ∷ (name ++ rest))) named
+    ∙ ap (λ (w : List ℕ). if is_space_name (drop 1 w) then Ok (drop 1 w, after_first_run (64 ∷ (name ++ rest))) else Err BadLine) at.run
+    ∙ ap (λ (t : Bool). if t then Ok (name, after_first_run (64 ∷ (name ++ rest))) else Err BadLine) h
+    ∙ ap (λ (r : List ℕ). Ok (name, r)) at.behind
 
 -- a path in quotes is read as the path
 path-first : (word : PathWord) (rest : List ℕ) → is_word_end rest ≡ true → first_word (path_part word ++ rest) ≡ Ok (word_text word, rest)
@@ -154,7 +196,7 @@ pub find-read : (query : Formula PathWord) (limits : Option LimitWord) → read_
 unfolding find_of
 find-read query limits read = ap (λ (r : Result (Formula PathWord) Refusal). r >>= λ q. Ok (Find q)) read ∙ told Find query limits
 
--- The length of a `put`.
+-- Numbers.
 
 digit-plain : (c : ℕ) → is_ascii_digit c ≡ true → is_unspaced c ≡ true
 digit-plain c h = grind (arith, nat_tests)
@@ -171,7 +213,7 @@ digits-all (c ∷ ds) h =
     let range = digit_from_value c h.0 in
     and_from (is_ascii_digit c) (list_all is_ascii_digit ds) (digit-is c range.0 range.1) (digits-all ds h.1)
 
-space-skipped : (bytes : List ℕ) → first_word (32 ∷ bytes) ≡ first_word bytes
+pub space-skipped : (bytes : List ℕ) → first_word (32 ∷ bytes) ≡ first_word bytes
 space-skipped bytes =
     let one : 1 + prefix_len is_space bytes ≡ suc (prefix_len is_space bytes) = omega arith in
     ap (λ (n : ℕ). word_at (drop n (32 ∷ bytes))) one
@@ -189,8 +231,8 @@ digits-first (c ∷ ds) some all =
     ∙ ap (λ (bytes : List ℕ). first_word (c ∷ bytes)) (sym (append-nil ds))
     ∙ plain-read c ds [] dull (digit-quote c both.0) (all-weaker is_ascii_digit is_unspaced digit-plain ds both.1) refl
 
-nonzero-length : (ds : List ℕ) → 0 < length ds → length ds ≤ 10 → list_all is_ascii_digit ds ≡ true → 48 < get_or ds 0 0 → is_length ds ≡ true
-nonzero-length ds some few all first =
+nonzero-number : (ds : List ℕ) → 0 < length ds → length ds ≤ 10 → list_all is_ascii_digit ds ≡ true → 48 < get_or ds 0 0 → is_number ds ≡ true
+nonzero-number ds some few all first =
     let least : nat_le 1 (length ds) ≡ true = grind (arith, nat_tests, some) in
     let most : nat_le (length ds) 10 ≡ true = grind (arith, nat_tests, few) in
     let other : (slice_index ds 0 == 48) ≡ false = grind (arith, nat_tests, first) in
@@ -204,14 +246,14 @@ nonzero-length ds some few all first =
     or_right true = refl
     or_right false = refl
 
--- a number is printed as a length
-number-length : (n : ℕ) → n < 10000000000 → is_length (decimal n) ≡ true
+-- a number is printed as one
+decimal-number : (n : ℕ) → n < 10000000000 → is_number (decimal n) ≡ true
 unfolding digits
-number-length zero few = refl
-number-length (suc n) few =
+decimal-number zero few = refl
+decimal-number (suc n) few =
     let small : suc n < 2 ^ 64 = omega (arith, few) in
     let is = decimal_is_IsNumeral (suc n) small in
-    nonzero-length (decimal (suc n)) is.0.0 (length-decimal-le 10 (suc n) (omega arith) (omega (arith, few)) small) (digits-all (decimal (suc n)) is.0.1) (first_decimal (suc n) (omega arith) small)
+    nonzero-number (decimal (suc n)) is.0.0 (length-decimal-le 10 (suc n) (omega arith) (omega (arith, few)) small) (digits-all (decimal (suc n)) is.0.1) (first_decimal (suc n) (omega arith) small)
 
 digit-inner : (c : ℕ) → is_ascii_digit c ≡ true → is_inner c ≡ true
 digit-inner c h = grind (arith, nat_tests)
@@ -221,12 +263,31 @@ number-one_line n few =
     let is = decimal_is_IsNumeral n (omega (arith, few)) in
     all-weaker is_ascii_digit is_inner digit-inner (decimal n) (digits-all (decimal n) is.0.1)
 
+number-only : (n : ℕ) → n < 10000000000 → only_word (number_part n) ≡ Ok (decimal n)
+number-only n few =
+    let is = decimal_is_IsNumeral n (omega (arith, few)) in
+    only-first (number_part n) (decimal n) (digits-first (decimal n) is.0.0 (digits-all (decimal n) is.0.1))
+
+-- so many steps are printed as a number that a `tick` may have
+pub steps-few : (n : ℕ) → are_steps n ≡ true → n < 10000000000
+steps-few n h = grind (arith, nat_tests, h)
+
+pub tick-read : (n : ℕ) → are_steps n ≡ true → tick_of (number_part n) ≡ Ok (Tick n)
+unfolding tick_of
+tick-read n h =
+    let few = steps-few n h in
+    let value : digits_value 10 (decimal n) ≡ n = (decimal_is_IsNumeral n (omega (arith, few))).1 in
+    let is : is_tick (decimal n) ≡ true =
+    and_from (is_number (decimal n)) (are_steps (digits_value 10 (decimal n))) (decimal-number n few) (ap (λ (m : ℕ). are_steps m) value ∙ h) in
+    ap (λ (r : Result (List ℕ) Refusal). r >>= λ word. if is_tick word then Ok (Tick (digits_value 10 word)) else Err BadLine) (number-only n few)
+    ∙ ap (λ (t : Bool). if t then Ok (Tick (digits_value 10 (decimal n))) else Err BadLine) is
+    ∙ ap (λ (m : ℕ). Ok (Tick m)) value
+
 pub put-words : (word : PathWord) (n : ℕ) → n < 10000000000 → put_words (path_part word ++ number_part n) ≡ Ok (word_text word, decimal n)
 unfolding put_words
 put-words word n few =
-    let is = decimal_is_IsNumeral n (omega (arith, few)) in
-    ap (λ (r : Result (List ℕ × List ℕ) Refusal). r >>= λ path. only_word path.1 >>= λ length. if is_length length then Ok (path.0, length) else Err BadLine)
+    ap (λ (r : Result (List ℕ × List ℕ) Refusal). r >>= λ path. only_word path.1 >>= λ length. if is_number length then Ok (path.0, length) else Err BadLine)
     (path-first word (number_part n) (space-ends (decimal n)))
-    ∙ ap (λ (r : Result (List ℕ) Refusal). r >>= λ length. if is_length length then Ok (word_text word, length) else Err BadLine)
-    (only-first (number_part n) (decimal n) (digits-first (decimal n) is.0.0 (digits-all (decimal n) is.0.1)))
-    ∙ ap (λ (t : Bool). if t then Ok (word_text word, decimal n) else Err BadLine) (number-length n few)
+    ∙ ap (λ (r : Result (List ℕ) Refusal). r >>= λ length. if is_number length then Ok (word_text word, length) else Err BadLine)
+    (number-only n few)
+    ∙ ap (λ (t : Bool). if t then Ok (word_text word, decimal n) else Err BadLine) (decimal-number n few)

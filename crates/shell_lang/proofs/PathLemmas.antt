@@ -8,7 +8,7 @@ use Rattle.std.proofs.lemmas.List.Folds.{list_all_at, list_all-append}
 use Rattle.std.proofs.lemmas.List.Splits.{slice_split_none, slice_split_at}
 use Rattle.std.proofs.lemmas.Bool.Decides.{nat_tests}
 use Rattle.hac_model.specs.Bytes.{is_backslash, is_line_end, is_quote, is_slash}
-use Rattle.hac_model.specs.Laws.{quoted_byte}
+use Rattle.hac_model.specs.Script.LineWords.{quoted_byte}
 use Rattle.hac_model.specs.Script.CommandTexts.{path_part, steps, word_text}
 use Rattle.hac_model.specs.Script.PathWords.{parts, is_part, is_long, is_bad, has_long_part, relative, at_root, before, untested_word, word_of}
 use Rattle.hac_model.specs.Tree.Names.{is_name, is_name_byte}

@@ -11,14 +11,14 @@ use Rattle.std.proofs.lemmas.Slice.Eq.{bytes_eq-Decides}
 use Rattle.std.proofs.lemmas.Str.Parse.{digit_from_value}
 use Rattle.hac_model.specs.Run.Answers.{◌>>=◌}
 use Rattle.hac_model.specs.Bytes.{is_backslash, is_quote}
-use Rattle.hac_model.specs.Laws.{quoted_byte}
+use Rattle.hac_model.specs.Script.LineWords.{quoted_byte}
 use Rattle.hac_model.specs.Script.LineWords.{in_front, is_word_end, quoted, quoted_word}
 use Rattle.hac_model.specs.Script.Lines.{is_put}
-use Rattle.hac_model.specs.Script.Puts.{is_length}
+use Rattle.hac_model.specs.Script.Numbers.{is_number}
 use Rattle.hac_model.specs.declared.replies.Refusal.TheVariants.{BadLine}
 use Rattle.hac_model.proofs.QuoteLemmas.{word-only}
 use Rattle.shell_lang.specs.RawWords.{IsRaw}
-use Rattle.shell_lang.proofs.LengthLemmas.{length-digits}
+use Rattle.shell_lang.proofs.NumberLemmas.{number-digits}
 use Rattle.shell_lang.proofs.QuoteLemmas.{quoted-closed}
 
 -- what follows a word that is read
@@ -128,15 +128,15 @@ digits-plain (c ∷ cs) h =
     let other : is_mark c ≡ false = grind (arith, nat_tests, range.0, range.1) in
     ap (λ (m : Bool). m || has_mark cs) other ∙ digits-plain cs h.1
 
-length-plain : (w : List ℕ) → is_length w ≡ true → has_mark w ≡ false
-length-plain w h = digits-plain w (length-digits w h).0
+number-plain : (w : List ℕ) → is_number w ≡ true → has_mark w ≡ false
+number-plain w h = digits-plain w (number-digits w h).0
 
 pub raw-put : (raw word : List ℕ) → IsRaw raw word → is_put raw ≡ is_put word
 raw-put raw word stands = raw-test is_put put-plain raw word stands
 
-pub raw-length : (raw word : List ℕ) → IsRaw raw word → is_length raw ≡ is_length word
-raw-length raw word stands = raw-test is_length length-plain raw word stands
+pub raw-is_number : (raw word : List ℕ) → IsRaw raw word → is_number raw ≡ is_number word
+raw-is_number raw word stands = raw-test is_number number-plain raw word stands
 
--- and a length is itself
-pub raw-number : (raw word : List ℕ) → IsRaw raw word → is_length raw ≡ true → raw ≡ word
-raw-number raw word stands is = raw-plain raw word stands (length-plain raw is)
+-- and a number is itself
+pub raw-number : (raw word : List ℕ) → IsRaw raw word → is_number raw ≡ true → raw ≡ word
+raw-number raw word stands is = raw-plain raw word stands (number-plain raw is)

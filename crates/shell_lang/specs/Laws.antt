@@ -15,9 +15,12 @@ IsGiven line = (bytes : List ℕ) × (taken : Option Taken) × (item_taken bytes
 
 -- a printed line is read as that line, and then the bytes behind it are
 abbrev pub PrintedLineIsRead : Type 0
-PrintedLineIsRead = (line : Line) (more : List ℕ) → IsGiven line → excess line.command ≡ None → script (command_text line ++ more) ≡ Ok line ∷ script more
+PrintedLineIsRead =
+    (line : Line) (more : List ℕ) → IsGiven line → excess line ≡ None →
+    script (command_text line ++ more) ≡ Ok line ∷ script more
 
 -- but where its text exceeds a limit it is refused for that one
 abbrev pub PrintedLineIsRefused : Type 0
 PrintedLineIsRefused =
-    (line : Line) (word : LimitWord) (more : List ℕ) → IsGiven line → excess line.command ≡ Some word → first_items (command_text line ++ more) ≡ Err (Limit word) ∷ []
+    (line : Line) (word : LimitWord) (more : List ℕ) → IsGiven line → excess line ≡ Some word →
+    first_items (command_text line ++ more) ≡ Err (Limit word) ∷ []

@@ -2,7 +2,7 @@
 use Rattle.std.specs.Prelude.{◌≡◌, ◌⊎◌, ℕ, List, Option, Some, None, Result, Ok, Err}
 use Rattle.std.specs.Borrow.{Bor}
 use Rattle.std.specs.List.{flat_map}
-use Rattle.hac_model.specs.Laws.{quoted_byte}
+use Rattle.hac_model.specs.Script.LineWords.{quoted_byte}
 use Rattle.hac_model.specs.declared.replies.Refusal.{Refusal}
 use Rattle.hac_model.specs.declared.replies.Refusal.TheVariants.{BadLine}
 

@@ -1,10 +1,10 @@
 //! Commands as the program prints them: lines that are read as the same commands.
 ghost use Rattle.std.specs.Prelude.{◌≡◌, ◌++◌, codes, length, IfOk, OnOk};
 ghost use Rattle.std.specs.List.{flat_map};
-ghost use Rattle.hac_model.specs.Laws.{quoted_byte};
+ghost use Rattle.hac_model.specs.Script.LineWords.{quoted_byte};
 ghost use Rattle.hac_model.specs.Script.CommandTexts.{command_text, line_text, maybe_part};
 ghost use Rattle.hac_model.specs.Script.CommandTexts.{number_part, path_part, put_bytes};
-ghost use Rattle.hac_model.specs.Script.CommandTexts.{query_part, quoted_part};
+ghost use Rattle.hac_model.specs.Script.CommandTexts.{query_part, quoted_part, session_text};
 
 use crate::printing::{push_bytes, push_number};
 use crate::queries::query_text;
@@ -12,16 +12,29 @@ use crate::word_texts::word_text;
 use hac_model::{Command, Line, Memory, PathWord, RawQuery};
 use std::alloc::Global;
 
-/// A command as a line that spells it, with the line's end and the bytes that belong to it: a text
-/// is that of a `put`. So far every line is of the session `main`.
+/// A session's command as a line that spells it, with the line's end and the bytes that belong to
+/// it: a text is that of a `put`.
 pub fn print_command(alloc: Global, line: &Line) -> Result<Vec<u8>, Memory>
     ensures { IfOk result (λ bytes. bytes.items ≡ command_text line.now) }
 {
     let mut out = Vec::new(alloc);
+    push_session(&mut out, line.session.as_bytes())?;
     push_command(alloc, &mut out, &line.command)?;
     out.push(b'\n')?;
     out.extend_from_slice(put_bytes(&line.command))?;
     Ok(out)
+}
+
+/// Appends how a line names its session.
+fn push_session(out: &mut Vec<u8>, name: &[u8]) -> Result<(), Memory>
+    ensures { OnOk result (out.new.items ≡ out.old.items ++ session_text name.now) }
+{
+    if name == b"main".as_slice() {
+        return Ok(());
+    }
+    push_bytes(out, b"@")?;
+    push_bytes(out, name)?;
+    push_bytes(out, b" ")
 }
 
 /// The bytes that belong to the line of a command.

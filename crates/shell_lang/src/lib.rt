@@ -4,16 +4,18 @@
 
 mod commands;
 pub mod laws;
+mod numbers;
 mod parsing;
 mod paths;
 mod printing;
 mod putting;
 mod queries;
 mod reading;
+mod sessions;
 mod shapes;
-mod tree_lines;
 mod word_texts;
 mod words;
+mod writing;
 
 pub use commands::print_command;
 pub use parsing::parse_line;

@@ -1,36 +1,47 @@
-//! A line's command. What a command does is not known here.
+//! A line's session and command. What a command does is not known here.
 ghost use Rattle.std.specs.Prelude.{IfOk, IsTrue};
 ghost use Rattle.hac_model.specs.Run.Answers.{Answers};
-ghost use Rattle.hac_model.specs.Script.Lines.{alone, called_with, command_with, is_spelled};
-ghost use Rattle.hac_model.specs.Script.Lines.{item_taken, named_command};
-ghost use Rattle.hac_model.specs.declared.commands.Command.TheVariants.{Index, Counts};
+ghost use Rattle.hac_model.specs.Script.Lines.{called_with, command_with, is_spelled_line};
+ghost use Rattle.hac_model.specs.Script.Lines.{item_taken, line_with, named_command};
 
+use crate::numbers::parse_tick;
 use crate::putting::{is_put, parse_put};
-use crate::shapes::{of_two_paths, one_path, parse_find, path_and_query};
-use crate::tree_lines::{parse_ls, parse_write};
-use crate::words::{is_blank, split_word};
+use crate::sessions::session_words;
+use crate::shapes::{alone, maybe_path, of_two_paths, one_path, parse_find, path_and_query};
+use crate::words::split_word;
+use crate::writing::parse_write;
 use hac_model::{Command, Deny, LINE_LIMIT, LimitWord, Line, Name, Refusal, Taken};
 use std::alloc::Global;
 
-/// The command that a line spells, or the first refusal of its spelling. `taken` is what came of
+/// The session and the command that a line spells, or the first refusal of its spelling. `taken` is what came of
 /// the bytes behind the line, where it asks for any.
 pub fn parse_line(alloc: Global, line: &[u8], taken: Option<Taken>) -> Result<Line, Deny>
     ensures line { Answers result (item_taken line.now taken) }
-    ensures spelled { IfOk result (λ line. IsTrue (is_spelled line.command)) }
+    ensures spelled { IfOk result (λ line. IsTrue (is_spelled_line line)) }
 {
     if line.len() > LINE_LIMIT {
         return Err(Deny::Refused(Refusal::Limit(LimitWord::Line)));
     }
-    let session = Name::new(Vec::from_slice(alloc, b"main")?);
-    let command = parse_with(alloc, line, taken)?;
+    line_with(alloc, line, taken)
+}
+
+/// The same of a line of any length.
+fn line_with(alloc: Global, line: &[u8], taken: Option<Taken>) -> Result<Line, Deny>
+    ensures { Answers result (line_with line.now taken) }
+{
+    let Some((name, bytes)) = session_words(line) else {
+        return Err(Deny::Refused(Refusal::BadLine));
+    };
+    let session = Name::new(Vec::from_slice(alloc, name)?);
+    let command = parse_with(alloc, bytes, taken)?;
     Ok(Line { session, command })
 }
 
-/// The command that a line of any length spells, given what came of the bytes behind it.
-fn parse_with(alloc: Global, line: &[u8], taken: Option<Taken>) -> Result<Command, Deny>
-    ensures { Answers result (command_with line.now taken) }
+/// The command that the bytes behind a session spell, given what came of the bytes behind the line.
+fn parse_with(alloc: Global, bytes: &[u8], taken: Option<Taken>) -> Result<Command, Deny>
+    ensures { Answers result (command_with bytes.now taken) }
 {
-    let (name, arguments) = split_word(alloc, line)?;
+    let (name, arguments) = split_word(alloc, bytes)?;
     parse_called(alloc, &name, arguments, taken)
 }
 
@@ -63,7 +74,11 @@ fn parse_named(alloc: Global, name: &[u8], arguments: &[u8]) -> Result<Command, 
     } else if name == b"cat".as_slice() {
         one_path(alloc, arguments, |path| Command::Cat { path })
     } else if name == b"ls".as_slice() {
-        parse_ls(alloc, arguments)
+        maybe_path(alloc, arguments, |path| Command::Ls { path })
+    } else if name == b"cd".as_slice() {
+        maybe_path(alloc, arguments, |path| Command::Cd { path })
+    } else if name == b"pwd".as_slice() {
+        alone(arguments, Command::Pwd)
     } else if name == b"mv".as_slice() {
         of_two_paths(alloc, arguments, |from, to| Command::Mv { from, to })
     } else if name == b"rm".as_slice() {
@@ -85,7 +100,7 @@ fn parse_named(alloc: Global, name: &[u8], arguments: &[u8]) -> Result<Command, 
     } else if name == b"query".as_slice() {
         one_path(alloc, arguments, |path| Command::Query { path })
     } else if name == b"sls".as_slice() {
-        one_path(alloc, arguments, |path| Command::Sls { path: Some(path) })
+        maybe_path(alloc, arguments, |path| Command::Sls { path })
     } else if name == b"sln".as_slice() {
         of_two_paths(alloc, arguments, |item, dir| Command::Sln { item, dir })
     } else if name == b"srm".as_slice() {
@@ -95,33 +110,11 @@ fn parse_named(alloc: Global, name: &[u8], arguments: &[u8]) -> Result<Command, 
     } else if name == b"find".as_slice() {
         parse_find(alloc, arguments)
     } else if name == b"index".as_slice() {
-        parse_index(arguments)
+        alone(arguments, Command::Index)
+    } else if name == b"tick".as_slice() {
+        parse_tick(alloc, arguments)
     } else if name == b"counts".as_slice() {
-        parse_counts(arguments)
-    } else {
-        Err(Deny::Refused(Refusal::BadLine))
-    }
-}
-
-/// `index`, from what follows it.
-#[tactic(auto, unfolding(hac_model::specs::Script::Lines::alone))]
-fn parse_index(arguments: &[u8]) -> Result<Command, Deny>
-    ensures { Answers result (alone Index arguments.now) }
-{
-    if is_blank(arguments) {
-        Ok(Command::Index)
-    } else {
-        Err(Deny::Refused(Refusal::BadLine))
-    }
-}
-
-/// `counts`, from what follows it.
-#[tactic(auto, unfolding(hac_model::specs::Script::Lines::alone))]
-fn parse_counts(arguments: &[u8]) -> Result<Command, Deny>
-    ensures { Answers result (alone Counts arguments.now) }
-{
-    if is_blank(arguments) {
-        Ok(Command::Counts)
+        alone(arguments, Command::Counts)
     } else {
         Err(Deny::Refused(Refusal::BadLine))
     }

@@ -1,17 +1,16 @@
 //! The line of a `put`, and the command that it spells, given what came of the bytes behind it.
-ghost use Rattle.std.specs.Prelude.{◌≡◌, codes, true, if◌then◌else◌, Some, None, IfOk};
-ghost use Rattle.std.specs.Char.{is_ascii_digit};
-ghost use Rattle.std.specs.List.{list_all};
+ghost use Rattle.std.specs.Prelude.{◌≡◌, codes, true, IfOk};
 ghost use Rattle.std.specs.Str.{bytes_eq};
-ghost use Rattle.std.specs.Str.Parse.{digits_value};
 ghost use Rattle.hac_model.specs.Run.Answers.{Answers, AnswersSeen};
 ghost use Rattle.hac_model.specs.Script.Lines.{asked, is_put, put_at, put_length, put_of};
 ghost use Rattle.hac_model.specs.Script.Lines.{put_words};
-ghost use Rattle.hac_model.specs.Script.Puts.{is_length};
+ghost use Rattle.hac_model.specs.Script.Numbers.{is_number};
 
+use crate::numbers::{is_number, number_of};
 use crate::paths::parse_path;
-use crate::tree_lines::limited_text;
+use crate::sessions::session_words;
 use crate::words::{is_blank, only_word, raw_word, split_word};
+use crate::writing::limited_text;
 use hac_model::{Command, Deny, LimitWord, Refusal, Taken};
 use std::alloc::Global;
 
@@ -20,7 +19,8 @@ use std::alloc::Global;
 pub fn put_length(line: &[u8]) -> Option<u64>
     ensures { result ≡ put_length line.now }
 {
-    let (name, arguments) = raw_word(line)?;
+    let (_, bytes) = session_words(line)?;
+    let (name, arguments) = raw_word(bytes)?;
     if !is_put(name) {
         return None;
     }
@@ -36,17 +36,7 @@ fn asked(arguments: &[u8]) -> Option<u64>
     if !is_blank(behind) {
         return None;
     }
-    length_of(length)
-}
-
-/// The number of a word that is a length.
-fn length_of(word: &[u8]) -> Option<u64>
-    ensures { result ≡ (if is_length word.now then Some (digits_value 10 word.now) else None) }
-{
-    if !is_length(word) {
-        return None;
-    }
-    Some(number(word))
+    number_of(length)
 }
 
 /// Whether the word is the name of the command.
@@ -61,11 +51,11 @@ pub fn is_put(name: &[u8]) -> bool
 fn put_words(alloc: Global, arguments: &[u8]) -> Result<(Vec<u8>, Vec<u8>), Deny>
     ensures words { AnswersSeen (λ words. (words.0.items, words.1.items)) result
         (put_words arguments.now) }
-    ensures length { IfOk result (λ words. is_length words.1.items ≡ true) }
+    ensures length { IfOk result (λ words. is_number words.1.items ≡ true) }
 {
     let (path, rest) = split_word(alloc, arguments)?;
     let length = only_word(alloc, rest)?;
-    if !is_length(&length) {
+    if !is_number(&length) {
         return Err(Deny::Refused(Refusal::BadLine));
     }
     Ok((path, length))
@@ -94,33 +84,4 @@ fn put_at(alloc: Global, word: &[u8], taken: Option<Taken>) -> Result<Command, D
         }
         Some(Taken::Short) | None => Err(Deny::Refused(Refusal::ShortPut)),
     }
-}
-
-/// Whether the word is `0`, or 1 to 10 digits of which the first is no zero.
-fn is_length(word: &[u8]) -> bool
-    ensures { result ≡ is_length word.now }
-{
-    match word {
-        b"0" => true,
-        [b'0', ..] => false,
-        _ => (1..=10).contains(&word.len()) && are_digits(word),
-    }
-}
-
-fn are_digits(word: &[u8]) -> bool
-    ensures { result ≡ list_all is_ascii_digit word.now }
-{
-    word.iter().all(|byte| byte.is_ascii_digit())
-}
-
-/// The number that the digits of a length write.
-fn number(digits: &[u8]) -> u64
-    requires { is_length digits.now ≡ true }
-    ensures { result ≡ digits_value 10 digits.now }
-{
-    let mut number = 0;
-    'digits: for digit in digits {
-        number = number * 10 + u64::from(*digit - b'0');
-    }
-    number
 }

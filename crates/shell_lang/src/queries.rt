@@ -6,7 +6,8 @@ ghost use Rattle.hac_model.specs.Query.QueryText.{named_by};
 ghost use Rattle.hac_model.specs.Script.CommandTexts.{word_text};
 
 use crate::word_texts::word_text;
-use hac_model::{Memory, Node, PathWord, RawQuery, Term};
+use hac_model::{Memory, Node, PathWord, RawQuery};
+use query_text::{around, braced, joined, term_text};
 use std::alloc::Global;
 
 /// The text of a query. It goes down as deep as the query does.
@@ -58,55 +59,9 @@ fn is_joined(query: &RawQuery) -> bool
     }
 }
 
-/// The bytes, in parentheses where they are needed.
-fn around(alloc: Global, needed: bool, bytes: Vec<u8>) -> Result<Vec<u8>, Memory>
-    ensures { IfOk result (λ all. all.items ≡ text.around needed bytes.items) }
-{
-    if needed {
-        joined(alloc, b"(", &bytes, b")")
-    } else {
-        Ok(bytes)
-    }
-}
-
-fn term_text(alloc: Global, term: &Term) -> Result<Vec<u8>, Memory>
-    ensures { IfOk result (λ bytes. bytes.items ≡ text.term_text term.now) }
-{
-    match term {
-        Term::Word(letters) => Ok(letters.as_bytes().to_vec(alloc)?),
-        Term::Prefix(letters) => joined(alloc, letters.as_bytes(), b"*", b""),
-    }
-}
-
 fn dir_text(alloc: Global, word: &PathWord) -> Result<Vec<u8>, Memory>
     ensures { IfOk result (λ bytes. bytes.items ≡ codes "{" ++
         (escaped (word_text word.now) ++ codes "}")) }
 {
-    let printed = word_text(alloc, word)?;
-    let spelled = escaped(alloc, printed.as_bytes())?;
-    joined(alloc, b"{", &spelled, b"}")
-}
-
-/// The bytes of a path as they are written between braces.
-fn escaped(alloc: Global, path: &[u8]) -> Result<Vec<u8>, Memory>
-    ensures { IfOk result (λ spelled. spelled.items ≡ escaped path.now) }
-{
-    let mut spelled = Vec::new(alloc);
-    for byte in path {
-        if *byte == b'}' || *byte == b'\\' {
-            spelled.push(b'\\')?;
-        }
-        spelled.push(*byte)?;
-    }
-    Ok(spelled)
-}
-
-/// Three runs of bytes, one after the other.
-fn joined(alloc: Global, first: &[u8], second: &[u8], third: &[u8]) -> Result<Vec<u8>, Memory>
-    ensures { IfOk result (λ all. all.items ≡ first.now ++ (second.now ++ third.now)) }
-{
-    let mut all = first.to_vec(alloc)?;
-    all.extend_from_slice(second)?;
-    all.extend_from_slice(third)?;
-    Ok(all)
+    braced(alloc, word_text(alloc, word)?.as_bytes())
 }

@@ -1,14 +1,15 @@
 //! Commands from what follows their names, by its shape.
-ghost use Rattle.std.specs.Prelude.{◌≡◌};
+ghost use Rattle.std.specs.Prelude.{◌≡◌, Option};
 ghost use Rattle.hac_model.specs.Run.Answers.{Answers};
 ghost use Rattle.hac_model.specs.Query.Formula.{Formula};
-ghost use Rattle.hac_model.specs.Script.Lines.{find_of, of_two_paths, one_path, path_and_query};
+ghost use Rattle.hac_model.specs.Script.Lines.{alone, find_of, maybe_path, of_two_paths, one_path};
+ghost use Rattle.hac_model.specs.Script.Lines.{path_and_query};
 ghost use Rattle.hac_model.specs.Query.QueryReading.{read_query};
 ghost use Rattle.hac_model.specs.declared.commands.Command.{Command};
 ghost use Rattle.hac_model.specs.declared.paths.PathWord.{PathWord};
 
 use crate::paths::{only_path, parse_path, two_paths};
-use crate::words::{only_word, skip_one, split_word};
+use crate::words::{is_blank, only_word, skip_one, split_word};
 use hac_model::{Command, Deny, PathWord, RawQuery, Refusal};
 use query_text::{QueryFault, parse};
 use std::alloc::Global;
@@ -27,6 +28,25 @@ pub fn one_path<F: FnOnce(PathWord) -> Command>(
 {
     let path = only_path(alloc, arguments)?;
     Ok(command(path))
+}
+
+/// The command of one path word or of none.
+#[tactic(auto, unfolding(hac_model::specs::Script::Lines::maybe_path, hac_model::specs::Script::Lines::one_path))]
+pub fn maybe_path<F: FnOnce(Option<PathWord>) -> Command>(
+    alloc: Global,
+    arguments: &[u8],
+    command: F,
+) -> Result<Command, Deny>
+    requires { F.IsAlwaysCallable command }
+    ensures { (spelled : Option PathWord → Command) → ((path : Option PathWord)
+        (made : Command) → F.post command path made → made ≡ spelled path)
+        → Answers result (maybe_path spelled arguments.now) }
+{
+    if is_blank(arguments) {
+        return Ok(command(None));
+    }
+    let path = only_path(alloc, arguments)?;
+    Ok(command(Some(path)))
 }
 
 /// The command of two path words, of which a bad one counts before one with a long name.
@@ -65,6 +85,18 @@ pub fn path_and_query<F: FnOnce(PathWord, RawQuery) -> Command>(
     let path = parse_path(alloc, &word)?;
     let query = spelled_query(alloc, skip_one(rest))?;
     Ok(command(path, query))
+}
+
+/// The command that is its name alone.
+#[tactic(auto, unfolding(hac_model::specs::Script::Lines::alone))]
+pub fn alone(arguments: &[u8], command: Command) -> Result<Command, Deny>
+    ensures { Answers result (alone command arguments.now) }
+{
+    if is_blank(arguments) {
+        return Ok(command);
+    }
+    drop(command);
+    Err(Deny::Refused(Refusal::BadLine))
 }
 
 /// `find QUERY`, from what follows `find`.

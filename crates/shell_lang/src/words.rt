@@ -186,7 +186,7 @@ pub fn is_blank(bytes: &[u8]) -> bool
 }
 
 /// The bytes from the first one on that is no space.
-fn skip_spaces(bytes: &[u8]) -> &[u8]
+pub fn skip_spaces(bytes: &[u8]) -> &[u8]
     ensures { result.now ≡ skip_spaces bytes.now }
 {
     &bytes[space_count(bytes)..]

@@ -1,8 +1,8 @@
-//! The text of a file, and the entries of a directory.
+//! The text of a file, and the entries and the path of a directory.
 ghost use Rattle.std.specs.Prelude.{◌≡◌, ◌∷◌, [], IfOk, IsSome, Some, map};
 ghost use Rattle.std.specs.Option.{option_map};
 ghost use Rattle.hac_model.specs.Tree.Listing.{children, entry_line, letter};
-ghost use Rattle.hac_model.specs.Run.Play.{text_line, text_lines};
+ghost use Rattle.hac_model.specs.Run.Play.{path_line, text_line, text_lines};
 ghost use Rattle.hac_model.specs.Tree.{entry_at};
 ghost use Rattle.hac_model.specs.declared.states.Body.{Body};
 ghost use Rattle.file_tree.specs.Answers.{entry_kind};
@@ -10,7 +10,7 @@ ghost use Rattle.file_tree.specs.Answers.{entry_kind};
 use crate::lookups::text_of;
 use file_tree::{EntryKind, Tree};
 use hac_model::{Memory, Name, Number};
-use hac_names::print_text;
+use hac_names::{print_path, print_text};
 use kept_state::KeptState;
 use std::alloc::Global;
 
@@ -32,6 +32,17 @@ fn text_line(alloc: Global, text: &[u8]) -> Result<Name, Memory>
     let mut line = Vec::from_slice(alloc, b"= ")?;
     line.extend_from_slice(print_text(alloc, text)?.as_slice())?;
     Ok(Name::new(line))
+}
+
+/// The path of a directory.
+pub fn path_lines(alloc: Global, kept: &KeptState, dir: Number) -> Result<Vec<Name>, Memory>
+    ensures { IfOk result (λ lines. lines.items ≡ path_line kept.now.state dir ∷ []) }
+{
+    let mut line = Vec::from_slice(alloc, b"= ")?;
+    line.extend_from_slice(print_path(alloc, &kept.path_of(dir)?)?.as_bytes())?;
+    let mut lines = Vec::new(alloc);
+    lines.push(Name::new(line))?;
+    Ok(lines)
 }
 
 /// The entries of a directory, in byte order of names.

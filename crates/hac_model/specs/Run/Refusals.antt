@@ -1,5 +1,5 @@
 -- Why a state refuses a command: the first cause of the one order.
-use Rattle.std.specs.Prelude.{ℕ, ◌==◌, ◌||◌, if◌then◌else◌, List, [], ◌∷◌, map, replicate, Option, None, Some, Result, Ok, Err, option_and_then}
+use Rattle.std.specs.Prelude.{ℕ, ◌==◌, ◌||◌, if◌then◌else◌, List, [], ◌∷◌, map, min, replicate, Option, None, Some, Result, Ok, Err, option_and_then}
 use Rattle.std.specs.Option.{option_map, option_map_or}
 use Rattle.hac_model.specs.Run.Answers.{first_cause}
 use Rattle.hac_model.specs.Run.Given.{no_answers}
@@ -9,19 +9,21 @@ use Rattle.hac_model.specs.Tree.Limits.{answer_limits, counts, first_passed, lay
 use Rattle.hac_model.specs.Tree.Links.{has, is_permanent, is_prohibited, is_semantic, links, parent_of}
 use Rattle.hac_model.specs.Tree.Listing.{is_before}
 use Rattle.hac_model.specs.Tree.Paths.{path_text}
+use Rattle.hac_model.specs.Tree.Sessions.{are_few, least_name, sessions_with, visitors}
 use Rattle.hac_model.specs.Run.Resolving.{resolve}
 use Rattle.hac_model.specs.Tree.{is_directory_at, path_of}
 use Rattle.hac_model.specs.declared.commands.Line.{Line}
 use Rattle.hac_model.specs.declared.events.Event.{Event}
 use Rattle.hac_model.specs.declared.events.Event.TheVariants as event
+use Rattle.hac_model.specs.declared.limits.LimitWord.TheVariants.{Sessions}
 use Rattle.hac_model.specs.declared.marks.Kind.{Kind}
 use Rattle.hac_model.specs.declared.marks.Kind.TheVariants.{Permanent, Prohibited, Unlinked}
 use Rattle.hac_model.specs.declared.places.Place.{Place}
 use Rattle.hac_model.specs.declared.places.Place.TheVariants.{There, Free}
 use Rattle.hac_model.specs.declared.replies.Refusal.{Refusal}
-use Rattle.hac_model.specs.declared.replies.Refusal.TheVariants.{NotFile, Exists, NotEmpty, Under, Root, Cycle, Referenced, NotSemantic, NotLinked, Already, NoMark, Limit}
+use Rattle.hac_model.specs.declared.replies.Refusal.TheVariants.{NotFile, Exists, NotEmpty, Under, Root, Cycle, Referenced, Busy, NotSemantic, NotLinked, Already, NoMark, Limit}
 use Rattle.hac_model.specs.declared.resolved.Resolved.{Resolved}
-use Rattle.hac_model.specs.declared.resolved.Resolved.TheVariants.{Mkdir, Rmdir, Write, Cat, Ls, Mv, Rm, Smkdir, Setq, Unq, Query, Sls, Sln, Srm, Sforget, Find, Index, Counts}
+use Rattle.hac_model.specs.declared.resolved.Resolved.TheVariants.{Mkdir, Rmdir, Write, Cat, Ls, Cd, Pwd, Mv, Rm, Smkdir, Setq, Unq, Query, Sls, Sln, Srm, Sforget, Find, Index, Tick, Counts}
 use Rattle.hac_model.specs.declared.spaces.Answers.{Answers}
 use Rattle.hac_model.specs.declared.states.State.{State}
 
@@ -69,6 +71,14 @@ least_path (path ∷ paths) = Some (option_map_or (lesser_path path) (least_path
 abbrev pub referenced_cause : State → ℕ → Option Refusal
 referenced_cause s dir = option_map Referenced (least_path (map (λ entry. path_of s entry.number) (referrers s dir)))
 
+-- a session stands in the directory to be removed: the least of the names of those that do
+abbrev pub busy_cause : State → ℕ → Option Refusal
+busy_cause s dir = option_map Busy (least_name (visitors s.sessions dir))
+
+-- too many sessions would stand elsewhere than in the root
+abbrev pub session_cause : State → List ℕ → ℕ → Option Refusal
+session_cause s session dir = if are_few (sessions_with session dir s.sessions) then None else Some (Limit Sessions)
+
 -- an item to be added is already a permanent link
 abbrev pub already_cause : State → ℕ → ℕ → Option Refusal
 already_cause s item dir = if is_permanent s dir item then Some (Already (path_of s item)) else None
@@ -84,10 +94,12 @@ unmarked_cause s item dir = if is_permanent s dir item || is_prohibited s dir it
 -- what blocks a command whose paths were followed
 abbrev pub blocking_cause : State → Resolved → Option Refusal
 blocking_cause s (Mkdir place) = taken_cause s place
-blocking_cause s (Rmdir dir) = first_cause (root_cause dir ∷ filled_cause s dir ∷ referenced_cause s dir ∷ [])
+blocking_cause s (Rmdir dir) = first_cause (root_cause dir ∷ filled_cause s dir ∷ referenced_cause s dir ∷ busy_cause s dir ∷ [])
 blocking_cause s (Write place text) = written_cause s place
 blocking_cause s (Cat entry) = directory_cause s entry
 blocking_cause s (Ls dir) = None
+blocking_cause s (Cd session dir) = session_cause s session dir
+blocking_cause s (Pwd dir) = None
 blocking_cause s (Mv entry place) = first_cause (root_cause entry ∷ taken_cause s place ∷ under_cause s entry place ∷ [])
 blocking_cause s (Rm entry) = first_cause (root_cause entry ∷ directory_cause s entry ∷ [])
 blocking_cause s (Smkdir place query) = taken_cause s place
@@ -100,6 +112,7 @@ blocking_cause s (Srm item dir) = first_cause (directory_cause s item ∷ plain_
 blocking_cause s (Sforget item dir) = first_cause (directory_cause s item ∷ plain_cause s dir ∷ unmarked_cause s item dir ∷ [])
 blocking_cause s (Find query) = None
 blocking_cause s Index = None
+blocking_cause s (Tick steps) = None
 blocking_cause s Counts = None
 
 -- something is created where nothing is
@@ -121,6 +134,7 @@ abbrev pub event_of : Resolved → Option Event
 event_of (Mkdir place) = makes place event.Mkdir
 event_of (Rmdir dir) = Some (event.Rmdir dir)
 event_of (Write place text) = Some (writes place text)
+event_of (Cd session dir) = Some (event.Cd session dir)
 event_of (Mv entry place) = makes place (event.Mv entry)
 event_of (Rm entry) = Some (event.Rm entry)
 event_of (Smkdir place query) = makes place (λ dir name. event.Smkdir dir name query [])
@@ -131,9 +145,10 @@ event_of (Srm item dir) = Some (marks item dir Prohibited)
 event_of (Sforget item dir) = Some (marks item dir Unlinked)
 event_of other = None
 
--- all its events, given what spaces answer: `index` is as many steps as there are dirty files
+-- all its events, given what spaces answer: `index` is as many steps as there are dirty files, `tick` no more than that
 abbrev pub events_of : Answers → State → Resolved → List Event
 events_of answers s Index = replicate (dirty s) event.Step
+events_of answers s (Tick steps) = replicate (min steps (dirty s)) event.Step
 events_of answers s command = option_map_or (λ event. event ∷ []) (event_of command) []
 
 -- the state that a command would lead to

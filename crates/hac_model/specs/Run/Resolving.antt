@@ -1,5 +1,5 @@
 -- What the paths of a command lead to, from left to right, the directories of its query last.
-use Rattle.std.specs.Prelude.{ℕ, if◌then◌else◌, [], ◌∷◌, ◌++◌, Option, Result, Ok, Err}
+use Rattle.std.specs.Prelude.{ℕ, if◌then◌else◌, List, [], ◌∷◌, ◌++◌, Option, Result, Ok, Err}
 use Rattle.std.specs.Option.{option_map_or}
 use Rattle.hac_model.specs.Run.Answers.{◌>>=◌}
 use Rattle.hac_model.specs.Query.Formula.{Formula}
@@ -17,7 +17,7 @@ use Rattle.hac_model.specs.declared.places.Place.TheVariants.{There, Free}
 use Rattle.hac_model.specs.declared.replies.Refusal.{Refusal}
 use Rattle.hac_model.specs.declared.replies.Refusal.TheVariants.{BadLine, NoPath, NotDir}
 use Rattle.hac_model.specs.declared.resolved.Resolved.{Resolved}
-use Rattle.hac_model.specs.declared.resolved.Resolved.TheVariants.{Mkdir, Rmdir, Write, Cat, Ls, Mv, Rm, Smkdir, Setq, Unq, Query, Sls, Sln, Srm, Sforget, Find, Index, Counts}
+use Rattle.hac_model.specs.declared.resolved.Resolved.TheVariants.{Mkdir, Rmdir, Write, Cat, Ls, Cd, Pwd, Mv, Rm, Smkdir, Setq, Unq, Query, Sls, Sln, Srm, Sforget, Find, Index, Tick, Counts}
 use Rattle.hac_model.specs.declared.states.State.{State}
 
 -- where a path word leads from a directory: to an entry or a vacancy
@@ -49,6 +49,10 @@ directory s base word = do
 abbrev pub listed_directory : State → ℕ → Option PathWord → Result ℕ Refusal
 listed_directory s base word = option_map_or (directory s base) word (Ok base)
 
+-- the directory to which a path word leads, the root if none is given
+abbrev pub directory_or_root : State → ℕ → Option PathWord → Result ℕ Refusal
+directory_or_root s base word = option_map_or (directory s base) word (Ok 0)
+
 -- the query with each directory by its number
 abbrev pub numbered_query : State → ℕ → Formula PathWord → Result (Formula ℕ) Refusal
 numbered_query s base (query.Term term) = Ok (query.Term term)
@@ -74,7 +78,8 @@ item_and_dir make s base item dir = do
   second ← directory s base dir
   Ok (make first second)
 
--- the command with what its paths lead to from a directory, or the first cause against it that lies in them
+-- the command with what its paths lead to from a directory, or the first cause against it that lies in them. A `cd` is
+-- nothing without its session.
 abbrev pub resolved : State → ℕ → Command → Result Resolved Refusal
 resolved s base (command.Mkdir path) = do
   found ← place s base path
@@ -91,6 +96,7 @@ resolved s base (command.Cat path) = do
 resolved s base (command.Ls path) = do
   dir ← listed_directory s base path
   Ok (Ls dir)
+resolved s base command.Pwd = Ok (Pwd base)
 resolved s base (command.Mv from to) = do
   number ← entry s base from
   found ← place s base to
@@ -122,9 +128,17 @@ resolved s base (command.Find raw) = do
   asked ← numbered_query s base raw
   Ok (Find asked)
 resolved s base command.Index = Ok Index
+resolved s base (command.Tick steps) = Ok (Tick steps)
 resolved s base command.Counts = Ok Counts
 resolved s base other = Err BadLine
 
+-- the same for a session's command
+abbrev pub resolved_for : State → List ℕ → ℕ → Command → Result Resolved Refusal
+resolved_for s session base (command.Cd path) = do
+  dir ← directory_or_root s base path
+  Ok (Cd session dir)
+resolved_for s session base other = resolved s base other
+
 -- what a line asks for: its paths go on from where its session stands
 abbrev pub resolve : State → Line → Result Resolved Refusal
-resolve s line = resolved s (stands_in s.sessions line.session) line.command
+resolve s line = resolved_for s line.session (stands_in s.sessions line.session) line.command

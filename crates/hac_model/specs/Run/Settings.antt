@@ -2,6 +2,7 @@
 use Rattle.std.specs.Prelude.{ℕ, ◌+◌, nat_lt, Bool, true, List, [], ◌∷◌, length}
 use Rattle.hac_model.specs.Tree.Events.{apply_all}
 use Rattle.hac_model.specs.Payload.Payloads.{event_text}
+use Rattle.hac_model.specs.Tree.Sessions.{stored}
 use Rattle.hac_model.specs.Tree.{empty}
 use Rattle.hac_model.specs.declared.events.Event.{Event}
 use Rattle.hac_model.specs.declared.limits.TheConstants.{STORE_LIMIT}
@@ -18,6 +19,10 @@ pub record Setting : Type 0 where
 -- a new store holds the root alone
 abbrev pub new_setting : Setting
 new_setting = record { state = empty; start = 64; end = 64; generation = 1 }
+
+-- what is stored of it: no session
+abbrev pub stored_setting : Setting → Setting
+stored_setting setting = record setting { state = stored setting.state }
 
 -- where a log that ends here ends once it holds the records of events too: of each a gate, the payload's length in four
 -- bytes, the payload

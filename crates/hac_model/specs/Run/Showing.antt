@@ -73,10 +73,15 @@ text_line text = codes "= " ++ escaped_text text
 abbrev pub text_lines : State → ℕ → List (List ℕ)
 text_lines s number = option_map_or (λ text. text_line text ∷ []) (option_and_then text_in (body_at s.entries number)) []
 
+-- the path of a directory, as `pwd` prints it
+abbrev pub path_line : State → ℕ → List ℕ
+path_line s dir = codes "= " ++ path_text (path_of s dir)
+
 -- the data lines of an accepted command, given what spaces answer: only one that reads has any
 abbrev pub data_lines : Answers → State → Resolved → List (List ℕ)
 data_lines answers s (command.Cat entry) = text_lines s entry
 data_lines answers s (command.Ls dir) = map entry_line (children s dir)
+data_lines answers s (command.Pwd dir) = path_line s dir ∷ []
 data_lines answers s (command.Query dir) = query_lines s dir
 data_lines answers s (command.Sls dir) = link_lines s dir
 data_lines answers s (command.Find query) = map (found_line s) (found_by s query)

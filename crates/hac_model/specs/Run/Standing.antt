@@ -2,11 +2,12 @@
 use Rattle.std.specs.Prelude.{⊤, ℕ, IsTrue}
 use Rattle.hac_model.specs.Tree.Events.{is_free, may_ask}
 use Rattle.hac_model.specs.Tree.Limits.{is_text}
+use Rattle.hac_model.specs.Script.SpaceNames.{is_space_name}
 use Rattle.hac_model.specs.Tree.{is_directory_at, is_live}
 use Rattle.hac_model.specs.declared.places.Place.{Place}
 use Rattle.hac_model.specs.declared.places.Place.TheVariants.{There, Free}
 use Rattle.hac_model.specs.declared.resolved.Resolved.{Resolved}
-use Rattle.hac_model.specs.declared.resolved.Resolved.TheVariants.{Mkdir, Rmdir, Write, Cat, Ls, Mv, Rm, Smkdir, Setq, Unq, Query, Sls, Sln, Srm, Sforget, Find, Index, Counts}
+use Rattle.hac_model.specs.declared.resolved.Resolved.TheVariants.{Mkdir, Rmdir, Write, Cat, Ls, Cd, Pwd, Mv, Rm, Smkdir, Setq, Unq, Query, Sls, Sln, Srm, Sforget, Find, Index, Tick, Counts}
 use Rattle.hac_model.specs.declared.states.State.{State}
 
 -- the entry or the root that was found is in the state, or the directory has room for the name
@@ -18,13 +19,16 @@ StandsAt s (Free dir name) = IsTrue (is_free s dir name)
 abbrev pub AreThere : State → ℕ → ℕ → Type 0
 AreThere s item dir = IsTrue (is_live s.entries item) × IsTrue (is_directory_at s.entries dir)
 
--- all that the command refers to is in the state, and its text and its query are as large as they may be
+-- all that the command refers to is in the state, its text and its query are as large as they may be, and its session
+-- may have its name
 abbrev pub AllStand : State → Resolved → Type 0
 AllStand s (Mkdir place) = StandsAt s place
 AllStand s (Rmdir dir) = IsTrue (is_directory_at s.entries dir)
 AllStand s (Write place text) = StandsAt s place × IsTrue (is_text text)
 AllStand s (Cat entry) = IsTrue (is_live s.entries entry)
 AllStand s (Ls dir) = IsTrue (is_directory_at s.entries dir)
+AllStand s (Cd session dir) = IsTrue (is_space_name session) × IsTrue (is_directory_at s.entries dir)
+AllStand s (Pwd dir) = IsTrue (is_directory_at s.entries dir)
 AllStand s (Mv entry place) = IsTrue (is_live s.entries entry) × StandsAt s place
 AllStand s (Rm entry) = IsTrue (is_live s.entries entry)
 AllStand s (Smkdir place query) = StandsAt s place × IsTrue (may_ask s query)
@@ -37,4 +41,5 @@ AllStand s (Srm item dir) = AreThere s item dir
 AllStand s (Sforget item dir) = AreThere s item dir
 AllStand s (Find query) = IsTrue (may_ask s query)
 AllStand s Index = ⊤
+AllStand s (Tick steps) = ⊤
 AllStand s Counts = ⊤

@@ -2,10 +2,12 @@
 use Rattle.std.specs.Prelude.{ℕ, if◌then◌else◌, List, [], ◌++◌, length, replicate, codes, decimal, Option}
 use Rattle.std.specs.List.{flat_map}
 use Rattle.std.specs.Option.{option_map_or}
-use Rattle.hac_model.specs.Laws.{in_quotes}
+use Rattle.std.specs.Str.{bytes_eq}
+use Rattle.hac_model.specs.Script.LineWords.{in_quotes}
 use Rattle.hac_model.specs.Query.Formula.{Formula}
 use Rattle.hac_model.specs.Query.QueryText.{named_by, query_text}
 use Rattle.hac_model.specs.Script.Printed.{ended}
+use Rattle.hac_model.specs.Script.SessionWords.{main_session}
 use Rattle.hac_model.specs.Tree.Paths.{path_text, slashed}
 use Rattle.hac_model.specs.declared.commands.Command.{Command}
 use Rattle.hac_model.specs.declared.commands.Command.TheVariants.{Mkdir, Rmdir, Write, Cat, Ls, Cd, Pwd, Mv, Rm, Ln, Readlink, Smkdir, Setq, Unq, Query, Sls, Sln, Srm, Sforget, Find, Smount, Ssync, Sumount, Index, Tick, Counts, Checkpoint}
@@ -40,7 +42,7 @@ number_part number = codes " " ++ decimal number
 abbrev pub query_part : Formula PathWord → List ℕ
 query_part query = codes " " ++ query_text (named_by word_text query)
 
--- the line of a command, without its end. A text is that of a `put`, so its bytes stand behind the line.
+-- the command on its line. A text is that of a `put`, so its bytes stand behind the line.
 abbrev pub line_text : Command → List ℕ
 line_text (Mkdir path) = codes "mkdir" ++ path_part path
 line_text (Rmdir path) = codes "rmdir" ++ path_part path
@@ -75,6 +77,14 @@ abbrev pub put_bytes : Command → List ℕ
 put_bytes (Write path text) = text
 put_bytes other = []
 
--- a line with its end and the bytes that belong to it. So far every line is of the session `main`, which isn't named.
+-- how a line names its session: it doesn't name `main`
+abbrev pub session_text : List ℕ → List ℕ
+session_text name = if bytes_eq name main_session then [] else codes "@" ++ (name ++ codes " ")
+
+-- the line of a session's command, without its end
+abbrev pub session_line : Line → List ℕ
+session_line line = session_text line.session ++ line_text line.command
+
+-- the same with its end and the bytes that belong to it
 abbrev pub command_text : Line → List ℕ
-command_text line = ended (line_text line.command) ++ put_bytes line.command
+command_text line = ended (session_line line) ++ put_bytes line.command

@@ -1,6 +1,6 @@
 -- The words of a line, plain or in quotes.
-use Rattle.std.specs.Prelude.{ℕ, Bool, ◌==◌, ◌||◌, if◌then◌else◌, List, [], ◌∷◌, length, slice_index, drop, Option, Some, None, Result, Ok, Err}
-use Rattle.std.specs.List.{prefix_len, before_first}
+use Rattle.std.specs.Prelude.{ℕ, Bool, ◌==◌, ◌||◌, if◌then◌else◌, List, [], ◌∷◌, ◌++◌, length, slice_index, drop, Option, Some, None, Result, Ok, Err}
+use Rattle.std.specs.List.{flat_map, prefix_len, before_first}
 use Rattle.std.specs.Option.{option_map, ok_or}
 use Rattle.hac_model.specs.Run.Answers.{◌>>=◌}
 use Rattle.hac_model.specs.Bytes.{is_backslash, is_quote, is_space}
@@ -63,3 +63,11 @@ first_word bytes = word_at (skip_spaces bytes)
 -- what follows a word and one space: the text or the query of a command, in which quotes are bytes as any other
 abbrev pub after_space : List ℕ → List ℕ
 after_space bytes = drop 1 bytes
+
+-- a byte of a word in quotes
+abbrev pub quoted_byte : ℕ → List ℕ
+quoted_byte b = if is_quote b || is_backslash b then 92 ∷ b ∷ [] else b ∷ []
+
+-- a word in quotes
+abbrev pub in_quotes : List ℕ → List ℕ
+in_quotes word = 34 ∷ (flat_map quoted_byte word ++ 34 ∷ [])

@@ -11,11 +11,14 @@ use Rattle.hac_model.specs.Tree.Limits.{is_text}
 use Rattle.hac_model.specs.Script.LineWords.{first_word, after_space}
 use Rattle.hac_model.specs.Script.PathWords.{is_bad, word_of}
 use Rattle.hac_model.specs.Tree.Paths.{are_names}
-use Rattle.hac_model.specs.Script.Puts.{came, is_length}
+use Rattle.hac_model.specs.Script.Numbers.{are_steps, is_number, is_tick}
+use Rattle.hac_model.specs.Script.Puts.{came}
+use Rattle.hac_model.specs.Script.SessionWords.{session_words}
+use Rattle.hac_model.specs.Script.SpaceNames.{is_space_name}
 use Rattle.hac_model.specs.Query.QueryReading.{is_spelled_query, read_query}
 use Rattle.hac_model.specs.Script.Texts.{text_of}
 use Rattle.hac_model.specs.declared.commands.Command.{Command}
-use Rattle.hac_model.specs.declared.commands.Command.TheVariants.{Mkdir, Rmdir, Write, Cat, Ls, Mv, Rm, Smkdir, Setq, Unq, Query, Sls, Sln, Srm, Sforget, Find, Index, Counts}
+use Rattle.hac_model.specs.declared.commands.Command.TheVariants.{Mkdir, Rmdir, Write, Cat, Ls, Cd, Pwd, Mv, Rm, Smkdir, Setq, Unq, Query, Sls, Sln, Srm, Sforget, Find, Index, Tick, Counts}
 use Rattle.hac_model.specs.declared.commands.Line.{Line}
 use Rattle.hac_model.specs.declared.limits.LimitWord.TheVariants as limit
 use Rattle.hac_model.specs.declared.limits.TheConstants.{LINE_LIMIT}
@@ -43,9 +46,10 @@ one_path command arguments = do
   path ← only_path arguments
   Ok (command path)
 
--- `ls` with a path or without, from the bytes behind `ls`
-unfoldable pub ls_of : List ℕ → Result Command Refusal
-ls_of arguments = if list_all is_space arguments then Ok (Ls None) else one_path (λ path. Ls (Some path)) arguments
+-- the command of one path word or of none, from the bytes behind its name
+unfoldable pub maybe_path : (Option PathWord → Command) → List ℕ → Result Command Refusal
+maybe_path command arguments =
+    if list_all is_space arguments then Ok (command None) else one_path (λ path. command (Some path)) arguments
 
 -- two words that are to be path words, one after the other
 abbrev pub each_path : List ℕ → List ℕ → Result (PathWord × PathWord) Refusal
@@ -93,6 +97,12 @@ find_of arguments = do
   query ← read_query (after_space arguments)
   Ok (Find query)
 
+-- `tick N`, from the bytes behind `tick`
+unfoldable pub tick_of : List ℕ → Result Command Refusal
+tick_of arguments = do
+  word ← only_word arguments
+  if is_tick word then Ok (Tick (digits_value 10 word)) else Err BadLine
+
 -- the command that is its name alone, from the bytes behind it
 unfoldable pub alone : Command → List ℕ → Result Command Refusal
 alone command arguments = if list_all is_space arguments then Ok command else Err BadLine
@@ -104,28 +114,31 @@ named_command name arguments =
     else (if bytes_eq name (codes "rmdir") then one_path Rmdir arguments
     else (if bytes_eq name (codes "write") then write_of arguments
     else (if bytes_eq name (codes "cat") then one_path Cat arguments
-    else (if bytes_eq name (codes "ls") then ls_of arguments
+    else (if bytes_eq name (codes "ls") then maybe_path Ls arguments
+    else (if bytes_eq name (codes "cd") then maybe_path Cd arguments
+    else (if bytes_eq name (codes "pwd") then alone Pwd arguments
     else (if bytes_eq name (codes "mv") then of_two_paths Mv arguments
     else (if bytes_eq name (codes "rm") then one_path Rm arguments
     else (if bytes_eq name (codes "smkdir") then path_and_query Smkdir arguments
     else (if bytes_eq name (codes "setq") then path_and_query Setq arguments
     else (if bytes_eq name (codes "unq") then one_path Unq arguments
     else (if bytes_eq name (codes "query") then one_path Query arguments
-    else (if bytes_eq name (codes "sls") then one_path (λ path. Sls (Some path)) arguments
+    else (if bytes_eq name (codes "sls") then maybe_path Sls arguments
     else (if bytes_eq name (codes "sln") then of_two_paths Sln arguments
     else (if bytes_eq name (codes "srm") then of_two_paths Srm arguments
     else (if bytes_eq name (codes "sforget") then of_two_paths Sforget arguments
     else (if bytes_eq name (codes "find") then find_of arguments
     else (if bytes_eq name (codes "index") then alone Index arguments
+    else (if bytes_eq name (codes "tick") then tick_of arguments
     else (if bytes_eq name (codes "counts") then alone Counts arguments
-    else Err BadLine)))))))))))))))))
+    else Err BadLine))))))))))))))))))))
 
 -- the path and the length of a `put`, from the bytes behind `put`: two words and no more
 unfoldable pub put_words : List ℕ → Result (List ℕ × List ℕ) Refusal
 put_words arguments = do
   path ← first_word arguments
   length ← only_word path.1
-  if is_length length then Ok (path.0, length) else Err BadLine
+  if is_number length then Ok (path.0, length) else Err BadLine
 
 -- the file of a path word gets the bytes that came, or the first refusal: not all came, then the path, then their count
 abbrev pub put_at : List ℕ → Option Taken → Result Command Refusal
@@ -145,7 +158,7 @@ put_of arguments taken = do
   words ← put_words arguments
   put_at words.0 taken
 
--- the line's first word is `put`
+-- the name of the command is `put`
 abbrev pub is_put : List ℕ → Bool
 is_put name = bytes_eq name (codes "put")
 
@@ -153,16 +166,24 @@ is_put name = bytes_eq name (codes "put")
 abbrev pub called_with : List ℕ → List ℕ → Option Taken → Result Command Refusal
 called_with name arguments taken = if is_put name then put_of arguments taken else named_command name arguments
 
--- the command that a line spells, or why it is refused, given what came of the bytes that it asks for
+-- the command that bytes behind a session spell, or why it is refused, given what came of the bytes behind the line
 abbrev pub command_with : List ℕ → Option Taken → Result Command Refusal
-command_with line taken = do
-  name ← first_word line
+command_with bytes taken = do
+  name ← first_word bytes
   called_with name.0 name.1 taken
+
+-- the command that a line spells and its session, or why it is refused
+abbrev pub line_with : List ℕ → Option Taken → Result Line Refusal
+line_with line taken = do
+  session ← session_words line
+  command ← command_with session.1 taken
+  Ok (record { session = session.0; command = command })
 
 -- the words of a line that is a `put` of the right form
 abbrev pub put_line : List ℕ → Result (List ℕ × List ℕ) Refusal
 put_line line = do
-  name ← first_word line
+  session ← session_words line
+  name ← first_word session.1
   if is_put name.0 then put_words name.1 else Err BadLine
 
 -- how many bytes a `put` of these words asks for
@@ -185,6 +206,8 @@ is_spelled (Rmdir path) = is_spelled_word path
 is_spelled (Write path text) = is_spelled_word path && is_text text
 is_spelled (Cat path) = is_spelled_word path
 is_spelled (Ls path) = option_map_or is_spelled_word path true
+is_spelled (Cd path) = option_map_or is_spelled_word path true
+is_spelled Pwd = true
 is_spelled (Mv from to) = is_spelled_word from && is_spelled_word to
 is_spelled (Rm path) = is_spelled_word path
 is_spelled (Smkdir path query) = is_spelled_word path && is_spelled_query query
@@ -197,13 +220,13 @@ is_spelled (Srm item dir) = is_spelled_word item && is_spelled_word dir
 is_spelled (Sforget item dir) = is_spelled_word item && is_spelled_word dir
 is_spelled (Find query) = is_spelled_query query
 is_spelled Index = true
+is_spelled (Tick steps) = are_steps steps
 is_spelled Counts = true
 is_spelled other = false
 
--- so far every line is of the session `main`
-abbrev pub in_main : Result Command Refusal → Result Line Refusal
-in_main (Ok command) = Ok (record { session = codes "main"; command = command })
-in_main (Err refusal) = Err refusal
+-- the session's name and the command are as a line spells them
+abbrev pub is_spelled_line : Line → Bool
+is_spelled_line line = is_space_name line.session && is_spelled line.command
 
 -- what a line of the script is to the program: a command of a session, or its first refusal
 abbrev pub Item : Type 0
@@ -211,7 +234,7 @@ Item = Result Line Refusal
 
 -- the item of a line, given what came of the bytes that it asks for
 abbrev pub item_taken : List ℕ → Option Taken → Item
-item_taken line taken = if nat_le (length line) LINE_LIMIT then in_main (command_with line taken) else Err (Limit limit.Line)
+item_taken line taken = if nat_le (length line) LINE_LIMIT then line_with line taken else Err (Limit limit.Line)
 
 -- what comes of the bytes that a line asks for, if it asks for any, given all that follow its end
 abbrev pub taken_of : List ℕ → List ℕ → Option Taken

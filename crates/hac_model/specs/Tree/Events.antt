@@ -7,10 +7,12 @@ use Rattle.hac_model.specs.Query.Formula.{Formula}
 use Rattle.hac_model.specs.Tree.Limits.{dirty_count, is_text, passed_limit}
 use Rattle.hac_model.specs.Tree.Links.{has, is_item, is_permanent, is_prohibited, is_semantic, links, parent_of}
 use Rattle.hac_model.specs.Tree.Names.{is_name}
+use Rattle.hac_model.specs.Tree.Sessions.{are_few, is_busy, sessions_with}
+use Rattle.hac_model.specs.Script.SpaceNames.{is_space_name}
 use Rattle.hac_model.specs.Query.Queries.{is_query}
 use Rattle.hac_model.specs.Tree.{child, entry_at, extends, is_directory_at, is_dirty, is_file_at, is_made_directory, path_of}
 use Rattle.hac_model.specs.declared.events.Event.{Event}
-use Rattle.hac_model.specs.declared.events.Event.TheVariants.{Mkdir, NewFile, Rewrite, Smkdir, Setq, Unq, Mark, Mv, Rm, Rmdir, Step}
+use Rattle.hac_model.specs.declared.events.Event.TheVariants.{Mkdir, NewFile, Rewrite, Smkdir, Setq, Unq, Mark, Mv, Rm, Rmdir, Step, Cd}
 use Rattle.hac_model.specs.declared.marks.Kind.{Kind}
 use Rattle.hac_model.specs.declared.marks.Kind.TheVariants.{Transient, Permanent, Prohibited, Unlinked}
 use Rattle.hac_model.specs.declared.states.Body.{Body}
@@ -58,8 +60,8 @@ may_mark s dir item Prohibited = is_permanent s dir item || has (links s dir) it
 may_mark s dir item Unlinked = is_permanent s dir item || is_prohibited s dir item
 may_mark s dir item Transient = false
 
--- what the event refers to is in the tree. Marks, links and the queries of other directories are left out. What no
--- command makes yet is nowhere.
+-- what the event refers to is in the tree. Marks, links, the queries of other directories and where sessions stand are
+-- left out. What no command makes yet is nowhere.
 abbrev pub is_placed : State → Event → Bool
 is_placed s (Mkdir dir name) = is_free s dir name
 is_placed s (NewFile dir name text) = is_free s dir name && is_text text
@@ -72,14 +74,16 @@ is_placed s (Mv entry dir name) = is_some (entry_at s.entries entry) && is_free 
 is_placed s (Rm entry) = is_file_at s.entries entry
 is_placed s (Rmdir dir) = is_made_directory s.entries dir && is_bare s.entries dir
 is_placed s Step = is_some (next_dirty s.entries)
+is_placed s (Cd session dir) = is_space_name session && is_directory_at s.entries dir
 is_placed s other = false
 
--- no mark, no link and no query of another directory stands against the event
+-- no mark, no link, no query of another directory and no session stands against the event
 abbrev pub is_clear : State → Event → Bool
 is_clear s (Setq dir query told) = is_none (cycle_over s dir (parent_of s dir) query)
 is_clear s (Mark mark) = may_mark s mark.dir mark.item mark.kind
 is_clear s (Mv entry dir name) = is_none (cycle_of_move s entry dir)
-is_clear s (Rmdir dir) = is_unreferenced s dir
+is_clear s (Rmdir dir) = is_unreferenced s dir && not (is_busy s.sessions dir)
+is_clear s (Cd session dir) = are_few (sessions_with session dir s.sessions)
 is_clear s other = true
 
 -- nothing stands against the event, and what it refers to is there, limits aside
@@ -184,6 +188,7 @@ apply s (Mv entry dir name) = changed_at s entry (reseated dir name)
 apply s (Rm entry) = forgotten (removed s entry) entry
 apply s (Rmdir dir) = removed s dir
 apply s Step = option_map_or (λ file. changed_at s file (edited indexed)) (next_dirty s.entries) s
+apply s (Cd session dir) = record s { sessions = sessions_with session dir s.sessions }
 apply s other = s
 
 -- the state accepts the event: what it refers to is there, and no limit is exceeded

@@ -1,4 +1,5 @@
--- A state as its bare tree and the facts of each number: what is kept of it beside the tree, and what it depends on.
+-- A state as its bare tree, its sessions and the facts of each number: what is kept of it beside the tree, and what it
+-- depends on.
 use Rattle.std.specs.Prelude.{ℕ, ◌==◌, List, [], ◌∷◌, map, Option, Some, None, if◌then◌else◌}
 use Rattle.std.specs.Option.{option_map_or}
 use Rattle.hac_model.specs.Tree.Depends.{named_in}
@@ -7,13 +8,14 @@ use Rattle.hac_model.specs.Query.Formula.{Formula}
 use Rattle.hac_model.specs.Tree.Links.{parent_of, query_at}
 use Rattle.hac_model.specs.Tree.{entry_at, permanent_in, prohibited_in, query_in}
 use Rattle.hac_model.specs.declared.events.Event.{Event}
-use Rattle.hac_model.specs.declared.events.Event.TheVariants.{Smkdir, Setq, Unq, Mark, Mv, Rm, Rmdir}
+use Rattle.hac_model.specs.declared.events.Event.TheVariants.{Smkdir, Setq, Unq, Mark, Mv, Rm, Rmdir, Cd}
 use Rattle.hac_model.specs.declared.marks.Kind.{Kind}
 use Rattle.hac_model.specs.declared.marks.Kind.TheVariants.{Permanent, Prohibited}
 use Rattle.hac_model.specs.declared.states.Answer.{Answer}
 use Rattle.hac_model.specs.declared.states.Body.{Body}
 use Rattle.hac_model.specs.declared.states.Body.TheVariants.{Semantic, Mount}
 use Rattle.hac_model.specs.declared.states.Entry.{Entry}
+use Rattle.hac_model.specs.declared.states.Session.{Session}
 use Rattle.hac_model.specs.declared.states.State.{State}
 
 -- the items that users added to a directory, and those that they removed from it
@@ -67,9 +69,9 @@ filled facts other = other
 abbrev pub filled_entry : (ℕ → Facts) → Entry → Entry
 filled_entry facts entry = edited (filled (facts entry.number)) entry
 
--- the state that has this tree and these facts
-abbrev pub joined : (ℕ → Facts) → State → State
-joined facts tree = record { next = tree.next; entries = map (filled_entry facts) tree.entries; sessions = [] }
+-- the state that has this tree, these facts and these sessions
+abbrev pub joined : (ℕ → Facts) → List Session → State → State
+joined facts sessions tree = record { next = tree.next; entries = map (filled_entry facts) tree.entries; sessions = sessions }
 
 -- one number has another value
 abbrev pub put_at : {X : Type 0} → (ℕ → X) → ℕ → X → ℕ → X
@@ -99,8 +101,9 @@ facts_after (Rm item) tree facts = λ number. record (facts number) { marks = wi
 facts_after (Rmdir dir) tree facts = put_at facts dir no_facts
 facts_after other tree facts = facts
 
--- the tree after an event. It has no marks to lose.
+-- the tree after an event. It has no marks to lose, and no sessions.
 abbrev pub bare_after : Event → State → State
 bare_after (Mark mark) tree = tree
 bare_after (Rm entry) tree = removed tree entry
+bare_after (Cd session dir) tree = tree
 bare_after other tree = apply tree other

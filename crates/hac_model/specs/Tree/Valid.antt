@@ -1,17 +1,21 @@
 -- Which states there can be.
-use Rattle.std.specs.Prelude.{◌≡◌, ℕ, ◌<◌, ◌≤◌, ◌+◌, Bool, true, false, List, [], ◌∷◌, Option, Some, None, IsTrue}
+use Rattle.std.specs.Prelude.{◌≡◌, ℕ, ◌<◌, ◌≤◌, ◌+◌, ◌==◌, Bool, true, false, List, [], ◌∷◌, Option, Some, None, IsTrue}
 use Rattle.std.specs.List.{AllByRecursion}
 use Rattle.std.specs.Option.{option_map_or}
+use Rattle.std.specs.Str.{bytes_eq}
 use Rattle.hac_model.specs.Tree.Depends.{IsAcyclic}
 use Rattle.hac_model.specs.Query.Formula.{Formula}
 use Rattle.hac_model.specs.Tree.Limits.{is_text, passed_limit}
 use Rattle.hac_model.specs.Tree.Names.{is_name}
+use Rattle.hac_model.specs.Tree.Sessions.{are_few}
+use Rattle.hac_model.specs.Script.SpaceNames.{is_space_name}
 use Rattle.hac_model.specs.Tree.Events.{may_ask}
 use Rattle.hac_model.specs.Tree.Links.{has, is_item}
 use Rattle.hac_model.specs.Tree.{child, is_directory_at}
 use Rattle.hac_model.specs.declared.states.Body.{Body}
 use Rattle.hac_model.specs.declared.states.Body.TheVariants.{File, Dir, Semantic}
 use Rattle.hac_model.specs.declared.states.Entry.{Entry}
+use Rattle.hac_model.specs.declared.states.Session.{Session}
 use Rattle.hac_model.specs.declared.states.State.{State}
 
 -- the numbers of the entries rise, above one number and below another
@@ -69,10 +73,23 @@ abbrev pub AsksWell : State → Body → Type 0
 AsksWell s (Semantic query permanent prohibited) = IsSoundQuery s query permanent prohibited
 AsksWell s other = Unit {0}
 
+-- no two sessions have one name
+abbrev pub SessionsDiffer : List Session → Type 0
+SessionsDiffer [] = Unit {0}
+SessionsDiffer (session ∷ sessions) =
+    AllByRecursion (λ other. bytes_eq session.name other.name ≡ false) sessions × SessionsDiffer sessions
+
+-- the sessions that stand elsewhere than in the root are in directories, each once
+pub record AreSessions (s : State) : Type 0 where
+  pub names : AllByRecursion (λ session. IsTrue (is_space_name session.name)) s.sessions
+  pub differ : SessionsDiffer s.sessions
+  pub there : AllByRecursion (λ session. IsTrue (is_directory_at s.entries session.dir)) s.sessions
+  pub elsewhere : AllByRecursion (λ session. (session.dir == 0) ≡ false) s.sessions
+  pub few : IsTrue (are_few s.sessions)
+
 -- a tree whose queries, marks and sessions are sound too
 pub record IsValid (s : State) : Type 0 where
   pub layout : IsLayout s
   pub queries : AllByRecursion (λ entry. AsksWell s entry.body) s.entries
   pub acyclic : IsAcyclic s
-  -- all sessions stand in the root so far
-  pub sessions : s.sessions ≡ []
+  pub sessions : AreSessions s

@@ -2,7 +2,7 @@ use Rattle.std.proofs.Common.{refl}
 use Rattle.std.specs.Fmt.{digits}
 use Rattle.hac_model.specs.Tree.Limits.{first_passed, passed_limit}
 use Rattle.hac_model.specs.Script.LineWords.{quoted}
-use Rattle.hac_model.specs.Script.Lines.{alone, ls_of, of_two_paths, one_path, path_and_query, write_of}
+use Rattle.hac_model.specs.Script.Lines.{alone, maybe_path, of_two_paths, one_path, path_and_query, write_of}
 use Rattle.hac_model.specs.Tree.Links.{kind, links}
 use Rattle.hac_model.specs.Script.PathWords.{word_of}
 use Rattle.hac_model.specs.Payload.Payloads.{event_text}
@@ -15,9 +15,9 @@ use Rattle.hac_model.specs.Query.Words.{has_term, is_word_byte, words}
 use Rattle.hac_model.proofs.laws.stores_end.Goals as goal
 
 pub returns-clause-full : goal.returns-clause-full
-unfolding after_run alone digits escaped_byte event_text first_passed has_term is_path_short is_word_byte kind_of lineage links look ls_of of_two_paths one_path passed_limit path_and_query path_of quoted read_on read_query script text_of word_of words write_of kind
+unfolding after_run alone digits escaped_byte event_text first_passed has_term is_path_short is_word_byte kind_of lineage links look maybe_path of_two_paths one_path passed_limit path_and_query path_of quoted read_on read_query script text_of word_of words write_of kind
 returns-clause-full c = refl
 
 pub returns-clause-first : goal.returns-clause-first
-unfolding after_run alone digits escaped_byte event_text first_passed has_term is_path_short is_word_byte kind_of lineage links look ls_of of_two_paths one_path passed_limit path_and_query path_of quoted read_on read_query script text_of word_of words write_of kind
+unfolding after_run alone digits escaped_byte event_text first_passed has_term is_path_short is_word_byte kind_of lineage links look maybe_path of_two_paths one_path passed_limit path_and_query path_of quoted read_on read_query script text_of word_of words write_of kind
 returns-clause-first c = refl

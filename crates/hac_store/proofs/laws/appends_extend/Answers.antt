@@ -5,6 +5,6 @@ use Rattle.std.proofs.Common.{[], ◌∷◌}
 use Rattle.hac_store.proofs.laws.appends_extend.Goals as goal
 
 pub returns : goal.returns
-returns c file setting event is happens room =
-    let spellable = accepted-spelled setting.state event (held-valid file setting is) happens in
+returns c file setting event is kept happens room =
+    let spellable = accepted-spelled setting.state event (held-valid file setting is) kept happens in
     held-overlaid file setting (event ∷ []) is (happens, spellable, tt) (room-below setting event [] room)

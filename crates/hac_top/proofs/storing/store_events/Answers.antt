@@ -1,5 +1,18 @@
-use Rattle.hac_top.proofs.StoringLemmas.{stores-once}
+use Rattle.std.proofs.Common.{Err, ap, ◌∙◌}
+use Rattle.std.proofs.lemmas.Result.{err_from_is_err_and}
+use Rattle.hac_top.specs.Deciding.{standing_turn}
+use Rattle.hac_top.proofs.StoringLemmas.{moves-session, stops-first, stores-once}
 use Rattle.hac_top.proofs.storing.store_events.Goals as goal
 
 pub returns-in-Change : goal.returns-in-Change
 returns-in-Change g c = rw c.in-Change.is (stores-once g.met.D.Disk.only_now c.command.result c.requires.place c.command.ensures)
+
+pub returns-in_ok-stand-in-Session : goal.returns-in_ok-stand-in-Session
+returns-in_ok-stand-in-Session g c =
+    let can = rw c.in-Session.is at c.requires.can in
+    rw c.in-Session.is (moves-session g.met.D.Disk.only_now c.args.disk.now c.args.store.now c.stand.new.self c.in-Session.event can.1 c.in_ok-stand-in-Session.ensures.moved c.requires.place)
+
+pub returns-in_err-stand-in-Session : goal.returns-in_err-stand-in-Session
+returns-in_err-stand-in-Session g c =
+    let stop = err_from_is_err_and c.from_residual.result c.from_residual.ensures.1 in
+    rw (c.in-Session.is, c.in_err-stand-in-Session.ensures.stayed, stop.1 ∙ ap Err stop.2) (stops-first g.met.D.Disk.only_now c.args.disk.now c.args.store.now (standing_turn c.args.store.now.setting c.in-Session.event))

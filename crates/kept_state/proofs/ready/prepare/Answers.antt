@@ -3,16 +3,16 @@ use Rattle.kept_state.proofs.ReadyLemmas.{file-directory, mark-directory, mkdir-
 use Rattle.kept_state.proofs.ready.prepare.Goals as goal
 
 pub prepare_entry-requires : goal.prepare_entry-requires
-prepare_entry-requires c = mkdir-directory (facts_kept c.args.kept.now) c.args.kept.now.tree.state c.args.event.now c.requires.accepted c.in-Mkdir.dir c.in-Mkdir.name c.in-Mkdir.is
+prepare_entry-requires c = mkdir-directory (facts_kept c.args.kept.now) c.args.kept.now.sessions c.args.kept.now.tree.state c.args.event.now c.requires.accepted c.in-Mkdir.dir c.in-Mkdir.name c.in-Mkdir.is
 
 pub prepare_entry-requires-in-NewFile : goal.prepare_entry-requires-in-NewFile
-prepare_entry-requires-in-NewFile c = file-directory (facts_kept c.args.kept.now) c.args.kept.now.tree.state c.args.event.now c.requires.accepted c.in-NewFile.dir c.in-NewFile.name c.in-NewFile.text c.in-NewFile.is
+prepare_entry-requires-in-NewFile c = file-directory (facts_kept c.args.kept.now) c.args.kept.now.sessions c.args.kept.now.tree.state c.args.event.now c.requires.accepted c.in-NewFile.dir c.in-NewFile.name c.in-NewFile.text c.in-NewFile.is
 
 pub prepare_semantic-requires : goal.prepare_semantic-requires
-prepare_semantic-requires c = smkdir-directory (facts_kept c.args.kept.now) c.args.kept.now.tree.state c.args.event.now c.requires.accepted c.in-Smkdir.dir c.in-Smkdir.name c.in-Smkdir.query c.in-Smkdir.told c.in-Smkdir.is
+prepare_semantic-requires c = smkdir-directory (facts_kept c.args.kept.now) c.args.kept.now.sessions c.args.kept.now.tree.state c.args.event.now c.requires.accepted c.in-Smkdir.dir c.in-Smkdir.name c.in-Smkdir.query c.in-Smkdir.told c.in-Smkdir.is
 
 pub prepare_move-requires : goal.prepare_move-requires
-prepare_move-requires c = move-directory (facts_kept c.args.kept.now) c.args.kept.now.tree.state c.args.event.now c.requires.accepted c.in-Mv.entry c.in-Mv.dir c.in-Mv.name c.in-Mv.is
+prepare_move-requires c = move-directory (facts_kept c.args.kept.now) c.args.kept.now.sessions c.args.kept.now.tree.state c.args.event.now c.requires.accepted c.in-Mv.entry c.in-Mv.dir c.in-Mv.name c.in-Mv.is
 
 pub prepare_mark-requires : goal.prepare_mark-requires
-prepare_mark-requires c = mark-directory (facts_kept c.args.kept.now) c.args.kept.now.tree.state c.args.event.now c.requires.accepted c.in-Mark.mark c.in-Mark.is
+prepare_mark-requires c = mark-directory (facts_kept c.args.kept.now) c.args.kept.now.sessions c.args.kept.now.tree.state c.args.event.now c.requires.accepted c.in-Mark.mark c.in-Mark.is

@@ -1,7 +1,7 @@
 -- the bytes that the loop has passed come behind what was there
 use Rattle.std.proofs.Common.{◌≡◌, ◌++◌, take}
 use Rattle.std.specs.List.{flat_map}
-use Rattle.hac_model.specs.Laws.{quoted_byte}
+use Rattle.hac_model.specs.Script.LineWords.{quoted_byte}
 use Rattle.shell_lang.proofs.commands.push_quoted_bytes.Given as goal
 
 abbrev pub invariant-loop-byte : goal.invariant-loop-byte

@@ -26,6 +26,6 @@ returns c =
     let path = c.in_ok-rest.ensures in
     let rest = c.in_ok-rest.rest.now in
     let length = c.in_ok-length.ensures in
-    c.length_of.ensures
+    c.number_of.ensures
     ∙ sym (with-path c.args.arguments.now path.0 rest path.1.1
     ∙ one-length path.0 rest c.in_ok-length.length.now length.0 c.in_ok-length.behind.now length.1.0 length.1.1 (sym c.if-not-is_blank.ensures))

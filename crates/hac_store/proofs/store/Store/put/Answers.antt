@@ -8,7 +8,8 @@ use Rattle.hac_model.proofs.EventLemmas.{all-valid}
 use Rattle.hac_core.specs.Seen.{Seen as Kept}
 use Rattle.hac_core.specs.Drafts.{settled_events}
 use Rattle.hac_store.specs.Stores.{Seen, Stands}
-use Rattle.hac_store.proofs.PutLemmas.{all-stored, can-happen, none-stored, put-moments, put-seen, put-stands, put-state}
+use Rattle.hac_store.proofs.PutLemmas.{can-happen, none-stored, put-moments, put-seen, put-stands, put-state}
+use Rattle.hac_store.proofs.StoredLemmas.{all-stored, stored-leads}
 use Rattle.hac_store.proofs.RoomLemmas.{end-is, has-room, no-room}
 use Rattle.hac_store.proofs.store.Store.put.Goals as goal
 
@@ -37,7 +38,9 @@ returns-in-Ok g c =
     let events = settled_events c.args.settled in
     let size : c.self.inside.end ≡ z.end = ap (λ (x : Seen). x.setting.end) c.self.view_is in
     let state : c.self.inside.machine.state ≡ z.state = ap (λ (x : Seen). x.setting.state) c.self.view_is in
-    let stored = all-stored events z.state (subst IsValid state c.self.invariant) (can-happen c.args.self.now.setting.state c.args.settled c.requires.can) in
+    let valid = subst IsValid state c.self.invariant in
+    let happen = can-happen c.args.self.now.setting.state c.args.settled c.requires.can in
+    let stored = all-stored events z.state valid happen c.requires.stored in
     let full = rw size at c.in-Ok.ensures.full in
     let after = put-state c.self.inside.machine c.prepare.new.self c.commit.new.self events c.in_ok-prepare.ensures.ok c.commit.ensures in
     let is = put-seen c.args.self.now c.self.inside.machine.state c.commit.new.self.state c.self.inside.start c.self.inside.end c.self.inside.generation c.in-Ok.end c.self.inside.slot c.self.inside.broken events
@@ -55,7 +58,7 @@ returns-in-Ok g c =
       stands = λ stands.
           subst (λ (x : Seen). Stands (g.D.Disk.seen c.append.new.disk) (g.D.Disk.image c.append.new.disk) x.setting) (sym is)
           (put-stands (disk.seen old) (disk.seen new) (disk.image old) (disk.image new) z events c.args.payloads.now
-          (g.met.D.Disk.read_is_image c.args.disk.now) c.requires.texts stored (λ past. let never = full.1 past in cc)
+          (g.met.D.Disk.read_is_image c.args.disk.now) c.requires.texts stored (stored-leads events z.state valid happen c.requires.stored) (λ past. let never = full.1 past in cc)
           (rw size at c.in-Ok.ensures.written) c.in-Ok.ensures.settled stands);
       moments =
           put-moments disk.seen disk.image disk.moment disk.image_since g.met.D.Disk.only_now old new z events c.args.payloads.now c.requires.texts stored
@@ -73,7 +76,9 @@ returns-in-Err-Disk g c =
     let events = settled_events c.args.settled in
     let size : c.self.inside.end ≡ z.end = ap (λ (x : Seen). x.setting.end) c.self.view_is in
     let state : c.self.inside.machine.state ≡ z.state = ap (λ (x : Seen). x.setting.state) c.self.view_is in
-    let stored = all-stored events z.state (subst IsValid state c.self.invariant) (can-happen c.args.self.now.setting.state c.args.settled c.requires.can) in
+    let valid = subst IsValid state c.self.invariant in
+    let happen = can-happen c.args.self.now.setting.state c.args.settled c.requires.can in
+    let stored = all-stored events z.state valid happen c.requires.stored in
     let full = rw size at c.append.ensures.full in
     let failed = c.in-Err-Disk.is ∙ ap (λ f. Err f) c.in-Err-Disk.field-0-is in
     let same = put-seen c.args.self.now c.self.inside.machine.state c.prepare.new.self.state c.self.inside.start c.self.inside.end c.self.inside.generation c.self.inside.end c.self.inside.slot c.self.inside.broken []

@@ -1,6 +1,6 @@
 use Rattle.std.proofs.Common.{◌≡◌, true, false, Err, ap, refl, ◌∙◌, sym}
 use Rattle.std.proofs.lemmas.Result.{err_from_is_err_and}
-use Rattle.hac_store.proofs.PutLemmas.{none-stored}
+use Rattle.hac_store.proofs.PutLemmas.{none-stored, steps-kept}
 use Rattle.hac_store.proofs.RoomLemmas.{steps-have-room}
 use Rattle.hac_store.proofs.store.Store.steps.Goals as goal
 
@@ -23,3 +23,6 @@ returns-in_err-payloads-clause-room g c = λ none.
 pub returns-clause-room : goal.returns-clause-room
 returns-clause-room g c = λ none.
     absurd (let never : true ≡ false = sym c.if-not-room_for.false ∙ c.room_for.ensures ∙ sym (steps-have-room c.args.self.now.setting c.args.count) ∙ none in cc)
+
+pub put-requires-clause-stored : goal.put-requires-clause-stored
+put-requires-clause-stored g c = steps-kept c.args.count

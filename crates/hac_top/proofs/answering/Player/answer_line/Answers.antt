@@ -1,5 +1,5 @@
 use Rattle.std.proofs.Common.{[], ◌∷◌, Ok, ap, ◌∙◌}
-use Rattle.hac_model.specs.Run.Play.{item_turn, nothing_given}
+use Rattle.hac_model.specs.Run.Play.{item_turn, nothing_given, stored_setting}
 use Rattle.hac_model.specs.Script.Lines.{item_taken}
 use Rattle.hac_model.specs.Script.Printed.{text}
 use Rattle.hac_model.specs.declared.replies.Reply.{Reply}
@@ -17,4 +17,4 @@ returns-clause-err g c =
     let new = c.store_line.new.disk in
     stops-written g.met.D.Disk.only_now c.args.disk.now new setting (g.K.Sink.seen c.args.output.now) (g.K.Sink.seen c.reply_with.new.output) (turn ∷ []) (text (c.in_ok-reply.reply ∷ [])) c.reply_with.result
     (ap (λ (r : Reply). text (r ∷ [])) stored.reply_is) c.in_ok-reply.ensures.stores
-    (λ stands c' left. stands-each (disk.seen new) (disk.image new) c.store_line.new.store.setting (stored.stands stands) c' left ∙ ap (λ (store : Seen). Ok store.setting) stored.store) c.reply_with.ensures.err
+    (λ stands c' left. stands-each (disk.seen new) (disk.image new) c.store_line.new.store.setting (stored.stands stands) c' left ∙ ap (λ (store : Seen). Ok (stored_setting store.setting)) stored.store) c.reply_with.ensures.err

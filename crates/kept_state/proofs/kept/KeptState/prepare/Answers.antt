@@ -11,7 +11,7 @@ use Rattle.kept_state.proofs.kept.KeptState.prepare.Goals as goal
 pub invariant_of-self : goal.invariant_of-self
 invariant_of-self c =
     kept-ready c.self.inside.parts c.prepare.new.kept c.set-in-Ok.new.self c.args.event c.in-Ok.edges c.args.counts c.self.invariant.linked c.prepare.ensures.alike
-    (subst (λ (x : Seen). IsTrue (accepted x.state c.args.event)) (sym c.self.view_is) c.requires.accepted) c.in-Ok.ensures.suits
+    (subst (λ (x : Seen). IsTrue (accepted x.state c.args.event)) (sym c.self.view_is) c.requires.accepted) c.requires.stored c.in-Ok.ensures.suits
     (c.requires.counts ∙ ap (λ (x : Seen). counts (apply x.state c.args.event)) (sym c.self.view_is)) c.set-in-Ok.ensures
 
 pub invariant_of-self-in-Err : goal.invariant_of-self-in-Err

@@ -1,6 +1,6 @@
 use Rattle.std.proofs.Common.{ℕ, ◌+◌, ◌*◌, ◌-◌, get_or, sym, ◌∙◌, ap, arith}
-use Rattle.shell_lang.proofs.LengthLemmas.{digit-more, length-number}
-use Rattle.shell_lang.proofs.putting.number.Goals as goal
+use Rattle.shell_lang.proofs.NumberLemmas.{digit-more, number-below}
+use Rattle.shell_lang.proofs.numbers.number.Goals as goal
 
 pub digits-preserved : goal.digits-preserved
 digits-preserved c =
@@ -9,9 +9,9 @@ digits-preserved c =
 
 pub overflow_add-number : goal.overflow_add-number
 overflow_add-number c =
-    omega (arith, digits-preserved c, length-number c.args.digits.now (c.digits.digit-index + 1) c.requires)
+    omega (arith, digits-preserved c, number-below c.args.digits.now (c.digits.digit-index + 1) c.requires)
 
 pub overflow_mul-number : goal.overflow_mul-number
 overflow_mul-number c =
     let more = digit-more c.args.digits.now c.digits.digit-index c.requires c.digits-test.true in
-    omega (arith, c.digits.invariant, more, length-number c.args.digits.now (c.digits.digit-index + 1) c.requires)
+    omega (arith, c.digits.invariant, more, number-below c.args.digits.now (c.digits.digit-index + 1) c.requires)

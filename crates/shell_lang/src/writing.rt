@@ -1,13 +1,13 @@
-//! The lines of `write` and `ls`, from what follows the command's name.
-ghost use Rattle.std.specs.Prelude.{◌≡◌, Some, None};
+//! The line of `write`, from what follows its name, and the text of a file.
+ghost use Rattle.std.specs.Prelude.{◌≡◌};
 ghost use Rattle.std.specs.Option.{ok_or};
 ghost use Rattle.hac_model.specs.Run.Answers.{Answers, AnswersSeen};
-ghost use Rattle.hac_model.specs.Script.Lines.{write_of, ls_of, limited_text};
+ghost use Rattle.hac_model.specs.Script.Lines.{write_of, limited_text};
 ghost use Rattle.hac_model.specs.Script.Texts.{text_of};
 ghost use Rattle.hac_model.specs.declared.replies.Refusal.TheVariants.{BadLine};
 
-use crate::paths::{only_path, parse_path};
-use crate::words::{is_blank, skip_one, split_word};
+use crate::paths::parse_path;
+use crate::words::{skip_one, split_word};
 use hac_model::{Command, Deny, LimitWord, Refusal, TEXT_LIMIT, Text};
 use hac_names::parse_text;
 use std::alloc::Global;
@@ -42,16 +42,4 @@ pub fn limited_text(bytes: Text) -> Result<Text, Deny>
         return Err(Deny::Refused(Refusal::Limit(LimitWord::Text)));
     }
     Ok(bytes)
-}
-
-/// `ls` with a path or without, from what follows `ls`.
-#[tactic(auto, unfolding(hac_model::specs::Script::Lines::ls_of, hac_model::specs::Script::Lines::one_path))]
-pub fn parse_ls(alloc: Global, arguments: &[u8]) -> Result<Command, Deny>
-    ensures { Answers result (ls_of arguments.now) }
-{
-    if is_blank(arguments) {
-        return Ok(Command::Ls { path: None });
-    }
-    let path = only_path(alloc, arguments)?;
-    Ok(Command::Ls { path: Some(path) })
 }

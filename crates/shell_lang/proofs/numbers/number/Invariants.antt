@@ -1,6 +1,6 @@
 use Rattle.std.proofs.Common.{◌≡◌, take}
 use Rattle.std.specs.Str.Parse.{digits_value}
-use Rattle.shell_lang.proofs.putting.number.Given as goal
+use Rattle.shell_lang.proofs.numbers.number.Given as goal
 
 -- the number of the digits that the loop has passed
 abbrev pub invariant-digits : goal.invariant-digits

@@ -1,0 +1,10 @@
+use Rattle.hac_store.proofs.CreateLemmas.{loaded-stands}
+use Rattle.hac_store.proofs.store.Store.load.Goals as goal
+
+pub returns-clause-stands : goal.returns-clause-stands
+returns-clause-stands g c =
+    let disk = g.D.Disk in
+    let mid = c.sync.new.self in
+    let new = c.read_store.new.disk in
+    loaded-stands (disk.seen c.args.disk.now) (disk.seen mid) (disk.seen new) (disk.image mid) (disk.image new) c.read_store.result
+    c.sync.ensures.quiet.same c.read_store.ensures.quiet.same c.read_store.ensures.quiet.images c.in_ok-sync.ensures.settled c.read_store.ensures.held
