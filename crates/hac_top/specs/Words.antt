@@ -1,45 +1,35 @@
--- The words of the program, as they are read one by one.
-use Rattle.std.specs.Prelude.{ℕ, Bool, true, false, if◌then◌else◌, List, [], ◌∷◌, ◌++◌, filter, codes, Option, Some, None}
-use Rattle.std.specs.Borrow.{Bor}
-use Rattle.std.specs.List.{after_first, before_first}
+-- The words of the program, as the library reads them.
+use Rattle.std.specs.Prelude.{true, codes, Some}
+use Rattle.clap.specs.Simple.{on_top}
+use Rattle.clap.specs.Words.{App, Rule, new_app, new_rule, with_rule}
+use Rattle.clap.specs.declared.builder.ArgAction.TheVariants.{SetTrue}
+use Rattle.clap.specs.declared.builder.value_parser.ValueParser.TheVariants.{NonEmptyString}
+use Rattle.clap.specs.declared.error.kind.ErrorKind.{ErrorKind}
+use Rattle.clap.specs.declared.error.kind.ErrorKind.TheVariants.{OutOfMemory}
 use Rattle.hac_model.specs.Script.CommandLine as line
-use Rattle.hac_model.specs.Script.CommandLine.{ends_options, is_option, is_no_option, asked_by}
 use Rattle.hac_top.specs.declared.words.Options.{Options}
-use Rattle.hac_top.specs.declared.words.Asked.{Asked}
+use Rattle.hac_top.specs.declared.words.WordsFault.{WordsFault}
+use Rattle.hac_top.specs.declared.words.WordsFault.TheVariants.{Memory, Usage}
 
 -- what was read, as the definition has it
 abbrev pub asked_of : Options → line.Options
 asked_of options = record { fresh = options.fresh; store = options.store.now }
 
--- what options and names ask for, with the words that follow them, given whether these are names alone
-abbrev pub asked_with : Bool → List (List ℕ) → List (List ℕ) → List (List ℕ) → Option line.Options
-asked_with true given names words = asked_by given (names ++ words)
-asked_with false given names words =
-    let before = before_first ends_options words in
-    asked_by (given ++ filter is_option before) (names ++ (filter is_no_option before ++ after_first ends_options words))
+-- `--new`
+abbrev pub new_option : Rule
+new_option = record (new_rule (codes "new")) { long = Some (codes "new"); action = Some SetTrue }
 
--- the options that have come
-abbrev pub given_to : Bool → List (List ℕ)
-given_to fresh = if fresh then codes "--new" ∷ [] else []
+-- STORE
+abbrev pub store_name : Rule
+store_name = record (new_rule (codes "store")) { parser = Some NonEmptyString; required = true }
 
--- the name that has come, where one has
-abbrev pub named_to : Option (Bor (List ℕ)) → List (List ℕ)
-named_to None = []
-named_to (Some store) = store.now ∷ []
+-- the command line: these two, behind the program's name, and no help
+abbrev pub hac : App
+hac =
+    let bare = on_top (λ s. record s { no_binary_name = true; disable_help_flag = true }) (new_app (codes "hac")) in
+    with_rule (with_rule bare new_option) store_name
 
--- what is asked for by what was read and the words that follow
-abbrev pub asked_on : Asked → List (List ℕ) → Option line.Options
-asked_on asked words = asked_with asked.ended (given_to asked.fresh) (named_to asked.store) words
-
--- the same where the next word is a name, whatever it begins with
-abbrev pub asked_with_name : Asked → List ℕ → List (List ℕ) → Option line.Options
-asked_with_name asked word words = asked_with asked.ended (given_to asked.fresh) (named_to asked.store ++ (word ∷ [])) words
-
--- the same where it is an option
-abbrev pub asked_with_option : Asked → List ℕ → List (List ℕ) → Option line.Options
-asked_with_option asked word words = asked_with asked.ended (given_to asked.fresh ++ (word ∷ [])) (named_to asked.store) words
-
--- the same, and nothing where no line of the program begins so
-abbrev pub asked_after : Option Asked → List (List ℕ) → Option line.Options
-asked_after None words = None
-asked_after (Some asked) words = asked_on asked words
+-- an error of the library, as a fault
+abbrev pub fault_by : ErrorKind → WordsFault
+fault_by OutOfMemory = Memory
+fault_by other = Usage

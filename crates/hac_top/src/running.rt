@@ -18,7 +18,7 @@ use crate::answering::{Player, write_now};
 use crate::opening::open_store;
 use crate::status::Status;
 use crate::taking::take_line;
-use crate::words::read_words;
+use crate::words::{WordsFault, read_words};
 use hac_disk::Disk;
 use hac_outside::{Sink, Source};
 use hac_store::Store;
@@ -73,10 +73,10 @@ pub fn run<S: Source, K: Sink, D: Disk>(
         (λ asked. IfSome (D.seen disk.old) (λ file. IsOfFile result → opening_outcome asked.fresh
         (held file) ≡ Err result)) }
 
-    // The disk is attached once, by the name that the words give.
+    // The disk is attached once, by the name that the words give, unless memory runs out before.
     ensures attached { IfSome (options (map string_bytes words.now))
         (λ asked. MayAttach (D.attached disk.old) asked (D.attached disk.new)
-        × ((result ≡ Status.DiskFault → ⊥) →
+        × ((result ≡ Status.DiskFault → ⊥) → (result ≡ Status.Memory → ⊥) →
         AttachesStore (D.attached disk.old) asked (D.attached disk.new))) }
 
     // Each fault is reported, and nothing is left unflushed in the sink.
@@ -85,8 +85,10 @@ pub fn run<S: Source, K: Sink, D: Disk>(
     ensures disk_faults { ReportsFault (is_disk_fault result) (D.faults disk.old)
         (D.faults disk.new) }
 {
-    let Some(options) = read_words(words) else {
-        return write_usage(output);
+    let options = match read_words(alloc, words) {
+        Ok(options) => options,
+        Err(WordsFault::Usage) => return write_usage(output),
+        Err(WordsFault::Memory) => return Status::Memory,
     };
     match open_store(alloc, options, disk) {
         Ok(store) => play_store(alloc, store, input, output, disk),

@@ -1,10 +1,14 @@
 //! Reading the words of the program: the name of its store, and whether that is to be a new one. It
 //! knows no device.
-ghost use Rattle.std.specs.Prelude.{◌≡◌, ◌∷◌, [], false, List, ℕ, map, string_bytes};
-ghost use Rattle.std.specs.Option.{option_map};
-ghost use Rattle.hac_model.specs.Script.CommandLine.{options, is_option};
-ghost use Rattle.hac_top.specs.Words.{asked_of, asked_on, asked_after, asked_with_name};
-ghost use Rattle.hac_top.specs.Words.{asked_with_option};
+ghost use Rattle.std.specs.Prelude.{◌≡◌, IfErr, IfOk, Some, None, map, string_bytes};
+ghost use Rattle.clap.specs.Words.{app_of};
+ghost use Rattle.hac_model.specs.Script.CommandLine.{options};
+ghost use Rattle.hac_top.specs.Words.{asked_of, hac};
+
+use clap::builder::ValueParser;
+use clap::error::ErrorKind;
+use clap::{Arg, ArgAction, Command};
+use std::alloc::{AllocError, Global};
 
 /// What the words ask for.
 #[derive(Clone, Copy, Debug)]
@@ -15,96 +19,68 @@ pub(crate) struct Options<'a> {
     pub(crate) store: &'a str,
 }
 
-/// What the words of the program ask for, behind its own name. None where they are faulty.
-#[tactic(auto, unfolding(hac_model::specs::Script::CommandLine::options))]
-pub(crate) fn read_words(words: &[String]) -> Option<Options<'_>>
-    ensures { option_map asked_of result ≡ options (map string_bytes words.now) }
+/// Why the words aren't read.
+#[derive(Clone, Copy, Debug, PartialEq, Eq)]
+pub(crate) enum WordsFault {
+    /// They don't fit the usage.
+    Usage,
+    /// Memory ran out.
+    Memory,
+}
+
+impl From<AllocError> for WordsFault {
+    ghost use Rattle.std.specs.Prelude.{◌≡◌};
+    ghost use Rattle.hac_top.specs.declared.words.WordsFault.TheVariants.{Memory};
+
+    ghost from_gives = { λ _ fault. fault ≡ Memory };
+
+    fn from(_error: AllocError) -> WordsFault {
+        WordsFault::Memory
+    }
+}
+
+impl From<clap::Error> for WordsFault {
+    ghost use Rattle.hac_top.specs.Words.{fault_by};
+    ghost use Rattle.std.specs.Prelude.{◌≡◌};
+    ghost use Rattle.clap.specs.Words.{kind_of};
+
+    ghost from_gives = { λ error fault. fault ≡ fault_by (kind_of error) };
+
+    fn from(error: clap::Error) -> WordsFault {
+        match error.kind() {
+            ErrorKind::OutOfMemory => WordsFault::Memory,
+            _ => WordsFault::Usage,
+        }
+    }
+}
+
+/// What the words of the program ask for, behind its own name.
+pub(crate) fn read_words(alloc: Global, words: &[String]) -> Result<Options<'_>, WordsFault>
+    ensures read { IfOk result (λ asked. options (map string_bytes words.now)
+        ≡ Some (asked_of asked)) }
+    ensures usage { IfErr result (λ fault. fault ≡ WordsFault.Usage
+        → options (map string_bytes words.now) ≡ None) }
 {
-    let mut asked = Asked {
-        ended: false,
-        fresh: false,
-        store: None,
-    };
-    for word in words {
-        asked = asked.with(word.as_str())?;
-    }
-    asked.options()
+    let matches = command(alloc)?.try_get_matches_from(words)?;
+    Ok(Options {
+        fresh: matches.get_flag("new"),
+        store: matches.get_str("store").unwrap(),
+    })
 }
 
-/// What the words so far ask for.
-#[derive(Clone, Copy)]
-struct Asked<'a> {
-    /// A `--` came, so what follows is no option.
-    ended: bool,
-    fresh: bool,
-    store: Option<&'a str>,
-}
-
-impl<'a> Asked<'a> {
-    /// What is asked for with one word more. None where no command line begins so.
-    fn with(self, word: &'a str) -> Option<Asked<'a>>
-        ensures { (rest : List (List ℕ)) →
-            asked_after result rest ≡ asked_on self.entry (word.now ∷ rest) }
-    {
-        if self.ended {
-            return self.with_name(word);
-        }
-        if word == "--" {
-            return Some(Asked {
-                ended: true,
-                ..self
-            });
-        }
-        if is_option(word) {
-            return self.with_option(word);
-        }
-        self.with_name(word)
-    }
-
-    fn with_option(self, word: &str) -> Option<Asked<'a>>
-        requires { self.ended ≡ false }
-        ensures { (rest : List (List ℕ)) →
-            asked_after result rest ≡ asked_with_option self.entry word.now rest }
-    {
-        if self.fresh || word != "--new" {
-            return None;
-        }
-        Some(Asked {
-            fresh: true,
-            ..self
-        })
-    }
-
-    fn with_name(self, word: &'a str) -> Option<Asked<'a>>
-        ensures { (rest : List (List ℕ)) →
-            asked_after result rest ≡ asked_with_name self.entry word.now rest }
-    {
-        if self.store.is_some() {
-            return None;
-        }
-        Some(Asked {
-            store: Some(word),
-            ..self
-        })
-    }
-
-    /// What is asked for where no word follows.
-    fn options(self) -> Option<Options<'a>>
-        ensures { option_map asked_of result ≡ asked_on self.entry [] }
-    {
-        match self.store {
-            Some(store) if !store.is_empty() => Some(Options {
-                fresh: self.fresh,
-                store,
-            }),
-            _ => None,
-        }
-    }
-}
-
-/// It begins with `-` and has two bytes or more.
-fn is_option(word: &str) -> bool
-    ensures { result ≡ is_option word.now }
+/// The command line, as the library reads it.
+fn command<'a>(alloc: Global) -> Result<Command<'a>, AllocError>
+    ensures { IfOk result (λ command. app_of command ≡ hac) }
 {
-    word.len() >= 2 && word.as_bytes()[0] == b'-'
+    let fresh = Arg::new(alloc, "new")
+        .long("new")
+        .action(ArgAction::SetTrue);
+    let store = Arg::new(alloc, "store")
+        .value_parser(ValueParser::NonEmptyString)
+        .required(true);
+    Command::new(alloc, "hac")
+        .no_binary_name(true)
+        .disable_help_flag(true)
+        .arg(fresh)?
+        .arg(store)
 }
