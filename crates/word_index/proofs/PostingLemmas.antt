@@ -7,26 +7,33 @@ use Rattle.std.specs.Map.{lookup}
 use Rattle.std.specs.Option.{option_map}
 use Rattle.std.specs.Ordering.{nat_cmp}
 use Rattle.std.specs.Str.{bytes_eq}
-use Rattle.std.proofs.lemmas.Bool.{cases_eq, eq-eqb, eqb-true, false_from_ne_true, ne_eqb}
+use Rattle.std.proofs.lemmas.Bool.{cases_eq, eq-eqb, false_from_ne_true, ne_eqb}
 use Rattle.std.proofs.lemmas.Map.Text.{is_eq-slice_cmp}
+use Rattle.hac_model.specs.declared.terms.Term.{Term}
 use Rattle.set_pool.specs.Rising.{is_among}
 use Rattle.set_pool.specs.Sets.{Joins, Leaves, Sets, is_in, is_live, list_of, members_of}
 use Rattle.word_index.specs.Posted.{Posted, has_set, is_posted}
-use Rattle.word_index.specs.Sets.{ArePostingsKept, posted_of, set_at}
+use Rattle.word_index.specs.Owners.{Owner, OfWord, OfAnswer, same_owner}
+use Rattle.word_index.specs.Places.{answer_set}
+use Rattle.word_index.specs.Sets.{ArePostingsKept, owner_set, posted_of, set_at}
 use Rattle.word_index.specs.declared.postings.Postings.TheInside.{Inside}
+use Rattle.word_index.proofs.OwnerLemmas.{letters_of}
 
 -- the item is in the set, where there is one
 abbrev pub in_set : Sets → Option ℕ → ℕ → Bool
 in_set pool None item = false
 in_set pool (Some set) item = is_in pool set item
 
-lookup-map : (pool : Sets) (test : List ℕ → Bool) (entries : List (List ℕ × ℕ)) → lookup test (map (λ (entry : List ℕ × ℕ). (entry.0, members_of pool entry.1)) entries) ≡ option_map (members_of pool) (lookup test entries)
-lookup-map pool test [] = refl
-lookup-map pool test (entry ∷ entries) =
-    elim (test entry.0) as (λ b. cond b (Some (members_of pool entry.1)) (lookup test (map (λ (entry : List ℕ × ℕ). (entry.0, members_of pool entry.1)) entries)) ≡ option_map (members_of pool) (cond b (Some entry.1) (lookup test entries))) [
+pub lookup-seen : {K X Y : Type 0} (f : X → Y) (test : K → Bool) (entries : List (K × X)) → lookup test (map (λ (entry : K × X). (entry.0, f entry.1)) entries) ≡ option_map f (lookup test entries)
+lookup-seen f test [] = refl
+lookup-seen {K} {X} {Y} f test (entry ∷ entries) =
+    elim (test entry.0) as (λ b. cond b (Some (f entry.1)) (lookup test (map (λ (entry : K × X). (entry.0, f entry.1)) entries)) ≡ option_map f (cond b (Some entry.1) (lookup test entries))) [
       | true ↦ refl
-      | false ↦ lookup-map pool test entries
+      | false ↦ lookup-seen f test entries
     ]
+
+lookup-map : (pool : Sets) (test : List ℕ → Bool) (entries : List (List ℕ × ℕ)) → lookup test (map (λ (entry : List ℕ × ℕ). (entry.0, members_of pool entry.1)) entries) ≡ option_map (members_of pool) (lookup test entries)
+lookup-map pool test entries = lookup-seen (members_of pool) test entries
 
 under : (pool : Sets) (set : Option ℕ) → ((item : ℕ) → is_among item (unwrap_or (option_map (members_of pool) set) []) ≡ in_set pool set item) × (is_some (option_map (members_of pool) set) ≡ is_some set)
 under pool None = ((λ item. refl), refl)
@@ -78,7 +85,7 @@ module _ (postings : Inside) (posted : Posted) (view_is : posted_of postings ≡
   module _ (kept : ArePostingsKept postings) (word : List ℕ) (set : ℕ) (there : set_at postings word ≡ Some set) where
     pub same-set : (w : List ℕ) (s : ℕ) → set_at postings w ≡ Some s → (s == set) ≡ bytes_eq w word
     same-set w s at = elim (cases_eq s set) [
-      | inl same ↦ eq-eqb s set same ∙ sym ((bytes_decides w word).1 (kept.distinct w word set (at ∙ ap Some same) there))
+      | inl same ↦ eq-eqb s set same ∙ sym ((bytes_decides w word).1 (ap letters_of (kept.distinct (OfWord w) (OfWord word) set (at ∙ ap Some same) there)))
       | inr differ ↦ ne_eqb s set differ ∙ sym (false_from_ne_true (bytes_eq w word) (λ same. differ (let e : Some s ≡ Some set = sym at ∙ ap (set_at postings) ((bytes_decides w word).0 same) ∙ there in let one : s ≡ set = cc in one)))
     ]
 
@@ -132,35 +139,9 @@ module _ (old new : Inside) (kept : ArePostingsKept old) (word : List ℕ) (set 
   at : (w : List ℕ) → set_at new w ≡ cond (bytes_eq w word) (Some set) (set_at old w)
   at w = sets w ∙ ap (λ b. cond b (Some set) (set_at old w)) (is_eq-slice_cmp word w ∙ nat_list_eq_equiv.symm word w)
 
-  pub kept-made : ((s : ℕ) → is_live new.pool s ≡ (is_live old.pool s || s == set)) → ArePostingsKept new
-  kept-made begins = record {
-    live = λ w s is. alive w s (bytes_eq w word) (sym (at w) ∙ is);
-    distinct = λ one other s is as_well. apart one other s (bytes_eq one word) (bytes_eq other word) refl refl (sym (at one) ∙ is) (sym (at other) ∙ as_well);
-    owned = λ s lives. owner s (is_live old.pool s) refl (sym (begins s) ∙ lives);
-  }
-    where
-      own : (s : ℕ) → set ≡ s → (is_live old.pool s || s == set) ≡ true
-      own s same = ap (λ b. b || s == set) (ap (is_live old.pool) (sym same) ∙ fresh) ∙ eq-eqb s set (sym same)
-
-      held : (w : List ℕ) (s : ℕ) → set_at old w ≡ Some s → (b : Bool) → bytes_eq w word ≡ b → cond b (Some set) (set_at old w) ≡ Some s
-      held w s is true same = let gone : set_at old w ≡ None = ap (set_at old) ((bytes_decides w word).0 same) ∙ none in absurd cc
-      held w s is false differ = is
-
-      owner : (s : ℕ) (b : Bool) → is_live old.pool s ≡ b → (b || s == set) ≡ true → (w : List ℕ) × (set_at new w ≡ Some s)
-      owner s true there lives = let w = kept.owned s there in (w.0, at w.0 ∙ held w.0 s w.1 (bytes_eq w.0 word) refl)
-      owner s false gone lives = (word, at word ∙ ap (λ b. cond b (Some set) (set_at old word)) ((bytes_decides word word).1 refl) ∙ ap Some (sym (eqb-true s set lives)))
-
-      alive : (w : List ℕ) (s : ℕ) (b : Bool) → cond b (Some set) (set_at old w) ≡ Some s → is_live new.pool s ≡ true
-      alive w s true is = begins s ∙ own s (let same : set ≡ s = cc in same)
-      alive w s false is = begins s ∙ ap (λ b. b || s == set) (kept.live w s is)
-
-      apart : (one other : List ℕ) (s : ℕ) (b d : Bool) → bytes_eq one word ≡ b → bytes_eq other word ≡ d → cond b (Some set) (set_at old one) ≡ Some s → cond d (Some set) (set_at old other) ≡ Some s → one ≡ other
-      apart one other s true true e f is as_well = (bytes_decides one word).0 e ∙ sym ((bytes_decides other word).0 f)
-      apart one other s true false e f is as_well =
-          let same : set ≡ s = cc in let gone = ap (is_live old.pool) (sym same) ∙ fresh in let there = kept.live other s as_well in absurd cc
-      apart one other s false true e f is as_well =
-          let same : set ≡ s = cc in let gone = ap (is_live old.pool) (sym same) ∙ fresh in let there = kept.live one s is in absurd cc
-      apart one other s false false e f is as_well = kept.distinct one other s is as_well
+  pub owners-made : ((mount : ℕ) (term : Term) → answer_set new.kept mount term ≡ answer_set old.kept mount term) → (k : Owner) → owner_set new k ≡ cond (same_owner k (OfWord word)) (Some set) (owner_set old k)
+  owners-made same (OfWord w) = at w
+  owners-made same (OfAnswer mount term) = same mount term
 
   module _ (posted : Posted) (view_is : posted_of old ≡ posted) where
     pub sets-made : (w : List ℕ) → has_set (posted_of new) w ≡ (has_set posted w || bytes_eq w word)

@@ -1,6 +1,6 @@
 -- What postings tell after a word that no item has was removed with its set.
 use Rattle.std.proofs.Common.{◌≡◌, ◌⊎◌, ℕ, arith, Bool, true, false, cond, List, [], ◌∷◌, refl, sym, ap, ◌∙◌, inl, inr, subst, take, take-append-drop, Option, Some, None}
-use Rattle.std.specs.Prelude.{◌==◌, ◌&&◌, ◌||◌, IsTrue, drop, is_some, nat_le, not}
+use Rattle.std.specs.Prelude.{◌&&◌, ◌||◌, IsTrue, drop, is_some, nat_le, not}
 use Rattle.std.specs.BTreeMap.{is_at}
 use Rattle.std.specs.Cmp.Lexicographic.{bytes_decides, nat_list_eq_equiv, slice_cmp}
 use Rattle.std.specs.List.{list_any}
@@ -9,10 +9,13 @@ use Rattle.std.specs.Str.{bytes_eq}
 use Rattle.std.proofs.lemmas.Bool.{eq-eqb}
 use Rattle.std.proofs.lemmas.List.Folds.{list_any-append}
 use Rattle.std.proofs.lemmas.Map.Text.{is_eq-slice_cmp}
+use Rattle.hac_model.specs.declared.terms.Term.{Term}
 use Rattle.set_pool.specs.Rising.{first_from, is_among}
-use Rattle.set_pool.specs.Sets.{Clears, EndsSet, is_in, is_live, members_of}
+use Rattle.set_pool.specs.Sets.{Clears, is_in, members_of}
 use Rattle.word_index.specs.Posted.{FewerSets, IsPosted, Posted, SameItems, has_set, is_posted}
-use Rattle.word_index.specs.Sets.{ArePostingsKept, posted_of, set_at}
+use Rattle.word_index.specs.Owners.{Owner, OfWord, OfAnswer, same_owner}
+use Rattle.word_index.specs.Places.{answer_set}
+use Rattle.word_index.specs.Sets.{ArePostingsKept, owner_set, posted_of, set_at}
 use Rattle.word_index.specs.Words.{has_word}
 use Rattle.word_index.specs.declared.postings.Postings.TheInside.{Inside}
 use Rattle.word_index.proofs.PostingLemmas.{in_set, posted-seen, same-set, set-seen}
@@ -40,27 +43,9 @@ module _ (old : Inside) (posted : Posted) (view_is : posted_of old ≡ posted) (
     at : (w : List ℕ) → set_at new w ≡ cond (bytes_eq w word) None (set_at old w)
     at w = sets w ∙ ap (λ b. cond b None (set_at old w)) (is_eq-slice_cmp word w ∙ nat_list_eq_equiv.symm word w)
 
-    other : (w : List ℕ) (s : ℕ) → set_at new w ≡ Some s → (set_at old w ≡ Some s) × ((s == set) ≡ false)
-    other w s is = by_word (bytes_eq w word) refl (sym (at w) ∙ is)
-      where
-        by_word : (b : Bool) → bytes_eq w word ≡ b → cond b None (set_at old w) ≡ Some s → (set_at old w ≡ Some s) × ((s == set) ≡ false)
-        by_word true same is = absurd cc
-        by_word false differ is = (is, same-set old posted view_is kept word set there w s is ∙ differ)
-
-    pub kept-swept : EndsSet old.pool new.pool set → ArePostingsKept new
-    kept-swept ends = record {
-      live = λ w s is. let o = other w s is in ends s ∙ (λ j. kept.live w s o.0 j && not (o.1 j));
-      distinct = λ one another s is as_well. kept.distinct one another s (other one s is).0 (other another s as_well).0;
-      owned = λ s lives. owner s (is_live old.pool s) (s == set) refl refl (sym (ends s) ∙ lives);
-    }
-      where
-        owner : (s : ℕ) (b d : Bool) → is_live old.pool s ≡ b → (s == set) ≡ d → (b && not d) ≡ true → (w : List ℕ) × (set_at new w ≡ Some s)
-        owner s true true there same lives = absurd cc
-        owner s true false alive differ lives =
-            let w = kept.owned s alive in
-            let other_word : bytes_eq w.0 word ≡ false = sym (same-set old posted view_is kept word set there w.0 s w.1) ∙ differ in
-            (w.0, at w.0 ∙ ap (λ b. cond b None (set_at old w.0)) other_word ∙ w.1)
-        owner s false d gone same lives = absurd cc
+    pub owners-swept : ((mount : ℕ) (term : Term) → answer_set new.kept mount term ≡ answer_set old.kept mount term) → (k : Owner) → owner_set new k ≡ cond (same_owner k (OfWord word)) None (owner_set old k)
+    owners-swept same (OfWord w) = at w
+    owners-swept same (OfAnswer mount term) = same mount term
 
     pub items-swept : Clears old.pool new.pool set → (w : List ℕ) (i : ℕ) → is_posted (posted_of new) w i ≡ is_posted posted w i
     items-swept clears w i =

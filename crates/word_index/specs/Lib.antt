@@ -1,4 +1,8 @@
 pub mod Words
+pub mod Answers
+pub mod Owners
+pub mod Told
+pub mod Places
 pub mod Items
 pub mod Posted
 pub mod Sets

@@ -1,14 +1,18 @@
--- What postings tell: which items have which words.
+-- What postings tell: which items have which words, and what mounts keep.
 use Rattle.std.specs.Prelude.{◌≡◌, ℕ, Bool, IsTrue, List, [], Option, is_some, unwrap_or}
 use Rattle.std.specs.BTreeMap.{is_at}
 use Rattle.std.specs.Cmp.Lexicographic.{slice_cmp}
 use Rattle.std.specs.Map.{lookup}
 use Rattle.std.specs.Ordering.{nat_cmp}
+use Rattle.hac_model.specs.declared.terms.Term.{Term}
 use Rattle.set_pool.specs.Rising.{is_among}
+use Rattle.word_index.specs.Answers.{Answers, place_of}
 
--- the words that have a set with the items in it, and how many items may still be put into sets without memory
+-- the words that have a set with the items in it, the answers of each mount, and how many sets or members may still be
+-- made without memory
 pub record Posted : Type 0 where
   pub words : List (List ℕ × List ℕ)
+  pub kept : List (ℕ × Answers)
   pub spare : ℕ
 
 -- the items in the set of a word, if it has one
@@ -38,3 +42,7 @@ SameSets old new = (word : List ℕ) → has_set new word ≡ has_set old word
 -- no word has a set that had none
 abbrev pub FewerSets : Posted → Posted → Type 0
 FewerSets old new = (word : List ℕ) → IsTrue (has_set new word) → IsTrue (has_set old word)
+
+-- each place of an answer has what it had
+abbrev pub SameKept : Posted → Posted → Type 0
+SameKept old new = (mount : ℕ) (term : Term) → place_of new.kept mount term ≡ place_of old.kept mount term

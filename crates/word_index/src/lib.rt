@@ -2,8 +2,11 @@
 //! a number.
 #![tactic(auto)]
 
+mod answers;
 mod index;
 mod items;
+mod kept;
 mod postings;
 
+pub use answers::Told;
 pub use index::Index;

@@ -1,31 +1,34 @@
-//! Postings: for each word a set of the items that have it. They know nothing of what else an item
-//! has.
+//! Postings: for each word a set of the items that have it, and for each answer that a mount keeps
+//! a set of its documents. They know nothing of what else an item has.
 ghost use Rattle.std.specs.Prelude.{◌≡◌, ◌<◌, ◌≤◌, ◌+◌, ◌&&◌, ◌||◌, ◌==◌, ◌⊎◌, ℕ, List, IfOk};
 ghost use Rattle.std.specs.Prelude.{IsTrue, None, OnErr, OnOk, Some, false, if◌then◌else◌, true};
-ghost use Rattle.std.specs.Prelude.{length, not};
+ghost use Rattle.std.specs.Prelude.{[], length, not};
 ghost use Rattle.std.specs.BTreeMap.{IsUnchanged, get, is_at};
 ghost use Rattle.std.specs.Cmp.Lexicographic.{slice_cmp};
 ghost use Rattle.std.specs.Ordering.{nat_cmp};
 ghost use Rattle.std.specs.Str.{bytes_eq};
-ghost use Rattle.word_index.specs.Posted.{FewerSets, IsPosted, SameItems, SameSets, has_set};
-ghost use Rattle.word_index.specs.Posted.{is_posted};
+ghost use Rattle.word_index.specs.Posted.{FewerSets, IsPosted, SameItems, SameKept, SameSets};
+ghost use Rattle.word_index.specs.Posted.{has_set, is_posted};
 ghost use Rattle.word_index.specs.Words.{has_word};
 
+use crate::kept::Kept;
 use hac_model::{Memory, Name, Number};
+use indexmap::IndexMap;
 use set_pool::{SetId, SetPool};
 use std::alloc::Global;
 use std::collections::BTreeMap;
 use std::marker::Model;
 
 /// The set of each word that has one.
-type Sets = BTreeMap<Name, SetId>;
+pub(crate) type Sets = BTreeMap<Name, SetId>;
 
 /// Which items have which words. Room comes first: after `make_room` some words have their sets,
 /// and an item can be put into each of them without memory.
 #[derive(Drop)]
 pub(crate) struct Postings {
-    sets: Sets,
-    pool: SetPool,
+    pub(crate) sets: Sets,
+    pub(crate) kept: Kept,
+    pub(crate) pool: SetPool,
 }
 
 impl Model for Postings {
@@ -43,11 +46,13 @@ impl Model for Postings {
 impl Postings {
     /// No item has a word.
     pub(crate) fn new(alloc: Global) -> Result<Postings, Memory>
-        ensures { IfOk result (λ postings. (word : List ℕ) → has_set postings word ≡ false) }
+        ensures sets { IfOk result (λ postings. (word : List ℕ) → has_set postings word ≡ false) }
+        ensures answers { IfOk result (λ postings. postings.kept ≡ []) }
     {
         let pool = SetPool::new(alloc)?;
         Ok(Postings {
             sets: BTreeMap::new(alloc),
+            kept: IndexMap::new(alloc),
             pool,
         })
     }
@@ -73,6 +78,7 @@ impl Postings {
         ensures err { OnErr result ((w : List ℕ) → IsTrue (has_set self.new w)
             → IsTrue (has_set self.old w) ⊎ IsPosted self.old w) }
         ensures items { SameItems self.old self.new }
+        ensures answers { SameKept self.old self.new }
     {
         match self.take_room(words) {
             Ok(()) => Ok(()),
@@ -91,6 +97,7 @@ impl Postings {
             → IsTrue (has_set self.old w || has_word words.now w) }
         ensures room { OnOk result (length words.now ≤ self.new.spare) }
         ensures items { SameItems self.old self.new }
+        ensures answers { SameKept self.old self.new }
     {
         self.make_sets(words)?;
         self.pool.reserve(words.len() as u64)?;
@@ -104,6 +111,7 @@ impl Postings {
         ensures within { (w : List ℕ) → IsTrue (has_set self.new w)
             → IsTrue (has_set self.old w || has_word words.now w) }
         ensures items { SameItems self.old self.new }
+        ensures answers { SameKept self.old self.new }
     {
         for word in words {
             self.make_set(word)?;
@@ -117,6 +125,7 @@ impl Postings {
             ≡ (has_set self.old w || bytes_eq w word.now)) }
         ensures err { OnErr result (SameSets self.old self.new) }
         ensures items { SameItems self.old self.new }
+        ensures answers { SameKept self.old self.new }
     {
         if set_of(&self.sets, word).is_some() {
             return Ok(());
@@ -139,6 +148,7 @@ impl Postings {
             ≡ (is_posted self.old w i
             || (has_word words.now w && i == item && has_set self.old w)) }
         ensures sets { SameSets self.old self.new }
+        ensures answers { SameKept self.old self.new }
     {
         for word in words {
             self.post(word, item);
@@ -152,6 +162,7 @@ impl Postings {
             ≡ (is_posted self.old w i
             || (bytes_eq w word.now && i == item && has_set self.old w)) }
         ensures sets { SameSets self.old self.new }
+        ensures answers { SameKept self.old self.new }
         ensures spare { self.old.spare ≤ self.new.spare + 1 }
     {
         if let Some(set) = set_of(&self.sets, word) {
@@ -164,6 +175,7 @@ impl Postings {
         ensures items { (w : List ℕ) (i : ℕ) → is_posted self.new w i
             ≡ (is_posted self.old w i && not (has_word words.now w && i == item)) }
         ensures sets { SameSets self.old self.new }
+        ensures answers { SameKept self.old self.new }
         ensures spare { self.new.spare ≡ self.old.spare }
     {
         for word in words {
@@ -176,6 +188,7 @@ impl Postings {
         ensures items { (w : List ℕ) (i : ℕ) → is_posted self.new w i
             ≡ (is_posted self.old w i && not (bytes_eq w word.now && i == item)) }
         ensures sets { SameSets self.old self.new }
+        ensures answers { SameKept self.old self.new }
         ensures spare { self.new.spare ≡ self.old.spare }
     {
         if let Some(set) = set_of(&self.sets, word) {
@@ -186,7 +199,9 @@ impl Postings {
     /// Removes those of these words that no item has, with their sets.
     pub(crate) fn sweep_all(&mut self, words: &[Name])
         ensures items { SameItems self.old self.new }
+        ensures answers { SameKept self.old self.new }
         ensures fewer { FewerSets self.old self.new }
+        ensures spare { self.new.spare ≡ self.old.spare }
         ensures used { (w : List ℕ) → IsTrue (has_word words.now w) → IsTrue (has_set self.new w)
             → IsPosted self.old w }
     {
@@ -198,7 +213,9 @@ impl Postings {
     /// Removes a word that no item has, with its set.
     fn sweep(&mut self, word: &Name)
         ensures items { SameItems self.old self.new }
+        ensures answers { SameKept self.old self.new }
         ensures fewer { FewerSets self.old self.new }
+        ensures spare { self.new.spare ≡ self.old.spare }
         ensures used { IsTrue (has_set self.new word.now) → IsPosted self.old word.now }
     {
         let Some(set) = set_of(&self.sets, word) else {

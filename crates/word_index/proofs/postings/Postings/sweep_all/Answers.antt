@@ -14,4 +14,6 @@ loop-word-preserved c =
       (λ w some is.
           swept-more c.args.self.now c.loop-word.self c.sweep.new.self words c.word-item.result so_far.0 so_far.2 c.sweep.ensures.fewer c.sweep.ensures.used w
           (ap (λ v. words w || bytes_eq w v) c.word-item.is ∙ sym (list_any_more (bytes_eq w) c.args.words.now c.loop-word.word-index c.word-item.result c.loop-word-test.true) ∙ some) is),
+      (λ mount term. c.sweep.ensures.answers mount term ∙ so_far.3 mount term),
+      c.sweep.ensures.spare ∙ so_far.4,
     )

@@ -1,5 +1,5 @@
 use Rattle.std.proofs.Common.{◌≡◌, ◌&&◌, ◌==◌, ℕ, List, not, take}
-use Rattle.word_index.specs.Posted.{SameSets, is_posted}
+use Rattle.word_index.specs.Posted.{SameKept, SameSets, is_posted}
 use Rattle.word_index.specs.Words.{has_word}
 use Rattle.word_index.proofs.postings.Postings.withdraw_all.Given as goal
 
@@ -9,3 +9,4 @@ invariant-loop-word l =
     ((w : List ℕ) (i : ℕ) → is_posted l.self w i ≡ (is_posted l.fn.self w i && not (has_word (take l.word-index l.words) w && i == l.item)))
     × SameSets l.fn.self l.self
     × (l.self.spare ≡ l.fn.self.spare)
+    × SameKept l.fn.self l.self
