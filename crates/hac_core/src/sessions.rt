@@ -5,8 +5,8 @@ ghost use Rattle.hac_model.specs.Run.Refusals.{busy_cause, session_cause};
 use hac_model::{Deny, LimitWord, Name, Number, Refusal};
 use kept_state::KeptState;
 
-/// No session stands in a directory to be removed. Where some do, the refusal has the least of their
-/// names.
+/// No session stands in a directory to be removed. Where some do, the refusal has the least of
+/// their names.
 pub fn idle(kept: &KeptState, dir: Number) -> Result<(), Deny>
     ensures { Passes result (busy_cause kept.now.state dir) }
 {

@@ -3,8 +3,8 @@ ghost use Rattle.std.specs.Prelude.{◌≡◌};
 ghost use Rattle.std.specs.List.{list_all};
 ghost use Rattle.hac_model.specs.Script.SpaceNames.{is_space_byte, is_space_name};
 
-/// Whether bytes are the name of a space: 1 to 32 ASCII letters, ASCII digits, `_` or `-`. A session
-/// has such a name too.
+/// Whether bytes are the name of a space: 1 to 32 ASCII letters, ASCII digits, `_` or `-`. A
+/// session has such a name too.
 #[tactic(auto, unfolding(hac_model::specs::Script::SpaceNames::is_space_name))]
 pub fn is_space_name(bytes: &[u8]) -> bool
     ensures { result ≡ is_space_name bytes.now }

@@ -173,9 +173,9 @@ impl KeptState {
         self.parts.tree.counts_after(event)
     }
 
-    /// Takes the memory that an event wants that is stored, so that `commit` can apply it. How much the state then
-    /// holds is given. The state doesn't change, whatever the answer, and what was prepared before
-    /// is dropped.
+    /// Takes the memory that an event wants that is stored, so that `commit` can apply it. How much
+    /// the state then holds is given. The state doesn't change, whatever the answer, and what was
+    /// prepared before is dropped.
     pub fn prepare(&mut self, alloc: Global, event: Event, counts: Counts) -> Result<(), Memory>
         requires accepted { IsTrue (accepted self.old.state event) }
         requires stored { IsTrue (is_stored event) }

@@ -10,7 +10,8 @@ use hac_model::{Memory, Number, Query, Seq, Session};
 use link_kinds::Links;
 use std::alloc::Global;
 
-/// A tree, its marks, its graph and its sessions. That they fit one another is said by `IsLinked` of the specs.
+/// A tree, its marks, its graph and its sessions. That they fit one another is said by `IsLinked`
+/// of the specs.
 #[derive(Drop)]
 pub struct Parts {
     /// The tree, without marks.

@@ -55,7 +55,8 @@ impl Ready {
     }
 }
 
-/// Takes the memory that an event wants that is stored. The state doesn't change, whatever the answer.
+/// Takes the memory that an event wants that is stored. The state doesn't change, whatever the
+/// answer.
 pub fn prepare(alloc: Global, kept: &mut Parts, event: &Event) -> Result<Option<NewEdges>, Memory>
     requires linked { IsLinked kept.old }
     requires accepted { IsTrue (accepted (state_of kept.old) event.now) }
