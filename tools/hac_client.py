@@ -34,9 +34,11 @@ CAUSES: Dict[str, str] = {
     "bad-query": "the query isn't one; the number is the place of its first wrong byte",
     "no-path": "nothing is at this path",
     "not-dir": "a file is at this path, where a directory is wanted",
+    "loop": "this path leads through more than 16 symbolic links, or in a circle",
     "root": "the root can't be removed or moved, and gets no query",
     "not-file": "a directory is at this path, where a file is wanted",
     "not-semantic": "the directory at this path has no query",
+    "not-link": "what is at this path is no symbolic link",
     "exists": "something is already at this path",
     "under": "a directory can't be moved into itself",
     "not-empty": "the directory at this path isn't empty",
@@ -48,6 +50,7 @@ CAUSES: Dict[str, str] = {
     "cycle": "the directory would depend on itself through this one",
     "limit line": "a line has at most 65,536 bytes",
     "limit name": "a name has at most 255 bytes",
+    "limit target": "the path to which a symbolic link leads has at most 1,024 bytes",
     "limit text": "a text has at most 1,048,576 bytes",
     "limit query": "a query has at most 1,024 bytes",
     "limit terms": "a query has at most 64 words and directories",
@@ -55,6 +58,7 @@ CAUSES: Dict[str, str] = {
     "limit texts": "all texts of the store together have at most 67,108,864 bytes",
     "limit dirs": "a store has at most 10,000 directories",
     "limit semantics": "a store has at most 1,000 semantic directories",
+    "limit symlinks": "a store has at most 10,000 symbolic links",
     "limit path": "a path has at most 64 names",
     "limit sessions": "at most 64 sessions may stand elsewhere than in the root",
     "limit items": "a store has at most 65,536 files",
@@ -149,9 +153,11 @@ class Hac:
     waits until that program has ended.
     """
 
-    def __init__(self, store: Path, *, make: bool = False, wait: float = 10.0) -> None:
-        """Opens a store. Where `make` is given and there is no file, makes it."""
+    def __init__(self, store: Path, *, make: bool = False, ticks: int = 0, wait: float = 10.0) -> None:
+        """Opens a store, or makes it where `make` is given and there is no file. Behind each reply up to `ticks` files are
+        indexed."""
         self.store = store
+        self._words = [b"--tick", b"%d" % ticks] if ticks else []
         self._program = find_program()
         self._lock = _locked(store, wait)
         self._sessions: Set[bytes] = {b"main"}
@@ -256,7 +262,7 @@ class Hac:
     def _start(self) -> subprocess.Popen:
         self._sent = 0
         return subprocess.Popen(
-            [os.fsencode(self._program), b"--", os.fsencode(self.store)],
+            [os.fsencode(self._program), *self._words, b"--", os.fsencode(self.store)],
             stdin=subprocess.PIPE,
             stdout=subprocess.PIPE,
             stderr=subprocess.PIPE,

@@ -111,7 +111,8 @@ class ToolTest(unittest.TestCase):
         self.assertEqual(ran.returncode, 0, (ran.stdout, ran.stderr))
 
     def tree(self, place: str = "/") -> Dict[str, str]:
-        """What is below a place of the store: a directory's letter or a file's text as `cat` shows it, by path."""
+        """What is below a place of the store, by path: a directory's letter, a file's text as `cat` shows it, or an arrow
+        and where a symbolic link leads."""
         found: Dict[str, str] = {}
         with subprocess.Popen([HAC, self.store], stdin=subprocess.PIPE, stdout=subprocess.PIPE) as run:
             assert run.stdin is not None and run.stdout is not None
@@ -133,6 +134,8 @@ class ToolTest(unittest.TestCase):
                     found[path] = line[0]
                     if line[0] == "f":
                         found[path] = ask(f'cat "{path}"')[0][2:]
+                    elif line[0] == "l":
+                        found[path] = "-> " + ask(f'readlink "{path}"')[0][2:]
                     else:
                         directories.append(path)
         return found

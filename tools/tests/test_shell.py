@@ -221,6 +221,38 @@ class Session(ToolTest):
             self.tree(), {"/a": "d", "/b": "d", "/a/new": "more\\n", "/a/x": "one\\nmore\\n", "/b/new": "more\\n"}
         )
 
+    def test_edit_through_a_link(self) -> None:
+        editor = self.script("editor", 'echo more >>"$1"')
+        made = ("mkdir /a", "write /a/x one\\n", "ln a/x /l", "ln /a/new /n", "ln /none/x /m", "ln /a /d")
+        terminal = self.begun(*made, EDITOR=str(editor), TMPDIR=str(self.made))
+        for line, answer in {
+            "edit /l": "ok",
+            "edit /n": "ok",
+            "edit /d/y": "ok",
+            "edit /d": "no not-file /a",
+            "edit /d/none/x": "no no-path /a/none",
+        }.items():
+            self.assertEqual(terminal.typed(line), f"{line}\n{answer}\n")
+        self.assertIn("no no-path /none\nyour text is kept in ", terminal.typed("edit /m"))
+        terminal.end()
+        tree = self.tree()
+        self.assertEqual([tree[f"/a/{name}"] for name in ("x", "new", "y")], ["one\\nmore\\n", "more\\n", "more\\n"])
+        self.assertEqual([tree[path] for path in ("/l", "/n", "/m")], ["-> a/x", "-> /a/new", "-> /none/x"])
+
+    def test_files_are_indexed_by_themselves(self) -> None:
+        self.make_store("write /a apple", "write /b apple", "write /c apple")
+        terminal = self.begin("--tick", "1")
+        terminal.until(PROMPT)
+        # The shell has asked once, and behind each command it asks where it stands.
+        self.assertEqual(terminal.typed("find apple"), "find apple\nf /a\nok\n")
+        self.assertEqual(terminal.typed("find apple"), "find apple\nf /a\nf /b\nf /c\nok\n")
+        self.assertEqual(terminal.end(), 0)
+        terminal = self.begin("--tick=0")
+        terminal.until(PROMPT)
+        terminal.typed("write /d apple")
+        self.assertEqual(terminal.typed("find apple"), "find apple\nf /a\nf /b\nf /c\nok\n")
+        self.assertEqual(terminal.end(), 0)
+
     def test_an_edited_text_is_not_lost(self) -> None:
         large = self.script("large", 'head -c 1048577 /dev/zero | tr "\\0" x >"$1"')
         terminal = self.begun("write /a one", EDITOR=str(large), TMPDIR=str(self.made))
@@ -294,6 +326,13 @@ class Session(ToolTest):
         self.assertEqual((ran.returncode, ran.stdout, ran.stderr), (0, b"", b""))
         ran = subprocess.run([*words, "--new", self.store], stdin=subprocess.DEVNULL, capture_output=True, env=given)
         self.assertEqual((ran.returncode, ran.stderr), (10, b"hac: already a store\n"))
+        script = b"find x*\nfind x*\n"
+        ran = subprocess.run([*words, "--tick", "1", self.store], input=script, capture_output=True, env=given)
+        self.assertEqual((ran.returncode, ran.stdout), (0, b"ok\nf /b\nok\n"))
+        for number in ("x", "01", "65537", "-1", "", "1 ", "١"):
+            faulty = [*words, "--tick", number, self.store]
+            ran = subprocess.run(faulty, stdin=subprocess.DEVNULL, capture_output=True, env=given)
+            self.assertEqual((ran.returncode, ran.stdout), (2, b""), number)
 
 
 class Lines(unittest.TestCase):
@@ -349,6 +388,22 @@ class Completion(ToolTest):
         }.items():
             with self.subTest(typed=typed), Hac(self.store) as hac:
                 self.assertEqual(shell.Completer(hac).lines(typed), wanted)
+
+    def test_links_are_completed_as_what_they_lead_to(self) -> None:
+        self.make_store("mkdir /notes", "write /notes/mon a")
+        self.ask("ln notes /to-notes", "ln notes/mon /to-mon", "ln /none /to-none", 'ln . "/to self"')
+        with Hac(self.store) as hac:
+            for typed, wanted in {
+                b"cat /to-n": [b"cat /to-none ", b"cat /to-notes/"],
+                b"cat /to-m": [b"cat /to-mon "],
+                b"cat /to-notes/": [b"cat /to-notes/mon "],
+                b'ls "/to ': [b'ls "/to self/'],
+                b"ln not": [b"ln notes/"],
+                b"readl": [b"readlink "],
+                b"find {/to-": [b"find {/to-notes/"],
+            }.items():
+                with self.subTest(typed=typed):
+                    self.assertEqual(shell.Completer(hac).lines(typed), wanted)
 
     def test_lines_where_the_session_stands(self) -> None:
         self.make_store("mkdir /notes", 'mkdir "/notes/to do"', "write /notes/mon a", "mkdir /old", "write /old/mon a")

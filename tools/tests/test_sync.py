@@ -383,6 +383,39 @@ class OtherHands(SyncTest):
         self.sync("--replace")
         self.assertEqual(self.tree(), {"/a": "an apple\\n", "/mine": "x", "/sub": "d", "/sub/mine": "y"})
 
+    def test_nothing_comes_through_a_link_of_the_store(self) -> None:
+        self.write("a", b"one")
+        self.write("sub/b", b"two")
+        self.write("c", b"three")
+        self.sync()
+        self.ask("mv /a /mine", "ln mine /a", "mkdir /dir", "mv /sub/b /dir/b", "rmdir /sub", "ln dir /sub", "ln /new /d")
+        self.write("a", b"other")
+        self.write("sub/b", b"other")
+        self.write("sub/e", b"new")
+        self.write("d", b"new")
+        tree = {"/a": "-> mine", "/mine": "one", "/sub": "-> dir", "/dir": "d", "/dir/b": "two", "/c": "three"}
+        tree["/d"] = "-> /new"
+        for options in ((), ("--check",), ("--replace",)):
+            self.assertEqual(
+                self.sync(*options, status=1)[:4],
+                [
+                    f"refused: {path}: the store has a symbolic link there, or on the way to it"
+                    for path in ("a", "d", "sub/b", "sub/e")
+                ],
+            )
+            self.assertEqual(self.tree(), tree)
+        shutil.rmtree(self.folder / "sub")
+        (self.folder / "a").unlink()
+        (self.folder / "d").unlink()
+        self.sync()
+        self.assertEqual(self.tree(), tree)
+
+    def test_the_place_may_be_a_link(self) -> None:
+        self.make_store("mkdir /dir", "ln dir /notes")
+        self.write("a", b"one")
+        self.sync("/notes")
+        self.assertEqual(self.tree(), {"/dir": "d", "/dir/a": "one", "/notes": "-> dir"})
+
     def test_what_was_removed_or_moved_by_hand_comes_again(self) -> None:
         self.write("a", b"one")
         self.write("sub/b", b"two")

@@ -5,7 +5,7 @@ use Rattle.std.proofs.lemmas.Bool.{cases_lt, ltb-true, ltb-false, lt-ltb, le-ltb
 use Rattle.std.proofs.lemmas.List.{take_at, drop_at, take-append-drop, length-append, length-take, length-drop, get_or-drop, get_or-take, get_or_past}
 use Rattle.std.proofs.lemmas.Nat.{le_bytes_2, le_bytes_4, from_le_bytes-to_le_bytes_2, from_le_bytes-to_le_bytes_4}
 use Rattle.hac_model.specs.Run.Answers.{◌>>=◌}
-use Rattle.hac_model.specs.Payload.Fields.{Field, number_at, number, run_at, run, nothing, ◌&◌, checked, items_at, items_fit, items_text, list, Part, part, Way, failing_at, way, whole_way, way_at, choice_at, choice}
+use Rattle.hac_model.specs.Payload.Fields.{Field, number_at, number, run_at, run, nothing, ◌&◌, checked, items_at, items_fit, items_text, list, seen, Part, part, Way, failing_at, way, whole_way, way_at, choice_at, choice}
 use Rattle.event_codec.specs.Laws.{AreBytes}
 
 AreBytes-drop : (n : ℕ) (bytes : List ℕ) → AreBytes bytes → AreBytes (drop n bytes)
@@ -202,6 +202,17 @@ checked_again f test p x rest fits =
 pub checked_lawful : {A : Type 0} (f : Field A) (test : A → Bool) → Lawful f → Lawful (checked f test)
 checked_lawful f test p = record { takes = checked_takes f test p; again = checked_again f test p }
 
+-- what is read and made anew is seen as it was
+pub seen_lawful : {A B : Type 0} (taken : B → A) (made : A → B) (f : Field A) → Lawful f → ((x : B) → made (taken x) ≡ x) → ((x : A) → taken (made x) ≡ x) → Lawful (seen taken made f)
+seen_lawful {A} {B} taken made f p anew back = record { takes = takes; again = λ x rest fits. rw (p.again (taken x) rest fits, anew x) refl }
+  where
+    takes : (bytes : List ℕ) (x : B × List ℕ) → AreBytes bytes → (seen taken made f).read bytes ≡ Ok x → Took (seen taken made f) bytes x
+    takes bytes x fits e =
+        let a = bind_ok (f.read bytes) (λ y. Ok (made y.0, y.1)) x e in
+        let first = p.takes bytes a.0 fits a.1 in
+        let took : Took (seen taken made f) bytes (made a.0.0, a.0.1) = record { parts = rw (back a.0.0) first.parts; rest = first.rest; fits = rw (back a.0.0) first.fits } in
+        subst (λ (y : B × List ℕ). Took (seen taken made f) bytes y) (ok_is (made a.0.0, a.0.1) x a.2) took
+
 -- ---- lists
 
 record TookItems {A : Type 0} (item : Option A → Field A) (n : ℕ) (last : Option A) (bytes : List ℕ) (x : List A × List ℕ) : Type 0 where
@@ -263,18 +274,23 @@ abbrev pub WaysTake : {A : Type 0} → (A → Part) → List (Way A) → Type 0
 WaysTake parts [] = Unit {0}
 WaysTake parts (w ∷ ws) = WayTakes parts w × WaysTake parts ws
 
-way_took : {A B : Type 0} (parts : B → Part) (kind : ℕ) (f : Field A) (made : A → B) (p : Lawful f) (same : (x : A) → parts (made x) ≡ part kind f x) (read : Result (A × List ℕ) ℕ) (bytes : List ℕ) (x : B × List ℕ)
+way_took : {A B : Type 0} (parts : B → Part) (kind : ℕ) (f : Field A) (made : A → B) (p : Lawful f) (same : (x : A) → f.fits x ≡ true → parts (made x) ≡ part kind f x) (read : Result (A × List ℕ) ℕ) (bytes : List ℕ) (x : B × List ℕ)
     → ((y : A × List ℕ) → read ≡ Ok y → f.read bytes ≡ Ok y) → AreBytes bytes → (read >>= λ y. Ok (made y.0, y.1)) ≡ Ok x
     → ((kind ∷ bytes) ≡ (parts x.0).text ++ x.1) × AreBytes x.1 × ((parts x.0).fits ≡ true)
 way_took {A} {B} parts kind f made p same read bytes x sound fits e =
     let a = bind_ok read (λ y. Ok (made y.0, y.1)) x e in
     let took = p.takes bytes a.0 fits (sound a.0 a.1) in
-    let text : (kind ∷ bytes) ≡ (parts (made a.0.0)).text ++ a.0.1 = rw (same a.0.0) (ap (λ (t : List ℕ). kind ∷ t) took.parts) in
-    let whole : ((kind ∷ bytes) ≡ (parts (made a.0.0)).text ++ a.0.1) × AreBytes a.0.1 × ((parts (made a.0.0)).fits ≡ true) = (text, took.rest, rw (same a.0.0) took.fits) in
+    let text : (kind ∷ bytes) ≡ (parts (made a.0.0)).text ++ a.0.1 = rw (same a.0.0 took.fits) (ap (λ (t : List ℕ). kind ∷ t) took.parts) in
+    let whole : ((kind ∷ bytes) ≡ (parts (made a.0.0)).text ++ a.0.1) × AreBytes a.0.1 × ((parts (made a.0.0)).fits ≡ true) = (text, took.rest, rw (same a.0.0 took.fits) took.fits) in
     subst (λ (y : B × List ℕ). ((kind ∷ bytes) ≡ (parts y.0).text ++ y.1) × AreBytes y.1 × ((parts y.0).fits ≡ true)) (ok_is (made a.0.0, a.0.1) x a.2) whole
 
+-- where the values that the field spells are of the kind
+pub way_is_fitting : {A B : Type 0} (parts : B → Part) (kind : ℕ) (f : Field A) (made : A → B) → Lawful f → ((x : A) → f.fits x ≡ true → parts (made x) ≡ part kind f x) → WayTakes parts (way kind f made)
+way_is_fitting parts kind f made p same = record { takes = λ bytes x fits e. way_took parts kind f made p same (f.read bytes) bytes x (λ y h. h) fits e }
+
+-- where all its values are
 pub way_is : {A B : Type 0} (parts : B → Part) (kind : ℕ) (f : Field A) (made : A → B) → Lawful f → ((x : A) → parts (made x) ≡ part kind f x) → WayTakes parts (way kind f made)
-way_is parts kind f made p same = record { takes = λ bytes x fits e. way_took parts kind f made p same (f.read bytes) bytes x (λ y h. h) fits e }
+way_is parts kind f made p same = way_is_fitting parts kind f made p (λ x spelled. same x)
 
 failing-ok : {A : Type 0} (left : ℕ) (read : Result A ℕ) (x : A) → failing_at left read ≡ Ok x → read ≡ Ok x
 failing-ok left (Ok y) x e = e
@@ -282,7 +298,7 @@ failing-ok left (Err other) x e = absurd cc
 
 pub whole_way_is : {A B : Type 0} (parts : B → Part) (kind : ℕ) (f : Field A) (made : A → B) → Lawful f → ((x : A) → parts (made x) ≡ part kind f x) → WayTakes parts (whole_way kind f made)
 whole_way_is parts kind f made p same = record {
-  takes = λ bytes x fits e. way_took parts kind f made p same (failing_at (suc (length bytes)) (f.read bytes)) bytes x (λ y h. failing-ok (suc (length bytes)) (f.read bytes) y h) fits e;
+  takes = λ bytes x fits e. way_took parts kind f made p (λ y spelled. same y) (failing_at (suc (length bytes)) (f.read bytes)) bytes x (λ y h. failing-ok (suc (length bytes)) (f.read bytes) y h) fits e;
 }
 
 found_takes : {A : Type 0} (parts : A → Part) (ways : List (Way A)) → WaysTake parts ways → (kind : ℕ) (bytes : List ℕ) (x : A × List ℕ) → AreBytes bytes → way_at ways kind bytes ≡ Ok x

@@ -6,31 +6,32 @@ use Rattle.std.proofs.lemmas.List.{append-nil, nil_from_length}
 use Rattle.hac_model.specs.Payload.Fields.{Field, num, nothing, ◌&◌, checked, part, way, way_at, choice_at}
 use Rattle.hac_model.specs.Tree.Names.{is_name}
 use Rattle.hac_model.specs.Tree.Listing.{is_before}
-use Rattle.hac_model.specs.Payload.Payloads.{name_field, space_field, text_field, target_field, docs_field, told_field, mark_field, nums, is_any, is_path_word, rises, mark_part, mark_ways, event_part, event_ways, event_field, payload_field, is_spellable, event_text, all_of, placed, spelled}
+use Rattle.hac_model.specs.Payload.Payloads.{name_field, space_field, text_field, target_field, docs_field, told_field, mark_field, nums, is_any, rises, mark_part, mark_ways, event_part, event_ways, event_field, payload_field, is_spellable, event_text, all_of, placed, spelled}
 use Rattle.hac_model.specs.Payload.QueryFields.{query_field}
+use Rattle.hac_model.specs.Script.PathWords.{is_path_word}
 use Rattle.hac_model.specs.Script.SpaceNames.{is_space_name}
 use Rattle.hac_model.specs.declared.events.Event.{Event}
 use Rattle.hac_model.specs.declared.events.Event.TheVariants.{Mkdir, NewFile, Rewrite, Ln, Mv, Rm, Rmdir, Smkdir, Setq, Unq, Mark, Smount, Ssync, Sumount, Step, Cd}
-use Rattle.hac_model.specs.declared.limits.TheConstants.{NAME_LIMIT, TEXT_LIMIT}
+use Rattle.hac_model.specs.declared.limits.TheConstants.{NAME_LIMIT, TARGET_LIMIT, TEXT_LIMIT}
 use Rattle.hac_model.specs.declared.marks.Kind.{Kind}
 use Rattle.hac_model.specs.declared.marks.Kind.TheVariants.{Transient, Permanent, Prohibited, Unlinked}
 use Rattle.event_codec.specs.Laws.{AreBytes, ReadIsWritten, WrittenIsRead}
 use Rattle.event_codec.proofs.FieldLemmas.{Took, Lawful, bind_ok, guard_ok, wide8, wide16, wide32, run_lawful, nothing_lawful, both_lawful, checked_lawful, list_lawful, way_is, choice_takes, way_again}
 use Rattle.event_codec.proofs.QueryLemmas.{num_lawful, query_lawful}
 
-name_lawful : Lawful name_field
+pub name_lawful : Lawful name_field
 name_lawful = run_lawful w8 NAME_LIMIT is_name wide8 (lit< tt)
 
-space_lawful : Lawful space_field
+pub space_lawful : Lawful space_field
 space_lawful = run_lawful w8 32 is_space_name wide8 (lit< tt)
 
-text_lawful : Lawful text_field
+pub text_lawful : Lawful text_field
 text_lawful = run_lawful w32 TEXT_LIMIT is_any wide32 (lit< tt)
 
-target_lawful : Lawful target_field
-target_lawful = run_lawful w16 1024 is_path_word wide16 (lit< tt)
+pub target_lawful : Lawful target_field
+target_lawful = run_lawful w16 TARGET_LIMIT is_path_word wide16 (lit< tt)
 
-nums_lawful : Lawful nums
+pub nums_lawful : Lawful nums
 nums_lawful = list_lawful num (λ last. checked num (rises nat_lt last)) num_lawful (λ last. checked_lawful num (rises nat_lt last) num_lawful)
 
 docs_lawful : Lawful docs_field
@@ -180,9 +181,9 @@ written_is_read e fits =
     let read : payload_field.read (payload_field.text e) ≡ Ok (e, []) = ap (λ (bytes : List ℕ). payload_field.read bytes) (sym (append-nil (payload_field.text e))) ∙ payload_again e [] fits in
     rw read refl
 
-placed_ok : (size : ℕ) (read : Result Event ℕ) (e : Event) → placed size read ≡ Ok e → read ≡ Ok e
-placed_ok size (Ok x) e h = h
-placed_ok size (Err left) e h = absurd cc
+pub placed_ok : {A : Type 0} (size : ℕ) (read : Result A ℕ) (value : A) → placed size read ≡ Ok value → read ≡ Ok value
+placed_ok size (Ok x) value h = h
+placed_ok size (Err left) value h = absurd cc
 
 pub read_is_written : ReadIsWritten
 unfolding is_spellable event_text spelled

@@ -4,6 +4,7 @@ use Rattle.std.specs.Int.{Width, byte_len, from_le_bytes}
 use Rattle.hac_model.specs.Run.Answers as gives
 use Rattle.hac_model.specs.Payload.Payloads.{is_spellable}
 use Rattle.hac_model.specs.declared.events.Event.{Event}
+use Rattle.hac_model.specs.declared.states.State.{State}
 use Rattle.event_codec.specs.declared.faults.Fault.{Fault}
 use Rattle.event_codec.specs.declared.faults.Fault.TheVariants as fault
 use Rattle.event_codec.specs.declared.faults.CodecFault.{CodecFault}
@@ -25,7 +26,7 @@ abbrev pub GivesSeen : {A B : Type 0} → (A → B) → Result A Fault → List 
 GivesSeen view result rest read = gives.GivesSeen (λ value. (view value, rest)) Fails result read
 
 -- the fault is for what the payload says
-abbrev pub IsPayloadFault : CodecFault → Result Event ℕ → Type 0
+abbrev pub IsPayloadFault : {A : Type 0} → CodecFault → Result A ℕ → Type 0
 IsPayloadFault codec.Memory wanted = ⊤
 IsPayloadFault (codec.Bad at) wanted = wanted ≡ Err at
 
@@ -33,6 +34,10 @@ IsPayloadFault (codec.Bad at) wanted = wanted ≡ Err at
 abbrev pub ReadsPayload : Result Payload CodecFault → Result Event ℕ → Type 0
 ReadsPayload (Ok (payload.Event event)) wanted = wanted ≡ Ok event
 ReadsPayload (Err fault) wanted = IsPayloadFault fault wanted
+
+-- the call gave the state that the payload says, or the place of the fault
+abbrev pub ReadsState : Result State CodecFault → Result State ℕ → Type 0
+ReadsState result wanted = gives.Gives IsPayloadFault result wanted
 
 -- what the payload holds has a spelling
 abbrev pub IsSpellable : Payload → Type 0

@@ -5,23 +5,21 @@ ghost use Rattle.std.specs.Int.{w8, w16, w32};
 ghost use Rattle.std.specs.Option.{option_copied};
 ghost use Rattle.hac_model.specs.Payload.Fields.{num};
 ghost use Rattle.hac_model.specs.Payload.Payloads.{name_field, space_field, target_field};
-ghost use Rattle.hac_model.specs.Payload.Payloads.{text_field, is_path_word};
+ghost use Rattle.hac_model.specs.Payload.Payloads.{text_field};
 ghost use Rattle.hac_model.specs.Payload.QueryFields.{word_field};
+ghost use Rattle.hac_model.specs.Script.PathWords.{is_path_word};
 ghost use Rattle.event_codec.specs.Reading.{GivesField, run_in};
 
 use crate::bytes::Bytes;
 use crate::faults::Fault;
 use byteorder::{ByteOrder, LittleEndian};
-use hac_model::{NAME_LIMIT, Name, Number, QUERY_LIMIT, TEXT_LIMIT, Text};
+use hac_model::{NAME_LIMIT, Name, Number, QUERY_LIMIT, TARGET_LIMIT, TEXT_LIMIT, Text};
 use hac_names::{has_long_part, is_bad, is_name, is_space_name};
 use hac_words::is_word;
 use std::alloc::Global;
 
 /// The most bytes of the name of a space.
 pub(crate) const SPACE_LIMIT: usize = 32;
-
-/// The most bytes of a symbolic link's target.
-pub(crate) const TARGET_LIMIT: usize = 1_024;
 
 /// The number at the front.
 #[tactic(auto, unfolding(hac_model::specs::Payload::Fields::number_at))]
@@ -124,7 +122,7 @@ pub(crate) fn text(alloc: Global, bytes: &mut Bytes) -> Result<Text, Fault>
 pub(crate) fn target(alloc: Global, bytes: &mut Bytes) -> Result<Text, Fault>
     ensures { GivesField result bytes.new (target_field.read bytes.old) }
 {
-    match middle_run(bytes.rest(), TARGET_LIMIT) {
+    match middle_run(bytes.rest(), TARGET_LIMIT as usize) {
         Some(run) if is_path_word(run) => {
             bytes.skip(2 + run.len());
             Ok(Text::new(run.to_vec(alloc)?))

@@ -1,9 +1,9 @@
 //! The fields that are lists, read and written: a number, and as many items.
-ghost use Rattle.std.specs.Prelude.{◌≡◌, ◌<◌, ◌^◌, ℕ, List, Option, None, nat_lt, ◌++◌, IsTrue};
+ghost use Rattle.std.specs.Prelude.{◌≡◌, ◌<◌, ◌^◌, ℕ, List, Option, None, nat_le, nat_lt, ◌++◌, IsTrue};
 ghost use Rattle.std.specs.Prelude.{OnOk, length};
 ghost use Rattle.std.specs.Option.{option_copied};
 ghost use Rattle.hac_model.specs.Payload.Fields.{Field, checked, items_at, items_fit, items_text};
-ghost use Rattle.hac_model.specs.Payload.Fields.{num};
+ghost use Rattle.hac_model.specs.Payload.Fields.{list, num};
 ghost use Rattle.hac_model.specs.Tree.Listing.{is_before};
 ghost use Rattle.hac_model.specs.Payload.Payloads.{docs_field, name_field, nums, rises, told_field};
 ghost use Rattle.event_codec.specs.Reading.{GivesField};
@@ -88,8 +88,7 @@ impl Item for Seq<Number> {
         bytes: &mut Bytes,
         _last: Option<&Seq<Number>>,
     ) -> Result<Seq<Number>, Fault> {
-        let count = num(bytes)?;
-        items(alloc, bytes, count.get())
+        list(alloc, bytes)
     }
 
     fn put(&self, out: &mut Vec<u8>) -> Result<(), Memory> {
@@ -101,19 +100,34 @@ impl Item for Seq<Number> {
 pub(crate) fn docs(alloc: Global, bytes: &mut Bytes) -> Result<Seq<Name>, Fault>
     ensures { GivesField result bytes.new (docs_field.read bytes.old) }
 {
-    let bad = bytes.bad();
-    let count = num(bytes)?;
-    if count.get() > DOCS_LIMIT {
-        return Err(bad);
-    }
-    items(alloc, bytes, count.get())
+    short_list(alloc, bytes)
 }
 
 /// What spaces answered.
 pub(crate) fn told(alloc: Global, bytes: &mut Bytes) -> Result<Seq<Seq<Number>>, Fault>
     ensures { GivesField result bytes.new (told_field.read bytes.old) }
 {
+    list(alloc, bytes)
+}
+
+/// Items behind their number.
+pub(crate) fn list<T: Item>(alloc: Global, bytes: &mut Bytes) -> Result<Seq<T>, Fault>
+    ensures { GivesField result bytes.new ((list num T.item).read bytes.old) }
+{
     let count = num(bytes)?;
+    items(alloc, bytes, count.get())
+}
+
+/// The same, of no more items than a mount may have documents.
+pub(crate) fn short_list<T: Item>(alloc: Global, bytes: &mut Bytes) -> Result<Seq<T>, Fault>
+    ensures { GivesField result bytes.new
+        ((list (checked num (λ n. nat_le n 10000)) T.item).read bytes.old) }
+{
+    let bad = bytes.bad();
+    let count = num(bytes)?;
+    if count.get() > DOCS_LIMIT {
+        return Err(bad);
+    }
     items(alloc, bytes, count.get())
 }
 

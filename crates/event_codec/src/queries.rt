@@ -89,7 +89,7 @@ fn next_token(alloc: Global, bytes: &mut Bytes, terms: u64) -> Result<Token, Fau
 }
 
 /// The letters of a term. Where they are bad, the fault is where `left` bytes are left.
-fn whole_word(alloc: Global, bytes: &mut Bytes, left: usize) -> Result<Name, Fault>
+pub(crate) fn whole_word(alloc: Global, bytes: &mut Bytes, left: usize) -> Result<Name, Fault>
     ensures { GivesField result bytes.new (failing_at left (word_field.read bytes.old)) }
 {
     match word(alloc, bytes) {

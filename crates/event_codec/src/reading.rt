@@ -46,7 +46,7 @@ pub fn read_payload(alloc: Global, bytes: &[u8], first: bool) -> Result<Payload,
 }
 
 /// The fault at the place in a payload of `size` bytes that has `left` bytes behind it.
-fn bad(size: usize, left: usize) -> CodecFault
+pub(crate) fn bad(size: usize, left: usize) -> CodecFault
     ensures { result ≡ codec.Bad (size - left) }
 {
     CodecFault::Bad {

@@ -4,7 +4,7 @@ use Rattle.std.specs.Prelude.{Some, None, not, nat_le, nat_lt, filter}
 use Rattle.std.proofs.lemmas.Bool.Decides.{nat_tests}
 use Rattle.hac_model.specs.Tree.Events.{added, changed_in, changed_at, edited, removed, reseated}
 use Rattle.hac_model.specs.Tree.Limits.{are_paths_short, counts, long_paths, passed_limit, file_bytes}
-use Rattle.hac_model.specs.Tree.{entry_at, is_directory, is_directory_at, is_dirty, is_file, path_of}
+use Rattle.hac_model.specs.Tree.{entry_at, is_directory, is_directory_at, is_dirty, is_file, is_symlink, path_of}
 use Rattle.hac_model.specs.Tree.Valid.{IsLayout}
 use Rattle.hac_model.specs.declared.counts.Counts.{Counts}
 use Rattle.hac_model.specs.declared.limits.TheConstants.{PATH_LIMIT}
@@ -27,6 +27,7 @@ tally es long next = record {
   bytes = measured file_bytes es;
   directories = measured (one_if is_directory) es + 1;
   semantics = measured (one_if is_queried) es;
+  symlinks = measured (one_if is_symlink) es;
   files = measured (one_if is_file) es;
   dirty = measured (one_if is_dirty) es;
   long_paths = long;
@@ -48,6 +49,7 @@ module _ (s : State) (h : IsLayout s) where
     bytes = measured-added file_bytes s.entries (new_entry s dir name new) i;
     directories = more i;
     semantics = measured-added (one_if is_queried) s.entries (new_entry s dir name new) i;
+    symlinks = measured-added (one_if is_symlink) s.entries (new_entry s dir name new) i;
     files = measured-added (one_if is_file) s.entries (new_entry s dir name new) i;
     dirty = measured-added (one_if is_dirty) s.entries (new_entry s dir name new) i;
     long_paths = longs i;
@@ -72,6 +74,7 @@ module _ (s : State) (h : IsLayout s) where
         bytes = gone file_bytes i;
         directories = less i;
         semantics = gone (one_if is_queried) i;
+        symlinks = gone (one_if is_symlink) i;
         files = gone (one_if is_file) i;
         dirty = gone (one_if is_dirty) i;
         long_paths = same_long i;
@@ -99,6 +102,7 @@ module _ (s : State) (h : IsLayout s) where
       bytes = new file_bytes i;
       directories = other i;
       semantics = new (one_if is_queried) i;
+      symlinks = new (one_if is_symlink) i;
       files = new (one_if is_file) i;
       dirty = new (one_if is_dirty) i;
       long_paths = cond {A = ℕ} (paths-edited s.entries n edit i) 0 1 + 0;
@@ -118,6 +122,7 @@ counts-reseated s n dir name long told = λ i. record {
   bytes = measured-reseated file_bytes s n dir name i;
   directories = measured-reseated (one_if is_directory) s n dir name i + 1;
   semantics = measured-reseated (one_if is_queried) s n dir name i;
+  symlinks = measured-reseated (one_if is_symlink) s n dir name i;
   files = measured-reseated (one_if is_file) s n dir name i;
   dirty = measured-reseated (one_if is_dirty) s n dir name i;
   long_paths = told i;
@@ -132,6 +137,7 @@ part-replaced all new old (rest, sum) = (
     bytes = turned rest.bytes old.bytes new.bytes i;
     directories = turned rest.directories old.directories new.directories i;
     semantics = turned rest.semantics old.semantics new.semantics i;
+    symlinks = turned rest.symlinks old.symlinks new.symlinks i;
     files = turned rest.files old.files new.files i;
     dirty = turned rest.dirty old.dirty new.dirty i;
     long_paths = turned rest.long_paths old.long_paths new.long_paths i;
@@ -147,11 +153,12 @@ same-part a b part same =
     let bytes : a.bytes ≡ b.bytes = omega (arith, ap (λ (c : Counts). c.bytes) same) in
     let directories : a.directories ≡ b.directories = omega (arith, ap (λ (c : Counts). c.directories) same) in
     let semantics : a.semantics ≡ b.semantics = omega (arith, ap (λ (c : Counts). c.semantics) same) in
+    let symlinks : a.symlinks ≡ b.symlinks = omega (arith, ap (λ (c : Counts). c.symlinks) same) in
     let files : a.files ≡ b.files = omega (arith, ap (λ (c : Counts). c.files) same) in
     let dirty : a.dirty ≡ b.dirty = omega (arith, ap (λ (c : Counts). c.dirty) same) in
     let long_paths : a.long_paths ≡ b.long_paths = omega (arith, ap (λ (c : Counts). c.long_paths) same) in
     let next : a.next ≡ b.next = omega (arith, ap (λ (c : Counts). c.next) same) in
-    λ i. record { bytes = bytes i; directories = directories i; semantics = semantics i; files = files i; dirty = dirty i; long_paths = long_paths i; next = next i }
+    λ i. record { bytes = bytes i; directories = directories i; semantics = semantics i; symlinks = symlinks i; files = files i; dirty = dirty i; long_paths = long_paths i; next = next i }
 
 -- a file that is dirty is a file
 dirty-few : (es : List Entry) → measured (one_if is_dirty) es ≤ measured (one_if is_file) es
@@ -171,6 +178,7 @@ counts-small s h =
       bytes_are = grind (arith, nat_tests, within.texts);
       directories_are = grind (arith, nat_tests, within.dirs);
       semantics_are = grind (arith, nat_tests, within.semantics);
+      symlinks_are = grind (arith, nat_tests, within.symlinks);
       files_are = grind (arith, nat_tests, within.items);
       dirty_are = grind (arith, nat_tests, within.items, dirty-few s.entries);
       long_paths_are = omega (arith, long-none s h.limits);

@@ -24,12 +24,12 @@ use Rattle.hac_model.proofs.ChangeLemmas.{entry_at-changed, entry_at-gone, entry
 use Rattle.hac_model.proofs.EventLemmas.{due, steps-due}
 use Rattle.hac_model.proofs.TreeLemmas.{entry_at-behind, entry_at-first, entry_at-low, entry_at-next, entry_at-number}
 use Rattle.hac_model.proofs.ValidLemmas.{apply-layout}
-use Rattle.file_tree.specs.Answers.{entry_kind, is_dirty_at}
+use Rattle.file_tree.specs.Answers.{is_dirty_at}
 use Rattle.file_tree.specs.Nodes.{body_from}
-use Rattle.file_tree.specs.Ready.{is_awaited}
+use Rattle.file_tree.specs.Ready.{is_awaited, ready_for}
 use Rattle.file_tree.specs.declared.nodes.NewBody.{NewBody}
 use Rattle.file_tree.specs.declared.nodes.NewBody.TheVariants as new
-use Rattle.file_tree.specs.declared.ready.Ready.TheVariants.{Add, Text}
+use Rattle.file_tree.specs.declared.ready.Ready.TheVariants.{Text}
 
 -- the entry that is looked up is dirty
 abbrev dirty_in : Option Entry → Bool
@@ -66,7 +66,7 @@ new-number s h = ap dirty_in (entry_at-next 0 s.entries s.next s.next h.numbers 
 
 -- a new file is awaited
 pub dirty-added : (s : State) (dir : ℕ) (name : List ℕ) (b : NewBody) (n : ℕ) → IsLayout s →
-    (is_dirty_at s.entries n || is_awaited s.next (Add dir (entry_kind (body_from b))) n) ≡ is_dirty_at (added s dir name (body_from b)).entries n
+    (is_dirty_at s.entries n || is_awaited s.next (ready_for dir b) n) ≡ is_dirty_at (added s dir name (body_from b)).entries n
 dirty-added s dir name b n h = ap (λ (t : Bool). is_dirty_at s.entries n || t) (awaits b) ∙ (elim (s.next == n) as (λ t. (s.next == n) ≡ t → (is_dirty_at s.entries n || (is_dirty (body_from b) && t)) ≡ is_dirty_at (added s dir name (body_from b)).entries n) [
   | true ↦ (λ same.
       let here : s.next ≡ n = eqb-true s.next n same in
@@ -80,9 +80,10 @@ dirty-added s dir name b n h = ap (λ (t : Bool). is_dirty_at s.entries n || t) 
       ∙ sym (ap dirty_in (entry_at-other s.entries (record { number = s.next; parent = dir; name = name; body = body_from b }) n (other-eqb s.next n other))))
 ] refl)
   where
-    awaits : (b : NewBody) → is_awaited s.next (Add dir (entry_kind (body_from b))) n ≡ (is_dirty (body_from b) && (s.next == n))
+    awaits : (b : NewBody) → is_awaited s.next (ready_for dir b) n ≡ (is_dirty (body_from b) && (s.next == n))
     awaits (new.File text) = refl
     awaits new.Dir = refl
+    awaits (new.Symlink target) = refl
     awaits (new.Semantic query) = refl
 
 -- after a change of one entry

@@ -6,6 +6,7 @@ pub mod ChildLemmas
 pub mod ListLemmas
 pub mod ShapeLemmas
 pub mod StateLemmas
+pub mod TargetLemmas
 pub mod NewLemmas
 pub mod NextLemmas
 pub mod OrderLemmas
@@ -14,3 +15,5 @@ pub mod TreeLemmas
 pub mod CountingLemmas
 pub mod ShallowLemmas
 pub mod PlacedLemmas
+pub mod TraceLemmas
+pub mod WalkedLemmas

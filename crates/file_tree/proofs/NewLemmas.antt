@@ -1,16 +1,24 @@
--- A tree of the root alone.
-use Rattle.std.proofs.Common.{◌≡◌, ℕ, List, [], subst, ap, sym, ◌∙◌}
+-- A tree of the root alone, and what a new entry finds.
+use Rattle.std.proofs.Common.{◌≡◌, ℕ, List, [], subst, ap, sym, ◌∙◌, arith}
 use Rattle.std.specs.Prelude.{nat_eq, Option, None, false, true, is_some, option_and_then}
 use Rattle.std.specs.Option.{option_map, option_map_or, option_to_list}
 use Rattle.std.specs.Map.{lookup}
 use Rattle.indexmap.specs.IndexMap.{IndexMap}
 use Rattle.hac_model.specs.Tree.Depends.{Among}
+use Rattle.hac_model.specs.Tree.Events.{added}
 use Rattle.hac_model.specs.Tree.{empty}
-use Rattle.hac_model.specs.Tree.Valid.{IsLayout}
+use Rattle.hac_model.specs.Tree.Valid.{IsLayout, IsSound}
+use Rattle.hac_model.specs.declared.states.Body.{Body}
 use Rattle.hac_model.specs.declared.states.Entry.{Entry}
+use Rattle.hac_model.specs.declared.states.State.{State}
+use Rattle.hac_model.proofs.ChangeLemmas.{entry_at-new}
+use Rattle.hac_model.proofs.TreeLemmas.{entry_at-all, entry_at-next}
 use Rattle.hac_model.proofs.ValidLemmas.{empty-layout}
 use Rattle.file_tree.specs.Nodes.{entries_below, entry_from, entry_of, has_node, if_placed, kids_of, name_of}
-use Rattle.file_tree.specs.Shape.{HasSpare, IsShaped, NamesRise, parent_in, state_of}
+use Rattle.file_tree.specs.Ready.{ready_for}
+use Rattle.file_tree.specs.Shape.{HasNew, HasSpare, IsShaped, NamesRise, parent_in, state_of}
+use Rattle.file_tree.specs.declared.nodes.NewBody.{NewBody}
+use Rattle.file_tree.specs.declared.nodes.NewBody.TheVariants as new
 use Rattle.file_tree.specs.declared.nodes.Node.{Node}
 use Rattle.file_tree.specs.declared.tree.Tree.TheInside.{Inside}
 
@@ -49,3 +57,18 @@ shaped-new u next entries kids root others spare = record {
   spare = spare;
   others = λ n root ahead none. others n root;
 }
+
+-- A new entry.
+
+-- it is sound in a sound tree
+pub added-sound : (s : State) (dir : ℕ) (name : List ℕ) (b : Body) → IsLayout s → IsLayout (added s dir name b) → IsSound b
+added-sound s dir name b h after =
+    let entry : Entry = record { number = s.next; parent = dir; name = name; body = b } in
+    entry_at-all (λ e. IsSound e.body) (added s dir name b).entries s.next entry after.bodies (entry_at-new s.entries entry (entry_at-next 0 s.entries s.next s.next h.numbers (omega arith)))
+
+-- what was prepared for it, of whatever kind
+pub spare-new : {S : Type 0} (dir : ℕ) (b : NewBody) (nodes : IndexMap ℕ Node S) (next : ℕ) (spare : List ℕ) → HasSpare (ready_for dir b) nodes next spare → HasNew dir nodes next spare
+spare-new dir (new.File text) nodes next spare has = has
+spare-new dir new.Dir nodes next spare has = has
+spare-new dir (new.Symlink target) nodes next spare has = has
+spare-new dir (new.Semantic query) nodes next spare has = has

@@ -6,7 +6,7 @@ use Rattle.hac_model.specs.Query.Formula.{Formula}
 use Rattle.hac_model.specs.Tree.Bare.{bare, bare_body}
 use Rattle.hac_model.specs.Tree.Events.{apply, asking, changed_in, changed_at, edited, forgotten, is_bare, marked, removed}
 use Rattle.hac_model.specs.Tree.Limits.{counts, long_paths, file_bytes}
-use Rattle.hac_model.specs.Tree.{entry_at, is_directory, is_dirty, is_file, is_file_at, is_made_directory}
+use Rattle.hac_model.specs.Tree.{entry_at, is_directory, is_dirty, is_file, is_file_at, is_leaf_at, is_made_directory}
 use Rattle.hac_model.specs.Tree.Valid.{IsLayout}
 use Rattle.hac_model.specs.declared.counts.Counts.{Counts}
 use Rattle.hac_model.specs.declared.events.Event.{Event}
@@ -20,15 +20,15 @@ use Rattle.hac_model.specs.declared.states.State.{State}
 use Rattle.hac_model.proofs.AlikeLemmas.{counts-bare}
 use Rattle.hac_model.proofs.BareLemmas.{forgotten-entries, marked-bare}
 use Rattle.hac_model.proofs.PassedLemmas.{bare-passes, removed-passes}
-use Rattle.hac_model.proofs.ValidLemmas.{file-bare}
+use Rattle.hac_model.proofs.ValidLemmas.{leaf-bare}
 use Rattle.file_tree.specs.Answers.{is_dirty_at}
 use Rattle.file_tree.specs.Counting.{share_of}
 use Rattle.file_tree.proofs.CountingLemmas.{long-none}
 
 -- no path is long once something is removed
 
-pub file-short : (s : State) (file : ℕ) → IsLayout s → is_file_at s.entries file ≡ true → long_paths (removed s file).entries ≡ 0
-file-short s file h is = long-none (removed s file) (removed-passes s file h (file-bare s file h is))
+pub leaf-short : (s : State) (entry : ℕ) → IsLayout s → is_leaf_at s.entries entry ≡ true → long_paths (removed s entry).entries ≡ 0
+leaf-short s entry h is = long-none (removed s entry) (removed-passes s entry h (leaf-bare s entry h is))
 
 pub bare-short : (s : State) (dir : ℕ) → IsLayout s → is_bare s.entries dir ≡ true → long_paths (removed s dir).entries ≡ 0
 bare-short s dir h is = long-none (removed s dir) (bare-passes s dir h is)

@@ -1,8 +1,8 @@
 -- What the calls of a tree answer.
-use Rattle.std.specs.Prelude.{◌≡◌, ⊤, ℕ, Bool, false, ◌==◌, ◌||◌, if◌then◌else◌, nat_le, is_some, List, [], ◌∷◌, Option, Some, None, Result, Ok, Err}
+use Rattle.std.specs.Prelude.{◌≡◌, ⊤, ℕ, Bool, false, if◌then◌else◌, nat_le, List, [], ◌∷◌, Option, Some, None, Result, Err}
 use Rattle.std.specs.Option.{option_map_or}
 use Rattle.hac_model.specs.Run.Answers.{Gives}
-use Rattle.hac_model.specs.Tree.{body_at, entry_at, is_dirty}
+use Rattle.hac_model.specs.Tree.{body_at, is_dirty}
 use Rattle.hac_model.specs.declared.places.Place.{Place}
 use Rattle.hac_model.specs.declared.replies.Refusal.{Refusal}
 use Rattle.hac_model.specs.declared.replies.Refusal.TheVariants as refusal
@@ -18,7 +18,7 @@ use Rattle.file_tree.specs.declared.tree.EntryKind.TheVariants.{File, Dir, Symli
 abbrev pub IsPlaceFault : Stop → Result Place Refusal → Type 0
 IsPlaceFault (Missing path) wanted = wanted ≡ Err (refusal.NoPath path)
 IsPlaceFault (NotDir path) wanted = wanted ≡ Err (refusal.NotDir path)
-IsPlaceFault (Loop path) wanted = ⊥
+IsPlaceFault (Loop path) wanted = wanted ≡ Err (refusal.Loop path)
 IsPlaceFault Memory wanted = ⊤
 
 -- the look-up gave what is wanted, the place or the stop

@@ -1,7 +1,7 @@
 -- What one entry counts for, and sums of counts.
 use Rattle.std.specs.Prelude.{◌≡◌, ℕ, ◌+◌, ◌<◌, ◌^◌, Bool, if◌then◌else◌, is_some, Some}
 use Rattle.hac_model.specs.Tree.Limits.{file_bytes}
-use Rattle.hac_model.specs.Tree.{entry_at, is_directory, is_dirty, is_file, query_in}
+use Rattle.hac_model.specs.Tree.{entry_at, is_directory, is_dirty, is_file, is_symlink, query_in}
 use Rattle.hac_model.specs.declared.counts.Counts.{Counts}
 use Rattle.hac_model.specs.declared.states.Body.{Body}
 use Rattle.hac_model.specs.declared.states.Entry.{Entry}
@@ -17,6 +17,7 @@ share_of body = record {
   bytes = file_bytes body;
   directories = one_if (is_directory body);
   semantics = one_if (is_some (query_in body));
+  symlinks = one_if (is_symlink body);
   files = one_if (is_file body);
   dirty = one_if (is_dirty body);
   long_paths = 0;
@@ -33,6 +34,7 @@ plus a b = record {
   bytes = a.bytes + b.bytes;
   directories = a.directories + b.directories;
   semantics = a.semantics + b.semantics;
+  symlinks = a.symlinks + b.symlinks;
   files = a.files + b.files;
   dirty = a.dirty + b.dirty;
   long_paths = a.long_paths + b.long_paths;
@@ -44,6 +46,7 @@ pub record AreSmall (counts : Counts) : Type 0 where
   pub bytes_are : counts.bytes < 2 ^ 63
   pub directories_are : counts.directories < 2 ^ 63
   pub semantics_are : counts.semantics < 2 ^ 63
+  pub symlinks_are : counts.symlinks < 2 ^ 63
   pub files_are : counts.files < 2 ^ 63
   pub dirty_are : counts.dirty < 2 ^ 63
   pub long_paths_are : counts.long_paths < 2 ^ 63

@@ -7,3 +7,5 @@ pub mod Answers
 pub mod Counting
 pub mod Depths
 pub mod Changes
+pub mod Traces
+pub mod Walked

@@ -2,11 +2,13 @@
 use Rattle.std.specs.Prelude.{ℕ, zero, suc, Bool, true, is_some, if◌then◌else◌, nat_eq, List, [], ◌++◌, Option, Some, None, option_and_then}
 use Rattle.std.specs.Option.{option_map, option_map_or, option_to_list}
 use Rattle.indexmap.specs.IndexMap.{IndexMap, get}
+use Rattle.hac_model.specs.Script.PathWords.{untested_word}
+use Rattle.hac_model.specs.declared.paths.PathWord.{PathWord}
 use Rattle.hac_model.specs.declared.states.Body.{Body}
 use Rattle.hac_model.specs.declared.states.Body.TheVariants as body
 use Rattle.hac_model.specs.declared.states.Entry.{Entry}
 use Rattle.file_tree.specs.declared.nodes.Content.{Content}
-use Rattle.file_tree.specs.declared.nodes.Content.TheVariants.{File, Dir, Semantic}
+use Rattle.file_tree.specs.declared.nodes.Content.TheVariants.{File, Dir, Symlink, Semantic}
 use Rattle.file_tree.specs.declared.nodes.NewBody.{NewBody}
 use Rattle.file_tree.specs.declared.nodes.NewBody.TheVariants as new
 use Rattle.file_tree.specs.declared.nodes.Node.{Node}
@@ -23,13 +25,20 @@ shown_in text (Older shown) = Some shown
 abbrev pub body_of : Content → Body
 body_of (File text dirty shown) = body.File text dirty (shown_in text shown)
 body_of Dir = body.Dir
+body_of (Symlink target) = body.Symlink target
 body_of (Semantic query) = body.Semantic query [] []
 
 -- what a new entry is: a file is dirty, and a directory has no marks
 abbrev pub body_from : NewBody → Body
 body_from (new.File text) = body.File text true None
 body_from new.Dir = body.Dir
+body_from (new.Symlink target) = body.Symlink target
 body_from (new.Semantic query) = body.Semantic query [] []
+
+-- the word of a new symbolic link
+abbrev pub new_word : NewBody → Option PathWord
+new_word (new.Symlink target) = Some (untested_word target)
+new_word other = None
 
 -- a node, where it is an entry
 abbrev pub if_placed : Node → Option Node

@@ -1,19 +1,36 @@
 -- What a tree is ready for.
 use Rattle.std.specs.Prelude.{ℕ, Bool, false, ◌==◌, ◌||◌, Option, Some, None}
 use Rattle.std.specs.Option.{option_map_or}
+use Rattle.hac_model.specs.Script.PathWords.{untested_word}
+use Rattle.hac_model.specs.declared.paths.PathWord.{PathWord}
 use Rattle.hac_model.specs.declared.states.State.{State}
 use Rattle.file_tree.specs.Answers.{is_dirty_at}
+use Rattle.file_tree.specs.declared.nodes.NewBody.{NewBody}
+use Rattle.file_tree.specs.declared.nodes.NewBody.TheVariants as new
 use Rattle.file_tree.specs.declared.ready.Ready.{Ready}
-use Rattle.file_tree.specs.declared.ready.Ready.TheVariants.{Nothing, Add, Move, Text}
-use Rattle.file_tree.specs.declared.tree.EntryKind.TheVariants.{File}
+use Rattle.file_tree.specs.declared.ready.Ready.TheVariants.{Nothing, Add, Link, Move, Text}
+use Rattle.file_tree.specs.declared.tree.EntryKind.TheVariants.{File, Dir, Semantic}
 
 -- the file that the prepared change will make dirty, given the number of a new entry
 abbrev pub awaited : ℕ → Ready → Option ℕ
 awaited next Nothing = None
 awaited next (Add dir File) = Some next
 awaited next (Add dir other) = None
+awaited next (Link dir word) = None
 awaited next (Move dir) = None
 awaited next (Text file) = Some file
+
+-- the word of the symbolic link that is to be created
+abbrev pub word_in : Ready → Option PathWord
+word_in (Link dir word) = Some word
+word_in other = None
+
+-- what the tree has to be ready for when a new entry goes to a directory
+abbrev pub ready_for : ℕ → NewBody → Ready
+ready_for dir (new.File text) = Add dir File
+ready_for dir new.Dir = Add dir Dir
+ready_for dir (new.Symlink target) = Link dir (untested_word target)
+ready_for dir (new.Semantic query) = Add dir Semantic
 
 -- it is this number
 abbrev pub is_number : Option ℕ → ℕ → Bool

@@ -16,7 +16,7 @@ use Rattle.file_tree.specs.Ready.{is_to_index}
 use Rattle.file_tree.specs.Seen.{Seen}
 use Rattle.file_tree.specs.declared.nodes.Node.{Node}
 use Rattle.file_tree.specs.declared.ready.Ready.{Ready}
-use Rattle.file_tree.specs.declared.ready.Ready.TheVariants.{Nothing, Add, Move, Text}
+use Rattle.file_tree.specs.declared.ready.Ready.TheVariants.{Nothing, Add, Link, Move, Text}
 use Rattle.file_tree.specs.declared.tree.Tree.TheInside.{Inside}
 
 abbrev pub state_of : Inside → State
@@ -44,10 +44,15 @@ pub record AreNested (next : ℕ) (at : ℕ → Option Entry) (names : ℕ → L
   pub rises : (dir : ℕ) → NamesRise names (kids dir)
 
 module _ {S : Type 0} where
-  -- what was prepared is in the tree: a list of children with a place for one more, and the node of a new entry
+  -- a list of children with a place for one more, and the node of a new entry
+  abbrev pub HasNew : ℕ → IndexMap ℕ Node S → ℕ → List ℕ → Type 0
+  HasNew dir nodes next spare = (spare ≡ kids_of nodes dir ++ next ∷ []) × IsTrue (has_node nodes next) × IsTrue (has_node nodes dir) × (dir < next)
+
+  -- what was prepared is in the tree
   abbrev pub HasSpare : Ready → IndexMap ℕ Node S → ℕ → List ℕ → Type 0
   HasSpare Nothing nodes next spare = Unit {0}
-  HasSpare (Add dir kind) nodes next spare = (spare ≡ kids_of nodes dir ++ next ∷ []) × IsTrue (has_node nodes next) × IsTrue (has_node nodes dir) × (dir < next)
+  HasSpare (Add dir kind) nodes next spare = HasNew dir nodes next spare
+  HasSpare (Link dir word) nodes next spare = HasNew dir nodes next spare
   HasSpare (Move dir) nodes next spare = (spare ≡ kids_of nodes dir ++ 0 ∷ []) × IsTrue (has_node nodes dir) × (dir < next)
   HasSpare (Text file) nodes next spare = Unit {0}
 

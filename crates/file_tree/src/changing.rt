@@ -7,20 +7,23 @@ ghost use Rattle.std.specs.Ordering.{nat_cmp};
 ghost use Rattle.hac_model.specs.Tree.Events.{added, apply, asking, changed_at, edited, indexed};
 ghost use Rattle.hac_model.specs.Tree.Events.{plain_body, removed, reseated, rewritten};
 ghost use Rattle.hac_model.specs.Tree.{entry_at, is_directory_at, is_file_at};
-ghost use Rattle.file_tree.specs.Answers.{entry_kind, is_dirty_at};
+ghost use Rattle.hac_model.specs.Script.PathWords.{is_target, untested_word};
+ghost use Rattle.file_tree.specs.Answers.{is_dirty_at};
 ghost use Rattle.file_tree.specs.Changes.{GotReady, HasBecome, MayBecome};
 ghost use Rattle.file_tree.specs.Nodes.{body_from, entry_of, kids_of, name_of};
-ghost use Rattle.file_tree.specs.Ready.{is_number, is_to_index};
+ghost use Rattle.file_tree.specs.Ready.{is_number, is_to_index, ready_for};
 ghost use Rattle.file_tree.specs.Search.{rank_in};
 ghost use Rattle.file_tree.specs.Shape.{NamesRise, parent_in};
 
 use crate::nodes::{self, Content, NewBody, Nodes, children_at};
-use crate::ready::{Ready, awaited};
+use crate::ready::{Ready, awaited, word_in};
 use crate::searching::{order_last, rank};
+use crate::targets::read_word;
 use crate::tree::{EntryKind, Tree};
 use hac_model::{Counts, Event, Memory, Name, Number, Query, Text};
 use std::alloc::Global;
 use std::collections::BTreeSet;
+use std::mem;
 
 impl Tree {
     /// Prepares a new entry of this kind in a directory. The state doesn't change, whatever the
@@ -36,6 +39,22 @@ impl Tree {
         let ready = Ready::Add { dir, kind };
         add_number(&mut self.to_index, awaited(self.next, &ready))?;
         self.ready = ready;
+        Ok(())
+    }
+
+    /// Prepares a new symbolic link in a directory. The state doesn't change, whatever the answer.
+    pub fn prepare_link(&mut self, dir: Number, target: &Text) -> Result<(), Memory>
+        requires dir { IsTrue (is_directory_at self.old.state.entries dir) }
+        requires target { IsTrue (is_target target.now) }
+        ensures ok { OnOk result (GotReady (Ready.Link dir (untested_word target.now))
+            self.old self.new) }
+        ensures err { OnErr result (GotReady Ready.Nothing self.old self.new) }
+    {
+        self.forget();
+        let word = read_word(self.alloc, target)?;
+        nodes::prepare(self.alloc, &mut self.nodes, self.next)?;
+        self.spare = children_and(self.alloc, &self.nodes, dir, self.next)?;
+        self.ready = Ready::Link { dir, word };
         Ok(())
     }
 
@@ -80,17 +99,17 @@ impl Tree {
         if self.dirty(file) { None } else { Some(file) }
     }
 
-    /// Adds an entry to the directory that was prepared, under a name. How much the state then
+    /// Adds the entry that was prepared to its directory, under a name. How much the state then
     /// holds is given.
     pub fn add(&mut self, dir: Number, name: Name, body: NewBody, counts: Counts)
-        requires ready { self.old.ready ≡ Ready.Add dir (entry_kind (body_from body)) }
+        requires ready { self.old.ready ≡ ready_for dir body }
         requires may { MayBecome (added self.old.state dir name (body_from body)) counts }
         ensures { HasBecome (added self.old.state dir name (body_from body)) self.new }
     {
-        self.ready = Ready::Nothing;
+        let word = word_in(mem::replace(&mut self.ready, Ready::Nothing));
         let number = self.next;
         order_last(&self.nodes, &mut self.spare, name.as_bytes());
-        nodes::put(&mut self.nodes, number, dir, name, Content::new(body));
+        nodes::put(&mut self.nodes, number, dir, name, Content::new(body, word));
         nodes::put_children(&mut self.nodes, dir, &mut self.spare);
         self.next = Number::new(number.get() + 1);
         self.counts = counts;

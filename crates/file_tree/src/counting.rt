@@ -15,7 +15,8 @@ ghost use Rattle.hac_model.specs.Tree.Events.{is_placed};
 
 use crate::nodes::Content;
 use crate::shares::{
-    NOTHING, as_new, minus, of_directory, of_file, of_semantic, plus, replaced, with_long_paths,
+    NOTHING, as_new, minus, of_directory, of_file, of_semantic, of_symlink, plus, replaced,
+    with_long_paths,
 };
 use crate::tree::Tree;
 use hac_model::{Counts, Event, Number, PATH_LIMIT, Text};
@@ -39,12 +40,10 @@ impl Tree {
             Event::Rm { entry } => self.without(*entry),
             Event::Rmdir { dir } => self.without(*dir),
             Event::Step => self.with_step(),
+            Event::Ln { dir, .. } => self.with_entry(*dir, of_symlink()),
             Event::Mark(_) => self.counts(),
-            Event::Ln { .. }
-            | Event::Smount { .. }
-            | Event::Ssync { .. }
-            | Event::Sumount { .. }
-            | Event::Cd { .. } => self.counts(),
+            Event::Smount { .. } | Event::Ssync { .. } | Event::Sumount { .. } | Event::Cd { .. } =>
+                self.counts(),
         }
     }
 
@@ -144,6 +143,7 @@ fn share_of(content: &Content) -> Counts
     match content {
         Content::File { text, dirty, .. } => of_file(longer(len(text), content.shown()), *dirty),
         Content::Dir => of_directory(),
+        Content::Symlink(_) => of_symlink(),
         Content::Semantic { .. } => of_semantic(),
     }
 }

@@ -11,6 +11,7 @@ mod placing;
 mod ready;
 mod searching;
 mod shares;
+mod targets;
 mod tree;
 
 pub use nodes::NewBody;

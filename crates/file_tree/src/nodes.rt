@@ -4,12 +4,14 @@ ghost use Rattle.std.specs.Prelude.{remove, false, IsSome, IsTrue, OnOk};
 ghost use Rattle.std.specs.Option.{option_copied, option_map};
 ghost use Rattle.indexmap.specs.IndexMap.{get};
 ghost use Rattle.file_tree.specs.Nodes.{body_from, body_of, entry_of, has_node, kids_of, name_of};
-ghost use Rattle.file_tree.specs.Nodes.{placed_at};
+ghost use Rattle.file_tree.specs.Nodes.{new_word, placed_at};
 ghost use Rattle.hac_model.specs.Tree.Events.{asking, edited, indexed, plain_body, reseated};
 ghost use Rattle.hac_model.specs.Tree.Events.{rewritten};
-ghost use Rattle.hac_model.specs.Tree.{is_dirty, query_in, shown_text};
+ghost use Rattle.hac_model.specs.Tree.{is_dirty, query_in, shown_text, target_in};
+ghost use Rattle.hac_model.specs.Tree.Valid.{IsSound};
 
-use hac_model::{Memory, Name, Number, Query, Text};
+use crate::targets::Target;
+use hac_model::{Memory, Name, Number, PathWord, Query, Text};
 use indexmap::IndexMap;
 use std::alloc::Global;
 use std::mem;
@@ -39,6 +41,7 @@ pub(crate) enum Content {
         shown: Shown,
     },
     Dir,
+    Symlink(Target),
     // Its marks aren't kept here.
     Semantic {
         query: Query<Number>,
@@ -52,6 +55,8 @@ pub enum NewBody {
     File(Text),
     /// A plain directory.
     Dir,
+    /// A symbolic link with this target.
+    Symlink(Text),
     /// A directory with this query, and without marks.
     Semantic(Query<Number>),
 }
@@ -66,8 +71,10 @@ pub(crate) enum Shown {
 }
 
 impl Content {
-    /// What the body says.
-    pub(crate) fn new(body: NewBody) -> Content
+    /// What the body says, given the word of a symbolic link's target.
+    pub(crate) fn new(body: NewBody, word: Option<PathWord>) -> Content
+        requires sound { IsSound (body_from body) }
+        requires word { word ≡ new_word body }
         ensures { body_of result ≡ body_from body }
     {
         match body {
@@ -77,6 +84,10 @@ impl Content {
                 shown: Shown::Never,
             },
             NewBody::Dir => Content::Dir,
+            NewBody::Symlink(target) => match word {
+                Some(word) => Content::Symlink(Target::new(target, word)),
+                None => unreachable!(),
+            },
             NewBody::Semantic(query) => Content::Semantic { query },
         }
     }
@@ -117,6 +128,16 @@ impl Content {
         }
     }
 
+    /// Where a symbolic link leads.
+    pub(crate) fn target(&self) -> Option<&Target>
+        ensures { option_copied result ≡ target_in (body_of self.now) }
+    {
+        match self {
+            Content::Symlink(target) => Some(target),
+            _ => None,
+        }
+    }
+
     /// Replaces the text of a file. What was shown stays shown.
     pub(crate) fn set_text(&mut self, new: Text)
         ensures { body_of self.new ≡ rewritten new (body_of self.old) }
@@ -137,7 +158,7 @@ impl Content {
         match self {
             Content::Semantic { query } => *query = new,
             Content::Dir => *self = Content::Semantic { query: new },
-            Content::File { .. } => {}
+            Content::File { .. } | Content::Symlink(_) => {}
         }
     }
 

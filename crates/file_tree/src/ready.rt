@@ -1,13 +1,13 @@
 //! What a tree is ready for. A change that may want memory is prepared first, and then made without
 //! any.
 ghost use Rattle.std.specs.Prelude.{◌≡◌};
-ghost use Rattle.file_tree.specs.Ready.{awaited};
+ghost use Rattle.file_tree.specs.Ready.{awaited, word_in};
 
 use crate::tree::EntryKind;
-use hac_model::Number;
+use hac_model::{Number, PathWord};
 
 /// The change that was prepared last.
-#[derive(Clone, Copy, Debug, PartialEq, Eq)]
+#[derive(Debug, Drop)]
 pub enum Ready {
     /// Nothing was prepared, or the tree has changed since.
     Nothing,
@@ -17,6 +17,13 @@ pub enum Ready {
         dir: Number,
         /// What it will be.
         kind: EntryKind,
+    },
+    /// A symbolic link is to be created.
+    Link {
+        /// The directory that it will be in.
+        dir: Number,
+        /// The word that it will lead by.
+        word: PathWord,
     },
     /// An entry is to be moved.
     Move {
@@ -40,6 +47,16 @@ pub(crate) fn awaited(next: Number, ready: &Ready) -> Option<Number>
             ..
         } => Some(next),
         Ready::Text { file } => Some(*file),
+        _ => None,
+    }
+}
+
+/// The word of the symbolic link that is to be created.
+pub(crate) fn word_in(ready: Ready) -> Option<PathWord>
+    ensures { result ≡ word_in ready }
+{
+    match ready {
+        Ready::Link { word, .. } => Some(word),
         _ => None,
     }
 }

@@ -13,6 +13,7 @@ pub(crate) const NOTHING: Counts = Counts {
     bytes: 0,
     directories: 0,
     semantics: 0,
+    symlinks: 0,
     files: 0,
     dirty: 0,
     long_paths: 0,
@@ -50,6 +51,17 @@ pub(crate) fn of_semantic() -> Counts
     Counts {
         directories: 1,
         semantics: 1,
+        ..NOTHING
+    }
+}
+
+/// What a symbolic link counts for.
+pub(crate) fn of_symlink() -> Counts
+    ensures share { (target : List ℕ) → result ≡ share_of (Body.Symlink target) }
+    ensures small { AreSmall result }
+{
+    Counts {
+        symlinks: 1,
         ..NOTHING
     }
 }
@@ -102,6 +114,7 @@ pub(crate) fn plus(counts: Counts, more: Counts) -> Counts
         bytes: counts.bytes + more.bytes,
         directories: counts.directories + more.directories,
         semantics: counts.semantics + more.semantics,
+        symlinks: counts.symlinks + more.symlinks,
         files: counts.files + more.files,
         dirty: counts.dirty + more.dirty,
         long_paths: counts.long_paths + more.long_paths,
@@ -118,6 +131,7 @@ pub(crate) fn minus(counts: Counts, part: Counts) -> Counts
         bytes: counts.bytes - part.bytes,
         directories: counts.directories - part.directories,
         semantics: counts.semantics - part.semantics,
+        symlinks: counts.symlinks - part.symlinks,
         files: counts.files - part.files,
         dirty: counts.dirty - part.dirty,
         long_paths: counts.long_paths - part.long_paths,

@@ -7,7 +7,8 @@ ghost use Rattle.hac_model.specs.Tree.Limits.{counts};
 ghost use Rattle.hac_model.specs.Tree.Links.{parent_of, query_at, shown_of};
 ghost use Rattle.hac_model.specs.Tree.Listing.{children};
 ghost use Rattle.hac_model.specs.Tree.{body_at, child, empty, entry_at, is_directory_at};
-ghost use Rattle.hac_model.specs.Tree.{is_file_at, is_made_directory, text_in};
+ghost use Rattle.hac_model.specs.Tree.{is_file_at, is_made_directory, is_symlink_at};
+ghost use Rattle.hac_model.specs.Tree.{target_in, text_in};
 ghost use Rattle.hac_model.specs.Tree.Valid.{IsLayout};
 ghost use Rattle.file_tree.specs.Answers.{entry_kind_at, entry_kind, is_dirty_at, next_from};
 ghost use Rattle.file_tree.specs.Nodes.{body_of};
@@ -16,7 +17,7 @@ use crate::nodes::{self, Content, Nodes, children_at};
 use crate::ready::Ready;
 use crate::searching::named;
 use crate::shares::of_root;
-use hac_model::{Counts, Memory, Name, Number, Query};
+use hac_model::{Counts, Memory, Name, Number, Query, Text};
 use indexmap::IndexMap;
 use std::alloc::Global;
 use std::collections::BTreeSet;
@@ -191,6 +192,14 @@ impl Tree {
         self.content(dir)?.query()
     }
 
+    /// Where a symbolic link leads, as it was given.
+    pub fn target(&self, link: Number) -> Option<&Text>
+        ensures { option_copied result ≡
+            option_and_then target_in (body_at self.now.state.entries link) }
+    {
+        Some(self.content(link)?.target()?.bytes())
+    }
+
     /// Whether a directory has the number.
     pub fn is_directory(&self, number: Number) -> bool
         ensures { result ≡ is_directory_at self.now.state.entries number }
@@ -214,6 +223,16 @@ impl Tree {
     {
         match self.content(number) {
             Some(content) => matches!(content, Content::File { .. }),
+            None => false,
+        }
+    }
+
+    /// Whether a symbolic link has the number.
+    pub fn is_symlink(&self, number: Number) -> bool
+        ensures { result ≡ is_symlink_at self.now.state.entries number }
+    {
+        match self.content(number) {
+            Some(content) => matches!(content, Content::Symlink(_)),
             None => false,
         }
     }
@@ -274,6 +293,7 @@ fn entry_kind(content: &Content) -> EntryKind
     match content {
         Content::File { .. } => EntryKind::File,
         Content::Dir => EntryKind::Dir,
+        Content::Symlink(_) => EntryKind::Symlink,
         Content::Semantic { .. } => EntryKind::Semantic,
     }
 }

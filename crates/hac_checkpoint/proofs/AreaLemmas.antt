@@ -82,7 +82,7 @@ module _ {D : Type 0} (seen : D → Option (List ℕ)) (image : D → List ℕ �
     first-within =
         within-write seen image moment image_since only_now first at at (size + 6) head old one (omega arith) (omega (arith, five)) starts told.0 told.1 images time
 
-    module _ {T2 E2 : Type 0} (second : Result T2 E2) (payload : List ℕ) (two : D) (long : length payload ≡ size) (written : Written (seen old) at head (seen one))
+    module _ {Value Fault : Type 0} (second : Result Value Fault) (payload : List ℕ) (two : D) (long : length payload ≡ size) (written : Written (seen old) at head (seen one))
         (told2 : Answers second (at + 5) payload one two) (images2 : Images (at + 5) payload one two) (time2 : Time one two) where
       behind : StartsWithin (seen one) (at + 5)
       behind = subst (λ k. StartsWithin (seen one) (at + k)) five (starts-behind (seen old) (seen one) at head starts written)
@@ -92,7 +92,7 @@ module _ {D : Type 0} (seen : D → Option (List ℕ)) (image : D → List ℕ �
           within-run seen image moment image_since at (size + 6) old one two first-within
           (within-write seen image moment image_since only_now second (at + 5) at (size + 6) payload one two (omega arith) (omega (arith, long)) behind told2.0 told2.1 images2 time2)
 
-      pub third-within : {T3 E3 : Type 0} (third : Result T3 E3) (new : D) → Written (seen one) (at + 5) payload (seen two)
+      pub third-within : {Last Failure : Type 0} (third : Result Last Failure) (new : D) → Written (seen one) (at + 5) payload (seen two)
           → Answers third (at + 5 + size) (0 ∷ []) two new → Images (at + 5 + size) (0 ∷ []) two new
           → LeavesOnly moment image_since two new (TornFrom (at + 5 + size) 1 (image two)) → Within at size old new
       third-within third new both told3 images3 run =

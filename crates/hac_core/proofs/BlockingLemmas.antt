@@ -1,23 +1,24 @@
 -- What blocks a command doesn't depend on marks, so the tree alone decides it.
-use Rattle.std.proofs.Common.{◌≡◌, ℕ, cond, List, [], ◌∷◌, subst, refl, ap, sym, ◌∙◌}
+use Rattle.std.proofs.Common.{◌≡◌, ℕ, true, cond, List, [], ◌∷◌, subst, refl, ap, sym, ◌∙◌}
 use Rattle.std.specs.Prelude.{Option, Some, None, Result, IsTrue}
 use Rattle.hac_model.specs.Run.Answers.{Passes, Refuses, first_cause}
 use Rattle.hac_model.specs.Tree.Bare.{bare}
-use Rattle.hac_model.specs.Run.Refusals.{already_cause, blocking_cause, busy_cause, directory_cause, filled_cause, plain_cause, referenced_cause, root_cause, session_cause, taken_cause, under_cause, unlinked_cause, unmarked_cause, written_cause}
+use Rattle.hac_model.specs.Run.Refusals.{already_cause, blocking_cause, busy_cause, directory_cause, filled_cause, not_link_cause, plain_cause, referenced_cause, root_cause, session_cause, taken_cause, under_cause, unlinked_cause, unmarked_cause, written_cause}
 use Rattle.hac_model.specs.declared.places.Place.{Place}
 use Rattle.hac_model.specs.declared.places.Place.TheVariants.{There, Free}
 use Rattle.hac_model.specs.declared.replies.Refusal.TheVariants as refusal
 use Rattle.hac_model.specs.declared.resolved.Resolved.{Resolved}
-use Rattle.hac_model.specs.declared.resolved.Resolved.TheVariants.{Mkdir, Rmdir, Write, Cat, Cd, Mv, Rm, Smkdir, Unq, Query, Sls, Sln, Srm, Sforget}
+use Rattle.hac_model.specs.declared.resolved.Resolved.TheVariants.{Mkdir, Rmdir, Write, Cat, Cd, Mv, Rm, Ln, Readlink, Smkdir, Unq, Query, Sls, Sln, Srm, Sforget}
 use Rattle.hac_model.specs.declared.states.State.{State}
 use Rattle.hac_core.specs.Blocking.{item_cause, link_cause, tree_cause}
 use Rattle.hac_model.specs.Tree.Valid.{IsLayout}
-use Rattle.hac_model.specs.Tree.{is_file_at, is_live}
+use Rattle.hac_model.specs.Run.Standing.{is_there}
+use Rattle.hac_model.specs.Tree.{is_file_at}
 use Rattle.hac_model.specs.declared.replies.Deny.{Deny}
 use Rattle.hac_model.specs.declared.replies.Deny.TheVariants as deny
 use Rattle.hac_model.specs.declared.replies.Refusal.{Refusal}
 use Rattle.hac_model.proofs.EventLemmas.{file-there, no_cause}
-use Rattle.kept_state.proofs.StateLemmas.{same-bare, same-directory, same-inside, same-path, same-semantic}
+use Rattle.kept_state.proofs.StateLemmas.{same-bare, same-directory, same-inside, same-path, same-semantic, same-symlink}
 
 module _ (s t : State) (bares : bare s ≡ bare t) where
   same-directory_cause : (n : ℕ) → directory_cause s n ≡ directory_cause t n
@@ -25,6 +26,9 @@ module _ (s t : State) (bares : bare s ≡ bare t) where
 
   same-plain_cause : (dir : ℕ) → plain_cause s dir ≡ plain_cause t dir
   same-plain_cause dir = λ i. cond (same-semantic s t bares dir i) None (Some (refusal.NotSemantic (same-path s t bares dir i)))
+
+  same-not_link : (n : ℕ) → not_link_cause s n ≡ not_link_cause t n
+  same-not_link n = λ i. cond (same-symlink s t bares n i) None (Some (refusal.NotLink (same-path s t bares n i)))
 
   same-full_cause : (dir : ℕ) → filled_cause s dir ≡ filled_cause t dir
   same-full_cause dir = λ i. cond (same-bare s t bares dir i) None (Some (refusal.NotEmpty (same-path s t bares dir i)))
@@ -49,6 +53,8 @@ module _ (s t : State) (bares : bare s ≡ bare t) where
   same-tree (Cd session dir) = refl
   same-tree (Mv entry place) = λ i. first_cause (root_cause entry ∷ same-taken place i ∷ same-under entry place i ∷ [])
   same-tree (Rm entry) = λ i. first_cause (root_cause entry ∷ same-directory_cause entry i ∷ [])
+  same-tree (Ln place target) = same-taken place
+  same-tree (Readlink entry) = same-not_link entry
   same-tree (Smkdir place query) = same-taken place
   same-tree (Unq dir) = same-plain_cause dir
   same-tree (Query dir) = same-plain_cause dir
@@ -98,5 +104,5 @@ blocked-late s r result free passes =
     subst (λ (cause : Option Refusal). Passes result cause) (sym (ap (λ (o : Option Refusal). first_cause (o ∷ link_cause s r ∷ [])) free ∙ lone (link_cause s r)) ∙ parted s r) passes
 
 -- an item that may be a link is a file
-pub item-file : (s : State) (item dir : ℕ) → IsLayout s → IsTrue (is_live s.entries item) → item_cause s item dir ≡ None → IsTrue (is_file_at s.entries item)
-item-file s item dir h lives free = file-there s h item lives (no_cause (directory_cause s item) (plain_cause s dir ∷ []) free).0
+pub item-file : (s : State) (item dir : ℕ) → IsLayout s → IsTrue (is_there s true item) → item_cause s item dir ≡ None → IsTrue (is_file_at s.entries item)
+item-file s item dir h there free = file-there s h item there (no_cause (directory_cause s item) (plain_cause s dir ∷ []) free).0

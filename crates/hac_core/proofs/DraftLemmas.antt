@@ -34,7 +34,7 @@ use Rattle.hac_core.specs.declared.drafts.Settled.TheVariants as settled
 valid-limits : (s : State) → IsValid s → (first_passed (layout_limits (counts s)) ≡ None) × (first_passed (answer_limits (counts s)) ≡ None)
 valid-limits s h =
     let within : IsWithinLimits s = limits-within s h.layout.limits in (
-      first-before _ _ within.texts (first-before _ _ within.dirs (first-before _ _ within.semantics (first-before _ _ (paths-short s.entries within.paths) none-passed))),
+      first-before _ _ within.texts (first-before _ _ within.dirs (first-before _ _ within.semantics (first-before _ _ within.symlinks (first-before _ _ (paths-short s.entries within.paths) none-passed)))),
       first-before _ _ within.items (first-before _ _ within.numbers none-passed),
     )
 
@@ -57,6 +57,7 @@ module _ (s : State) (h : IsValid s) where
   reads-free (command.Cat entry) reads free = led-free s (command.Cat entry) h free refl
   reads-free (command.Ls dir) reads free = led-free s (command.Ls dir) h free refl
   reads-free (command.Pwd dir) reads free = led-free s (command.Pwd dir) h free refl
+  reads-free (command.Readlink entry) reads free = led-free s (command.Readlink entry) h free refl
   reads-free (command.Query dir) reads free = led-free s (command.Query dir) h free refl
   reads-free (command.Sls dir) reads free = led-free s (command.Sls dir) h free refl
   reads-free (command.Find query) reads free = led-free s (command.Find query) h free refl

@@ -18,7 +18,7 @@ use Rattle.hac_model.specs.declared.places.Place.TheVariants.{There, Free}
 use Rattle.hac_model.specs.declared.replies.Refusal.{Refusal}
 use Rattle.hac_model.specs.declared.replies.Refusal.TheVariants.{Limit}
 use Rattle.hac_model.specs.declared.resolved.Resolved.{Resolved}
-use Rattle.hac_model.specs.declared.resolved.Resolved.TheVariants.{Cat, Ls, Pwd, Query, Sls, Find, Counts, Index, Tick}
+use Rattle.hac_model.specs.declared.resolved.Resolved.TheVariants.{Cat, Ls, Pwd, Readlink, Query, Sls, Find, Counts, Index, Tick}
 use Rattle.hac_model.specs.declared.states.State.{State}
 use Rattle.hac_core.specs.declared.drafts.Change.{Change}
 use Rattle.hac_core.specs.declared.drafts.Known.{Known}
@@ -38,6 +38,7 @@ abbrev pub is_reading : Resolved → Bool
 is_reading (Cat entry) = true
 is_reading (Ls dir) = true
 is_reading (Pwd dir) = true
+is_reading (Readlink entry) = true
 is_reading (Query dir) = true
 is_reading (Sls dir) = true
 is_reading (Find query) = true

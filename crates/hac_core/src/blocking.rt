@@ -1,10 +1,10 @@
 //! What blocks a command whose paths were followed. Limits are left out.
-ghost use Rattle.std.specs.Prelude.{◌≡◌, IsTrue};
+ghost use Rattle.std.specs.Prelude.{◌≡◌, IsTrue, false};
 ghost use Rattle.hac_model.specs.Run.Answers.{Passes};
 ghost use Rattle.hac_model.specs.Run.Refusals.{blocking_cause, directory_cause, filled_cause};
-ghost use Rattle.hac_model.specs.Run.Refusals.{plain_cause};
+ghost use Rattle.hac_model.specs.Run.Refusals.{not_link_cause, plain_cause};
 ghost use Rattle.hac_model.specs.Run.Refusals.{root_cause, taken_cause, under_cause, written_cause};
-ghost use Rattle.hac_model.specs.Run.Standing.{AllStand, StandsAt};
+ghost use Rattle.hac_model.specs.Run.Standing.{AllStand, StandsAt, is_there};
 ghost use Rattle.hac_model.specs.Tree.Events.{is_inside};
 ghost use Rattle.hac_model.specs.Tree.{is_live};
 ghost use Rattle.hac_core.specs.Blocking.{link_cause, tree_cause};
@@ -42,7 +42,8 @@ fn fits_tree_alone(tree: &Tree, command: &Resolved) -> Result<(), Deny>
     ensures { Passes result (tree_cause tree.now.state command.now) }
 {
     match command {
-        Resolved::Mkdir { place } | Resolved::Smkdir { place, .. } => vacant(tree, place),
+        Resolved::Mkdir { place } | Resolved::Ln { place, .. } | Resolved::Smkdir { place, .. } =>
+            vacant(tree, place),
         Resolved::Write { place, .. } => writable(tree, place),
         Resolved::Cat { entry } => file(tree, *entry),
         Resolved::Mv { entry, place } => {
@@ -54,6 +55,7 @@ fn fits_tree_alone(tree: &Tree, command: &Resolved) -> Result<(), Deny>
             not_root(*entry)?;
             file(tree, *entry)
         }
+        Resolved::Readlink { entry } => symlink(tree, *entry),
         Resolved::Rmdir { dir } => {
             not_root(*dir)?;
             empty(tree, *dir)
@@ -138,6 +140,16 @@ fn file(tree: &Tree, number: Number) -> Result<(), Deny>
     Ok(())
 }
 
+/// A symbolic link is where one is wanted.
+fn symlink(tree: &Tree, number: Number) -> Result<(), Deny>
+    ensures { Passes result (not_link_cause tree.now.state number) }
+{
+    if tree.is_symlink(number) {
+        return Ok(());
+    }
+    Err(Deny::Refused(Refusal::NotLink(tree.path_of(number)?)))
+}
+
 /// A directory to be removed is empty.
 fn empty(tree: &Tree, dir: Number) -> Result<(), Deny>
     ensures { Passes result (filled_cause tree.now.state dir) }
@@ -150,8 +162,8 @@ fn empty(tree: &Tree, dir: Number) -> Result<(), Deny>
 
 /// An entry doesn't move into itself.
 fn outside(tree: &Tree, entry: Number, place: &Place) -> Result<(), Deny>
-    requires entry { IsTrue (is_live tree.now.state.entries entry) }
-    requires place { StandsAt tree.now.state place.now }
+    requires entry { IsTrue (is_there tree.now.state false entry) }
+    requires place { StandsAt tree.now.state false place.now }
     ensures { Passes result (under_cause tree.now.state entry place.now) }
 {
     let Place::Free { dir, .. } = place else {

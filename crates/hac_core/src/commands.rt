@@ -43,6 +43,8 @@ fn follow(alloc: Global, tree: &Tree, base: Number, command: Command) -> Result<
         Command::Pwd => Ok(Resolved::Pwd { dir: base }),
         Command::Mv { from, to } => mv(tree, base, &from, &to),
         Command::Rm { path } => rm(tree, base, &path),
+        Command::Ln { target, path } => ln(tree, base, target, &path),
+        Command::Readlink { path } => readlink(tree, base, &path),
         Command::Smkdir { path, query } => smkdir(alloc, tree, base, &path, query),
         Command::Setq { path, query } => setq(alloc, tree, base, &path, query),
         Command::Unq { path } => unq(tree, base, &path),
@@ -64,7 +66,7 @@ fn mkdir(tree: &Tree, base: Number, path: &PathWord) -> Result<Resolved, Deny>
     requires { IsTrue (is_directory_at tree.now.state.entries base) }
     ensures { Answers result (resolved tree.now.state base (Command.Mkdir path.now)) }
 {
-    let place = place(tree, base, path)?;
+    let place = place(tree, base, path, true)?;
     Ok(Resolved::Mkdir { place })
 }
 
@@ -82,7 +84,7 @@ fn write(tree: &Tree, base: Number, path: &PathWord, text: Text) -> Result<Resol
     requires { IsTrue (is_directory_at tree.now.state.entries base) }
     ensures { Answers result (resolved tree.now.state base (Command.Write path.now text)) }
 {
-    let place = place(tree, base, path)?;
+    let place = place(tree, base, path, true)?;
     Ok(Resolved::Write { place, text })
 }
 
@@ -91,7 +93,7 @@ fn cat(tree: &Tree, base: Number, path: &PathWord) -> Result<Resolved, Deny>
     requires { IsTrue (is_directory_at tree.now.state.entries base) }
     ensures { Answers result (resolved tree.now.state base (Command.Cat path.now)) }
 {
-    let entry = entry(tree, base, path)?;
+    let entry = entry(tree, base, path, true)?;
     Ok(Resolved::Cat { entry })
 }
 
@@ -120,8 +122,8 @@ fn mv(tree: &Tree, base: Number, from: &PathWord, to: &PathWord) -> Result<Resol
     requires { IsTrue (is_directory_at tree.now.state.entries base) }
     ensures { Answers result (resolved tree.now.state base (Command.Mv from.now to.now)) }
 {
-    let entry = entry(tree, base, from)?;
-    let place = place(tree, base, to)?;
+    let entry = entry(tree, base, from, false)?;
+    let place = place(tree, base, to, false)?;
     Ok(Resolved::Mv { entry, place })
 }
 
@@ -130,8 +132,26 @@ fn rm(tree: &Tree, base: Number, path: &PathWord) -> Result<Resolved, Deny>
     requires { IsTrue (is_directory_at tree.now.state.entries base) }
     ensures { Answers result (resolved tree.now.state base (Command.Rm path.now)) }
 {
-    let entry = entry(tree, base, path)?;
+    let entry = entry(tree, base, path, false)?;
     Ok(Resolved::Rm { entry })
+}
+
+/// `ln TARGET PATH`.
+fn ln(tree: &Tree, base: Number, target: Text, path: &PathWord) -> Result<Resolved, Deny>
+    requires { IsTrue (is_directory_at tree.now.state.entries base) }
+    ensures { Answers result (resolved tree.now.state base (Command.Ln target path.now)) }
+{
+    let place = place(tree, base, path, false)?;
+    Ok(Resolved::Ln { place, target })
+}
+
+/// `readlink PATH`.
+fn readlink(tree: &Tree, base: Number, path: &PathWord) -> Result<Resolved, Deny>
+    requires { IsTrue (is_directory_at tree.now.state.entries base) }
+    ensures { Answers result (resolved tree.now.state base (Command.Readlink path.now)) }
+{
+    let entry = entry(tree, base, path, false)?;
+    Ok(Resolved::Readlink { entry })
 }
 
 /// `smkdir PATH QUERY`.
@@ -145,7 +165,7 @@ fn smkdir(
     requires { IsTrue (is_directory_at tree.now.state.entries base) }
     ensures { Answers result (resolved tree.now.state base (Command.Smkdir path.now query)) }
 {
-    let place = place(tree, base, path)?;
+    let place = place(tree, base, path, true)?;
     match numbered_query(alloc, tree, base, query) {
         Ok(query) => Ok(Resolved::Smkdir { place, query }),
         Err(deny) => Err(deny),
@@ -202,7 +222,7 @@ fn sln(tree: &Tree, base: Number, item: &PathWord, dir: &PathWord) -> Result<Res
     requires { IsTrue (is_directory_at tree.now.state.entries base) }
     ensures { Answers result (resolved tree.now.state base (Command.Sln item.now dir.now)) }
 {
-    let item = entry(tree, base, item)?;
+    let item = entry(tree, base, item, true)?;
     let dir = directory(tree, base, dir)?;
     Ok(Resolved::Sln { item, dir })
 }
@@ -212,7 +232,7 @@ fn srm(tree: &Tree, base: Number, item: &PathWord, dir: &PathWord) -> Result<Res
     requires { IsTrue (is_directory_at tree.now.state.entries base) }
     ensures { Answers result (resolved tree.now.state base (Command.Srm item.now dir.now)) }
 {
-    let item = entry(tree, base, item)?;
+    let item = entry(tree, base, item, true)?;
     let dir = directory(tree, base, dir)?;
     Ok(Resolved::Srm { item, dir })
 }
@@ -222,7 +242,7 @@ fn sforget(tree: &Tree, base: Number, item: &PathWord, dir: &PathWord) -> Result
     requires { IsTrue (is_directory_at tree.now.state.entries base) }
     ensures { Answers result (resolved tree.now.state base (Command.Sforget item.now dir.now)) }
 {
-    let item = entry(tree, base, item)?;
+    let item = entry(tree, base, item, true)?;
     let dir = directory(tree, base, dir)?;
     Ok(Resolved::Sforget { item, dir })
 }

@@ -37,6 +37,10 @@ pub fn made_by(alloc: Global, kept: &KeptState, command: Resolved) -> Made
             Made::Event(Event::Mv { entry, dir, name })
         }
         Resolved::Rm { entry } => Made::Event(Event::Rm { entry }),
+        Resolved::Ln { place, target } => {
+            let (dir, name) = vacancy(place);
+            Made::Event(Event::Ln { dir, name, target })
+        }
         Resolved::Smkdir { place, query } => {
             let (dir, name) = vacancy(place);
             let told = Seq::new(Vec::new(alloc));

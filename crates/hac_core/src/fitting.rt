@@ -1,6 +1,8 @@
 //! Whether an event can happen to the state, wherever it comes from. Commands make only such
 //! events; a log may hold any.
 ghost use Rattle.std.specs.Prelude.{◌≡◌, ◌==◌, ◌&&◌, length, IfOk, IsTrue};
+ghost use Rattle.hac_model.specs.Script.PathWords.{is_target};
+ghost use Rattle.hac_model.specs.Tree.{is_leaf_at};
 ghost use Rattle.hac_model.specs.Tree.Events.{is_clear, is_free, is_placed, may_ask};
 ghost use Rattle.hac_model.specs.Tree.Limits.{is_text};
 ghost use Rattle.hac_core.specs.Fitting.{FitsAs, IsWithin, passes_none};
@@ -9,8 +11,10 @@ use crate::asking::may_ask;
 use crate::blocking::is_inside;
 use crate::drafts::Change;
 use file_tree::Tree;
-use hac_model::{Counts, Event, Memory, Name, Number, Query, Seq, TEXT_LIMIT, Text, first_passed};
-use hac_names::{is_name, is_space_name};
+use hac_model::{
+    Counts, Event, Memory, Name, Number, Query, Seq, TARGET_LIMIT, TEXT_LIMIT, Text, first_passed,
+};
+use hac_names::{has_long_part, is_bad, is_name, is_space_name};
 use kept_state::KeptState;
 use std::alloc::Global;
 use tree_answers::{is_unreferenced, may_mark};
@@ -65,6 +69,7 @@ fn is_placed_in(tree: &Tree, event: &Event) -> bool
         Event::Mkdir { dir, name } => is_free(tree, *dir, name),
         Event::NewFile { dir, name, text } => is_free(tree, *dir, name) && is_text(text),
         Event::Rewrite { file, text } => tree.is_file(*file) && is_text(text),
+        Event::Ln { dir, name, target } => is_free(tree, *dir, name) && is_target(target),
         Event::Smkdir {
             dir,
             name,
@@ -77,14 +82,13 @@ fn is_placed_in(tree: &Tree, event: &Event) -> bool
         Event::Unq { dir } => tree.query(*dir).is_some(),
         Event::Mark(mark) => tree.is_file(mark.item) && tree.query(mark.dir).is_some(),
         Event::Mv { entry, dir, name } => may_go(tree, *entry, *dir, name),
-        Event::Rm { entry } => tree.is_file(*entry),
+        Event::Rm { entry } => is_leaf(tree, *entry),
         Event::Rmdir { dir } => tree.is_made_directory(*dir) && tree.children(*dir).is_empty(),
         Event::Step => tree.counts().dirty > 0,
         Event::Cd { session, dir } => {
             is_space_name(session.as_bytes()) && tree.is_directory(*dir)
         }
-        Event::Ln { .. } | Event::Smount { .. } | Event::Ssync { .. } | Event::Sumount { .. } =>
-            false,
+        Event::Smount { .. } | Event::Ssync { .. } | Event::Sumount { .. } => false,
     }
 }
 
@@ -135,6 +139,21 @@ fn len(text: &Text) -> u64
     ensures { result ≡ length text.now }
 {
     text.as_slice().len() as u64
+}
+
+/// Whether the bytes may be the target of a symbolic link.
+fn is_target(target: &Text) -> bool
+    ensures { result ≡ is_target target.now }
+{
+    let bytes = target.as_slice();
+    len(target) <= TARGET_LIMIT && !is_bad(bytes) && !has_long_part(bytes)
+}
+
+/// Whether a file or a symbolic link has the number.
+fn is_leaf(tree: &Tree, number: Number) -> bool
+    ensures { result ≡ is_leaf_at tree.now.state.entries number }
+{
+    tree.is_file(number) || tree.is_symlink(number)
 }
 
 /// Whether a query may be asked, and no space answered anything.

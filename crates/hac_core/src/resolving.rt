@@ -12,26 +12,27 @@ use hac_model::{
 };
 use std::alloc::Global;
 
-/// Where a path word leads from a directory.
-pub fn place(tree: &Tree, base: Number, word: &PathWord) -> Result<Place, Deny>
+/// Where a path word leads from a directory. A symbolic link as its last name is followed or not.
+pub fn place(tree: &Tree, base: Number, word: &PathWord, follow: bool) -> Result<Place, Deny>
     requires { IsTrue (is_directory_at tree.now.state.entries base) }
-    ensures { Answers result (place tree.now.state base word.now) }
+    ensures { Answers result (place tree.now.state base follow word.now) }
 {
-    match tree.place(base, word, true) {
+    match tree.place(base, word, follow) {
         Ok(place) => Ok(place),
         Err(Stop::Missing(path)) => Err(Deny::Refused(Refusal::NoPath(path))),
         Err(Stop::NotDir(path)) => Err(Deny::Refused(Refusal::NotDir(path))),
-        Err(Stop::Loop(_)) => unreachable!(),
+        Err(Stop::Loop(path)) => Err(Deny::Refused(Refusal::Loop(path))),
         Err(Stop::Memory) => Err(Deny::Memory),
     }
 }
 
-/// The entry to which a path word leads, or the root.
-pub fn entry(tree: &Tree, base: Number, word: &PathWord) -> Result<Number, Deny>
+/// The entry to which a path word leads, or the root. A symbolic link as its last name is followed
+/// or not.
+pub fn entry(tree: &Tree, base: Number, word: &PathWord, follow: bool) -> Result<Number, Deny>
     requires { IsTrue (is_directory_at tree.now.state.entries base) }
-    ensures { Answers result (entry tree.now.state base word.now) }
+    ensures { Answers result (entry tree.now.state base follow word.now) }
 {
-    match place(tree, base, word)? {
+    match place(tree, base, word, follow)? {
         Place::There(number) => Ok(number),
         Place::Free { dir, name } => Err(Deny::Refused(Refusal::NoPath(named(tree, dir, name)?))),
     }
@@ -51,7 +52,7 @@ pub fn directory(tree: &Tree, base: Number, word: &PathWord) -> Result<Number, D
     requires { IsTrue (is_directory_at tree.now.state.entries base) }
     ensures { Answers result (directory tree.now.state base word.now) }
 {
-    let number = entry(tree, base, word)?;
+    let number = entry(tree, base, word, true)?;
     if tree.is_directory(number) {
         Ok(number)
     } else {

@@ -12,11 +12,11 @@ use Rattle.hac_model.specs.Query.Queries.{is_query}
 use Rattle.hac_model.specs.Tree.{empty, entry_at, is_directory, is_directory_at, is_made_directory, query_in}
 use Rattle.hac_model.specs.Tree.Valid.{AsksWell, IsLayout, IsValid}
 use Rattle.hac_model.specs.declared.events.Event.{Event}
-use Rattle.hac_model.specs.declared.events.Event.TheVariants.{Mkdir, NewFile, Rewrite, Mark, Mv, Rm, Rmdir, Setq, Smkdir, Step, Unq, Cd}
+use Rattle.hac_model.specs.declared.events.Event.TheVariants.{Mkdir, NewFile, Rewrite, Ln, Mark, Mv, Rm, Rmdir, Setq, Smkdir, Step, Unq, Cd}
 use Rattle.hac_model.specs.declared.marks.Kind.{Kind}
 use Rattle.hac_model.specs.declared.marks.Kind.TheVariants.{Transient, Permanent, Prohibited, Unlinked}
 use Rattle.hac_model.specs.declared.states.Body.{Body}
-use Rattle.hac_model.specs.declared.states.Body.TheVariants.{File, Dir, Semantic}
+use Rattle.hac_model.specs.declared.states.Body.TheVariants.{File, Dir, Symlink, Semantic}
 use Rattle.hac_model.specs.declared.states.Entry.{Entry}
 use Rattle.hac_model.specs.declared.states.State.{State}
 use Rattle.hac_model.proofs.AskLemmas.{apply-queries}
@@ -169,7 +169,7 @@ setq-acyclic s dir query acyclic none =
     (changed-edges s dir (edited (asking query)) (parent_of s dir ∷ named_in query) (λ e. refl) (λ x e found inside.
     let here : parent_of s dir ≡ x.parent = ap (λ (o : Option Entry). option_map_or (λ (e : Entry). e.parent) o 0) found in
     inr (subst (λ (parent : ℕ). Among (parent ∷ named_in query) e) (sym here) (asking-edges query x.body x.parent e inside))))
-    (none-reaching s dir (parent_of s dir ∷ named_in query) acyclic none) acyclic
+    (none-reaching s dir (parent_of s dir ∷ named_in query) none) acyclic
 
 -- an entry that goes elsewhere keeps its query
 moved-acyclic : (s : State) (entry dir : ℕ) (name : List ℕ) → IsAcyclic s → cycle_of_move s entry dir ≡ None → IsAcyclic (changed_at s entry (reseated dir name))
@@ -188,7 +188,7 @@ moved-acyclic s entry dir name acyclic none =
 
     apart : (o : Option (Formula ℕ)) → option_and_then (cycle_over s entry dir) o ≡ None → (e : ℕ) → Among (option_map_or (λ q. dir ∷ named_in q) o []) e → Reaches (depends s) e entry → ⊥
     apart None none e inside walk = inside
-    apart (Some q) none e inside walk = none-reaching s entry (dir ∷ named_in q) acyclic none e inside walk
+    apart (Some q) none e inside walk = none-reaching s entry (dir ∷ named_in q) none e inside walk
 
 -- An entry goes.
 
@@ -217,6 +217,7 @@ pub apply-acyclic : (s : State) (event : Event) → IsValid s → IsTrue (accept
 apply-acyclic s (Mkdir dir name) h ok = added-acyclic s dir name Dir h (λ e inside. absurd inside)
 apply-acyclic s (NewFile dir name text) h ok = added-acyclic s dir name (File text true None) h (λ e inside. absurd inside)
 apply-acyclic s (Rewrite file text) h ok = edited-acyclic s file (rewritten text) (rewritten-edges text) h.acyclic
+apply-acyclic s (Ln dir name target) h ok = added-acyclic s dir name (Symlink target) h (λ e inside. absurd inside)
 apply-acyclic s (Smkdir dir name query told) h ok =
     let parts = accepted-parts (is_possible s (Smkdir dir name query told)) (passed_limit (added s dir name (Semantic query [] []))) ok in
     let fits = smkdir-parts s dir name query told parts.0 in

@@ -1,5 +1,5 @@
 -- What a state says without its marks is what it says with them.
-use Rattle.std.proofs.Common.{◌≡◌, ℕ, Bool, true, false, cond, List, [], ◌∷◌, length, map, reverse, refl, ap, sym, ◌∙◌, arith}
+use Rattle.std.proofs.Common.{◌≡◌, ℕ, zero, suc, Bool, true, false, cond, List, [], ◌∷◌, length, map, reverse, refl, ap, sym, ◌∙◌, arith}
 use Rattle.std.specs.Prelude.{◌+◌, ◌==◌, codes, ◌&&◌, ◌||◌, ◌++◌, ◌-◌, filter, not, Option, Some, None, Ok, Err, IsTrue, is_some, is_none, option_and_then}
 use Rattle.std.specs.List.{AllByRecursion, slice_index_or}
 use Rattle.std.specs.Option.{option_map, option_map_or, unwrap_or}
@@ -12,19 +12,20 @@ use Rattle.hac_model.specs.Query.Formula as query
 use Rattle.hac_model.specs.Tree.Limits.{answer_limits, layout_limits, counts, first_passed, passed_limit, file_bytes}
 use Rattle.hac_model.specs.Tree.Links.{has, parent_of, query_at}
 use Rattle.hac_model.specs.Tree.Listing.{children, entry_line, in_order, is_before, letter, put_in_order}
-use Rattle.hac_model.specs.Tree.Looks.{look, stands_at, stop_at, ways}
+use Rattle.hac_model.specs.Tree.Looks.{final_path, has_names, link_at, link_to_follow, look, destination, next_path, next_path_behind, stands_at, stop_at, target_word, ways}
 use Rattle.hac_model.specs.Tree.Names.{is_name}
 use Rattle.hac_model.specs.Tree.Paths.{join, without_last}
 use Rattle.hac_model.specs.Query.Queries.{is_query}
 use Rattle.hac_model.specs.Run.Resolving.{directory_or_root, resolved_for, directory, entry, item_and_dir, listed_directory, numbered_query, place, resolved, wanted_entry}
-use Rattle.hac_model.specs.Tree.{body_at, child, entry_at, extends, is_directory, is_directory_at, is_dirty, is_file, is_file_at, path_of, query_in, text_in}
+use Rattle.hac_model.specs.Tree.{body_at, child, entry_at, extends, is_directory, is_directory_at, is_dirty, is_file, is_file_at, is_symlink, is_symlink_at, path_of, query_in, target_in, text_in}
 use Rattle.hac_model.specs.Tree.Valid.{IsLayout, IsSound, NamesDiffer, NumbersRise}
 use Rattle.hac_model.specs.declared.commands.Command.{Command}
 use Rattle.hac_model.specs.declared.commands.Command.TheVariants as command
+use Rattle.hac_model.specs.declared.limits.TheConstants.{FOLLOW_LIMIT}
 use Rattle.hac_model.specs.declared.paths.PathWord.{PathWord}
 use Rattle.hac_model.specs.declared.places.Place.{Place}
 use Rattle.hac_model.specs.declared.places.Place.TheVariants.{There, Free}
-use Rattle.hac_model.specs.declared.replies.Refusal.TheVariants.{NoPath, NotDir}
+use Rattle.hac_model.specs.declared.replies.Refusal.TheVariants.{Loop, NoPath, NotDir}
 use Rattle.hac_model.specs.declared.resolved.Resolved.{Resolved}
 use Rattle.hac_model.specs.declared.resolved.Resolved.TheVariants as done
 use Rattle.hac_model.specs.declared.states.Body.{Body}
@@ -47,6 +48,11 @@ bare-file (Semantic query permanent prohibited) = refl
 bare-file (Mount space documents answers) = refl
 bare-file other = refl
 
+bare-symlink : (body : Body) → is_symlink (bare_body body) ≡ is_symlink body
+bare-symlink (Semantic query permanent prohibited) = refl
+bare-symlink (Mount space documents answers) = refl
+bare-symlink other = refl
+
 pub bare-query : (body : Body) → query_in (bare_body body) ≡ query_in body
 bare-query (Semantic query permanent prohibited) = refl
 bare-query (Mount space documents answers) = refl
@@ -56,6 +62,11 @@ bare-text : (body : Body) → text_in (bare_body body) ≡ text_in body
 bare-text (Semantic query permanent prohibited) = refl
 bare-text (Mount space documents answers) = refl
 bare-text other = refl
+
+bare-target : (body : Body) → target_in (bare_body body) ≡ target_in body
+bare-target (Semantic query permanent prohibited) = refl
+bare-target (Mount space documents answers) = refl
+bare-target other = refl
 
 bare-dirty : (body : Body) → is_dirty (bare_body body) ≡ is_dirty body
 bare-dirty (Semantic query permanent prohibited) = refl
@@ -83,7 +94,7 @@ sound-bare (Mount space documents answers) h = h
 sound-bare other h = h
 
 pub bare-measures : KeepsMeasures bare_body
-bare-measures = record { kind = bare-kind; file = bare-file; queried = (λ body. ap (λ (o : Option (Formula ℕ)). is_some o) (bare-query body)); texts = bare-weight }
+bare-measures = record { kind = bare-kind; file = bare-file; symlink = bare-symlink; queried = (λ body. ap (λ (o : Option (Formula ℕ)). is_some o) (bare-query body)); texts = bare-weight }
 
 -- What is looked up.
 
@@ -102,6 +113,9 @@ query_at-bare s n = part-bare query_in s n bare-query
 pub text_at-bare : (s : State) (n : ℕ) → option_and_then text_in (body_at (bare s).entries n) ≡ option_and_then text_in (body_at s.entries n)
 text_at-bare s n = part-bare text_in s n bare-text
 
+pub target_at-bare : (s : State) (n : ℕ) → option_and_then target_in (body_at (bare s).entries n) ≡ option_and_then target_in (body_at s.entries n)
+target_at-bare s n = part-bare target_in s n bare-target
+
 pub parent_of-bare : (s : State) (n : ℕ) → parent_of (bare s) n ≡ parent_of s n
 parent_of-bare s n =
     ap (λ (o : Option Entry). option_map_or (λ (e : Entry). e.parent) o 0) (entry_at-bare s n)
@@ -115,6 +129,9 @@ directory-bare s n = directory-mapped bare_body s.entries n bare-kind
 
 pub file-bare : (s : State) (n : ℕ) → is_file_at (bare s).entries n ≡ is_file_at s.entries n
 file-bare s n = test-mapped is_file bare_body s.entries n bare-file
+
+pub symlink-bare : (s : State) (n : ℕ) → is_symlink_at (bare s).entries n ≡ is_symlink_at s.entries n
+symlink-bare s n = test-mapped is_symlink bare_body s.entries n bare-symlink
 
 pub some-bare : (s : State) (n : ℕ) → is_some (entry_at (bare s).entries n) ≡ is_some (entry_at s.entries n)
 some-bare s n =
@@ -171,28 +188,57 @@ stands_at-bare s dir (name ∷ names) =
     ap (λ (o : Option ℕ). option_and_then (λ number. stands_at (bare s).entries number names) o) (child-mapped bare_body s.entries dir name)
     ∙ (λ i. option_and_then (λ number. stands_at-bare s number names i) (child s.entries dir name))
 
-pub look-bare : (s : State) (path : List (List ℕ)) → look (bare s) path ≡ look s path
-unfolding look
-look-bare s path = λ i.
+destination-bare : (s : State) (path : List (List ℕ)) → destination (bare s) path ≡ destination s path
+unfolding destination
+destination-bare s path = λ i.
     option_map_or Err (first_cause (map (stop i) (ways path)))
     (Ok (option_map_or There (stands_at-bare s 0 path i) (Free (unwrap_or (stands_at-bare s 0 (without_last 1 path) i) 0) (slice_index_or path (length path - 1) []))))
   where
     stop : stop_at (bare s) ≡ stop_at s
-    stop = λ i way. option_map_or (λ number. cond (file-bare s number i) (Some (NotDir way)) None) (stands_at-bare s 0 way i) (Some (NoPath way))
+    stop = λ i way. option_map_or (λ number. cond (directory-bare s number i) None (Some (NotDir way))) (stands_at-bare s 0 way i) (Some (NoPath way))
+
+-- so are the links that are followed
+link_at-bare : (s : State) (path : List (List ℕ)) → link_at (bare s) path ≡ link_at s path
+link_at-bare s path =
+    ap (λ (o : Option ℕ). option_and_then target_word (option_and_then target_in (option_and_then (body_at (bare s).entries) o))) (stands_at-bare s 0 path)
+    ∙ (elim (stands_at s.entries 0 path) as (λ o. option_and_then target_word (option_and_then target_in (option_and_then (body_at (bare s).entries) o)) ≡ option_and_then target_word (option_and_then target_in (option_and_then (body_at s.entries) o))) [
+      | None ↦ refl
+      | Some n ↦ ap (λ (o : Option (List ℕ)). option_and_then target_word o) (part-bare target_in s n bare-target)
+    ])
+
+link_to_follow-bare : (s : State) (follow : Bool) (path names : List (List ℕ)) → link_to_follow (bare s) follow path names ≡ link_to_follow s follow path names
+link_to_follow-bare s follow path names = ap (λ (o : Option PathWord). cond (follow || has_names names) o None) (link_at-bare s path)
+
+next_path_behind-bare : (s : State) (follow : Bool) (walked names : List (List ℕ)) → next_path_behind (bare s) follow walked names ≡ next_path_behind s follow walked names
+next_path_behind-bare s follow walked [] = refl
+next_path_behind-bare s follow walked (name ∷ names) = λ i.
+    option_map_or (λ word. Some (join walked word ++ names)) (link_to_follow-bare s follow (walked ++ name ∷ []) names i) (next_path_behind-bare s follow (walked ++ name ∷ []) names i)
+
+next_path-bare : (s : State) (follow : Bool) (path : List (List ℕ)) → next_path (bare s) follow path ≡ next_path s follow path
+unfolding next_path
+next_path-bare s follow path = next_path_behind-bare s follow [] path
+
+final_path-bare : (n : ℕ) (s : State) (follow : Bool) (path : List (List ℕ)) → final_path n (bare s) follow path ≡ final_path n s follow path
+final_path-bare zero s follow path = ap (λ (o : Option (List (List ℕ))). option_map_or (λ next. None) o (Some path)) (next_path-bare s follow path)
+final_path-bare (suc n) s follow path = λ i. option_map_or (λ next. final_path-bare n s follow next i) (next_path-bare s follow path i) (Some path)
+
+pub look-bare : (s : State) (follow : Bool) (path : List (List ℕ)) → look (bare s) follow path ≡ look s follow path
+unfolding look
+look-bare s follow path = λ i. option_map_or (λ found. destination-bare s found i) (final_path-bare FOLLOW_LIMIT s follow path i) (Err (Loop path))
 
 module _ (s : State) (base : ℕ) where
-  place-bare : (word : PathWord) → place (bare s) base word ≡ place s base word
-  place-bare word = ap (λ (path : List (List ℕ)). look (bare s) (join path word)) (path_of-bare s base) ∙ look-bare s (join (path_of s base) word)
+  place-bare : (follow : Bool) (word : PathWord) → place (bare s) base follow word ≡ place s base follow word
+  place-bare follow word = ap (λ (path : List (List ℕ)). look (bare s) follow (join path word)) (path_of-bare s base) ∙ look-bare s follow (join (path_of s base) word)
 
   standing-bare : (found : Place) → wanted_entry (bare s) found ≡ wanted_entry s found
   standing-bare (There number) = refl
   standing-bare (Free dir name) = ap (λ (path : List (List ℕ)). Err (NoPath (path ++ name ∷ []))) (path_of-bare s dir)
 
-  entry-bare : (word : PathWord) → entry (bare s) base word ≡ entry s base word
-  entry-bare word = λ i. and_then (λ found. standing-bare found i) (place-bare word i)
+  entry-bare : (follow : Bool) (word : PathWord) → entry (bare s) base follow word ≡ entry s base follow word
+  entry-bare follow word = λ i. and_then (λ found. standing-bare found i) (place-bare follow word i)
 
   directory-leads : (word : PathWord) → directory (bare s) base word ≡ directory s base word
-  directory-leads word = λ i. and_then (λ number. cond (directory-bare s number i) (Ok number) (Err (NotDir (path_of-bare s number i)))) (entry-bare word i)
+  directory-leads word = λ i. and_then (λ number. cond (directory-bare s number i) (Ok number) (Err (NotDir (path_of-bare s number i)))) (entry-bare true word i)
 
   listed-bare : (word : Option PathWord) → listed_directory (bare s) base word ≡ listed_directory s base word
   listed-bare None = refl
@@ -210,18 +256,20 @@ module _ (s : State) (base : ℕ) where
   numbered-bare (query.Or left right) = λ i. and_then (λ first. and_then (λ second. Ok (query.Or first second)) (numbered-bare right i)) (numbered-bare left i)
 
   item_and_dir-bare : (make : ℕ → ℕ → Resolved) (item dir : PathWord) → item_and_dir make (bare s) base item dir ≡ item_and_dir make s base item dir
-  item_and_dir-bare make item dir = λ i. and_then (λ first. and_then (λ second. Ok (make first second)) (directory-leads dir i)) (entry-bare item i)
+  item_and_dir-bare make item dir = λ i. and_then (λ first. and_then (λ second. Ok (make first second)) (directory-leads dir i)) (entry-bare true item i)
 
   -- the outcome of a command
   resolved-bare : (c : Command) → resolved (bare s) base c ≡ resolved s base c
-  resolved-bare (command.Mkdir path) = ap (and_then (λ found. Ok (done.Mkdir found))) (place-bare path)
+  resolved-bare (command.Mkdir path) = ap (and_then (λ found. Ok (done.Mkdir found))) (place-bare true path)
   resolved-bare (command.Rmdir path) = ap (and_then (λ dir. Ok (done.Rmdir dir))) (directory-leads path)
-  resolved-bare (command.Write path text) = ap (and_then (λ found. Ok (done.Write found text))) (place-bare path)
-  resolved-bare (command.Cat path) = ap (and_then (λ number. Ok (done.Cat number))) (entry-bare path)
+  resolved-bare (command.Write path text) = ap (and_then (λ found. Ok (done.Write found text))) (place-bare true path)
+  resolved-bare (command.Cat path) = ap (and_then (λ number. Ok (done.Cat number))) (entry-bare true path)
   resolved-bare (command.Ls path) = ap (and_then (λ dir. Ok (done.Ls dir))) (listed-bare path)
-  resolved-bare (command.Mv from to) = λ i. and_then (λ number. and_then (λ found. Ok (done.Mv number found)) (place-bare to i)) (entry-bare from i)
-  resolved-bare (command.Rm path) = ap (and_then (λ number. Ok (done.Rm number))) (entry-bare path)
-  resolved-bare (command.Smkdir path raw) = λ i. and_then (λ found. and_then (λ asked. Ok (done.Smkdir found asked)) (numbered-bare raw i)) (place-bare path i)
+  resolved-bare (command.Mv from to) = λ i. and_then (λ number. and_then (λ found. Ok (done.Mv number found)) (place-bare false to i)) (entry-bare false from i)
+  resolved-bare (command.Rm path) = ap (and_then (λ number. Ok (done.Rm number))) (entry-bare false path)
+  resolved-bare (command.Ln target path) = ap (and_then (λ found. Ok (done.Ln found target))) (place-bare false path)
+  resolved-bare (command.Readlink path) = ap (and_then (λ number. Ok (done.Readlink number))) (entry-bare false path)
+  resolved-bare (command.Smkdir path raw) = λ i. and_then (λ found. and_then (λ asked. Ok (done.Smkdir found asked)) (numbered-bare raw i)) (place-bare true path i)
   resolved-bare (command.Setq path raw) = λ i. and_then (λ dir. and_then (λ asked. Ok (done.Setq dir asked)) (numbered-bare raw i)) (directory-leads path i)
   resolved-bare (command.Unq path) = ap (and_then (λ dir. Ok (done.Unq dir))) (directory-leads path)
   resolved-bare (command.Query path) = ap (and_then (λ dir. Ok (done.Query dir))) (directory-leads path)
@@ -252,6 +300,7 @@ counts-bare s = λ i. record {
   bytes = measured-bare file_bytes s.entries bare-weight i;
   directories = ones is_directory bare-kind i + 1;
   semantics = ones is_queried (λ body. ap (λ (o : Option (Formula ℕ)). is_some o) (bare-query body)) i;
+  symlinks = ones is_symlink bare-symlink i;
   files = ones is_file bare-file i;
   dirty = dirty-same s i;
   long_paths = cond {A = ℕ} (paths-mapped bare_body s.entries i) 0 1;

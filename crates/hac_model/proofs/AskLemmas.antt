@@ -10,14 +10,14 @@ use Rattle.hac_model.specs.Query.Formula.{Formula}
 use Rattle.hac_model.specs.Tree.Limits.{passed_limit}
 use Rattle.hac_model.specs.Tree.Links.{has, is_item}
 use Rattle.hac_model.specs.Query.Queries.{is_query}
-use Rattle.hac_model.specs.Tree.{entry_at, is_directory, is_directory_at, is_file, is_file_at, is_made_directory, query_in}
+use Rattle.hac_model.specs.Tree.{entry_at, is_directory, is_directory_at, is_file, is_file_at, is_leaf_at, is_made_directory, query_in}
 use Rattle.hac_model.specs.Tree.Valid.{AreMarks, AsksWell, IsLayout, IsValid}
 use Rattle.hac_model.specs.declared.events.Event.{Event}
-use Rattle.hac_model.specs.declared.events.Event.TheVariants.{Mkdir, NewFile, Rewrite, Mark, Mv, Rm, Rmdir, Setq, Smkdir, Step, Unq, Cd}
+use Rattle.hac_model.specs.declared.events.Event.TheVariants.{Mkdir, NewFile, Rewrite, Ln, Mark, Mv, Rm, Rmdir, Setq, Smkdir, Step, Unq, Cd}
 use Rattle.hac_model.specs.declared.marks.Kind.{Kind}
 use Rattle.hac_model.specs.declared.marks.Kind.TheVariants.{Transient, Permanent, Prohibited, Unlinked}
 use Rattle.hac_model.specs.declared.states.Body.{Body}
-use Rattle.hac_model.specs.declared.states.Body.TheVariants.{File, Dir, Semantic}
+use Rattle.hac_model.specs.declared.states.Body.TheVariants.{File, Dir, Symlink, Semantic}
 use Rattle.hac_model.specs.declared.states.Entry.{Entry}
 use Rattle.hac_model.specs.declared.states.State.{State}
 use Rattle.hac_model.proofs.ChangeLemmas.{all-append, all-changed, all-filter, all-weaker, directory-append, directory-changed, directory-kept, entry_at-append, entry_at-kept, is_kept, test-changed}
@@ -25,7 +25,7 @@ use Rattle.hac_model.proofs.CountLemmas.{indexed-keeps, rewritten-keeps}
 use Rattle.hac_model.proofs.MapLemmas.{all-map, directory-mapped, test-mapped}
 use Rattle.hac_model.proofs.MarkLemmas.{all-both, all-passes, forgetting-asks, marked-asks}
 use Rattle.hac_model.proofs.PathLemmas.{root-none}
-use Rattle.hac_model.proofs.TreeLemmas.{directory-no_file}
+use Rattle.hac_model.proofs.TreeLemmas.{directory-no_leaf, file-leaf}
 use Rattle.hac_model.proofs.ValidLemmas.{accepted-parts, asking-kind, forgetting-measures, mark-parts, marked-kind, plain-kind, rmdir-parts, setq-parts, smkdir-parts}
 
 -- the directories of one state are directories of another
@@ -137,17 +137,20 @@ edited-items s n edit file m there = test-changed is_file n (edited edit) s.entr
 
 -- An entry goes.
 
-pub file-no_directory : (s : State) (file d : ℕ) → IsLayout s → is_file_at s.entries file ≡ true → is_directory_at s.entries d ≡ true → file ≡ d → ⊥
-file-no_directory s file d h there dir same =
-    let other : is_file_at s.entries d ≡ false = directory-no_file s.entries d (root-none s h) dir in
-    let never : true ≡ false = sym there ∙ ap (is_file_at s.entries) same ∙ other in cc
+pub leaf-no_directory : (s : State) (leaf d : ℕ) → IsLayout s → is_leaf_at s.entries leaf ≡ true → is_directory_at s.entries d ≡ true → leaf ≡ d → ⊥
+leaf-no_directory s leaf d h there dir same =
+    let other : is_leaf_at s.entries d ≡ false = directory-no_leaf s.entries d (root-none s h) dir in
+    let never : true ≡ false = sym there ∙ ap (is_leaf_at s.entries) same ∙ other in cc
 
--- without a file, of which no mark speaks any more
-forgotten-asks : (s : State) (file : ℕ) (body : Body) → IsLayout s → is_file_at s.entries file ≡ true → AsksWell s body → AsksWell (forgotten (removed s file) file) (forgetting file body)
+pub file-no_directory : (s : State) (file d : ℕ) → IsLayout s → is_file_at s.entries file ≡ true → is_directory_at s.entries d ≡ true → file ≡ d → ⊥
+file-no_directory s file d h there dir = leaf-no_directory s file d h (file-leaf s.entries file there) dir
+
+-- without a leaf, of which no mark speaks any more
+forgotten-asks : (s : State) (file : ℕ) (body : Body) → IsLayout s → is_leaf_at s.entries file ≡ true → AsksWell s body → AsksWell (forgotten (removed s file) file) (forgetting file body)
 forgotten-asks s file (Semantic query permanent prohibited) h there asks =
     let rest = forgetting-asks s file (Semantic query permanent prohibited) asks in
     record {
-      fits = ask-stays s (forgotten (removed s file) file) query (λ d inside dir. directory-mapped (forgetting file) (filter (is_kept file) s.entries) d (forgetting-measures file).kind ∙ directory-kept file s.entries d (file-no_directory s file d h there dir) ∙ dir) asks.fits;
+      fits = ask-stays s (forgotten (removed s file) file) query (λ d inside dir. directory-mapped (forgetting file) (filter (is_kept file) s.entries) d (forgetting-measures file).kind ∙ directory-kept file s.entries d (leaf-no_directory s file d h there dir) ∙ dir) asks.fits;
       added = marks permanent rest.added;
       removed = marks prohibited rest.removed;
       apart = rest.apart;
@@ -203,6 +206,7 @@ pub apply-queries : (s : State) (event : Event) → IsValid s → IsTrue (accept
 apply-queries s (Mkdir dir name) h ok = added-asks s dir name Dir h tt
 apply-queries s (NewFile dir name text) h ok = added-asks s dir name (File text true None) h tt
 apply-queries s (Rewrite file text) h ok = changed-asks s file (edited (rewritten text)) (λ e. refl) (λ e. (rewritten-keeps text).directories e.body) (λ e. (rewritten-keeps text).files e.body) (λ e there. rewritten-asks (apply s (Rewrite file text)) text e.body there) h
+apply-queries s (Ln dir name target) h ok = added-asks s dir name (Symlink target) h tt
 apply-queries s (Smkdir dir name query told) h ok =
     let parts = accepted-parts (is_possible s (Smkdir dir name query told)) (passed_limit (added s dir name (Semantic query [] []))) ok in
     let fits = (smkdir-parts s dir name query told parts.0).1 in
@@ -221,7 +225,7 @@ apply-queries s (Mark mark) h ok =
     changed-asks s mark.dir (edited edit) (λ e. refl) (λ e. marked-kind mark.item mark.kind e.body) (λ e. marked-file mark.item mark.kind e.body) (λ e there. marked-asks (apply s (Mark mark)) mark.item mark.kind e.body item there) h
 apply-queries s (Mv entry dir name) h ok = changed-asks s entry (reseated dir name) (λ e. refl) (λ e. refl) (λ e. refl) (λ e there. there) h
 apply-queries s (Rm file) h ok =
-    let parts = accepted-parts (is_file_at s.entries file) (passed_limit (forgotten (removed s file) file)) ok in
+    let parts = accepted-parts (is_leaf_at s.entries file) (passed_limit (forgotten (removed s file) file)) ok in
     let t : State = forgotten (removed s file) file in
     all-map (λ e. AsksWell t e.body) (edited (forgetting file)) (filter (is_kept file) s.entries)
     (all-filter (λ e. AsksWell t (forgetting file e.body)) (is_kept file) s.entries

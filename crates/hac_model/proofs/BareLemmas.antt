@@ -8,7 +8,7 @@ use Rattle.hac_model.specs.Tree.Events.{added, apply, asking, changed_in, change
 use Rattle.hac_model.specs.Query.Formula.{Formula}
 use Rattle.hac_model.specs.Tree.{is_dirty}
 use Rattle.hac_model.specs.declared.events.Event.{Event}
-use Rattle.hac_model.specs.declared.events.Event.TheVariants.{Mkdir, NewFile, Rewrite, Mark, Mv, Rm, Rmdir, Setq, Smkdir, Step, Unq}
+use Rattle.hac_model.specs.declared.events.Event.TheVariants.{Mkdir, NewFile, Rewrite, Ln, Mark, Mv, Rm, Rmdir, Setq, Smkdir, Step, Unq}
 use Rattle.hac_model.specs.declared.marks.Kind.{Kind}
 use Rattle.hac_model.specs.declared.marks.Kind.TheVariants.{Transient, Permanent, Prohibited, Unlinked}
 use Rattle.hac_model.specs.declared.states.Body.{Body}
@@ -162,6 +162,7 @@ pub bare-commutes : (s : State) (event : Event) → bare (apply s event) ≡ bar
 bare-commutes s (Mkdir dir name) = added-bare s dir name Dir
 bare-commutes s (NewFile dir name text) = added-bare s dir name (File text true None)
 bare-commutes s (Rewrite file text) = changed_at-bare s file (edited (rewritten text)) (rewritten-passes text)
+bare-commutes s (Ln dir name target) = added-bare s dir name (Symlink target)
 bare-commutes s (Smkdir dir name query told) = added-bare s dir name (Semantic query [] [])
 bare-commutes s (Mv entry dir name) = changed_at-bare s entry (reseated dir name) (reseated-passes dir name)
 bare-commutes s (Setq dir query told) = changed_at-bare s dir (edited (asking query)) (asking-passes query)

@@ -4,8 +4,8 @@ use Rattle.std.specs.Prelude.{◌==◌, not, filter, sum_by, Some, is_some}
 use Rattle.std.proofs.lemmas.Bool.{eqb-true, ne_eqb}
 use Rattle.std.proofs.lemmas.List.Sums.{sum_by-cons, sum_by_push}
 use Rattle.hac_model.specs.Tree.Events.{changed_in, changed_at, edited, indexed, reseated, rewritten}
-use Rattle.hac_model.specs.Tree.Limits.{directory_count, dirty_count, file_count, semantic_count, text_size, file_bytes}
-use Rattle.hac_model.specs.Tree.{entry_at, is_directory, is_dirty, is_file, query_in}
+use Rattle.hac_model.specs.Tree.Limits.{directory_count, dirty_count, file_count, semantic_count, symlink_count, text_size, file_bytes}
+use Rattle.hac_model.specs.Tree.{entry_at, is_directory, is_dirty, is_file, is_symlink, query_in}
 use Rattle.hac_model.specs.Tree.Valid.{NumbersRise}
 use Rattle.hac_model.specs.declared.states.Body.{Body}
 use Rattle.hac_model.specs.declared.states.Body.TheVariants.{File, Dir, Symlink, Semantic, Mount}
@@ -116,12 +116,14 @@ pub record KeepsKind (edit : Body → Body) : Type 0 where
   pub directories : (body : Body) → is_directory (edit body) ≡ is_directory body
   pub queries : (body : Body) → is_queried (edit body) ≡ is_queried body
   pub files : (body : Body) → is_file (edit body) ≡ is_file body
+  pub symlinks : (body : Body) → is_symlink (edit body) ≡ is_symlink body
 
 pub rewritten-keeps : (text : List ℕ) → KeepsKind (rewritten text)
 rewritten-keeps text = record {
   directories = (λ body. elim body as (λ b. is_directory (rewritten text b) ≡ is_directory b) [ File old dirty shown ↦ refl | Dir ↦ refl | Symlink target ↦ refl | Semantic query permanent prohibited ↦ refl | Mount space documents answers ↦ refl ]);
   queries = (λ body. elim body as (λ b. is_queried (rewritten text b) ≡ is_queried b) [ File old dirty shown ↦ refl | Dir ↦ refl | Symlink target ↦ refl | Semantic query permanent prohibited ↦ refl | Mount space documents answers ↦ refl ]);
   files = (λ body. elim body as (λ b. is_file (rewritten text b) ≡ is_file b) [ File old dirty shown ↦ refl | Dir ↦ refl | Symlink target ↦ refl | Semantic query permanent prohibited ↦ refl | Mount space documents answers ↦ refl ]);
+  symlinks = (λ body. elim body as (λ b. is_symlink (rewritten text b) ≡ is_symlink b) [ File old dirty shown ↦ refl | Dir ↦ refl | Symlink target ↦ refl | Semantic query permanent prohibited ↦ refl | Mount space documents answers ↦ refl ]);
 }
 
 pub indexed-keeps : KeepsKind indexed
@@ -129,6 +131,7 @@ indexed-keeps = record {
   directories = (λ body. elim body as (λ b. is_directory (indexed b) ≡ is_directory b) [ File old dirty shown ↦ refl | Dir ↦ refl | Symlink target ↦ refl | Semantic query permanent prohibited ↦ refl | Mount space documents answers ↦ refl ]);
   queries = (λ body. elim body as (λ b. is_queried (indexed b) ≡ is_queried b) [ File old dirty shown ↦ refl | Dir ↦ refl | Symlink target ↦ refl | Semantic query permanent prohibited ↦ refl | Mount space documents answers ↦ refl ]);
   files = (λ body. elim body as (λ b. is_file (indexed b) ≡ is_file b) [ File old dirty shown ↦ refl | Dir ↦ refl | Symlink target ↦ refl | Semantic query permanent prohibited ↦ refl | Mount space documents answers ↦ refl ]);
+  symlinks = (λ body. elim body as (λ b. is_symlink (indexed b) ≡ is_symlink b) [ File old dirty shown ↦ refl | Dir ↦ refl | Symlink target ↦ refl | Semantic query permanent prohibited ↦ refl | Mount space documents answers ↦ refl ]);
 }
 
 pub directory_count-edited : (s : State) (n : ℕ) (edit : Body → Body) → KeepsKind edit → directory_count (changed_at s n (edited edit)).entries ≡ directory_count s.entries
@@ -139,6 +142,9 @@ semantic_count-edited s n edit keeps = measured-same (one_if is_queried) n (edit
 
 pub file_count-edited : (s : State) (n : ℕ) (edit : Body → Body) → KeepsKind edit → file_count (changed_at s n (edited edit)).entries ≡ file_count s.entries
 file_count-edited s n edit keeps = measured-same (one_if is_file) n (edited edit) s.entries (λ e. ap (λ (b : Bool). cond {A = ℕ} b 1 0) (keeps.files e.body))
+
+pub symlink_count-edited : (s : State) (n : ℕ) (edit : Body → Body) → KeepsKind edit → symlink_count (changed_at s n (edited edit)).entries ≡ symlink_count s.entries
+symlink_count-edited s n edit keeps = measured-same (one_if is_symlink) n (edited edit) s.entries (λ e. ap (λ (b : Bool). cond {A = ℕ} b 1 0) (keeps.symlinks e.body))
 
 -- a text that is shown weighs no more than before
 pub indexed-lighter : (body : Body) → file_bytes (indexed body) ≤ file_bytes body

@@ -3,7 +3,7 @@ use Rattle.std.proofs.Common.{◌≡◌, ℕ, zero, suc, ◌+◌, ◌<◌, ◌�
 use Rattle.std.specs.Prelude.{◌==◌, ◌&&◌, ◌||◌, filter, map, min, not, nat_lt, replicate, Option, Some, None, Ok, IfSome, IsTrue, is_some, is_none}
 use Rattle.std.specs.List.{list_all}
 use Rattle.std.specs.Option.{option_map, option_map_or}
-use Rattle.std.proofs.lemmas.Bool.{and_from, and_parts, not_from_false}
+use Rattle.std.proofs.lemmas.Bool.{and_from, and_parts, not-true, not_from_false}
 use Rattle.std.proofs.lemmas.Bool.Decides.{nat_tests}
 use Rattle.hac_model.specs.Run.Answers.{first_cause}
 use Rattle.hac_model.specs.Tree.Events.{accepted, apply, apply_all, changed_at, dirty, edited, indexed, is_bare, is_free, is_clear, is_inside, is_placed, is_possible, is_unreferenced, may_ask, next_dirty}
@@ -11,14 +11,15 @@ use Rattle.hac_model.specs.Tree.Depends.{cycle_of_move, cycle_over, names_direct
 use Rattle.hac_model.specs.Laws.{AllHappen}
 use Rattle.hac_model.specs.Tree.Limits.{answer_limits, counts, dirty_count, first_passed, is_text, layout_limits, passed_limit}
 use Rattle.hac_model.specs.Script.Lines.{is_spelled_line}
+use Rattle.hac_model.specs.Script.PathWords.{is_target}
 use Rattle.hac_model.specs.Script.SpaceNames.{is_space_name}
 use Rattle.hac_model.specs.Tree.Links.{has, is_item, is_permanent, is_prohibited, is_semantic, links, parent_of}
 use Rattle.hac_model.specs.Run.Given.{no_answers}
 use Rattle.hac_model.specs.Run.Refusals.{already_cause, answer_cause, blocking_cause, busy_cause, cause, cycle_by, cycle_cause, directory_cause, early_cause, event_of, events_of, filled_cause, layout_cause, least_path, led_to, plain_cause, referenced_cause, root_cause, taken_cause, under_cause, unlinked_cause, unmarked_cause}
 use Rattle.hac_model.specs.Run.Resolving.{resolve}
-use Rattle.hac_model.specs.Run.Standing.{AllStand}
+use Rattle.hac_model.specs.Run.Standing.{AllStand, is_there}
 use Rattle.hac_model.specs.Tree.Sessions.{are_few, is_busy, least_name, sessions_with, visitors}
-use Rattle.hac_model.specs.Tree.{entry_at, is_directory_at, is_dirty, is_file_at, is_live, is_made_directory, path_of}
+use Rattle.hac_model.specs.Tree.{entry_at, is_directory_at, is_dirty, is_file_at, is_leaf_at, is_live, is_made_directory, is_symlink_at, path_of}
 use Rattle.hac_model.specs.Tree.Valid.{IsLayout, IsValid, NumbersRise}
 use Rattle.hac_model.specs.declared.commands.Line.{Line}
 use Rattle.hac_model.specs.declared.events.Event.{Event}
@@ -30,7 +31,7 @@ use Rattle.hac_model.specs.declared.replies.Refusal.{Refusal}
 use Rattle.hac_model.specs.declared.replies.Refusal.TheVariants as refusal
 use Rattle.hac_model.specs.declared.replies.Refusal.TheVariants.{NoPath, NotDir}
 use Rattle.hac_model.specs.declared.resolved.Resolved.{Resolved}
-use Rattle.hac_model.specs.declared.resolved.Resolved.TheVariants.{Mkdir, Rmdir, Write, Cd, Mv, Rm, Smkdir, Setq, Unq, Sln, Srm, Sforget, Index, Tick}
+use Rattle.hac_model.specs.declared.resolved.Resolved.TheVariants.{Mkdir, Rmdir, Write, Cd, Mv, Rm, Ln, Smkdir, Setq, Unq, Sln, Srm, Sforget, Index, Tick}
 use Rattle.hac_model.specs.declared.states.Body.{Body}
 use Rattle.hac_model.specs.declared.states.Body.TheVariants.{File}
 use Rattle.hac_model.specs.declared.states.Entry.{Entry}
@@ -39,7 +40,7 @@ use Rattle.hac_model.specs.declared.states.State.{State}
 use Rattle.hac_model.proofs.AcyclicLemmas.{apply-valid}
 use Rattle.hac_model.proofs.CountLemmas.{dirty_count-is, measured-changed, measured-cons, one_if}
 use Rattle.hac_model.proofs.LimitLemmas.{passed-both}
-use Rattle.hac_model.proofs.LookLemmas.{file-or_directory}
+use Rattle.hac_model.proofs.LookLemmas.{leaf-file, leaf-or_directory}
 use Rattle.hac_model.proofs.StandLemmas.{line-stands}
 use Rattle.hac_model.proofs.PassedLemmas.{step-passes}
 use Rattle.hac_model.proofs.TreeLemmas.{is-live, entry_at-above, entry_at-behind, entry_at-first}
@@ -194,22 +195,28 @@ no-cycle : (s : State) (way : Option ℕ) → cycle_by s way ≡ None → way �
 no-cycle s None h = refl
 no-cycle s (Some dir) h = absurd cc
 
--- an item and a semantic directory, of which a mark speaks
-mark-placed : (s : State) (item dir : ℕ) (more : List (Option Refusal)) → IsLayout s → is_live s.entries item ≡ true → first_cause (directory_cause s item ∷ plain_cause s dir ∷ more) ≡ None → ((is_item s item && is_semantic s dir) ≡ true) × (first_cause more ≡ None)
-mark-placed s item dir more h lives free =
-    let file = no_cause (directory_cause s item) (plain_cause s dir ∷ more) free in
-    let plain = no_cause (plain_cause s dir) more file.1 in
-    let other : is_directory_at s.entries item ≡ false = no_refusal (is_directory_at s.entries item) (refusal.NotFile (path_of s item)) file.0 in
-    let semantic : is_semantic s dir ≡ true = no_other (is_semantic s dir) (refusal.NotSemantic (path_of s dir)) plain.0 in
-    (and_from (is_item s item) (is_semantic s dir) (file-or_directory s item h (is-live s.entries item lives) other) semantic, plain.1)
-
 made : (s : State) (dir : ℕ) → is_directory_at s.entries dir ≡ true → (dir == 0) ≡ false → is_made_directory s.entries dir ≡ true
 made s dir there other = ap (λ (b : Bool). b || is_made_directory s.entries dir) (sym other) ∙ there
 
 -- a command that nothing blocks makes an event whose parts are in the tree
 module _ (s : State) (h : IsLayout s) where
-  pub file-there : (n : ℕ) → is_live s.entries n ≡ true → directory_cause s n ≡ None → is_file_at s.entries n ≡ true
-  file-there n lives free = file-or_directory s n h (is-live s.entries n lives) (no_refusal (is_directory_at s.entries n) (refusal.NotFile (path_of s n)) free)
+  -- what is found and isn't a directory is a leaf, and a file where it was followed
+  pub leaf-there : (follow : Bool) (n : ℕ) → is_there s follow n ≡ true → directory_cause s n ≡ None → is_leaf_at s.entries n ≡ true
+  leaf-there follow n there free =
+      let lives = (and_parts (is_live s.entries n) (not (follow && is_symlink_at s.entries n)) there).0 in
+      leaf-or_directory s n h (is-live s.entries n lives) (no_refusal (is_directory_at s.entries n) (refusal.NotFile (path_of s n)) free)
+
+  pub file-there : (n : ℕ) → is_there s true n ≡ true → directory_cause s n ≡ None → is_file_at s.entries n ≡ true
+  file-there n there free =
+      leaf-file s n (leaf-there true n there free) (not-true (is_symlink_at s.entries n) (and_parts (is_live s.entries n) (not (is_symlink_at s.entries n)) there).1)
+
+  -- an item and a semantic directory, of which a mark speaks
+  mark-placed : (item dir : ℕ) (more : List (Option Refusal)) → is_there s true item ≡ true → first_cause (directory_cause s item ∷ plain_cause s dir ∷ more) ≡ None → ((is_item s item && is_semantic s dir) ≡ true) × (first_cause more ≡ None)
+  mark-placed item dir more there free =
+      let file = no_cause (directory_cause s item) (plain_cause s dir ∷ more) free in
+      let plain = no_cause (plain_cause s dir) more file.1 in
+      let semantic : is_semantic s dir ≡ true = no_other (is_semantic s dir) (refusal.NotSemantic (path_of s dir)) plain.0 in
+      (and_from (is_item s item) (is_semantic s dir) (file-there item there file.0) semantic, plain.1)
 
   pub unblocked-placed : (r : Resolved) → AllStand s r → blocking_cause s r ≡ None → IfSome (event_of r) (λ e. IsTrue (is_placed s e))
   unblocked-placed (Mkdir (There number)) there free = tt
@@ -226,20 +233,22 @@ module _ (s : State) (h : IsLayout s) where
       let root = free-root s entry (taken_cause s (Free dir name) ∷ under_cause s entry (Free dir name) ∷ []) free in
       let under = no_cause (under_cause s entry (Free dir name)) [] root.1 in
       let outside : is_inside s dir entry ≡ false = no_refusal (is_inside s dir entry) (refusal.Under (path_of s entry)) under.0 in
-      let fits = and_from (is_some (entry_at s.entries entry)) (is_free s dir name) (lives-some s entry there.0 root.0) there.1 in
+      let fits = and_from (is_some (entry_at s.entries entry)) (is_free s dir name) (lives-some s entry (and_parts (is_live s.entries entry) true there.0).0 root.0) there.1 in
       and_from (is_some (entry_at s.entries entry) && is_free s dir name) (not (is_inside s dir entry)) fits (not_from_false (is_inside s dir entry) outside)
   unblocked-placed (Rm entry) there free =
       let root = free-root s entry (directory_cause s entry ∷ []) free in
-      file-there entry there (no_cause (directory_cause s entry) [] root.1).0
+      leaf-there false entry there (no_cause (directory_cause s entry) [] root.1).0
+  unblocked-placed (Ln (There number) target) there free = tt
+  unblocked-placed (Ln (Free dir name) target) there free = and_from (is_free s dir name) (is_target target) there.0 there.1
   unblocked-placed (Smkdir (There number) query) there free = tt
   unblocked-placed (Smkdir (Free dir name) query) there free =
       and_from (is_free s dir name) (may_ask s query && length {A = List ℕ} [] == 0) there.0 (and_from (may_ask s query) (length {A = List ℕ} [] == 0) there.1 refl)
   unblocked-placed (Setq dir query) there free =
       and_from (is_made_directory s.entries dir) (may_ask s query && length {A = List ℕ} [] == 0) (made s dir there.0 (no_refusal (dir == 0) refusal.Root free)) (and_from (may_ask s query) (length {A = List ℕ} [] == 0) there.1 refl)
   unblocked-placed (Unq dir) there free = no_other (is_semantic s dir) (refusal.NotSemantic (path_of s dir)) free
-  unblocked-placed (Sln item dir) there free = (mark-placed s item dir (already_cause s item dir ∷ []) h there.0 free).0
-  unblocked-placed (Srm item dir) there free = (mark-placed s item dir (unlinked_cause s item dir ∷ []) h there.0 free).0
-  unblocked-placed (Sforget item dir) there free = (mark-placed s item dir (unmarked_cause s item dir ∷ []) h there.0 free).0
+  unblocked-placed (Sln item dir) there free = (mark-placed item dir (already_cause s item dir ∷ []) there.0 free).0
+  unblocked-placed (Srm item dir) there free = (mark-placed item dir (unlinked_cause s item dir ∷ []) there.0 free).0
+  unblocked-placed (Sforget item dir) there free = (mark-placed item dir (unmarked_cause s item dir ∷ []) there.0 free).0
   unblocked-placed other there free = tt
 
   -- and against which nothing stands
@@ -257,18 +266,20 @@ module _ (s : State) (h : IsLayout s) where
   unblocked-clear (Mv entry (There number)) there free acyclic = tt
   unblocked-clear (Mv entry (Free dir name)) there free acyclic = ap (λ (o : Option ℕ). is_none o) (no-cycle s (cycle_of_move s entry dir) acyclic)
   unblocked-clear (Rm entry) there free acyclic = refl
+  unblocked-clear (Ln (There number) target) there free acyclic = tt
+  unblocked-clear (Ln (Free dir name) target) there free acyclic = refl
   unblocked-clear (Smkdir (There number) query) there free acyclic = tt
   unblocked-clear (Smkdir (Free dir name) query) there free acyclic = refl
   unblocked-clear (Setq dir query) there free acyclic = ap (λ (o : Option ℕ). is_none o) (no-cycle s (cycle_over s dir (parent_of s dir) query) acyclic)
   unblocked-clear (Unq dir) there free acyclic = refl
   unblocked-clear (Sln item dir) there free acyclic =
-      let more = (mark-placed s item dir (already_cause s item dir ∷ []) h there.0 free).1 in
+      let more = (mark-placed item dir (already_cause s item dir ∷ []) there.0 free).1 in
       not_from_false (is_permanent s dir item) (no_refusal (is_permanent s dir item) (refusal.Already (path_of s item)) (no_cause (already_cause s item dir) [] more).0)
   unblocked-clear (Srm item dir) there free acyclic =
-      let more = (mark-placed s item dir (unlinked_cause s item dir ∷ []) h there.0 free).1 in
+      let more = (mark-placed item dir (unlinked_cause s item dir ∷ []) there.0 free).1 in
       no_other (is_permanent s dir item || has (links s dir) item) (refusal.NotLinked (path_of s item)) (no_cause (unlinked_cause s item dir) [] more).0
   unblocked-clear (Sforget item dir) there free acyclic =
-      let more = (mark-placed s item dir (unmarked_cause s item dir ∷ []) h there.0 free).1 in
+      let more = (mark-placed item dir (unmarked_cause s item dir ∷ []) there.0 free).1 in
       no_other (is_permanent s dir item || is_prohibited s dir item) (refusal.NoMark (path_of s item)) (no_cause (unmarked_cause s item dir) [] more).0
   unblocked-clear other there free acyclic = tt
 

@@ -8,10 +8,10 @@ use Rattle.hac_model.specs.Tree.Depends.{depends, named_in}
 use Rattle.hac_model.specs.Tree.Events.{apply, asking, changed_at, edited, forgetting, indexed, is_possible, marked, next_dirty, plain_body, reseated, rewritten}
 use Rattle.hac_model.specs.Tree.Facts.{Facts, edges_to, facts_after, facts_at, facts_in, facts_of, no_facts, put_at, with_mark, without_item}
 use Rattle.hac_model.specs.Query.Formula.{Formula}
-use Rattle.hac_model.specs.Tree.{entry_at, is_directory, is_file, query_in}
+use Rattle.hac_model.specs.Tree.{entry_at, is_directory, is_leaf, query_in}
 use Rattle.hac_model.specs.Tree.Valid.{NumbersRise}
 use Rattle.hac_model.specs.declared.events.Event.{Event}
-use Rattle.hac_model.specs.declared.events.Event.TheVariants.{Mkdir, NewFile, Rewrite, Smkdir, Setq, Unq, Mark, Mv, Rm, Rmdir, Step}
+use Rattle.hac_model.specs.declared.events.Event.TheVariants.{Mkdir, NewFile, Rewrite, Ln, Smkdir, Setq, Unq, Mark, Mv, Rm, Rmdir, Step}
 use Rattle.hac_model.specs.declared.marks.Kind.{Kind}
 use Rattle.hac_model.specs.declared.marks.Kind.TheVariants.{Transient, Permanent, Prohibited, Unlinked}
 use Rattle.hac_model.specs.declared.states.Body.{Body}
@@ -106,27 +106,27 @@ forgetting-facts item (Some e) = body e.body
     body (Semantic query permanent prohibited) = refl
     body (Mount space documents answers) = refl
 
--- a file tells nothing
-file-facts : (o : Option Entry) → option_map_or is_file (option_map (λ (e : Entry). e.body) o) false ≡ true → facts_at o ≡ no_facts
-file-facts None file = absurd cc
-file-facts (Some e) file = body e.body file
+-- a leaf tells nothing
+leaf-facts : (o : Option Entry) → option_map_or is_leaf (option_map (λ (e : Entry). e.body) o) false ≡ true → facts_at o ≡ no_facts
+leaf-facts None leaf = absurd cc
+leaf-facts (Some e) leaf = body e.body leaf
   where
-    body : (b : Body) → is_file b ≡ true → facts_in e.parent b ≡ no_facts
-    body (File text dirty shown) file = refl
-    body Dir file = absurd cc
-    body (Symlink target) file = absurd cc
-    body (Semantic query permanent prohibited) file = absurd cc
-    body (Mount space documents answers) file = absurd cc
+    body : (b : Body) → is_leaf b ≡ true → facts_in e.parent b ≡ no_facts
+    body (File text dirty shown) leaf = refl
+    body Dir leaf = absurd cc
+    body (Symlink target) leaf = refl
+    body (Semantic query permanent prohibited) leaf = absurd cc
+    body (Mount space documents answers) leaf = absurd cc
 
 removed-facts : (s : State) (item : ℕ) → is_possible s (Rm item) ≡ true → (n : ℕ) → facts_of (apply s (Rm item)) n ≡ forgotten_facts item (facts_of s n)
-removed-facts s item file n =
+removed-facts s item leaf n =
     ap facts_at (entry_at-mapped (forgetting item) (filter (is_kept item) s.entries) n)
     ∙ forgetting-facts item (entry_at (filter (is_kept item) s.entries) n)
     ∙ ap (forgotten_facts item) (seen-removed facts_at s.entries item n)
     ∙ at (n == item) refl
   where
     at : (b : Bool) → (n == item) ≡ b → forgotten_facts item (cond b no_facts (facts_of s n)) ≡ forgotten_facts item (facts_of s n)
-    at true is = ap (forgotten_facts item) (sym (ap (facts_of s) (eqb-true n item is) ∙ file-facts (entry_at s.entries item) file))
+    at true is = ap (forgotten_facts item) (sym (ap (facts_of s) (eqb-true n item is) ∙ leaf-facts (entry_at s.entries item) leaf))
     at false is = refl
 
 stepped-facts : (s : State) (o : Option ℕ) (n : ℕ) → facts_of (option_map_or (λ file. changed_at s file (edited indexed)) o s) n ≡ facts_of s n
@@ -138,6 +138,7 @@ pub facts-law : (s : State) (event : Event) → NumbersRise 0 s.entries s.next �
 facts-law s (Mkdir dir name) rise ok n = seen-plain facts_at s.entries (record { number = s.next; parent = dir; name = name; body = Dir }) rise refl n
 facts-law s (NewFile dir name text) rise ok n = seen-plain facts_at s.entries (record { number = s.next; parent = dir; name = name; body = File text true None }) rise refl n
 facts-law s (Rewrite file text) rise ok n = seen-kept facts_at s.entries file (edited (rewritten text)) (λ e. refl) (λ e. rewritten-facts text e.parent e.body) n
+facts-law s (Ln dir name target) rise ok n = seen-plain facts_at s.entries (record { number = s.next; parent = dir; name = name; body = Symlink target }) rise refl n
 facts-law s (Smkdir dir name query told) rise ok n = seen-added facts_at s.entries (record { number = s.next; parent = dir; name = name; body = Semantic query [] [] }) rise n
 facts-law s (Setq dir query told) rise ok n =
     seen-changed facts_at s.entries dir (edited (asking query)) (λ e. refl) n

@@ -12,11 +12,13 @@ pub mod AmongLemmas
 pub mod LinkLemmas
 pub mod CountLemmas
 pub mod ValidLemmas
+pub mod ValidTestLemmas
 pub mod DepthLemmas
 pub mod MoveLemmas
 pub mod PassedLemmas
 pub mod QueryLemmas
 pub mod SpellingLemmas
+pub mod FollowLemmas
 pub mod FrontLemmas
 pub mod ScriptLemmas
 pub mod JoinLemmas
@@ -24,6 +26,7 @@ pub mod StandLemmas
 pub mod EventLemmas
 pub mod SessionLemmas
 pub mod SpelledLemmas
+pub mod StateSpellingLemmas
 pub mod PlayLemmas
 pub mod PlainLemmas
 pub mod ListedLemmas

@@ -18,7 +18,7 @@ use Rattle.hac_model.proofs.AmongLemmas.{among-left, among-right}
 use Rattle.hac_model.proofs.GraphLemmas.{leads_more}
 
 -- the number is taken out, wherever it is
-abbrev without : ℕ → List ℕ → List ℕ
+abbrev pub without : ℕ → List ℕ → List ℕ
 without n [] = []
 without n (x ∷ xs) = cond (x == n) (without n xs) (x ∷ without n xs)
 
@@ -30,7 +30,7 @@ length-without-le n (x ∷ xs) =
       | false ↦ omega (arith, length-without-le n xs)
     ]
 
-length-without : (n : ℕ) (xs : List ℕ) → Among xs n → length (without n xs) + 1 ≤ length xs
+pub length-without : (n : ℕ) (xs : List ℕ) → Among xs n → length (without n xs) + 1 ≤ length xs
 length-without n [] h = absurd h
 length-without n (x ∷ xs) h =
     elim (x == n) as (λ b. (x == n) ≡ b → length (cond b (without n xs) (x ∷ without n xs)) + 1 ≤ length (x ∷ xs)) [
@@ -42,7 +42,7 @@ length-without n (x ∷ xs) h =
     ] refl
 
 -- another number stays
-Among-without : (n m : ℕ) (xs : List ℕ) → Among xs m → ((n ≡ m) → ⊥) → Among (without n xs) m
+pub Among-without : (n m : ℕ) (xs : List ℕ) → Among xs m → ((n ≡ m) → ⊥) → Among (without n xs) m
 Among-without n m [] h other = absurd h
 Among-without n m (x ∷ xs) h other =
     elim (x == n) as (λ b. (x == n) ≡ b → Among (cond b (without n xs) (x ∷ without n xs)) m) [
@@ -73,7 +73,7 @@ abbrev Trail : State → List ℕ → List ℕ → ℕ → Type 0
 Trail s dirs free d = (v : ℕ) → Among dirs v → Among free v ⊎ ((k : ℕ) × Leads (depends s) (suc k) v d)
 
 -- the semantic directories
-abbrev semantic_numbers : List Entry → List ℕ
+abbrev pub semantic_numbers : List Entry → List ℕ
 semantic_numbers es = map (λ (e : Entry). e.number) (filter (λ (e : Entry). is_some (query_in e.body)) es)
 
 semantic-among : (es : List Entry) (d : ℕ) → is_some (option_and_then query_in (body_at es d)) ≡ true → Among (semantic_numbers es) d
@@ -84,7 +84,7 @@ semantic-among (e ∷ es) d h =
       | false ↦ (λ other h. elim (is_some (query_in e.body)) as (λ t. Among (map (λ (e : Entry). e.number) (cond t (e ∷ filter (λ (e : Entry). is_some (query_in e.body)) es) (filter (λ (e : Entry). is_some (query_in e.body)) es))) d) [ true ↦ inr (semantic-among es d h) | false ↦ semantic-among es d h ])
     ] refl h
 
-semantic-length : (es : List Entry) → semantic_count es ≡ length (semantic_numbers es)
+pub semantic-length : (es : List Entry) → semantic_count es ≡ length (semantic_numbers es)
 semantic-length [] = refl
 semantic-length (e ∷ es) =
     sum_by-cons (λ (e : Entry). cond {A = ℕ} (is_some (query_in e.body)) 1 0) e es
@@ -97,7 +97,7 @@ semantic-length (e ∷ es) =
 edge-semantic : (s : State) (d e : ℕ) → Among (depends s d) e → is_semantic s d ≡ true
 edge-semantic s d e edge = elim (query_at s d) as (λ o. Among (option_map_or (λ q. parent_of s d ∷ named_in q) o []) e → is_some o ≡ true) [ None ↦ (λ h. absurd h) | Some q ↦ (λ h. refl) ] edge
 
-edge-among : (s : State) (d e : ℕ) → Among (depends s d) e → Among (semantic_numbers s.entries) d
+pub edge-among : (s : State) (d e : ℕ) → Among (depends s d) e → Among (semantic_numbers s.entries) d
 edge-among s d e edge = semantic-among s.entries d (edge-semantic s d e edge)
 
 pub provide-same : (s : State) (a b : ℕ → Bool) (dir item : ℕ) → a dir ≡ b dir → provide s a dir item ≡ provide s b dir item
@@ -192,16 +192,3 @@ links-only s acyclic known fixed =
     let same : iterate n (round s) known ≡ iterate n (round s) start =
     λ i d. settled_all s acyclic known start (λ v outside. (λ j. sym fixed j v) ∙ round-outside s known v outside) d i in
     sym (iterate_fixed n (round s) known fixed) ∙ same ∙ sym (rounds-iterate s n)
-
--- where no directory depends on itself, a walk has no more steps than there are directories that it may begin at
-walk-free : (s : State) → IsAcyclic s → (k : ℕ) (free : List ℕ) (d e : ℕ) → Trail s (semantic_numbers s.entries) free d → Leads (depends s) k d e → k ≤ length free
-walk-free s acyclic zero free d e trail h = omega arith
-walk-free s acyclic (suc k) free d e trail (next, edge, more) =
-    let inside = edge-among s d next edge in
-    let here : Among free d = elim (trail d inside) as (λ _. Among free d) [ inl here ↦ here | inr back ↦ absurd (acyclic back.0 d back.1) ] in
-    omega (arith, length-without d free here, walk-free s acyclic k (without d free) next e (trail-next s free d next trail edge) more)
-
--- so none has more than there are semantic directories
-pub walk-short : (s : State) (k d e : ℕ) → IsAcyclic s → Leads (depends s) k d e → k ≤ semantic_count s.entries
-walk-short s k d e acyclic h =
-    omega (arith, walk-free s acyclic k (semantic_numbers s.entries) d e (λ v inside. inl inside) h, semantic-length s.entries)

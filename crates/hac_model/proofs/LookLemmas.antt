@@ -1,4 +1,4 @@
--- Where look-ups lead.
+-- Where paths lead on which no symbolic link is followed.
 use Rattle.std.proofs.lemmas.List.Folds.{list_all-append}
 use Rattle.std.proofs.Common.{◌≡◌, ℕ, zero, suc, ◌-◌, Bool, true, false, cond, List, [], ◌∷◌, ◌++◌, subst, refl, ap, sym, ◌∙◌, eq-eqb, inl, inr, append_assoc, length}
 use Rattle.std.specs.Prelude.{◌==◌, ◌&&◌, ◌||◌, not, take, Option, Some, None, Result, Ok, Err, is_some, is_none, if◌then◌else◌, IsTrue}
@@ -7,11 +7,10 @@ use Rattle.std.specs.Str.{bytes_eq}
 use Rattle.std.proofs.lemmas.Bool.{and_from, and_parts}
 use Rattle.std.proofs.lemmas.List.{append-nil}
 use Rattle.hac_model.specs.Tree.Events.{is_free}
-use Rattle.hac_model.specs.Tree.Looks.{has_names, look}
+use Rattle.hac_model.specs.Tree.Looks.{has_names, destination}
 use Rattle.hac_model.specs.Tree.Names.{is_name}
 use Rattle.hac_model.specs.Tree.Paths.{are_names, join, without_last, origin}
-use Rattle.hac_model.specs.Run.Resolving.{place}
-use Rattle.hac_model.specs.Tree.{child, entry_at, is_directory, is_directory_at, is_file, is_file_at, is_made_directory, path_of}
+use Rattle.hac_model.specs.Tree.{child, entry_at, is_directory, is_directory_at, is_file, is_file_at, is_leaf, is_leaf_at, is_made_directory, is_symlink, is_symlink_at, path_of}
 use Rattle.hac_model.specs.Tree.Valid.{IsLayout, IsSound}
 use Rattle.hac_model.specs.declared.paths.PathWord.{PathWord}
 use Rattle.hac_model.specs.declared.places.Place.{Place}
@@ -24,7 +23,7 @@ use Rattle.hac_model.specs.declared.states.Entry.{Entry}
 use Rattle.hac_model.specs.declared.states.State.{State}
 use Rattle.hac_model.proofs.PathLemmas.{path_of-parent, path_of-root, from_root}
 use Rattle.hac_model.proofs.TreeLemmas.{Lives, child-entry, entry_at-all, entry_at-cases}
-use Rattle.hac_model.proofs.Walks.{look-walk, walk}
+use Rattle.hac_model.proofs.Walks.{destination-walk, walk}
 
 found-more : (b : Bool) (e : Entry) (o : Option Entry) → is_some o ≡ true → is_some (cond b (Some e) o) ≡ true
 found-more true e o h = refl
@@ -45,35 +44,47 @@ child-lives es dir name n h = elim (entry_at-cases es n) [
   | inr found ↦ inr found
 ]
 
-kind-cases : (body : Body) → IsSound body → is_file body ≡ not (is_directory body)
+kind-cases : (body : Body) → IsSound body → is_leaf body ≡ not (is_directory body)
 kind-cases (File text dirty shown) sound = refl
 kind-cases Dir sound = refl
 kind-cases (Semantic query permanent prohibited) sound = refl
-kind-cases (Symlink target) sound = absurd sound
+kind-cases (Symlink target) sound = refl
 kind-cases (Mount space documents answers) sound = absurd sound
 
--- what lives is a file or a directory
-pub file-or_directory : (s : State) (n : ℕ) → IsLayout s → Lives s.entries n → is_directory_at s.entries n ≡ false → is_file_at s.entries n ≡ true
-file-or_directory s n layout (inl root) h = let never : true ≡ false = ap (λ (k : ℕ). is_directory_at s.entries k) (sym root) ∙ h in absurd cc
-file-or_directory s n layout (inr found) h =
-    elim (n == 0) as (λ b. (b || is_made_directory s.entries n) ≡ false → is_file_at s.entries n ≡ true) [ true ↦ (λ h. absurd cc) | false ↦ (λ h. made h) ] h
+-- what lives is a leaf or a directory
+pub leaf-or_directory : (s : State) (n : ℕ) → IsLayout s → Lives s.entries n → is_directory_at s.entries n ≡ false → is_leaf_at s.entries n ≡ true
+leaf-or_directory s n layout (inl root) h = let never : true ≡ false = ap (λ (k : ℕ). is_directory_at s.entries k) (sym root) ∙ h in absurd cc
+leaf-or_directory s n layout (inr found) h =
+    elim (n == 0) as (λ b. (b || is_made_directory s.entries n) ≡ false → is_leaf_at s.entries n ≡ true) [ true ↦ (λ h. absurd cc) | false ↦ (λ h. made h) ] h
   where
-    made : is_made_directory s.entries n ≡ false → is_file_at s.entries n ≡ true
+    made : is_made_directory s.entries n ≡ false → is_leaf_at s.entries n ≡ true
     made h =
         let other : is_directory found.0.body ≡ false = ap (λ (o : Option Entry). option_map_or is_directory (option_map (λ (e : Entry). e.body) o) false) (sym found.1) ∙ h in
         let sound : IsSound found.0.body = entry_at-all (λ e. IsSound e.body) s.entries n found.0 layout.bodies found.1 in
-        ap (λ (o : Option Entry). option_map_or is_file (option_map (λ (e : Entry). e.body) o) false) found.1 ∙ kind-cases found.0.body sound ∙ ap not other
+        ap (λ (o : Option Entry). option_map_or is_leaf (option_map (λ (e : Entry). e.body) o) false) found.1 ∙ kind-cases found.0.body sound ∙ ap not other
 
-pub directory-or_file : (s : State) (n : ℕ) → IsLayout s → Lives s.entries n → is_file_at s.entries n ≡ false → is_directory_at s.entries n ≡ true
-directory-or_file s n layout lives h =
-    elim (is_directory_at s.entries n) as (λ b. is_directory_at s.entries n ≡ b → b ≡ true) [
-      | true ↦ (λ is. refl)
-      | false ↦ (λ other. let never : true ≡ false = sym (file-or_directory s n layout lives other) ∙ h in absurd cc)
-    ] refl
+-- a leaf is a file or a symbolic link
+pub leaf-file : (s : State) (n : ℕ) → is_leaf_at s.entries n ≡ true → is_symlink_at s.entries n ≡ false → is_file_at s.entries n ≡ true
+leaf-file s n h other =
+    elim (entry_at s.entries n) as (λ o. option_map_or is_leaf (option_map (λ (e : Entry). e.body) o) false ≡ true → option_map_or is_symlink (option_map (λ (e : Entry). e.body) o) false ≡ false → option_map_or is_file (option_map (λ (e : Entry). e.body) o) false ≡ true) [
+      | None ↦ (λ h other. h)
+      | Some e ↦ (λ h other. body e.body h other)
+    ] h other
+  where
+    body : (b : Body) → is_leaf b ≡ true → is_symlink b ≡ false → is_file b ≡ true
+    body (File text dirty shown) h other = refl
+    body Dir h other = h
+    body (Semantic query permanent prohibited) h other = h
+    body (Symlink target) h other = absurd cc
+    body (Mount space documents answers) h other = h
 
 -- where a name that isn't missing leads on
 on : List Entry → List (List ℕ) → List (List ℕ) → ℕ → Result Place Refusal
-on es walked names number = cond (has_names names && is_file_at es number) (Err (NotDir walked)) (walk es number walked names)
+on es walked names number = cond (has_names names && not (is_directory_at es number)) (Err (NotDir walked)) (walk es number walked names)
+
+not-false : (b : Bool) → not b ≡ false → b ≡ true
+not-false true h = refl
+not-false false h = absurd cc
 
 -- what a missing name is
 missing : ℕ → List ℕ → List (List ℕ) → List (List ℕ) → Result Place Refusal
@@ -94,9 +105,9 @@ missing-free dir name walked names d x h = elim (has_names names) as (λ b. cond
   | false ↦ (λ h. let dirs : dir ≡ d = cc in let names : name ≡ x = cc in (dirs, names))
 ] h
 
-on-goes : (es : List Entry) (walked names : List (List ℕ)) (number : ℕ) (p : Place) → on es walked names number ≡ Ok p → ((has_names names && is_file_at es number) ≡ false) × (walk es number walked names ≡ Ok p)
+on-goes : (es : List Entry) (walked names : List (List ℕ)) (number : ℕ) (p : Place) → on es walked names number ≡ Ok p → ((has_names names && not (is_directory_at es number)) ≡ false) × (walk es number walked names ≡ Ok p)
 unfolding on
-on-goes es walked names number p h = elim (has_names names && is_file_at es number) as (λ b. cond b (Err (NotDir walked)) (walk es number walked names) ≡ Ok p → (b ≡ false) × (walk es number walked names ≡ Ok p)) [
+on-goes es walked names number p h = elim (has_names names && not (is_directory_at es number)) as (λ b. cond b (Err (NotDir walked)) (walk es number walked names) ≡ Ok p → (b ≡ false) × (walk es number walked names ≡ Ok p)) [
   | true ↦ (λ h. absurd cc)
   | false ↦ (λ h. (refl, h))
 ] h
@@ -130,24 +141,20 @@ walk-free s dir walked (name ∷ names) d x layout directory named h =
           further names m (child-lives s.entries dir name m found) goes.0 goes.1 (λ directory. walk-free s m (walked ++ name ∷ []) names d x layout directory parts.1 goes.1))
     ] refl (sym (walk-name s.entries dir walked name names) ∙ h)
   where
-    further : (rest : List (List ℕ)) (m : ℕ) → Lives s.entries m → (has_names rest && is_file_at s.entries m) ≡ false → walk s.entries m (walked ++ name ∷ []) rest ≡ Ok (Free d x) → (is_directory_at s.entries m ≡ true → IsFreePlace s.entries d x) → IsFreePlace s.entries d x
+    further : (rest : List (List ℕ)) (m : ℕ) → Lives s.entries m → (has_names rest && not (is_directory_at s.entries m)) ≡ false → walk s.entries m (walked ++ name ∷ []) rest ≡ Ok (Free d x) → (is_directory_at s.entries m ≡ true → IsFreePlace s.entries d x) → IsFreePlace s.entries d x
     further [] m lives goes h on_from = absurd cc
-    further (y ∷ rest) m lives goes h on_from = on_from (directory-or_file s m layout lives goes)
+    further (y ∷ rest) m lives goes h on_from = on_from (not-false (is_directory_at s.entries m) goes)
 
 -- what a path leads to lives
-pub look-lives : (s : State) (path : List (List ℕ)) (n : ℕ) → look s path ≡ Ok (There n) → Lives s.entries n
-look-lives s path n h = walk-lives s.entries 0 [] path n (inl refl) (sym (look-walk s path) ∙ h)
+pub destination-lives : (s : State) (path : List (List ℕ)) (n : ℕ) → destination s path ≡ Ok (There n) → Lives s.entries n
+destination-lives s path n h = walk-lives s.entries 0 [] path n (inl refl) (sym (destination-walk s path) ∙ h)
 
 -- what it leads to and is missing is a free place
-pub look-free : (s : State) (path : List (List ℕ)) (dir : ℕ) (name : List ℕ) → IsLayout s → are_names path ≡ true → look s path ≡ Ok (Free dir name) → IsFreePlace s.entries dir name
-look-free s path dir name layout named h = walk-free s 0 [] path dir name layout refl named (sym (look-walk s path) ∙ h)
-
--- what a path word leads to lives
-pub place-lives : (s : State) (base : ℕ) (word : PathWord) (n : ℕ) → place s base word ≡ Ok (There n) → Lives s.entries n
-place-lives s base word n h = look-lives s (join (path_of s base) word) n h
+pub destination-free : (s : State) (path : List (List ℕ)) (dir : ℕ) (name : List ℕ) → IsLayout s → are_names path ≡ true → destination s path ≡ Ok (Free dir name) → IsFreePlace s.entries dir name
+destination-free s path dir name layout named h = walk-free s 0 [] path dir name layout refl named (sym (destination-walk s path) ∙ h)
 
 -- the names of a path are names
-path-named : (s : State) (n : ℕ) → IsLayout s → Lives s.entries n → are_names (path_of s n) ≡ true
+pub path-named : (s : State) (n : ℕ) → IsLayout s → Lives s.entries n → are_names (path_of s n) ≡ true
 path-named s n h lives = from_root s (λ n. are_names (path_of s n) ≡ true) h (ap are_names (path_of-root s h)) below n lives
   where
     below : (n : ℕ) (e : Entry) → entry_at s.entries n ≡ Some e → are_names (path_of s e.parent) ≡ true → are_names (path_of s n) ≡ true
@@ -163,7 +170,7 @@ take-named (suc n) (name ∷ path) h =
     let parts = and_parts (is_name name) (are_names path) h in
     and_from (is_name name) (are_names (take n path)) parts.0 (take-named n path parts.1)
 
-join-named : (base : List (List ℕ)) (word : PathWord) → are_names base ≡ true → are_names word.names ≡ true → are_names (join base word) ≡ true
+pub join-named : (base : List (List ℕ)) (word : PathWord) → are_names base ≡ true → are_names word.names ≡ true → are_names (join base word) ≡ true
 join-named base word above named =
     list_all-append is_name (origin base word) word.names
     ∙ and_from (are_names (origin base word)) (are_names word.names) (front word.absolute) named
@@ -172,14 +179,9 @@ join-named base word above named =
     front true = refl
     front false = take-named (length base - word.ups) base above
 
-free-is : (s : State) (dir : ℕ) (name : List ℕ) → IsFreePlace s.entries dir name → is_free s dir name ≡ true
+pub free-is : (s : State) (dir : ℕ) (name : List ℕ) → IsFreePlace s.entries dir name → is_free s dir name ≡ true
 free-is s dir name h =
     and_from (is_directory_at s.entries dir && is_name name) (is_none (child s.entries dir name)) (and_from (is_directory_at s.entries dir) (is_name name) h.directory h.named) (ap (λ (o : Option ℕ). is_none o) h.empty)
-
--- what it leads to and is missing is a free place
-pub place-free : (s : State) (base : ℕ) (word : PathWord) (dir : ℕ) (name : List ℕ) → IsLayout s → Lives s.entries base → are_names word.names ≡ true → place s base word ≡ Ok (Free dir name) → is_free s dir name ≡ true
-place-free s base word dir name h lives named leads =
-    free-is s dir name (look-free s (join (path_of s base) word) dir name h (join-named (path_of s base) word (path-named s base h lives) named) leads)
 
 -- In a valid state what is found has the path that was looked up.
 
@@ -202,5 +204,5 @@ walk-found s dir walked (name ∷ names) n h path leads =
     ] refl (sym (walk-name s.entries dir walked name names) ∙ leads)
 
 -- a path that leads to something is its path
-pub look-found : (s : State) (path : List (List ℕ)) (n : ℕ) → IsLayout s → look s path ≡ Ok (There n) → path_of s n ≡ path
-look-found s path n h leads = walk-found s 0 [] path n h (path_of-root s h) (sym (look-walk s path) ∙ leads)
+pub destination-found : (s : State) (path : List (List ℕ)) (n : ℕ) → IsLayout s → destination s path ≡ Ok (There n) → path_of s n ≡ path
+destination-found s path n h leads = walk-found s 0 [] path n h (path_of-root s h) (sym (destination-walk s path) ∙ leads)

@@ -5,13 +5,13 @@ use Rattle.std.specs.Option.{option_map, option_map_or}
 use Rattle.std.specs.List.{AllByRecursion, list_all}
 use Rattle.std.specs.Str.{bytes_eq}
 use Rattle.hac_model.specs.Tree.Events.{edited}
-use Rattle.hac_model.specs.Tree.Limits.{answer_limits, are_paths_short, counts, directory_count, file_count, first_passed, layout_limits, long_paths, passed_limit, semantic_count, text_size, file_bytes}
+use Rattle.hac_model.specs.Tree.Limits.{answer_limits, are_paths_short, counts, directory_count, file_count, first_passed, layout_limits, long_paths, passed_limit, semantic_count, symlink_count, text_size, file_bytes}
 use Rattle.hac_model.specs.Tree.Limits as limits_of
 use Rattle.hac_model.specs.Tree.Names.{is_name}
-use Rattle.hac_model.specs.Tree.{ancestors, body_at, child, entry_at, is_directory, is_directory_at, is_file, is_path_short, lineage, query_in}
+use Rattle.hac_model.specs.Tree.{ancestors, body_at, child, entry_at, is_directory, is_directory_at, is_file, is_path_short, is_symlink, lineage, query_in}
 use Rattle.hac_model.specs.Tree.Valid.{IsLayout, IsSound, NamesDiffer, NumbersRise}
-use Rattle.hac_model.specs.declared.limits.LimitWord.TheVariants.{Texts, Dirs, Semantics, Path, Items, Numbers}
-use Rattle.hac_model.specs.declared.limits.TheConstants.{DIRS_LIMIT, ITEMS_LIMIT, NUMBERS_LIMIT, SEMANTICS_LIMIT, TEXTS_LIMIT}
+use Rattle.hac_model.specs.declared.limits.LimitWord.TheVariants.{Texts, Dirs, Semantics, Symlinks, Path, Items, Numbers}
+use Rattle.hac_model.specs.declared.limits.TheConstants.{DIRS_LIMIT, ITEMS_LIMIT, NUMBERS_LIMIT, SEMANTICS_LIMIT, SYMLINKS_LIMIT, TEXTS_LIMIT}
 use Rattle.hac_model.specs.declared.states.Body.{Body}
 use Rattle.hac_model.specs.declared.states.Entry.{Entry}
 use Rattle.hac_model.specs.declared.states.State.{State}
@@ -84,6 +84,7 @@ mapped edit s = record s { entries = map (edited edit) s.entries }
 pub record KeepsMeasures (edit : Body → Body) : Type 0 where
   pub kind : (body : Body) → is_directory (edit body) ≡ is_directory body
   pub file : (body : Body) → is_file (edit body) ≡ is_file body
+  pub symlink : (body : Body) → is_symlink (edit body) ≡ is_symlink body
   pub queried : (body : Body) → is_some (query_in (edit body)) ≡ is_some (query_in body)
   pub texts : (body : Body) → file_bytes (edit body) ≡ file_bytes body
 
@@ -97,7 +98,7 @@ measured-mapped f edit (e ∷ es) same =
 counts-mapped : (edit : Body → Body) (s : State) → KeepsMeasures edit → first_passed (layout_limits (counts (mapped edit s)) ++ answer_limits (counts (mapped edit s))) ≡ first_passed (layout_limits (counts s) ++ answer_limits (counts s))
 counts-mapped edit s keeps = λ i. first_passed (
     limits_of.limit (texts i) TEXTS_LIMIT Texts ∷ limits_of.limit (dirs i) DIRS_LIMIT Dirs ∷ limits_of.limit (semantics i) SEMANTICS_LIMIT Semantics
-    ∷ limits_of.limit (paths i) 0 Path ∷ limits_of.limit (items i) ITEMS_LIMIT Items ∷ limits_of.limit s.next NUMBERS_LIMIT Numbers ∷ [])
+    ∷ limits_of.limit (symlinks i) SYMLINKS_LIMIT Symlinks ∷ limits_of.limit (paths i) 0 Path ∷ limits_of.limit (items i) ITEMS_LIMIT Items ∷ limits_of.limit s.next NUMBERS_LIMIT Numbers ∷ [])
   where
     es : List Entry
     es = s.entries
@@ -113,6 +114,9 @@ counts-mapped edit s keeps = λ i. first_passed (
 
     semantics : semantic_count (map (edited edit) es) ≡ semantic_count es
     semantics = ones is_queried keeps.queried
+
+    symlinks : symlink_count (map (edited edit) es) ≡ symlink_count es
+    symlinks = ones is_symlink keeps.symlink
 
     items : file_count (map (edited edit) es) ≡ file_count es
     items = ones is_file keeps.file

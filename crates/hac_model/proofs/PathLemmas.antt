@@ -1,6 +1,6 @@
 -- Paths in a valid state: each leads to the entry whose path it is, and no two entries have one.
 use Rattle.std.proofs.Common.{◌≡◌, ℕ, zero, suc, ◌+◌, ◌<◌, ◌≤◌, Bool, true, false, cond, List, [], ◌∷◌, ◌++◌, length, map, reverse, subst, refl, ap, sym, ◌∙◌, arith, eq-eqb, inl, inr, append_assoc, length-append}
-use Rattle.std.specs.Prelude.{◌==◌, ◌&&◌, ◌||◌, nat_le, take, Option, Some, None, Result, Ok, Err, IsTrue}
+use Rattle.std.specs.Prelude.{◌==◌, ◌&&◌, ◌||◌, not, nat_le, take, Option, Some, None, Result, Ok, Err, IsTrue}
 use Rattle.std.specs.Option.{option_map_or}
 use Rattle.std.specs.List.{list_all}
 use Rattle.std.specs.Bool.{Decides}
@@ -10,8 +10,8 @@ use Rattle.std.proofs.lemmas.Bool.{and_parts, cond-false, eqb-true, le-leb, leb-
 use Rattle.std.proofs.lemmas.Bool.Decides.{same_from_decides, Decides-eqb, Decides-like}
 use Rattle.std.proofs.lemmas.List.{append-nil, length-map, length-reverse, reverse-append, take_all}
 use Rattle.std.proofs.lemmas.Slice.Eq.{bytes_eq-Decides, slice_eq-Decides}
-use Rattle.hac_model.specs.Tree.Looks.{has_names, look}
-use Rattle.hac_model.specs.Tree.{ancestors, child, entry_at, extends, is_directory_at, is_file_at, is_path_short, lineage, path_of}
+use Rattle.hac_model.specs.Tree.Looks.{has_names, destination}
+use Rattle.hac_model.specs.Tree.{ancestors, child, entry_at, extends, is_directory_at, is_path_short, lineage, path_of}
 use Rattle.hac_model.specs.Tree.Valid.{IsLayout}
 use Rattle.hac_model.specs.declared.limits.TheConstants.{PATH_LIMIT}
 use Rattle.hac_model.specs.declared.places.Place.{Place}
@@ -21,8 +21,8 @@ use Rattle.hac_model.specs.declared.replies.Refusal.TheVariants.{NoPath, NotDir}
 use Rattle.hac_model.specs.declared.states.Entry.{Entry}
 use Rattle.hac_model.specs.declared.states.State.{State}
 use Rattle.hac_model.proofs.LimitLemmas.{IsWithinLimits, limits-within}
-use Rattle.hac_model.proofs.TreeLemmas.{Lives, child-own, directory-lives, directory-no_file, entry_at-all, entry_at-low, entry_at-number}
-use Rattle.hac_model.proofs.Walks.{look-walk, walk}
+use Rattle.hac_model.proofs.TreeLemmas.{Lives, child-own, directory-lives, entry_at-all, entry_at-low, entry_at-number}
+use Rattle.hac_model.proofs.Walks.{destination-walk, walk}
 
 -- what an entry leads to, or none
 abbrev pub ancestors_by : ℕ → List Entry → Option Entry → List Entry
@@ -196,29 +196,29 @@ path_of-one s m n h live lives same =
 -- where a walk goes on with a name
 abbrev pub walk_on : List Entry → List (List ℕ) → List ℕ → List (List ℕ) → ℕ → Result Place Refusal
 walk_on es walked name rest number =
-    cond (has_names rest && is_file_at es number) (Err (NotDir (walked ++ name ∷ []))) (walk es number (walked ++ name ∷ []) rest)
+    cond (has_names rest && not (is_directory_at es number)) (Err (NotDir (walked ++ name ∷ []))) (walk es number (walked ++ name ∷ []) rest)
 
 -- a walk from the root over a path ends where the path leads, and goes on from there
-pub walk-path : (s : State) (n : ℕ) (rest : List (List ℕ)) → IsLayout s → Lives s.entries n → (has_names rest && is_file_at s.entries n) ≡ false → walk s.entries 0 [] (path_of s n ++ rest) ≡ walk s.entries n (path_of s n) rest
+pub walk-path : (s : State) (n : ℕ) (rest : List (List ℕ)) → IsLayout s → Lives s.entries n → (has_names rest && not (is_directory_at s.entries n)) ≡ false → walk s.entries 0 [] (path_of s n ++ rest) ≡ walk s.entries n (path_of s n) rest
 walk-path s n rest h lives goes =
-    from_root s (λ n. (rest : List (List ℕ)) → (has_names rest && is_file_at s.entries n) ≡ false → walk s.entries 0 [] (path_of s n ++ rest) ≡ walk s.entries n (path_of s n) rest) h root step n lives rest goes
+    from_root s (λ n. (rest : List (List ℕ)) → (has_names rest && not (is_directory_at s.entries n)) ≡ false → walk s.entries 0 [] (path_of s n ++ rest) ≡ walk s.entries n (path_of s n) rest) h root step n lives rest goes
   where
-    root : (rest : List (List ℕ)) → (has_names rest && is_file_at s.entries 0) ≡ false → walk s.entries 0 [] (path_of s 0 ++ rest) ≡ walk s.entries 0 (path_of s 0) rest
+    root : (rest : List (List ℕ)) → (has_names rest && not (is_directory_at s.entries 0)) ≡ false → walk s.entries 0 [] (path_of s 0 ++ rest) ≡ walk s.entries 0 (path_of s 0) rest
     root rest goes = ap (λ (p : List (List ℕ)). walk s.entries 0 [] (p ++ rest)) (path_of-root s h) ∙ ap (λ (p : List (List ℕ)). walk s.entries 0 p rest) (sym (path_of-root s h))
 
-    step : (n : ℕ) (e : Entry) → entry_at s.entries n ≡ Some e → ((rest : List (List ℕ)) → (has_names rest && is_file_at s.entries e.parent) ≡ false → walk s.entries 0 [] (path_of s e.parent ++ rest) ≡ walk s.entries e.parent (path_of s e.parent) rest) → (rest : List (List ℕ)) → (has_names rest && is_file_at s.entries n) ≡ false → walk s.entries 0 [] (path_of s n ++ rest) ≡ walk s.entries n (path_of s n) rest
+    step : (n : ℕ) (e : Entry) → entry_at s.entries n ≡ Some e → ((rest : List (List ℕ)) → (has_names rest && not (is_directory_at s.entries e.parent)) ≡ false → walk s.entries 0 [] (path_of s e.parent ++ rest) ≡ walk s.entries e.parent (path_of s e.parent) rest) → (rest : List (List ℕ)) → (has_names rest && not (is_directory_at s.entries n)) ≡ false → walk s.entries 0 [] (path_of s n ++ rest) ≡ walk s.entries n (path_of s n) rest
     step n e found known rest goes =
         let path : path_of s n ≡ path_of s e.parent ++ e.name ∷ [] = path_of-parent s n e h found in
         ap (λ (p : List (List ℕ)). walk s.entries 0 [] (p ++ rest)) path
         ∙ ap (λ (p : List (List ℕ)). walk s.entries 0 [] p) (append_assoc (path_of s e.parent) (e.name ∷ []) rest)
-        ∙ known (e.name ∷ rest) (directory-no_file s.entries e.parent (root-none s h) (parent-directory s n e h found))
+        ∙ known (e.name ∷ rest) (ap not (parent-directory s n e h found))
         ∙ ap (λ (o : Option ℕ). option_map_or (walk_on s.entries (path_of s e.parent) e.name rest) o (cond (has_names rest) (Err (NoPath (path_of s e.parent ++ e.name ∷ []))) (Ok (Free e.parent e.name)))) (child-own s.entries n e h.differ found)
-        ∙ cond-false (has_names rest && is_file_at s.entries n) (Err (NotDir (path_of s e.parent ++ e.name ∷ []))) (walk s.entries n (path_of s e.parent ++ e.name ∷ []) rest) goes
+        ∙ cond-false (has_names rest && not (is_directory_at s.entries n)) (Err (NotDir (path_of s e.parent ++ e.name ∷ []))) (walk s.entries n (path_of s e.parent ++ e.name ∷ []) rest) goes
         ∙ ap (λ (p : List (List ℕ)). walk s.entries n p rest) (sym path)
 
--- a look-up by the path of what lives finds it
-pub look-path : (s : State) (n : ℕ) → IsLayout s → Lives s.entries n → look s (path_of s n) ≡ Ok (There n)
-look-path s n h lives = look-walk s (path_of s n) ∙ ap (λ (p : List (List ℕ)). walk s.entries 0 [] p) (sym (append-nil (path_of s n))) ∙ walk-path s n [] h lives refl
+-- the path of what lives leads to it
+pub destination-path : (s : State) (n : ℕ) → IsLayout s → Lives s.entries n → destination s (path_of s n) ≡ Ok (There n)
+destination-path s n h lives = destination-walk s (path_of s n) ∙ ap (λ (p : List (List ℕ)). walk s.entries 0 [] p) (sym (append-nil (path_of s n))) ∙ walk-path s n [] h lives refl
 
 -- the two paths are one, tested name by name
 abbrev pub is_same_path : List (List ℕ) → List (List ℕ) → Bool

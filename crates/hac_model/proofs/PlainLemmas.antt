@@ -17,7 +17,7 @@ use Rattle.hac_model.proofs.LookLemmas.{child-lives, child-path}
 use Rattle.hac_model.proofs.TreeLemmas.{Lives, child-own, entry_at-behind, entry_at-cases, entry_at-first, entry_at-low, entry_at-number}
 
 -- one name more leads to a child of the entry there
-stands-last : (es : List Entry) (dir : ℕ) (path : List (List ℕ)) (name : List ℕ) → stands_at es dir (path ++ name ∷ []) ≡ option_and_then (λ number. child es number name) (stands_at es dir path)
+pub stands-last : (es : List Entry) (dir : ℕ) (path : List (List ℕ)) (name : List ℕ) → stands_at es dir (path ++ name ∷ []) ≡ option_and_then (λ number. child es number name) (stands_at es dir path)
 stands-last es dir [] name = elim (child es dir name) as (λ o. option_and_then (λ number. Some number) o ≡ o) [ None ↦ refl | Some n ↦ refl ]
 stands-last es dir (x ∷ path) name = elim (child es dir x) as (λ o. option_and_then (λ n. stands_at es n (path ++ name ∷ [])) o ≡ option_and_then (λ n. child es n name) (option_and_then (λ n. stands_at es n path) o)) [
   | None ↦ refl

@@ -12,11 +12,11 @@ use Rattle.hac_model.specs.Tree.{is_directory_at}
 use Rattle.hac_model.specs.Tree.Valid.{AreSessions, IsValid, SessionsDiffer}
 use Rattle.hac_model.specs.Script.SpaceNames.{is_space_name}
 use Rattle.hac_model.specs.declared.events.Event.{Event}
-use Rattle.hac_model.specs.declared.events.Event.TheVariants.{Mkdir, NewFile, Rewrite, Mark, Mv, Rm, Rmdir, Setq, Smkdir, Step, Unq, Cd}
-use Rattle.hac_model.specs.declared.states.Body.TheVariants.{File, Dir, Semantic}
+use Rattle.hac_model.specs.declared.events.Event.TheVariants.{Mkdir, NewFile, Rewrite, Ln, Mark, Mv, Rm, Rmdir, Setq, Smkdir, Step, Unq, Cd}
+use Rattle.hac_model.specs.declared.states.Body.TheVariants.{File, Dir, Symlink, Semantic}
 use Rattle.hac_model.specs.declared.states.Session.{Session}
 use Rattle.hac_model.specs.declared.states.State.{State}
-use Rattle.hac_model.proofs.AskLemmas.{DirectoriesStay, added-directories, edited-directories, file-no_directory}
+use Rattle.hac_model.proofs.AskLemmas.{DirectoriesStay, added-directories, edited-directories, leaf-no_directory}
 use Rattle.hac_model.proofs.ChangeLemmas.{all-append, all-filter, all-weaker, directory-changed, directory-kept, is_kept}
 use Rattle.hac_model.proofs.MapLemmas.{directory-mapped}
 use Rattle.hac_model.proofs.ValidLemmas.{accepted-parts, asking-kind, forgetting-measures, indexed-kind, marked-kind, plain-kind, rewritten-kind, rmdir-parts}
@@ -127,6 +127,7 @@ pub apply-sessions : (s : State) (event : Event) → IsValid s → IsTrue (accep
 apply-sessions s (Mkdir dir name) h ok = stay s (apply s (Mkdir dir name)) refl h.sessions (added-directories s dir name Dir)
 apply-sessions s (NewFile dir name text) h ok = stay s (apply s (NewFile dir name text)) refl h.sessions (added-directories s dir name (File text true None))
 apply-sessions s (Rewrite file text) h ok = stay s (apply s (Rewrite file text)) refl h.sessions (edited-directories s file (rewritten text) (rewritten-kind text))
+apply-sessions s (Ln dir name target) h ok = stay s (apply s (Ln dir name target)) refl h.sessions (added-directories s dir name (Symlink target))
 apply-sessions s (Smkdir dir name query told) h ok = stay s (apply s (Smkdir dir name query told)) refl h.sessions (added-directories s dir name (Semantic query [] []))
 apply-sessions s (Setq dir query told) h ok = stay s (apply s (Setq dir query told)) refl h.sessions (edited-directories s dir (asking query) (asking-kind query))
 apply-sessions s (Unq dir) h ok = stay s (apply s (Unq dir)) refl h.sessions (edited-directories s dir plain_body plain-kind)
@@ -137,7 +138,7 @@ apply-sessions s (Rm file) h ok =
     let possible = (accepted-parts (is_possible s (Rm file)) (passed_limit (apply s (Rm file))) ok).0 in
     stay s (apply s (Rm file)) refl h.sessions (λ d there.
     directory-mapped (forgetting file) (filter (is_kept file) s.entries) d (forgetting-measures file).kind
-    ∙ directory-kept file s.entries d (file-no_directory s file d h.layout possible there) ∙ there)
+    ∙ directory-kept file s.entries d (leaf-no_directory s file d h.layout possible there) ∙ there)
 apply-sessions s (Rmdir dir) h ok =
     let possible = (accepted-parts (is_possible s (Rmdir dir)) (passed_limit (apply s (Rmdir dir))) ok).0 in
     still s (apply s (Rmdir dir)) refl h.sessions (not-there s dir s.sessions (rmdir-parts s dir possible).3 h.sessions.there)

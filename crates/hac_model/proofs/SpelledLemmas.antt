@@ -15,12 +15,13 @@ use Rattle.hac_model.specs.Query.Formula.{Formula}
 use Rattle.hac_model.specs.Query.Formula as formula
 use Rattle.hac_model.specs.Tree.Limits.{is_text, passed_limit, semantic_count}
 use Rattle.hac_model.specs.Tree.Links.{has, is_permanent, is_semantic, links, parent_of, query_at, round, rounds}
+use Rattle.hac_model.specs.Script.PathWords.{is_target}
 use Rattle.hac_model.specs.Tree.Names.{is_name, is_name_byte}
-use Rattle.hac_model.specs.Payload.Payloads.{is_spellable, mark_field, name_field, text_field, told_field}
+use Rattle.hac_model.specs.Payload.Payloads.{is_spellable, mark_field, name_field, target_field, text_field, told_field}
 use Rattle.hac_model.specs.Query.Queries.{is_query}
 use Rattle.hac_model.specs.Payload.QueryFields.{are_nums, query_field}
 use Rattle.hac_model.specs.Tree.Sessions.{is_busy, is_stored, stored}
-use Rattle.hac_model.specs.Tree.{body_at, entry_at, is_directory, is_directory_at, is_file, is_file_at, path_of, query_in}
+use Rattle.hac_model.specs.Tree.{body_at, entry_at, is_directory, is_directory_at, is_file, is_file_at, is_leaf, path_of, query_in}
 use Rattle.hac_model.specs.Tree.Valid.{AsksWell, IsValid}
 use Rattle.hac_model.specs.declared.events.Event.{Event}
 use Rattle.hac_model.specs.declared.events.Event.TheVariants.{Mkdir, NewFile, Rewrite, Ln, Mv, Rm, Rmdir, Smkdir, Setq, Unq, Mark, Smount, Ssync, Sumount, Step, Cd}
@@ -127,6 +128,10 @@ module _ (s : State) (h : IsValid s) where
       let parts = and_parts (is_free s dir name) (is_text text) is in
       let place = place-fits dir name parts.0 in
       and_from (num.fits dir) _ place.0 (and_from (name_field.fits name) (text_field.fits text) place.1 (text-fits text parts.1))
+  possible-spelled (Ln dir name target) kept is =
+      let parts = and_parts (is_free s dir name) (is_target target) is in
+      let place = place-fits dir name parts.0 in
+      and_from (num.fits dir) _ place.0 (and_from (name_field.fits name) (target_field.fits target) place.1 parts.1)
   possible-spelled (Rewrite file text) kept is =
       let parts = and_parts (is_file_at s.entries file) (is_text text) is in
       and_from (num.fits file) (text_field.fits text) (tested-fits file is_file parts.0) (text-fits text parts.1)
@@ -145,10 +150,9 @@ module _ (s : State) (h : IsValid s) where
       let parts = move-parts s entry dir name is in
       let place = place-fits dir name parts.1 in
       and_from (num.fits entry) _ (there-fits entry parts.0) (and_from (num.fits dir) (name_field.fits name) place.0 place.1)
-  possible-spelled (Rm entry) kept is = tested-fits entry is_file is
+  possible-spelled (Rm entry) kept is = tested-fits entry is_leaf is
   possible-spelled (Rmdir dir) kept is = tested-fits dir is_directory (rmdir-parts s dir is).0
   possible-spelled Step kept is = refl
-  possible-spelled (Ln dir name target) kept is = absurd cc
   possible-spelled (Smount dir name space docs told) kept is = absurd cc
   possible-spelled (Ssync mount docs told) kept is = absurd cc
   possible-spelled (Sumount mount) kept is = absurd cc

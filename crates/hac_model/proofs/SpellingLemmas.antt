@@ -1,6 +1,6 @@
 -- Lines spell commands with words that the commands may have.
 use Rattle.std.proofs.Common.{◌≡◌, ℕ, Bool, true, false, List, length, refl, ap, sym, ◌∙◌}
-use Rattle.std.specs.Prelude.{◌&&◌, ◌||◌, if◌then◌else◌, nat_le, codes, Option, Some, None, Result, Ok, Err, IsTrue, ⊤}
+use Rattle.std.specs.Prelude.{◌&&◌, ◌||◌, not, if◌then◌else◌, nat_le, codes, Option, Some, None, Result, Ok, Err, IsTrue, ⊤}
 use Rattle.std.specs.List.{list_all}
 use Rattle.std.specs.Option.{ok_or}
 use Rattle.std.specs.Str.{bytes_eq}
@@ -13,17 +13,17 @@ use Rattle.hac_model.specs.Script.LineWords.{after_first_run, after_space, first
 use Rattle.hac_model.specs.Script.Numbers.{are_steps, is_number, is_tick}
 use Rattle.hac_model.specs.Script.SessionWords.{main_session, named_session, names_session, session_name, session_words}
 use Rattle.hac_model.specs.Script.SpaceNames.{is_space_byte, is_space_name}
-use Rattle.hac_model.specs.Script.Lines.{Item, alone, called_with, command_with, each_path, find_of, is_put, is_spelled, is_spelled_line, item_of, item_taken, limited_text, line_with, maybe_path, named_command, of_two_paths, one_path, only_path, only_word, path_and_query, put_at, put_of, put_words, taken_of, tick_of, two_paths, write_of}
-use Rattle.hac_model.specs.Script.PathWords.{is_bad, word_of}
+use Rattle.hac_model.specs.Script.Lines.{Item, alone, called_with, command_with, each_path, find_of, is_put, is_spelled, is_spelled_line, item_of, item_taken, limited_target, limited_text, line_with, ln_of, maybe_path, named_command, of_two_paths, one_path, only_path, only_word, path_and_query, put_at, put_of, put_words, taken_of, tick_of, two_paths, write_of}
+use Rattle.hac_model.specs.Script.PathWords.{has_long_part, is_bad, is_path_word, is_target, untested_word, word_of}
 use Rattle.hac_model.specs.Tree.Paths.{are_names}
 use Rattle.hac_model.specs.Query.Formula.{Formula}
 use Rattle.hac_model.specs.Query.QueryReading.{is_spelled_query, read_query}
 use Rattle.hac_model.specs.Script.Texts.{text_of}
 use Rattle.hac_model.specs.declared.commands.Command.{Command}
-use Rattle.hac_model.specs.declared.commands.Command.TheVariants.{Mkdir, Rmdir, Write, Cat, Ls, Cd, Pwd, Mv, Rm, Smkdir, Setq, Unq, Query, Sls, Sln, Srm, Sforget, Find, Index, Tick, Counts}
+use Rattle.hac_model.specs.declared.commands.Command.TheVariants.{Mkdir, Rmdir, Write, Cat, Ls, Cd, Pwd, Mv, Rm, Ln, Readlink, Smkdir, Setq, Unq, Query, Sls, Sln, Srm, Sforget, Find, Index, Tick, Counts}
 use Rattle.hac_model.specs.declared.commands.Line.{Line}
 use Rattle.hac_model.specs.declared.limits.LimitWord.TheVariants as limit
-use Rattle.hac_model.specs.declared.limits.TheConstants.{LINE_LIMIT}
+use Rattle.hac_model.specs.declared.limits.TheConstants.{LINE_LIMIT, TARGET_LIMIT}
 use Rattle.hac_model.specs.declared.paths.PathWord.{PathWord}
 use Rattle.hac_model.specs.declared.replies.Refusal.{Refusal}
 use Rattle.hac_model.specs.declared.replies.Refusal.TheVariants.{BadLine, BadName, Limit}
@@ -125,6 +125,40 @@ spells_write arguments =
     spells-then (limited_text spelled) _ (λ text fits.
     command-spelled (Write path text) (and_from (are_names path.names) (is_text text) (path-spelled word.0 path named) (limited_text-is spelled text fits))))))
 
+-- a word that is read is a path word
+word-read : (bytes : List ℕ) (path : PathWord) → word_of bytes ≡ Ok path → is_path_word bytes ≡ true
+unfolding word_of
+word-read bytes path given = told (is_bad bytes) (has_long_part bytes) given
+  where
+    told : (bad long : Bool) → (let read : Result PathWord Refusal = if bad then Err BadName else (if long then Err (Limit limit.Name) else Ok (untested_word bytes)) in read) ≡ Ok path → (not bad && not long) ≡ true
+    told true long same = absurd cc
+    told false true same = absurd cc
+    told false false same = refl
+
+first_path-read : (first second : List ℕ) (paths : PathWord × PathWord) → two_paths first second ≡ Ok paths → is_path_word first ≡ true
+first_path-read first second paths given =
+    elim (is_bad first || is_bad second) as (λ b. (let read : Result (PathWord × PathWord) Refusal = if b then Err BadName else each_path first second in read) ≡ Ok paths → is_path_word first ≡ true) [
+      | true ↦ (λ same. absurd cc)
+      | false ↦ (λ same. word-read first paths.0 (each_path-spelled (word_of first) (word_of second) paths same).0)
+    ] given
+
+limited_target-is : (bytes target : List ℕ) → is_path_word bytes ≡ true → limited_target bytes ≡ Ok target → is_target target ≡ true
+limited_target-is bytes target word given =
+    elim (nat_le (length bytes) TARGET_LIMIT) as (λ b. nat_le (length bytes) TARGET_LIMIT ≡ b → (let read : Result (List ℕ) Refusal = if b then Ok bytes else Err (Limit limit.Target) in read) ≡ Ok target → is_target target ≡ true) [
+      | true ↦ (λ fits same. let even : bytes ≡ target = cc in ap is_target (sym even) ∙ and_from (nat_le (length bytes) TARGET_LIMIT) (is_path_word bytes) fits word)
+      | false ↦ (λ other same. absurd cc)
+    ] refl given
+
+spells_ln : (arguments : List ℕ) → Spells (ln_of arguments)
+unfolding ln_of
+spells_ln arguments =
+    spells-then (first_word arguments) _ (λ word _.
+    spells-then (only_word word.1) _ (λ path _.
+    spells-then (two_paths word.0 path) _ (λ paths given.
+    spells-then (limited_target word.0) _ (λ target fits.
+    command-spelled (Ln target paths.1)
+    (and_from (is_target target) (are_names paths.1.names) (limited_target-is word.0 target (first_path-read word.0 path paths given) fits) (two_paths-spelled word.0 path paths given).1)))))
+
 spells_queried : (command : PathWord → Formula PathWord → Command) (arguments : List ℕ)
     → ((path : PathWord) (query : Formula PathWord) → are_names path.names ≡ true → is_spelled_query query ≡ true → is_spelled (command path query) ≡ true)
     → Spells (path_and_query command arguments)
@@ -170,6 +204,8 @@ spells_named name arguments =
     (λ _. cond_both (bytes_eq name (codes "pwd")) _ _ P (λ _. spells_alone Pwd arguments refl)
     (λ _. cond_both (bytes_eq name (codes "mv")) _ _ P (λ _. spells_two Mv arguments both)
     (λ _. cond_both (bytes_eq name (codes "rm")) _ _ P (λ _. spells_one Rm arguments (λ path names. names))
+    (λ _. cond_both (bytes_eq name (codes "ln")) _ _ P (λ _. spells_ln arguments)
+    (λ _. cond_both (bytes_eq name (codes "readlink")) _ _ P (λ _. spells_one Readlink arguments (λ path names. names))
     (λ _. cond_both (bytes_eq name (codes "smkdir")) _ _ P (λ _. spells_queried Smkdir arguments asks)
     (λ _. cond_both (bytes_eq name (codes "setq")) _ _ P (λ _. spells_queried Setq arguments asks)
     (λ _. cond_both (bytes_eq name (codes "unq")) _ _ P (λ _. spells_one Unq arguments (λ path names. names))
@@ -182,7 +218,7 @@ spells_named name arguments =
     (λ _. cond_both (bytes_eq name (codes "index")) _ _ P (λ _. spells_alone Index arguments refl)
     (λ _. cond_both (bytes_eq name (codes "tick")) _ _ P (λ _. spells_tick arguments)
     (λ _. cond_both (bytes_eq name (codes "counts")) _ _ P (λ _. spells_alone Counts arguments refl)
-    (λ _. spells_bad_line)))))))))))))))))))))
+    (λ _. spells_bad_line)))))))))))))))))))))))
 
 spells_put_at : (word : List ℕ) (taken : Option Taken) → Spells (put_at word taken)
 unfolding Spells

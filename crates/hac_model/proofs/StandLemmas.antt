@@ -1,24 +1,25 @@
 -- What the paths of a command lead to is in the state.
 use Rattle.std.proofs.Common.{◌≡◌, ℕ, ◌+◌, Bool, true, false, List, refl, ap, ◌∙◌}
-use Rattle.std.specs.Prelude.{◌&&◌, ◌++◌, if◌then◌else◌, max, nat_le, Option, Some, None, Result, Ok, Err, IfOk, IsTrue}
+use Rattle.std.specs.Prelude.{◌&&◌, ◌++◌, not, if◌then◌else◌, max, nat_le, Option, Some, None, Result, Ok, Err, IfOk, IsTrue}
 use Rattle.std.proofs.lemmas.Bool.{and_from, and_parts}
 use Rattle.std.proofs.lemmas.List.Folds.{list_all-append}
 use Rattle.std.proofs.lemmas.Result.{IfOk-at_ok, IfOk-weaker}
 use Rattle.hac_model.specs.Run.Answers.{and_then}
 use Rattle.hac_model.specs.Run.Resolving.{wanted_directory, directory, directory_or_root, entry, item_and_dir, listed_directory, numbered_query, place, resolve, resolved, resolved_for, wanted_entry}
-use Rattle.hac_model.specs.Run.Standing.{AllStand, AreThere, StandsAt}
+use Rattle.hac_model.specs.Run.Standing.{AllStand, AreThere, StandsAt, is_there}
 use Rattle.hac_model.specs.Tree.Depends.{named_in}
 use Rattle.hac_model.specs.Tree.Events.{are_directories, may_ask}
 use Rattle.hac_model.specs.Tree.Limits.{is_text}
-use Rattle.hac_model.specs.Tree.Paths.{are_names}
+use Rattle.hac_model.specs.Tree.Paths.{are_names, join}
 use Rattle.hac_model.specs.Tree.Sessions.{stands_in}
-use Rattle.hac_model.specs.Tree.{is_directory_at, is_live, path_of}
+use Rattle.hac_model.specs.Tree.{is_directory_at, is_live, is_symlink_at, path_of}
 use Rattle.hac_model.specs.Tree.Valid.{IsLayout, IsValid}
 use Rattle.hac_model.specs.Query.Formula.{Formula}
 use Rattle.hac_model.specs.Query.Formula as query
 use Rattle.hac_model.specs.Query.Queries.{are_terms, is_query, letter_count, not_count, term_count}
 use Rattle.hac_model.specs.Query.QueryReading.{are_rooted, is_spelled_query}
 use Rattle.hac_model.specs.Script.Lines.{is_spelled, is_spelled_line, is_spelled_word}
+use Rattle.hac_model.specs.Script.PathWords.{is_target}
 use Rattle.hac_model.specs.Script.SpaceNames.{is_space_name}
 use Rattle.hac_model.specs.declared.commands.Command.{Command}
 use Rattle.hac_model.specs.declared.commands.Command.TheVariants as command
@@ -30,9 +31,9 @@ use Rattle.hac_model.specs.declared.places.Place.TheVariants.{There, Free}
 use Rattle.hac_model.specs.declared.replies.Refusal.{Refusal}
 use Rattle.hac_model.specs.declared.replies.Refusal.TheVariants.{NotDir}
 use Rattle.hac_model.specs.declared.resolved.Resolved.{Resolved}
-use Rattle.hac_model.specs.declared.resolved.Resolved.TheVariants.{Mkdir, Rmdir, Write, Cat, Ls, Cd, Mv, Rm, Smkdir, Setq, Unq, Query, Sls, Sln, Srm, Sforget, Find}
+use Rattle.hac_model.specs.declared.resolved.Resolved.TheVariants.{Mkdir, Rmdir, Write, Cat, Ls, Cd, Mv, Rm, Ln, Readlink, Smkdir, Setq, Unq, Query, Sls, Sln, Srm, Sforget, Find}
 use Rattle.hac_model.specs.declared.states.State.{State}
-use Rattle.hac_model.proofs.LookLemmas.{place-free, place-lives}
+use Rattle.hac_model.proofs.FollowLemmas.{look-follows, place-free, place-lives}
 use Rattle.hac_model.proofs.SessionLemmas.{session-there}
 use Rattle.hac_model.proofs.TreeLemmas.{directory-lives, live-is}
 
@@ -56,30 +57,38 @@ directories-append s ds es h k =
 -- In a tree, from a directory on.
 
 module _ (s : State) (base : ℕ) (h : IsLayout s) (from : is_directory_at s.entries base ≡ true) where
-  abbrev Lives : ℕ → Type 0
-  Lives n = IsTrue (is_live s.entries n)
+  abbrev IsThere : Bool → ℕ → Type 0
+  IsThere follow n = IsTrue (is_there s follow n)
 
   abbrev IsDirectory : ℕ → Type 0
   IsDirectory n = IsTrue (is_directory_at s.entries n)
 
-  place-stands : (word : PathWord) → are_names word.names ≡ true → IfOk (place s base word) (StandsAt s)
-  place-stands word named = at (place s base word) refl
+  -- what is found is there, and no link where it was followed
+  there : (follow : Bool) (word : PathWord) (n : ℕ) → place s base follow word ≡ Ok (There n) → IsThere follow n
+  there follow word n is = and_from (is_live s.entries n) (not (follow && is_symlink_at s.entries n)) (live-is s.entries n (place-lives s base follow word n is)) (unlinked follow is)
     where
-      at : (r : Result Place Refusal) → place s base word ≡ r → IfOk r (StandsAt s)
-      at (Ok (There n)) is = live-is s.entries n (place-lives s base word n is)
-      at (Ok (Free dir name)) is = place-free s base word dir name h (directory-lives s.entries base from) named is
+      unlinked : (follow : Bool) → place s base follow word ≡ Ok (There n) → not (follow && is_symlink_at s.entries n) ≡ true
+      unlinked true is = ap not (look-follows s (join (path_of s base) word) n h is)
+      unlinked false is = refl
+
+  place-stands : (follow : Bool) (word : PathWord) → are_names word.names ≡ true → IfOk (place s base follow word) (StandsAt s follow)
+  place-stands follow word named = at (place s base follow word) refl
+    where
+      at : (r : Result Place Refusal) → place s base follow word ≡ r → IfOk r (StandsAt s follow)
+      at (Ok (There n)) is = there follow word n is
+      at (Ok (Free dir name)) is = place-free s base follow word dir name h (directory-lives s.entries base from) named is
       at (Err refusal) is = tt
 
-  entry-lives : (word : PathWord) → IfOk (entry s base word) Lives
-  entry-lives word = at (place s base word) refl
+  entry-stands : (follow : Bool) (word : PathWord) → IfOk (entry s base follow word) (IsThere follow)
+  entry-stands follow word = at (place s base follow word) refl
     where
-      at : (r : Result Place Refusal) → place s base word ≡ r → IfOk (and_then (wanted_entry s) r) Lives
-      at (Ok (There n)) is = live-is s.entries n (place-lives s base word n is)
+      at : (r : Result Place Refusal) → place s base follow word ≡ r → IfOk (and_then (wanted_entry s) r) (IsThere follow)
+      at (Ok (There n)) is = there follow word n is
       at (Ok (Free dir name)) is = tt
       at (Err refusal) is = tt
 
   directory-stands : (word : PathWord) → IfOk (directory s base word) IsDirectory
-  directory-stands word = on-ok Lives IsDirectory (wanted_directory s) (entry s base word) (entry-lives word) (λ n lives. at n (is_directory_at s.entries n) refl)
+  directory-stands word = on-ok (IsThere true) IsDirectory (wanted_directory s) (entry s base true word) (entry-stands true word) (λ n _. at n (is_directory_at s.entries n) refl)
     where
       at : (n : ℕ) (b : Bool) → is_directory_at s.entries n ≡ b → IfOk (if b then Ok n else Err (NotDir (path_of s n))) IsDirectory
       at n true is = is
@@ -141,11 +150,11 @@ module _ (s : State) (base : ℕ) (h : IsLayout s) (from : is_directory_at s.ent
           and_from (is_query asked) (are_directories s (named_in asked)) (same ∙ parts.0) is.named
 
   -- one path, to a place, an entry or a directory
-  at-place : (make : Place → Resolved) (word : PathWord) → are_names word.names ≡ true → ((p : Place) → StandsAt s p → AllStand s (make p)) → IfOk (and_then (λ p. Ok (make p)) (place s base word)) (AllStand s)
-  at-place make word named known = on-ok (StandsAt s) (AllStand s) (λ p. Ok (make p)) (place s base word) (place-stands word named) known
+  at-place : (make : Place → Resolved) (follow : Bool) (word : PathWord) → are_names word.names ≡ true → ((p : Place) → StandsAt s follow p → AllStand s (make p)) → IfOk (and_then (λ p. Ok (make p)) (place s base follow word)) (AllStand s)
+  at-place make follow word named known = on-ok (StandsAt s follow) (AllStand s) (λ p. Ok (make p)) (place s base follow word) (place-stands follow word named) known
 
-  at-entry : (make : ℕ → Resolved) (word : PathWord) → ((n : ℕ) → Lives n → AllStand s (make n)) → IfOk (and_then (λ n. Ok (make n)) (entry s base word)) (AllStand s)
-  at-entry make word known = on-ok Lives (AllStand s) (λ n. Ok (make n)) (entry s base word) (entry-lives word) known
+  at-entry : (make : ℕ → Resolved) (follow : Bool) (word : PathWord) → ((n : ℕ) → IsThere follow n → AllStand s (make n)) → IfOk (and_then (λ n. Ok (make n)) (entry s base follow word)) (AllStand s)
+  at-entry make follow word known = on-ok (IsThere follow) (AllStand s) (λ n. Ok (make n)) (entry s base follow word) (entry-stands follow word) known
 
   at-directory : (make : ℕ → Resolved) (word : PathWord) → ((n : ℕ) → IsDirectory n → AllStand s (make n)) → IfOk (and_then (λ n. Ok (make n)) (directory s base word)) (AllStand s)
   at-directory make word known = on-ok IsDirectory (AllStand s) (λ n. Ok (make n)) (directory s base word) (directory-stands word) known
@@ -159,26 +168,30 @@ module _ (s : State) (base : ℕ) (h : IsLayout s) (from : is_directory_at s.ent
   -- an item and a directory
   at-both : (make : ℕ → ℕ → Resolved) (item dir : PathWord) → ((n m : ℕ) → AreThere s n m → AllStand s (make n m)) → IfOk (item_and_dir make s base item dir) (AllStand s)
   at-both make item dir known =
-      on-ok Lives (AllStand s) (λ n. and_then (λ m. Ok (make n m)) (directory s base dir)) (entry s base item) (entry-lives item) (λ n lives.
+      on-ok (IsThere true) (AllStand s) (λ n. and_then (λ m. Ok (make n m)) (directory s base dir)) (entry s base true item) (entry-stands true item) (λ n lives.
       at-directory (make n) dir (λ m there. known n m (lives, there)))
 
   resolved-stands : (c : Command) → is_spelled c ≡ true → IfOk (resolved s base c) (AllStand s)
-  resolved-stands (command.Mkdir path) spelled = at-place Mkdir path spelled (λ p there. there)
+  resolved-stands (command.Mkdir path) spelled = at-place Mkdir true path spelled (λ p there. there)
   resolved-stands (command.Rmdir path) spelled = at-directory Rmdir path (λ n there. there)
   resolved-stands (command.Write path text) spelled =
       let parts = and_parts (is_spelled_word path) (is_text text) spelled in
-      at-place (λ p. Write p text) path parts.0 (λ p there. (there, parts.1))
-  resolved-stands (command.Cat path) spelled = at-entry Cat path (λ n lives. lives)
+      at-place (λ p. Write p text) true path parts.0 (λ p there. (there, parts.1))
+  resolved-stands (command.Cat path) spelled = at-entry Cat true path (λ n lives. lives)
   resolved-stands (command.Ls path) spelled = at-listed Ls path (λ n there. there)
   resolved-stands command.Pwd spelled = from
   resolved-stands (command.Mv from to) spelled =
       let parts = and_parts (is_spelled_word from) (is_spelled_word to) spelled in
-      on-ok Lives (AllStand s) (λ n. and_then (λ p. Ok (Mv n p)) (place s base to)) (entry s base from) (entry-lives from) (λ n lives.
-      at-place (Mv n) to parts.1 (λ p there. (lives, there)))
-  resolved-stands (command.Rm path) spelled = at-entry Rm path (λ n lives. lives)
+      on-ok (IsThere false) (AllStand s) (λ n. and_then (λ p. Ok (Mv n p)) (place s base false to)) (entry s base false from) (entry-stands false from) (λ n lives.
+      at-place (Mv n) false to parts.1 (λ p there. (lives, there)))
+  resolved-stands (command.Rm path) spelled = at-entry Rm false path (λ n lives. lives)
+  resolved-stands (command.Ln target path) spelled =
+      let parts = and_parts (is_target target) (is_spelled_word path) spelled in
+      at-place (λ p. Ln p target) false path parts.1 (λ p there. (there, parts.0))
+  resolved-stands (command.Readlink path) spelled = at-entry Readlink false path (λ n lives. lives)
   resolved-stands (command.Smkdir path raw) spelled =
       let parts = and_parts (is_spelled_word path) (is_spelled_query raw) spelled in
-      on-ok (StandsAt s) (AllStand s) (λ p. and_then (λ q. Ok (Smkdir p q)) (numbered_query s base raw)) (place s base path) (place-stands path parts.0) (λ p there.
+      on-ok (StandsAt s true) (AllStand s) (λ p. and_then (λ q. Ok (Smkdir p q)) (numbered_query s base raw)) (place s base true path) (place-stands true path parts.0) (λ p there.
       asking (Smkdir p) raw parts.1 (λ q may. (there, may)))
   resolved-stands (command.Setq path raw) spelled =
       let parts = and_parts (is_spelled_word path) (is_spelled_query raw) spelled in

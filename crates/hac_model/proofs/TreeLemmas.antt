@@ -6,7 +6,7 @@ use Rattle.std.specs.List.{AllByRecursion}
 use Rattle.std.specs.Str.{bytes_eq}
 use Rattle.std.proofs.lemmas.Bool.{and_from, and_parts, cases_lt, eqb-true, ne_eqb}
 use Rattle.std.proofs.lemmas.Slice.Eq.{bytes_eq-Decides}
-use Rattle.hac_model.specs.Tree.{child, entry_at, is_directory, is_directory_at, is_file, is_file_at, is_made_directory, is_live}
+use Rattle.hac_model.specs.Tree.{child, entry_at, is_directory, is_directory_at, is_file, is_file_at, is_leaf, is_leaf_at, is_symlink, is_made_directory, is_live}
 use Rattle.hac_model.specs.Tree.Valid.{NamesDiffer, NumbersRise}
 use Rattle.hac_model.specs.declared.states.Body.{Body}
 use Rattle.hac_model.specs.declared.states.Body.TheVariants.{File, Dir, Symlink, Semantic, Mount}
@@ -182,23 +182,31 @@ directory-lives es d h =
     made (inl none) h = let never : false ≡ true = ap (λ (o : Option Entry). option_map_or is_directory (option_map (λ (e : Entry). e.body) o) false) (sym none) ∙ h in absurd cc
     made (inr found) h = inr found
 
-other_kind : (body : Body) → is_directory body ≡ true → is_file body ≡ false
+other_kind : (body : Body) → is_directory body ≡ true → is_leaf body ≡ false
 other_kind (File text dirty shown) h = absurd cc
 other_kind Dir h = refl
 other_kind (Semantic query permanent prohibited) h = refl
-other_kind (Symlink target) h = refl
+other_kind (Symlink target) h = absurd cc
 other_kind (Mount space documents answers) h = refl
 
--- a directory is no file
-pub directory-no_file : (es : List Entry) (d : ℕ) → entry_at es 0 ≡ None → is_directory_at es d ≡ true → is_file_at es d ≡ false
-directory-no_file es d root h =
-    elim (entry_at es d) as (λ o. entry_at es d ≡ o → (d == 0 || option_map_or is_directory (option_map (λ (e : Entry). e.body) o) false) ≡ true → option_map_or is_file (option_map (λ (e : Entry). e.body) o) false ≡ false) [
+-- a directory is no leaf
+pub directory-no_leaf : (es : List Entry) (d : ℕ) → entry_at es 0 ≡ None → is_directory_at es d ≡ true → is_leaf_at es d ≡ false
+directory-no_leaf es d root h =
+    elim (entry_at es d) as (λ o. entry_at es d ≡ o → (d == 0 || option_map_or is_directory (option_map (λ (e : Entry). e.body) o) false) ≡ true → option_map_or is_leaf (option_map (λ (e : Entry). e.body) o) false ≡ false) [
       | None ↦ (λ found h. refl)
       | Some e ↦ (λ found h. made e found h)
     ] refl h
   where
-    made : (e : Entry) → entry_at es d ≡ Some e → (d == 0 || is_directory e.body) ≡ true → is_file e.body ≡ false
-    made e found h = elim (d == 0) as (λ b. (d == 0) ≡ b → (b || is_directory e.body) ≡ true → is_file e.body ≡ false) [
+    made : (e : Entry) → entry_at es d ≡ Some e → (d == 0 || is_directory e.body) ≡ true → is_leaf e.body ≡ false
+    made e found h = elim (d == 0) as (λ b. (d == 0) ≡ b → (b || is_directory e.body) ≡ true → is_leaf e.body ≡ false) [
       | true ↦ (λ here h. let none : entry_at es d ≡ None = subst (λ (k : ℕ). entry_at es k ≡ None) (sym (eqb-true d 0 here)) root in absurd cc)
       | false ↦ (λ here h. other_kind e.body h)
     ] refl h
+
+-- a file is one
+pub file-leaf : (es : List Entry) (n : ℕ) → is_file_at es n ≡ true → is_leaf_at es n ≡ true
+file-leaf es n h =
+    elim (entry_at es n) as (λ o. option_map_or is_file (option_map (λ (e : Entry). e.body) o) false ≡ true → option_map_or is_leaf (option_map (λ (e : Entry). e.body) o) false ≡ true) [
+      | None ↦ (λ h. absurd cc)
+      | Some e ↦ (λ h. ap (λ (b : Bool). b || is_symlink e.body) h)
+    ] h

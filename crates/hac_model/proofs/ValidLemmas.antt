@@ -9,23 +9,24 @@ use Rattle.hac_model.specs.Tree.Depends.{cycle_of_move, cycle_over}
 use Rattle.hac_model.specs.Query.Formula.{Formula}
 use Rattle.hac_model.specs.Tree.Limits.{first_passed, is_text, passed_limit, file_bytes}
 use Rattle.hac_model.specs.Tree.Links.{is_item, is_semantic, parent_of}
+use Rattle.hac_model.specs.Script.PathWords.{is_target}
 use Rattle.hac_model.specs.Tree.Names.{is_name}
 use Rattle.hac_model.specs.Tree.Sessions.{is_busy}
-use Rattle.hac_model.specs.Tree.{child, empty, entry_at, is_directory, is_directory_at, is_file, is_file_at, is_made_directory, query_in}
+use Rattle.hac_model.specs.Tree.{child, empty, entry_at, is_directory, is_directory_at, is_file, is_file_at, is_leaf_at, is_made_directory, is_symlink, query_in}
 use Rattle.hac_model.specs.Tree.Valid.{IsLayout, IsSound, IsSoundFile}
 use Rattle.hac_model.specs.declared.events.Event.{Event}
-use Rattle.hac_model.specs.declared.events.Event.TheVariants.{Mkdir, NewFile, Rewrite, Mark, Mv, Rm, Rmdir, Setq, Smkdir, Step, Unq, Cd}
+use Rattle.hac_model.specs.declared.events.Event.TheVariants.{Mkdir, NewFile, Rewrite, Ln, Mark, Mv, Rm, Rmdir, Setq, Smkdir, Step, Unq, Cd}
 use Rattle.hac_model.specs.declared.limits.LimitWord.{LimitWord}
 use Rattle.hac_model.specs.declared.marks.Kind.{Kind}
 use Rattle.hac_model.specs.declared.marks.Kind.TheVariants.{Transient, Permanent, Prohibited, Unlinked}
 use Rattle.hac_model.specs.declared.states.Body.{Body}
-use Rattle.hac_model.specs.declared.states.Body.TheVariants.{File, Dir, Semantic}
+use Rattle.hac_model.specs.declared.states.Body.TheVariants.{File, Dir, Symlink, Semantic}
 use Rattle.hac_model.specs.declared.states.Entry.{Entry}
 use Rattle.hac_model.specs.declared.states.State.{State}
 use Rattle.hac_model.proofs.ChangeLemmas.{all-append, all-changed, all-filter, all-weaker, differ-append, differ-edited, differ-kept, differ-reseated, directory-append, directory-changed, directory-kept, is_kept, numbers-append, numbers-changed, numbers-kept}
 use Rattle.hac_model.proofs.MapLemmas.{KeepsMeasures, mapped-layout, measures-passed}
 use Rattle.hac_model.proofs.PathLemmas.{root-none}
-use Rattle.hac_model.proofs.TreeLemmas.{directory-no_file}
+use Rattle.hac_model.proofs.TreeLemmas.{directory-no_leaf}
 
 pub empty-layout : IsLayout empty
 unfolding passed_limit first_passed
@@ -102,11 +103,11 @@ removed-layout s n h bare limits =
     stay [] other there = tt
     stay (e ∷ es) other there = (directory-kept n s.entries e.parent other.0 ∙ there.0, stay es other.1 there.1)
 
--- nothing is in a file
-pub file-bare : (s : State) (n : ℕ) → IsLayout s → is_file_at s.entries n ≡ true → AllByRecursion (λ e. n ≡ e.parent → ⊥) s.entries
-file-bare s n h file = all-weaker (λ e. IsTrue (is_directory_at s.entries e.parent)) (λ e. n ≡ e.parent → ⊥) s.entries (λ e there same.
-    let other : is_file_at s.entries e.parent ≡ false = directory-no_file s.entries e.parent (root-none s h) there in
-    let never : true ≡ false = sym file ∙ ap (λ (k : ℕ). is_file_at s.entries k) same ∙ other in
+-- nothing is in a leaf
+pub leaf-bare : (s : State) (n : ℕ) → IsLayout s → is_leaf_at s.entries n ≡ true → AllByRecursion (λ e. n ≡ e.parent → ⊥) s.entries
+leaf-bare s n h leaf = all-weaker (λ e. IsTrue (is_directory_at s.entries e.parent)) (λ e. n ≡ e.parent → ⊥) s.entries (λ e there same.
+    let other : is_leaf_at s.entries e.parent ≡ false = directory-no_leaf s.entries e.parent (root-none s h) there in
+    let never : true ≡ false = sym leaf ∙ ap (λ (k : ℕ). is_leaf_at s.entries k) same ∙ other in
     cc) h.parents
 
 -- nor in a bare directory
@@ -154,7 +155,7 @@ plain-sound (Semantic query permanent prohibited) h = tt
 plain-sound other h = h
 
 pub forgetting-measures : (n : ℕ) → KeepsMeasures (forgetting n)
-forgetting-measures n = record { kind = kind; file = file; queried = queried; texts = texts }
+forgetting-measures n = record { kind = kind; file = file; symlink = symlink; queried = queried; texts = texts }
   where
     kind : (body : Body) → is_directory (forgetting n body) ≡ is_directory body
     kind (Semantic query permanent prohibited) = refl
@@ -163,6 +164,10 @@ forgetting-measures n = record { kind = kind; file = file; queried = queried; te
     file : (body : Body) → is_file (forgetting n body) ≡ is_file body
     file (Semantic query permanent prohibited) = refl
     file other = refl
+
+    symlink : (body : Body) → is_symlink (forgetting n body) ≡ is_symlink body
+    symlink (Semantic query permanent prohibited) = refl
+    symlink other = refl
 
     queried : (body : Body) → is_some (query_in (forgetting n body)) ≡ is_some (query_in body)
     queried (Semantic query permanent prohibited) = refl
@@ -253,6 +258,10 @@ apply-layout s (Rewrite file text) h ok =
     let parts = accepted-parts (is_file_at s.entries file && is_text text) (passed_limit (changed_at s file (edited (rewritten text)))) ok in
     let fits = and_parts (is_file_at s.entries file) (is_text text) parts.0 in
     edited-layout s file (rewritten text) (rewritten-kind text) (rewritten-sound text fits.1) h parts.1
+apply-layout s (Ln dir name target) h ok =
+    let parts = accepted-parts (is_free s dir name && is_target target) (passed_limit (added s dir name (Symlink target))) ok in
+    let fits = and_parts (is_free s dir name) (is_target target) parts.0 in
+    added-layout s dir name (Symlink target) h fits.0 fits.1 parts.1
 apply-layout s (Smkdir dir name query told) h ok =
     let parts = accepted-parts (is_possible s (Smkdir dir name query told)) (passed_limit (added s dir name (Semantic query [] []))) ok in
     added-layout s dir name (Semantic query [] []) h (smkdir-parts s dir name query told parts.0).0 tt parts.1
@@ -269,8 +278,8 @@ apply-layout s (Mv entry dir name) h ok =
     let parts = accepted-parts (is_possible s (Mv entry dir name)) (passed_limit (changed_at s entry (reseated dir name))) ok in
     reseated-layout s entry dir name h (move-parts s entry dir name parts.0).1 parts.1
 apply-layout s (Rm file) h ok =
-    let parts = accepted-parts (is_file_at s.entries file) (passed_limit (forgotten (removed s file) file)) ok in
-    mapped-layout (forgetting file) (removed s file) (forgetting-measures file) (forgetting-sound file) (removed-layout s file h (file-bare s file h parts.0) (passed-forgotten (removed s file) file parts.1))
+    let parts = accepted-parts (is_leaf_at s.entries file) (passed_limit (forgotten (removed s file) file)) ok in
+    mapped-layout (forgetting file) (removed s file) (forgetting-measures file) (forgetting-sound file) (removed-layout s file h (leaf-bare s file h parts.0) (passed-forgotten (removed s file) file parts.1))
 apply-layout s (Rmdir dir) h ok =
     let parts = accepted-parts (is_possible s (Rmdir dir)) (passed_limit (removed s dir)) ok in
     removed-layout s dir h (bare-all s.entries dir (rmdir-parts s dir parts.0).1) parts.1

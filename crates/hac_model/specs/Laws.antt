@@ -11,17 +11,19 @@ use Rattle.hac_model.specs.Script.LineWords.{first_word, in_quotes, is_word_end,
 use Rattle.hac_model.specs.Script.Lines.{Item, is_spelled_line, item_of}
 use Rattle.hac_model.specs.Tree.Links.{column, found_by, has, is_below, is_permanent, is_prohibited, is_semantic, links, provide, round, shown_of}
 use Rattle.hac_model.specs.Tree.Kinds as kinds
-use Rattle.hac_model.specs.Tree.Looks.{look, plain}
+use Rattle.hac_model.specs.Tree.Looks.{look, plain, destination}
 use Rattle.hac_model.specs.Script.Printed.{ended}
 use Rattle.hac_model.specs.Run.Refusals.{cause, events_of, led_to, marks}
 use Rattle.hac_model.specs.Run.Resolving.{resolve}
 use Rattle.hac_model.specs.Script.{due, whole}
 use Rattle.hac_model.specs.Tree.Sessions.{is_stored, sessions_after, stored}
 use Rattle.hac_model.specs.Payload.Payloads.{is_spellable}
-use Rattle.hac_model.specs.Run.Play.{Given, Setting, all_events, end_after, given_behind, left_by, new_setting, no_answers, nothing_given, play, turns, turns_text}
+use Rattle.hac_model.specs.Payload.States.{is_spellable_state}
+use Rattle.hac_model.specs.Run.Play.{Given, Setting, all_events, end_after, given_behind, left_by, new_setting, no_answers, nothing_given, play, ticking, turns, turns_text}
 use Rattle.hac_model.specs.Script.Texts.{escaped_text, text_of}
-use Rattle.hac_model.specs.Tree.{empty, entry_at, path_of}
+use Rattle.hac_model.specs.Tree.{empty, entry_at, is_symlink_at, path_of}
 use Rattle.hac_model.specs.Tree.Valid.{IsValid}
+use Rattle.hac_model.specs.Tree.ValidTest.{is_valid}
 use Rattle.hac_model.specs.declared.commands.Line.{Line}
 use Rattle.hac_model.specs.declared.events.Event.{Event}
 use Rattle.hac_model.specs.declared.events.Event.TheVariants.{Mv, Setq, Step, Unq}
@@ -61,6 +63,10 @@ WholeIsLongest = (n : ℕ) (front rest : List ℕ) → AreLines n front → leng
 -- the empty state is valid
 abbrev pub EmptyIsValid : Type 0
 EmptyIsValid = IsValid empty
+
+-- whether any state is valid can be computed
+abbrev pub ValidityIsTested : Type 0
+ValidityIsTested = (s : State) → (is_valid s ≡ true → IsValid s) × (IsValid s → is_valid s ≡ true)
 
 -- a valid state stays valid by each event that can happen to it
 abbrev pub EventsKeepValid : Type 0
@@ -133,6 +139,10 @@ EventsEnd =
 -- each event that a valid state accepts and that is stored has a spelling
 abbrev pub AcceptedAreSpelled : Type 0
 AcceptedAreSpelled = (s : State) (event : Event) → IsValid s → IsTrue (is_stored event) → IsTrue (accepted s event) → IsTrue (is_spellable event)
+
+-- each valid state without sessions has a spelling
+abbrev pub ValidAreSpelled : Type 0
+ValidAreSpelled = (s : State) → IsValid s → s.sessions ≡ [] → IsTrue (is_spellable_state s)
 
 -- where sessions stand is never stored: what can happen to a state and is stored can happen to what is stored of it,
 -- and leads to what is stored of the outcome
@@ -208,13 +218,19 @@ PlainTellsState =
     (s t : State) → IsValid s → IsValid t → s.next ≡ t.next → s.sessions ≡ t.sessions →
     ((path : List (List ℕ)) → plain s path ≡ plain t path) → s ≡ t
 
--- looking up the path of an entry finds the entry
+-- looking up the path of an entry finds the entry, even if it is a symbolic link, which isn't followed then
 abbrev pub LooksFind : Type 0
-LooksFind = (s : State) (number : ℕ) → IsValid s → IsTrue (is_some (entry_at s.entries number)) → look s (path_of s number) ≡ Ok (There number)
+LooksFind = (s : State) (number : ℕ) → IsValid s → IsTrue (is_some (entry_at s.entries number)) → look s false (path_of s number) ≡ Ok (There number)
 
--- and what a look-up finds has the path that was looked up
+-- and what is found where no link is followed has the path that was looked up
 abbrev pub LooksTell : Type 0
-LooksTell = (s : State) (path : List (List ℕ)) (number : ℕ) → IsValid s → look s path ≡ Ok (There number) → path_of s number ≡ path
+LooksTell = (s : State) (path : List (List ℕ)) (number : ℕ) → IsValid s → destination s path ≡ Ok (There number) → path_of s number ≡ path
+
+-- what is found where all links are followed isn't one
+abbrev pub LooksFollow : Type 0
+LooksFollow =
+    (s : State) (path : List (List ℕ)) (number : ℕ) → IsValid s → look s true path ≡ Ok (There number) →
+    is_symlink_at s.entries number ≡ false
 
 -- a move renames the entry and everything below it, and nothing else
 abbrev pub MovesRename : Type 0
@@ -268,6 +284,31 @@ MovedListings =
     ∷ codes "t /d/s/g" ∷ codes "ok" ∷ codes "= red apple" ∷ codes "ok" ∷ codes "d d" ∷ codes "d h" ∷ codes "ok"
     ∷ codes "f e" ∷ codes "s s" ∷ codes "ok" ∷ codes "f g" ∷ codes "s t" ∷ codes "ok" ∷ [])
 
+-- a symbolic link leads on from its directory, in the middle of a path and at its end; it is moved and removed itself.
+-- Links that lead to one another are a loop.
+abbrev pub FirstLinks : Type 0
+FirstLinks =
+    turns_text (play nothing_given new_setting (lines_text (
+    codes "mkdir /d" ∷ codes "write /d/f x" ∷ codes "ln d /e" ∷ codes "cat /e/f" ∷ codes "mv /e /g" ∷ codes "cat g/f"
+    ∷ codes "ln ../g/f /d/h" ∷ codes "cat /g/h" ∷ codes "readlink /g/h" ∷ codes "ls /g" ∷ codes "rm /g" ∷ codes "cat /d/h"
+    ∷ codes "ln /b /a" ∷ codes "ln a /b" ∷ codes "cat /a/f" ∷ codes "ln /c /a" ∷ codes "ls" ∷ [])))
+    ≡ lines_text (
+    codes "ok" ∷ codes "ok" ∷ codes "ok" ∷ codes "= x" ∷ codes "ok" ∷ codes "ok" ∷ codes "= x" ∷ codes "ok"
+    ∷ codes "ok" ∷ codes "= x" ∷ codes "ok" ∷ codes "= ../g/f" ∷ codes "ok" ∷ codes "f f" ∷ codes "l h" ∷ codes "ok"
+    ∷ codes "ok" ∷ codes "no no-path /g"
+    ∷ codes "ok" ∷ codes "ok" ∷ codes "no loop /a/f" ∷ codes "no exists /a" ∷ codes "l a" ∷ codes "l b" ∷ codes "d d" ∷ codes "ok" ∷ [])
+
+-- with one step behind each command the files are indexed without `index`, also behind a refused command; a blank line
+-- and a comment are followed by none
+abbrev pub FirstSteps : Type 0
+FirstSteps =
+    turns_text (play (ticking 1) new_setting (lines_text (
+    codes "write /a x" ∷ codes "write /b x" ∷ codes "smkdir /s x" ∷ codes "sls /s" ∷ codes "write /a y" ∷ codes "tick 0"
+    ∷ codes "write /b y" ∷ codes "sls /s" ∷ codes "# comment" ∷ codes "" ∷ codes "write /c x" ∷ codes "rmdir /c" ∷ codes "sls /s" ∷ [])))
+    ≡ lines_text (
+    codes "ok" ∷ codes "ok" ∷ codes "ok" ∷ codes "t /a" ∷ codes "t /b" ∷ codes "ok" ∷ codes "ok" ∷ codes "ok"
+    ∷ codes "ok" ∷ codes "ok" ∷ codes "ok" ∷ codes "no not-dir /c" ∷ codes "t /c" ∷ codes "ok" ∷ [])
+
 -- a store without room for one more record refuses each change, and still answers
 abbrev pub FullStore : Type 0
 FullStore =
@@ -278,17 +319,27 @@ FullStore =
 abbrev pub FirstEnd : Type 0
 FirstEnd = (left_by new_setting (play nothing_given new_setting (lines_text (codes "mkdir /a" ∷ [])))).end ≡ 64 + 13
 
--- a new store, an existing one, and one whose name begins like an option
+-- a new store, an existing one, one whose name begins like an option, and both options, before the name or behind it
 abbrev pub FirstCommandLines : Type 0
 FirstCommandLines =
-    (options (codes "--new" ∷ codes "notes" ∷ []) ≡ Some (record { fresh = true; store = codes "notes" }))
-    × (options (codes "notes" ∷ codes "--new" ∷ []) ≡ Some (record { fresh = true; store = codes "notes" }))
-    × (options (codes "-" ∷ []) ≡ Some (record { fresh = false; store = codes "-" }))
-    × (options (codes "--" ∷ codes "--new" ∷ []) ≡ Some (record { fresh = false; store = codes "--new" }))
+    (options (codes "--new" ∷ codes "notes" ∷ []) ≡ Some (record { fresh = true; tick = 0; store = codes "notes" }))
+    × (options (codes "notes" ∷ codes "--new" ∷ []) ≡ Some (record { fresh = true; tick = 0; store = codes "notes" }))
+    × (options (codes "-" ∷ []) ≡ Some (record { fresh = false; tick = 0; store = codes "-" }))
+    × (options (codes "--" ∷ codes "--new" ∷ []) ≡ Some (record { fresh = false; tick = 0; store = codes "--new" }))
+    × (options (codes "--tick" ∷ codes "3" ∷ codes "notes" ∷ []) ≡ Some (record { fresh = false; tick = 3; store = codes "notes" }))
+    × (options (codes "--tick=3" ∷ codes "notes" ∷ []) ≡ Some (record { fresh = false; tick = 3; store = codes "notes" }))
+    × (options (codes "notes" ∷ codes "--tick" ∷ codes "0" ∷ codes "--new" ∷ []) ≡ Some (record { fresh = true; tick = 0; store = codes "notes" }))
+    × (options (codes "--tick" ∷ codes "65536" ∷ codes "--" ∷ codes "--tick" ∷ []) ≡ Some (record { fresh = false; tick = 65536; store = codes "--tick" }))
 
--- faulty command lines: no word, an empty name, two names, `--new` twice, and an unknown option
+-- faulty command lines: no word, an empty name, two names, `--new` twice or with a value, and an unknown option; and
+-- `--tick` with what is no such number, without a value or with one that begins with `-`, and twice
 abbrev pub NoCommandLines : Type 0
 NoCommandLines =
     (options [] ≡ None) × (options ([] ∷ []) ≡ None) × (options (codes "a" ∷ codes "b" ∷ []) ≡ None)
-    × (options (codes "--new" ∷ codes "--new" ∷ codes "a" ∷ []) ≡ None) × (options (codes "--tick=1" ∷ codes "a" ∷ []) ≡ None)
-    × (options (codes "--new=" ∷ codes "a" ∷ []) ≡ None)
+    × (options (codes "--new" ∷ codes "--new" ∷ codes "a" ∷ []) ≡ None) × (options (codes "--make=1" ∷ codes "a" ∷ []) ≡ None)
+    × (options (codes "--new=" ∷ codes "a" ∷ []) ≡ None) × (options (codes "--new=x" ∷ codes "a" ∷ []) ≡ None)
+    × (options (codes "--tick" ∷ codes "x" ∷ codes "a" ∷ []) ≡ None) × (options (codes "--tick=" ∷ codes "a" ∷ []) ≡ None)
+    × (options (codes "--tick" ∷ codes "65537" ∷ codes "a" ∷ []) ≡ None) × (options (codes "--tick" ∷ codes "03" ∷ codes "a" ∷ []) ≡ None)
+    × (options (codes "--tick" ∷ []) ≡ None) × (options (codes "--tick" ∷ codes "a" ∷ []) ≡ None)
+    × (options (codes "--tick" ∷ codes "--new" ∷ codes "a" ∷ []) ≡ None) × (options (codes "--tick" ∷ codes "--" ∷ codes "a" ∷ []) ≡ None)
+    × (options (codes "--tick" ∷ codes "1" ∷ codes "--tick" ∷ codes "1" ∷ codes "a" ∷ []) ≡ None)

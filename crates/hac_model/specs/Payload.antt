@@ -1,4 +1,5 @@
--- Payloads: how events are spelled as bytes.
+-- Payloads: how events and states are spelled as bytes.
 pub mod Fields
 pub mod QueryFields
 pub mod Payloads
+pub mod States

@@ -1,6 +1,7 @@
 -- The tree: entries, and which is in which directory.
 pub mod Bare
 pub mod Valid
+pub mod ValidTest
 pub mod Looks
 pub mod Listing
 pub mod Paths
@@ -18,7 +19,7 @@ use Rattle.std.specs.Str.{bytes_eq}
 use Rattle.hac_model.specs.declared.limits.TheConstants.{PATH_LIMIT}
 use Rattle.hac_model.specs.Query.Formula.{Formula}
 use Rattle.hac_model.specs.declared.states.Body.{Body}
-use Rattle.hac_model.specs.declared.states.Body.TheVariants.{File, Dir, Semantic}
+use Rattle.hac_model.specs.declared.states.Body.TheVariants.{File, Dir, Symlink, Semantic}
 use Rattle.hac_model.specs.declared.states.Entry.{Entry}
 use Rattle.hac_model.specs.declared.states.State.{State}
 
@@ -62,6 +63,14 @@ abbrev pub is_file : Body → Bool
 is_file (File text dirty shown) = true
 is_file other = false
 
+abbrev pub is_symlink : Body → Bool
+is_symlink (Symlink target) = true
+is_symlink other = false
+
+-- nothing can be in it
+abbrev pub is_leaf : Body → Bool
+is_leaf body = is_file body || is_symlink body
+
 -- a directory of any kind
 abbrev pub is_directory : Body → Bool
 is_directory Dir = true
@@ -88,6 +97,11 @@ abbrev pub shown_text : Body → Option (List ℕ)
 shown_text (File text dirty shown) = shown
 shown_text other = None
 
+-- where a symbolic link leads
+abbrev pub target_in : Body → Option (List ℕ)
+target_in (Symlink target) = Some target
+target_in other = None
+
 -- what a semantic directory asks for
 abbrev pub query_in : Body → Option (Formula ℕ)
 query_in (Semantic query permanent prohibited) = Some query
@@ -106,6 +120,14 @@ prohibited_in other = []
 -- a file has the number
 abbrev pub is_file_at : List Entry → ℕ → Bool
 is_file_at entries number = option_map_or is_file (body_at entries number) false
+
+-- a symbolic link has the number
+abbrev pub is_symlink_at : List Entry → ℕ → Bool
+is_symlink_at entries number = option_map_or is_symlink (body_at entries number) false
+
+-- a file or a symbolic link has the number
+abbrev pub is_leaf_at : List Entry → ℕ → Bool
+is_leaf_at entries number = option_map_or is_leaf (body_at entries number) false
 
 -- an entry of the number is a directory
 abbrev pub is_made_directory : List Entry → ℕ → Bool

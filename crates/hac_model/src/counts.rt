@@ -10,6 +10,8 @@ pub struct Counts {
     pub directories: u64,
     /// Semantic directories.
     pub semantics: u64,
+    /// Symbolic links.
+    pub symlinks: u64,
     /// Files.
     pub files: u64,
     /// Files that are to be indexed.

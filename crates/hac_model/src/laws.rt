@@ -7,12 +7,12 @@ ghost use Rattle.hac_model.specs.Laws.{BareCommutes, FactsFollow, SessionsFollow
 ghost use Rattle.hac_model.specs.Laws.{LinesSpell};
 ghost use Rattle.hac_model.specs.Laws.{CommandsHappen, StepsAreDue, StepsClean, IndexCleans};
 ghost use Rattle.hac_model.specs.Laws.{ScriptsKeepValid, EventsLead, EventsEnd, AcceptedAreSpelled};
-ghost use Rattle.hac_model.specs.Laws.{SessionsAreNotStored, FullStore, FirstEnd};
+ghost use Rattle.hac_model.specs.Laws.{ValidAreSpelled, SessionsAreNotStored, FullStore, FirstEnd};
 ghost use Rattle.hac_model.specs.Laws.{FirstCommandLines, NoCommandLines, LinksStay, LinksAreOnly};
-ghost use Rattle.hac_model.specs.Laws.{ValidIsAcyclic, PlainTellsState, LooksFind, LooksTell};
+ghost use Rattle.hac_model.specs.Laws.{ValidIsAcyclic, PlainTellsState, LooksFind, LooksFollow, LooksTell};
 ghost use Rattle.hac_model.specs.Laws.{MovesRename, PrintedTextIsRead, PrintedTextIsOneLine};
 ghost use Rattle.hac_model.specs.Laws.{QuotedWordIsRead, QuotesAreOneSpelling, FirstListings};
-ghost use Rattle.hac_model.specs.Laws.{MovedListings};
+ghost use Rattle.hac_model.specs.Laws.{MovedListings, FirstLinks, FirstSteps, ValidityIsTested};
 
 /// Two joined scripts are played one after the other, where the first one consists of whole lines,
 /// each with its end and the bytes that belong to it. No line looks further ahead, and none looks
@@ -31,6 +31,12 @@ pub fn whole_is_longest()
 /// The empty state is valid.
 pub fn empty_is_valid()
     ensures { EmptyIsValid }
+{}
+
+/// Whether a state is valid can be computed, of any state: also of one in which a directory depends
+/// on itself.
+pub fn validity_is_tested()
+    ensures { ValidityIsTested }
 {}
 
 /// Events lead from valid states to valid states.
@@ -85,6 +91,11 @@ pub fn accepted_events_are_spelled()
     ensures { AcceptedAreSpelled }
 {}
 
+/// A valid state in which no session stands anywhere has a spelling.
+pub fn valid_states_are_spelled()
+    ensures { ValidAreSpelled }
+{}
+
 /// Where sessions stand is never stored.
 pub fn sessions_are_not_stored()
     ensures { SessionsAreNotStored }
@@ -121,11 +132,12 @@ pub fn plain_tells_state()
     ensures { PlainTellsState }
 {}
 
-/// A look-up by the path of an entry finds that entry, and what a look-up finds has the path that
-/// was looked up.
+/// A look-up by the path of an entry finds that entry, and what is found where no symbolic link is
+/// followed has the path that was looked up. Where all links are followed, no link is found.
 pub fn looks_find()
     ensures find { LooksFind }
     ensures tell { LooksTell }
+    ensures follow { LooksFollow }
 {}
 
 /// A move replaces the old path by the new one for the entry and everything below it, and leaves
@@ -155,6 +167,16 @@ pub fn first_listings()
 /// A run with nested semantic directories, in which moves add links and remove them.
 pub fn moved_listings()
     ensures { MovedListings }
+{}
+
+/// A run with symbolic links: relative ones, one that is moved, one that leads nowhere, and a loop.
+pub fn first_links()
+    ensures { FirstLinks }
+{}
+
+/// A run with an index step behind each command.
+pub fn first_steps()
+    ensures { FirstSteps }
 {}
 
 /// A run over a full store, and where the store of a small run ends.

@@ -28,9 +28,10 @@ pub use commands::{Command, Line};
 pub use counts::Counts;
 pub use events::Event;
 pub use limits::{
-    DIRS_LIMIT, ITEMS_LIMIT, LINE_LIMIT, Limit, LimitWord, NAME_LIMIT, NESTING_LIMIT,
+    DIRS_LIMIT, FOLLOW_LIMIT, ITEMS_LIMIT, LINE_LIMIT, Limit, LimitWord, NAME_LIMIT, NESTING_LIMIT,
     NUMBERS_LIMIT, PATH_LIMIT, QUERY_LIMIT, SCRIPT_LIMIT, SEMANTICS_LIMIT, SESSIONS_LIMIT,
-    STORE_LIMIT, TERMS_LIMIT, TEXT_LIMIT, TEXTS_LIMIT, TICK_LIMIT, first_passed,
+    STORE_LIMIT, SYMLINKS_LIMIT, TARGET_LIMIT, TERMS_LIMIT, TEXT_LIMIT, TEXTS_LIMIT, TICK_LIMIT,
+    first_passed,
 };
 pub use marks::{Kind, Mark};
 pub use members::Member;

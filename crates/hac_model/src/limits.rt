@@ -22,6 +22,9 @@ pub const TERMS_LIMIT: u64 = 64;
 /// The most parentheses and `NOT`s around any one term of a query.
 pub const NESTING_LIMIT: u64 = 32;
 
+/// The most bytes of a symbolic link's target.
+pub const TARGET_LIMIT: u64 = 1_024;
+
 /// The most files that one `tick` indexes.
 pub const TICK_LIMIT: u64 = 65_536;
 
@@ -37,6 +40,12 @@ pub const DIRS_LIMIT: u64 = 10_000;
 
 /// The most semantic directories.
 pub const SEMANTICS_LIMIT: u64 = 1_000;
+
+/// The most symbolic links.
+pub const SYMLINKS_LIMIT: u64 = 10_000;
+
+/// The most symbolic links that a path follows.
+pub const FOLLOW_LIMIT: u64 = 16;
 
 /// The most names in the path of an entry.
 pub const PATH_LIMIT: u64 = 64;
@@ -123,7 +132,7 @@ pub fn first_passed(limits: &[Limit]) -> Option<LimitWord>
 
 impl Counts {
     /// The limits on the tree itself, in the order in which they are tested.
-    pub fn layout_limits(self) -> [Limit; 4]
+    pub fn layout_limits(self) -> [Limit; 5]
         ensures { result ≡ layout_limits self }
     {
         [
@@ -141,6 +150,11 @@ impl Counts {
                 count: self.semantics,
                 most: SEMANTICS_LIMIT,
                 word: LimitWord::Semantics,
+            },
+            Limit {
+                count: self.symlinks,
+                most: SYMLINKS_LIMIT,
+                word: LimitWord::Symlinks,
             },
             Limit {
                 count: self.long_paths,

@@ -54,9 +54,21 @@ pub enum Resolved {
         /// Where it is to be.
         place: Place,
     },
-    /// Removes a file.
+    /// Removes a file or a symbolic link.
     Rm {
-        /// The file.
+        /// The file or the link.
+        entry: Number,
+    },
+    /// Creates a symbolic link.
+    Ln {
+        /// Where it is to be.
+        place: Place,
+        /// The path word that it leads to.
+        target: Text,
+    },
+    /// Shows the target of a symbolic link.
+    Readlink {
+        /// The link.
         entry: Number,
     },
     /// Creates a semantic directory.

@@ -22,7 +22,7 @@ use Rattle.hac_model.specs.declared.replies.Refusal.{Refusal}
 use Rattle.hac_model.specs.declared.replies.Refusal.TheVariants.{Limit}
 use Rattle.hac_model.specs.declared.replies.Reply.TheVariants.{Lines}
 use Rattle.hac_model.specs.declared.resolved.Resolved.{Resolved}
-use Rattle.hac_model.specs.declared.resolved.Resolved.TheVariants.{Cat, Ls, Pwd, Query, Sls, Find, Counts, Index, Tick}
+use Rattle.hac_model.specs.declared.resolved.Resolved.TheVariants.{Cat, Ls, Pwd, Readlink, Query, Sls, Find, Counts, Index, Tick}
 use Rattle.hac_model.specs.declared.states.State.{State}
 use Rattle.hac_top.specs.Deciding.{Decides, IsDenial, settled_turn, standing_turn, storing_turn, turn_with}
 use Rattle.hac_top.specs.declared.deciding.Decision.{Decision}
@@ -42,6 +42,7 @@ reading-is s command (Changes change) for = by command change.event for.known.0
     by (Cat entry) event is = absurd cc
     by (Ls dir) event is = absurd cc
     by (Pwd dir) event is = absurd cc
+    by (Readlink entry) event is = absurd cc
     by (Query dir) event is = absurd cc
     by (Sls dir) event is = absurd cc
     by (Find query) event is = absurd cc
@@ -54,6 +55,7 @@ no-lines : (s : State) (command : Resolved) → is_reading command ≡ false →
 no-lines s (Cat entry) changes = absurd cc
 no-lines s (Ls dir) changes = absurd cc
 no-lines s (Pwd dir) changes = absurd cc
+no-lines s (Readlink entry) changes = absurd cc
 no-lines s (Query dir) changes = absurd cc
 no-lines s (Sls dir) changes = absurd cc
 no-lines s (Find query) changes = absurd cc
@@ -65,6 +67,7 @@ reads-nothing : (s : State) (command : Resolved) → is_reading command ≡ true
 reads-nothing s (Cat entry) reading = refl
 reads-nothing s (Ls dir) reading = refl
 reads-nothing s (Pwd dir) reading = refl
+reads-nothing s (Readlink entry) reading = refl
 reads-nothing s (Query dir) reading = refl
 reads-nothing s (Sls dir) reading = refl
 reads-nothing s (Find query) reading = refl

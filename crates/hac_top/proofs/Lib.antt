@@ -1,5 +1,7 @@
 pub mod CrashLemmas
 pub mod DecidingLemmas
+pub mod TickLemmas
+pub mod AnswerLemmas
 pub mod StoringLemmas
 pub mod TakenLemmas
 pub mod ReplyLemmas
@@ -7,4 +9,6 @@ pub mod GoesOn
 pub mod RunLemmas
 pub mod LineLemmas
 pub mod OpenedLemmas
+pub mod WordLooks
 pub mod WordLemmas
+pub mod WordMatches

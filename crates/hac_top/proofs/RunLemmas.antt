@@ -9,14 +9,14 @@ use Rattle.hac_model.specs.Script.Lines.{Item}
 use Rattle.hac_model.specs.Script.{first_line, due, first_items, after_item, script, whole}
 use Rattle.hac_model.specs.declared.limits.TheConstants.{SCRIPT_LIMIT}
 use Rattle.hac_model.specs.Tree.Events.{apply_all}
-use Rattle.hac_model.specs.Run.Play.{Setting, Turn, all_events, has_refusal, is_refused, left_by, nothing_given, play, stored_setting, turns, turns_text}
+use Rattle.hac_model.specs.Run.Play.{Setting, Turn, all_events, has_refusal, is_refused, left_by, play, stored_setting, turns, turns_text}
 use Rattle.hac_model.specs.Tree.Sessions.{stored}
 use Rattle.hac_model.specs.declared.states.State.{State}
 use Rattle.hac_model.specs.declared.taken.Taken.{Taken}
 use Rattle.hac_model.specs.Laws.{AreLines}
-use Rattle.hac_model.proofs.JoinLemmas.{cut-append, left_by-append, play-line, scripts-joined, turns-joined, whole-line, whole-unended}
+use Rattle.hac_model.proofs.JoinLemmas.{cut-append, left_by-append, whole-line, whole-unended}
 use Rattle.hac_model.proofs.WholeLemmas.{whole-lines}
-use Rattle.hac_model.proofs.PlayLemmas.{apply_all-append, events-lead}
+use Rattle.hac_model.proofs.PlayLemmas.{events-lead}
 use Rattle.hac_model.proofs.ScriptLemmas.{script-nothing}
 use Rattle.hac_store.specs.Held.{held}
 use Rattle.shell_lang.specs.Reading.{piece_size}
@@ -25,18 +25,20 @@ use Rattle.shell_lang.specs.declared.reading.Piece.TheVariants.{Bytes}
 use Rattle.hac_top.specs.Ends.{IsFinished, finished_status}
 use Rattle.hac_top.specs.Crashes.{Holds, IsTreeAfter, IsTreeOfAnswered}
 use Rattle.hac_top.specs.Run.{AnswersAll, AnswersBy, AnswersTaken, AnswersWithin, AnswersPromptly, IsTreeOf, Outside, Played, Plays}
+use Rattle.hac_top.specs.Ticking.{command_events, ticking}
 use Rattle.hac_top.specs.TakenLines.{items_of_piece, items_of_taken, GivesTaken, IsLine, StopsIn, StopsLine}
 use Rattle.hac_top.specs.declared.status.Status.{Status}
 use Rattle.hac_top.specs.declared.status.Status.TheVariants.{Done, SomeRefused, ReadFault, WriteFault, Memory, TooLong}
 use Rattle.hac_top.specs.declared.taking.TakenLine.{TakenLine}
-use Rattle.hac_top.proofs.CrashLemmas.{all-answered, all_events-append, holds-weaker, some-answered, tree-all, tree-of-all}
+use Rattle.hac_top.proofs.CrashLemmas.{all-answered, answered-first, answered-last, holds-weaker, may-be-answered, none-answered, tree-all, tree-of-all}
 use Rattle.hac_top.proofs.GoesOn.{Goes, turns_of}
 use Rattle.hac_top.proofs.TakenLemmas.{no_rest}
+use Rattle.hac_top.proofs.TickLemmas.{play-line, scripts-joined, turns-joined}
 use Rattle.hac_top.proofs.ReplyLemmas.{cuts-replies, front-turns, text-append, replies-whole}
 use Rattle.hac_top.proofs.ReplyLemmas.{appends-then, appends-nothing}
 
-play-nothing : (setting : Setting) → play nothing_given setting [] ≡ []
-play-nothing setting = ap (turns nothing_given setting) script-nothing
+play-nothing : (tick : ℕ) (setting : Setting) → play (ticking tick) setting [] ≡ []
+play-nothing tick setting = ap (turns (ticking tick) setting) script-nothing
 
 no_bytes : (bytes : List ℕ) → length bytes ≡ 0 → bytes ≡ []
 no_bytes [] none = refl
@@ -59,17 +61,17 @@ whole-joined a b is =
     lines-joined lines.0 a b (subst (AreLines lines.0) is lines.1)
 
 -- the turns of one line, and of what follows it
-own-turns : (z : Setting) (own : List ℕ) → after_item own ≡ [] → play nothing_given z own ≡ turns nothing_given z (first_items own)
-own-turns z own one =
-    play-line z own ∙ ap (λ (xs : List ℕ). turns nothing_given z (first_items own) ++ play nothing_given (left_by z (turns nothing_given z (first_items own))) xs) one
-    ∙ ap (λ (ts : List Turn). turns nothing_given z (first_items own) ++ ts) (play-nothing (left_by z (turns nothing_given z (first_items own)))) ∙ append-nil (turns nothing_given z (first_items own))
+own-turns : (tick : ℕ) (z : Setting) (own : List ℕ) → after_item own ≡ [] → play (ticking tick) z own ≡ turns (ticking tick) z (first_items own)
+own-turns tick z own one =
+    play-line tick z own ∙ ap (λ (xs : List ℕ). turns (ticking tick) z (first_items own) ++ play (ticking tick) (left_by z (turns (ticking tick) z (first_items own))) xs) one
+    ∙ ap (λ (ts : List Turn). turns (ticking tick) z (first_items own) ++ ts) (play-nothing tick (left_by z (turns (ticking tick) z (first_items own)))) ∙ append-nil (turns (ticking tick) z (first_items own))
 
-line-then : (z : Setting) (ended : Bool) (own rest : List ℕ) → IsLine ended own rest → play nothing_given z (own ++ rest) ≡ turns nothing_given z (first_items own) ++ play nothing_given (left_by z (turns nothing_given z (first_items own))) rest
-line-then z true own rest line =
+line-then : (tick : ℕ) (z : Setting) (ended : Bool) (own rest : List ℕ) → IsLine ended own rest → play (ticking tick) z (own ++ rest) ≡ turns (ticking tick) z (first_items own) ++ play (ticking tick) (left_by z (turns (ticking tick) z (first_items own))) rest
+line-then tick z true own rest line =
     let none : rest ≡ [] = line.last refl in
-    ap (λ (xs : List ℕ). play nothing_given z (own ++ xs)) none ∙ ap (play nothing_given z) (append-nil own) ∙ play-line z own
-    ∙ ap (λ (xs : List ℕ). turns nothing_given z (first_items own) ++ play nothing_given (left_by z (turns nothing_given z (first_items own))) xs) (line.one ∙ sym none)
-line-then z false own rest line = scripts-joined z own rest (line.whole_is refl) ∙ ap (λ (ts : List Turn). ts ++ play nothing_given (left_by z ts) rest) (own-turns z own line.one)
+    ap (λ (xs : List ℕ). play (ticking tick) z (own ++ xs)) none ∙ ap (play (ticking tick) z) (append-nil own) ∙ play-line tick z own
+    ∙ ap (λ (xs : List ℕ). turns (ticking tick) z (first_items own) ++ play (ticking tick) (left_by z (turns (ticking tick) z (first_items own))) xs) (line.one ∙ sym none)
+line-then tick z false own rest line = scripts-joined tick z own rest (line.whole_is refl) ∙ ap (λ (ts : List Turn). ts ++ play (ticking tick) (left_by z ts) rest) (own-turns tick z own line.one)
 
 -- a run that stops once such a line was taken, with less than one piece behind it
 pub line-stops : (line : TakenLine) (is_ended : Bool) (bytes behind left : List ℕ) → GivesTaken line is_ended bytes (behind ++ left) → length behind < piece_size → StopsIn Memory bytes left
@@ -80,41 +82,45 @@ line-stops line is_ended bytes behind left gives near =
 pub nothing-stops : (bytes left : List ℕ) → bytes ≡ left → StopsIn Memory bytes left
 nothing-stops bytes left same = record { taken = []; bytes_are = same; line = []; behind = []; taken_is = refl; one = drop-nil (due (first_line [])); near = omega arith; cuts = tt }
 
-few-of : (piece : Piece) (taken : Option Taken) (setting : Setting) → length (turns nothing_given setting (items_of_piece piece taken)) ≤ 1
-few-of (Bytes line) taken setting = omega arith
-few-of other taken setting = omega arith
+-- a run that stops once less than one piece was taken
+behind-stops : (behind left : List ℕ) → length behind < piece_size → StopsIn Memory (behind ++ left) left
+behind-stops behind left near = record { taken = behind; bytes_are = refl; line = []; behind = behind; taken_is = refl; one = drop-nil (due (first_line [])); near = near; cuts = tt }
 
-pub few-items : (line : TakenLine) (setting : Setting) → length (turns nothing_given setting (items_of_taken line)) ≤ 1
-few-items line setting = few-of line.piece line.taken setting
+few-of : (tick : ℕ) (piece : Piece) (taken : Option Taken) (setting : Setting) → length (turns (ticking tick) setting (items_of_piece piece taken)) ≤ 1
+few-of tick (Bytes line) taken setting = omega arith
+few-of tick other taken setting = omega arith
+
+pub few-items : (tick : ℕ) (line : TakenLine) (setting : Setting) → length (turns (ticking tick) setting (items_of_taken line)) ≤ 1
+few-items tick line setting = few-of tick line.piece line.taken setting
 
 -- what is pending is the turns of the line, and then those of the rest
-pub turns-next : (line : TakenLine) (is_ended : Bool) (bytes rest : List ℕ) (setting : Setting) → GivesTaken line is_ended bytes rest →
-    play nothing_given setting bytes ≡ turns nothing_given setting (items_of_taken line) ++ play nothing_given (left_by setting (turns nothing_given setting (items_of_taken line))) rest
-turns-next line is_ended bytes rest setting gives =
-    ap (play nothing_given setting) gives.bytes_are ∙ line-then setting is_ended gives.own rest gives.line_is
-    ∙ ap (λ (items : List Item). turns nothing_given setting items ++ play nothing_given (left_by setting (turns nothing_given setting items)) rest) (sym gives.items)
+pub turns-next : (tick : ℕ) (line : TakenLine) (is_ended : Bool) (bytes rest : List ℕ) (setting : Setting) → GivesTaken line is_ended bytes rest →
+    play (ticking tick) setting bytes ≡ turns (ticking tick) setting (items_of_taken line) ++ play (ticking tick) (left_by setting (turns (ticking tick) setting (items_of_taken line))) rest
+turns-next tick line is_ended bytes rest setting gives =
+    ap (play (ticking tick) setting) gives.bytes_are ∙ line-then tick setting is_ended gives.own rest gives.line_is
+    ∙ ap (λ (items : List Item). turns (ticking tick) setting items ++ play (ticking tick) (left_by setting (turns (ticking tick) setting items)) rest) (sym gives.items)
 
-module _ (first : Setting) where
-  module _ (s p : List ℕ) (ended : Bool) (setting : Setting) (refused : Bool) (before now : SinkSeen) (goes : Goes first s p ended setting refused before now) where
-    items-are : turns_of first goes.played goes.last ≡ turns nothing_given first (script goes.played ++ first_items goes.last)
-    items-are = sym (turns-joined first (script goes.played) (first_items goes.last))
+module _ (tick : ℕ) (first : Setting) where
+  module _ (s p : List ℕ) (ended : Bool) (setting : Setting) (refused : Bool) (before now : SinkSeen) (goes : Goes tick first s p ended setting refused before now) where
+    items-are : turns_of tick first goes.played goes.last ≡ turns (ticking tick) first (script goes.played ++ first_items goes.last)
+    items-are = sym (turns-joined tick first (script goes.played) (first_items goes.last))
 
-    pub state-is : stored setting.state ≡ apply_all (stored first.state) (all_events (turns_of first goes.played goes.last))
+    pub state-is : stored setting.state ≡ apply_all (stored first.state) (all_events (turns_of tick first goes.played goes.last))
     state-is =
-        ap (λ (z : Setting). stored z.state) (goes.left_is ∙ ap (left_by first) items-are) ∙ events-lead nothing_given first (script goes.played ++ first_items goes.last)
+        ap (λ (z : Setting). stored z.state) (goes.left_is ∙ ap (left_by first) items-are) ∙ events-lead (ticking tick) first (script goes.played ++ first_items goes.last)
         ∙ ap (λ (ts : List Turn). apply_all (stored first.state) (all_events ts)) (sym items-are)
 
-    pub turns-are : play nothing_given first s ≡ turns_of first goes.played goes.last ++ play nothing_given setting p
+    pub turns-are : play (ticking tick) first s ≡ turns_of tick first goes.played goes.last ++ play (ticking tick) setting p
     turns-are =
-        let z = left_by first (play nothing_given first goes.played) in
-        let behind = turns nothing_given z (first_items goes.last) in
-        ap (play nothing_given first) goes.script_is ∙ scripts-joined first goes.played (goes.last ++ p) goes.lines
-        ∙ ap (λ (ts : List Turn). play nothing_given first goes.played ++ ts) (line-then z ended goes.last p goes.line_is) ∙ sym (append_assoc (play nothing_given first goes.played) behind (play nothing_given (left_by z behind) p))
-        ∙ ap (λ (w : Setting). turns_of first goes.played goes.last ++ play nothing_given w p) (sym (goes.left_is ∙ left_by-append first (play nothing_given first goes.played) behind))
+        let z = left_by first (play (ticking tick) first goes.played) in
+        let behind = turns (ticking tick) z (first_items goes.last) in
+        ap (play (ticking tick) first) goes.script_is ∙ scripts-joined tick first goes.played (goes.last ++ p) goes.lines
+        ∙ ap (λ (ts : List Turn). play (ticking tick) first goes.played ++ ts) (line-then tick z ended goes.last p goes.line_is) ∙ sym (append_assoc (play (ticking tick) first goes.played) behind (play (ticking tick) (left_by z behind) p))
+        ∙ ap (λ (w : Setting). turns_of tick first goes.played goes.last ++ play (ticking tick) w p) (sym (goes.left_is ∙ left_by-append first (play (ticking tick) first goes.played) behind))
 
     -- all lines so far, which are whole while the source goes on
-    done-is : turns_of first goes.played goes.last ≡ play nothing_given first (goes.played ++ goes.last)
-    done-is = sym (scripts-joined first goes.played goes.last goes.lines ∙ ap (λ (ts : List Turn). play nothing_given first goes.played ++ ts) (own-turns (left_by first (play nothing_given first goes.played)) goes.last goes.line_is.one))
+    done-is : turns_of tick first goes.played goes.last ≡ play (ticking tick) first (goes.played ++ goes.last)
+    done-is = sym (scripts-joined tick first goes.played goes.last goes.lines ∙ ap (λ (ts : List Turn). play (ticking tick) first goes.played ++ ts) (own-turns tick (left_by first (play (ticking tick) first goes.played)) goes.last goes.line_is.one))
 
     script-of : s ≡ (goes.played ++ goes.last) ++ p
     script-of = goes.script_is ∙ sym (append_assoc goes.played goes.last p)
@@ -123,11 +129,11 @@ module _ (first : Setting) where
     whole-so_far on = whole-joined goes.played goes.last goes.lines ∙ ap (λ (xs : List ℕ). goes.played ++ xs) (goes.line_is.whole_is on)
 
     -- a run that stops within a line has answered all lines before it
-    pub prompt-stop : (why : Status) (l : List ℕ) (is_ended : Bool) → ended ≡ is_ended → StopsIn why p l → AnswersPromptly first s (length (turns_of first goes.played goes.last)) (Some l)
+    pub prompt-stop : (why : Status) (l : List ℕ) (is_ended : Bool) → ended ≡ is_ended → StopsIn why p l → AnswersPromptly tick first s (length (turns_of tick first goes.played goes.last)) (Some l)
     prompt-stop why l true is stops =
         let nothing : p ≡ [] = goes.line_is.last is in
         let no_left : l ≡ [] = no_rest stops.taken l (sym stops.bytes_are ∙ nothing) in
-        let behind = turns nothing_given (left_by first (play nothing_given first goes.played)) (first_items goes.last) in
+        let behind = turns (ticking tick) (left_by first (play (ticking tick) first goes.played)) (first_items goes.last) in
         record {
           answered = goes.played;
           line = goes.last;
@@ -138,7 +144,7 @@ module _ (first : Setting) where
           whole_is = goes.lines;
           one = goes.line_is.one;
           near = omega arith;
-          all = (length behind, front-turns (play nothing_given first s) (turns_of first goes.played goes.last) (play nothing_given setting p) turns-are ∙ ap (λ (ts : List Turn). play nothing_given first goes.played ++ ts) (sym (take-length behind)));
+          all = (length behind, front-turns (play (ticking tick) first s) (turns_of tick first goes.played goes.last) (play (ticking tick) setting p) turns-are ∙ ap (λ (ts : List Turn). play (ticking tick) first goes.played ++ ts) (sym (take-length behind)));
         }
     prompt-stop why l false is stops =
         record {
@@ -151,18 +157,18 @@ module _ (first : Setting) where
           whole_is = whole-so_far is;
           one = stops.one;
           near = stops.near;
-          all = (0, front-turns (play nothing_given first s) (turns_of first goes.played goes.last) (play nothing_given setting p) turns-are ∙ done-is ∙ sym (append-nil (play nothing_given first (goes.played ++ goes.last))));
+          all = (0, front-turns (play (ticking tick) first s) (turns_of tick first goes.played goes.last) (play (ticking tick) setting p) turns-are ∙ done-is ∙ sym (append-nil (play (ticking tick) first (goes.played ++ goes.last))));
         }
 
     -- the whole lines that were taken are those that were played, where no whole line more was taken
-    played-taken : (more : List ℕ) → ended ≡ false → whole more ≡ [] → take (length (turns_of first goes.played goes.last)) (play nothing_given first s) ≡ play nothing_given first (whole ((goes.played ++ goes.last) ++ more))
+    played-taken : (more : List ℕ) → ended ≡ false → whole more ≡ [] → take (length (turns_of tick first goes.played goes.last)) (play (ticking tick) first s) ≡ play (ticking tick) first (whole ((goes.played ++ goes.last) ++ more))
     played-taken more on none =
         let so_far = goes.played ++ goes.last in
-        front-turns (play nothing_given first s) (turns_of first goes.played goes.last) (play nothing_given setting p) turns-are ∙ done-is
-        ∙ ap (play nothing_given first) (sym (whole-joined so_far more (whole-so_far on) ∙ ap (λ (xs : List ℕ). (goes.played ++ goes.last) ++ xs) none ∙ append-nil so_far))
+        front-turns (play (ticking tick) first s) (turns_of tick first goes.played goes.last) (play (ticking tick) setting p) turns-are ∙ done-is
+        ∙ ap (play (ticking tick) first) (sym (whole-joined so_far more (whole-so_far on) ∙ ap (λ (xs : List ℕ). (goes.played ++ goes.last) ++ xs) none ∙ append-nil so_far))
 
     -- the source failed
-    fails : (l : List ℕ) → ended ≡ false → StopsIn ReadFault p l → AnswersTaken first s (length (turns_of first goes.played goes.last)) (Some l)
+    fails : (l : List ℕ) → ended ≡ false → StopsIn ReadFault p l → AnswersTaken tick first s (length (turns_of tick first goes.played goes.last)) (Some l)
     fails l on stops =
         let cuts = stops.cuts in
         let same : stops.taken ≡ cuts.front = cuts.taken_is ∙ ap (λ (xs : List ℕ). cuts.front ++ xs) (no_bytes cuts.over cuts.over_is) ∙ append-nil cuts.front in
@@ -175,7 +181,7 @@ module _ (first : Setting) where
         }
 
     -- the script is too long
-    passes : (l : List ℕ) (taken : ℕ) → ended ≡ false → StopsIn TooLong p l → taken ≡ SCRIPT_LIMIT + 1 → taken + length l ≡ 0 + length s → AnswersWithin first s (length (turns_of first goes.played goes.last)) (Some l)
+    passes : (l : List ℕ) (taken : ℕ) → ended ≡ false → StopsIn TooLong p l → taken ≡ SCRIPT_LIMIT + 1 → taken + length l ≡ 0 + length s → AnswersWithin tick first s (length (turns_of tick first goes.played goes.last)) (Some l)
     passes l taken on stops beyond total =
         let cuts = stops.cuts in
         let so_far = goes.played ++ goes.last in
@@ -191,11 +197,11 @@ module _ (first : Setting) where
           longer = omega (arith, total, beyond);
           left_is =
               ap Some (sym (ap (λ (xs : List ℕ). drop (SCRIPT_LIMIT + 1) xs) (script_is ∙ sym (append_assoc within cuts.over l)) ∙ ap (λ (n : ℕ). drop n ((within ++ cuts.over) ++ l)) front_is ∙ drop-append_seam (within ++ cuts.over) l));
-          all = played-taken cuts.front on cuts.none ∙ ap (λ (xs : List ℕ). play nothing_given first (whole xs)) (sym front);
+          all = played-taken cuts.front on cuts.none ∙ ap (λ (xs : List ℕ). play (ticking tick) first (whole xs)) (sym front);
         }
 
     pub answers-stop : (status : Status) (l : List ℕ) (taken : ℕ) → StopsLine status → StopsIn status p l → ((status ≡ Memory → ⊥) → ended ≡ false) → (status ≡ TooLong → taken ≡ SCRIPT_LIMIT + 1) → taken + length l ≡ 0 + length s →
-        AnswersBy status first s (length (turns_of first goes.played goes.last)) (Some l)
+        AnswersBy tick status first s (length (turns_of tick first goes.played goes.last)) (Some l)
     answers-stop ReadFault l taken why stops on past total = fails l (on (λ e. cc)) stops
     answers-stop TooLong l taken why stops on past total = passes l taken (on (λ e. cc)) stops (past refl) total
     answers-stop Done l taken why stops on past total = absurd why
@@ -203,85 +209,89 @@ module _ (first : Setting) where
     answers-stop other l taken why stops on past total = tt
 
     -- what a crash leaves while lines in hand are stored is a tree of the whole run
-    pub tree-of-line : (items : List Item) (rest : List Turn) → play nothing_given setting p ≡ turns nothing_given setting items ++ rest → (c : List ℕ) → Holds (IsTreeAfter (stored setting.state) (all_events (turns nothing_given setting items))) c → Holds (IsTreeOf first s) c
+    pub tree-of-line : (items : List Item) (rest : List Turn) → play (ticking tick) setting p ≡ turns (ticking tick) setting items ++ rest → (c : List ℕ) → Holds (IsTreeAfter (stored setting.state) (all_events (turns (ticking tick) setting items))) c → Holds (IsTreeOf tick first s) c
     tree-of-line items rest is c holds =
-        let done = turns_of first goes.played goes.last in
-        let all_is : play nothing_given first s ≡ turns_of first goes.played goes.last ++ (turns nothing_given setting items ++ rest) = turns-are ∙ ap (λ (ts : List Turn). turns_of first goes.played goes.last ++ ts) is in
-        holds-weaker (IsTreeAfter (stored setting.state) (all_events (turns nothing_given setting items))) (IsTreeOf first s) c (λ t tree. tree-of-all (stored first.state) (stored setting.state) t (play nothing_given first s) done (turns nothing_given setting items) rest all_is state-is tree) holds
+        let done = turns_of tick first goes.played goes.last in
+        let all_is : play (ticking tick) first s ≡ turns_of tick first goes.played goes.last ++ (turns (ticking tick) setting items ++ rest) = turns-are ∙ ap (λ (ts : List Turn). turns_of tick first goes.played goes.last ++ ts) is in
+        holds-weaker (IsTreeAfter (stored setting.state) (all_events (turns (ticking tick) setting items))) (IsTreeOf tick first s) c (λ t tree. tree-of-all (stored first.state) (stored setting.state) t (play (ticking tick) first s) done (turns (ticking tick) setting items) rest all_is state-is tree) holds
+
+    -- what a crash leaves where none of the events of the command in hand are missing that were stored, and it isn't answered
+    pub answered-so_far : (here rest : List Turn) → play (ticking tick) setting p ≡ here ++ rest → (c : List ℕ) → Holds (IsTreeOfAnswered (stored setting.state) here 0) c →
+        Holds (IsTreeOfAnswered (stored first.state) (play (ticking tick) first s) (length (turns_of tick first goes.played goes.last))) c
+    answered-so_far here rest is c holds =
+        let done = turns_of tick first goes.played goes.last in
+        let all_is : play (ticking tick) first s ≡ turns_of tick first goes.played goes.last ++ (here ++ rest) = turns-are ∙ ap (λ (ts : List Turn). turns_of tick first goes.played goes.last ++ ts) is in
+        holds-weaker (IsTreeOfAnswered (stored setting.state) here 0) (IsTreeOfAnswered (stored first.state) (play (ticking tick) first s) (length (turns_of tick first goes.played goes.last))) c
+        (λ t tree. answered-first (stored first.state) (stored setting.state) t (play (ticking tick) first s) done here rest all_is state-is tree) holds
+
+    -- the same where nothing is in hand
+    pub answered-held : (c : List ℕ) → held c ≡ Ok (stored_setting setting) → Holds (IsTreeOfAnswered (stored first.state) (play (ticking tick) first s) (length (turns_of tick first goes.played goes.last))) c
+    answered-held c is =
+        record {
+          kept = stored_setting setting;
+          is = is;
+          state = all-answered (stored first.state) (stored setting.state) (play (ticking tick) first s) (turns_of tick first goes.played goes.last) (play (ticking tick) setting p) turns-are state-is;
+        }
 
   -- a run that ends with all replies that it began
-  abbrev pub plays-stop : (status why : Status) (s p l : List ℕ) (ended : Bool) (setting : Setting) (refused : Bool) (before after : Outside) (goes : Goes first s p ended setting refused before.sink after.sink) →
-      Some l ≡ after.source.left → (before.sink.held_back ≡ 0 → after.sink.held_back ≡ 0) → StopsIn why p l → AnswersBy status first s (length (turns_of first goes.played goes.last)) (Some l) → Plays status first s before after
+  abbrev pub plays-stop : (status why : Status) (s p l : List ℕ) (ended : Bool) (setting : Setting) (refused : Bool) (before after : Outside) (goes : Goes tick first s p ended setting refused before.sink after.sink) →
+      Some l ≡ after.source.left → (before.sink.held_back ≡ 0 → after.sink.held_back ≡ 0) → StopsIn why p l → AnswersBy tick status first s (length (turns_of tick first goes.played goes.last)) (Some l) → Plays tick status first s before after
   plays-stop status why s p l ended setting refused before after goes left_is passed stops answers =
       record {
         replies =
-            replies-whole (play nothing_given first s) (turns_of first goes.played goes.last) (play nothing_given setting p) before.sink after.sink (turns-are s p ended setting refused before.sink after.sink goes) goes.written
+            replies-whole (play (ticking tick) first s) (turns_of tick first goes.played goes.last) (play (ticking tick) setting p) before.sink after.sink (turns-are s p ended setting refused before.sink after.sink goes) goes.written
             (λ none. omega (arith, passed none));
         whole = λ _. refl;
-        prompt = subst (λ (o : Option (List ℕ)). AnswersPromptly first s (length (turns_of first goes.played goes.last)) o) left_is (prompt-stop s p ended setting refused before.sink after.sink goes why l ended refl stops);
-        answers = subst (λ (o : Option (List ℕ)). AnswersBy status first s (length (turns_of first goes.played goes.last)) o) left_is answers;
+        prompt = subst (λ (o : Option (List ℕ)). AnswersPromptly tick first s (length (turns_of tick first goes.played goes.last)) o) left_is (prompt-stop s p ended setting refused before.sink after.sink goes why l ended refl stops);
+        answers = subst (λ (o : Option (List ℕ)). AnswersBy tick status first s (length (turns_of tick first goes.played goes.last)) o) left_is answers;
       }
 
-  -- what a crash leaves then is some of the events of the items in hand
-  pub played-stop : (stood : Type 0) (image : List ℕ → Type 0) (status why : Status) (s p l : List ℕ) (ended : Bool) (setting : Setting) (refused : Bool) (before after : Outside) (goes : Goes first s p ended setting refused before.sink after.sink) →
-      Some l ≡ after.source.left → (before.sink.held_back ≡ 0 → after.sink.held_back ≡ 0) → StopsIn why p l → AnswersBy status first s (length (turns_of first goes.played goes.last)) (Some l) →
-      (items : List Item) (rest : List Turn) → play nothing_given setting p ≡ turns nothing_given setting items ++ rest → length (turns nothing_given setting items) ≤ 1 → (stood → (c : List ℕ) → image c → Holds (IsTreeAfter (stored setting.state) (all_events (turns nothing_given setting items))) c) →
-      (stood → IsFinished status → (c : List ℕ) → image c → held c ≡ Ok (stored_setting (left_by first (play nothing_given first s)))) → Played false status first s before after stood image
-  played-stop stood image status why s p l ended setting refused before after goes left_is passed stops answers items rest is few some kept =
-      let all_is = turns-are s p ended setting refused before.sink after.sink goes ∙ ap (λ (ts : List Turn). turns_of first goes.played goes.last ++ ts) is in
-      record {
-        plays = plays-stop status why s p l ended setting refused before after goes left_is passed stops answers;
-        reopens = λ stands c left.
-            let holds = some stands c left in
-            record {
-              kept = holds.kept;
-              is = holds.is;
-              state =
-                  some-answered (stored first.state) (stored setting.state) holds.kept.state setting (play nothing_given first s) (turns_of first goes.played goes.last) items rest all_is few (state-is s p ended setting refused before.sink after.sink goes) holds.state;
-            };
-        kept = kept;
-      }
+  -- a crash leaves what was answered then
+  pub played-stop : (stood : Type 0) (image : List ℕ → Type 0) (status why : Status) (s p l : List ℕ) (ended : Bool) (setting : Setting) (refused : Bool) (before after : Outside) (goes : Goes tick first s p ended setting refused before.sink after.sink) →
+      Some l ≡ after.source.left → (before.sink.held_back ≡ 0 → after.sink.held_back ≡ 0) → StopsIn why p l → AnswersBy tick status first s (length (turns_of tick first goes.played goes.last)) (Some l) →
+      (stood → (c : List ℕ) → image c → Holds (IsTreeOfAnswered (stored first.state) (play (ticking tick) first s) (length (turns_of tick first goes.played goes.last))) c) →
+      (stood → IsFinished status → (c : List ℕ) → image c → held c ≡ Ok (stored_setting (left_by first (play (ticking tick) first s)))) → Played false tick status first s before after stood image
+  played-stop stood image status why s p l ended setting refused before after goes left_is passed stops answers answered kept =
+      record { plays = plays-stop status why s p l ended setting refused before after goes left_is passed stops answers; reopens = answered; kept = kept }
 
-  answers-finished : (refused : Bool) (s : List ℕ) (done : ℕ) (left : Option (List ℕ)) → AnswersAll (finished_status refused) first s done left → AnswersBy (finished_status refused) first s done left
+  answers-finished : (refused : Bool) (s : List ℕ) (done : ℕ) (left : Option (List ℕ)) → AnswersAll tick (finished_status refused) first s done left → AnswersBy tick (finished_status refused) first s done left
   answers-finished true s done left all = all
   answers-finished false s done left all = all
 
   -- the script has ended
-  pub played-end : (stood : Type 0) (image : List ℕ → Type 0) (s p l behind : List ℕ) (taken : ℕ) (ended : Bool) (setting : Setting) (refused : Bool) (before after : Outside) (goes : Goes first s p ended setting refused before.sink after.sink) →
+  pub played-end : (stood : Type 0) (image : List ℕ → Type 0) (s p l behind : List ℕ) (taken : ℕ) (ended : Bool) (setting : Setting) (refused : Bool) (before after : Outside) (goes : Goes tick first s p ended setting refused before.sink after.sink) →
       Some l ≡ after.source.left → (before.sink.held_back ≡ 0 → after.sink.held_back ≡ 0) → (p ≡ []) × (behind ++ l ≡ []) → taken + length l ≡ 0 + length s → taken ≤ SCRIPT_LIMIT → (stood → (c : List ℕ) → image c → held c ≡ Ok (stored_setting setting)) →
-      Played false (finished_status refused) first s before after stood image
+      Played false tick (finished_status refused) first s before after stood image
   played-end stood image s p l behind taken ended setting refused before after goes left_is passed none total within stands =
-      let done = turns_of first goes.played goes.last in
+      let done = turns_of tick first goes.played goes.last in
       let nothing : l ≡ [] = no_rest behind l none.1 in
-      let all : play nothing_given first s ≡ turns_of first goes.played goes.last =
-      turns-are s p ended setting refused before.sink after.sink goes ∙ ap (λ (xs : List ℕ). turns_of first goes.played goes.last ++ play nothing_given setting xs) none.0
-      ∙ ap (λ (ts : List Turn). turns_of first goes.played goes.last ++ ts) (play-nothing setting) ∙ append-nil (turns_of first goes.played goes.last) in
-      let answers : AnswersAll (finished_status refused) first s (length (turns_of first goes.played goes.last)) (Some l) =
+      let all : play (ticking tick) first s ≡ turns_of tick first goes.played goes.last =
+      turns-are s p ended setting refused before.sink after.sink goes ∙ ap (λ (xs : List ℕ). turns_of tick first goes.played goes.last ++ play (ticking tick) setting xs) none.0
+      ∙ ap (λ (ts : List Turn). turns_of tick first goes.played goes.last ++ ts) (play-nothing tick setting) ∙ append-nil (turns_of tick first goes.played goes.last) in
+      let answers : AnswersAll tick (finished_status refused) first s (length (turns_of tick first goes.played goes.last)) (Some l) =
       record { read = ap Some nothing; within = omega (arith, total, within, ap length nothing); status_is = ap finished_status (goes.refused_is ∙ ap has_refusal (sym all)); all = ap length (sym all) } in
       played-stop stood image (finished_status refused) Memory s p l ended setting refused before after goes left_is passed (nothing-stops p l (none.0 ∙ sym nothing)) (answers-finished refused s (length done) (Some l) answers)
-      [] (play nothing_given setting p) refl (omega arith)
-      (λ stood_now c left. record { kept = stored_setting setting; is = stands stood_now c left; state = tree-all (stored setting.state) (stored setting.state) [] refl })
+      (λ stood_now c left. answered-held s p ended setting refused before.sink after.sink goes c (stands stood_now c left))
       (λ stood_now _ c left. stands stood_now c left ∙ ap (λ (z : Setting). Ok (stored_setting z)) (goes.left_is ∙ ap (left_by first) (sym all)))
 
-  -- the sink failed while a line was answered, all of which was stored before
+  -- the sink failed while a line was answered, whose events were stored before
   pub played-cut : (stood : Type 0) (image : List ℕ → Type 0) (s p l behind : List ℕ) (line : TakenLine) (new_ended : Bool) (setting : Setting) (refused : Bool) (mid : SinkSeen) (before after : Outside) →
-      Goes first s p false setting refused before.sink mid → Some l ≡ after.source.left → (before.sink.held_back ≡ 0 → mid.held_back ≡ 0) → GivesTaken line new_ended p (behind ++ l) → length behind < piece_size →
-      WritesSome mid after.sink (turns_text (turns nothing_given setting (items_of_taken line))) → (stood → (c : List ℕ) → image c → held c ≡ Ok (stored_setting (left_by setting (turns nothing_given setting (items_of_taken line))))) →
-      Played false WriteFault first s before after stood image
+      Goes tick first s p false setting refused before.sink mid → Some l ≡ after.source.left → (before.sink.held_back ≡ 0 → mid.held_back ≡ 0) → GivesTaken line new_ended p (behind ++ l) → length behind < piece_size →
+      WritesSome mid after.sink (turns_text (turns (ticking tick) setting (items_of_taken line))) → (stood → (c : List ℕ) → image c → Holds (λ now. now ≡ apply_all (stored setting.state) (command_events (turns (ticking tick) setting (items_of_taken line)))) c) →
+      Played false tick WriteFault first s before after stood image
   played-cut stood image s p l behind line new_ended setting refused mid before after goes left_is passed gives near some was_stored =
-      let items = items_of_taken line in
-      let now = turns nothing_given setting (items_of_taken line) in
-      let done = turns_of first goes.played goes.last in
-      let rest = play nothing_given (left_by setting now) (behind ++ l) in
-      let all_is : play nothing_given first s ≡ turns_of first goes.played goes.last ++ (now ++ rest) =
-      turns-are s p false setting refused before.sink mid goes ∙ ap (λ (ts : List Turn). turns_of first goes.played goes.last ++ ts) (turns-next line new_ended p (behind ++ l) setting gives) in
+      let now = turns (ticking tick) setting (items_of_taken line) in
+      let done = turns_of tick first goes.played goes.last in
+      let rest = play (ticking tick) (left_by setting now) (behind ++ l) in
+      let all_is : play (ticking tick) first s ≡ turns_of tick first goes.played goes.last ++ (now ++ rest) =
+      turns-are s p false setting refused before.sink mid goes ∙ ap (λ (ts : List Turn). turns_of tick first goes.played goes.last ++ ts) (turns-next tick line new_ended p (behind ++ l) setting gives) in
       let state_is = state-is s p false setting refused before.sink mid goes in
-      let stopped = cuts-replies (play nothing_given first s) done now rest before.sink mid after.sink some.count all_is (few-items line setting) goes.written passed some.front in
+      let stopped = cuts-replies (play (ticking tick) first s) done now rest before.sink mid after.sink some.count all_is (few-items tick line setting) goes.written passed some.front in
       let so_far = goes.played ++ goes.last in
       let done_is = done-is s p false setting refused before.sink mid goes in
-      let now_is : turns nothing_given setting (items_of_taken line) ≡ turns nothing_given (left_by first (play nothing_given first (goes.played ++ goes.last))) (first_items gives.own) =
-      ap (λ (z : Setting). turns nothing_given z (items_of_taken line)) (goes.left_is ∙ ap (left_by first) done_is) ∙ ap (turns nothing_given (left_by first (play nothing_given first so_far))) gives.items in
-      let prompt : AnswersPromptly first s stopped.replies.done (Some l) =
+      let now_is : turns (ticking tick) setting (items_of_taken line) ≡ turns (ticking tick) (left_by first (play (ticking tick) first (goes.played ++ goes.last))) (first_items gives.own) =
+      ap (λ (z : Setting). turns (ticking tick) z (items_of_taken line)) (goes.left_is ∙ ap (left_by first) done_is) ∙ ap (turns (ticking tick) (left_by first (play (ticking tick) first so_far))) gives.items in
+      let prompt : AnswersPromptly tick first s stopped.replies.done (Some l) =
       record {
         answered = so_far;
         line = gives.own;
@@ -292,42 +302,51 @@ module _ (first : Setting) where
         whole_is = whole-so_far s p false setting refused before.sink mid goes refl;
         one = gives.line_is.one;
         near = near;
-        all = (stopped.front.0, stopped.front.1 ∙ ap (λ (ts : List Turn). ts ++ take stopped.front.0 now) done_is ∙ ap (λ (ts : List Turn). play nothing_given first (goes.played ++ goes.last) ++ take stopped.front.0 ts) now_is);
+        all = (stopped.front.0, stopped.front.1 ∙ ap (λ (ts : List Turn). ts ++ take stopped.front.0 now) done_is ∙ ap (λ (ts : List Turn). play (ticking tick) first (goes.played ++ goes.last) ++ take stopped.front.0 ts) now_is);
       } in
       -- either none of its replies was written whole, or the one that there is
-      let answered : (count : ℕ) → (count ≡ length (turns_of first goes.played goes.last)) ⊎ (count ≡ length (turns_of first goes.played goes.last ++ now)) → IsTreeOfAnswered (stored first.state) (play nothing_given first s) count (stored (left_by setting now).state) = λ told.
+      let answered : (t : State) → t ≡ apply_all (stored setting.state) (command_events (turns (ticking tick) setting (items_of_taken line))) → (count : ℕ) →
+      (count ≡ length (turns_of tick first goes.played goes.last)) ⊎ (count ≡ length (turns_of tick first goes.played goes.last ++ now)) → IsTreeOfAnswered (stored first.state) (play (ticking tick) first s) count t = λ t is count.
       elim [
         | inl place ↦
-            subst (λ (n : ℕ). IsTreeOfAnswered (stored first.state) (play nothing_given first s) n (stored (left_by setting now).state)) (sym place)
-            (some-answered (stored first.state) (stored setting.state) (stored (left_by setting now).state) setting (play nothing_given first s) done items rest all_is (few-items line setting) state_is
-            (tree-all (stored setting.state) (stored (left_by setting now).state) (all_events now) (events-lead nothing_given setting items)))
+            subst (λ (n : ℕ). IsTreeOfAnswered (stored first.state) (play (ticking tick) first s) n t) (sym place)
+            (answered-first (stored first.state) (stored setting.state) t (play (ticking tick) first s) done now rest all_is state_is
+            (none-answered (stored setting.state) t now (few-items tick line setting) (tree-all (stored setting.state) t (command_events now) is)))
         | inr place ↦
-            subst (λ (n : ℕ). IsTreeOfAnswered (stored first.state) (play nothing_given first s) n (stored (left_by setting now).state)) (sym place)
-            (all-answered (stored first.state) (stored (left_by setting now).state) setting (play nothing_given first s) (done ++ now) rest (all_is ∙ sym (append_assoc done now rest))
-            (events-lead nothing_given setting items ∙ ap (λ (t : State). apply_all t (all_events now)) state_is ∙ sym (apply_all-append (all_events done) (all_events now) (stored first.state)) ∙ ap (apply_all (stored first.state)) (sym (all_events-append done now))))
+            subst (λ (n : ℕ). IsTreeOfAnswered (stored first.state) (play (ticking tick) first s) n t) (sym place)
+            (answered-last (stored first.state) (stored setting.state) t (play (ticking tick) first s) done now rest all_is (few-items tick line setting) state_is
+            (may-be-answered (stored setting.state) t now (few-items tick line setting) is))
       ] in
       record {
         plays = record {
           replies = stopped.replies;
           whole = λ no_write. absurd (no_write refl);
-          prompt = subst (λ (o : Option (List ℕ)). AnswersPromptly first s stopped.replies.done o) left_is prompt;
+          prompt = subst (λ (o : Option (List ℕ)). AnswersPromptly tick first s stopped.replies.done o) left_is prompt;
           answers = tt;
         };
-        reopens = λ stands c left. record { kept = stored_setting (left_by setting now); is = was_stored stands c left; state = answered stopped.replies.done stopped.place };
+        reopens = λ stands c left.
+            let holds = was_stored stands c left in
+            record { kept = holds.kept; is = holds.is; state = answered holds.kept.state holds.state stopped.replies.done stopped.place };
         kept = λ _ finished. absurd finished;
       }
 
+  -- the turns once one line more was answered
+  more-turns : (s p q : List ℕ) (line : TakenLine) (new_ended : Bool) (setting : Setting) (refused : Bool) (before mid : SinkSeen) (goes : Goes tick first s p false setting refused before mid) (gives : GivesTaken line new_ended p q) →
+      turns_of tick first (goes.played ++ goes.last) gives.own ≡ turns_of tick first goes.played goes.last ++ turns (ticking tick) setting (items_of_taken line)
+  more-turns s p q line new_ended setting refused before mid goes gives =
+      let done = turns_of tick first goes.played goes.last in
+      ap (λ (ts : List Turn). ts ++ turns (ticking tick) (left_by first ts) (first_items gives.own)) (sym (done-is s p false setting refused before mid goes))
+      ∙ ap (λ (ts : List Turn). done ++ ts) (ap (λ (w : Setting). turns (ticking tick) w (first_items gives.own)) (sym goes.left_is) ∙ ap (turns (ticking tick) setting) (sym gives.items))
+
   -- a run goes on by a line that was answered
-  pub goes-next : (s p q : List ℕ) (line : TakenLine) (new_ended : Bool) (setting : Setting) (refused : Bool) (before mid after : SinkSeen) → Goes first s p false setting refused before mid → GivesTaken line new_ended p q →
-      Appends mid.written after.written (turns_text (turns nothing_given setting (items_of_taken line))) →
-      Goes first s q new_ended (left_by setting (turns nothing_given setting (items_of_taken line))) (refused || has_refusal (turns nothing_given setting (items_of_taken line))) before after
-  goes-next s p q line new_ended setting refused before mid after goes gives written =
-      let now = turns nothing_given setting (items_of_taken line) in
-      let done = turns_of first goes.played goes.last in
+  abbrev goes-on : (s p q : List ℕ) (line : TakenLine) (new_ended : Bool) (setting : Setting) (refused : Bool) (before mid after : SinkSeen) → Goes tick first s p false setting refused before mid → GivesTaken line new_ended p q →
+      Appends mid.written after.written (turns_text (turns (ticking tick) setting (items_of_taken line))) →
+      Goes tick first s q new_ended (left_by setting (turns (ticking tick) setting (items_of_taken line))) (refused || has_refusal (turns (ticking tick) setting (items_of_taken line))) before after
+  goes-on s p q line new_ended setting refused before mid after goes gives written =
+      let now = turns (ticking tick) setting (items_of_taken line) in
+      let done = turns_of tick first goes.played goes.last in
       let so_far = goes.played ++ goes.last in
-      let more : turns_of first (goes.played ++ goes.last) gives.own ≡ turns_of first goes.played goes.last ++ now =
-      ap (λ (ts : List Turn). ts ++ turns nothing_given (left_by first ts) (first_items gives.own)) (sym (done-is s p false setting refused before mid goes))
-      ∙ ap (λ (ts : List Turn). done ++ ts) (ap (λ (w : Setting). turns nothing_given w (first_items gives.own)) (sym goes.left_is) ∙ ap (turns nothing_given setting) (sym gives.items)) in
+      let more = more-turns s p q line new_ended setting refused before mid goes gives in
       record {
         played = so_far;
         last = gives.own;
@@ -341,15 +360,44 @@ module _ (first : Setting) where
         refused_is = ap (λ (b : Bool). b || has_refusal now) goes.refused_is ∙ sym (ap has_refusal more ∙ refusal-append done now);
       }
 
+  pub goes-next : (s p q : List ℕ) (line : TakenLine) (new_ended : Bool) (setting : Setting) (refused : Bool) (before mid after : SinkSeen) → Goes tick first s p false setting refused before mid → GivesTaken line new_ended p q →
+      Appends mid.written after.written (turns_text (turns (ticking tick) setting (items_of_taken line))) →
+      Goes tick first s q new_ended (left_by setting (turns (ticking tick) setting (items_of_taken line))) (refused || has_refusal (turns (ticking tick) setting (items_of_taken line))) before after
+  goes-next s p q line new_ended setting refused before mid after goes gives written = goes-on s p q line new_ended setting refused before mid after goes gives written
+
+  -- a run that stops behind the reply to a line, at the steps that follow it
+  pub played-behind : (stood : Type 0) (image : List ℕ → Type 0) (status : Status) (s p l behind : List ℕ) (line : TakenLine) (new_ended : Bool) (setting : Setting) (refused : Bool) (mid : SinkSeen) (before after : Outside) →
+      Goes tick first s p false setting refused before.sink mid → Some l ≡ after.source.left → (before.sink.held_back ≡ 0 → after.sink.held_back ≡ 0) → GivesTaken line new_ended p (behind ++ l) → length behind < piece_size →
+      Appends mid.written after.sink.written (turns_text (turns (ticking tick) setting (items_of_taken line))) → ((done : ℕ) → AnswersBy tick status first s done (Some l)) → (IsFinished status → ⊥) →
+      (stood → (c : List ℕ) → image c → Holds (IsTreeOfAnswered (stored setting.state) (turns (ticking tick) setting (items_of_taken line)) (length (turns (ticking tick) setting (items_of_taken line)))) c) →
+      Played false tick status first s before after stood image
+  played-behind stood image status s p l behind line new_ended setting refused mid before after goes left_is passed gives near written answers unfinished some =
+      let now = turns (ticking tick) setting (items_of_taken line) in
+      let done = turns_of tick first goes.played goes.last in
+      let rest = play (ticking tick) (left_by setting now) (behind ++ l) in
+      let all_is : play (ticking tick) first s ≡ turns_of tick first goes.played goes.last ++ (now ++ rest) =
+      turns-are s p false setting refused before.sink mid goes ∙ ap (λ (ts : List Turn). turns_of tick first goes.played goes.last ++ ts) (turns-next tick line new_ended p (behind ++ l) setting gives) in
+      let state_is = state-is s p false setting refused before.sink mid goes in
+      let more = more-turns s p (behind ++ l) line new_ended setting refused before.sink mid goes gives in
+      let count = length (turns_of tick first (goes.played ++ goes.last) gives.own) in
+      played-stop stood image status Memory s (behind ++ l) l new_ended (left_by setting now) (refused || has_refusal now) before after
+      (goes-on s p (behind ++ l) line new_ended setting refused before.sink mid after.sink goes gives written) left_is passed (behind-stops behind l near) (answers count)
+      (λ stands c left.
+      holds-weaker (IsTreeOfAnswered (stored setting.state) now (length now)) (IsTreeOfAnswered (stored first.state) (play (ticking tick) first s) count) c
+      (λ t tree.
+      subst (λ (ts : List Turn). IsTreeOfAnswered (stored first.state) (play (ticking tick) first s) (length ts) t) (sym more)
+      (answered-last (stored first.state) (stored setting.state) t (play (ticking tick) first s) done now rest all_is (few-items tick line setting) state_is tree)) (some stands c left))
+      (λ _ finished. absurd (unfinished finished))
+
   -- while a line is pending, the source goes on
-  pub open-goes : (s p : List ℕ) (ended : Bool) (setting : Setting) (refused : Bool) (before now : SinkSeen) → Goes first s p ended setting refused before now → (line : TakenLine) (new_ended : Bool) (q : List ℕ) → GivesTaken line new_ended p q → Goes first s p false setting refused before now
+  pub open-goes : (s p : List ℕ) (ended : Bool) (setting : Setting) (refused : Bool) (before now : SinkSeen) → Goes tick first s p ended setting refused before now → (line : TakenLine) (new_ended : Bool) (q : List ℕ) → GivesTaken line new_ended p q → Goes tick first s p false setting refused before now
   open-goes s p true setting refused before now goes line new_ended q gives = absurd (omega (arith, gives.some, ap length gives.bytes_are, length-append gives.own q, ap length (goes.line_is.last refl)))
   open-goes s p false setting refused before now goes line new_ended q gives = goes
 
   -- no line was answered yet
-  pub goes-first : (s : List ℕ) (refused : Bool) (sink : SinkSeen) → refused ≡ false → Goes first s s false first refused sink sink
+  pub goes-first : (s : List ℕ) (refused : Bool) (sink : SinkSeen) → refused ≡ false → Goes tick first s s false first refused sink sink
   goes-first s refused sink unrefused =
-      let none : turns_of first [] [] ≡ [] = append-nil (play nothing_given first []) ∙ play-nothing first in
+      let none : turns_of tick first [] [] ≡ [] = append-nil (play (ticking tick) first []) ∙ play-nothing tick first in
       record {
         played = [];
         last = [];

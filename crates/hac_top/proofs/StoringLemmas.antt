@@ -1,11 +1,11 @@
 -- What becomes of the store and its disk as turns are stored, one call after another.
 use Rattle.std.proofs.Common.{◌≡◌, ℕ, true, false, Bool, List, [], ◌∷◌, ◌++◌, length, refl, ap, sym, subst, ◌∙◌, append-nil, arith, inl, inr, zero, suc, ◌+◌, ◌*◌, ◌<◌, ◌≤◌}
-use Rattle.std.specs.Prelude.{if◌then◌else◌, filter, Option, None, Some, Result, Ok, Err, IfErr, OnOk, ◌==◌, replicate}
+use Rattle.std.specs.Prelude.{if◌then◌else◌, filter, Option, None, Some, Result, Ok, Err, ◌==◌, replicate}
 use Rattle.std.proofs.Math.Seq.{take-length}
 use Rattle.hac_disk.specs.Images.{LeavesOnly}
 use Rattle.hac_disk.proofs.Moments.{started, weaken, then_run}
 use Rattle.hac_model.specs.Tree.Events.{apply_all, apply}
-use Rattle.hac_model.specs.Run.Play.{Setting, Turn, after_events, all_events, end_behind, have_room, left_by, nothing_given, refused_turn, stored_setting, turns_text}
+use Rattle.hac_model.specs.Run.Play.{Setting, Turn, after_events, all_events, end_behind, have_room, nothing_given, refused_turn, stored_setting}
 use Rattle.hac_model.specs.Tree.Sessions.{is_stored, stored}
 use Rattle.hac_model.specs.declared.events.Event.{Event}
 use Rattle.hac_model.specs.declared.limits.LimitWord.TheVariants.{Store}
@@ -13,20 +13,17 @@ use Rattle.hac_model.specs.declared.replies.Refusal.TheVariants.{Limit}
 use Rattle.hac_model.specs.declared.replies.Reply.{Reply}
 use Rattle.hac_model.specs.declared.replies.Reply.TheVariants.{Lines, Refused}
 use Rattle.hac_outside.specs.Causes.{ReportsFault}
-use Rattle.hac_outside.specs.Seen.{SinkSeen, WritesSome}
-use Rattle.hac_model.specs.declared.replies.Refusal.{Refusal}
-use Rattle.hac_top.specs.Replies.{StopsWriting, WritesAll}
-use Rattle.hac_top.specs.declared.status.Status.{Status}
 use Rattle.hac_store.specs.Held.{held}
 use Rattle.hac_store.specs.Storing.{StoresEvents}
-use Rattle.hac_store.specs.Stores.{Bears, HeldBetween, IsHeldAs, Seen, Stands, fit_behind, store_after, unstored_after}
+use Rattle.hac_store.specs.Stores.{Bears, HeldBetween, Seen, Stands, fit_behind, store_after, unstored_after}
 use Rattle.hac_store.specs.declared.fault.StoreFault.{StoreFault}
 use Rattle.hac_store.specs.declared.fault.StoreFault.TheVariants as fault
 use Rattle.hac_store.proofs.PutLemmas.{stands-each}
 use Rattle.hac_top.specs.Crashes.{Holds, IsTreeAfter}
 use Rattle.hac_top.specs.Deciding.{standing_turn, storing_turn, turn_with}
-use Rattle.hac_top.specs.Storing.{AnswersLine, StopsAnswer, Stores, StoresTurn, storing_reply}
-use Rattle.hac_top.specs.declared.status.Status.TheVariants.{WriteFault, Memory}
+use Rattle.hac_top.specs.Ends.{store_status}
+use Rattle.hac_top.specs.Storing.{Stores, StoresSteps, StoresTurn, storing_reply}
+use Rattle.hac_top.specs.declared.status.Status.TheVariants.{Memory}
 use Rattle.std.proofs.lemmas.Bool.Decides.{nat_tests}
 use Rattle.std.proofs.lemmas.List.{length-replicate, replicate-append-replicate, take-replicate}
 use Rattle.hac_model.specs.Laws.{AllHappen}
@@ -103,29 +100,6 @@ module _ {D : Type 0} {seen : D → Option (List ℕ)} {image : D → List ℕ �
   full-turn disk store events place full =
       subst (λ (turn : Turn). StoresTurn seen image moment image_since attached faults disk disk store store turn (Ok (Refused (Limit Store)))) (sym (storing-turn store.setting events false full))
       (answers-only disk store (Refused (Limit Store)) place)
-
-  -- a reply that is told once its turn is stored
-  pub stops-written : (old new : D) (setting : Setting) (sink sink_after : SinkSeen) (answered : List Turn) (bytes : List ℕ) (result : Result (Unit {0}) Status) → bytes ≡ turns_text answered → Stores seen image moment image_since attached faults old new setting (all_events answered) false →
-      (Stands (seen old) (image old) setting → (c : List ℕ) → image new c → IsHeldAs c (stored_setting (left_by setting answered))) → IfErr result (λ status. StopsWriting status sink sink_after bytes) →
-      IfErr result (StopsAnswer seen image moment image_since attached faults old new setting sink sink_after answered)
-  stops-written old new setting sink sink_after answered bytes (Ok done) same stores stored reported = tt
-  stops-written old new setting sink sink_after answered bytes (Err WriteFault) same stores stored told =
-      record { replies = subst (λ (xs : List ℕ). WritesSome sink sink_after xs × ReportsFault true sink.faults sink_after.faults) same told; stored = λ _. stored; stores = stores }
-  stops-written old new setting sink sink_after answered bytes (Err Memory) same stores stored reported = record { replies = reported; stored = λ write. cc; stores = stores }
-  stops-written old new setting sink sink_after answered bytes (Err other) same stores stored reported = absurd reported
-
-  -- a line that is refused stores nothing
-  pub refused-written : (disk : D) (store now : Seen) (sink sink_after : SinkSeen) (refusal : Refusal) (result : Result (Unit {0}) Status) → now ≡ store → Bears (seen disk) store → Stores seen image moment image_since attached faults disk disk store.setting [] false →
-      OnOk result (WritesAll sink sink_after (turns_text (refused_turn nothing_given store.setting refusal ∷ []))) → OnOk result (AnswersLine seen image moment image_since attached faults disk disk store now sink sink_after (refused_turn nothing_given store.setting refusal ∷ []))
-  refused-written disk store now sink sink_after refusal (Ok done) same place stores told =
-      record {
-        replies = told;
-        store = same;
-        place = subst (λ (z : Seen). Bears (seen disk) z) (sym same) place;
-        stands = λ stands. subst (λ (z : Seen). Stands (seen disk) (image disk) z.setting) (sym same) stands;
-        stores = stores;
-      }
-  refused-written disk store now sink sink_after refusal (Err status) same place stores reported = tt
 
   -- one call, before and after which the store is held
   once : (old new : D) (before : Seen) (events : List Event) (failed : Bool) → have_room before.setting events ≡ true → (Stands (seen old) (image old) before.setting → LeavesOnly moment image_since old new (HeldBetween before.setting events)) → attached new ≡ attached old →
@@ -316,3 +290,38 @@ module _ {D : Type 0} {seen : D → Option (List ℕ)} {image : D → List ℕ �
           absurd cc
       part-stopped some (fault.NotStore at) went = absurd went.ends
       part-stopped some fault.AlreadyStore went = absurd went.ends
+
+-- Index steps that follow a command by themselves.
+
+module _ {D : Type 0} {seen : D → Option (List ℕ)} {image : D → List ℕ → Type 0} {moment : D → ℕ} {image_since : D → ℕ → List ℕ → Type 0} {attached : D → Option (List (List ℕ × Bool))} {faults : D → ℕ} where
+  stores-due : (old new : D) (setting : Setting) (count : ℕ) (due : List Event) (failed : Bool) → have_room setting (steps count) ≡ true → due ≡ steps count →
+      Stores seen image moment image_since attached faults old new setting (all_events (storing_turn setting (steps count) ∷ [])) failed → Stores seen image moment image_since attached faults old new setting due failed
+  stores-due old new setting count due failed room is stores =
+      subst (λ (es : List Event). Stores seen image moment image_since attached faults old new setting es failed) (turn-events setting (steps count) room ∙ sym is) stores
+
+  -- all that are due were stored
+  pub due-stored : {old new : D} {before after : Seen} (count : ℕ) (due : List Event) → have_room before.setting (steps count) ≡ true → due ≡ steps count →
+      StoresTurn seen image moment image_since attached faults old new before after (storing_turn before.setting (steps count)) (storing_reply (Ok tt)) → StoresSteps seen image moment image_since attached faults old new before after due (Ok tt)
+  due-stored {old} {new} {before} {after} count due room is went =
+      let turn = storing-turn before.setting (steps count) true room in
+      record {
+        ok = record {
+          store = went.ok.store ∙ ap (λ (t : Turn). record before { setting = t.after }) turn ∙ ap (store_after before) (sym is);
+          place = went.ok.place;
+          stands = went.ok.stands;
+        };
+        err = tt;
+        stores = stores-due old new before.setting count due false room is went.stores;
+      }
+
+  -- or the disk failed or memory ran out, as there is room for all
+  pub due-stopped : {old new : D} {before after : Seen} (count : ℕ) (due : List Event) → have_room before.setting (steps count) ≡ true → due ≡ steps count → (reason : StoreFault) →
+      StoresTurn seen image moment image_since attached faults old new before after (storing_turn before.setting (steps count)) (storing_reply (Err reason)) →
+      StoresSteps seen image moment image_since attached faults old new before after due (Err (store_status reason))
+  due-stopped {old} {new} {before} {after} count due room is fault.Full went =
+      let never : Refused (Limit Store) ≡ Lines [] = went.ok.reply_is ∙ ap (λ (t : Turn). t.reply) (storing-turn before.setting (steps count) true room) in
+      absurd cc
+  due-stopped {old} {new} {before} {after} count due room is fault.Disk went = record { ok = tt; err = tt; stores = stores-due old new before.setting count due true room is went.stores }
+  due-stopped {old} {new} {before} {after} count due room is fault.Memory went = record { ok = tt; err = tt; stores = stores-due old new before.setting count due false room is went.stores }
+  due-stopped {old} {new} {before} {after} count due room is (fault.NotStore at) went = absurd went.err
+  due-stopped {old} {new} {before} {after} count due room is fault.AlreadyStore went = absurd went.err

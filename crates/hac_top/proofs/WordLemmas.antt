@@ -1,237 +1,252 @@
--- The words of the program: what the library reads in them is what they ask for.
-use Rattle.std.proofs.Common.{◌≡◌, ◌∙◌, ◌||◌, ◌&&◌, ℕ, suc, ◌+◌, Bool, cond, true, false, true≢false, List, [], ◌∷◌, ◌++◌, take, drop, length, Option, Some, None, refl, sym, ap, ap₂, subst, append_assoc, append-nil, arith, eqb-true, codes, rules, le-leb, lt-ltb, map, inl, inr, String, string_bytes}
-use Rattle.std.specs.Prelude.{⊤, IsSome, nat_lt, option_map, unwrap_or, ◌==◌, is_some, filter, fold, nat_le, slice_get}
-use Rattle.std.specs.Borrow.{Bor}
-use Rattle.std.specs.List.{after_first, before_first, list_any, position_or_len, AllByRecursion}
-use Rattle.std.specs.Str.{IsUtf8, bytes_eq, chars, encode_utf8_all}
-use Rattle.std.proofs.lemmas.Slice.Eq.{bytes_eq-Decides}
-use Rattle.std.proofs.lemmas.Str.{IsUtf8-past_char, IsUtf8-string_bytes, encode_ascii, encodes-chars}
-use Rattle.hac_model.specs.Script.CommandLine.{Options, are_known, asked_by, ends_options, is_option, is_new, is_no_option, options}
-use Rattle.clap.specs.Lexer.{has_byte}
+-- The words of the program: what the library finds in them is what they give.
+use Rattle.std.proofs.Common.{◌≡◌, ◌∙◌, ◌||◌, ◌&&◌, ℕ, suc, ◌+◌, Bool, cond, true, false, true≢false, List, [], ◌∷◌, ◌++◌, length, Option, Some, None, refl, sym, ap, ap₂, subst, append_assoc, append-nil, arith, codes, le-leb, lt-ltb, inl, inr}
+use Rattle.std.specs.Prelude.{◌⊎◌, ⊤, if◌then◌else◌, nat_lt, nat_le, option_and_then, option_map, option_to_list, is_some, find, fold, slice_get}
+use Rattle.std.specs.List.{list_any, AllByRecursion}
+use Rattle.std.specs.Option.{option_map_or, option_or}
+use Rattle.std.specs.Str.{IsUtf8, bytes_eq}
+use Rattle.std.proofs.lemmas.List.Folds.{find-append}
+use Rattle.std.proofs.Math.Bool.{or-false}
+use Rattle.hac_model.specs.Script.CommandLine.{Parsed, asked_by, fresh_of, given_behind_tick, given_by, names_alone, store_of, tick_of, with_name, with_new, with_tick}
 use Rattle.clap.specs.Values.{bool_text}
 use Rattle.clap.specs.Kinds.{Kinds, or_else}
-use Rattle.clap.specs.Faults.{bundle_step_fault, check_fault, defaults_fault, entered_fault, fault_of, flags_fault, level_fault, repeat_fault, settle_fault, step_fault, turn_fault, walk_fault, word_fault}
-use Rattle.clap.specs.Simple.{App, Shape, built, entered}
-use Rattle.clap.specs.Walk.{Held, Row, Rule, Step, Text, Walk, after_step, finished, first_of, idle, nothing_held, one_of, settled, value, walk, walked, word_met}
-use Rattle.clap.specs.Words.{HasKind, HasMatchesOf, found_of, first_value, is_simple_and_free, kind_of, matches_of, one_text, rows_of}
-use Rattle.clap.specs.declared.error.Error.{Error}
-use Rattle.clap.specs.declared.parser.matches.ArgMatches.{ArgMatches}
-use Rattle.clap.proofs.WalkLemmas.{first_value-rows, one_text-rows}
+use Rattle.clap.specs.Faults.{check_fault, defaults_fault, entered_fault, fault_of, level_fault, settle_fault, step_fault, turn_fault, walk_fault, word_fault}
+use Rattle.clap.specs.Walk.{Held, Row, Rule, Step, Text, Walk, after_step, at_row, finished, first_of, has_row, idle, nothing_held, walk, more_values, is_pending, one_of, row_text, option, pushed, settled, settled_rows, value, walked, with_default, with_values, word_met}
 use Rattle.clap.specs.declared.builder.value_parser.Reading.TheVariants.{AsWritten}
-use Rattle.clap.specs.declared.error.kind.ErrorKind.TheVariants.{ArgumentConflict, InvalidValue}
-use Rattle.clap.specs.declared.parser.matches.ValueSource.TheVariants.{CommandLine}
-use Rattle.hac_top.specs.Words.{fault_by, hac}
-use Rattle.hac_top.specs.declared.words.WordsFault.{WordsFault}
-use Rattle.hac_top.specs.declared.words.WordsFault.TheVariants.{Memory, Usage}
+use Rattle.clap.specs.declared.parser.matches.ValueSource.TheVariants.{CommandLine, DefaultValue}
+use Rattle.clap.specs.Words.{matches_of}
+use Rattle.clap.specs.Simple.{built, entered, filled}
+use Rattle.hac_top.specs.Words.{hac, store_name}
+use Rattle.hac_top.proofs.WordLooks.{IsFaulty, IsPlain, Look, Looks, arguments, ends, faulty, faulty-behind, fresh, has_fault, held_with, looks, plain, tick, tick_with, top, two-or-more}
 
--- the command as the library completes it, and its arguments
-abbrev top : Shape
-top = (built hac).top
+-- ---- rows
 
-abbrev arguments : List Rule
-arguments = top.rules
+abbrev pub row_by : Text → List Row → Option Row
+row_by id rows = find (λ r. bytes_eq r.id id) rows
 
--- some fault is told
-abbrev has_fault : Kinds → Bool
-has_fault [] = false
-has_fault (kind ∷ kinds) = true
+abbrev one_row : Text → Text → Row
+one_row id text = record { id = id; values = text ∷ []; count = None; source = Some CommandLine; reading = AsWritten }
 
--- ---- what a word is, before `--`
-
--- a name
-abbrev IsName : Text → Type 0
-IsName word = (ends_options word ≡ false) × (is_option word ≡ false)
-    × ((place : ℕ) (held : Held) → word_met arguments [] false idle place word held ≡ (held, value))
-    × ((held : Held) → word_fault top [] false idle word held ≡ [])
-
--- an option that the program doesn't have, or `--new` with a value
-abbrev IsUnknown : Text → Type 0
-IsUnknown word = (ends_options word ≡ false) × (is_option word ≡ true) × (bytes_eq word (codes "--new") ≡ false)
-    × ((rows : List Row) (pending : Option (Text × List Text)) → has_fault (word_fault top [] false idle word (record { rows = rows; pending = pending; skip = 0 })) ≡ true)
-
--- how a word looks
-data Look : Type 0 where
-  name : Look
-  ends : Look
-  fresh : Look
-  unknown : Look
-
-abbrev Looks : Look → Text → Type 0
-Looks name word = IsName word
-Looks ends word = word ≡ codes "--"
-Looks fresh word = word ≡ codes "--new"
-Looks unknown word = IsUnknown word
-
--- ---- lists
-
-first-behind : {T : Type 0} (p : T → Bool) → (x : T) (xs : List T) → p x ≡ false → position_or_len p (x ∷ xs) ≡ suc (position_or_len p xs)
-first-behind p x xs fails = rw fails (omega arith)
-
-before-on : {T : Type 0} (p : T → Bool) → (x : T) (xs : List T) → p x ≡ false → before_first p (x ∷ xs) ≡ x ∷ before_first p xs
-before-on p x xs fails = ap (λ (n : ℕ). take n (x ∷ xs)) (first-behind p x xs fails)
-
-after-on : {T : Type 0} (p : T → Bool) → (x : T) (xs : List T) → p x ≡ false → after_first p (x ∷ xs) ≡ after_first p xs
-after-on p x xs fails =
-    let behind : position_or_len p (x ∷ xs) + 1 ≡ suc (position_or_len p xs + 1) = omega (arith, first-behind p x xs fails) in
-    ap (λ (n : ℕ). drop n (x ∷ xs)) behind
-
-neither : (a b : Bool) → (a || b) ≡ false → (a ≡ false) × (b ≡ false)
-neither false b h = (refl, h)
-neither true b h = absurd (true≢false h)
-
--- where no element passes, all stand before the first one that does
-all-before : {T : Type 0} (p : T → Bool) (xs : List T) → list_any p xs ≡ false → before_first p xs ≡ xs
-all-before p [] h = refl
-all-before p (x ∷ xs) h =
-    let none = neither (p x) (list_any p xs) h in
-    before-on p x xs none.0 ∙ ap (λ rest. x ∷ rest) (all-before p xs none.1)
-
--- ---- what a word is
-
-same-bytes : (xs ys : Text) → bytes_eq xs ys ≡ true → xs ≡ ys
-same-bytes xs ys h = search (rules, bytes_eq-Decides)
-
-has-first : (x : ℕ) (xs : Text) → IsUtf8 (x ∷ xs) → (c : ℕ) × (cs : Text) × (chars (x ∷ xs) ≡ c ∷ cs)
-has-first x xs text = by (chars (x ∷ xs)) refl
+any-find : {T : Type 0} (p : T → Bool) (xs : List T) → list_any p xs ≡ is_some (find p xs)
+any-find p [] = refl
+any-find p (x ∷ xs) = by (p x) (any-find p xs)
   where
-    by : (cs : Text) → chars (x ∷ xs) ≡ cs → (c : ℕ) × (cs : Text) × (chars (x ∷ xs) ≡ c ∷ cs)
-    by (c ∷ cs) is = (c, cs, is)
-    by [] is =
-        let bad : [] ≡ x ∷ xs = ap encode_utf8_all (sym is) ∙ encodes-chars (x ∷ xs) text in
-        let short : 0 ≡ suc (length xs) = ap length bad in
-        absurd (omega arith)
+    by : (b : Bool) → list_any p xs ≡ is_some (find p xs) → (b || list_any p xs) ≡ is_some (cond b (Some x) (find p xs))
+    by true later = refl
+    by false later = later
 
--- from two bytes on, the first one says whether a word is an option
-two-or-more : (x y : ℕ) (ys : Text) → is_option (x ∷ y ∷ ys) ≡ ((x == 45) && true)
-two-or-more x y ys = ap (λ b. b && ((x == 45) && true)) (le-leb 2 (length (x ∷ y ∷ ys)) (omega arith))
+has-row : (id : Text) (rows : List Row) (row : Option Row) → row_by id rows ≡ row → has_row id rows ≡ is_some row
+has-row id rows row is = any-find (λ r. bytes_eq r.id id) rows ∙ ap is_some is
 
--- one hyphen, and something that is no hyphen
-short-is : (x : ℕ) (xs : Text) → (x == 45) ≡ false → IsUtf8 (x ∷ xs) → IsUnknown (45 ∷ x ∷ xs)
-unfolding flags_fault
-short-is x xs other text =
-    let first = has-first x xs text in
-    let named : (rows : List Row) (pending : Option (Text × List Text))
-    → has_fault (flags_fault arguments false (length (x ∷ xs)) (x ∷ xs) 0 (record { rows = rows; pending = pending; skip = 0 })) ≡ true =
-    λ rows pending. ap (λ cs. has_fault (bundle_step_fault arguments false (slice_get cs 0) (x ∷ xs) 0 (record { rows = rows; pending = pending; skip = 0 })
-    (flags_fault arguments false (length xs)))) first.2 in
-    (rw other refl, two-or-more 45 x xs, rw other refl, λ rows pending. rw other (rw other (named rows pending)))
-
-not-true : (b : Bool) → (b ≡ true → ⊥) → b ≡ false
-not-true true h = absurd (h refl)
-not-true false h = refl
-
--- two hyphens, and what follows them
-long-is : (x : ℕ) (xs : Text) → (look : Look) × Looks look (45 ∷ 45 ∷ x ∷ xs)
-long-is x xs = by (bytes_eq (codes "new") (before_first (λ y. y == 61) (x ∷ xs))) refl (has_byte 61 (x ∷ xs)) refl
+-- what is changed isn't there
+absent : (id : Text) (change : Row → List Row) (missing rows : List Row) → row_by id rows ≡ None → at_row id change missing rows ≡ rows ++ missing
+absent id change missing [] none = refl
+absent id change missing (row ∷ rows) none = by (bytes_eq row.id id) none (absent id change missing rows)
   where
-    by : (named : Bool) → bytes_eq (codes "new") (before_first (λ y. y == 61) (x ∷ xs)) ≡ named → (valued : Bool) → has_byte 61 (x ∷ xs) ≡ valued
-        → (look : Look) × Looks look (45 ∷ 45 ∷ x ∷ xs)
-    by false is valued has =
-        let differs : bytes_eq (45 ∷ 45 ∷ x ∷ xs) (codes "--new") ≡ false = not-true _ (λ same.
-        true≢false (sym (ap (λ t. bytes_eq (codes "new") (before_first (λ y. y == 61) t)) (same-bytes (x ∷ xs) (codes "new") same)) ∙ is)) in
-        (unknown, (refl, two-or-more 45 45 (x ∷ xs), differs, λ rows pending. rw is refl))
-    by true is true has =
-        let differs : bytes_eq (45 ∷ 45 ∷ x ∷ xs) (codes "--new") ≡ false = not-true _ (λ same.
-        true≢false (sym has ∙ ap (has_byte 61) (same-bytes (x ∷ xs) (codes "new") same))) in
-        (unknown, (refl, two-or-more 45 45 (x ∷ xs), differs, λ rows pending. rw (is, has) refl))
-    by true is false has =
-        (fresh, ap (λ t. 45 ∷ 45 ∷ t) (sym (all-before (λ y. y == 61) (x ∷ xs) has) ∙ sym (same-bytes _ _ is)))
+    by : (b : Bool) → cond b (Some row) (row_by id rows) ≡ None → (row_by id rows ≡ None → at_row id change missing rows ≡ rows ++ missing)
+        → cond b (change row ++ rows) (row ∷ at_row id change missing rows) ≡ row ∷ (rows ++ missing)
+    by true some later = absurd (true≢false (ap is_some some))
+    by false none later = ap (λ more. row ∷ more) (later none)
 
-hyphens-are : (xs : Text) → (look : Look) × Looks look (45 ∷ 45 ∷ xs)
-hyphens-are [] = (ends, refl)
-hyphens-are (x ∷ xs) = long-is x xs
+-- a first use of an argument gives one more row
+used-first : (id text : Text) (rows : List Row) → row_by id rows ≡ None → with_values id AsWritten CommandLine (text ∷ []) (at_row id (λ row. []) [] rows) ≡ rows ++ one_row id text ∷ []
+used-first id text rows none =
+    let same : at_row id (λ row. []) [] rows ≡ rows = absent id (λ row. []) [] rows none ∙ append-nil rows in
+    ap (with_values id AsWritten CommandLine (text ∷ [])) same ∙ absent id (more_values CommandLine (text ∷ [])) (one_row id text ∷ []) rows none
 
-hyphen-is : (xs : Text) → IsUtf8 (45 ∷ xs) → (look : Look) × Looks look (45 ∷ xs)
-hyphen-is [] text = (name, (refl, refl, λ place held. refl, λ held. refl))
-hyphen-is (x ∷ xs) text = by (x == 45) refl
+own-row : (id : Text) (row : Row) (rows : List Row) → row_by id rows ≡ None → bytes_eq row.id id ≡ true → row_by id (rows ++ row ∷ []) ≡ Some row
+own-row id row rows none same = find-append (λ r. bytes_eq r.id id) rows (row ∷ []) ∙ ap (λ o. option_or o (row_by id (row ∷ []))) none ∙ rw same refl
+
+or-none : {T : Type 0} (o : Option T) → option_or o None ≡ o
+or-none None = refl
+or-none (Some x) = refl
+
+other-row : (id : Text) (row : Row) (rows : List Row) → bytes_eq row.id id ≡ false → row_by id (rows ++ row ∷ []) ≡ row_by id rows
+other-row id row rows differs =
+    let last : row_by id (row ∷ []) ≡ None = rw differs refl in
+    find-append (λ r. bytes_eq r.id id) rows (row ∷ []) ∙ ap (option_or (row_by id rows)) last ∙ or-none (row_by id rows)
+
+-- ---- what was given
+
+abbrev pub so_far : ℕ → List Text → List Text → Parsed
+so_far news ticks names = record { news = news; ticks = ticks; names = names }
+
+-- what was given, and what follows gives
+abbrev joined : Parsed → Parsed → Parsed
+joined before more = so_far (before.news + more.news) (before.ticks ++ more.ticks) (before.names ++ more.names)
+
+same-given : (news more_news : ℕ) (ticks more_ticks names more_names : List Text) → news ≡ more_news → ticks ≡ more_ticks → names ≡ more_names → so_far news ticks names ≡ so_far more_news more_ticks more_names
+same-given news more_news ticks more_ticks names more_names a b c = λ i. record { news = a i; ticks = b i; names = c i }
+
+none-through : {T U : Type 0} (o : Option T) (f : T → Option U) → ((x : T) → f x ≡ None) → option_and_then f o ≡ None
+none-through None f none = refl
+none-through (Some x) f none = none x
+
+none-by-news : (given : Parsed) → fresh_of given.news ≡ None → asked_by given ≡ None
+none-by-news given none = rw none refl
+
+none-by-ticks : (given : Parsed) → tick_of given.ticks ≡ None → asked_by given ≡ None
+none-by-ticks given none = none-through (fresh_of given.news) _ (λ fresh. rw none refl)
+
+none-by-names : (given : Parsed) → store_of given.names ≡ None → asked_by given ≡ None
+none-by-names given none = none-through (fresh_of given.news) _ (λ fresh. none-through (tick_of given.ticks) _ (λ tick. rw none refl))
+
+-- whatever follows, nothing is asked for
+abbrev IsTooMuch : Parsed → Type 0
+IsTooMuch before = (more : Parsed) → asked_by (joined before more) ≡ None
+
+two-news : (ticks names : List Text) → IsTooMuch (so_far 2 ticks names)
+two-news ticks names more =
+    let many : 2 + more.news ≡ suc (suc more.news) = omega arith in
+    none-by-news (joined (so_far 2 ticks names) more) (ap fresh_of many)
+
+two-ticks : (news : ℕ) (a b : Text) (names : List Text) → IsTooMuch (so_far news (a ∷ b ∷ []) names)
+two-ticks news a b names more = none-by-ticks (joined (so_far news (a ∷ b ∷ []) names) more) refl
+
+two-names : (news : ℕ) (ticks : List Text) (a b : Text) (names : List Text) → IsTooMuch (so_far news ticks (a ∷ b ∷ names))
+two-names news ticks a b names more = none-by-names (joined (so_far news ticks (a ∷ b ∷ names)) more) refl
+
+empty-name : (news : ℕ) (ticks : List Text) → IsTooMuch (so_far news ticks ([] ∷ []))
+empty-name news ticks more = none-by-names (joined (so_far news ticks ([] ∷ [])) more) (by more.names)
   where
-    by : (hyphen : Bool) → (x == 45) ≡ hyphen → (look : Look) × Looks look (45 ∷ x ∷ xs)
-    by true is = subst (λ c. (look : Look) × Looks look (45 ∷ c ∷ xs)) (sym (eqb-true x 45 is)) (hyphens-are xs)
-    by false is = (unknown, short-is x xs is (IsUtf8-past_char (45 ∷ x ∷ xs) (x ∷ xs) 45 text (sym (ap (λ t. t ++ x ∷ xs) (encode_ascii 45 (omega arith))))))
+    by : (names : List Text) → store_of ([] ∷ names) ≡ None
+    by [] = refl
+    by (name ∷ names) = refl
 
--- each word looks somehow
-looks : (word : Text) → IsUtf8 word → (look : Look) × Looks look word
-looks [] text = (name, (refl, refl, λ place held. refl, λ held. refl))
-looks (x ∷ xs) text = by (x == 45) refl
+none-more : (before : Parsed) (more : Option Parsed) → IsTooMuch before → option_and_then asked_by (option_map (joined before) more) ≡ None
+none-more before None too_much = refl
+none-more before (Some more) too_much = too_much more
+
+-- one more thing is given
+moved : (before after : Parsed) (step : Parsed → Parsed) → ((more : Parsed) → joined before (step more) ≡ joined after more) → (more : Option Parsed)
+    → option_map (joined after) more ≡ option_map (joined before) (option_map step more)
+moved before after step same None = refl
+moved before after step same (Some more) = ap Some (sym (same more))
+
+new-moves : (news : ℕ) (ticks names : List Text) (more : Parsed) → joined (so_far news ticks names) (with_new more) ≡ joined (so_far (suc news) ticks names) more
+new-moves news ticks names more = same-given _ _ _ _ _ _ (omega arith) refl refl
+
+tick-moves : (news : ℕ) (ticks names : List Text) (word : Text) (more : Parsed) → joined (so_far news ticks names) (with_tick word more) ≡ joined (so_far news (ticks ++ word ∷ []) names) more
+tick-moves news ticks names word more = same-given _ _ _ _ _ _ refl (sym (append_assoc ticks (word ∷ []) more.ticks)) refl
+
+name-moves : (news : ℕ) (ticks names : List Text) (word : Text) (more : Parsed) → joined (so_far news ticks names) (with_name word more) ≡ joined (so_far news ticks (names ++ word ∷ [])) more
+name-moves news ticks names word more = same-given _ _ _ _ _ _ refl refl (sym (append_assoc names (word ∷ []) more.names))
+
+-- ---- the rows of what was given
+
+-- each option at most once, and at most one name, which isn't empty
+record Shows (rows : List Row) (given : Parsed) : Type 0 where
+  fresh : Bool
+  tick : Option Text
+  store : Option Text
+  news_are : given.news ≡ (if fresh then 1 else 0)
+  ticks_are : given.ticks ≡ option_to_list tick
+  names_are : given.names ≡ option_to_list store
+  new_row : row_by (codes "new") rows ≡ (if fresh then Some (one_row (codes "new") (codes "true")) else None)
+  tick_row : row_by (codes "tick") rows ≡ option_map (one_row (codes "tick")) tick
+  store_row : row_by (codes "store") rows ≡ option_map (one_row (codes "store")) store
+  filled : option_map_or (λ name. nat_le 1 (length name)) store true ≡ true
+
+-- the library holds what was given, or too much was given, and the fault will be told
+abbrev Holds : List Row → Option (Text × List Text) → Parsed → Type 0
+Holds rows pending given =
+    ((settle_fault arguments false (held_with rows pending) ≡ []) × Shows (settled_rows arguments pending rows) given)
+    ⊎ ((has_fault (settle_fault arguments false (held_with rows pending)) ≡ true) × IsTooMuch given)
+
+use-new : (rows : List Row) (news : ℕ) (ticks names : List Text) → Shows rows (so_far news ticks names) → Holds rows (Some (codes "new", [])) (so_far (suc news) ticks names)
+use-new rows news ticks names shows = by shows.fresh shows.news_are shows.new_row
   where
-    by : (hyphen : Bool) → (x == 45) ≡ hyphen → (look : Look) × Looks look (x ∷ xs)
-    by true is = subst (λ c. IsUtf8 (c ∷ xs) → (look : Look) × Looks look (c ∷ xs)) (sym (eqb-true x 45 is)) (hyphen-is xs) text
-    by false is = (name, (rw is refl, plain xs, λ place held. rw is (rw is refl), λ held. rw is (rw is refl)))
-      where
-        plain : (ys : Text) → is_option (x ∷ ys) ≡ false
-        plain [] = refl
-        plain (y ∷ ys) = two-or-more x y ys ∙ rw is refl
+    by : (fresh : Bool) → news ≡ (if fresh then 1 else 0) → row_by (codes "new") rows ≡ (if fresh then Some (one_row (codes "new") (codes "true")) else None)
+        → Holds rows (Some (codes "new", [])) (so_far (suc news) ticks names)
+    by true is row =
+        let two : suc news ≡ 2 = omega (arith, is) in
+        inr (rw (has-row (codes "new") rows _ row) refl, subst (λ n. IsTooMuch (so_far n ticks names)) (sym two) (two-news ticks names))
+    by false is row =
+        let after : List Row = rows ++ one_row (codes "new") (codes "true") ∷ [] in
+        let one : suc news ≡ 1 = omega (arith, is) in
+        inl (
+          rw (has-row (codes "new") rows _ row) refl,
+          subst (λ r. Shows r (so_far (suc news) ticks names)) (sym (used-first (codes "new") (codes "true") rows row)) (record {
+            fresh = true;
+            tick = shows.tick;
+            store = shows.store;
+            news_are = one;
+            ticks_are = shows.ticks_are;
+            names_are = shows.names_are;
+            new_row = own-row (codes "new") (one_row (codes "new") (codes "true")) rows row refl;
+            tick_row = other-row (codes "tick") (one_row (codes "new") (codes "true")) rows refl ∙ shows.tick_row;
+            store_row = other-row (codes "store") (one_row (codes "new") (codes "true")) rows refl ∙ shows.store_row;
+            filled = shows.filled;
+          }),
+        )
 
--- ---- where the library stands between two words
+use-tick : (rows : List Row) (news : ℕ) (ticks names : List Text) (word : Text) → Shows rows (so_far news ticks names)
+    → Holds rows (Some (codes "tick", word ∷ [])) (so_far news (ticks ++ word ∷ []) names)
+use-tick rows news ticks names word shows = by shows.tick shows.ticks_are shows.tick_row
+  where
+    by : (tick : Option Text) → ticks ≡ option_to_list tick → row_by (codes "tick") rows ≡ option_map (one_row (codes "tick")) tick
+        → Holds rows (Some (codes "tick", word ∷ [])) (so_far news (ticks ++ word ∷ []) names)
+    by (Some first) is row =
+        inr (rw (has-row (codes "tick") rows _ row) refl, subst (λ t. IsTooMuch (so_far news (t ++ word ∷ []) names)) (sym is) (two-ticks news first word names))
+    by None is row =
+        inl (
+          rw (has-row (codes "tick") rows _ row) refl,
+          subst (λ r. Shows r (so_far news (ticks ++ word ∷ []) names)) (sym (used-first (codes "tick") word rows row)) (record {
+            fresh = shows.fresh;
+            tick = Some word;
+            store = shows.store;
+            news_are = shows.news_are;
+            ticks_are = ap (λ t. t ++ word ∷ []) is;
+            names_are = shows.names_are;
+            new_row = other-row (codes "new") (one_row (codes "tick") word) rows refl ∙ shows.new_row;
+            tick_row = own-row (codes "tick") (one_row (codes "tick") word) rows row refl;
+            store_row = other-row (codes "store") (one_row (codes "tick") word) rows refl ∙ shows.store_row;
+            filled = shows.filled;
+          }),
+        )
 
--- what has come so far, in its order; `--new` behind a name shows that this isn't empty
-data Stage : Type 0 where
-  nothing : Stage
-  new : Stage
-  store : Text → Stage
-  new_store : Text → Stage
-  store_new : ℕ → Text → Stage
+abbrev has_text : List Text → Bool
+has_text [] = false
+has_text (text ∷ texts) = true
 
-abbrev new_row : Row
-new_row = record { id = codes "new"; values = codes "true" ∷ []; count = None; source = Some CommandLine; reading = AsWritten }
+use-store : (rows : List Row) (news : ℕ) (ticks : List Text) (word : Text) → Shows rows (so_far news ticks []) → Holds rows (Some (codes "store", word ∷ [])) (so_far news ticks (word ∷ []))
+use-store rows news ticks word shows = by shows.store shows.names_are shows.store_row word
+  where
+    by : (store : Option Text) → [] ≡ option_to_list store → row_by (codes "store") rows ≡ option_map (one_row (codes "store")) store
+        → (word : Text) → Holds rows (Some (codes "store", word ∷ [])) (so_far news ticks (word ∷ []))
+    by (Some first) is row word =
+        absurd (true≢false (sym (ap has_text is)))
+    by None is row [] = inr (rw (has-row (codes "store") rows _ row) refl, empty-name news ticks)
+    by None is row (x ∷ xs) =
+        let long : nat_lt 0 (length (x ∷ xs)) ≡ true = lt-ltb 0 (length (x ∷ xs)) (omega arith) in
+        inl (
+          rw (has-row (codes "store") rows _ row, long) refl,
+          subst (λ r. Shows r (so_far news ticks ((x ∷ xs) ∷ []))) (sym (used-first (codes "store") (x ∷ xs) rows row)) (record {
+            fresh = shows.fresh;
+            tick = shows.tick;
+            store = Some (x ∷ xs);
+            news_are = shows.news_are;
+            ticks_are = shows.ticks_are;
+            names_are = refl;
+            new_row = other-row (codes "new") (one_row (codes "store") (x ∷ xs)) rows refl ∙ shows.new_row;
+            tick_row = other-row (codes "tick") (one_row (codes "store") (x ∷ xs)) rows refl ∙ shows.tick_row;
+            store_row = own-row (codes "store") (one_row (codes "store") (x ∷ xs)) rows row refl;
+            filled = le-leb 1 (length (x ∷ xs)) (omega arith);
+          }),
+        )
 
-abbrev store_row : Text → Row
-store_row text = record { id = codes "store"; values = text ∷ []; count = None; source = Some CommandLine; reading = AsWritten }
+-- ---- what the library finds
 
-abbrev rows_at : Stage → List Row
-rows_at nothing = []
-rows_at new = new_row ∷ []
-rows_at (store text) = []
-rows_at (new_store text) = new_row ∷ []
-rows_at (store_new x xs) = store_row (x ∷ xs) ∷ new_row ∷ []
+-- between two words: the place of the next name, and what is held
+abbrev place_of : List Text → ℕ
+place_of [] = 1
+place_of (name ∷ names) = 2
 
--- the library holds a name until the next argument comes
-abbrev pending_at : Stage → Option (Text × List Text)
-pending_at nothing = None
-pending_at new = None
-pending_at (store text) = Some (codes "store", text ∷ [])
-pending_at (new_store text) = Some (codes "store", text ∷ [])
-pending_at (store_new x xs) = None
+abbrev walk_at : Bool → ℕ → List Row → Option (Text × List Text) → Walk
+walk_at ended place rows pending = record { held = held_with rows pending; waiting = idle; position = place; is_trailing = ended; stopped = None }
 
-abbrev place_at : Stage → ℕ
-place_at nothing = 1
-place_at new = 1
-place_at (store text) = 2
-place_at (new_store text) = 2
-place_at (store_new x xs) = 2
-
-abbrev held_at : Stage → Held
-held_at stage = record { rows = rows_at stage; pending = pending_at stage; skip = 0 }
-
-abbrev walk_at : Bool → Stage → Walk
-walk_at ended stage = record { held = held_at stage; waiting = idle; position = place_at stage; is_trailing = ended; stopped = None }
-
--- the options and the names that have come
-abbrev given_at : Stage → List Text
-given_at nothing = []
-given_at new = codes "--new" ∷ []
-given_at (store text) = []
-given_at (new_store text) = codes "--new" ∷ []
-given_at (store_new x xs) = codes "--new" ∷ []
-
-abbrev names_at : Stage → List Text
-names_at nothing = []
-names_at new = []
-names_at (store text) = text ∷ []
-names_at (new_store text) = text ∷ []
-names_at (store_new x xs) = (x ∷ xs) ∷ []
-
--- what options and names ask for, with the words that follow them, given whether these are names alone
-abbrev asked_with : Bool → List Text → List Text → List Text → Option Options
-asked_with true given names words = asked_by given (names ++ words)
-asked_with false given names words =
-    let before = before_first ends_options words in
-    asked_by (given ++ filter is_option before) (names ++ (filter is_no_option before ++ after_first ends_options words))
-
-abbrev asked_from : Bool → Stage → List Text → Option Options
-asked_from ended stage = asked_with ended (given_at stage) (names_at stage)
-
--- ---- what the library finds from there
+-- the same where the value of `--tick` is due
+abbrev due_at : Bool → ℕ → List Row → Walk
+due_at ended place rows = record { held = held_with rows (Some (codes "tick", [])); waiting = option (codes "tick"); position = place; is_trailing = ended; stopped = None }
 
 abbrev end_from : Walk → List Text → Held
 end_from walk words = (fold (walked arguments []) walk words).held
@@ -247,332 +262,406 @@ fault_from walk words = or_else (walk_fault top [] walk words) (end_fault (end_f
 abbrev rows_from : Walk → List Text → List Row
 rows_from walk words = finished arguments (end_from walk words)
 
--- the library finds what is asked for, or a fault where nothing is
-abbrev Finds : Option Options → Kinds → List Row → Type 0
-Finds None kinds rows = has_fault kinds ≡ true
-Finds (Some asked) kinds rows = (kinds ≡ []) × (first_of (codes "store") rows ≡ Some asked.store) × (one_of (codes "new") rows ≡ Some (bool_text asked.fresh))
+-- what was given has one name, and each option at most once, and the rows have just that
+pub record Found (given : Option Parsed) (rows : List Row) : Type 0 where
+  pub fresh : Bool
+  pub tick : Option Text
+  pub store : Text
+  pub given_is : given ≡ Some (so_far (if fresh then 1 else 0) (option_to_list tick) (store ∷ []))
+  pub filled : nat_le 1 (length store) ≡ true
+  pub new_is : one_of (codes "new") rows ≡ Some (bool_text fresh)
+  pub tick_is : first_of (codes "tick") rows ≡ tick
+  pub store_is : first_of (codes "store") rows ≡ Some store
 
-abbrev FindsFrom : Bool → Stage → List Text → Type 0
-FindsFrom ended stage words = Finds (asked_from ended stage words) (fault_from (walk_at ended stage) words) (rows_from (walk_at ended stage) words)
+-- the library finds it, or tells a fault where nothing is asked for
+abbrev pub Finds : Option Parsed → Kinds → List Row → Type 0
+Finds given kinds rows = ((has_fault kinds ≡ true) × (option_and_then asked_by given ≡ None)) ⊎ ((kinds ≡ []) × Found given rows)
 
--- a name that isn't empty, with `--new` or without
-asked-for : (given : List Text) (x : ℕ) (xs : Text) → are_known given ≡ true → asked_by given ((x ∷ xs) ∷ []) ≡ Some (record { fresh = is_new given; store = x ∷ xs })
-asked-for given x xs known = rw (known, le-leb 1 (length (x ∷ xs)) (omega arith)) refl
-
-found : (given : List Text) (x : ℕ) (xs : Text) (kinds : Kinds) (rows : List Row) → are_known given ≡ true → kinds ≡ [] → first_of (codes "store") rows ≡ Some (x ∷ xs)
-    → one_of (codes "new") rows ≡ Some (bool_text (is_new given)) → Finds (asked_by given ((x ∷ xs) ∷ [])) kinds rows
-found given x xs kinds rows known passes by_name by_option = subst (λ asked. Finds asked kinds rows) (sym (asked-for given x xs known)) (passes, by_name, by_option)
-
--- it passes as a value
-has-bytes : (x : ℕ) (xs : Text) → nat_lt 0 (length (x ∷ xs)) ≡ true
-has-bytes x xs = lt-ltb 0 (length (x ∷ xs)) (omega arith)
-
-settles : (rows : List Row) (x : ℕ) (xs : Text) → settle_fault arguments false (record { rows = rows; pending = Some (codes "store", (x ∷ xs) ∷ []); skip = 0 })
-    ≡ or_else (repeat_fault false (codes "store") rows) []
-settles rows x xs = ap (λ (b : Bool). or_else (repeat_fault false (codes "store") rows) (or_else (cond b [] (InvalidValue ∷ [])) [])) (has-bytes x xs)
-
--- no word follows
-end-of : (stage : Stage) → Finds (asked_by (given_at stage) (names_at stage)) (fault_from (walk_at false stage) []) (rows_from (walk_at false stage) [])
-unfolding walk_fault defaults_fault
-end-of nothing = refl
-end-of new = refl
-end-of (store []) = refl
-end-of (store (x ∷ xs)) =
-    found [] x xs (fault_from (walk_at false (store (x ∷ xs))) []) (rows_from (walk_at false (store (x ∷ xs))) []) refl (ap (λ kinds. or_else kinds []) (settles [] x xs)) refl refl
-end-of (new_store []) = refl
-end-of (new_store (x ∷ xs)) =
-    found (codes "--new" ∷ []) x xs (fault_from (walk_at false (new_store (x ∷ xs))) []) (rows_from (walk_at false (new_store (x ∷ xs))) []) refl (ap (λ kinds. or_else kinds []) (settles (new_row ∷ []) x xs)) refl refl
-end-of (store_new x xs) = found (codes "--new" ∷ []) x xs (fault_from (walk_at false (store_new x xs)) []) (rows_from (walk_at false (store_new x xs)) []) refl refl refl refl
-
-at-end : (ended : Bool) (stage : Stage) → FindsFrom ended stage []
-unfolding walk_fault
-at-end ended stage = subst (λ asked. Finds asked (fault_from (walk_at ended stage) []) (rows_from (walk_at ended stage) [])) (sym (same ended)) (end-of stage)
-  where
-    same : (b : Bool) → asked_from b stage [] ≡ asked_by (given_at stage) (names_at stage)
-    same true = ap (asked_by (given_at stage)) (append-nil (names_at stage))
-    same false = ap₂ asked_by (append-nil (given_at stage)) (append-nil (names_at stage))
-
--- ---- one more word
+abbrev FindsFrom : Option Parsed → Walk → List Text → Type 0
+FindsFrom given walk words = Finds given (fault_from walk words) (rows_from walk words)
 
 or-first : (a b : Kinds) → has_fault a ≡ true → has_fault (or_else a b) ≡ true
 or-first [] b fails = absurd (true≢false (sym fails))
 or-first (kind ∷ kinds) b fails = fails
 
+-- ---- no more words
+
+same-both : {T : Type 0} (b : Bool) (x : T) → cond b x x ≡ x
+same-both true x = refl
+same-both false x = refl
+
+or-true : {T : Type 0} (b : Bool) (x y : T) → cond (b || true) x y ≡ x
+or-true true x y = refl
+or-true false x y = refl
+
+all-pass : (a b c : Kinds) → a ≡ [] → b ≡ [] → c ≡ [] → or_else a (or_else b (or_else c [])) ≡ []
+all-pass a b c first second third = rw (first, second, third) refl
+
+abbrev default_row : Row
+default_row = record { id = codes "new"; values = codes "false" ∷ []; count = None; source = Some DefaultValue; reading = AsWritten }
+
+-- only `--new` has a default
+abbrev with_first : List Row → List Row
+with_first rows = if has_row (codes "new") rows then rows else with_values (codes "new") AsWritten DefaultValue (codes "false" ∷ []) rows
+
+with-defaults : (rows : List Row) → fold with_default rows arguments ≡ with_first rows
+with-defaults rows =
+    let first : List Row = with_first rows in
+    let second : List Row = if has_row (codes "tick") first then first else first in
+    same-both (has_row (codes "store") second) second ∙ same-both (has_row (codes "tick") first) first
+
+defaults-pass : (rows : List Row) → defaults_fault rows arguments ≡ []
+unfolding defaults_fault
+defaults-pass rows =
+    let first : List Row = with_first rows in
+    let second : List Row = if has_row (codes "tick") first then first else first in
+    all-pass _ _ _ (same-both (has_row (codes "new") rows || false) []) (or-true (has_row (codes "tick") first) [] _) (or-true (has_row (codes "store") second) [] _)
+
+defaulted : (rows : List Row) (fresh : Bool) → row_by (codes "new") rows ≡ (if fresh then Some (one_row (codes "new") (codes "true")) else None)
+    → (row_by (codes "tick") (with_first rows) ≡ row_by (codes "tick") rows) × (row_by (codes "store") (with_first rows) ≡ row_by (codes "store") rows)
+    × (one_of (codes "new") (with_first rows) ≡ Some (bool_text fresh))
+defaulted rows true row =
+    let same : with_first rows ≡ rows = rw (has-row (codes "new") rows _ row) refl in
+    (ap (row_by (codes "tick")) same, ap (row_by (codes "store")) same, ap (one_of (codes "new")) same ∙ ap (option_and_then row_text) row)
+defaulted rows false row =
+    let added : with_values (codes "new") AsWritten DefaultValue (codes "false" ∷ []) rows ≡ rows ++ default_row ∷ [] = absent (codes "new") (more_values DefaultValue (codes "false" ∷ [])) (default_row ∷ []) rows row in
+    let same : with_first rows ≡ rows ++ default_row ∷ [] = ap (λ b. cond b rows (with_values (codes "new") AsWritten DefaultValue (codes "false" ∷ []) rows)) (has-row (codes "new") rows None row) ∙ added in (
+      ap (row_by (codes "tick")) same ∙ other-row (codes "tick") default_row rows refl,
+      ap (row_by (codes "store")) same ∙ other-row (codes "store") default_row rows refl,
+      ap (one_of (codes "new")) same ∙ ap (option_and_then row_text) (own-row (codes "new") default_row rows row refl),
+    )
+
+nothing-more : (news : ℕ) (ticks names : List Text) → joined (so_far news ticks names) (names_alone []) ≡ so_far news ticks names
+nothing-more news ticks names = same-given _ _ _ _ _ _ (omega arith) (append-nil ticks) (append-nil names)
+
+only-value : (tick : Option Text) → option_and_then (λ r. slice_get r.values 0) (option_map (one_row (codes "tick")) tick) ≡ tick
+only-value None = refl
+only-value (Some text) = refl
+
+end-of : (rows : List Row) (pending : Option (Text × List Text)) (news : ℕ) (ticks names : List Text) → Holds rows pending (so_far news ticks names)
+    → Finds (Some (so_far news ticks names)) (end_fault (held_with rows pending)) (finished arguments (held_with rows pending))
+end-of rows pending news ticks names (inr (fails, too_much)) =
+    inl (or-first (settle_fault arguments false (held_with rows pending)) _ fails, ap asked_by (sym (nothing-more news ticks names)) ∙ too_much (names_alone []))
+end-of rows pending news ticks names (inl (passes, shows)) = by shows.store shows.names_are shows.store_row shows.filled
+  where
+    now : List Row
+    now = settled_rows arguments pending rows
+
+    has : (row_by (codes "tick") (with_first now) ≡ row_by (codes "tick") now) × (row_by (codes "store") (with_first now) ≡ row_by (codes "store") now)
+        × (one_of (codes "new") (with_first now) ≡ Some (bool_text shows.fresh))
+    has = defaulted now shows.fresh shows.new_row
+
+    checked : end_fault (held_with rows pending) ≡ check_fault top (with_first now) false
+    checked = rw (passes, defaults-pass now) (ap (λ r. check_fault top r false) (with-defaults now))
+
+    by : (store : Option Text) → names ≡ option_to_list store → row_by (codes "store") now ≡ option_map (one_row (codes "store")) store
+        → option_map_or (λ name. nat_le 1 (length name)) store true ≡ true
+        → Finds (Some (so_far news ticks names)) (end_fault (held_with rows pending)) (finished arguments (held_with rows pending))
+    by None none row filled =
+        let required : has_fault (check_fault top (with_first now) false) ≡ true = rw (has.1 ∙ row) refl in
+        inl (ap has_fault checked ∙ required, none-by-names (so_far news ticks names) (ap store_of none))
+    by (Some name) one row filled =
+        let given : check_fault top (with_first now) false ≡ [] = rw (has.1 ∙ row) refl in
+        inr (
+          checked ∙ given,
+          record {
+            fresh = shows.fresh;
+            tick = shows.tick;
+            store = name;
+            given_is = ap Some (same-given _ _ _ _ _ _ shows.news_are shows.ticks_are one);
+            filled = filled;
+            new_is = ap (one_of (codes "new")) (with-defaults now) ∙ has.2;
+            tick_is = ap (first_of (codes "tick")) (with-defaults now) ∙ ap (option_and_then (λ r. slice_get r.values 0)) (has.0 ∙ shows.tick_row) ∙ only-value shows.tick;
+            store_is = ap (first_of (codes "store")) (with-defaults now) ∙ ap (option_and_then (λ r. slice_get r.values 0)) (has.1 ∙ row);
+          },
+        )
+
+-- ---- one more word
+
 -- the library refuses a word, and nothing is asked for
-refused : (walk : Walk) (word : Text) (rest : List Text) (asked : Option Options) → asked ≡ None → has_fault (turn_fault top [] walk word) ≡ true
-    → Finds asked (fault_from walk (word ∷ rest)) (rows_from walk (word ∷ rest))
+refused : (walk : Walk) (word : Text) (rest : List Text) (given : Option Parsed) → option_and_then asked_by given ≡ None → has_fault (turn_fault top [] walk word) ≡ true → FindsFrom given walk (word ∷ rest)
 unfolding walk_fault
-refused walk word rest asked none fails =
-    subst (λ o. Finds o (fault_from walk (word ∷ rest)) (rows_from walk (word ∷ rest))) (sym none)
-    (or-first (or_else (turn_fault top [] walk word) (walk_fault top [] (walked arguments [] walk word) rest)) _ (or-first (turn_fault top [] walk word) _ fails))
+refused walk word rest given none fails =
+    inl (or-first (or_else (turn_fault top [] walk word) (walk_fault top [] (walked arguments [] walk word) rest)) _ (or-first (turn_fault top [] walk word) _ fails), none)
 
 -- it takes a word
-taken : (walk after : Walk) (word : Text) (rest : List Text) (asked then : Option Options) → turn_fault top [] walk word ≡ [] → walked arguments [] walk word ≡ after → then ≡ asked
-    → Finds then (fault_from after rest) (rows_from after rest) → Finds asked (fault_from walk (word ∷ rest)) (rows_from walk (word ∷ rest))
+goes-on : (walk after : Walk) (word : Text) (rest : List Text) (given more : Option Parsed) → turn_fault top [] walk word ≡ [] → walked arguments [] walk word ≡ after → more ≡ given
+    → FindsFrom more after rest → FindsFrom given walk (word ∷ rest)
 unfolding walk_fault
-taken walk after word rest asked then passes goes same finds =
-    let there : Finds asked (fault_from (walked arguments [] walk word) rest) (rows_from (walked arguments [] walk word) rest) =
-    subst (λ w. Finds asked (fault_from w rest) (rows_from w rest)) (sym goes) (subst (λ o. Finds o (fault_from after rest) (rows_from after rest)) same finds) in
-    subst (λ kinds. Finds asked (or_else (or_else kinds (walk_fault top [] (walked arguments [] walk word) rest)) (end_fault (end_from (walked arguments [] walk word) rest)))
+goes-on walk after word rest given more passes goes same finds =
+    let there : FindsFrom given (walked arguments [] walk word) rest = subst (λ w. FindsFrom given w rest) (sym goes) (subst (λ o. FindsFrom o after rest) same finds) in
+    subst (λ kinds. Finds given (or_else (or_else kinds (walk_fault top [] (walked arguments [] walk word) rest)) (end_fault (end_from (walked arguments [] walk word) rest)))
     (rows_from (walked arguments [] walk word) rest)) (sym passes) there
 
--- by what it makes of the word
-turn-of : (ended : Bool) (stage : Stage) (word : Text) (met : Held × Step) → word_fault top [] ended idle word (held_at stage) ≡ []
-    → word_met arguments [] ended idle (place_at stage) word (held_at stage) ≡ met → turn_fault top [] (walk_at ended stage) word ≡ step_fault top (place_at stage) met.0 met.1
-turn-of ended stage word met passes is = ap₂ (λ (kinds : Kinds) (m : Held × Step). or_else kinds (step_fault top (place_at stage) m.0 m.1)) passes is
+abbrev given_in : Bool → List Text → Option Parsed
+given_in true words = Some (names_alone words)
+given_in false words = given_by words
 
-walked-of : (ended : Bool) (stage : Stage) (word : Text) (met : Held × Step) → word_met arguments [] ended idle (place_at stage) word (held_at stage) ≡ met
-    → walked arguments [] (walk_at ended stage) word ≡ after_step arguments word (walk_at ended stage) met.0 met.1
-unfolding walked
-walked-of ended stage word met is = ap (λ (m : Held × Step). after_step arguments word (walk_at ended stage) m.0 m.1) is
+-- what the library finds in the words that follow what was given; `ended`: they are names alone
+abbrev FindsAt : Bool → List Text → List Row → Option (Text × List Text) → ℕ → List Text → List Text → Type 0
+FindsAt ended words rows pending news ticks names =
+    FindsFrom (option_map (joined (so_far news ticks names)) (given_in ended words)) (walk_at ended (place_of names) rows pending) words
 
--- what is asked for
+-- the same where the value of `--tick` is due
+abbrev FindsDue : List Text → List Row → ℕ → List Text → List Text → Type 0
+FindsDue words rows news ticks names =
+    FindsFrom (option_map (joined (so_far news ticks names)) (given_behind_tick words)) (due_at false (place_of names) rows) words
 
-two-options : (a b : Text) (more names : List Text) → asked_by (a ∷ b ∷ more) names ≡ None
-two-options a b more [] = refl
-two-options a b more (text ∷ []) = refl
-two-options a b more (text ∷ other ∷ names) = refl
+-- what the library finds from each stand between two words
+record FindsAll (words : List Text) : Type 0 where
+  free : (ended : Bool) (rows : List Row) (pending : Option (Text × List Text)) (news : ℕ) (ticks names : List Text) → Holds rows pending (so_far news ticks names)
+      → FindsAt ended words rows pending news ticks names
+  due : (rows : List Row) (news : ℕ) (ticks names : List Text) → Shows rows (so_far news ticks names)
+      → FindsDue words rows news ticks names
 
-unknown-option : (word : Text) (more names : List Text) → bytes_eq word (codes "--new") ≡ false → asked_by (word ∷ more) names ≡ None
-unknown-option word (other ∷ more) names differs = two-options word other more names
-unknown-option word [] [] differs = refl
-unknown-option word [] (text ∷ []) differs = rw differs refl
-unknown-option word [] (text ∷ other ∷ names) differs = refl
+-- ---- a name
 
-empty-name : (given more : List Text) → asked_by given ([] ∷ more) ≡ None
-empty-name given (other ∷ more) = refl
-empty-name given [] = by (are_known given)
-  where
-    by : (b : Bool) → cond {A = Option Options} (b && nat_le 1 0) (Some (record { fresh = is_new given; store = [] })) None ≡ None
-    by true = refl
-    by false = refl
-
-empty-store : (given words : List Text) → asked_with false given ([] ∷ []) words ≡ None
-empty-store given words =
-    let before = before_first ends_options words in
-    empty-name (given ++ filter is_option before) (filter is_no_option before ++ after_first ends_options words)
-
-second-option : (a b : Text) (names words : List Text) → asked_with false (a ∷ b ∷ []) names words ≡ None
-second-option a b names words =
-    let before = before_first ends_options words in
-    two-options a b (filter is_option before) (names ++ (filter is_no_option before ++ after_first ends_options words))
-
-other-option : (word : Text) (names words : List Text) → bytes_eq word (codes "--new") ≡ false → asked_with false (word ∷ []) names words ≡ None
-other-option word names words differs =
-    let before = before_first ends_options words in
-    unknown-option word (filter is_option before) (names ++ (filter is_no_option before ++ after_first ends_options words)) differs
-
-two-names : (ended : Bool) (given : List Text) (a b : Text) (words : List Text) → asked_with ended given (a ∷ b ∷ []) words ≡ None
-two-names true given a b words = refl
-two-names false given a b words = refl
-
--- the next word is an option
-option-asked : (word : Text) (rest given names : List Text) → ends_options word ≡ false → is_option word ≡ true
-    → asked_with false given names (word ∷ rest) ≡ asked_with false (given ++ word ∷ []) names rest
-option-asked word rest given names goes is =
-    rw (before-on ends_options word rest goes, after-on ends_options word rest goes) (simp (is, append_assoc) refl)
-
--- a name
 abbrev AsName : Bool → Text → Type 0
 AsName true word = ⊤
-AsName false word = IsName word
+AsName false word = IsPlain word
 
-name-asked : (ended : Bool) (word : Text) (rest given names : List Text) → AsName ended word → asked_with ended given names (word ∷ rest) ≡ asked_with ended given (names ++ word ∷ []) rest
-name-asked true word rest given names is = ap (asked_by given) (sym (append_assoc names (word ∷ []) rest))
-name-asked false word rest given names is =
-    rw (before-on ends_options word rest is.0, after-on ends_options word rest is.0) (simp (is.1, append_assoc) refl)
-
--- `--`
-end-asked : (rest given names : List Text) → asked_with false given names (codes "--" ∷ rest) ≡ asked_with true given names rest
-end-asked rest given names = ap (λ g. asked_by g (names ++ rest)) (append-nil given)
-
--- ---- each word
-
-no-more : (ended : Bool) → (ended || false) ≡ ended
-no-more true = refl
-no-more false = refl
+name-given : (ended : Bool) (word : Text) → AsName ended word → (rest : List Text) → given_in ended (word ∷ rest) ≡ option_map (with_name word) (given_in ended rest)
+name-given true word is rest = refl
+name-given false word is rest = is.given rest
 
 name-met : (ended : Bool) (word : Text) → AsName ended word → (place : ℕ) (held : Held) → word_met arguments [] ended idle place word held ≡ (held, value)
 name-met true word is place held = refl
-name-met false word is place held = is.2 place held
+name-met false word is place held = is.met false place held
 
 name-passes : (ended : Bool) (word : Text) → AsName ended word → (held : Held) → word_fault top [] ended idle word held ≡ []
 name-passes true word is held = refl
-name-passes false word is held = is.3 held
+name-passes false word is held = is.passes false held
 
-module _ (rest : List Text) (later : (ended : Bool) (stage : Stage) → FindsFrom ended stage rest) where
-  -- a first name
-  first-name : (ended : Bool) (word : Text) → AsName ended word → (stage then : Stage) → names_at stage ≡ [] → asked_from ended stage (word ∷ rest) ≡ asked_from ended then rest
-      → step_fault top (place_at stage) (held_at stage) value ≡ [] → after_step arguments word (walk_at ended stage) (held_at stage) value ≡ walk_at (ended || false) then
-      → FindsFrom ended stage (word ∷ rest)
-  first-name ended word is stage then none asked passes goes =
-      taken (walk_at ended stage) (walk_at ended then) word rest (asked_from ended stage (word ∷ rest)) (asked_from ended then rest)
-      (turn-of ended stage word (held_at stage, value) (name-passes ended word is (held_at stage)) (name-met ended word is (place_at stage) (held_at stage)) ∙ passes)
-      (walked-of ended stage word (held_at stage, value) (name-met ended word is (place_at stage) (held_at stage)) ∙ goes ∙ ap (λ b. walk_at b then) (no-more ended))
-      (sym asked) (later ended then)
+never : {T : Type 0} (b : Bool) (x y : T) → cond (b && false) x y ≡ y
+never true x y = refl
+never false x y = refl
 
-  -- a second one
-  second-name : (ended : Bool) (word : Text) → AsName ended word → (stage : Stage) (text : Text) → names_at stage ≡ text ∷ []
-      → has_fault (step_fault top (place_at stage) (held_at stage) value) ≡ true → FindsFrom ended stage (word ∷ rest)
-  second-name ended word is stage text one fails =
-      refused (walk_at ended stage) word rest (asked_from ended stage (word ∷ rest))
-      (name-asked ended word rest (given_at stage) (names_at stage) is
-      ∙ ap (λ names. asked_with ended (given_at stage) (names ++ word ∷ []) rest) one ∙ two-names ended (given_at stage) text word rest)
-      (ap has_fault (turn-of ended stage word (held_at stage, value) (name-passes ended word is (held_at stage)) (name-met ended word is (place_at stage) (held_at stage))) ∙ fails)
+abbrev store_argument : Rule
+store_argument = record (filled store_name) { index = Some 1 }
 
-  name-comes : (ended : Bool) (word : Text) → AsName ended word → (stage : Stage) → FindsFrom ended stage (word ∷ rest)
-  name-comes ended word is nothing = first-name ended word is nothing (store word) refl (name-asked ended word rest [] [] is) refl refl
-  name-comes ended word is new = first-name ended word is new (new_store word) refl (name-asked ended word rest (codes "--new" ∷ []) [] is) refl refl
-  name-comes ended word is (store text) = second-name ended word is (store text) text refl refl
-  name-comes ended word is (new_store text) = second-name ended word is (new_store text) text refl refl
-  name-comes ended word is (store_new x xs) = second-name ended word is (store_new x xs) (x ∷ xs) refl refl
+module _ (rest : List Text) (later : FindsAll rest) (ended : Bool) (word : Text) (is : AsName ended word) where
+  name-turn : (place : ℕ) (rows : List Row) (pending : Option (Text × List Text)) → turn_fault top [] (walk_at ended place rows pending) word ≡ step_fault top place (held_with rows pending) value
+  name-turn place rows pending =
+      ap₂ (λ (kinds : Kinds) (met : Held × Step). or_else kinds (step_fault top place met.0 met.1)) (name-passes ended word is (held_with rows pending)) (name-met ended word is place (held_with rows pending))
 
-  end-comes : (stage : Stage) → FindsFrom false stage (codes "--" ∷ rest)
+  name-walked : (place : ℕ) (rows : List Row) (pending : Option (Text × List Text))
+      → walked arguments [] (walk_at ended place rows pending) word ≡ after_step arguments word (walk_at ended place rows pending) (held_with rows pending) value
   unfolding walked
-  end-comes stage =
-      taken (walk_at false stage) (walk_at true stage) (codes "--") rest (asked_from false stage (codes "--" ∷ rest)) (asked_from true stage rest)
-      refl refl (sym (end-asked rest (given_at stage) (names_at stage))) (later true stage)
+  name-walked place rows pending = ap (λ (met : Held × Step). after_step arguments word (walk_at ended place rows pending) met.0 met.1) (name-met ended word is place (held_with rows pending))
 
-  -- `--new`, for the first time
-  first-new : (stage then : Stage) → given_at stage ≡ [] → given_at then ≡ codes "--new" ∷ [] → names_at then ≡ names_at stage
-      → turn_fault top [] (walk_at false stage) (codes "--new") ≡ [] → walked arguments [] (walk_at false stage) (codes "--new") ≡ walk_at false then
-      → FindsFrom false stage (codes "--new" ∷ rest)
-  first-new stage then none one same passes goes =
-      taken (walk_at false stage) (walk_at false then) (codes "--new") rest (asked_from false stage (codes "--new" ∷ rest)) (asked_from false then rest) passes goes
-      (ap₂ (λ given names. asked_with false given names rest) (one ∙ ap (λ given. given ++ codes "--new" ∷ []) (sym none)) same
-      ∙ sym (option-asked (codes "--new") rest (given_at stage) (names_at stage) refl refl))
-      (later false then)
+  name-moved : (news : ℕ) (ticks names : List Text) → option_map (joined (so_far news ticks (names ++ word ∷ []))) (given_in ended rest) ≡ option_map (joined (so_far news ticks names)) (given_in ended (word ∷ rest))
+  name-moved news ticks names =
+      moved (so_far news ticks names) (so_far news ticks (names ++ word ∷ [])) (with_name word) (name-moves news ticks names word) (given_in ended rest)
+      ∙ ap (option_map (joined (so_far news ticks names))) (sym (name-given ended word is rest))
 
-  -- and for the second
-  second-new : (stage : Stage) → given_at stage ≡ codes "--new" ∷ [] → has_fault (turn_fault top [] (walk_at false stage) (codes "--new")) ≡ true
-      → FindsFrom false stage (codes "--new" ∷ rest)
-  second-new stage one fails =
-      refused (walk_at false stage) (codes "--new") rest (asked_from false stage (codes "--new" ∷ rest))
-      (option-asked (codes "--new") rest (given_at stage) (names_at stage) refl refl
-      ∙ ap (λ given. asked_with false (given ++ codes "--new" ∷ []) (names_at stage) rest) one ∙ second-option (codes "--new") (codes "--new") (names_at stage) rest) fails
+  first-turn : (rows : List Row) (pending : Option (Text × List Text)) → turn_fault top [] (walk_at ended 1 rows pending) word ≡ settle_fault arguments false (held_with rows pending)
+  first-turn rows pending = name-turn 1 rows pending ∙ never (is_pending store_argument pending) [] (settle_fault arguments false (held_with rows pending))
 
-  new-comes : (stage : Stage) → FindsFrom false stage (codes "--new" ∷ rest)
-  unfolding walked
-  new-comes nothing = first-new nothing new refl refl refl refl refl
-  new-comes new = second-new new refl refl
-  new-comes (store []) =
-      refused (walk_at false (store [])) (codes "--new") rest (asked_from false (store []) (codes "--new" ∷ rest))
-      (option-asked (codes "--new") rest [] ([] ∷ []) refl refl ∙ empty-store (codes "--new" ∷ []) rest) refl
-  new-comes (store (x ∷ xs)) =
-      first-new (store (x ∷ xs)) (store_new x xs) refl refl refl (ap (λ kinds. or_else (or_else kinds []) []) (settles [] x xs)) refl
-  new-comes (new_store []) = second-new (new_store []) refl refl
-  new-comes (new_store (x ∷ xs)) =
-      second-new (new_store (x ∷ xs)) refl (ap (λ kinds. has_fault (or_else (or_else kinds (ArgumentConflict ∷ [])) [])) (settles (new_row ∷ []) x xs))
-  new-comes (store_new x xs) = second-new (store_new x xs) refl refl
+  first-walked : (rows : List Row) (pending : Option (Text × List Text)) → walked arguments [] (walk_at ended 1 rows pending) word ≡ walk_at ended 2 (settled_rows arguments pending rows) (Some (codes "store", word ∷ []))
+  first-walked rows pending =
+      name-walked 1 rows pending
+      ∙ ap₂ (λ (held : Held) (trailing : Bool). record { held = pushed (codes "store") word held; waiting = idle; position = 2; is_trailing = trailing; stopped = None })
+      (never (is_pending store_argument pending) (held_with rows pending) (settled arguments (held_with rows pending))) (or-false ended)
 
-  unknown-comes : (word : Text) → IsUnknown word → (stage : Stage) → FindsFrom false stage (word ∷ rest)
-  unknown-comes word is stage =
-      refused (walk_at false stage) word rest (asked_from false stage (word ∷ rest))
-      (option-asked word rest (given_at stage) (names_at stage) is.0 is.1 ∙ none stage)
-      (or-first (word_fault top [] false idle word (held_at stage)) _ (is.3 (rows_at stage) (pending_at stage)))
+  name-comes : (rows : List Row) (pending : Option (Text × List Text)) (news : ℕ) (ticks names : List Text) → Holds rows pending (so_far news ticks names)
+      → FindsAt ended (word ∷ rest) rows pending news ticks names
+  name-comes rows pending news ticks [] (inl (passes, shows)) =
+      goes-on (walk_at ended 1 rows pending) (walk_at ended 2 (settled_rows arguments pending rows) (Some (codes "store", word ∷ []))) word rest
+      _ (option_map (joined (so_far news ticks (word ∷ []))) (given_in ended rest)) (first-turn rows pending ∙ passes) (first-walked rows pending) (name-moved news ticks [])
+      (later.free ended (settled_rows arguments pending rows) (Some (codes "store", word ∷ [])) news ticks (word ∷ []) (use-store (settled_rows arguments pending rows) news ticks word shows))
+  name-comes rows pending news ticks [] (inr (fails, too_much)) =
+      refused (walk_at ended 1 rows pending) word rest _ (none-more (so_far news ticks []) (given_in ended (word ∷ rest)) too_much) (ap has_fault (first-turn rows pending) ∙ fails)
+  name-comes rows pending news ticks (name ∷ names) holds =
+      refused (walk_at ended 2 rows pending) word rest _
+      (ap (option_and_then asked_by) (sym (name-moved news ticks (name ∷ names))) ∙ none-more (so_far news ticks (name ∷ (names ++ word ∷ []))) (given_in ended rest) (second names))
+      (ap has_fault (name-turn 2 rows pending))
     where
-      none : (stage : Stage) → asked_with false (given_at stage ++ word ∷ []) (names_at stage) rest ≡ None
-      none nothing = other-option word [] rest is.2
-      none new = second-option (codes "--new") word [] rest
-      none (store text) = other-option word (text ∷ []) rest is.2
-      none (new_store text) = second-option (codes "--new") word (text ∷ []) rest
-      none (store_new x xs) = second-option (codes "--new") word ((x ∷ xs) ∷ []) rest
+      second : (names : List Text) → IsTooMuch (so_far news ticks (name ∷ (names ++ word ∷ [])))
+      second [] = two-names news ticks name word []
+      second (other ∷ names) = two-names news ticks name other (names ++ word ∷ [])
 
-  word-comes : (word : Text) (look : Look) → Looks look word → (stage : Stage) → FindsFrom false stage (word ∷ rest)
-  word-comes word name is stage = name-comes false word is stage
-  word-comes word ends is stage = subst (λ w. FindsFrom false stage (w ∷ rest)) (sym is) (end-comes stage)
-  word-comes word fresh is stage = subst (λ w. FindsFrom false stage (w ∷ rest)) (sym is) (new-comes stage)
-  word-comes word unknown is stage = unknown-comes word is stage
+-- ---- options
+
+-- a value that is due stays so behind `--`, and the next name or the end shows it
+stays-faulty : (rows : List Row) (names : List Text) (words : List Text) → has_fault (fault_from (due_at true (place_of names) rows) words) ≡ true
+unfolding walk_fault
+stays-faulty rows names [] = refl
+stays-faulty rows [] (word ∷ words) = refl
+stays-faulty rows (name ∷ names) (word ∷ words) = refl
+
+module _ (rest : List Text) (later : FindsAll rest) where
+  end-comes : (rows : List Row) (pending : Option (Text × List Text)) (news : ℕ) (ticks names : List Text) → Holds rows pending (so_far news ticks names)
+      → FindsAt false (codes "--" ∷ rest) rows pending news ticks names
+  unfolding walked
+  end-comes rows pending news ticks names holds =
+      goes-on (walk_at false (place_of names) rows pending) (walk_at true (place_of names) rows pending) (codes "--") rest
+      _ (option_map (joined (so_far news ticks names)) (given_in true rest)) refl refl refl (later.free true rows pending news ticks names holds)
+
+  -- an option with all that belongs to it
+  use-comes : (word : Text) (used : Text × List Text) (step : Parsed → Parsed) (rows : List Row) (pending : Option (Text × List Text)) (news new_news : ℕ) (ticks new_ticks names : List Text)
+      → given_by (word ∷ rest) ≡ option_map step (given_by rest)
+      → ((more : Parsed) → joined (so_far news ticks names) (step more) ≡ joined (so_far new_news new_ticks names) more)
+      → turn_fault top [] (walk_at false (place_of names) rows pending) word
+      ≡ or_else (or_else (settle_fault arguments false (held_with rows pending)) (settle_fault arguments false (held_with (settled_rows arguments pending rows) (Some used)))) []
+      → walked arguments [] (walk_at false (place_of names) rows pending) word ≡ walk_at false (place_of names) (settled_rows arguments (Some used) (settled_rows arguments pending rows)) None
+      → (Shows (settled_rows arguments pending rows) (so_far news ticks names) → Holds (settled_rows arguments pending rows) (Some used) (so_far new_news new_ticks names))
+      → Holds rows pending (so_far news ticks names)
+      → FindsAt false (word ∷ rest) rows pending news ticks names
+  use-comes word used step rows pending news new_news ticks new_ticks names given moves turn goes shown (inr (fails, too_much)) =
+      refused (walk_at false (place_of names) rows pending) word rest _ (none-more (so_far news ticks names) (given_by (word ∷ rest)) too_much)
+      (ap has_fault turn ∙ or-first (or_else (settle_fault arguments false (held_with rows pending)) _) [] (or-first (settle_fault arguments false (held_with rows pending)) _ fails))
+  use-comes word used step rows pending news new_news ticks new_ticks names given moves turn goes shown (inl (passes, shows)) = by (shown shows)
+    where
+      same : option_map (joined (so_far new_news new_ticks names)) (given_by rest) ≡ option_map (joined (so_far news ticks names)) (given_by (word ∷ rest))
+      same =
+          moved (so_far news ticks names) (so_far new_news new_ticks names) step moves (given_by rest) ∙ ap (option_map (joined (so_far news ticks names))) (sym given)
+
+      first : turn_fault top [] (walk_at false (place_of names) rows pending) word ≡ or_else (settle_fault arguments false (held_with (settled_rows arguments pending rows) (Some used))) []
+      first = turn ∙ ap (λ kinds. or_else (or_else kinds (settle_fault arguments false (held_with (settled_rows arguments pending rows) (Some used)))) []) passes
+
+      by : Holds (settled_rows arguments pending rows) (Some used) (so_far new_news new_ticks names)
+          → FindsAt false (word ∷ rest) rows pending news ticks names
+      by (inl (uses, has)) =
+          goes-on (walk_at false (place_of names) rows pending) (walk_at false (place_of names) (settled_rows arguments (Some used) (settled_rows arguments pending rows)) None) word rest
+          _ (option_map (joined (so_far new_news new_ticks names)) (given_by rest)) (first ∙ ap (λ kinds. or_else kinds []) uses) goes same
+          (later.free false (settled_rows arguments (Some used) (settled_rows arguments pending rows)) None new_news new_ticks names (inl (refl, has)))
+      by (inr (fails, too_much)) =
+          refused (walk_at false (place_of names) rows pending) word rest _
+          (ap (option_and_then asked_by) (sym same) ∙ none-more (so_far new_news new_ticks names) (given_by rest) too_much)
+          (ap has_fault first ∙ or-first (settle_fault arguments false (held_with (settled_rows arguments pending rows) (Some used))) [] fails)
+
+  new-comes : (rows : List Row) (pending : Option (Text × List Text)) (news : ℕ) (ticks names : List Text) → Holds rows pending (so_far news ticks names)
+      → FindsAt false (codes "--new" ∷ rest) rows pending news ticks names
+  unfolding walked
+  new-comes rows pending news ticks names =
+      use-comes (codes "--new") (codes "new", []) with_new rows pending news (suc news) ticks ticks names refl (new-moves news ticks names) refl refl
+      (use-new (settled_rows arguments pending rows) news ticks names)
+
+  value-comes : (text : Text) (rows : List Row) (pending : Option (Text × List Text)) (news : ℕ) (ticks names : List Text) → Holds rows pending (so_far news ticks names)
+      → FindsAt false ((codes "--tick=" ++ text) ∷ rest) rows pending news ticks names
+  unfolding walked
+  value-comes text rows pending news ticks names =
+      use-comes (codes "--tick=" ++ text) (codes "tick", text ∷ []) (with_tick text) rows pending news news ticks (ticks ++ text ∷ []) names refl (tick-moves news ticks names text) refl refl
+      (use-tick (settled_rows arguments pending rows) news ticks names text)
+
+  tick-comes : (rows : List Row) (pending : Option (Text × List Text)) (news : ℕ) (ticks names : List Text) → Holds rows pending (so_far news ticks names)
+      → FindsAt false (codes "--tick" ∷ rest) rows pending news ticks names
+  unfolding walked
+  tick-comes rows pending news ticks names (inl (passes, shows)) =
+      goes-on (walk_at false (place_of names) rows pending) (due_at false (place_of names) (settled_rows arguments pending rows)) (codes "--tick") rest
+      _ (option_map (joined (so_far news ticks names)) (given_behind_tick rest)) (ap (λ kinds. or_else kinds []) passes) refl refl (later.due (settled_rows arguments pending rows) news ticks names shows)
+  tick-comes rows pending news ticks names (inr (fails, too_much)) =
+      refused (walk_at false (place_of names) rows pending) (codes "--tick") rest _ (none-more (so_far news ticks names) (given_by (codes "--tick" ∷ rest)) too_much)
+      (or-first (settle_fault arguments false (held_with rows pending)) [] fails)
+
+  faulty-comes : (word : Text) → IsFaulty word → (rows : List Row) (pending : Option (Text × List Text)) (news : ℕ) (ticks names : List Text)
+      → FindsAt false (word ∷ rest) rows pending news ticks names
+  faulty-comes word is rows pending news ticks names =
+      refused (walk_at false (place_of names) rows pending) word rest _ (ap (λ o. option_and_then asked_by (option_map (joined (so_far news ticks names)) o)) (is.given rest))
+      (or-first (word_fault top [] false idle word (held_with rows pending)) _ (is.fails false rows pending))
+
+  word-comes : (word : Text) (look : Look) → Looks look word → (rows : List Row) (pending : Option (Text × List Text)) (news : ℕ) (ticks names : List Text) → Holds rows pending (so_far news ticks names)
+      → FindsAt false (word ∷ rest) rows pending news ticks names
+  word-comes word plain is rows pending news ticks names = name-comes rest later false word is rows pending news ticks names
+  word-comes word faulty is rows pending news ticks names = λ holds. faulty-comes word is rows pending news ticks names
+  word-comes word ends is rows pending news ticks names =
+      subst (λ w. Holds rows pending (so_far news ticks names) → FindsAt false (w ∷ rest) rows pending news ticks names) (sym is)
+      (end-comes rows pending news ticks names)
+  word-comes word fresh is rows pending news ticks names =
+      subst (λ w. Holds rows pending (so_far news ticks names) → FindsAt false (w ∷ rest) rows pending news ticks names) (sym is)
+      (new-comes rows pending news ticks names)
+  word-comes word tick is rows pending news ticks names =
+      subst (λ w. Holds rows pending (so_far news ticks names) → FindsAt false (w ∷ rest) rows pending news ticks names) (sym is)
+      (tick-comes rows pending news ticks names)
+  word-comes word (tick_with text) is rows pending news ticks names =
+      subst (λ w. Holds rows pending (so_far news ticks names) → FindsAt false (w ∷ rest) rows pending news ticks names) (sym is)
+      (value-comes text rows pending news ticks names)
+
+  -- ---- where the value of `--tick` is due
+
+  due-plain : (word : Text) → IsPlain word → (rows : List Row) (news : ℕ) (ticks names : List Text) → Shows rows (so_far news ticks names)
+      → FindsDue (word ∷ rest) rows news ticks names
+  unfolding walked
+  due-plain word is rows news ticks names shows =
+      let held : Held = held_with rows (Some (codes "tick", [])) in
+      goes-on (due_at false (place_of names) rows) (walk_at false (place_of names) rows (Some (codes "tick", word ∷ []))) word rest _ (option_map (joined (so_far news (ticks ++ word ∷ []) names)) (given_by rest))
+      (ap₂ (λ (kinds : Kinds) (met : Held × Step). or_else kinds (step_fault top (place_of names) met.0 met.1)) (is.passes true held) (is.met true (place_of names) held))
+      (ap (λ (met : Held × Step). after_step arguments word (due_at false (place_of names) rows) met.0 met.1) (is.met true (place_of names) held))
+      (moved (so_far news ticks names) (so_far news (ticks ++ word ∷ []) names) (with_tick word) (tick-moves news ticks names word) (given_by rest)
+      ∙ ap (option_map (joined (so_far news ticks names))) (sym (is.behind rest)))
+      (later.free false rows (Some (codes "tick", word ∷ [])) news (ticks ++ word ∷ []) names (use-tick rows news ticks names word shows))
+
+  -- `--`: the library tells the fault later
+  due-end : (rows : List Row) (news : ℕ) (ticks names : List Text)
+      → FindsDue (codes "--" ∷ rest) rows news ticks names
+  unfolding walked
+  due-end rows news ticks names = goes-on (due_at false (place_of names) rows) (due_at true (place_of names) rows) (codes "--") rest None None refl refl refl (inl (stays-faulty rows names rest, refl))
+
+  due-refused : (word : Text) (rows : List Row) (news : ℕ) (ticks names : List Text) → given_behind_tick (word ∷ rest) ≡ None
+      → has_fault (word_fault top [] false (option (codes "tick")) word (held_with rows (Some (codes "tick", [])))) ≡ true
+      → FindsDue (word ∷ rest) rows news ticks names
+  due-refused word rows news ticks names none fails =
+      refused (due_at false (place_of names) rows) word rest _ (ap (λ o. option_and_then asked_by (option_map (joined (so_far news ticks names)) o)) none)
+      (or-first (word_fault top [] false (option (codes "tick")) word (held_with rows (Some (codes "tick", [])))) _ fails)
+
+  due-comes : (word : Text) (look : Look) → Looks look word → (rows : List Row) (news : ℕ) (ticks names : List Text) → Shows rows (so_far news ticks names)
+      → FindsDue (word ∷ rest) rows news ticks names
+  due-comes word plain is rows news ticks names shows = due-plain word is rows news ticks names shows
+  due-comes word faulty is rows news ticks names shows = due-refused word rows news ticks names (is.behind rest) (is.fails true rows (Some (codes "tick", [])))
+  due-comes word ends is rows news ticks names shows =
+      subst (λ w. FindsDue (w ∷ rest) rows news ticks names) (sym is)
+      (due-end rows news ticks names)
+  due-comes word fresh is rows news ticks names shows =
+      subst (λ w. FindsDue (w ∷ rest) rows news ticks names) (sym is)
+      (due-refused (codes "--new") rows news ticks names refl refl)
+  due-comes word tick is rows news ticks names shows =
+      subst (λ w. FindsDue (w ∷ rest) rows news ticks names) (sym is)
+      (due-refused (codes "--tick") rows news ticks names refl refl)
+  due-comes word (tick_with text) is rows news ticks names shows =
+      subst (λ w. FindsDue (w ∷ rest) rows news ticks names) (sym is)
+      (due-refused (codes "--tick=" ++ text) rows news ticks names (faulty-behind (codes "--tick=" ++ text) (two-or-more 45 45 (codes "tick=" ++ text)) rest) refl)
 
 -- ---- all the words
 
-found-from : (words : List Text) → AllByRecursion IsUtf8 words → (ended : Bool) (stage : Stage) → FindsFrom ended stage words
-found-from [] texts ended stage = at-end ended stage
-found-from (word ∷ rest) texts true stage = name-comes rest (found-from rest texts.1) true word tt stage
-found-from (word ∷ rest) texts false stage =
+at-end : (ended : Bool) (rows : List Row) (pending : Option (Text × List Text)) (news : ℕ) (ticks names : List Text) → Holds rows pending (so_far news ticks names)
+    → FindsAt ended [] rows pending news ticks names
+unfolding walk_fault
+at-end ended rows pending news ticks names holds =
+    subst (λ given. FindsFrom given (walk_at ended (place_of names) rows pending) []) (sym (same ended)) (end-of rows pending news ticks names holds)
+  where
+    same : (b : Bool) → option_map (joined (so_far news ticks names)) (given_in b []) ≡ Some (so_far news ticks names)
+    same true = ap Some (nothing-more news ticks names)
+    same false = ap Some (nothing-more news ticks names)
+
+due-at-end : (rows : List Row) (news : ℕ) (ticks names : List Text) → FindsDue [] rows news ticks names
+unfolding walk_fault
+due-at-end rows news ticks names = inl (refl, refl)
+
+found-all : (words : List Text) → AllByRecursion IsUtf8 words → FindsAll words
+found-all [] texts = record { free = at-end; due = λ rows news ticks names shows. due-at-end rows news ticks names }
+found-all (word ∷ rest) texts =
+    let later = found-all rest texts.1 in
     let look = looks word texts.0 in
-    word-comes rest (found-from rest texts.1) word look.0 look.1 stage
+    record { free = by later look.0 look.1; due = due-comes rest later word look.0 look.1 }
+  where
+    by : FindsAll rest → (look : Look) → Looks look word → (ended : Bool) (rows : List Row) (pending : Option (Text × List Text)) (news : ℕ) (ticks names : List Text) → Holds rows pending (so_far news ticks names)
+        → FindsAt ended (word ∷ rest) rows pending news ticks names
+    by later look is true rows pending news ticks names holds = name-comes rest later true word tt rows pending news ticks names holds
+    by later look is false rows pending news ticks names holds = word-comes rest later word look is rows pending news ticks names holds
 
 -- no word is the name of a subcommand
 not-entered : (stop : Option (Text × List Text)) → (entered_fault (built hac) stop ≡ []) × (is_some (entered (built hac) stop) ≡ false)
 not-entered None = (refl, refl)
 not-entered (Some stop) = (refl, refl)
 
--- the library finds what the words ask for
-pub words-found : (words : List Text) → AllByRecursion IsUtf8 words → Finds (options words) (fault_of hac words) (matches_of hac words)
-unfolding options
+nothing-before : (given : Option Parsed) → option_map (joined (so_far 0 [] [])) given ≡ given
+nothing-before None = refl
+nothing-before (Some given) = ap Some (same-given _ _ _ _ _ _ (omega arith) refl refl)
+
+-- the library finds what the words give
+pub words-found : (words : List Text) → AllByRecursion IsUtf8 words → Finds (given_by words) (fault_of hac words) (matches_of hac words)
 words-found words texts =
-    let plain = not-entered (walk arguments [] nothing_held words).stopped in
-    subst (λ kinds. Finds (options words) kinds (matches_of hac words)) (sym (ap₂ (λ below entered. level_fault top [] nothing_held words entered below) plain.0 plain.1))
-    (found-from words texts false nothing)
-
--- ---- what a caller of the library knows
-
--- each word is text
-all-text : {Z : Type 0} (words : List (String Z)) → AllByRecursion IsUtf8 (map string_bytes words)
-all-text [] = tt
-all-text (word ∷ words) = (IsUtf8-string_bytes word, all-text words)
-
--- what the words ask for is in the matches
-pub record IsAsked (asked : Option Options) (m : ArgMatches) : Type 0 where
-  pub is : Options
-  pub asked_is : asked ≡ Some is
-  pub store : first_value (found_of m) (codes "store") ≡ Some is.store
-  pub fresh : one_text (found_of m) (codes "new") ≡ Some (bool_text is.fresh)
-
-asked-in : (asked : Option Options) (kinds : Kinds) (rows : List Row) (m : ArgMatches) → Finds asked kinds rows → kinds ≡ [] → rows_of (found_of m) ≡ rows → IsAsked asked m
-asked-in None kinds rows m finds passes same = absurd (true≢false (sym finds ∙ ap has_fault passes))
-asked-in (Some asked) kinds rows m finds passes same = record {
-  is = asked;
-  asked_is = refl;
-  store = first_value-rows (found_of m) (codes "store") ∙ ap (first_of (codes "store")) same ∙ finds.1;
-  fresh = one_text-rows (found_of m) (codes "new") ∙ ap (one_of (codes "new")) same ∙ finds.2;
-}
-
-pub asked-in-matches : {Z : Type 0} (words : List (String Z)) (app : App) (m : ArgMatches) → app ≡ hac
-    → (is_simple_and_free app ≡ true → fault_of app (map string_bytes words) ≡ []) → HasMatchesOf app (map string_bytes words) m → IsAsked (options (map string_bytes words)) m
-asked-in-matches words app m is passes has =
-    let texts = map string_bytes words in
-    asked-in (options texts) (fault_of hac texts) (matches_of hac texts) m (words-found texts (all-text words))
-    (subst (λ a. is_simple_and_free a ≡ true → fault_of a texts ≡ []) is passes refl)
-    (subst (λ a. HasMatchesOf a texts m) is has refl).0
-
-none-by : (asked : Option Options) (kinds : Kinds) (rows : List Row) (e : Error) → Finds asked kinds rows → HasKind kinds e → fault_by (kind_of e) ≡ Usage → asked ≡ None
-none-by None kinds rows e finds has is = refl
-none-by (Some asked) kinds rows e finds has is = elim (subst (λ ks. HasKind ks e) finds.0 has) [
-  | inl memory ↦ absurd (memory-is (sym (ap fault_by memory) ∙ is))
-  | inr none ↦ absurd none
-]
-  where
-    is_memory : WordsFault → Bool
-    is_memory Memory = true
-    is_memory Usage = false
-
-    memory-is : Memory ≡ Usage → ⊥
-    memory-is e = true≢false (ap is_memory e)
-
-pub none-by-error : {Z : Type 0} (words : List (String Z)) (app : App) (e : Error) → app ≡ hac
-    → (is_simple_and_free app ≡ true → HasKind (fault_of app (map string_bytes words)) e) → fault_by (kind_of e) ≡ Usage → options (map string_bytes words) ≡ None
-none-by-error words app e is has usage =
-    let texts = map string_bytes words in
-    none-by (options texts) (fault_of hac texts) (matches_of hac texts) e (words-found texts (all-text words))
-    (subst (λ a. is_simple_and_free a ≡ true → HasKind (fault_of a texts) e) is has refl) usage
-
--- and in what the getters of the matches answer
-module _ (asked : Option Options) (m : ArgMatches) (has : IsAsked asked m) (got : Option (Bor Text)) (gets : option_map (λ text. text.now) got ≡ first_value (found_of m) (codes "store")) where
-  pub store-got : IsSome got
-  store-got = by got (gets ∙ has.store)
-    where
-      by : (o : Option (Bor Text)) → option_map (λ text. text.now) o ≡ Some has.is.store → IsSome o
-      by None same = absurd (true≢false (sym (ap is_some same)))
-      by (Some text) same = refl
-
-  pub got-is : (text : Bor Text) (flag : Bool) → got ≡ Some text → (one_text (found_of m) (codes "new") ≡ Some (codes "true") → flag ≡ true)
-      → (one_text (found_of m) (codes "new") ≡ Some (codes "false") → flag ≡ false) → asked ≡ Some (record { fresh = flag; store = text.now })
-  got-is text flag one on off =
-      let named : text.now ≡ has.is.store = ap (λ (o : Option Text). unwrap_or o []) (sym (ap (option_map (λ (t : Bor Text). t.now)) one) ∙ gets ∙ has.store) in
-      has.asked_is ∙ ap₂ (λ (f : Bool) (t : Text). Some (record { fresh = f; store = t })) (sym (flag-is has.is.fresh has.fresh)) (sym named)
-    where
-      flag-is : (b : Bool) → one_text (found_of m) (codes "new") ≡ Some (bool_text b) → flag ≡ b
-      flag-is true same = on same
-      flag-is false same = off same
+    let no_entry = not-entered (walk arguments [] nothing_held words).stopped in
+    let shows : Shows [] (so_far 0 [] []) = record { fresh = false; tick = None; store = None; news_are = refl; ticks_are = refl; names_are = refl; new_row = refl; tick_row = refl; store_row = refl; filled = refl } in
+    subst (λ kinds. Finds (given_by words) kinds (matches_of hac words)) (sym (ap₂ (λ below entered. level_fault top [] nothing_held words entered below) no_entry.0 no_entry.1))
+    (subst (λ given. FindsFrom given (walk_at false 1 [] None) words) (nothing-before (given_by words)) ((found-all words texts).free false [] None 0 [] [] (inl (refl, shows))))

@@ -58,7 +58,8 @@ Reopens false P image = Holds P image
 Reopens true P image = (kept : Setting) → IsHeldAs image kept → P kept.state
 
 -- `done` turns were answered. The state is the tree after a prefix of their events which holds the events of each
--- answered command, and of those behind them at most those of the command in hand.
+-- answered command, and of those behind them at most the steps that follow the last one by themselves and then those
+-- of the command in hand.
 pub record IsTreeOfAnswered (s : State) (turns : List Turn) (done : ℕ) (now : State) : Type 0 where
   pub count : ℕ
   pub within : count ≤ length (all_events turns)

@@ -6,4 +6,5 @@ pub mod TakenLines
 pub mod Replies
 pub mod Run
 pub mod Storing
+pub mod Ticking
 pub mod Words

@@ -1,21 +1,23 @@
 -- What becomes of a store and of its disk as turns are stored and answered.
-use Rattle.std.specs.Prelude.{◌≡◌, ⊤, ℕ, Bool, false, List, [], ◌∷◌, Option, Result, Ok, Err, IfOk, IfErr}
+use Rattle.std.specs.Prelude.{◌≡◌, ◌⊎◌, ⊤, ℕ, Bool, false, List, [], ◌∷◌, length, Option, Result, Ok, Err, IfOk, IfErr, OnOk}
 use Rattle.hac_disk.specs.Images.{LeavesOnly}
 use Rattle.hac_outside.specs.Causes.{ReportsFault}
 use Rattle.hac_outside.specs.Seen.{SinkSeen}
-use Rattle.hac_model.specs.Run.Play.{Setting, Turn, all_events, left_by, stored_setting, turns_text}
+use Rattle.hac_model.specs.Run.Play.{Setting, Turn, all_events, left_by, turns_text}
+use Rattle.hac_model.specs.Tree.Events.{apply_all}
 use Rattle.hac_model.specs.Tree.Sessions.{stored}
 use Rattle.hac_model.specs.declared.events.Event.{Event}
 use Rattle.hac_model.specs.declared.limits.LimitWord.TheVariants.{Store}
 use Rattle.hac_model.specs.declared.replies.Refusal.TheVariants.{Limit}
 use Rattle.hac_model.specs.declared.replies.Reply.{Reply}
 use Rattle.hac_model.specs.declared.replies.Reply.TheVariants.{Lines, Refused}
-use Rattle.hac_store.specs.Stores.{Bears, IsHeldAs, Seen, Stands}
+use Rattle.hac_store.specs.Stores.{Bears, Seen, Stands, store_after}
 use Rattle.hac_store.specs.declared.fault.StoreFault.{StoreFault}
 use Rattle.hac_store.specs.declared.fault.StoreFault.TheVariants.{Full}
-use Rattle.hac_top.specs.Crashes.{Holds, IsTreeAfter}
+use Rattle.hac_top.specs.Crashes.{Holds, IsTreeAfter, IsTreeOfAnswered}
 use Rattle.hac_top.specs.Ends.{is_disk_fault, store_status, reports_disk}
 use Rattle.hac_top.specs.Replies.{CutsWriting, WritesAll}
+use Rattle.hac_top.specs.Ticking.{command_events}
 use Rattle.hac_top.specs.declared.status.Status.{Status}
 use Rattle.hac_top.specs.declared.status.Status.TheVariants.{WriteFault, DiskFault, Memory}
 
@@ -41,6 +43,13 @@ abbrev pub StopsCommand : Status → Type 0
 StopsCommand DiskFault = ⊤
 StopsCommand Memory = ⊤
 StopsCommand other = ⊥
+
+-- the store has gone on by these events, which are stored
+pub record HasGoneOn {D : Type 0} (seen : D → Option (List ℕ)) (image : D → List ℕ → Type 0) (old new : D)
+    (before after : Seen) (events : List Event) : Type 0 where
+  pub store : after ≡ store_after before events
+  pub place : Bears (seen new) after
+  pub stands : Stands (seen old) (image old) before.setting → Stands (seen new) (image new) after.setting
 
 -- the store has gone on by a turn, which has this reply
 pub record HasStored {D : Type 0} (seen : D → Option (List ℕ)) (image : D → List ℕ → Type 0) (old new : D)
@@ -70,12 +79,43 @@ pub record AnswersLine {D : Type 0} (seen : D → Option (List ℕ)) (image : D 
   pub stands : Stands (seen old) (image old) before.setting → Stands (seen new) (image new) after.setting
   pub stores : Stores seen image moment image_since attached faults old new before.setting (all_events answered) false
 
--- an answer stopped. If the sink failed, all of the line was stored before.
-pub record StopsAnswer {D : Type 0} (seen : D → Option (List ℕ)) (image : D → List ℕ → Type 0)
+-- What storing the index steps behind a command does: all of them are stored, or the disk failed or memory ran out.
+pub record StoresSteps {D : Type 0} (seen : D → Option (List ℕ)) (image : D → List ℕ → Type 0)
+    (moment : D → ℕ) (image_since : D → ℕ → List ℕ → Type 0)
+    (attached : D → Option (List (List ℕ × Bool))) (faults : D → ℕ) (old new : D)
+    (before after : Seen) (steps : List Event) (result : Result Unit Status) : Type 0 where
+  pub ok : OnOk result (HasGoneOn seen image old new before after steps)
+  pub err : IfErr result StopsCommand
+  pub stores : Stores seen image moment image_since attached faults old new before.setting steps (reports_disk result)
+
+-- An answer stopped before its reply was written whole and passed on, and no step follows it. If the sink failed, the
+-- events of the command were stored before.
+pub record StopsReply {D : Type 0} (seen : D → Option (List ℕ)) (image : D → List ℕ → Type 0)
     (moment : D → ℕ) (image_since : D → ℕ → List ℕ → Type 0)
     (attached : D → Option (List (List ℕ × Bool))) (faults : D → ℕ) (old new : D)
     (setting : Setting) (sink sink_after : SinkSeen) (answered : List Turn) (status : Status) : Type 0 where
   pub replies : CutsWriting status sink sink_after (turns_text answered)
   pub stored : status ≡ WriteFault → Stands (seen old) (image old) setting → (c : List ℕ) → image new c →
-      IsHeldAs c (stored_setting (left_by setting answered))
+      Holds (λ now. now ≡ apply_all (stored setting.state) (command_events answered)) c
+  pub stores : Stores seen image moment image_since attached faults old new setting (command_events answered) (is_disk_fault status)
+
+-- An answer stopped behind its reply, which was written whole and passed on. The events of the command were stored
+-- before, and some of the steps behind it may be, the first ones in order.
+pub record StopsBehind {D : Type 0} (seen : D → Option (List ℕ)) (image : D → List ℕ → Type 0)
+    (moment : D → ℕ) (image_since : D → ℕ → List ℕ → Type 0)
+    (attached : D → Option (List (List ℕ × Bool))) (faults : D → ℕ) (old new : D)
+    (setting : Setting) (sink sink_after : SinkSeen) (answered : List Turn) (status : Status) : Type 0 where
+  pub why : StopsCommand status
+  pub replies : WritesAll sink sink_after (turns_text answered)
+  pub left : Stands (seen old) (image old) setting → (c : List ℕ) → image new c →
+      Holds (IsTreeOfAnswered (stored setting.state) answered (length answered)) c
   pub stores : Stores seen image moment image_since attached faults old new setting (all_events answered) (is_disk_fault status)
+
+-- an answer stopped, at its reply or behind it
+abbrev pub StopsAnswer : {D : Type 0} (seen : D → Option (List ℕ)) (image : D → List ℕ → Type 0)
+    (moment : D → ℕ) (image_since : D → ℕ → List ℕ → Type 0)
+    (attached : D → Option (List (List ℕ × Bool))) (faults : D → ℕ) (old new : D)
+    (setting : Setting) (sink sink_after : SinkSeen) (answered : List Turn) (status : Status) → Type 0
+StopsAnswer seen image moment image_since attached faults old new setting sink sink_after answered status =
+    StopsReply seen image moment image_since attached faults old new setting sink sink_after answered status
+    ⊎ StopsBehind seen image moment image_since attached faults old new setting sink sink_after answered status

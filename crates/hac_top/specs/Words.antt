@@ -1,5 +1,6 @@
 -- The words of the program, as the library reads them.
-use Rattle.std.specs.Prelude.{true, codes, Some}
+use Rattle.std.specs.Prelude.{true, codes, List, ℕ, [], ◌∷◌, Option, Some, None}
+use Rattle.std.specs.Borrow.{Bor}
 use Rattle.clap.specs.Simple.{on_top}
 use Rattle.clap.specs.Words.{App, Rule, new_app, new_rule, with_rule}
 use Rattle.clap.specs.declared.builder.ArgAction.TheVariants.{SetTrue}
@@ -13,21 +14,32 @@ use Rattle.hac_top.specs.declared.words.WordsFault.TheVariants.{Memory, Usage}
 
 -- what was read, as the definition has it
 abbrev pub asked_of : Options → line.Options
-asked_of options = record { fresh = options.fresh; store = options.store.now }
+asked_of options = record { fresh = options.fresh; tick = options.tick; store = options.store.now }
+
+-- the value that was given, if one was
+abbrev pub values_of : Option (Bor (List ℕ)) → List (List ℕ)
+values_of None = []
+values_of (Some value) = value.now ∷ []
 
 -- `--new`
 abbrev pub new_option : Rule
 new_option = record (new_rule (codes "new")) { long = Some (codes "new"); action = Some SetTrue }
 
+-- `--tick`, with one value
+abbrev pub tick_option : Rule
+tick_option = record (new_rule (codes "tick")) { long = Some (codes "tick") }
+
 -- STORE
 abbrev pub store_name : Rule
 store_name = record (new_rule (codes "store")) { parser = Some NonEmptyString; required = true }
 
--- the command line: these two, behind the program's name, and no help
+-- the command line without its arguments: no name of the program stands before the words, and no help is given
+abbrev pub bare : App
+bare = on_top (λ s. record s { no_binary_name = true; disable_help_flag = true }) (new_app (codes "hac"))
+
+-- and with them
 abbrev pub hac : App
-hac =
-    let bare = on_top (λ s. record s { no_binary_name = true; disable_help_flag = true }) (new_app (codes "hac")) in
-    with_rule (with_rule bare new_option) store_name
+hac = with_rule (with_rule (with_rule bare new_option) tick_option) store_name
 
 -- an error of the library, as a fault
 abbrev pub fault_by : ErrorKind → WordsFault

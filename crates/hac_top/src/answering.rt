@@ -1,20 +1,22 @@
-//! Answering: what a line changes is stored, and then its reply is written and flushed.
+//! Answering: what a line changes is stored, then its reply is written and flushed, and behind it
+//! the index steps are stored that follow each command by themselves.
 ghost use Rattle.std.specs.Prelude.{◌≡◌, ◌||◌, ◌∷◌, [], false, IfErr, OnErr, OnOk};
 ghost use Rattle.std.specs.Io.KnownBytes.{Appends};
 ghost use Rattle.hac_outside.specs.Causes.{HasCause};
 ghost use Rattle.hac_outside.specs.Seen.{WritesSome};
-ghost use Rattle.hac_model.specs.Run.Play.{has_refusal, is_refused, item_turn, nothing_given};
-ghost use Rattle.hac_model.specs.Run.Play.{turns};
+ghost use Rattle.hac_model.specs.Run.Play.{has_refusal, is_refused, item_turn, turns};
 ghost use Rattle.hac_model.specs.Script.Lines.{item_taken};
 ghost use Rattle.hac_model.specs.Script.Printed.{text};
 ghost use Rattle.hac_store.specs.Stores.{Bears};
 ghost use Rattle.hac_top.specs.Storing.{AnswersLine, StopsAnswer};
 ghost use Rattle.hac_top.specs.TakenLines.{items_of_taken};
 ghost use Rattle.hac_top.specs.Replies.{StopsWriting, WritesAll};
+ghost use Rattle.hac_top.specs.Ticking.{ticking, told_turn};
 
 use crate::status::Status;
 use crate::storing::store_line;
 use crate::taking::TakenLine;
+use crate::ticking::tick;
 use hac_disk::Disk;
 use hac_model::{LimitWord, Refusal, Reply, Taken, Text};
 use hac_outside::{Failed, Sink, write_all};
@@ -28,13 +30,16 @@ pub struct Player {
     pub alloc: Global,
     /// The tree that the commands so far have left, in its store.
     pub store: Store,
+    /// The most index steps that follow each command by themselves.
+    pub tick: u64,
     /// Some command so far was refused.
     pub refused: bool,
 }
 
 impl Player {
     /// Answers a line of the script, with the bytes that belong to it. What it changes is in the
-    /// store before anything of its reply is written.
+    /// store before anything of its reply is written, and no step follows before its reply was
+    /// written and flushed.
     pub fn answer<K: Sink, D: Disk>(
         &mut self,
         output: &mut K,
@@ -43,23 +48,25 @@ impl Player {
     ) -> Result<(), Status>
         requires intact { self.old.store.broken ≡ false }
         requires place { Bears (D.seen disk.old) self.old.store }
+        ensures tick { self.new.tick ≡ self.old.tick }
         ensures refused { OnOk result (self.new.refused ≡
-            (self.old.refused || has_refusal (turns nothing_given self.old.store.setting
+            (self.old.refused || has_refusal (turns (ticking self.old.tick) self.old.store.setting
             (items_of_taken line)))) }
         ensures ok { OnOk result (AnswersLine D.seen D.image D.moment D.image_since D.attached
             D.faults disk.old disk.new self.old.store self.new.store
             (K.seen output.old) (K.seen output.new)
-            (turns nothing_given self.old.store.setting (items_of_taken line))) }
+            (turns (ticking self.old.tick) self.old.store.setting (items_of_taken line))) }
         ensures err { IfErr result (StopsAnswer D.seen D.image D.moment D.image_since D.attached
             D.faults disk.old disk.new self.old.store.setting
             (K.seen output.old) (K.seen output.new)
-            (turns nothing_given self.old.store.setting (items_of_taken line))) }
+            (turns (ticking self.old.tick) self.old.store.setting (items_of_taken line))) }
     {
         let TakenLine { piece, taken } = line;
         match piece {
             Piece::Bytes(line) => self.answer_line(output, disk, line, taken),
-            Piece::LongLine => self.reply_with(
+            Piece::LongLine => self.tell(
                 output,
+                disk,
                 Reply::Refused(Refusal::Limit(LimitWord::Line)),
             ),
             Piece::Blank | Piece::End => Ok(()),
@@ -76,24 +83,53 @@ impl Player {
     ) -> Result<(), Status>
         requires intact { self.old.store.broken ≡ false }
         requires place { Bears (D.seen disk.old) self.old.store }
+        ensures tick { self.new.tick ≡ self.old.tick }
         ensures refused { OnOk result (self.new.refused ≡ (self.old.refused || has_refusal
-            (item_turn nothing_given self.old.store.setting (item_taken line taken) ∷ []))) }
+            (item_turn (ticking self.old.tick) self.old.store.setting
+            (item_taken line taken) ∷ []))) }
         ensures ok { OnOk result (AnswersLine D.seen D.image D.moment D.image_since D.attached
             D.faults disk.old disk.new self.old.store self.new.store
             (K.seen output.old) (K.seen output.new)
-            (item_turn nothing_given self.old.store.setting (item_taken line taken) ∷ [])) }
+            (item_turn (ticking self.old.tick) self.old.store.setting
+            (item_taken line taken) ∷ [])) }
         ensures err { IfErr result (StopsAnswer D.seen D.image D.moment D.image_since D.attached
             D.faults disk.old disk.new self.old.store.setting
             (K.seen output.old) (K.seen output.new)
-            (item_turn nothing_given self.old.store.setting (item_taken line taken) ∷ [])) }
+            (item_turn (ticking self.old.tick) self.old.store.setting
+            (item_taken line taken) ∷ [])) }
     {
         let reply = store_line(self.alloc, &mut self.store, disk, line, taken)?;
-        self.reply_with(output, reply)
+        self.tell(output, disk, reply)
+    }
+
+    // Gives a reply, and behind it lets the index steps follow that do so by themselves.
+    fn tell<K: Sink, D: Disk>(
+        &mut self,
+        output: &mut K,
+        disk: &mut D,
+        reply: Reply,
+    ) -> Result<(), Status>
+        requires intact { self.old.store.broken ≡ false }
+        requires place { Bears (D.seen disk.old) self.old.store }
+        ensures tick { self.new.tick ≡ self.old.tick }
+        ensures refused { OnOk result (self.new.refused ≡ (self.old.refused || is_refused reply)) }
+        ensures ok { OnOk result (AnswersLine D.seen D.image D.moment D.image_since D.attached
+            D.faults disk.old disk.new self.old.store self.new.store
+            (K.seen output.old) (K.seen output.new)
+            (told_turn self.old.tick self.old.store.setting reply ∷ [])) }
+        ensures err { IfErr result (StopsAnswer D.seen D.image D.moment D.image_since D.attached
+            D.faults disk.old disk.new self.old.store.setting
+            (K.seen output.old) (K.seen output.new)
+            (told_turn self.old.tick self.old.store.setting reply ∷ [])) }
+    {
+        self.write_reply(output, reply)?;
+        tick(&mut self.store, disk, self.tick)
     }
 
     // Writes a reply, and flushes it.
-    fn reply_with<K: Sink>(&mut self, output: &mut K, reply: Reply) -> Result<(), Status>
+    fn write_reply<K: Sink>(&mut self, output: &mut K, reply: Reply) -> Result<(), Status>
         ensures store { self.new.store ≡ self.old.store }
+        ensures tick { self.new.tick ≡ self.old.tick }
         ensures refused { OnOk result (self.new.refused ≡ (self.old.refused || is_refused reply)) }
         ensures ok { OnOk result (WritesAll (K.seen output.old) (K.seen output.new)
             (text (reply ∷ []))) }

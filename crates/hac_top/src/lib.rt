@@ -9,6 +9,7 @@ mod running;
 mod status;
 mod storing;
 mod taking;
+mod ticking;
 mod words;
 
 pub use running::run;

@@ -28,11 +28,11 @@ use std::alloc::Global;
 /// Opens the store that the words name, plays the script that the source gives, and writes the
 /// reply to each command to the sink.
 ///
-/// `words` are those of the program behind its own name: `[--new] STORE`. The disk is bound to the
-/// file STORE, which is made where it is missing and `--new` is given. The source is read in
-/// pieces, and no line is carried out before the reply to the line before it was written and
-/// flushed; what a line changes is stored before its reply is written. A `put` is carried out with
-/// the bytes that follow its line.
+/// `words` are those of the program behind its own name: `[--new] [--tick N] STORE`. The disk is
+/// bound to the file STORE, which is made where it is missing and `--new` is given. The source is
+/// read in pieces, and no line is carried out before the reply to the line before it was written
+/// and flushed; what a line changes is stored before its reply is written. Behind each reply up to
+/// N index steps follow. A `put` is carried out with the bytes that follow its line.
 pub fn run<S: Source, K: Sink, D: Disk>(
     alloc: Global,
     words: &[String],
@@ -53,7 +53,7 @@ pub fn run<S: Source, K: Sink, D: Disk>(
     // script is played.
     ensures ran { IfOpens (options (map string_bytes words.now)) (D.seen disk.old)
         (S.seen input.old).left
-        (λ fresh setting script. Ran fresh result setting script
+        (λ asked setting script. Ran asked.fresh asked.tick result setting script
         (outside (S.seen input.old) (K.seen output.old))
         (outside (S.seen input.new) (K.seen output.new))
         (IsSettled (D.seen disk.old) (D.image disk.old)) (D.image disk.new)
@@ -91,7 +91,7 @@ pub fn run<S: Source, K: Sink, D: Disk>(
         Err(WordsFault::Memory) => return Status::Memory,
     };
     match open_store(alloc, options, disk) {
-        Ok(store) => play_store(alloc, store, input, output, disk),
+        Ok(store) => play_store(alloc, store, options.tick, input, output, disk),
         Err(status) => status,
     }
 }
@@ -105,7 +105,7 @@ fn write_usage<K: Sink>(output: &mut K) -> Status
     ensures faults { ReportsFault (is_write_fault result) (K.seen output.old).faults
         (K.seen output.new).faults }
 {
-    match write_now(output, b"usage: hac [--new] STORE\n") {
+    match write_now(output, b"usage: hac [--new] [--tick N] STORE\n") {
         Ok(()) => Status::Usage,
         Err(_) => Status::WriteFault,
     }
@@ -115,6 +115,7 @@ fn write_usage<K: Sink>(output: &mut K) -> Status
 fn play_store<S: Source, K: Sink, D: Disk>(
     alloc: Global,
     store: Store,
+    tick: u64,
     input: &mut S,
     output: &mut K,
     disk: &mut D,
@@ -123,12 +124,13 @@ fn play_store<S: Source, K: Sink, D: Disk>(
     requires intact { store.broken ≡ false }
     requires place { Bears (D.seen disk.old) store }
     ensures { PlaysStore D.seen D.image D.moment D.image_since D.attached D.faults disk.old disk.new
-        store.setting (outside (S.seen input.old) (K.seen output.old))
+        tick store.setting (outside (S.seen input.old) (K.seen output.old))
         (outside (S.seen input.new) (K.seen output.new)) result }
 {
     let mut player = Player {
         alloc,
         store,
+        tick,
         refused: false,
     };
     let played = play_script(alloc, &mut player, input, output, disk);
@@ -149,7 +151,7 @@ fn play_script<S: Source, K: Sink, D: Disk>(
     requires intact { player.old.store.broken ≡ false }
     requires place { Bears (D.seen disk.old) player.old.store }
     ensures { PlaysStore D.seen D.image D.moment D.image_since D.attached D.faults disk.old disk.new
-        player.old.store.setting (outside (S.seen input.old) (K.seen output.old))
+        player.old.tick player.old.store.setting (outside (S.seen input.old) (K.seen output.old))
         (outside (S.seen input.new) (K.seen output.new)) (end_status result) }
 {
     let mut reader = Reader::new(alloc)?;

@@ -20,8 +20,8 @@ use std::alloc::Global;
 // The most index steps that one append takes.
 const BATCH: u64 = 4_096;
 
-// How many bytes the payload of an index step has.
-const STEP_BYTES: u64 = 2;
+/// How many bytes the payload of an index step has.
+pub const STEP_BYTES: u64 = 2;
 
 /// Decides what a line asks for, given what was taken of the bytes behind it, and stores what it
 /// changes. Gives the reply.
@@ -75,8 +75,9 @@ fn store_events<D: Disk>(
     }
 }
 
-// Stores index steps and applies them, some thousands by one append. `Full` comes before any write.
-fn store_steps<D: Disk>(store: &mut Store, disk: &mut D, count: u64) -> Result<(), StoreFault>
+/// Stores index steps and applies them, some thousands by one append. `Full` comes before any
+/// write.
+pub fn store_steps<D: Disk>(store: &mut Store, disk: &mut D, count: u64) -> Result<(), StoreFault>
     requires intact { store.old.broken ≡ false }
     requires place { Bears (D.seen disk.old) store.old }
     requires happen { AllHappen store.old.setting.state (replicate count event.Step) }

@@ -1,13 +1,14 @@
-//! Reading the words of the program: the name of its store, and whether that is to be a new one. It
-//! knows no device.
+//! Reading the words of the program: the name of its store, whether that is to be a new one, and
+//! how many files may be indexed behind each command. It knows no device.
 ghost use Rattle.std.specs.Prelude.{◌≡◌, IfErr, IfOk, Some, None, map, string_bytes};
 ghost use Rattle.clap.specs.Words.{app_of};
-ghost use Rattle.hac_model.specs.Script.CommandLine.{options};
-ghost use Rattle.hac_top.specs.Words.{asked_of, hac};
+ghost use Rattle.hac_model.specs.Script.CommandLine.{options, tick_of};
+ghost use Rattle.hac_top.specs.Words.{asked_of, hac, values_of};
 
 use clap::builder::ValueParser;
 use clap::error::ErrorKind;
 use clap::{Arg, ArgAction, Command};
+use shell_lang::steps_of;
 use std::alloc::{AllocError, Global};
 
 /// What the words ask for.
@@ -15,6 +16,8 @@ use std::alloc::{AllocError, Global};
 pub(crate) struct Options<'a> {
     /// The store is to be a new one.
     pub(crate) fresh: bool,
+    /// The most index steps that follow each command by themselves.
+    pub(crate) tick: u64,
     /// The name of its file.
     pub(crate) store: &'a str,
 }
@@ -62,10 +65,25 @@ pub(crate) fn read_words(alloc: Global, words: &[String]) -> Result<Options<'_>,
         → options (map string_bytes words.now) ≡ None) }
 {
     let matches = command(alloc)?.try_get_matches_from(words)?;
+    let Some(tick) = tick_of(matches.get_str("tick")) else {
+        return Err(WordsFault::Usage);
+    };
     Ok(Options {
         fresh: matches.get_flag("new"),
+        tick,
         store: matches.get_str("store").unwrap(),
     })
+}
+
+/// The number that `--tick` gives. The numbers of the library may begin with `+` or with zeros, and
+/// this one may not, so it is read as those of lines are.
+fn tick_of(value: Option<&str>) -> Option<u64>
+    ensures { result ≡ tick_of (values_of value.entry) }
+{
+    match value {
+        Some(text) => steps_of(text.as_bytes()),
+        None => Some(0),
+    }
 }
 
 /// The command line, as the library reads it.
@@ -75,6 +93,7 @@ fn command<'a>(alloc: Global) -> Result<Command<'a>, AllocError>
     let fresh = Arg::new(alloc, "new")
         .long("new")
         .action(ArgAction::SetTrue);
+    let tick = Arg::new(alloc, "tick").long("tick");
     let store = Arg::new(alloc, "store")
         .value_parser(ValueParser::NonEmptyString)
         .required(true);
@@ -82,5 +101,6 @@ fn command<'a>(alloc: Global) -> Result<Command<'a>, AllocError>
         .no_binary_name(true)
         .disable_help_flag(true)
         .arg(fresh)?
+        .arg(tick)?
         .arg(store)
 }

@@ -11,7 +11,7 @@ use Rattle.hac_model.specs.Query.Formula.{Formula}
 use Rattle.hac_model.specs.Tree.Limits.{is_text}
 use Rattle.hac_model.specs.Tree.Links.{parent_of, query_at}
 use Rattle.hac_model.specs.Tree.Sessions.{sessions_after}
-use Rattle.hac_model.specs.Tree.{body_at, entry_at, is_directory, is_file, is_file_at}
+use Rattle.hac_model.specs.Tree.{body_at, entry_at, is_directory, is_file_at, is_leaf}
 use Rattle.hac_model.specs.declared.events.Event.{Event}
 use Rattle.hac_model.specs.declared.events.Event.TheVariants as event
 use Rattle.hac_model.specs.declared.marks.Kind.{Kind}
@@ -36,7 +36,7 @@ use Rattle.kept_state.specs.Ready.{IsCommitted}
 use Rattle.kept_state.specs.declared.parts.Parts.{Parts}
 use Rattle.kept_state.proofs.KeptLemmas.{has_edges, kept-edges, kept-lists, lists-still, put, sets-edges, unfound}
 use Rattle.kept_state.proofs.ReadyLemmas.{possible-of}
-use Rattle.kept_state.proofs.StateLemmas.{kept-bares, same-depends, same-file, same-made, same-some}
+use Rattle.kept_state.proofs.StateLemmas.{kept-bares, same-depends, same-file, same-leaf, same-made, same-some}
 
 -- an entry whose body passes a test is there
 tested-there : (t : State) (n : ℕ) (p : Body → Bool) → option_map_or p (body_at t.entries n) false ≡ true → is_some (entry_at t.entries n) ≡ true
@@ -71,8 +71,8 @@ module _ (kept : Parts) where
   pub text-there : (file : ℕ) (text : List ℕ) → IsTrue (accepted s (event.Rewrite file text)) → is_file_at kept.tree.state.entries file ≡ true
   text-there file text ok = sym (same-file s kept.tree.state (kept-bares kept) file) ∙ (and_parts (is_file_at s.entries file) (is_text text) (possible-of s (event.Rewrite file text) ok)).0
 
-  pub file-there : (file : ℕ) → IsTrue (accepted s (event.Rm file)) → is_some (entry_at kept.tree.state.entries file) ≡ true
-  file-there file ok = tested-there kept.tree.state file is_file (sym (same-file s kept.tree.state (kept-bares kept) file) ∙ possible-of s (event.Rm file) ok)
+  pub leaf-there : (leaf : ℕ) → IsTrue (accepted s (event.Rm leaf)) → is_some (entry_at kept.tree.state.entries leaf) ≡ true
+  leaf-there leaf ok = tested-there kept.tree.state leaf is_leaf (sym (same-leaf s kept.tree.state (kept-bares kept) leaf) ∙ possible-of s (event.Rm leaf) ok)
 
   pub directory-there : (dir : ℕ) → IsTrue (accepted s (event.Rmdir dir)) → is_some (entry_at kept.tree.state.entries dir) ≡ true
   directory-there dir ok = tested-there kept.tree.state dir is_directory (sym (same-made s kept.tree.state (kept-bares kept) dir) ∙ (rmdir-parts s dir (possible-of s (event.Rmdir dir) ok)).0)
@@ -232,7 +232,7 @@ module _ (kept : Parts) (h : IsLinked kept) (entry dir : ℕ) (name : List ℕ) 
         fits : AreMovedEdges kept.tree.state kept.graph entry dir (Some new)
         fits = subst (λ (o : Option NewEdges). AreMovedEdges kept.tree.state kept.graph entry dir o) some are
 
--- A file goes.
+-- A file or a link goes.
 
 pub removed-put : (kept : Parts) (entry : ℕ) → IsLinked kept → IsTrue (accepted (state_of kept) (event.Rm entry)) → (tree : tree.Seen) (marks : Known) → tree.state ≡ removed kept.tree.state entry → DropsItem kept.marks marks entry → SameLinks kept.marks marks → IsCommitted (event.Rm entry) kept (record { tree = tree; marks = marks; graph = kept.graph; sessions = kept.sessions })
 removed-put kept entry h ok tree marks is drops sets =

@@ -1,7 +1,7 @@
 -- What the search over a graph says of the state.
 use Rattle.std.proofs.Common.{◌≡◌, ℕ, true, false, cond, List, [], ◌∷◌, subst, refl, ap, sym, ◌∙◌, inl, inr}
 use Rattle.std.specs.Prelude.{Bool, Option, Some, Result, Ok, Err, IfOk}
-use Rattle.hac_model.specs.Tree.Depends.{IsAcyclic, cycle_over, depends, first_reaching, named_in, reaches}
+use Rattle.hac_model.specs.Tree.Depends.{cycle_over, depends, first_reaching, named_in, reaches}
 use Rattle.hac_model.specs.Query.Formula.{Formula}
 use Rattle.hac_model.specs.declared.memory.Memory.{Memory}
 use Rattle.hac_model.specs.declared.states.State.{State}
@@ -13,27 +13,27 @@ use Rattle.kept_state.specs.declared.parts.Parts.{Parts}
 use Rattle.kept_state.proofs.KeptLemmas.{kept-edges}
 
 -- the first directory that is found over the dependencies is the first that reaches
-pub first-told : (s : State) (dir : ℕ) (others : List ℕ) (found : Option ℕ) → IsAcyclic s → IsFirstToReach (depends s) dir others found → first_reaching s dir others ≡ found
+pub first-told : (s : State) (dir : ℕ) (others : List ℕ) (found : Option ℕ) → IsFirstToReach (depends s) dir others found → first_reaching s dir others ≡ found
 unfolding first_reaching
-first-told s dir [] found acyclic h = sym h
-first-told s dir (other ∷ others) found acyclic (inl (is, walk)) =
-    ap (λ (b : Bool). cond b (Some other) (first_reaching s dir others)) (reaches-told s other dir acyclic walk) ∙ sym is
-first-told s dir (other ∷ others) found acyclic (inr (apart, rest)) =
+first-told s dir [] found h = sym h
+first-told s dir (other ∷ others) found (inl (is, walk)) =
+    ap (λ (b : Bool). cond b (Some other) (first_reaching s dir others)) (reaches-told s other dir walk) ∙ sym is
+first-told s dir (other ∷ others) found (inr (apart, rest)) =
     elim (reaches s other dir) as (λ b. reaches s other dir ≡ b → cond b (Some other) (first_reaching s dir others) ≡ found) [
       | true ↦ (λ there. absurd (apart (reaches-walk s other dir there)))
-      | false ↦ (λ away. first-told s dir others found acyclic rest)
+      | false ↦ (λ away. first-told s dir others found rest)
     ] refl
 
 -- the same, by a graph that has the dependencies
-pub first-by : (s : State) (edges : ℕ → List ℕ) (dir : ℕ) (others : List ℕ) (found : Option ℕ) → ((d : ℕ) → edges d ≡ depends s d) → IsAcyclic s → IsFirstToReach edges dir others found → first_reaching s dir others ≡ found
-first-by s edges dir others found same acyclic h =
-    first-told s dir others found acyclic (subst (λ (e : ℕ → List ℕ). IsFirstToReach e dir others found) (λ i d. same d i) h)
+pub first-by : (s : State) (edges : ℕ → List ℕ) (dir : ℕ) (others : List ℕ) (found : Option ℕ) → ((d : ℕ) → edges d ≡ depends s d) → IsFirstToReach edges dir others found → first_reaching s dir others ≡ found
+first-by s edges dir others found same h =
+    first-told s dir others found (subst (λ (e : ℕ → List ℕ). IsFirstToReach e dir others found) (λ i d. same d i) h)
 
 -- what a linked tree's graph says of the directory through which another would depend on itself
 pub cycle-told : (kept : Parts) (dir parent : ℕ) (q : Formula ℕ) (edges : List ℕ) (found : Option ℕ) → IsLinked kept → edges ≡ parent ∷ named_in q → IsFirstToReach (edges_of kept.graph) dir edges found → cycle_over (state_of kept) dir parent q ≡ found
 cycle-told kept dir parent q edges found h is reached =
     ap (first_reaching (state_of kept) dir) (sym is)
-    ∙ first-by (state_of kept) (edges_of kept.graph) dir edges found (kept-edges kept h) h.valid.acyclic reached
+    ∙ first-by (state_of kept) (edges_of kept.graph) dir edges found (kept-edges kept h) reached
 
 pub way-told : (kept : Parts) (dir parent : ℕ) (q : Formula ℕ) (edges : List ℕ) (result : Result (Option ℕ) Memory) → IsLinked kept → edges ≡ parent ∷ named_in q → IfOk result (λ found. IsFirstToReach (edges_of kept.graph) dir edges found) → IfOk result (λ way. way ≡ cycle_over (state_of kept) dir parent q)
 way-told kept dir parent q edges (Ok found) h is first = sym (cycle-told kept dir parent q edges found h is first)

@@ -6,6 +6,7 @@ use Rattle.hac_model.specs.Tree.Events.{accepted, apply, is_free, is_possible}
 use Rattle.hac_model.specs.Tree.Facts.{Facts, joined}
 use Rattle.hac_model.specs.Query.Formula.{Formula}
 use Rattle.hac_model.specs.Tree.Limits.{is_text, passed_limit}
+use Rattle.hac_model.specs.Script.PathWords.{is_target}
 use Rattle.hac_model.specs.Tree.Links.{is_semantic}
 use Rattle.hac_model.specs.Tree.{is_directory_at}
 use Rattle.hac_model.specs.declared.events.Event.{Event}
@@ -31,6 +32,13 @@ module _ (facts : ℕ → Facts) (sessions : List Session) (t : State) (e : Even
   file-directory dir name text is =
       let possible = possible-of (joined facts sessions t) (event.NewFile dir name text) (subst (λ (e : Event). IsTrue (accepted (joined facts sessions t) e)) is ok) in
       free-directory facts sessions t dir name (and_parts (is_free (joined facts sessions t) dir name) (is_text text) possible).0
+
+  pub link-parts : (dir : ℕ) (name target : List ℕ) → e ≡ event.Ln dir name target → (is_directory_at t.entries dir ≡ true) × (is_target target ≡ true)
+  link-parts dir name target is =
+      let s = joined facts sessions t in
+      let possible = possible-of s (event.Ln dir name target) (subst (λ (e : Event). IsTrue (accepted s e)) is ok) in
+      let parts = and_parts (is_free s dir name) (is_target target) possible in
+      (free-directory facts sessions t dir name parts.0, parts.1)
 
   pub smkdir-directory : (dir : ℕ) (name : List ℕ) (query : Formula ℕ) (told : List (List ℕ)) → e ≡ event.Smkdir dir name query told → is_directory_at t.entries dir ≡ true
   smkdir-directory dir name query told is =

@@ -1,7 +1,7 @@
 -- What a linked tree says of its state: all but marks is in the tree alone.
-use Rattle.std.proofs.Common.{◌≡◌, ℕ, List, map, refl, ap, subst, sym, ◌∙◌}
-use Rattle.std.specs.Prelude.{◌==◌, ◌&&◌, not, length, nat_lt, Option, Some, None, is_some, option_and_then}
-use Rattle.std.specs.Option.{option_map}
+use Rattle.std.proofs.Common.{◌≡◌, ℕ, false, List, map, refl, ap, subst, sym, ◌∙◌}
+use Rattle.std.specs.Prelude.{◌==◌, ◌&&◌, ◌||◌, not, length, nat_lt, Option, Some, None, is_some, option_and_then}
+use Rattle.std.specs.Option.{option_map, option_map_or}
 use Rattle.hac_model.specs.Tree.Bare.{bare, bare_body}
 use Rattle.hac_model.specs.Tree.Depends.{depends, referrers}
 use Rattle.hac_model.specs.Tree.Events.{apply, dirty, edited, is_bare, is_free, is_inside, may_ask}
@@ -9,17 +9,18 @@ use Rattle.hac_model.specs.Query.Formula.{Formula}
 use Rattle.hac_model.specs.Tree.Limits.{counts, is_text}
 use Rattle.hac_model.specs.Tree.Links.{is_semantic, parent_of, query_at, shown_of}
 use Rattle.hac_model.specs.Run.Resolving.{resolved_for}
+use Rattle.hac_model.specs.Script.PathWords.{is_target}
 use Rattle.hac_model.specs.Script.SpaceNames.{is_space_name}
-use Rattle.hac_model.specs.Tree.{entry_at, is_directory, is_directory_at, is_file_at, is_made_directory, path_of, shown_text}
+use Rattle.hac_model.specs.Tree.{body_at, entry_at, is_directory, is_directory_at, is_file, is_file_at, is_leaf, is_leaf_at, is_made_directory, is_symlink, is_symlink_at, path_of, shown_text, target_in}
 use Rattle.hac_model.specs.Tree.Valid.{IsLayout}
 use Rattle.hac_model.specs.declared.commands.Command.{Command}
 use Rattle.hac_model.specs.declared.events.Event.{Event}
-use Rattle.hac_model.specs.declared.events.Event.TheVariants.{Mkdir, NewFile, Rewrite, Smkdir, Setq, Unq, Mark, Mv, Rm, Rmdir, Step, Cd}
+use Rattle.hac_model.specs.declared.events.Event.TheVariants.{Mkdir, NewFile, Rewrite, Ln, Smkdir, Setq, Unq, Mark, Mv, Rm, Rmdir, Step, Cd}
 use Rattle.hac_model.specs.declared.states.Body.{Body}
 use Rattle.hac_model.specs.declared.states.Body.TheVariants.{File, Dir, Symlink, Semantic, Mount}
 use Rattle.hac_model.specs.declared.states.Entry.{Entry}
 use Rattle.hac_model.specs.declared.states.State.{State}
-use Rattle.hac_model.proofs.AlikeLemmas.{bare-kind, counts-bare, depends-bare, directory-bare, dirty-same, entry_at-bare, file-bare, layout-bare, layout-unbare, is_bare-bare, is_free-bare, is_inside-bare, may_ask-bare, parent_of-bare, path_of-bare, query_at-bare, referrers-bare, for-bare, some-bare}
+use Rattle.hac_model.proofs.AlikeLemmas.{bare-kind, counts-bare, depends-bare, directory-bare, dirty-same, entry_at-bare, file-bare, layout-bare, layout-unbare, is_bare-bare, is_free-bare, is_inside-bare, may_ask-bare, parent_of-bare, path_of-bare, query_at-bare, referrers-bare, for-bare, some-bare, symlink-bare, target_at-bare}
 use Rattle.hac_model.proofs.BareLemmas.{bare-commutes}
 use Rattle.hac_model.proofs.EventLemmas.{due}
 use Rattle.hac_model.proofs.FillLemmas.{bare-joined}
@@ -43,6 +44,14 @@ shown-bare s n = ap (λ (o : Option Entry). option_and_then shown_text (option_m
         body (Semantic query permanent prohibited) = refl
         body (Mount space documents answers) = refl
 
+-- a leaf is a file or a symbolic link
+pub leaf-told : (es : List Entry) (n : ℕ) → is_leaf_at es n ≡ (is_file_at es n || is_symlink_at es n)
+leaf-told es n = at (body_at es n)
+  where
+    at : (o : Option Body) → option_map_or is_leaf o false ≡ (option_map_or is_file o false || option_map_or is_symlink o false)
+    at None = refl
+    at (Some body) = refl
+
 module _ (s t : State) (bares : bare s ≡ bare t) where
   -- what two states that are the same without their facts agree on
   pub alike : {X : Type 0} (tell : State → X) → ((s : State) → tell (bare s) ≡ tell s) → tell s ≡ tell t
@@ -56,6 +65,15 @@ module _ (s t : State) (bares : bare s ≡ bare t) where
 
   pub same-file : (n : ℕ) → is_file_at s.entries n ≡ is_file_at t.entries n
   same-file n = alike (λ s. is_file_at s.entries n) (λ s. file-bare s n)
+
+  pub same-symlink : (n : ℕ) → is_symlink_at s.entries n ≡ is_symlink_at t.entries n
+  same-symlink n = alike (λ s. is_symlink_at s.entries n) (λ s. symlink-bare s n)
+
+  pub same-leaf : (n : ℕ) → is_leaf_at s.entries n ≡ is_leaf_at t.entries n
+  same-leaf n = leaf-told s.entries n ∙ (λ i. same-file n i || same-symlink n i) ∙ sym (leaf-told t.entries n)
+
+  pub same-target : (n : ℕ) → option_and_then target_in (body_at s.entries n) ≡ option_and_then target_in (body_at t.entries n)
+  same-target n = alike (λ s. option_and_then target_in (body_at s.entries n)) (λ s. target_at-bare s n)
 
   pub same-made : (n : ℕ) → is_made_directory s.entries n ≡ is_made_directory t.entries n
   same-made n = alike (λ s. is_made_directory s.entries n) (λ s. test-mapped is_directory bare_body s.entries n bare-kind)
@@ -107,12 +125,13 @@ module _ (s t : State) (bares : bare s ≡ bare t) where
   same-placed (Mkdir dir name) = same-free dir name
   same-placed (NewFile dir name text) = λ i. same-free dir name i && is_text text
   same-placed (Rewrite file text) = λ i. same-file file i && is_text text
+  same-placed (Ln dir name target) = λ i. same-free dir name i && is_target target
   same-placed (Smkdir dir name query told) = λ i. same-free dir name i && (same-asks query i && length told == 0)
   same-placed (Setq dir query told) = λ i. same-made dir i && (same-asks query i && length told == 0)
   same-placed (Unq dir) = same-semantic dir
   same-placed (Mark mark) = λ i. same-file mark.item i && same-semantic mark.dir i
   same-placed (Mv entry dir name) = λ i. same-some entry i && same-free dir name i && not (same-inside dir entry i)
-  same-placed (Rm entry) = same-file entry
+  same-placed (Rm entry) = same-leaf entry
   same-placed (Rmdir dir) = λ i. same-made dir i && same-bare dir i
   same-placed Step = due s.entries ∙ ap (λ (k : ℕ). nat_lt 0 k) (same-dirty) ∙ sym (due t.entries)
   same-placed (Cd session dir) = λ i. is_space_name session && same-directory dir i

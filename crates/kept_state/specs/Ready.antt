@@ -1,5 +1,6 @@
 -- What a state is ready for: parts of it lie in the tree, the marks and the graph.
 use Rattle.std.specs.Prelude.{◌≡◌, ⊤, ◌<◌, List, [], ◌∷◌, Option, replicate, IsTrue}
+use Rattle.hac_model.specs.Script.PathWords.{untested_word}
 use Rattle.hac_model.specs.Tree.Events.{accepted, apply}
 use Rattle.hac_model.specs.Tree.Facts.{bare_after}
 use Rattle.hac_model.specs.Tree.Limits as limits
@@ -7,7 +8,7 @@ use Rattle.hac_model.specs.Tree.Links.{parent_of}
 use Rattle.hac_model.specs.Tree.Sessions.{is_stored, sessions_with}
 use Rattle.hac_model.specs.declared.counts.Counts.{Counts}
 use Rattle.hac_model.specs.declared.events.Event.{Event}
-use Rattle.hac_model.specs.declared.events.Event.TheVariants.{Mkdir, NewFile, Rewrite, Smkdir, Setq, Mark, Mv, Step, Cd}
+use Rattle.hac_model.specs.declared.events.Event.TheVariants.{Mkdir, NewFile, Rewrite, Ln, Smkdir, Setq, Mark, Mv, Step, Cd}
 use Rattle.dep_graph.specs.declared.graph.NewEdges.{NewEdges}
 use Rattle.file_tree.specs.Changes.{MayBecome}
 use Rattle.file_tree.specs.declared.ready.Ready.TheVariants as tree
@@ -23,6 +24,7 @@ abbrev pub IsPreparedFor : Event → Option NewEdges → Parts → Type 0
 IsPreparedFor (Mkdir dir name) edges kept = kept.tree.ready ≡ tree.Add dir kind.Dir
 IsPreparedFor (NewFile dir name text) edges kept = kept.tree.ready ≡ tree.Add dir kind.File
 IsPreparedFor (Rewrite file text) edges kept = kept.tree.ready ≡ tree.Text file
+IsPreparedFor (Ln dir name target) edges kept = kept.tree.ready ≡ tree.Link dir (untested_word target)
 IsPreparedFor (Smkdir dir name query told) edges kept = (kept.tree.ready ≡ tree.Add dir kind.Semantic) × HasEdges kept.graph kept.tree.state.next dir query edges
 IsPreparedFor (Setq dir query told) edges kept = HasEdges kept.graph dir (parent_of kept.tree.state dir) query edges
 IsPreparedFor (Mark mark) edges kept = IsTrue (has_sets kept.marks mark.dir) × (0 < kept.marks.spare)

@@ -1,6 +1,7 @@
 //! What a machine is ready for: memory is taken first, and the change then made without any.
 ghost use Rattle.std.specs.Prelude.{◌≡◌, ◌<◌, [], IfOk, IsTrue, None, replicate};
 ghost use Rattle.hac_model.specs.Laws.{AllHappen};
+ghost use Rattle.hac_model.specs.Script.PathWords.{is_target, untested_word};
 ghost use Rattle.hac_model.specs.Tree.Events.{accepted, apply_all};
 ghost use Rattle.hac_model.specs.Tree.Links.{is_semantic, parent_of};
 ghost use Rattle.hac_model.specs.Tree.Sessions.{is_stored, sessions_with};
@@ -67,6 +68,7 @@ pub fn prepare(alloc: Global, kept: &mut Parts, event: &Event) -> Result<Option<
     match event {
         Event::Mkdir { dir, .. } => prepare_entry(kept, *dir, EntryKind::Dir),
         Event::NewFile { dir, .. } => prepare_entry(kept, *dir, EntryKind::File),
+        Event::Ln { dir, target, .. } => prepare_link(kept, *dir, target),
         Event::Smkdir { dir, query, .. } => prepare_semantic(alloc, kept, *dir, query),
         Event::Setq { dir, query, .. } => prepare_query(alloc, kept, *dir, query),
         Event::Mark(mark) => prepare_mark(kept, mark.dir),
@@ -76,13 +78,25 @@ pub fn prepare(alloc: Global, kept: &mut Parts, event: &Event) -> Result<Option<
     }
 }
 
-/// Prepares a new entry without a query.
+/// Prepares a new file or plain directory.
 fn prepare_entry(kept: &mut Parts, dir: Number, kind: EntryKind) -> Result<Option<NewEdges>, Memory>
     requires { IsTrue (is_directory_at kept.old.tree.state.entries dir) }
     ensures alike { AreAlike kept.old kept.new }
     ensures ready { IfOk result (λ edges. kept.new.tree.ready ≡ tree.Add dir kind) }
 {
     kept.tree.prepare_add(dir, kind)?;
+    Ok(None)
+}
+
+/// Prepares a new symbolic link.
+fn prepare_link(kept: &mut Parts, dir: Number, target: &Text) -> Result<Option<NewEdges>, Memory>
+    requires dir { IsTrue (is_directory_at kept.old.tree.state.entries dir) }
+    requires target { IsTrue (is_target target.now) }
+    ensures alike { AreAlike kept.old kept.new }
+    ensures ready { IfOk result (λ edges. kept.new.tree.ready
+        ≡ tree.Link dir (untested_word target.now)) }
+{
+    kept.tree.prepare_link(dir, target)?;
     Ok(None)
 }
 
@@ -191,6 +205,7 @@ fn apply(kept: &mut Parts, event: Event, edges: Option<NewEdges>, counts: Counts
     match event {
         Event::Mkdir { dir, name } => put_directory(kept, dir, name, counts),
         Event::NewFile { dir, name, text } => put_file(kept, dir, name, text, counts),
+        Event::Ln { dir, name, target } => put_link(kept, dir, name, target, counts),
         Event::Smkdir {
             dir,
             name,
@@ -202,7 +217,7 @@ fn apply(kept: &mut Parts, event: Event, edges: Option<NewEdges>, counts: Counts
         Event::Mark(mark) => put_mark(kept, mark),
         Event::Rewrite { file, text } => put_text(kept, file, text, counts),
         Event::Mv { entry, dir, name } => put_moved(kept, entry, dir, name, edges, counts),
-        Event::Rm { entry } => drop_file(kept, entry, counts),
+        Event::Rm { entry } => drop_leaf(kept, entry, counts),
         Event::Rmdir { dir } => drop_directory(kept, dir, counts),
         Event::Step => put_step(kept),
         _ => unreachable!(),
@@ -225,6 +240,15 @@ fn put_file(kept: &mut Parts, dir: Number, name: Name, text: Text, counts: Count
     ensures { IsCommitted (Event.NewFile dir name text) kept.old kept.new }
 {
     kept.tree.add(dir, name, NewBody::File(text), counts);
+}
+
+/// Adds the symbolic link that was prepared.
+fn put_link(kept: &mut Parts, dir: Number, name: Name, target: Text, counts: Counts)
+    requires may { CanCommit (Event.Ln dir name target) counts kept.old }
+    requires suits { IsPreparedFor (Event.Ln dir name target) None kept.old }
+    ensures { IsCommitted (Event.Ln dir name target) kept.old kept.new }
+{
+    kept.tree.add(dir, name, NewBody::Symlink(target), counts);
 }
 
 /// Adds the semantic directory that was prepared, with its edges.
@@ -318,8 +342,8 @@ fn put_moved(
     }
 }
 
-/// Removes a file, with all marks on it.
-fn drop_file(kept: &mut Parts, entry: Number, counts: Counts)
+/// Removes a file or a symbolic link, with all marks on it.
+fn drop_leaf(kept: &mut Parts, entry: Number, counts: Counts)
     requires { CanCommit (Event.Rm entry) counts kept.old }
     ensures { IsCommitted (Event.Rm entry) kept.old kept.new }
 {

@@ -14,6 +14,11 @@ fn prints_commands(rt: HostRuntime) -> Result<(), Fail> {
             b"mv \"./a\\\\\\\"b\" \"./../../c\"\n",
         ),
         (b"write /n a\\nb", b"put \"/n\" 3\na\nb"),
+        (
+            b"ln \"my \\\"x\\\"//../\" /l/.",
+            b"ln \"my \\\"x\\\"//../\" \"/l\"\n",
+        ),
+        (b"readlink l//m", b"readlink \"./l/m\"\n"),
         (b"ls", b"ls\n"),
         (b"  @bob   cd ..", b"@bob cd \"./..\"\n"),
         (b"@main tick \"10\"", b"tick 10\n"),

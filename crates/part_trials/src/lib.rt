@@ -26,6 +26,8 @@ mod payloads;
 #[cfg(test)]
 mod spaces;
 #[cfg(test)]
+mod states;
+#[cfg(test)]
 mod streams;
 #[cfg(test)]
 mod words;

@@ -1,25 +1,24 @@
 -- What is known of a command that some bytes are read as.
-use Rattle.std.proofs.Common.{◌≡◌, ℕ, Bool, true, false, List, length, refl, ap, sym, subst, ◌∙◌}
+use Rattle.std.proofs.Common.{◌≡◌, ℕ, Bool, true, false, List, length, refl, ap, subst}
 use Rattle.std.specs.Prelude.{◌||◌, if◌then◌else◌, nat_le, codes, Option, Some, None, Result, Ok, Err, ⊤}
 use Rattle.std.specs.List.{list_all}
 use Rattle.std.specs.Option.{ok_or}
 use Rattle.std.specs.Str.{bytes_eq}
 use Rattle.std.specs.Str.Parse.{digits_value}
-use Rattle.std.proofs.lemmas.Bool.{and_parts, cond_both}
+use Rattle.std.proofs.lemmas.Bool.{cond_both}
 use Rattle.hac_model.specs.Run.Answers.{◌>>=◌}
 use Rattle.hac_model.specs.Bytes.{is_space}
-use Rattle.hac_model.specs.Tree.Limits.{is_text}
 use Rattle.hac_model.specs.Script.LineWords.{first_word, after_space}
-use Rattle.hac_model.specs.Script.Numbers.{are_steps, is_number, is_tick}
+use Rattle.hac_model.specs.Script.Numbers.{is_tick}
 use Rattle.hac_model.specs.Script.SessionWords.{session_words}
 use Rattle.hac_model.specs.Script.SpaceNames.{is_space_name}
-use Rattle.hac_model.specs.Script.Lines.{Item, alone, called_with, command_with, each_path, find_of, is_put, limited_text, line_with, maybe_path, named_command, of_two_paths, one_path, only_path, only_word, path_and_query, put_at, put_of, put_words, tick_of, two_paths, write_of}
+use Rattle.hac_model.specs.Script.Lines.{Item, alone, called_with, command_with, each_path, find_of, is_put, is_spelled, limited_target, limited_text, line_with, ln_of, maybe_path, named_command, of_two_paths, one_path, only_path, only_word, path_and_query, put_at, put_of, put_words, tick_of, two_paths, write_of}
 use Rattle.hac_model.specs.Script.PathWords.{is_bad, word_of}
 use Rattle.hac_model.specs.Query.Formula.{Formula}
 use Rattle.hac_model.specs.Query.QueryReading.{read_query}
 use Rattle.hac_model.specs.Script.Texts.{text_of}
 use Rattle.hac_model.specs.declared.commands.Command.{Command}
-use Rattle.hac_model.specs.declared.commands.Command.TheVariants.{Mkdir, Rmdir, Write, Cat, Ls, Cd, Pwd, Mv, Rm, Smkdir, Setq, Unq, Query, Sls, Sln, Srm, Sforget, Find, Index, Tick, Counts}
+use Rattle.hac_model.specs.declared.commands.Command.TheVariants.{Mkdir, Rmdir, Write, Cat, Ls, Cd, Pwd, Mv, Rm, Ln, Readlink, Smkdir, Setq, Unq, Query, Sls, Sln, Srm, Sforget, Find, Index, Tick, Counts}
 use Rattle.hac_model.specs.declared.commands.Line.{Line}
 use Rattle.hac_model.specs.declared.limits.LimitWord.TheVariants as limit
 use Rattle.hac_model.specs.declared.limits.TheConstants.{LINE_LIMIT}
@@ -39,11 +38,11 @@ IsWord word = (bytes : List ℕ) × (word_of bytes ≡ Ok word)
 abbrev pub IsAsked : Formula PathWord → Type 0
 IsAsked query = (bytes : List ℕ) × (read_query bytes ≡ Ok query)
 
--- the parts of a command that is read
+-- some bytes are read as each path word and query of the command
 abbrev pub Given : Command → Type 0
 Given (Mkdir path) = IsWord path
 Given (Rmdir path) = IsWord path
-Given (Write path text) = IsWord path × (is_text text ≡ true)
+Given (Write path text) = IsWord path
 Given (Cat path) = IsWord path
 Given (Ls None) = ⊤
 Given (Ls (Some path)) = IsWord path
@@ -52,6 +51,8 @@ Given (Cd (Some path)) = IsWord path
 Given Pwd = ⊤
 Given (Mv from to) = IsWord from × IsWord to
 Given (Rm path) = IsWord path
+Given (Ln target path) = IsWord path
+Given (Readlink path) = IsWord path
 Given (Smkdir path query) = IsWord path × IsAsked query
 Given (Setq path query) = IsWord path × IsAsked query
 Given (Unq path) = IsWord path
@@ -63,7 +64,7 @@ Given (Srm item dir) = IsWord item × IsWord dir
 Given (Sforget item dir) = IsWord item × IsWord dir
 Given (Find query) = IsAsked query
 Given Index = ⊤
-Given (Tick steps) = are_steps steps ≡ true
+Given (Tick steps) = ⊤
 Given Counts = ⊤
 Given other = ⊥
 
@@ -133,21 +134,23 @@ gives_two command arguments parts =
     let both = two_paths-words first.0 second paths given in
     command-given (command paths.0 paths.1) (parts paths.0 paths.1 both.0 both.1))))
 
-limited_text-is : (bytes text : List ℕ) → limited_text bytes ≡ Ok text → is_text text ≡ true
-limited_text-is bytes text given =
-    elim (is_text bytes) as (λ b. is_text bytes ≡ b → (let read : Result (List ℕ) Refusal = if b then Ok bytes else Err (Limit limit.Text) in read) ≡ Ok text → is_text text ≡ true) [
-      | true ↦ (λ fits same. let even : bytes ≡ text = cc in ap is_text (sym even) ∙ fits)
-      | false ↦ (λ other same. absurd cc)
-    ] refl given
-
 gives_write : (arguments : List ℕ) → Gives (write_of arguments)
 unfolding write_of
 gives_write arguments =
     gives-then (first_word arguments) _ (λ word _.
     gives-then (ok_or (text_of (after_space word.1)) BadLine) _ (λ spelled _.
     gives-then (word_of word.0) _ (λ path named.
-    gives-then (limited_text spelled) _ (λ text fits.
-    command-given (Write path text) ((word.0, named), limited_text-is spelled text fits)))))
+    gives-then (limited_text spelled) _ (λ text _.
+    command-given (Write path text) (word.0, named)))))
+
+gives_ln : (arguments : List ℕ) → Gives (ln_of arguments)
+unfolding ln_of
+gives_ln arguments =
+    gives-then (first_word arguments) _ (λ word _.
+    gives-then (only_word word.1) _ (λ path _.
+    gives-then (two_paths word.0 path) _ (λ paths given.
+    gives-then (limited_target word.0) _ (λ target _.
+    command-given (Ln target paths.1) (two_paths-words word.0 path paths given).1))))
 
 gives_asking : (command : PathWord → Formula PathWord → Command) (arguments : List ℕ)
     → ((path : PathWord) (query : Formula PathWord) → IsWord path → IsAsked query → Given (command path query)) → Gives (path_and_query command arguments)
@@ -166,14 +169,11 @@ gives_alone : (command : Command) (arguments : List ℕ) → Given command → G
 unfolding Gives alone
 gives_alone command arguments given = gives-if (list_all is_space arguments) (Ok command) (Err BadLine) given tt
 
-tick-given : (word : List ℕ) → Gives (if is_tick word then Ok (Tick (digits_value 10 word)) else Err BadLine)
-tick-given word =
-    cond_both (is_tick word) _ _ Gives
-    (λ is. command-given (Tick (digits_value 10 word)) (and_parts (is_number word) (are_steps (digits_value 10 word)) is).1) (λ _. gives_bad_line)
-
 gives_tick : (arguments : List ℕ) → Gives (tick_of arguments)
 unfolding tick_of
-gives_tick arguments = gives-then (only_word arguments) _ (λ word _. tick-given word)
+gives_tick arguments =
+    gives-then (only_word arguments) _ (λ word _.
+    gives-if (is_tick word) (Ok (Tick (digits_value 10 word))) (Err BadLine) (command-given (Tick (digits_value 10 word)) tt) gives_bad_line)
 
 gives_named : (name arguments : List ℕ) → Gives (named_command name arguments)
 gives_named name arguments =
@@ -187,6 +187,8 @@ gives_named name arguments =
     (λ _. cond_both (bytes_eq name (codes "pwd")) _ _ P (λ _. gives_alone Pwd arguments tt)
     (λ _. cond_both (bytes_eq name (codes "mv")) _ _ P (λ _. gives_two Mv arguments (λ a b p q. (p, q)))
     (λ _. cond_both (bytes_eq name (codes "rm")) _ _ P (λ _. gives_one Rm arguments (λ path is. is))
+    (λ _. cond_both (bytes_eq name (codes "ln")) _ _ P (λ _. gives_ln arguments)
+    (λ _. cond_both (bytes_eq name (codes "readlink")) _ _ P (λ _. gives_one Readlink arguments (λ path is. is))
     (λ _. cond_both (bytes_eq name (codes "smkdir")) _ _ P (λ _. gives_asking Smkdir arguments (λ a b p q. (p, q)))
     (λ _. cond_both (bytes_eq name (codes "setq")) _ _ P (λ _. gives_asking Setq arguments (λ a b p q. (p, q)))
     (λ _. cond_both (bytes_eq name (codes "unq")) _ _ P (λ _. gives_one Unq arguments (λ path is. is))
@@ -199,13 +201,13 @@ gives_named name arguments =
     (λ _. cond_both (bytes_eq name (codes "index")) _ _ P (λ _. gives_alone Index arguments tt)
     (λ _. cond_both (bytes_eq name (codes "tick")) _ _ P (λ _. gives_tick arguments)
     (λ _. cond_both (bytes_eq name (codes "counts")) _ _ P (λ _. gives_alone Counts arguments tt)
-    (λ _. gives_bad_line)))))))))))))))))))))
+    (λ _. gives_bad_line)))))))))))))))))))))))
 
 gives_put_at : (word : List ℕ) (taken : Option Taken) → Gives (put_at word taken)
 unfolding Gives
 gives_put_at word (Some (Whole bytes)) =
     gives-then (word_of word) _ (λ path named.
-    gives-then (limited_text bytes) _ (λ text fits. command-given (Write path text) ((word, named), limited_text-is bytes text fits)))
+    gives-then (limited_text bytes) _ (λ text _. command-given (Write path text) (word, named)))
 gives_put_at word (Some Dropped) = gives-then (word_of word) _ (λ path named. tt)
 gives_put_at word (Some Short) = tt
 gives_put_at word None = tt
@@ -219,9 +221,10 @@ gives_called name arguments taken = cond_both (is_put name) _ _ Gives (λ _. giv
 gives_with : (bytes : List ℕ) (taken : Option Taken) → Gives (command_with bytes taken)
 gives_with bytes taken = gives-then (first_word bytes) _ (λ name _. gives_called name.0 name.1 taken)
 
--- a line that is read: its session has a name, and the command its parts
+-- a line that is read: its session has a name, and its command is spelled
 pub record GivenLine (line : Line) : Type 0 where
   pub session : is_space_name line.session ≡ true
+  pub spelled : is_spelled line.command ≡ true
   pub parts : Given line.command
 
 said-given : (name : List ℕ) (command : Result Command Refusal) (line : Line) → Gives command →
@@ -247,4 +250,5 @@ line-given line (bytes, taken, given) =
 
 pub given-line : (line : Line) → IsGiven line → GivenLine line
 given-line line given =
-    record { session = (spelled-parts line (taken-spells given.0 given.1 line given.2)).0; parts = line-given line given }
+    let spelled = spelled-parts line (taken-spells given.0 given.1 line given.2) in
+    record { session = spelled.0; spelled = spelled.1; parts = line-given line given }

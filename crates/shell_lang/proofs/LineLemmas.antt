@@ -17,22 +17,22 @@ use Rattle.hac_model.specs.Query.Formula.{Formula}
 use Rattle.hac_model.specs.Script.LineWords.{in_quotes}
 use Rattle.hac_model.specs.Query.QueryReading.{read_query}
 use Rattle.hac_model.specs.Query.QueryText.{named_by, query_text}
-use Rattle.hac_model.specs.Script.CommandTexts.{number_part, path_part, query_part, word_text}
+use Rattle.hac_model.specs.Script.CommandTexts.{number_part, path_part, query_part, quoted_part, word_text}
 use Rattle.hac_model.specs.Script.LineWords.{after_first_run, after_space, first_run, first_word, is_word_end, quoted_word, skip_spaces, word_at}
-use Rattle.hac_model.specs.Script.Lines.{each_path, find_of, of_two_paths, one_path, only_word, path_and_query, put_words, tick_of, two_paths}
+use Rattle.hac_model.specs.Script.Lines.{each_path, find_of, limited_target, ln_of, of_two_paths, one_path, only_word, path_and_query, put_words, tick_of, two_paths}
 use Rattle.hac_model.specs.Script.PathWords.{has_long_part, is_bad, untested_word, word_of}
 use Rattle.hac_model.specs.Script.Numbers.{are_steps, is_number, is_tick}
 use Rattle.hac_model.specs.Script.SessionWords.{main_session, named_session, names_session, session_words}
 use Rattle.hac_model.specs.Script.SpaceNames.{is_space_byte, is_space_name}
 use Rattle.hac_model.specs.declared.commands.Command.{Command}
-use Rattle.hac_model.specs.declared.commands.Command.TheVariants.{Find, Tick}
+use Rattle.hac_model.specs.declared.commands.Command.TheVariants.{Find, Ln, Tick}
 use Rattle.hac_model.specs.declared.limits.LimitWord.{LimitWord}
 use Rattle.hac_model.specs.declared.limits.LimitWord.TheVariants as limit
 use Rattle.hac_model.specs.declared.paths.PathWord.{PathWord}
 use Rattle.hac_model.specs.declared.replies.Refusal.{Refusal}
 use Rattle.hac_model.specs.declared.replies.Refusal.TheVariants.{BadLine, BadName, Limit}
 use Rattle.hac_model.proofs.QuoteLemmas.{word-read}
-use Rattle.shell_lang.proofs.PathLemmas.{WordParts, all-weaker, is_inner, is_one_line, word_text-read}
+use Rattle.shell_lang.proofs.PathLemmas.{TargetParts, WordParts, all-weaker, is_inner, is_one_line, word_text-read}
 
 -- Words.
 
@@ -123,11 +123,13 @@ session-read name rest h ends =
     ∙ ap (λ (t : Bool). if t then Ok (name, after_first_run (64 ∷ (name ++ rest))) else Err BadLine) h
     ∙ ap (λ (r : List ℕ). Ok (name, r)) at.behind
 
+-- bytes in quotes are read as they are
+quoted-first : (bytes rest : List ℕ) → is_word_end rest ≡ true → first_word (quoted_part bytes ++ rest) ≡ Ok (bytes, rest)
+quoted-first bytes rest ends = ap first_word (append_assoc (codes " ") (in_quotes bytes) rest) ∙ word-read bytes rest ends
+
 -- a path in quotes is read as the path
 path-first : (word : PathWord) (rest : List ℕ) → is_word_end rest ≡ true → first_word (path_part word ++ rest) ≡ Ok (word_text word, rest)
-path-first word rest ends =
-    ap first_word (append_assoc (codes " ") (in_quotes (word_text word)) rest)
-    ∙ word-read (word_text word) rest ends
+path-first word rest ends = quoted-first (word_text word) rest ends
 
 -- the one word of bytes, given what is read of them
 only-first : (bytes word : List ℕ) → first_word bytes ≡ Ok (word, []) → only_word bytes ≡ Ok word
@@ -150,14 +152,12 @@ not_bad bytes word read =
       | false ↦ (λ same. refl)
     ] read
 
-both-read : (first second : PathWord) → WordParts first → WordParts second → two_paths (word_text first) (word_text second) ≡ Ok (first, second)
-both-read first second one other =
-    let good = not_bad (word_text first) first (word_text-read first one) in
-    let fine = not_bad (word_text second) second (word_text-read second other) in
-    ap (λ (t : Bool). if t || is_bad (word_text second) then Err BadName else each_path (word_text first) (word_text second)) good
-    ∙ ap (λ (t : Bool). if t then Err BadName else each_path (word_text first) (word_text second)) fine
-    ∙ ap (λ (r : Result PathWord Refusal). r >>= λ from. word_of (word_text second) >>= λ to. Ok (from, to)) (word_text-read first one)
-    ∙ ap (λ (r : Result PathWord Refusal). r >>= λ to. Ok (first, to)) (word_text-read second other)
+both-read : (first second : List ℕ) (from to : PathWord) → word_of first ≡ Ok from → word_of second ≡ Ok to → two_paths first second ≡ Ok (from, to)
+both-read first second from to one other =
+    ap (λ (t : Bool). if t || is_bad second then Err BadName else each_path first second) (not_bad first from one)
+    ∙ ap (λ (t : Bool). if t then Err BadName else each_path first second) (not_bad second to other)
+    ∙ ap (λ (r : Result PathWord Refusal). r >>= λ from. word_of second >>= λ to. Ok (from, to)) one
+    ∙ ap (λ (r : Result PathWord Refusal). r >>= λ to. Ok (from, to)) other
 
 pub two-read : (command : PathWord → PathWord → Command) (first second : PathWord) → WordParts first → WordParts second
     → of_two_paths command (path_part first ++ path_part second) ≡ Ok (command first second)
@@ -166,7 +166,18 @@ two-read command first second one other =
     ap (λ (r : Result (List ℕ × List ℕ) Refusal). r >>= λ w. only_word w.1 >>= λ v. two_paths w.0 v >>= λ paths. Ok (command paths.0 paths.1))
     (path-first first (path_part second) (space-ends (in_quotes (word_text second))))
     ∙ ap (λ (r : Result (List ℕ) Refusal). r >>= λ v. two_paths (word_text first) v >>= λ paths. Ok (command paths.0 paths.1)) (path-only second)
-    ∙ ap (λ (r : Result (PathWord × PathWord) Refusal). r >>= λ paths. Ok (command paths.0 paths.1)) (both-read first second one other)
+    ∙ ap (λ (r : Result (PathWord × PathWord) Refusal). r >>= λ paths. Ok (command paths.0 paths.1))
+    (both-read (word_text first) (word_text second) first second (word_text-read first one) (word_text-read second other))
+
+pub link-read : (target : List ℕ) (path : PathWord) → TargetParts target → WordParts path → ln_of (quoted_part target ++ path_part path) ≡ Ok (Ln target path)
+unfolding ln_of
+link-read target path known is =
+    ap (λ (r : Result (List ℕ × List ℕ) Refusal). r >>= λ w. only_word w.1 >>= λ v. two_paths w.0 v >>= λ paths. limited_target w.0 >>= λ bytes. Ok (Ln bytes paths.1))
+    (quoted-first target (path_part path) (space-ends (in_quotes (word_text path))))
+    ∙ ap (λ (r : Result (List ℕ) Refusal). r >>= λ v. two_paths target v >>= λ paths. limited_target target >>= λ bytes. Ok (Ln bytes paths.1)) (path-only path)
+    ∙ ap (λ (r : Result (PathWord × PathWord) Refusal). r >>= λ paths. limited_target target >>= λ bytes. Ok (Ln bytes paths.1))
+    (both-read target (word_text path) (untested_word target) path known.read (word_text-read path is))
+    ∙ ap (λ (t : Bool). (if t then Ok target else Err (Limit limit.Target)) >>= λ bytes. Ok (Ln bytes path)) known.few
 
 -- what a query is read as, given the limit that its text exceeds
 abbrev pub asked_as : Formula PathWord → Option LimitWord → Result (Formula PathWord) Refusal

@@ -1,7 +1,7 @@
 -- Path words as they are printed: they are read as themselves, and stand on one line.
 use Rattle.std.proofs.Common.{◌≡◌, ℕ, zero, suc, ◌+◌, ◌-◌, true, false, Bool, cond, eqb, List, [], ◌∷◌, ◌++◌, length, get_or, refl, ap, sym, ◌∙◌, arith, codes, Ok, Err}
-use Rattle.std.specs.Prelude.{not, All, replicate, slice_index, Result, ◌||◌, if◌then◌else◌}
-use Rattle.std.specs.List.{list_all, list_any, flat_map, position_or_len}
+use Rattle.std.specs.Prelude.{not, All, nat_le, replicate, slice_index, Result, ◌&&◌, ◌||◌, if◌then◌else◌}
+use Rattle.std.specs.List.{list_all, list_any, flat_map, onto_first, position_or_len}
 use Rattle.std.proofs.lemmas.Bool.{and_parts, and_from, or_from, not_from_true, true_from_ne_false, both_ways, cond-false}
 use Rattle.std.proofs.lemmas.List.{append-nil}
 use Rattle.std.proofs.lemmas.List.Folds.{list_all_at, list_all-append}
@@ -9,10 +9,11 @@ use Rattle.std.proofs.lemmas.List.Splits.{slice_split_none, slice_split_at}
 use Rattle.std.proofs.lemmas.Bool.Decides.{nat_tests}
 use Rattle.hac_model.specs.Bytes.{is_backslash, is_line_end, is_quote, is_slash}
 use Rattle.hac_model.specs.Script.LineWords.{quoted_byte}
-use Rattle.hac_model.specs.Script.CommandTexts.{path_part, steps, word_text}
-use Rattle.hac_model.specs.Script.PathWords.{parts, is_part, is_long, is_bad, has_long_part, relative, at_root, before, untested_word, word_of}
+use Rattle.hac_model.specs.Script.CommandTexts.{path_part, quoted_part, steps, word_text}
+use Rattle.hac_model.specs.Script.PathWords.{parts, is_part, is_long, is_bad, is_path_word, is_target, has_long_part, relative, at_root, before, untested_word, word_of}
 use Rattle.hac_model.specs.Tree.Names.{is_name, is_name_byte}
 use Rattle.hac_model.specs.Tree.Paths.{are_names, slashed, path_text}
+use Rattle.hac_model.specs.declared.limits.TheConstants.{TARGET_LIMIT}
 use Rattle.hac_model.specs.declared.paths.PathWord.{PathWord}
 use Rattle.hac_model.specs.declared.replies.Refusal.{Refusal}
 use Rattle.hac_model.proofs.WordLemmas.{leads_down, word_of-names}
@@ -188,6 +189,59 @@ quoted-one_line (b ∷ bytes) h =
     let both = and_parts (is_inner b) (is_one_line bytes) h in
     one_line-join (quoted_byte b) (flat_map quoted_byte bytes) (marked-one_line (is_quote b || is_backslash b) b both.0) (quoted-one_line bytes both.1)
 
+quoted_part-one_line : (bytes : List ℕ) → is_one_line bytes ≡ true → is_one_line (quoted_part bytes) ≡ true
+quoted_part-one_line bytes h = one_line-join (flat_map quoted_byte bytes) (34 ∷ []) (quoted-one_line bytes h) refl
+
 pub path_part-one_line : (word : PathWord) → WordParts word → is_one_line (path_part word) ≡ true
-path_part-one_line word known =
-    one_line-join (flat_map quoted_byte (word_text word)) (34 ∷ []) (quoted-one_line (word_text word) (word-one_line word known)) refl
+path_part-one_line word known = quoted_part-one_line (word_text word) (word-one_line word known)
+
+-- Targets.
+
+-- the first byte of parts is one that names may hold, or a slash
+onto-parts : (b : ℕ) (ps : List (List ℕ)) → list_all is_part (onto_first b ps) ≡ true → (is_name_byte b ≡ true) × (list_all is_part ps ≡ true)
+onto-parts b [] h = ((and_parts (is_name_byte b) true (and_parts (is_name_byte b && true) true h).0).0, refl)
+onto-parts b (part ∷ ps) h =
+    let both = and_parts (is_part (b ∷ part)) (list_all is_part ps) h in
+    let first = and_parts (is_name_byte b) (is_part part) both.0 in
+    (first.0, and_from (is_part part) (list_all is_part ps) first.1 both.1)
+
+slash-inner : (b : ℕ) → is_slash b ≡ true → is_inner b ≡ true
+slash-inner b h = grind (arith, nat_tests)
+
+parts-one_line : (bytes : List ℕ) → list_all is_part (parts bytes) ≡ true → is_one_line bytes ≡ true
+parts-one_line [] h = refl
+parts-one_line (b ∷ bytes) h =
+    elim (is_slash b) as (λ t. is_slash b ≡ t → list_all is_part (cond t ([] ∷ parts bytes) (onto_first b (parts bytes))) ≡ true → is_one_line (b ∷ bytes) ≡ true) [
+      | true ↦ (λ slash all. and_from (is_inner b) (is_one_line bytes) (slash-inner b slash) (parts-one_line bytes all))
+      | false ↦ (λ other all.
+          let first = onto-parts b (parts bytes) all in
+          and_from (is_inner b) (is_one_line bytes) (name_byte-inner b first.0) (parts-one_line bytes first.1))
+    ] refl h
+
+-- what is known of the target of a link
+pub record TargetParts (target : List ℕ) : Type 0 where
+  pub few : nat_le (length target) TARGET_LIMIT ≡ true
+  pub read : word_of target ≡ Ok (untested_word target)
+  pub one_line : is_one_line (quoted_part target) ≡ true
+
+pub target-parts : (target : List ℕ) → is_target target ≡ true → TargetParts target
+unfolding word_of
+target-parts target h =
+    let both = and_parts (nat_le (length target) TARGET_LIMIT) (is_path_word target) h in
+    let word = and_parts (not (is_bad target)) (not (has_long_part target)) both.1 in
+    let good : is_bad target ≡ false = turned (is_bad target) word.0 in
+    let short : has_long_part target ≡ false = turned (has_long_part target) word.1 in
+    record {
+      few = both.0;
+      read = cond-false (is_bad target) _ _ good ∙ cond-false (has_long_part target) _ _ short;
+      one_line = quoted_part-one_line target (parts-one_line target (or_none (eqb (length target) 0) (list_all is_part (parts target)) good));
+    }
+  where
+    turned : (t : Bool) → not t ≡ true → t ≡ false
+    turned true e = absurd cc
+    turned false e = refl
+
+    or_none : (one other : Bool) → (one || not other) ≡ false → other ≡ true
+    or_none true other e = absurd cc
+    or_none false true e = refl
+    or_none false false e = absurd cc

@@ -3,6 +3,7 @@ use Rattle.std.proofs.Common.{◌≡◌, ℕ, ◌≤◌, ◌<◌, Bool, true, fa
 use Rattle.std.specs.Prelude.{if◌then◌else◌, nat_le, nat_lt, codes, decimal, Result}
 use Rattle.std.specs.List.{list_all, position_or_len}
 use Rattle.std.specs.Option.{option_map, unwrap_or}
+use Rattle.std.proofs.lemmas.Bool.{and_parts}
 use Rattle.std.proofs.lemmas.Bool.Decides.{nat_tests}
 use Rattle.std.proofs.lemmas.Fmt.{decimal_is_IsNumeral}
 use Rattle.std.proofs.lemmas.List.{take_all}
@@ -14,15 +15,16 @@ use Rattle.hac_model.specs.Query.Formula.{Formula}
 use Rattle.hac_model.specs.Script.LineWords.{in_quotes}
 use Rattle.hac_model.specs.Query.QueryText.{named_by, query_text}
 use Rattle.hac_model.specs.Script.{due, first_items, script}
-use Rattle.hac_model.specs.Script.CommandTexts.{command_text, line_text, number_part, path_part, put_bytes, query_part, session_line, word_text}
+use Rattle.hac_model.specs.Script.CommandTexts.{command_text, line_text, number_part, path_part, put_bytes, query_part, quoted_part, session_line, word_text}
 use Rattle.hac_model.specs.Script.LineWords.{first_word, is_word_end}
-use Rattle.hac_model.specs.Script.Lines.{Item, alone, asked, called_with, command_with, is_put, is_quiet, item_of, items_of, limited_text, line_with, maybe_path, named_command, put_at, put_length, put_of, put_words, taken_of}
+use Rattle.hac_model.specs.Script.Lines.{Item, alone, asked, called_with, command_with, is_put, is_quiet, is_spelled, is_spelled_word, item_of, items_of, limited_text, line_with, maybe_path, named_command, put_at, put_length, put_of, put_words, taken_of}
 use Rattle.hac_model.specs.Script.Puts.{came}
+use Rattle.hac_model.specs.Script.PathWords.{is_target}
 use Rattle.hac_model.specs.Script.SessionWords.{main_session, named_session, names_session, session_words}
 use Rattle.hac_model.specs.Script.SpaceNames.{is_space_name}
 use Rattle.hac_model.specs.Tree.Limits.{is_text}
 use Rattle.hac_model.specs.declared.commands.Command.{Command}
-use Rattle.hac_model.specs.declared.commands.Command.TheVariants.{Mkdir, Rmdir, Write, Cat, Ls, Cd, Pwd, Mv, Rm, Smkdir, Setq, Unq, Query, Sls, Sln, Srm, Sforget, Find, Index, Tick, Counts}
+use Rattle.hac_model.specs.declared.commands.Command.TheVariants.{Mkdir, Rmdir, Write, Cat, Ls, Cd, Pwd, Mv, Rm, Ln, Readlink, Smkdir, Setq, Unq, Query, Sls, Sln, Srm, Sforget, Find, Index, Tick, Counts}
 use Rattle.hac_model.specs.declared.commands.Line.{Line}
 use Rattle.hac_model.specs.declared.limits.LimitWord.{LimitWord}
 use Rattle.hac_model.specs.declared.limits.LimitWord.TheVariants as limit
@@ -35,8 +37,8 @@ use Rattle.hac_model.specs.declared.taken.Taken.TheVariants.{Whole, Dropped, Sho
 use Rattle.hac_model.proofs.JoinLemmas.{first_items-line, script-line}
 use Rattle.shell_lang.proofs.AskedLemmas.{query-one_line, query-read}
 use Rattle.shell_lang.proofs.GivenLemmas.{Given, IsAsked, IsWord, given-line}
-use Rattle.shell_lang.proofs.LineLemmas.{asking-read, name-one_line, number-one_line, find-read, is_unspaced, one-read, plain-read, put-words, session-read, space-ends, space-skipped, steps-few, tick-read, told_as, two-read}
-use Rattle.shell_lang.proofs.PathLemmas.{WordParts, is_one_line, one_line-join, one_line-unended, path_part-one_line, word-parts, word_text-read}
+use Rattle.shell_lang.proofs.LineLemmas.{asking-read, name-one_line, number-one_line, find-read, is_unspaced, link-read, one-read, plain-read, put-words, session-read, space-ends, space-skipped, steps-few, tick-read, told_as, two-read}
+use Rattle.shell_lang.proofs.PathLemmas.{WordParts, is_one_line, one_line-join, one_line-unended, path_part-one_line, target-parts, word-parts, word_text-read}
 use Rattle.shell_lang.proofs.PutLemmas.{behind-session, put_said}
 use Rattle.shell_lang.specs.Laws.{IsGiven}
 use Rattle.shell_lang.specs.Limits.{excess, query_size}
@@ -147,68 +149,76 @@ some-read : (command : Option PathWord → Command) (path : PathWord) → WordPa
 unfolding maybe_path
 some-read command path known = one-read (λ p. command (Some p)) path known
 
-printed : (command : Command) → Given command → Printed command
-printed (Mkdir path) is =
+printed : (command : Command) → is_spelled command ≡ true → Given command → Printed command
+printed (Mkdir path) spelled is =
     of_named (Mkdir path) refl (part-one_line path is) refl refl
     (named 109 (codes "kdir") (path_part path) (Ok (Mkdir path)) refl refl refl refl (path-only_ends path) (one-read Mkdir path (word-parts path is)))
-printed (Rmdir path) is =
+printed (Rmdir path) spelled is =
     of_named (Rmdir path) refl (part-one_line path is) refl refl
     (named 114 (codes "mdir") (path_part path) (Ok (Rmdir path)) refl refl refl refl (path-only_ends path) (one-read Rmdir path (word-parts path is)))
-printed (Write path text) is = put-printed path text is.0 is.1
-printed (Cat path) is =
+printed (Write path text) spelled is = put-printed path text is (and_parts (is_spelled_word path) (is_text text) spelled).1
+printed (Cat path) spelled is =
     of_named (Cat path) refl (part-one_line path is) refl refl
     (named 99 (codes "at") (path_part path) (Ok (Cat path)) refl refl refl refl (path-only_ends path) (one-read Cat path (word-parts path is)))
-printed (Ls None) is = of_named (Ls None) refl refl refl refl (named 108 (codes "s") [] (Ok (Ls None)) refl refl refl refl refl (none-read Ls))
-printed (Ls (Some path)) is =
+printed (Ls None) spelled is = of_named (Ls None) refl refl refl refl (named 108 (codes "s") [] (Ok (Ls None)) refl refl refl refl refl (none-read Ls))
+printed (Ls (Some path)) spelled is =
     of_named (Ls (Some path)) refl (part-one_line path is) refl refl
     (named 108 (codes "s") (path_part path) (Ok (Ls (Some path))) refl refl refl refl (path-only_ends path) (some-read Ls path (word-parts path is)))
-printed (Cd None) is = of_named (Cd None) refl refl refl refl (named 99 (codes "d") [] (Ok (Cd None)) refl refl refl refl refl (none-read Cd))
-printed (Cd (Some path)) is =
+printed (Cd None) spelled is = of_named (Cd None) refl refl refl refl (named 99 (codes "d") [] (Ok (Cd None)) refl refl refl refl refl (none-read Cd))
+printed (Cd (Some path)) spelled is =
     of_named (Cd (Some path)) refl (part-one_line path is) refl refl
     (named 99 (codes "d") (path_part path) (Ok (Cd (Some path))) refl refl refl refl (path-only_ends path) (some-read Cd path (word-parts path is)))
-printed Pwd is = of_named Pwd refl refl refl refl (named 112 (codes "wd") [] (Ok Pwd) refl refl refl refl refl (alone-read Pwd))
-printed (Mv from to) is =
+printed Pwd spelled is = of_named Pwd refl refl refl refl (named 112 (codes "wd") [] (Ok Pwd) refl refl refl refl refl (alone-read Pwd))
+printed (Mv from to) spelled is =
     of_named (Mv from to) refl (pair-one_line from to is.0 is.1) refl refl
     (named 109 (codes "v") (path_part from ++ path_part to) (Ok (Mv from to)) refl refl refl refl (path-ends from (path_part to)) (two-read Mv from to (word-parts from is.0) (word-parts to is.1)))
-printed (Rm path) is =
+printed (Rm path) spelled is =
     of_named (Rm path) refl (part-one_line path is) refl refl
     (named 114 (codes "m") (path_part path) (Ok (Rm path)) refl refl refl refl (path-only_ends path) (one-read Rm path (word-parts path is)))
-printed (Smkdir path query) is =
+printed (Ln target path) spelled is =
+    let parts = and_parts (is_target target) (is_spelled_word path) spelled in
+    let known = target-parts target parts.0 in
+    of_named (Ln target path) refl (one_line-join (quoted_part target) (path_part path) known.one_line (part-one_line path is)) refl refl
+    (named 108 (codes "n") (quoted_part target ++ path_part path) (Ok (Ln target path)) refl refl refl refl (space-ends (in_quotes target ++ path_part path)) (link-read target path known (word-parts path is)))
+printed (Readlink path) spelled is =
+    of_named (Readlink path) refl (part-one_line path is) refl refl
+    (named 114 (codes "eadlink") (path_part path) (Ok (Readlink path)) refl refl refl refl (path-only_ends path) (one-read Readlink path (word-parts path is)))
+printed (Smkdir path query) spelled is =
     of_named (Smkdir path query) refl (asking-one_line path query is.0 is.1) refl refl
     (named 115 (codes "mkdir") (path_part path ++ query_part query) (told_as (Smkdir path query) (past_query (length (query_text (named_by word_text query))))) refl refl refl refl (path-ends path (query_part query))
     (asking-read Smkdir path query (past_query (length (query_text (named_by word_text query)))) (word-parts path is.0) (query-read query is.1)))
-printed (Setq path query) is =
+printed (Setq path query) spelled is =
     of_named (Setq path query) refl (asking-one_line path query is.0 is.1) refl refl
     (named 115 (codes "etq") (path_part path ++ query_part query) (told_as (Setq path query) (past_query (length (query_text (named_by word_text query))))) refl refl refl refl (path-ends path (query_part query))
     (asking-read Setq path query (past_query (length (query_text (named_by word_text query)))) (word-parts path is.0) (query-read query is.1)))
-printed (Unq path) is =
+printed (Unq path) spelled is =
     of_named (Unq path) refl (part-one_line path is) refl refl
     (named 117 (codes "nq") (path_part path) (Ok (Unq path)) refl refl refl refl (path-only_ends path) (one-read Unq path (word-parts path is)))
-printed (Query path) is =
+printed (Query path) spelled is =
     of_named (Query path) refl (part-one_line path is) refl refl
     (named 113 (codes "uery") (path_part path) (Ok (Query path)) refl refl refl refl (path-only_ends path) (one-read Query path (word-parts path is)))
-printed (Sls None) is = of_named (Sls None) refl refl refl refl (named 115 (codes "ls") [] (Ok (Sls None)) refl refl refl refl refl (none-read Sls))
-printed (Sls (Some path)) is =
+printed (Sls None) spelled is = of_named (Sls None) refl refl refl refl (named 115 (codes "ls") [] (Ok (Sls None)) refl refl refl refl refl (none-read Sls))
+printed (Sls (Some path)) spelled is =
     of_named (Sls (Some path)) refl (part-one_line path is) refl refl
     (named 115 (codes "ls") (path_part path) (Ok (Sls (Some path))) refl refl refl refl (path-only_ends path) (some-read Sls path (word-parts path is)))
-printed (Sln item dir) is =
+printed (Sln item dir) spelled is =
     of_named (Sln item dir) refl (pair-one_line item dir is.0 is.1) refl refl
     (named 115 (codes "ln") (path_part item ++ path_part dir) (Ok (Sln item dir)) refl refl refl refl (path-ends item (path_part dir)) (two-read Sln item dir (word-parts item is.0) (word-parts dir is.1)))
-printed (Srm item dir) is =
+printed (Srm item dir) spelled is =
     of_named (Srm item dir) refl (pair-one_line item dir is.0 is.1) refl refl
     (named 115 (codes "rm") (path_part item ++ path_part dir) (Ok (Srm item dir)) refl refl refl refl (path-ends item (path_part dir)) (two-read Srm item dir (word-parts item is.0) (word-parts dir is.1)))
-printed (Sforget item dir) is =
+printed (Sforget item dir) spelled is =
     of_named (Sforget item dir) refl (pair-one_line item dir is.0 is.1) refl refl
     (named 115 (codes "forget") (path_part item ++ path_part dir) (Ok (Sforget item dir)) refl refl refl refl (path-ends item (path_part dir)) (two-read Sforget item dir (word-parts item is.0) (word-parts dir is.1)))
-printed (Find query) is =
+printed (Find query) spelled is =
     of_named (Find query) refl (query-one_line query is) refl refl
     (named 102 (codes "ind") (query_part query) (told_as (Find query) (past_query (length (query_text (named_by word_text query))))) refl refl refl refl (space-ends (query_text (named_by word_text query))) (find-read query (past_query (length (query_text (named_by word_text query)))) (query-read query is)))
-printed Index is = of_named Index refl refl refl refl (named 105 (codes "ndex") [] (Ok Index) refl refl refl refl refl (alone-read Index))
-printed (Tick steps) is =
-    of_named (Tick steps) refl (number-one_line steps (steps-few steps is)) refl refl
-    (named 116 (codes "ick") (number_part steps) (Ok (Tick steps)) refl refl refl refl (space-ends (decimal steps)) (tick-read steps is))
-printed Counts is = of_named Counts refl refl refl refl (named 99 (codes "ounts") [] (Ok Counts) refl refl refl refl refl (alone-read Counts))
-printed other is = absurd is
+printed Index spelled is = of_named Index refl refl refl refl (named 105 (codes "ndex") [] (Ok Index) refl refl refl refl refl (alone-read Index))
+printed (Tick steps) spelled is =
+    of_named (Tick steps) refl (number-one_line steps (steps-few steps spelled)) refl refl
+    (named 116 (codes "ick") (number_part steps) (Ok (Tick steps)) refl refl refl refl (space-ends (decimal steps)) (tick-read steps spelled))
+printed Counts spelled is = of_named Counts refl refl refl refl (named 99 (codes "ounts") [] (Ok Counts) refl refl refl refl refl (alone-read Counts))
+printed other spelled is = absurd is
 
 -- The line, with its session.
 
@@ -322,7 +332,7 @@ pub printed-read : (line : Line) (more : List ℕ) → IsGiven line → excess l
 unfolding told_item
 printed-read line more given none =
     let is = given-line line given in
-    let known = printed line.command is.parts in
+    let known = printed line.command is.spelled is.parts in
     let text = opened line is.session known in
     let limits = short-excess (nat_lt LINE_LIMIT (length (session_line line))) (past_query (query_size line.command)) none in
     ap script (cut (session_line line) (put_bytes line.command) more)
@@ -334,7 +344,7 @@ pub printed-refused : (line : Line) (word : LimitWord) (more : List ℕ) → IsG
 unfolding told_item
 printed-refused line word more given past =
     let is = given-line line given in
-    let known = printed line.command is.parts in
+    let known = printed line.command is.spelled is.parts in
     let text = opened line is.session known in
     let bytes : List ℕ = put_bytes line.command in
     let whole : first_items (command_text line ++ more) ≡ first_items (session_line line ++ 10 ∷ (bytes ++ more)) = ap first_items (cut (session_line line) bytes more) in

@@ -24,7 +24,7 @@ pub fn parse_tick(alloc: Global, arguments: &[u8]) -> Result<Command, Deny>
 }
 
 /// The steps that a word asks for, if a `tick` may take as many.
-fn steps_of(word: &[u8]) -> Option<u64>
+pub fn steps_of(word: &[u8]) -> Option<u64>
     ensures { result ≡ (if is_tick word.now then Some (digits_value 10 word.now) else None) }
 {
     let steps = number_of(word)?;

@@ -7,14 +7,16 @@ ghost use Rattle.hac_model.specs.Script.Lines.{item_taken, line_with, named_comm
 use crate::numbers::parse_tick;
 use crate::putting::{is_put, parse_put};
 use crate::sessions::session_words;
-use crate::shapes::{alone, maybe_path, of_two_paths, one_path, parse_find, path_and_query};
+use crate::shapes::{
+    alone, maybe_path, of_two_paths, one_path, parse_find, parse_link, path_and_query,
+};
 use crate::words::split_word;
 use crate::writing::parse_write;
 use hac_model::{Command, Deny, LINE_LIMIT, LimitWord, Line, Name, Refusal, Taken};
 use std::alloc::Global;
 
-/// The session and the command that a line spells, or the first refusal of its spelling. `taken` is what came of
-/// the bytes behind the line, where it asks for any.
+/// The session and the command that a line spells, or the first refusal of its spelling. `taken` is
+/// what came of the bytes behind the line, where it asks for any.
 pub fn parse_line(alloc: Global, line: &[u8], taken: Option<Taken>) -> Result<Line, Deny>
     ensures line { Answers result (item_taken line.now taken) }
     ensures spelled { IfOk result (λ line. IsTrue (is_spelled_line line)) }
@@ -83,6 +85,10 @@ fn parse_named(alloc: Global, name: &[u8], arguments: &[u8]) -> Result<Command, 
         of_two_paths(alloc, arguments, |from, to| Command::Mv { from, to })
     } else if name == b"rm".as_slice() {
         one_path(alloc, arguments, |path| Command::Rm { path })
+    } else if name == b"ln".as_slice() {
+        parse_link(alloc, arguments)
+    } else if name == b"readlink".as_slice() {
+        one_path(alloc, arguments, |path| Command::Readlink { path })
     } else if name == b"smkdir".as_slice() {
         path_and_query(
             alloc,

@@ -10,8 +10,8 @@ use crate::numbers::{is_number, number_of};
 use crate::paths::parse_path;
 use crate::sessions::session_words;
 use crate::words::{is_blank, only_word, raw_word, split_word};
-use crate::writing::limited_text;
-use hac_model::{Command, Deny, LimitWord, Refusal, Taken};
+use crate::writing::limited;
+use hac_model::{Command, Deny, LimitWord, Refusal, TEXT_LIMIT, Taken};
 use std::alloc::Global;
 
 /// How many bytes a `put` asks for behind its line. None where the line is no `put`, or is one that
@@ -75,7 +75,7 @@ fn put_at(alloc: Global, word: &[u8], taken: Option<Taken>) -> Result<Command, D
     match taken {
         Some(Taken::Whole(bytes)) => {
             let path = parse_path(alloc, word)?;
-            let text = limited_text(bytes)?;
+            let text = limited(bytes, TEXT_LIMIT, LimitWord::Text)?;
             Ok(Command::Write { path, text })
         }
         Some(Taken::Dropped) => {

@@ -2,15 +2,16 @@
 ghost use Rattle.std.specs.Prelude.{◌≡◌, Option};
 ghost use Rattle.hac_model.specs.Run.Answers.{Answers};
 ghost use Rattle.hac_model.specs.Query.Formula.{Formula};
-ghost use Rattle.hac_model.specs.Script.Lines.{alone, find_of, maybe_path, of_two_paths, one_path};
-ghost use Rattle.hac_model.specs.Script.Lines.{path_and_query};
+ghost use Rattle.hac_model.specs.Script.Lines.{alone, find_of, ln_of, maybe_path};
+ghost use Rattle.hac_model.specs.Script.Lines.{of_two_paths, one_path, path_and_query};
 ghost use Rattle.hac_model.specs.Query.QueryReading.{read_query};
 ghost use Rattle.hac_model.specs.declared.commands.Command.{Command};
 ghost use Rattle.hac_model.specs.declared.paths.PathWord.{PathWord};
 
 use crate::paths::{only_path, parse_path, two_paths};
 use crate::words::{is_blank, only_word, skip_one, split_word};
-use hac_model::{Command, Deny, PathWord, RawQuery, Refusal};
+use crate::writing::limited;
+use hac_model::{Command, Deny, LimitWord, PathWord, RawQuery, Refusal, TARGET_LIMIT, Text};
 use query_text::{QueryFault, parse};
 use std::alloc::Global;
 
@@ -66,6 +67,18 @@ pub fn of_two_paths<F: FnOnce(PathWord, PathWord) -> Command>(
     let second = only_word(alloc, rest)?;
     let (first, second) = two_paths(alloc, &first, &second)?;
     Ok(command(first, second))
+}
+
+/// `ln TARGET PATH`, from what follows `ln`. The target is kept as it was given.
+#[tactic(auto, unfolding(hac_model::specs::Script::Lines::ln_of))]
+pub fn parse_link(alloc: Global, arguments: &[u8]) -> Result<Command, Deny>
+    ensures { Answers result (ln_of arguments.now) }
+{
+    let (target, rest) = split_word(alloc, arguments)?;
+    let path = only_word(alloc, rest)?;
+    let (_, path) = two_paths(alloc, &target, &path)?;
+    let target = limited(Text::new(target), TARGET_LIMIT, LimitWord::Target)?;
+    Ok(Command::Ln { target, path })
 }
 
 /// The command of a path word and a query, which is all that follows one space.

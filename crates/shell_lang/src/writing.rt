@@ -1,10 +1,10 @@
-//! The line of `write`, from what follows its name, and the text of a file.
-ghost use Rattle.std.specs.Prelude.{◌≡◌};
+//! The line of `write`, from what follows its name, and how many bytes a text may have.
+ghost use Rattle.std.specs.Prelude.{◌≡◌, if◌then◌else◌, nat_le, length, Ok, Err};
 ghost use Rattle.std.specs.Option.{ok_or};
 ghost use Rattle.hac_model.specs.Run.Answers.{Answers, AnswersSeen};
-ghost use Rattle.hac_model.specs.Script.Lines.{write_of, limited_text};
+ghost use Rattle.hac_model.specs.Script.Lines.{write_of};
 ghost use Rattle.hac_model.specs.Script.Texts.{text_of};
-ghost use Rattle.hac_model.specs.declared.replies.Refusal.TheVariants.{BadLine};
+ghost use Rattle.hac_model.specs.declared.replies.Refusal.TheVariants.{BadLine, Limit};
 
 use crate::paths::parse_path;
 use crate::words::{skip_one, split_word};
@@ -20,7 +20,7 @@ pub fn parse_write(alloc: Global, arguments: &[u8]) -> Result<Command, Deny>
     let (word, rest) = split_word(alloc, arguments)?;
     let text = spelled_text(alloc, skip_one(rest))?;
     let path = parse_path(alloc, &word)?;
-    let text = limited_text(Text::new(text))?;
+    let text = limited(Text::new(text), TEXT_LIMIT, LimitWord::Text)?;
     Ok(Command::Write { path, text })
 }
 
@@ -34,12 +34,12 @@ fn spelled_text(alloc: Global, bytes: &[u8]) -> Result<Vec<u8>, Deny>
     }
 }
 
-/// The text, where a file may have as many bytes.
-pub fn limited_text(bytes: Text) -> Result<Text, Deny>
-    ensures { Answers result (limited_text bytes) }
+/// The bytes, where they are at most as many. The refusal has the word.
+pub fn limited(bytes: Text, most: u64, word: LimitWord) -> Result<Text, Deny>
+    ensures { Answers result (if nat_le (length bytes) most then Ok bytes else Err (Limit word)) }
 {
-    if bytes.as_slice().len() as u64 > TEXT_LIMIT {
-        return Err(Deny::Refused(Refusal::Limit(LimitWord::Text)));
+    if bytes.as_slice().len() as u64 > most {
+        return Err(Deny::Refused(Refusal::Limit(word)));
     }
     Ok(bytes)
 }

@@ -3,7 +3,7 @@ ghost use Rattle.std.specs.Prelude.{◌≡◌, IfOk};
 ghost use Rattle.hac_model.specs.Run.Play.{data_lines, no_answers};
 
 use crate::lines_of_counts::counts_lines;
-use crate::lines_of_entries::{child_lines, path_lines, text_lines};
+use crate::lines_of_entries::{child_lines, path_lines, target_lines, text_lines};
 use crate::lines_of_links::{found_lines, link_lines};
 use crate::lines_of_queries::query_lines;
 use hac_model::{Memory, Name, Resolved};
@@ -19,6 +19,7 @@ pub fn data_lines(alloc: Global, kept: &KeptState, command: &Resolved) -> Result
         Resolved::Cat { entry } => text_lines(alloc, kept, *entry),
         Resolved::Ls { dir } => child_lines(alloc, kept, *dir),
         Resolved::Pwd { dir } => path_lines(alloc, kept, *dir),
+        Resolved::Readlink { entry } => target_lines(alloc, kept, *entry),
         Resolved::Query { dir } => query_lines(alloc, kept, *dir),
         Resolved::Sls { dir } => link_lines(alloc, kept, *dir),
         Resolved::Find { query } => found_lines(alloc, kept, query),

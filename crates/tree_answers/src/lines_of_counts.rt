@@ -71,7 +71,7 @@ fn line_of_counts(
     push_count(alloc, &mut line, b"directories", plain)?;
     push_count(alloc, &mut line, b"semantic", counts.semantics)?;
     push_count(alloc, &mut line, b"mounts", 0)?;
-    push_count(alloc, &mut line, b"symbolic", 0)?;
+    push_count(alloc, &mut line, b"symbolic", counts.symlinks)?;
     push_count(alloc, &mut line, b"transient", transient)?;
     push_count(alloc, &mut line, b"permanent", permanent)?;
     push_count(alloc, &mut line, b"prohibited", prohibited)?;

@@ -1,15 +1,16 @@
-//! The text of a file, and the entries and the path of a directory.
+//! The text of a file, the target of a symbolic link, and the entries and the path of a directory.
 ghost use Rattle.std.specs.Prelude.{◌≡◌, ◌∷◌, [], IfOk, IsSome, Some, map};
 ghost use Rattle.std.specs.Option.{option_map};
 ghost use Rattle.hac_model.specs.Tree.Listing.{children, entry_line, letter};
 ghost use Rattle.hac_model.specs.Run.Play.{path_line, text_line, text_lines};
+ghost use Rattle.hac_model.specs.Run.Showing.{target_line, target_lines};
 ghost use Rattle.hac_model.specs.Tree.{entry_at};
 ghost use Rattle.hac_model.specs.declared.states.Body.{Body};
 ghost use Rattle.file_tree.specs.Answers.{entry_kind};
 
-use crate::lookups::text_of;
+use crate::lookups::{target_of, text_of};
 use file_tree::{EntryKind, Tree};
-use hac_model::{Memory, Name, Number};
+use hac_model::{Memory, Name, Number, Text};
 use hac_names::{print_path, print_text};
 use kept_state::KeptState;
 use std::alloc::Global;
@@ -31,6 +32,26 @@ fn text_line(alloc: Global, text: &[u8]) -> Result<Name, Memory>
 {
     let mut line = Vec::from_slice(alloc, b"= ")?;
     line.extend_from_slice(print_text(alloc, text)?.as_slice())?;
+    Ok(Name::new(line))
+}
+
+/// The target of a symbolic link, on one line.
+pub fn target_lines(alloc: Global, kept: &KeptState, link: Number) -> Result<Vec<Name>, Memory>
+    ensures { IfOk result (λ lines. lines.items ≡ target_lines kept.now.state link) }
+{
+    let mut lines = Vec::new(alloc);
+    if let Some(target) = target_of(kept, link) {
+        lines.push(target_line(alloc, target)?)?;
+    }
+    Ok(lines)
+}
+
+/// A target as it is shown: as it was given.
+fn target_line(alloc: Global, target: &Text) -> Result<Name, Memory>
+    ensures { IfOk result (λ line. line ≡ target_line target.now) }
+{
+    let mut line = Vec::from_slice(alloc, b"= ")?;
+    line.extend_from_slice(target.as_slice())?;
     Ok(Name::new(line))
 }
 

@@ -2,10 +2,10 @@
 ghost use Rattle.std.specs.Prelude.{◌≡◌, is_some, option_and_then};
 ghost use Rattle.std.specs.Option.{option_copied};
 ghost use Rattle.hac_model.specs.Tree.Links.{is_item, is_semantic, parent_of, query_at, shown_of};
-ghost use Rattle.hac_model.specs.Tree.{body_at, text_in};
+ghost use Rattle.hac_model.specs.Tree.{body_at, target_in, text_in};
 ghost use Rattle.tree_answers.specs.Finding.{is_indexed};
 
-use hac_model::{Number, Query};
+use hac_model::{Number, Query, Text};
 use kept_state::KeptState;
 
 /// The number that the next entry takes.
@@ -32,6 +32,14 @@ pub fn text_of(kept: &KeptState, file: Number) -> Option<&[u8]>
     } else {
         None
     }
+}
+
+/// Where a symbolic link leads.
+pub fn target_of(kept: &KeptState, link: Number) -> Option<&Text>
+    ensures { option_copied result ≡ option_and_then target_in
+        (body_at kept.now.state.entries link) }
+{
+    kept.tree().target(link)
 }
 
 /// The text of an item as it was last indexed.

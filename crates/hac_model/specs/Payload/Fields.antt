@@ -63,6 +63,14 @@ checked f test = record {
   read = λ bytes. f.read bytes >>= λ x. if test x.0 then Ok x else Err (length bytes);
 }
 
+-- a field whose values are seen as others: of these its own values are taken, and from its own these are made
+abbrev pub seen : {A B : Type 0} → (B → A) → (A → B) → Field A → Field B
+seen taken made f = record {
+  fits = λ x. f.fits (taken x);
+  text = λ x. f.text (taken x);
+  read = λ bytes. f.read bytes >>= λ x. Ok (made x.0, x.1);
+}
+
 -- this many items, one behind the other. An item's field may depend on the item before it, which the first one lacks.
 unfoldable pub items_at : {A : Type 0} → (Option A → Field A) → ℕ → Option A → List ℕ → Result (List A × List ℕ) ℕ
 items_at item zero last bytes = Ok ([], bytes)

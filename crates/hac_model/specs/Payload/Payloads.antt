@@ -1,15 +1,15 @@
 -- How events are spelled in a store, and what the bytes of a payload say.
-use Rattle.std.specs.Prelude.{ℕ, Bool, true, false, ◌-◌, ◌==◌, ◌&&◌, not, if◌then◌else◌, nat_lt, nat_le, List, [], ◌∷◌, length, Option, Result, Ok, Err}
+use Rattle.std.specs.Prelude.{ℕ, Bool, true, false, ◌-◌, ◌==◌, if◌then◌else◌, nat_lt, nat_le, List, [], ◌∷◌, length, Option, Result, Ok, Err}
 use Rattle.std.specs.Int.{w8, w16, w32}
 use Rattle.std.specs.Option.{option_map_or}
 use Rattle.hac_model.specs.Run.Answers.{◌>>=◌}
 use Rattle.hac_model.specs.Payload.Fields.{Field, Part, Way, num, run, nothing, ◌&◌, checked, list, part, way, choice}
 use Rattle.hac_model.specs.Tree.Listing.{is_before}
 use Rattle.hac_model.specs.Tree.Names.{is_name}
-use Rattle.hac_model.specs.Script.PathWords.{has_long_part, is_bad}
+use Rattle.hac_model.specs.Script.PathWords.{is_path_word}
 use Rattle.hac_model.specs.Payload.QueryFields.{query_field}
 use Rattle.hac_model.specs.Script.SpaceNames.{is_space_name}
-use Rattle.hac_model.specs.declared.limits.TheConstants.{NAME_LIMIT, TEXT_LIMIT}
+use Rattle.hac_model.specs.declared.limits.TheConstants.{NAME_LIMIT, TARGET_LIMIT, TEXT_LIMIT}
 use Rattle.hac_model.specs.declared.events.Event.{Event}
 use Rattle.hac_model.specs.declared.events.Event.TheVariants.{Mkdir, NewFile, Rewrite, Ln, Mv, Rm, Rmdir, Smkdir, Setq, Unq, Mark, Smount, Ssync, Sumount, Step, Cd}
 use Rattle.hac_model.specs.declared.marks.Kind.{Kind}
@@ -32,13 +32,9 @@ is_any bytes = true
 abbrev pub text_field : Field (List ℕ)
 text_field = run w32 TEXT_LIMIT is_any
 
--- the bytes are a path word
-abbrev pub is_path_word : List ℕ → Bool
-is_path_word bytes = not (is_bad bytes) && not (has_long_part bytes)
-
 -- where a symbolic link leads
 abbrev pub target_field : Field (List ℕ)
-target_field = run w16 1024 is_path_word
+target_field = run w16 TARGET_LIMIT is_path_word
 
 -- what comes next is above what came last
 abbrev pub rises : {A : Type 0} → (A → A → Bool) → Option A → A → Bool
@@ -138,12 +134,12 @@ unfoldable pub event_text : Event → List ℕ
 event_text e = payload_field.text e
 
 -- what was read, where no byte is left behind it
-abbrev pub all_of : Event × List ℕ → Result Event ℕ
+abbrev pub all_of : {A : Type 0} → A × List ℕ → Result A ℕ
 all_of read = if length read.1 == 0 then Ok read.0 else Err (length read.1)
 
 -- the place in a payload that has this many bytes left behind it
-abbrev pub placed : ℕ → Result Event ℕ → Result Event ℕ
-placed size (Ok e) = Ok e
+abbrev pub placed : {A : Type 0} → ℕ → Result A ℕ → Result A ℕ
+placed size (Ok value) = Ok value
 placed size (Err left) = Err (size - left)
 
 -- the event that a payload spells, or the place of the first field that has no allowed value or is cut short

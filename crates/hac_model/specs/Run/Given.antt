@@ -8,9 +8,13 @@ pub record Given : Type 0 where
   pub faults : List (Option (List ℕ))
   pub steps : ℕ
 
+-- no space fails, and so many steps follow each command
+abbrev pub ticking : ℕ → Given
+ticking steps = record { faults = []; steps = steps }
+
 -- no space fails, and no step follows by itself
 abbrev pub nothing_given : Given
-nothing_given = record { faults = []; steps = 0 }
+nothing_given = ticking 0
 
 -- the fault that the next command meets
 abbrev pub next_fault : Given → Option (List ℕ)

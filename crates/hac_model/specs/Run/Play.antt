@@ -21,7 +21,7 @@ use Rattle.hac_model.specs.declared.replies.Reply.TheVariants.{Lines, Refused}
 use Rattle.hac_model.specs.declared.resolved.Resolved.{Resolved}
 use Rattle.hac_model.specs.declared.states.State.{State}
 pub use Rattle.hac_model.specs.Run.Showing.{count_text, data_lines, found_line, kind_lines, line_of_counts, link_lines, counts_line, path_line, query_line, query_lines, text_line, text_lines}
-pub use Rattle.hac_model.specs.Run.Given.{Given, nothing_given, given_behind, no_answers}
+pub use Rattle.hac_model.specs.Run.Given.{Given, nothing_given, given_behind, no_answers, ticking}
 pub use Rattle.hac_model.specs.Run.Settings.{Setting, after_events, end_after, end_behind, have_room, new_setting, stored_setting}
 
 -- what comes of one command: its reply, its events and the index steps behind it, of which each is stored, and what the

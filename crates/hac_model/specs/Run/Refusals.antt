@@ -11,7 +11,7 @@ use Rattle.hac_model.specs.Tree.Listing.{is_before}
 use Rattle.hac_model.specs.Tree.Paths.{path_text}
 use Rattle.hac_model.specs.Tree.Sessions.{are_few, least_name, sessions_with, visitors}
 use Rattle.hac_model.specs.Run.Resolving.{resolve}
-use Rattle.hac_model.specs.Tree.{is_directory_at, path_of}
+use Rattle.hac_model.specs.Tree.{is_directory_at, is_symlink_at, path_of}
 use Rattle.hac_model.specs.declared.commands.Line.{Line}
 use Rattle.hac_model.specs.declared.events.Event.{Event}
 use Rattle.hac_model.specs.declared.events.Event.TheVariants as event
@@ -21,9 +21,9 @@ use Rattle.hac_model.specs.declared.marks.Kind.TheVariants.{Permanent, Prohibite
 use Rattle.hac_model.specs.declared.places.Place.{Place}
 use Rattle.hac_model.specs.declared.places.Place.TheVariants.{There, Free}
 use Rattle.hac_model.specs.declared.replies.Refusal.{Refusal}
-use Rattle.hac_model.specs.declared.replies.Refusal.TheVariants.{NotFile, Exists, NotEmpty, Under, Root, Cycle, Referenced, Busy, NotSemantic, NotLinked, Already, NoMark, Limit}
+use Rattle.hac_model.specs.declared.replies.Refusal.TheVariants.{NotFile, Exists, NotEmpty, Under, Root, Cycle, Referenced, Busy, NotSemantic, NotLink, NotLinked, Already, NoMark, Limit}
 use Rattle.hac_model.specs.declared.resolved.Resolved.{Resolved}
-use Rattle.hac_model.specs.declared.resolved.Resolved.TheVariants.{Mkdir, Rmdir, Write, Cat, Ls, Cd, Pwd, Mv, Rm, Smkdir, Setq, Unq, Query, Sls, Sln, Srm, Sforget, Find, Index, Tick, Counts}
+use Rattle.hac_model.specs.declared.resolved.Resolved.TheVariants.{Mkdir, Rmdir, Write, Cat, Ls, Cd, Pwd, Mv, Rm, Ln, Readlink, Smkdir, Setq, Unq, Query, Sls, Sln, Srm, Sforget, Find, Index, Tick, Counts}
 use Rattle.hac_model.specs.declared.spaces.Answers.{Answers}
 use Rattle.hac_model.specs.declared.states.State.{State}
 
@@ -53,6 +53,10 @@ under_cause s entry (Free dir name) = if is_inside s dir entry then Some (Under 
 -- a directory to be removed isn't empty
 abbrev pub filled_cause : State → ℕ → Option Refusal
 filled_cause s dir = if is_bare s.entries dir then None else Some (NotEmpty (path_of s dir))
+
+-- a symbolic link is wanted
+abbrev pub not_link_cause : State → ℕ → Option Refusal
+not_link_cause s number = if is_symlink_at s.entries number then None else Some (NotLink (path_of s number))
 
 -- a semantic directory is wanted
 abbrev pub plain_cause : State → ℕ → Option Refusal
@@ -102,6 +106,8 @@ blocking_cause s (Cd session dir) = session_cause s session dir
 blocking_cause s (Pwd dir) = None
 blocking_cause s (Mv entry place) = first_cause (root_cause entry ∷ taken_cause s place ∷ under_cause s entry place ∷ [])
 blocking_cause s (Rm entry) = first_cause (root_cause entry ∷ directory_cause s entry ∷ [])
+blocking_cause s (Ln place target) = taken_cause s place
+blocking_cause s (Readlink entry) = not_link_cause s entry
 blocking_cause s (Smkdir place query) = taken_cause s place
 blocking_cause s (Setq dir query) = root_cause dir
 blocking_cause s (Unq dir) = plain_cause s dir
@@ -137,6 +143,7 @@ event_of (Write place text) = Some (writes place text)
 event_of (Cd session dir) = Some (event.Cd session dir)
 event_of (Mv entry place) = makes place (event.Mv entry)
 event_of (Rm entry) = Some (event.Rm entry)
+event_of (Ln place target) = makes place (λ dir name. event.Ln dir name target)
 event_of (Smkdir place query) = makes place (λ dir name. event.Smkdir dir name query [])
 event_of (Setq dir query) = Some (event.Setq dir query [])
 event_of (Unq dir) = Some (event.Unq dir)

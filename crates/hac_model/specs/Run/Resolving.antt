@@ -1,5 +1,5 @@
 -- What the paths of a command lead to, from left to right, the directories of its query last.
-use Rattle.std.specs.Prelude.{ℕ, if◌then◌else◌, List, [], ◌∷◌, ◌++◌, Option, Result, Ok, Err}
+use Rattle.std.specs.Prelude.{ℕ, Bool, true, false, if◌then◌else◌, List, [], ◌∷◌, ◌++◌, Option, Result, Ok, Err}
 use Rattle.std.specs.Option.{option_map_or}
 use Rattle.hac_model.specs.Run.Answers.{◌>>=◌}
 use Rattle.hac_model.specs.Query.Formula.{Formula}
@@ -17,12 +17,12 @@ use Rattle.hac_model.specs.declared.places.Place.TheVariants.{There, Free}
 use Rattle.hac_model.specs.declared.replies.Refusal.{Refusal}
 use Rattle.hac_model.specs.declared.replies.Refusal.TheVariants.{BadLine, NoPath, NotDir}
 use Rattle.hac_model.specs.declared.resolved.Resolved.{Resolved}
-use Rattle.hac_model.specs.declared.resolved.Resolved.TheVariants.{Mkdir, Rmdir, Write, Cat, Ls, Cd, Pwd, Mv, Rm, Smkdir, Setq, Unq, Query, Sls, Sln, Srm, Sforget, Find, Index, Tick, Counts}
+use Rattle.hac_model.specs.declared.resolved.Resolved.TheVariants.{Mkdir, Rmdir, Write, Cat, Ls, Cd, Pwd, Mv, Rm, Ln, Readlink, Smkdir, Setq, Unq, Query, Sls, Sln, Srm, Sforget, Find, Index, Tick, Counts}
 use Rattle.hac_model.specs.declared.states.State.{State}
 
--- where a path word leads from a directory: to an entry or a vacancy
-abbrev pub place : State → ℕ → PathWord → Result Place Refusal
-place s base word = look s (join (path_of s base) word)
+-- where a path word leads from a directory: to an entry or a vacancy. A symbolic link as its last name is followed or not.
+abbrev pub place : State → ℕ → Bool → PathWord → Result Place Refusal
+place s base follow word = look s follow (join (path_of s base) word)
 
 -- there is to be an entry there
 abbrev pub wanted_entry : State → Place → Result ℕ Refusal
@@ -30,9 +30,9 @@ wanted_entry s (There number) = Ok number
 wanted_entry s (Free dir name) = Err (NoPath (path_of s dir ++ name ∷ []))
 
 -- the entry to which a path word leads, or the root
-abbrev pub entry : State → ℕ → PathWord → Result ℕ Refusal
-entry s base word = do
-  found ← place s base word
+abbrev pub entry : State → ℕ → Bool → PathWord → Result ℕ Refusal
+entry s base follow word = do
+  found ← place s base follow word
   wanted_entry s found
 
 -- the entry there is to be a directory
@@ -42,7 +42,7 @@ wanted_directory s number = if is_directory_at s.entries number then Ok number e
 -- the directory to which a path word leads
 abbrev pub directory : State → ℕ → PathWord → Result ℕ Refusal
 directory s base word = do
-  number ← entry s base word
+  number ← entry s base true word
   wanted_directory s number
 
 -- the directory to which a path word leads, the one that it goes on from if none is given
@@ -74,7 +74,7 @@ numbered_query s base (query.Or left right) = do
 -- what is made of an item and a directory, to which two path words lead
 abbrev pub item_and_dir : (ℕ → ℕ → Resolved) → State → ℕ → PathWord → PathWord → Result Resolved Refusal
 item_and_dir make s base item dir = do
-  first ← entry s base item
+  first ← entry s base true item
   second ← directory s base dir
   Ok (make first second)
 
@@ -82,30 +82,36 @@ item_and_dir make s base item dir = do
 -- nothing without its session.
 abbrev pub resolved : State → ℕ → Command → Result Resolved Refusal
 resolved s base (command.Mkdir path) = do
-  found ← place s base path
+  found ← place s base true path
   Ok (Mkdir found)
 resolved s base (command.Rmdir path) = do
   dir ← directory s base path
   Ok (Rmdir dir)
 resolved s base (command.Write path text) = do
-  found ← place s base path
+  found ← place s base true path
   Ok (Write found text)
 resolved s base (command.Cat path) = do
-  number ← entry s base path
+  number ← entry s base true path
   Ok (Cat number)
 resolved s base (command.Ls path) = do
   dir ← listed_directory s base path
   Ok (Ls dir)
 resolved s base command.Pwd = Ok (Pwd base)
 resolved s base (command.Mv from to) = do
-  number ← entry s base from
-  found ← place s base to
+  number ← entry s base false from
+  found ← place s base false to
   Ok (Mv number found)
 resolved s base (command.Rm path) = do
-  number ← entry s base path
+  number ← entry s base false path
   Ok (Rm number)
+resolved s base (command.Ln target path) = do
+  found ← place s base false path
+  Ok (Ln found target)
+resolved s base (command.Readlink path) = do
+  number ← entry s base false path
+  Ok (Readlink number)
 resolved s base (command.Smkdir path raw) = do
-  found ← place s base path
+  found ← place s base true path
   asked ← numbered_query s base raw
   Ok (Smkdir found asked)
 resolved s base (command.Setq path raw) = do

@@ -9,7 +9,7 @@ use Rattle.hac_model.specs.Tree.Listing.{children, entry_line}
 use Rattle.hac_model.specs.Tree.Paths.{path_text}
 use Rattle.hac_model.specs.Query.QueryText.{query_text, named_by}
 use Rattle.hac_model.specs.Script.Texts.{escaped_text}
-use Rattle.hac_model.specs.Tree.{body_at, path_of, text_in}
+use Rattle.hac_model.specs.Tree.{body_at, path_of, target_in, text_in}
 use Rattle.hac_model.specs.declared.marks.Kind.{Kind}
 use Rattle.hac_model.specs.declared.marks.Kind.TheVariants.{Transient, Permanent, Prohibited, Unlinked}
 use Rattle.hac_model.specs.declared.resolved.Resolved.{Resolved}
@@ -54,7 +54,7 @@ line_of_counts counts plain transient permanent prohibited =
     ++ count_text (codes "directories") plain
     ++ count_text (codes "semantic") counts.semantics
     ++ count_text (codes "mounts") 0
-    ++ count_text (codes "symbolic") 0
+    ++ count_text (codes "symbolic") counts.symlinks
     ++ count_text (codes "transient") transient
     ++ count_text (codes "permanent") permanent
     ++ count_text (codes "prohibited") prohibited
@@ -73,6 +73,14 @@ text_line text = codes "= " ++ escaped_text text
 abbrev pub text_lines : State → ℕ → List (List ℕ)
 text_lines s number = option_map_or (λ text. text_line text ∷ []) (option_and_then text_in (body_at s.entries number)) []
 
+-- where a symbolic link leads, as it was given
+abbrev pub target_line : List ℕ → List ℕ
+target_line target = codes "= " ++ target
+
+-- the target of a symbolic link
+abbrev pub target_lines : State → ℕ → List (List ℕ)
+target_lines s number = option_map_or (λ target. target_line target ∷ []) (option_and_then target_in (body_at s.entries number)) []
+
 -- the path of a directory, as `pwd` prints it
 abbrev pub path_line : State → ℕ → List ℕ
 path_line s dir = codes "= " ++ path_text (path_of s dir)
@@ -82,6 +90,7 @@ abbrev pub data_lines : Answers → State → Resolved → List (List ℕ)
 data_lines answers s (command.Cat entry) = text_lines s entry
 data_lines answers s (command.Ls dir) = map entry_line (children s dir)
 data_lines answers s (command.Pwd dir) = path_line s dir ∷ []
+data_lines answers s (command.Readlink entry) = target_lines s entry
 data_lines answers s (command.Query dir) = query_lines s dir
 data_lines answers s (command.Sls dir) = link_lines s dir
 data_lines answers s (command.Find query) = map (found_line s) (found_by s query)

@@ -1,41 +1,94 @@
 -- What the words of the program ask for.
-use Rattle.std.specs.Prelude.{ℕ, Bool, true, false, ◌&&◌, not, if◌then◌else◌, nat_le, List, [], ◌∷◌, ◌++◌, length, take, filter, codes, Option, Some, None}
-use Rattle.std.specs.List.{after_first, before_first}
+use Rattle.std.specs.Prelude.{ℕ, zero, suc, Bool, true, false, ◌&&◌, if◌then◌else◌, nat_le, List, [], ◌∷◌, length, take, drop, codes, Option, Some, None, option_and_then, option_map}
 use Rattle.std.specs.Str.{bytes_eq}
+use Rattle.std.specs.Str.Parse.{digits_value}
+use Rattle.hac_model.specs.Script.Numbers.{is_tick}
 
--- the file of a store, and whether it is to be a new one
+-- whether the store is to be a new one, how many files may be indexed behind each command, and the store's file
 pub record Options : Type 0 where
   pub fresh : Bool
+  pub tick : ℕ
   pub store : List ℕ
+
+-- what words give: `--new` so many times, these values of `--tick`, and these names
+pub record Parsed : Type 0 where
+  pub news : ℕ
+  pub ticks : List (List ℕ)
+  pub names : List (List ℕ)
+
+-- these names alone
+abbrev pub names_alone : List (List ℕ) → Parsed
+names_alone names = record { news = 0; ticks = []; names = names }
+
+-- the same, and one more
+abbrev pub with_new : Parsed → Parsed
+with_new given = record given { news = suc given.news }
+
+abbrev pub with_tick : List ℕ → Parsed → Parsed
+with_tick value given = record given { ticks = value ∷ given.ticks }
+
+abbrev pub with_name : List ℕ → Parsed → Parsed
+with_name name given = record given { names = name ∷ given.names }
 
 -- behind this word each one is a name, whatever it begins with
 abbrev pub ends_options : List ℕ → Bool
 ends_options word = bytes_eq word (codes "--")
 
--- before it, a word of two or more bytes that begins with `-` is an option
-abbrev pub is_option : List ℕ → Bool
-is_option word = nat_le 2 (length word) && bytes_eq (take 1 word) (codes "-")
+abbrev pub is_new : List ℕ → Bool
+is_new word = bytes_eq word (codes "--new")
 
-abbrev pub is_no_option : List ℕ → Bool
-is_no_option word = not (is_option word)
+-- the value of `--tick` is the next word
+abbrev pub is_tick_word : List ℕ → Bool
+is_tick_word word = bytes_eq word (codes "--tick")
 
--- `--new` is given once, and no other option is
-abbrev pub is_new : List (List ℕ) → Bool
-is_new (word ∷ []) = bytes_eq word (codes "--new")
-is_new other = false
+-- or it follows in the same word
+abbrev pub begins_tick : List ℕ → Bool
+begins_tick word = bytes_eq (take 7 word) (codes "--tick=")
 
--- no option is given, or `--new`, once
-abbrev pub are_known : List (List ℕ) → Bool
-are_known [] = true
-are_known (word ∷ words) = is_new (word ∷ words)
+-- two or more bytes, of which the first is `-`
+abbrev pub is_dashed : List ℕ → Bool
+is_dashed word = nat_le 2 (length word) && bytes_eq (take 1 word) (codes "-")
 
--- what options and names ask for: one name, which isn't empty
-abbrev pub asked_by : List (List ℕ) → List (List ℕ) → Option Options
-asked_by given (store ∷ []) = if are_known given && nat_le 1 (length store) then Some (record { fresh = is_new given; store = store }) else None
-asked_by given other = None
+abbrev mutual
+  -- what words give, from the first one on, unless one of them is faulty
+  pub given_by : List (List ℕ) → Option Parsed
+  given_by [] = Some (names_alone [])
+  given_by (word ∷ words) =
+      if ends_options word then Some (names_alone words)
+      else (if is_new word then option_map with_new (given_by words)
+      else (if is_tick_word word then given_behind_tick words
+      else (if begins_tick word then option_map (with_tick (drop 7 word)) (given_by words)
+      else (if is_dashed word then None
+      else option_map (with_name word) (given_by words)))))
 
--- what words ask for, if they fit the usage: `[--new] STORE`, with options anywhere before `--`
+  -- the same where the first one is the value of `--tick`
+  pub given_behind_tick : List (List ℕ) → Option Parsed
+  given_behind_tick [] = None
+  given_behind_tick (word ∷ words) = if is_dashed word then None else option_map (with_tick word) (given_by words)
+
+-- `--new` stands at most once
+abbrev pub fresh_of : ℕ → Option Bool
+fresh_of zero = Some false
+fresh_of (suc zero) = Some true
+fresh_of (suc (suc more)) = None
+
+-- so does `--tick`, with a number; without it nothing is indexed
+abbrev pub tick_of : List (List ℕ) → Option ℕ
+tick_of [] = Some 0
+tick_of (value ∷ []) = if is_tick value then Some (digits_value 10 value) else None
+tick_of other = None
+
+-- there is one name, and not an empty one
+abbrev pub store_of : List (List ℕ) → Option (List ℕ)
+store_of (name ∷ []) = if nat_le 1 (length name) then Some name else None
+store_of other = None
+
+-- what is asked for by what was given
+abbrev pub asked_by : Parsed → Option Options
+asked_by given =
+    option_and_then (λ fresh. option_and_then (λ tick. option_map (λ store. record { fresh = fresh; tick = tick; store = store })
+    (store_of given.names)) (tick_of given.ticks)) (fresh_of given.news)
+
+-- what words ask for, if they fit the usage: `[--new] [--tick N] STORE`, with options anywhere before `--`
 unfoldable pub options : List (List ℕ) → Option Options
-options words =
-    let before = before_first ends_options words in
-    asked_by (filter is_option before) (filter is_no_option before ++ after_first ends_options words)
+options words = option_and_then asked_by (given_by words)

@@ -9,7 +9,7 @@ use Rattle.hac_model.specs.Bytes.{is_space}
 use Rattle.hac_model.specs.Query.Formula.{Formula}
 use Rattle.hac_model.specs.Tree.Limits.{is_text}
 use Rattle.hac_model.specs.Script.LineWords.{first_word, after_space}
-use Rattle.hac_model.specs.Script.PathWords.{is_bad, word_of}
+use Rattle.hac_model.specs.Script.PathWords.{is_bad, is_target, word_of}
 use Rattle.hac_model.specs.Tree.Paths.{are_names}
 use Rattle.hac_model.specs.Script.Numbers.{are_steps, is_number, is_tick}
 use Rattle.hac_model.specs.Script.Puts.{came}
@@ -18,10 +18,10 @@ use Rattle.hac_model.specs.Script.SpaceNames.{is_space_name}
 use Rattle.hac_model.specs.Query.QueryReading.{is_spelled_query, read_query}
 use Rattle.hac_model.specs.Script.Texts.{text_of}
 use Rattle.hac_model.specs.declared.commands.Command.{Command}
-use Rattle.hac_model.specs.declared.commands.Command.TheVariants.{Mkdir, Rmdir, Write, Cat, Ls, Cd, Pwd, Mv, Rm, Smkdir, Setq, Unq, Query, Sls, Sln, Srm, Sforget, Find, Index, Tick, Counts}
+use Rattle.hac_model.specs.declared.commands.Command.TheVariants.{Mkdir, Rmdir, Write, Cat, Ls, Cd, Pwd, Mv, Rm, Ln, Readlink, Smkdir, Setq, Unq, Query, Sls, Sln, Srm, Sforget, Find, Index, Tick, Counts}
 use Rattle.hac_model.specs.declared.commands.Line.{Line}
 use Rattle.hac_model.specs.declared.limits.LimitWord.TheVariants as limit
-use Rattle.hac_model.specs.declared.limits.TheConstants.{LINE_LIMIT}
+use Rattle.hac_model.specs.declared.limits.TheConstants.{LINE_LIMIT, TARGET_LIMIT}
 use Rattle.hac_model.specs.declared.paths.PathWord.{PathWord}
 use Rattle.hac_model.specs.declared.replies.Refusal.{Refusal}
 use Rattle.hac_model.specs.declared.replies.Refusal.TheVariants.{BadLine, BadName, Limit, ShortPut}
@@ -83,6 +83,19 @@ write_of arguments = do
   text ← limited_text spelled
   Ok (Write path text)
 
+-- the bytes, where a symbolic link's target may have as many
+abbrev pub limited_target : List ℕ → Result (List ℕ) Refusal
+limited_target bytes = if nat_le (length bytes) TARGET_LIMIT then Ok bytes else Err (Limit limit.Target)
+
+-- `ln TARGET PATH`, from the bytes behind `ln`. The target is a path word too, and is kept as it was given.
+unfoldable pub ln_of : List ℕ → Result Command Refusal
+ln_of arguments = do
+  word ← first_word arguments
+  path ← only_word word.1
+  paths ← two_paths word.0 path
+  target ← limited_target word.0
+  Ok (Ln target paths.1)
+
 -- the command of a path word and a query, from the bytes behind its name. The query is all that follows one space.
 unfoldable pub path_and_query : (PathWord → Formula PathWord → Command) → List ℕ → Result Command Refusal
 path_and_query command arguments = do
@@ -119,6 +132,8 @@ named_command name arguments =
     else (if bytes_eq name (codes "pwd") then alone Pwd arguments
     else (if bytes_eq name (codes "mv") then of_two_paths Mv arguments
     else (if bytes_eq name (codes "rm") then one_path Rm arguments
+    else (if bytes_eq name (codes "ln") then ln_of arguments
+    else (if bytes_eq name (codes "readlink") then one_path Readlink arguments
     else (if bytes_eq name (codes "smkdir") then path_and_query Smkdir arguments
     else (if bytes_eq name (codes "setq") then path_and_query Setq arguments
     else (if bytes_eq name (codes "unq") then one_path Unq arguments
@@ -131,7 +146,7 @@ named_command name arguments =
     else (if bytes_eq name (codes "index") then alone Index arguments
     else (if bytes_eq name (codes "tick") then tick_of arguments
     else (if bytes_eq name (codes "counts") then alone Counts arguments
-    else Err BadLine))))))))))))))))))))
+    else Err BadLine))))))))))))))))))))))
 
 -- the path and the length of a `put`, from the bytes behind `put`: two words and no more
 unfoldable pub put_words : List ℕ → Result (List ℕ × List ℕ) Refusal
@@ -210,6 +225,8 @@ is_spelled (Cd path) = option_map_or is_spelled_word path true
 is_spelled Pwd = true
 is_spelled (Mv from to) = is_spelled_word from && is_spelled_word to
 is_spelled (Rm path) = is_spelled_word path
+is_spelled (Ln target path) = is_target target && is_spelled_word path
+is_spelled (Readlink path) = is_spelled_word path
 is_spelled (Smkdir path query) = is_spelled_word path && is_spelled_query query
 is_spelled (Setq path query) = is_spelled_word path && is_spelled_query query
 is_spelled (Unq path) = is_spelled_word path

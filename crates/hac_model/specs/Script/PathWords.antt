@@ -1,11 +1,11 @@
 -- What a path word says.
-use Rattle.std.specs.Prelude.{ℕ, Bool, true, false, ◌+◌, ◌-◌, ◌==◌, ◌||◌, not, if◌then◌else◌, nat_lt, List, [], ◌∷◌, length, slice_index, codes, Result, Ok, Err}
+use Rattle.std.specs.Prelude.{ℕ, Bool, true, false, ◌+◌, ◌-◌, ◌==◌, ◌&&◌, ◌||◌, not, if◌then◌else◌, nat_le, nat_lt, List, [], ◌∷◌, length, slice_index, codes, Result, Ok, Err}
 use Rattle.std.specs.List.{slice_split, list_any, list_all}
 use Rattle.std.specs.Str.{bytes_eq}
 use Rattle.hac_model.specs.Bytes.{is_slash}
 use Rattle.hac_model.specs.Tree.Names.{is_name_byte}
 use Rattle.hac_model.specs.declared.limits.LimitWord.TheVariants as limit
-use Rattle.hac_model.specs.declared.limits.TheConstants.{NAME_LIMIT}
+use Rattle.hac_model.specs.declared.limits.TheConstants.{NAME_LIMIT, TARGET_LIMIT}
 use Rattle.hac_model.specs.declared.paths.PathWord.{PathWord}
 use Rattle.hac_model.specs.declared.replies.Refusal.{Refusal}
 use Rattle.hac_model.specs.declared.replies.Refusal.TheVariants.{BadName, Limit}
@@ -64,3 +64,11 @@ word_of bytes =
     if is_bad bytes then Err BadName
     else (if has_long_part bytes then Err (Limit limit.Name)
     else Ok (untested_word bytes))
+
+-- the bytes are a path word
+abbrev pub is_path_word : List ℕ → Bool
+is_path_word bytes = not (is_bad bytes) && not (has_long_part bytes)
+
+-- the bytes may be the target of a symbolic link
+abbrev pub is_target : List ℕ → Bool
+is_target bytes = nat_le (length bytes) TARGET_LIMIT && is_path_word bytes

@@ -43,7 +43,7 @@ leads_within edges zero from to = from == to
 leads_within edges (suc steps) from to = from == to || list_any (λ next. leads_within edges steps next to) (edges from)
 
 -- the one directory is the other, or depends on it over any number of steps: as many as there are semantic directories
--- are enough, where none depends on itself
+-- are enough
 unfoldable pub reaches : State → ℕ → ℕ → Bool
 reaches s from to = leads_within (depends s) (semantic_count s.entries) from to
 

@@ -8,15 +8,16 @@ use Rattle.hac_model.specs.Tree.Limits.{dirty_count, is_text, passed_limit}
 use Rattle.hac_model.specs.Tree.Links.{has, is_item, is_permanent, is_prohibited, is_semantic, links, parent_of}
 use Rattle.hac_model.specs.Tree.Names.{is_name}
 use Rattle.hac_model.specs.Tree.Sessions.{are_few, is_busy, sessions_with}
+use Rattle.hac_model.specs.Script.PathWords.{is_target}
 use Rattle.hac_model.specs.Script.SpaceNames.{is_space_name}
 use Rattle.hac_model.specs.Query.Queries.{is_query}
-use Rattle.hac_model.specs.Tree.{child, entry_at, extends, is_directory_at, is_dirty, is_file_at, is_made_directory, path_of}
+use Rattle.hac_model.specs.Tree.{child, entry_at, extends, is_directory_at, is_dirty, is_file_at, is_leaf_at, is_made_directory, path_of}
 use Rattle.hac_model.specs.declared.events.Event.{Event}
-use Rattle.hac_model.specs.declared.events.Event.TheVariants.{Mkdir, NewFile, Rewrite, Smkdir, Setq, Unq, Mark, Mv, Rm, Rmdir, Step, Cd}
+use Rattle.hac_model.specs.declared.events.Event.TheVariants.{Mkdir, NewFile, Rewrite, Ln, Smkdir, Setq, Unq, Mark, Mv, Rm, Rmdir, Step, Cd}
 use Rattle.hac_model.specs.declared.marks.Kind.{Kind}
 use Rattle.hac_model.specs.declared.marks.Kind.TheVariants.{Transient, Permanent, Prohibited, Unlinked}
 use Rattle.hac_model.specs.declared.states.Body.{Body}
-use Rattle.hac_model.specs.declared.states.Body.TheVariants.{File, Dir, Semantic}
+use Rattle.hac_model.specs.declared.states.Body.TheVariants.{File, Dir, Symlink, Semantic}
 use Rattle.hac_model.specs.declared.states.Entry.{Entry}
 use Rattle.hac_model.specs.declared.states.State.{State}
 
@@ -66,12 +67,13 @@ abbrev pub is_placed : State → Event → Bool
 is_placed s (Mkdir dir name) = is_free s dir name
 is_placed s (NewFile dir name text) = is_free s dir name && is_text text
 is_placed s (Rewrite file text) = is_file_at s.entries file && is_text text
+is_placed s (Ln dir name target) = is_free s dir name && is_target target
 is_placed s (Smkdir dir name query told) = is_free s dir name && (may_ask s query && length told == 0)
 is_placed s (Setq dir query told) = is_made_directory s.entries dir && (may_ask s query && length told == 0)
 is_placed s (Unq dir) = is_semantic s dir
 is_placed s (Mark mark) = is_item s mark.item && is_semantic s mark.dir
 is_placed s (Mv entry dir name) = is_some (entry_at s.entries entry) && is_free s dir name && not (is_inside s dir entry)
-is_placed s (Rm entry) = is_file_at s.entries entry
+is_placed s (Rm entry) = is_leaf_at s.entries entry
 is_placed s (Rmdir dir) = is_made_directory s.entries dir && is_bare s.entries dir
 is_placed s Step = is_some (next_dirty s.entries)
 is_placed s (Cd session dir) = is_space_name session && is_directory_at s.entries dir
@@ -180,6 +182,7 @@ abbrev pub apply : State → Event → State
 apply s (Mkdir dir name) = added s dir name Dir
 apply s (NewFile dir name text) = added s dir name (File text true None)
 apply s (Rewrite file text) = changed_at s file (edited (rewritten text))
+apply s (Ln dir name target) = added s dir name (Symlink target)
 apply s (Smkdir dir name query told) = added s dir name (Semantic query [] [])
 apply s (Setq dir query told) = changed_at s dir (edited (asking query))
 apply s (Unq dir) = changed_at s dir (edited plain_body)

@@ -8,12 +8,13 @@ use Rattle.hac_model.specs.Query.Formula.{Formula}
 use Rattle.hac_model.specs.Tree.Limits.{is_text, passed_limit}
 use Rattle.hac_model.specs.Tree.Names.{is_name}
 use Rattle.hac_model.specs.Tree.Sessions.{are_few}
+use Rattle.hac_model.specs.Script.PathWords.{is_target}
 use Rattle.hac_model.specs.Script.SpaceNames.{is_space_name}
 use Rattle.hac_model.specs.Tree.Events.{may_ask}
 use Rattle.hac_model.specs.Tree.Links.{has, is_item}
 use Rattle.hac_model.specs.Tree.{child, is_directory_at}
 use Rattle.hac_model.specs.declared.states.Body.{Body}
-use Rattle.hac_model.specs.declared.states.Body.TheVariants.{File, Dir, Semantic}
+use Rattle.hac_model.specs.declared.states.Body.TheVariants.{File, Dir, Symlink, Semantic}
 use Rattle.hac_model.specs.declared.states.Entry.{Entry}
 use Rattle.hac_model.specs.declared.states.Session.{Session}
 use Rattle.hac_model.specs.declared.states.State.{State}
@@ -38,6 +39,7 @@ pub record IsSoundFile (text : List ℕ) (dirty : Bool) (shown : Option (List �
 abbrev pub IsSound : Body → Type 0
 IsSound (File text dirty shown) = IsSoundFile text dirty shown
 IsSound Dir = Unit {0}
+IsSound (Symlink target) = IsTrue (is_target target)
 IsSound (Semantic query permanent prohibited) = Unit {0}
 IsSound other = ⊥
 

@@ -10,34 +10,43 @@ returns-in_err-reader g c =
     let before = outside (g.S.Source.seen c.args.input.now) (g.K.Sink.seen c.args.output.now) in
     let stop = err_from_is_err_and c.from_residual.result c.from_residual.ensures.1 in
     rw (stop.1 ∙ ap Err stop.2)
-    (runs-stop (runs-begin g.met.D.Disk.only_now c.args.disk.now before fresh_reader c.args.player.now.store c.args.player.now.refused refl c.requires.source c.requires.begun c.requires.intact c.requires.place) (stops-unread before.source))
+    (runs-stop (runs-begin g.met.D.Disk.only_now c.args.disk.now c.args.player.now.tick before fresh_reader c.args.player.now.store c.args.player.now.refused refl c.requires.source c.requires.begun c.requires.intact c.requires.place) (stops-unread before.source))
 
 pub lines-init : goal.lines-init
 lines-init g c =
     let before = outside (g.S.Source.seen c.args.input.now) (g.K.Sink.seen c.args.output.now) in
-    runs-begin g.met.D.Disk.only_now c.args.disk.now before c.in_ok-reader.reader c.args.player.now.store c.args.player.now.refused c.in_ok-reader.ensures c.requires.source c.requires.begun c.requires.intact c.requires.place
+    record {
+      on = runs-begin g.met.D.Disk.only_now c.args.disk.now c.args.player.now.tick before c.in_ok-reader.reader c.args.player.now.store c.args.player.now.refused c.in_ok-reader.ensures c.requires.source c.requires.begun c.requires.intact c.requires.place;
+      tick = refl;
+    }
 
 pub take_line-requires : goal.take_line-requires
-take_line-requires g c = c.lines.invariant.reads
+take_line-requires g c = c.lines.invariant.on.reads
 
 pub answer-requires-clause-intact : goal.answer-requires-clause-intact
-answer-requires-clause-intact g c = c.lines.invariant.intact
+answer-requires-clause-intact g c = c.lines.invariant.on.intact
 
 pub answer-requires-clause-place : goal.answer-requires-clause-place
-answer-requires-clause-place g c = c.lines.invariant.place
+answer-requires-clause-place g c = c.lines.invariant.on.place
 
 pub returns-in_err-line : goal.returns-in_err-line
 returns-in_err-line g c =
     let stop = err_from_is_err_and c.from_residual-in_err-line.result c.from_residual-in_err-line.ensures.1 in
-    rw (stop.1 ∙ ap Err stop.2) (runs-stop c.lines.invariant c.in_err-line.ensures.stops)
+    rw (stop.1 ∙ ap Err stop.2) (runs-stop c.lines.invariant.on c.in_err-line.ensures.stops)
 
 pub returns-in_err-answer-in-Some : goal.returns-in_err-answer-in-Some
 returns-in_err-answer-in-Some g c =
     let stop = err_from_is_err_and c.from_residual-in_err-answer-in-Some.result c.from_residual-in_err-answer-in-Some.ensures.1 in
-    rw (stop.1 ∙ ap Err stop.2) (runs-cut c.lines.invariant (rw c.in-Some.is at c.in_ok-line.ensures.line) g.met.D.Disk.counts_now c.in_err-answer-in-Some.ensures.err)
+    rw (stop.1 ∙ ap Err stop.2) (runs-cut c.lines.invariant.on (rw c.in-Some.is at c.in_ok-line.ensures.line) g.met.D.Disk.counts_now (rw c.lines.invariant.tick at c.in_err-answer-in-Some.ensures.err))
 
 pub returns-in-None : goal.returns-in-None
-returns-in-None g c = runs-end c.lines.invariant (rw c.in-None.is at c.in_ok-line.ensures.line)
+returns-in-None g c = runs-end c.lines.invariant.on (rw c.in-None.is at c.in_ok-line.ensures.line)
 
 pub lines-preserved : goal.lines-preserved
-lines-preserved g c = runs-next c.lines.invariant (rw c.in-Some.is at c.in_ok-line.ensures.line) c.in_ok-answer-in-Some.ensures.ok c.in_ok-answer-in-Some.ensures.refused
+lines-preserved g c =
+    record {
+      on =
+          runs-next c.lines.invariant.on (rw c.in-Some.is at c.in_ok-line.ensures.line) (rw c.lines.invariant.tick at c.in_ok-answer-in-Some.ensures.ok)
+          (rw c.lines.invariant.tick at c.in_ok-answer-in-Some.ensures.refused);
+      tick = c.in_ok-answer-in-Some.ensures.tick ∙ c.lines.invariant.tick;
+    }

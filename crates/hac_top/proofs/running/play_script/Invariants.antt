@@ -1,4 +1,4 @@
-use Rattle.std.proofs.Common.{◌-◌}
+use Rattle.std.proofs.Common.{◌≡◌, ◌-◌}
 use Rattle.hac_model.specs.declared.limits.TheConstants.{SCRIPT_LIMIT}
 use Rattle.shell_lang.specs.Reading.{given}
 use Rattle.hac_top.specs.Run.{outside}
@@ -7,8 +7,11 @@ use Rattle.hac_top.proofs.running.play_script.Given as goal
 
 abbrev pub invariant-lines : goal.invariant-lines
 invariant-lines g l =
-    RunsOn g.D.Disk.seen g.D.Disk.image g.D.Disk.moment g.D.Disk.image_since g.D.Disk.attached g.D.Disk.faults l.fn.disk l.disk l.fn.player.store.setting
-    (outside (g.S.Source.seen l.fn.input) (g.K.Sink.seen l.fn.output)) (outside (g.S.Source.seen l.input) (g.K.Sink.seen l.output)) l.reader l.player.store l.player.refused
+    record {
+      on : RunsOn g.D.Disk.seen g.D.Disk.image g.D.Disk.moment g.D.Disk.image_since g.D.Disk.attached g.D.Disk.faults l.fn.disk l.disk l.fn.player.tick l.fn.player.store.setting
+          (outside (g.S.Source.seen l.fn.input) (g.K.Sink.seen l.fn.output)) (outside (g.S.Source.seen l.input) (g.K.Sink.seen l.output)) l.reader l.player.store l.player.refused;
+      tick : l.player.tick ≡ l.fn.player.tick;
+    }
 
 -- each line takes a byte of those that a script may have
 abbrev pub decreases-lines : goal.decreases-lines

@@ -17,7 +17,7 @@ returns-in-Ok-open_store-clause-ran g c =
     let before = outside (g.S.Source.seen c.args.input.now) (g.K.Sink.seen c.args.output.now) in
     let after = outside (g.S.Source.seen c.play_store.new.input) (g.K.Sink.seen c.play_store.new.output) in
     rw c.in-Ok.ensures.read
-    (ran-opened disk.seen disk.image disk.moment disk.image_since disk.attached disk.faults g.met.D.Disk.counts_now c.in-Ok.options.fresh (IsSettled (disk.seen old) (disk.image old)) old c.open_store.new.disk c.play_store.new.disk c.in-Ok-open_store.store.setting before after
+    (ran-opened disk.seen disk.image disk.moment disk.image_since disk.attached disk.faults g.met.D.Disk.counts_now c.in-Ok.options.fresh c.in-Ok.options.tick (IsSettled (disk.seen old) (disk.image old)) old c.open_store.new.disk c.play_store.new.disk c.in-Ok-open_store.store.setting before after
     c.play_store.result c.play_store.ensures c.in-Ok-open_store.ensures.faults (disk.seen old) c.in-Ok-open_store.ensures.opened c.in-Ok-open_store.ensures.stands c.in-Ok-open_store.ensures.any_moment)
 
 pub returns-in-Err-clause-ran : goal.returns-in-Err-clause-ran
@@ -26,7 +26,7 @@ returns-in-Err-clause-ran g c =
     let old = c.args.disk.now in
     let before = outside (g.S.Source.seen c.args.input.now) (g.K.Sink.seen c.args.output.now) in
     rw c.in-Ok.ensures.read
-    (ran-unopened disk.seen disk.image disk.moment disk.image_since disk.attached disk.faults g.met.D.Disk.counts_now c.in-Ok.options.fresh (IsSettled (disk.seen old) (disk.image old)) old c.open_store.new.disk before c.in-Err.status
+    (ran-unopened disk.seen disk.image disk.moment disk.image_since disk.attached disk.faults g.met.D.Disk.counts_now c.in-Ok.options.fresh c.in-Ok.options.tick (IsSettled (disk.seen old) (disk.image old)) old c.open_store.new.disk before c.in-Err.status
     c.in-Err.ensures.stops c.in-Err.ensures.faults (disk.seen old) c.in-Err.ensures.opened c.in-Err.ensures.any_moment)
 
 -- nothing was told of the file
@@ -37,12 +37,12 @@ untold fresh (Some file) = λ never. absurd never
 -- memory ran out before the disk was touched
 untouched : {D : Type 0} (seen : D → Option (List ℕ)) (image : D → List ℕ → Type 0) (moment : D → ℕ) (image_since : D → ℕ → List ℕ → Type 0) (attached : D → Option (List (List ℕ × Bool))) (faults : D → ℕ)
     → ((disk : D) (c : List ℕ) → image_since disk (moment disk) c → image disk c) → ((disk : D) (t : ℕ) (c : List ℕ) → t ≤ moment disk → image disk c → image_since disk t c)
-    → (asked : Option Options) (disk : D) (before : Outside) → IfOpens asked (seen disk) before.source.left (λ fresh setting script. Ran fresh Memory setting script before before
+    → (asked : Option Options) (disk : D) (before : Outside) → IfOpens asked (seen disk) before.source.left (λ asked setting script. Ran asked.fresh asked.tick Memory setting script before before
     (IsSettled (seen disk) (image disk)) (image disk) (LeavesOnly moment image_since disk disk) (IsFaultless before before (faults disk) (faults disk)))
 untouched seen image moment image_since attached faults only_now counts_now None disk before = search rules
 untouched seen image moment image_since attached faults only_now counts_now (Some asked) disk before =
     let quiet : IsQuiet seen image moment image_since disk disk = record { same = refl; images = λ c left. left; later = omega arith; past = λ t c within left. left; keeps = λ t c within left. left } in
-    ran-unopened seen image moment image_since attached faults counts_now asked.fresh (IsSettled (seen disk) (image disk)) disk disk before Memory tt refl (seen disk) (untold asked.fresh (seen disk))
+    ran-unopened seen image moment image_since attached faults counts_now asked.fresh asked.tick (IsSettled (seen disk) (image disk)) disk disk before Memory tt refl (seen disk) (untold asked.fresh (seen disk))
     (opens-quiet seen image moment image_since only_now asked.fresh (seen disk) disk disk quiet)
 
 pub returns-in-Err-Memory-clause-ran : goal.returns-in-Err-Memory-clause-ran

@@ -1,5 +1,5 @@
 use Rattle.kept_state.specs.Parts.{facts_kept}
-use Rattle.kept_state.proofs.ReadyLemmas.{file-directory, mark-directory, mkdir-directory, move-directory, smkdir-directory}
+use Rattle.kept_state.proofs.ReadyLemmas.{file-directory, link-parts, mark-directory, mkdir-directory, move-directory, smkdir-directory}
 use Rattle.kept_state.proofs.ready.prepare.Goals as goal
 
 pub prepare_entry-requires : goal.prepare_entry-requires
@@ -7,6 +7,12 @@ prepare_entry-requires c = mkdir-directory (facts_kept c.args.kept.now) c.args.k
 
 pub prepare_entry-requires-in-NewFile : goal.prepare_entry-requires-in-NewFile
 prepare_entry-requires-in-NewFile c = file-directory (facts_kept c.args.kept.now) c.args.kept.now.sessions c.args.kept.now.tree.state c.args.event.now c.requires.accepted c.in-NewFile.dir c.in-NewFile.name c.in-NewFile.text c.in-NewFile.is
+
+pub prepare_link-requires-clause-dir : goal.prepare_link-requires-clause-dir
+prepare_link-requires-clause-dir c = (link-parts (facts_kept c.args.kept.now) c.args.kept.now.sessions c.args.kept.now.tree.state c.args.event.now c.requires.accepted c.in-Ln.dir c.in-Ln.name c.in-Ln.target c.in-Ln.is).0
+
+pub prepare_link-requires-clause-target : goal.prepare_link-requires-clause-target
+prepare_link-requires-clause-target c = (link-parts (facts_kept c.args.kept.now) c.args.kept.now.sessions c.args.kept.now.tree.state c.args.event.now c.requires.accepted c.in-Ln.dir c.in-Ln.name c.in-Ln.target c.in-Ln.is).1
 
 pub prepare_semantic-requires : goal.prepare_semantic-requires
 prepare_semantic-requires c = smkdir-directory (facts_kept c.args.kept.now) c.args.kept.now.sessions c.args.kept.now.tree.state c.args.event.now c.requires.accepted c.in-Smkdir.dir c.in-Smkdir.name c.in-Smkdir.query c.in-Smkdir.told c.in-Smkdir.is

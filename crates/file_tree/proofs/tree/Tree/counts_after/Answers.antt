@@ -7,11 +7,11 @@ use Rattle.hac_model.specs.Tree.{is_made_directory}
 use Rattle.hac_model.specs.declared.events.Event.{Event}
 use Rattle.hac_model.specs.declared.states.Body.TheVariants as body
 use Rattle.hac_model.specs.Tree.Events.{is_placed}
-use Rattle.file_tree.proofs.PlacedLemmas.{asking-share, bare-short, file-short, forgotten-counts, mark-counts, new-file}
+use Rattle.file_tree.proofs.PlacedLemmas.{asking-share, bare-short, leaf-short, forgotten-counts, mark-counts, new-file}
 use Rattle.file_tree.proofs.tree.Tree.counts_after.Goals as goal
 
 pub without-requires-clause-short : goal.without-requires-clause-short
-without-requires-clause-short c = file-short c.args.self.now.state c.in-Rm.entry c.know_layout.ensures.layout (subst (λ (e : Event). IsTrue (is_placed c.args.self.now.state e)) c.in-Rm.is c.requires)
+without-requires-clause-short c = leaf-short c.args.self.now.state c.in-Rm.entry c.know_layout.ensures.layout (subst (λ (e : Event). IsTrue (is_placed c.args.self.now.state e)) c.in-Rm.is c.requires)
 
 pub without-requires-in-Rmdir-clause-short : goal.without-requires-in-Rmdir-clause-short
 without-requires-in-Rmdir-clause-short c =
@@ -22,6 +22,11 @@ pub returns-in-NewFile : goal.returns-in-NewFile
 returns-in-NewFile c =
     c.with_entry-in-NewFile.ensures c.in-NewFile.name (body.File c.in-NewFile.text true None) (new-file c.in-NewFile.text c.len.result c.of_file.result c.len.ensures.len c.of_file.ensures.share)
     ∙ ap (λ (e : Event). counts (apply c.args.self.now.state e)) (sym c.in-NewFile.is)
+
+pub returns-in-Ln : goal.returns-in-Ln
+returns-in-Ln c =
+    c.with_entry-in-Ln.ensures c.in-Ln.name (body.Symlink c.in-Ln.target) (c.of_symlink.ensures.share c.in-Ln.target)
+    ∙ ap (λ (e : Event). counts (apply c.args.self.now.state e)) (sym c.in-Ln.is)
 
 pub returns-in-Smkdir : goal.returns-in-Smkdir
 returns-in-Smkdir c =

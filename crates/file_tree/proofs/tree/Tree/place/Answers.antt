@@ -1,13 +1,38 @@
-use Rattle.std.proofs.Common.{ℕ, List, [], subst, ap, sym, ◌∙◌}
+use Rattle.std.proofs.Common.{ℕ, List, subst, sym, ap, ◌∙◌}
+use Rattle.std.specs.Prelude.{Err, Ok, Option, Result}
+use Rattle.std.proofs.lemmas.Result.{err_from_is_err_and}
+use Rattle.hac_model.specs.Tree.Looks.{look}
 use Rattle.hac_model.specs.Tree.Paths.{join}
 use Rattle.hac_model.specs.Tree.{path_of}
-use Rattle.hac_model.proofs.Walks.{look-walk, walk}
+use Rattle.hac_model.specs.declared.limits.TheConstants.{FOLLOW_LIMIT}
+use Rattle.hac_model.specs.declared.places.Place.{Place}
+use Rattle.hac_model.specs.declared.replies.Refusal.TheVariants.{Loop}
 use Rattle.file_tree.specs.Answers.{Finds}
+use Rattle.file_tree.specs.Traces.{trace}
+use Rattle.file_tree.specs.Walked.{EndsAs, names_of}
+use Rattle.file_tree.specs.declared.placing.Stop.{Stop}
+use Rattle.file_tree.proofs.WalkedLemmas.{place-traced}
 use Rattle.file_tree.proofs.tree.Tree.place.Goals as goal
+
+pub returns-in_err-place : goal.returns-in_err-place
+returns-in_err-place c =
+    let s = c.args.self.now.state in
+    let path : List (List ℕ) = join (path_of s c.args.base) c.args.word.now in
+    let stop = err_from_is_err_and c.from_residual-in_err-place.result c.from_residual-in_err-place.ensures.1 in
+    subst (λ (r : Result Place Stop). Finds r (look s c.args.follow path)) (sym (stop.1 ∙ ap Err stop.2))
+    (subst (EndsAs path (Err c.in_err-place.field-0.0)) (place-traced s c.args.follow c.args.base c.args.word.now c.begin.result c.new-left.result c.push_names.new.left c.know_layout.ensures.layout c.requires.dir c.begin.ensures.begin c.new-left.ensures c.in_ok-push_names.ensures) (c.in_err-place.ensures path))
+
+pub returns-in-Some : goal.returns-in-Some
+returns-in-Some c =
+    let s = c.args.self.now.state in
+    let path : List (List ℕ) = join (path_of s c.args.base) c.args.word.now in
+    sym (place-traced s c.args.follow c.args.base c.args.word.now c.begin.result c.new-left.result c.push_names.new.left c.know_layout.ensures.layout c.requires.dir c.begin.ensures.begin c.new-left.ensures c.in_ok-push_names.ensures)
+    ∙ subst (λ (o : Option Place). EndsAs path (Ok o) (trace s c.args.follow path FOLLOW_LIMIT c.begin.result (names_of c.push_names.new.left))) c.in-Some.is (c.in_ok-place.ensures path)
 
 pub returns : goal.returns
 returns c =
-    subst (Finds c.walk.result)
-    (ap (walk c.args.self.now.state.entries 0 []) (c.as_slice.ensures ∙ c.in_ok-path.ensures ∙ ap (λ (base : List (List ℕ)). join base c.args.word.now) c.in_ok-base.ensures)
-    ∙ sym (look-walk c.args.self.now.state (join (path_of c.args.self.now.state c.args.base) c.args.word.now)))
-    c.walk.ensures
+    let s = c.args.self.now.state in
+    let path : List (List ℕ) = join (path_of s c.args.base) c.args.word.now in
+    sym (place-traced s c.args.follow c.args.base c.args.word.now c.begin.result c.new-left.result c.push_names.new.left c.know_layout.ensures.layout c.requires.dir c.begin.ensures.begin c.new-left.ensures c.in_ok-push_names.ensures)
+    ∙ subst (λ (o : Option Place). EndsAs path (Ok o) (trace s c.args.follow path FOLLOW_LIMIT c.begin.result (names_of c.push_names.new.left))) c.in-None.is (c.in_ok-place.ensures path)
+    ∙ ap (λ (p : List (List ℕ)). Err (Loop p)) (sym c.in_ok-joined-in-None.ensures)

@@ -1,0 +1,219 @@
+-- States are read back, and what is read is what they spell.
+use Rattle.std.proofs.Common.{◌≡◌, ℕ, Bool, true, false, eqb, nat_lt, nat_le, List, [], ◌∷◌, ◌++◌, length, Option, Some, None, Result, Ok, Err, refl, sym, ap, subst, ◌∙◌, append_assoc, IsTrue}
+use Rattle.std.specs.Prelude.{not}
+use Rattle.std.specs.Option.{option_map}
+use Rattle.std.specs.Str.{bytes_eq}
+use Rattle.std.proofs.lemmas.Bool.{eqb-true, and_parts, and_from}
+use Rattle.std.proofs.lemmas.List.{append-nil, nil_from_length}
+use Rattle.std.proofs.lemmas.Slice.Eq.{bytes_eq-Decides}
+use Rattle.hac_model.specs.Run.Answers.{◌>>=◌}
+use Rattle.hac_model.specs.Payload.Fields.{num, nothing, ◌&◌, checked, list, part, way, way_at, choice_at}
+use Rattle.hac_model.specs.Payload.Payloads.{all_of, name_field, space_field, target_field, text_field, nums, rises}
+use Rattle.hac_model.specs.Payload.QueryFields.{query_field, word_field}
+use Rattle.hac_model.specs.Payload.States.{answer_field, body_field, body_part, body_ways, document_field, documents_field, entry_field, flag_field, flag_part, is_spellable_state, no_sessions, other_text, shown_field, shown_part, shown_ways, spelled_state, state_field, state_payload, state_text, term_field, term_part, texts_field}
+use Rattle.hac_model.specs.Query.Terms.{is_term_before}
+use Rattle.hac_model.specs.Tree.Listing.{is_before}
+use Rattle.hac_model.specs.declared.states.Answer.{Answer}
+use Rattle.hac_model.specs.declared.states.Body.{Body}
+use Rattle.hac_model.specs.declared.states.Body.TheVariants.{File, Dir, Symlink, Semantic, Mount}
+use Rattle.hac_model.specs.declared.states.Document.{Document}
+use Rattle.hac_model.specs.declared.states.Entry.{Entry}
+use Rattle.hac_model.specs.declared.states.Session.{Session}
+use Rattle.hac_model.specs.declared.states.State.{State}
+use Rattle.hac_model.specs.declared.terms.Term.{Term}
+use Rattle.hac_model.specs.declared.terms.Term.TheVariants.{Word, Prefix}
+use Rattle.event_codec.specs.Laws.{AreBytes, ReadIsState, StateIsRead}
+use Rattle.event_codec.proofs.FieldLemmas.{Took, Lawful, bind_ok, guard_ok, ok_is, nothing_lawful, both_lawful, checked_lawful, list_lawful, seen_lawful, way_is, way_is_fitting, whole_way_is, choice_takes, way_again, whole_way_again}
+use Rattle.event_codec.proofs.PayloadLemmas.{name_lawful, space_lawful, target_lawful, text_lawful, nums_lawful, placed_ok}
+use Rattle.event_codec.proofs.QueryLemmas.{num_lawful, query_lawful, word_lawful}
+
+-- ---- files
+
+flag_again : (flag : Bool) (rest : List ℕ) → flag_field.fits flag ≡ true → flag_field.read (flag_field.text flag ++ rest) ≡ Ok (flag, rest)
+unfolding choice_at way_at
+flag_again false rest fits = refl
+flag_again true rest fits = refl
+
+flag_lawful : Lawful flag_field
+flag_lawful = record {
+  takes = choice_takes flag_part (way 0 nothing (λ x. false) ∷ way 1 nothing (λ x. true) ∷ []) (
+    way_is flag_part 0 nothing (λ x. false) nothing_lawful (λ x. refl),
+    (way_is flag_part 1 nothing (λ x. true) nothing_lawful (λ x. refl), tt),
+  );
+  again = flag_again;
+}
+
+other_lawful : (text : List ℕ) → Lawful (other_text text)
+other_lawful text = checked_lawful text_field (λ shown. not (bytes_eq shown text)) text_lawful
+
+not-false : (b : Bool) → not b ≡ true → b ≡ false
+not-false false h = refl
+not-false true h = absurd cc
+
+-- a text that was shown differs from the text, or it is the text
+shown_other : (text shown : List ℕ) → (other_text text).fits shown ≡ true → shown_part text (Some shown) ≡ part 2 (other_text text) shown
+shown_other text shown fits =
+    let differs : bytes_eq shown text ≡ false = not-false (bytes_eq shown text) (and_parts (text_field.fits shown) (not (bytes_eq shown text)) fits).1 in
+    rw differs refl
+
+shown_same : (text : List ℕ) → shown_part text (Some text) ≡ part 1 nothing tt
+shown_same text = let same : bytes_eq text text ≡ true = (bytes_eq-Decides text text).1 refl in rw same refl
+
+shown_again : (text : List ℕ) (shown : Option (List ℕ)) (rest : List ℕ) → (shown_field text).fits shown ≡ true → (shown_field text).read ((shown_field text).text shown ++ rest) ≡ Ok (shown, rest)
+unfolding choice_at way_at
+shown_again text None rest fits = refl
+shown_again text (Some shown) rest fits =
+    elim (bytes_eq shown text) as (λ b. bytes_eq shown text ≡ b → choice_at (shown_ways text) ((shown_part text (Some shown)).text ++ rest) ≡ Ok (Some shown, rest)) [
+      | true ↦ λ same. rw same (ap (λ (t : List ℕ). Ok (Some t, rest)) (sym ((bytes_eq-Decides shown text).0 same)))
+      | false ↦ λ differs.
+          let short = and_parts (text_field.fits shown) true (rw differs at fits) in
+          let spelled : (other_text text).fits shown ≡ true = and_from (text_field.fits shown) (not (bytes_eq shown text)) short.0 (ap (λ (b : Bool). not b) differs) in
+          rw differs (way_again (other_text text) (λ shown. Some shown) (other_lawful text) shown rest spelled)
+    ] refl
+
+shown_lawful : (text : List ℕ) → Lawful (shown_field text)
+shown_lawful text = record {
+  takes = choice_takes (shown_part text) (shown_ways text) (
+    way_is (shown_part text) 0 nothing (λ x. None) nothing_lawful (λ x. refl),
+    (
+      way_is (shown_part text) 1 nothing (λ x. Some text) nothing_lawful (λ x. shown_same text),
+      (way_is_fitting (shown_part text) 2 (other_text text) (λ shown. Some shown) (other_lawful text) (shown_other text), tt),
+    ),
+  );
+  again = shown_again text;
+}
+
+texts_takes : (bytes : List ℕ) (x : (List ℕ × Option (List ℕ)) × List ℕ) → AreBytes bytes → texts_field.read bytes ≡ Ok x → Took texts_field bytes x
+texts_takes bytes x fits e =
+    let a = bind_ok (text_field.read bytes) (λ text. (shown_field text.0).read text.1 >>= λ shown. Ok ((text.0, shown.0), shown.1)) x e in
+    let b = bind_ok ((shown_field a.0.0).read a.0.1) (λ shown. Ok ((a.0.0, shown.0), shown.1)) x a.2 in
+    let first = text_lawful.takes bytes a.0 fits a.1 in
+    let second = (shown_lawful a.0.0).takes a.0.1 b.0 first.rest b.1 in
+    let took : Took texts_field bytes ((a.0.0, b.0.0), b.0.1) = record {
+      parts = first.parts ∙ ap (λ (t : List ℕ). text_field.text a.0.0 ++ t) second.parts ∙ sym (append_assoc (text_field.text a.0.0) ((shown_field a.0.0).text b.0.0) b.0.1);
+      rest = second.rest;
+      fits = and_from _ _ first.fits second.fits;
+    } in
+    subst (λ (y : (List ℕ × Option (List ℕ)) × List ℕ). Took texts_field bytes y) (ok_is ((a.0.0, b.0.0), b.0.1) x b.2) took
+
+texts_again : (x : List ℕ × Option (List ℕ)) (rest : List ℕ) → texts_field.fits x ≡ true → texts_field.read (texts_field.text x ++ rest) ≡ Ok (x, rest)
+texts_again x rest fits =
+    let parts = and_parts (text_field.fits x.0) ((shown_field x.0).fits x.1) fits in
+    rw (append_assoc (text_field.text x.0) ((shown_field x.0).text x.1) rest, text_lawful.again x.0 ((shown_field x.0).text x.1 ++ rest) parts.0, (shown_lawful x.0).again x.1 rest parts.1) refl
+
+texts_lawful : Lawful texts_field
+texts_lawful = record { takes = texts_takes; again = texts_again }
+
+-- ---- mounts
+
+document_lawful : (last : Option Document) → Lawful (document_field last)
+document_lawful last =
+    let later = rises is_before (option_map (λ (document : Document). document.name) last) in
+    seen_lawful (λ document. (document.number, document.name)) (λ x. record { number = x.0; name = x.1 }) (num & checked name_field later)
+    (both_lawful num (checked name_field later) num_lawful (checked_lawful name_field later name_lawful)) (λ x. refl) (λ x. refl)
+
+documents_lawful : Lawful documents_field
+documents_lawful = list_lawful (checked num (λ n. nat_le n 10000)) document_field (checked_lawful num (λ n. nat_le n 10000) num_lawful) document_lawful
+
+term_again : (term : Term) (rest : List ℕ) → term_field.fits term ≡ true → term_field.read (term_field.text term ++ rest) ≡ Ok (term, rest)
+unfolding choice_at way_at
+term_again (Word letters) rest fits = whole_way_again word_field (λ letters. Word letters) word_lawful letters rest _ fits
+term_again (Prefix letters) rest fits = whole_way_again word_field (λ letters. Prefix letters) word_lawful letters rest _ fits
+
+term_lawful : Lawful term_field
+term_lawful = record {
+  takes = λ bytes x fits e. choice_takes term_part _ (
+    whole_way_is term_part 1 word_field (λ letters. Word letters) word_lawful (λ x. refl),
+    (whole_way_is term_part 2 word_field (λ letters. Prefix letters) word_lawful (λ x. refl), tt),
+  ) bytes x fits e;
+  again = term_again;
+}
+
+answer_lawful : (last : Option Answer) → Lawful (answer_field last)
+answer_lawful last =
+    let later = rises is_term_before (option_map (λ (answer : Answer). answer.term) last) in
+    seen_lawful (λ answer. (answer.term, answer.documents)) (λ x. record { term = x.0; documents = x.1 }) (checked term_field later & nums)
+    (both_lawful (checked term_field later) nums (checked_lawful term_field later term_lawful) nums_lawful) (λ x. refl) (λ x. refl)
+
+-- ---- entries
+
+file_lawful : Lawful (flag_field & texts_field)
+file_lawful = both_lawful flag_field texts_field flag_lawful texts_lawful
+
+semantic_lawful : Lawful (query_field & nums & nums)
+semantic_lawful = both_lawful query_field (nums & nums) query_lawful (both_lawful nums nums nums_lawful nums_lawful)
+
+mount_lawful : Lawful (space_field & documents_field & list num answer_field)
+mount_lawful = both_lawful space_field (documents_field & list num answer_field) space_lawful (both_lawful documents_field (list num answer_field) documents_lawful (list_lawful num answer_field num_lawful answer_lawful))
+
+body_again : (body : Body) (rest : List ℕ) → body_field.fits body ≡ true → body_field.read (body_field.text body ++ rest) ≡ Ok (body, rest)
+unfolding choice_at way_at
+body_again (File text dirty shown) rest fits = way_again (flag_field & texts_field) (λ x. File x.1.0 x.0 x.1.1) file_lawful (dirty, (text, shown)) rest fits
+body_again Dir rest fits = refl
+body_again (Symlink target) rest fits = way_again target_field (λ target. Symlink target) target_lawful target rest fits
+body_again (Semantic query permanent prohibited) rest fits = way_again (query_field & nums & nums) (λ x. Semantic x.0 x.1.0 x.1.1) semantic_lawful (query, (permanent, prohibited)) rest fits
+body_again (Mount space documents answers) rest fits = way_again (space_field & documents_field & list num answer_field) (λ x. Mount x.0 x.1.0 x.1.1) mount_lawful (space, (documents, answers)) rest fits
+
+body_lawful : Lawful body_field
+body_lawful = record {
+  takes = choice_takes body_part body_ways (
+    way_is body_part 1 (flag_field & texts_field) (λ x. File x.1.0 x.0 x.1.1) file_lawful (λ x. refl),
+    (
+      way_is body_part 2 nothing (λ x. Dir) nothing_lawful (λ x. refl),
+      (
+        way_is body_part 3 target_field (λ target. Symlink target) target_lawful (λ x. refl),
+        (
+          way_is body_part 4 (query_field & nums & nums) (λ x. Semantic x.0 x.1.0 x.1.1) semantic_lawful (λ x. refl),
+          (way_is body_part 5 (space_field & documents_field & list num answer_field) (λ x. Mount x.0 x.1.0 x.1.1) mount_lawful (λ x. refl), tt),
+        ),
+      ),
+    ),
+  );
+  again = body_again;
+}
+
+entry_lawful : (last : Option Entry) → Lawful (entry_field last)
+entry_lawful last =
+    let later = rises nat_lt (option_map (λ (entry : Entry). entry.number) last) in
+    seen_lawful (λ entry. (entry.number, (entry.parent, (entry.name, entry.body)))) (λ x. record { number = x.0; parent = x.1.0; name = x.1.1.0; body = x.1.1.1 })
+    (checked num later & num & name_field & body_field)
+    (both_lawful (checked num later) (num & name_field & body_field) (checked_lawful num later num_lawful) (both_lawful num (name_field & body_field) num_lawful (both_lawful name_field body_field name_lawful body_lawful)))
+    (λ x. refl) (λ x. refl)
+
+-- ---- states
+
+sessions_lawful : Lawful no_sessions
+sessions_lawful = record {
+  takes = λ bytes x fits e. let same = ok_is ([], bytes) x e in subst (λ (y : List Session × List ℕ). Took no_sessions bytes y) same (record { parts = refl; rest = fits; fits = refl });
+  again = λ sessions rest none. ap (λ (others : List Session). Ok (others, rest)) (sym (nil_from_length sessions (eqb-true _ _ none)));
+}
+
+state_lawful : Lawful state_field
+state_lawful =
+    seen_lawful (λ s. (s.next, (s.entries, s.sessions))) (λ x. record { next = x.0; entries = x.1.0; sessions = x.1.1 })
+    (num & list num entry_field & no_sessions)
+    (both_lawful num (list num entry_field & no_sessions) num_lawful (both_lawful (list num entry_field) no_sessions (list_lawful num entry_field num_lawful entry_lawful) sessions_lawful))
+    (λ x. refl) (λ x. refl)
+
+payload_takes : (bytes : List ℕ) (x : State × List ℕ) → AreBytes bytes → state_payload.read bytes ≡ Ok x → Took state_payload bytes x
+payload_takes = choice_takes (λ s. part 2 state_field s) (way 2 state_field (λ s. s) ∷ []) (way_is (λ s. part 2 state_field s) 2 state_field (λ s. s) state_lawful (λ x. refl), tt)
+
+payload_again : (s : State) (rest : List ℕ) → state_payload.fits s ≡ true → state_payload.read (state_payload.text s ++ rest) ≡ Ok (s, rest)
+unfolding choice_at way_at
+payload_again s rest fits = way_again state_field (λ s. s) state_lawful s rest fits
+
+pub state_is_read : StateIsRead
+unfolding is_spellable_state state_text spelled_state
+state_is_read s fits =
+    let read : state_payload.read (state_payload.text s) ≡ Ok (s, []) = ap (λ (bytes : List ℕ). state_payload.read bytes) (sym (append-nil (state_payload.text s))) ∙ payload_again s [] fits in
+    rw read refl
+
+pub read_is_state : ReadIsState
+unfolding is_spellable_state state_text spelled_state
+read_is_state bytes s fits h =
+    let a = bind_ok (state_payload.read bytes) all_of s (placed_ok (length bytes) _ s h) in
+    let g = guard_ok (eqb (length a.0.1) 0) (length a.0.1) a.0.0 s a.2 in
+    let empty : a.0.1 ≡ [] = nil_from_length a.0.1 (eqb-true _ _ g.0) in
+    let took = payload_takes bytes a.0 fits a.1 in
+    let whole : bytes ≡ state_payload.text a.0.0 = took.parts ∙ ap (λ (t : List ℕ). state_payload.text a.0.0 ++ t) empty ∙ append-nil (state_payload.text a.0.0) in
+    subst (λ (x : State). IsTrue (state_payload.fits x) × (bytes ≡ state_payload.text x)) g.1 (took.fits, whole)

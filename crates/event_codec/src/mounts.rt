@@ -1,0 +1,130 @@
+//! The documents of mounts and what their spaces answered, as items of lists.
+ghost use Rattle.std.specs.Prelude.{◌≡◌, ◌++◌, IsTrue, OnOk};
+ghost use Rattle.std.specs.Option.{option_copied, option_map};
+ghost use Rattle.hac_model.specs.Payload.States.{term_field};
+ghost use Rattle.hac_model.specs.declared.states.Answer.{Answer};
+ghost use Rattle.hac_model.specs.declared.states.Document.{Document};
+ghost use Rattle.event_codec.specs.Reading.{GivesField};
+
+use crate::bytes::Bytes;
+use crate::faults::Fault;
+use crate::fields::num;
+use crate::lists::{Item, list, put_list};
+use crate::putting::{put_middle, put_num, put_short};
+use crate::queries::whole_word;
+use hac_model::{Answer, Document, Memory, Name, Term};
+use std::alloc::Global;
+
+/// The names of documents rise.
+impl Item for Document {
+    ghost use Rattle.hac_model.specs.Payload.States.{document_field};
+
+    ghost item = { document_field };
+
+    fn read(alloc: Global, bytes: &mut Bytes, last: Option<&Document>) -> Result<Document, Fault> {
+        Ok(Document {
+            number: num(bytes)?,
+            name: Name::read(alloc, bytes, name_of(last))?,
+        })
+    }
+
+    #[tactic(auto, using(crate::proofs::PutLemmas::puts))]
+    fn put(&self, out: &mut Vec<u8>) -> Result<(), Memory> {
+        put_num(out, self.number.get())?;
+        put_short(out, self.name.as_bytes())
+    }
+}
+
+fn name_of(document: Option<&Document>) -> Option<&Name>
+    ensures { option_copied result ≡
+        option_map (λ (document : Document). document.name) (option_copied document.entry) }
+{
+    match document {
+        Some(document) => Some(&document.name),
+        None => None,
+    }
+}
+
+/// The terms of a list rise.
+impl Item for Term {
+    ghost use Rattle.hac_model.specs.Payload.Fields.{checked};
+    ghost use Rattle.hac_model.specs.Payload.Payloads.{rises};
+    ghost use Rattle.hac_model.specs.Payload.States.{term_field};
+    ghost use Rattle.hac_model.specs.Query.Terms.{is_term_before};
+
+    ghost item = { λ last. checked term_field (rises is_term_before last) };
+
+    fn read(alloc: Global, bytes: &mut Bytes, last: Option<&Term>) -> Result<Term, Fault> {
+        let bad = bytes.bad();
+        let term = term(alloc, bytes)?;
+        match last {
+            Some(before) if !before.is_before(&term) => Err(bad),
+            _ => Ok(term),
+        }
+    }
+
+    fn put(&self, out: &mut Vec<u8>) -> Result<(), Memory> {
+        put_term(out, self)
+    }
+}
+
+/// A term. It fails as one with its kind byte.
+#[tactic(auto, unfolding(hac_model::specs::Payload::Fields::choice_at, hac_model::specs::Payload::Fields::way_at))]
+fn term(alloc: Global, bytes: &mut Bytes) -> Result<Term, Fault>
+    ensures { GivesField result bytes.new (term_field.read bytes.old) }
+{
+    let left = bytes.left();
+    match bytes.byte() {
+        Some(1) => Ok(Term::Word(whole_word(alloc, bytes, left)?)),
+        Some(2) => Ok(Term::Prefix(whole_word(alloc, bytes, left)?)),
+        _ => Err(Fault::Bad { left }),
+    }
+}
+
+/// Adds a term.
+#[tactic(auto, using(crate::proofs::PutLemmas::puts))]
+fn put_term(out: &mut Vec<u8>, term: &Term) -> Result<(), Memory>
+    requires { IsTrue (term_field.fits term.now) }
+    ensures { OnOk result (out.new.items ≡ out.old.items ++ term_field.text term.now) }
+{
+    match term {
+        Term::Word(letters) => {
+            out.push(1)?;
+            put_middle(out, letters.as_bytes())
+        }
+        Term::Prefix(letters) => {
+            out.push(2)?;
+            put_middle(out, letters.as_bytes())
+        }
+    }
+}
+
+/// The terms of answers rise.
+impl Item for Answer {
+    ghost use Rattle.hac_model.specs.Payload.States.{answer_field};
+
+    ghost item = { answer_field };
+
+    fn read(alloc: Global, bytes: &mut Bytes, last: Option<&Answer>) -> Result<Answer, Fault> {
+        Ok(Answer {
+            term: Term::read(alloc, bytes, term_of(last))?,
+            documents: list(alloc, bytes)?,
+        })
+    }
+
+    #[tactic(auto, using(crate::proofs::PutLemmas::puts))]
+    fn put(&self, out: &mut Vec<u8>) -> Result<(), Memory> {
+        put_term(out, &self.term)?;
+        put_list(out, self.documents.as_slice())
+    }
+}
+
+fn term_of(answer: Option<&Answer>) -> Option<&Term>
+    ensures { option_copied result ≡
+        option_map (λ (answer : Answer). answer.term) (option_copied answer.entry) }
+{
+    match answer {
+        Some(answer) => Some(&answer.term),
+        None => None,
+    }
+}

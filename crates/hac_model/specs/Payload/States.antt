@@ -1,0 +1,136 @@
+-- How a whole state is spelled in a store, and what the bytes of such a payload say.
+use Rattle.std.specs.Prelude.{ℕ, Bool, true, false, ◌==◌, ◌&&◌, not, if◌then◌else◌, nat_lt, nat_le, List, [], ◌∷◌, ◌++◌, length, Option, Some, None, Result, Ok}
+use Rattle.std.specs.Option.{option_map}
+use Rattle.std.specs.Str.{bytes_eq}
+use Rattle.hac_model.specs.Run.Answers.{◌>>=◌}
+use Rattle.hac_model.specs.Payload.Fields.{Field, Part, Way, num, nothing, ◌&◌, checked, list, seen, part, way, whole_way, choice}
+use Rattle.hac_model.specs.Payload.Payloads.{all_of, name_field, nums, placed, rises, space_field, target_field, text_field}
+use Rattle.hac_model.specs.Payload.QueryFields.{query_field, word_field}
+use Rattle.hac_model.specs.Query.Terms.{is_term_before}
+use Rattle.hac_model.specs.Tree.Listing.{is_before}
+use Rattle.hac_model.specs.declared.states.Answer.{Answer}
+use Rattle.hac_model.specs.declared.states.Body.{Body}
+use Rattle.hac_model.specs.declared.states.Body.TheVariants.{File, Dir, Symlink, Semantic, Mount}
+use Rattle.hac_model.specs.declared.states.Document.{Document}
+use Rattle.hac_model.specs.declared.states.Entry.{Entry}
+use Rattle.hac_model.specs.declared.states.Session.{Session}
+use Rattle.hac_model.specs.declared.states.State.{State}
+use Rattle.hac_model.specs.declared.terms.Term.{Term}
+use Rattle.hac_model.specs.declared.terms.Term.TheVariants.{Word, Prefix}
+
+-- ---- files
+
+abbrev pub flag_part : Bool → Part
+flag_part false = part 0 nothing tt
+flag_part true = part 1 nothing tt
+
+-- whether a file is dirty
+abbrev pub flag_field : Field Bool
+flag_field = choice flag_part (way 0 nothing (λ x. false) ∷ way 1 nothing (λ x. true) ∷ [])
+
+-- a text that differs from another one
+abbrev pub other_text : List ℕ → Field (List ℕ)
+other_text text = checked text_field (λ shown. not (bytes_eq shown text))
+
+abbrev pub shown_part : List ℕ → Option (List ℕ) → Part
+shown_part text None = part 0 nothing tt
+shown_part text (Some shown) = if bytes_eq shown text then part 1 nothing tt else part 2 (other_text text) shown
+
+abbrev pub shown_ways : List ℕ → List (Way (Option (List ℕ)))
+shown_ways text =
+    way 0 nothing (λ x. None) ∷ way 1 nothing (λ x. Some text) ∷ way 2 (other_text text) (λ shown. Some shown) ∷ []
+
+-- the text as it was last indexed, which has bytes of its own only where it differs from the text
+abbrev pub shown_field : List ℕ → Field (Option (List ℕ))
+shown_field text = choice (shown_part text) (shown_ways text)
+
+-- a file's text, and that text behind it
+abbrev pub texts_field : Field (List ℕ × Option (List ℕ))
+texts_field = record {
+  fits = λ x. text_field.fits x.0 && (shown_field x.0).fits x.1;
+  text = λ x. text_field.text x.0 ++ (shown_field x.0).text x.1;
+  read = λ bytes. text_field.read bytes >>= λ text. (shown_field text.0).read text.1 >>= λ shown. Ok ((text.0, shown.0), shown.1);
+}
+
+-- ---- mounts
+
+-- documents of a mount, whose names rise
+abbrev pub document_field : Option Document → Field Document
+document_field last =
+    seen (λ document. (document.number, document.name)) (λ x. record { number = x.0; name = x.1 })
+    (num & checked name_field (rises is_before (option_map (λ document. document.name) last)))
+
+-- at most 10,000 of them
+abbrev pub documents_field : Field (List Document)
+documents_field = list (checked num (λ n. nat_le n 10000)) document_field
+
+abbrev pub term_part : Term → Part
+term_part (Word letters) = part 1 word_field letters
+term_part (Prefix letters) = part 2 word_field letters
+
+-- a term fails as one with its kind byte
+abbrev pub term_field : Field Term
+term_field = choice term_part (whole_way 1 word_field (λ letters. Word letters) ∷ whole_way 2 word_field (λ letters. Prefix letters) ∷ [])
+
+-- what a space answered, whose terms rise
+abbrev pub answer_field : Option Answer → Field Answer
+answer_field last =
+    seen (λ answer. (answer.term, answer.documents)) (λ x. record { term = x.0; documents = x.1 })
+    (checked term_field (rises is_term_before (option_map (λ answer. answer.term) last)) & nums)
+
+-- ---- states
+
+abbrev pub body_part : Body → Part
+body_part (File text dirty shown) = part 1 (flag_field & texts_field) (dirty, (text, shown))
+body_part Dir = part 2 nothing tt
+body_part (Symlink target) = part 3 target_field target
+body_part (Semantic query permanent prohibited) = part 4 (query_field & nums & nums) (query, (permanent, prohibited))
+body_part (Mount space documents answers) = part 5 (space_field & documents_field & list num answer_field) (space, (documents, answers))
+
+abbrev pub body_ways : List (Way Body)
+body_ways =
+    way 1 (flag_field & texts_field) (λ x. File x.1.0 x.0 x.1.1)
+    ∷ way 2 nothing (λ x. Dir)
+    ∷ way 3 target_field (λ target. Symlink target)
+    ∷ way 4 (query_field & nums & nums) (λ x. Semantic x.0 x.1.0 x.1.1)
+    ∷ way 5 (space_field & documents_field & list num answer_field) (λ x. Mount x.0 x.1.0 x.1.1)
+    ∷ []
+
+-- what an entry is
+abbrev pub body_field : Field Body
+body_field = choice body_part body_ways
+
+-- entries, whose numbers rise
+abbrev pub entry_field : Option Entry → Field Entry
+entry_field last =
+    seen (λ entry. (entry.number, (entry.parent, (entry.name, entry.body))))
+    (λ x. record { number = x.0; parent = x.1.0; name = x.1.1.0; body = x.1.1.1 })
+    (checked num (rises nat_lt (option_map (λ entry. entry.number) last)) & num & name_field & body_field)
+
+-- where sessions stand has no bytes: in a state that is read there are none
+abbrev pub no_sessions : Field (List Session)
+no_sessions = record { fits = λ sessions. length sessions == 0; text = λ sessions. []; read = λ bytes. Ok ([], bytes) }
+
+-- a state: the number that the next entry takes, and the entries
+abbrev pub state_field : Field State
+state_field =
+    seen (λ s. (s.next, (s.entries, s.sessions))) (λ x. record { next = x.0; entries = x.1.0; sessions = x.1.1 })
+    (num & list num entry_field & no_sessions)
+
+-- ---- payloads
+
+-- a payload that holds a state: the byte of its kind, and the state
+abbrev pub state_payload : Field State
+state_payload = choice (λ s. part 2 state_field s) (way 2 state_field (λ s. s) ∷ [])
+
+-- the state has a spelling: its parts are as they may be spelled, and no session stands anywhere
+unfoldable pub is_spellable_state : State → Bool
+is_spellable_state s = state_payload.fits s
+
+-- the payload that a state is written as
+unfoldable pub state_text : State → List ℕ
+state_text s = state_payload.text s
+
+-- the state that a payload spells, or the place of the first field that has no allowed value or is cut short
+unfoldable pub spelled_state : List ℕ → Result State ℕ
+spelled_state bytes = placed (length bytes) (state_payload.read bytes >>= all_of)

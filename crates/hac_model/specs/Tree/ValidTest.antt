@@ -1,0 +1,99 @@
+-- Whether a state is valid, as a test that can be computed: one for each of the definitions of `Valid`.
+use Rattle.std.specs.Prelude.{ℕ, ◌+◌, ◌==◌, ◌&&◌, ◌||◌, not, nat_lt, nat_le, Bool, true, false, List, [], ◌∷◌, Option, is_none}
+use Rattle.std.specs.List.{list_all, list_any}
+use Rattle.std.specs.Option.{option_map_or}
+use Rattle.std.specs.Str.{bytes_eq}
+use Rattle.hac_model.specs.Query.Formula.{Formula}
+use Rattle.hac_model.specs.Script.PathWords.{is_target}
+use Rattle.hac_model.specs.Script.SpaceNames.{is_space_name}
+use Rattle.hac_model.specs.Tree.Depends.{depends, reaches}
+use Rattle.hac_model.specs.Tree.Events.{may_ask}
+use Rattle.hac_model.specs.Tree.Limits.{is_text, passed_limit}
+use Rattle.hac_model.specs.Tree.Links.{has, is_item}
+use Rattle.hac_model.specs.Tree.Names.{is_name}
+use Rattle.hac_model.specs.Tree.Sessions.{are_few}
+use Rattle.hac_model.specs.Tree.{child, is_directory_at}
+use Rattle.hac_model.specs.declared.states.Body.{Body}
+use Rattle.hac_model.specs.declared.states.Body.TheVariants.{File, Dir, Symlink, Semantic}
+use Rattle.hac_model.specs.declared.states.Entry.{Entry}
+use Rattle.hac_model.specs.declared.states.Session.{Session}
+use Rattle.hac_model.specs.declared.states.State.{State}
+
+-- the numbers of the entries rise, above one number and below another
+abbrev pub do_numbers_rise : ℕ → List Entry → ℕ → Bool
+do_numbers_rise above [] below = nat_lt above below
+do_numbers_rise above (entry ∷ entries) below = nat_lt above entry.number && do_numbers_rise entry.number entries below
+
+-- no two entries of a directory have one name
+abbrev pub do_names_differ : List Entry → Bool
+do_names_differ [] = true
+do_names_differ (entry ∷ entries) = is_none (child entries entry.parent entry.name) && do_names_differ entries
+
+-- a clean file shows its text
+abbrev pub is_sound_file : List ℕ → Bool → Option (List ℕ) → Bool
+is_sound_file text dirty shown =
+    is_text text && option_map_or is_text shown true && (dirty || option_map_or (λ shown. bytes_eq shown text) shown false)
+
+-- the parts of a body fit together
+abbrev pub is_sound : Body → Bool
+is_sound (File text dirty shown) = is_sound_file text dirty shown
+is_sound Dir = true
+is_sound (Symlink target) = is_target target
+is_sound (Semantic query permanent prohibited) = true
+is_sound other = false
+
+-- the entries are sound, and they fit one another and the next number
+unfoldable pub is_layout : State → Bool
+is_layout s =
+    do_numbers_rise 0 s.entries s.next
+    && list_all (λ entry. is_name entry.name) s.entries
+    && list_all (λ entry. is_directory_at s.entries entry.parent) s.entries
+    && do_names_differ s.entries
+    && list_all (λ entry. is_sound entry.body) s.entries
+    && is_none (passed_limit s)
+
+-- numbers rise, from a bound on
+abbrev pub do_rise_from : ℕ → List ℕ → Bool
+do_rise_from bound [] = true
+do_rise_from bound (number ∷ numbers) = nat_le bound number && do_rise_from (number + 1) numbers
+
+-- marks are on items, each once
+abbrev pub are_marks : State → List ℕ → Bool
+are_marks s numbers = do_rise_from 0 numbers && list_all (λ number. is_item s number) numbers
+
+-- a directory may ask its query, and no item is both added and removed
+abbrev pub is_sound_query : State → Formula ℕ → List ℕ → List ℕ → Bool
+is_sound_query s query permanent prohibited =
+    may_ask s query && are_marks s permanent && are_marks s prohibited
+    && list_all (λ number. not (has prohibited number)) permanent
+
+abbrev pub asks_well : State → Body → Bool
+asks_well s (Semantic query permanent prohibited) = is_sound_query s query permanent prohibited
+asks_well s other = true
+
+-- the directory depends on one that depends on it
+abbrev pub returns : State → ℕ → Bool
+returns s dir = list_any (λ next. reaches s next dir) (depends s dir)
+
+-- no directory depends on itself
+unfoldable pub is_acyclic : State → Bool
+is_acyclic s = list_all (λ entry. not (returns s entry.number)) s.entries
+
+-- no two sessions have one name
+abbrev pub do_sessions_differ : List Session → Bool
+do_sessions_differ [] = true
+do_sessions_differ (session ∷ sessions) =
+    list_all (λ other. not (bytes_eq session.name other.name)) sessions && do_sessions_differ sessions
+
+-- the sessions that stand elsewhere than in the root are in directories, each once
+unfoldable pub are_sessions : State → Bool
+are_sessions s =
+    list_all (λ session. is_space_name session.name) s.sessions
+    && do_sessions_differ s.sessions
+    && list_all (λ session. is_directory_at s.entries session.dir) s.sessions
+    && list_all (λ session. not (session.dir == 0)) s.sessions
+    && are_few s.sessions
+
+-- the state is valid
+unfoldable pub is_valid : State → Bool
+is_valid s = is_layout s && list_all (λ entry. asks_well s entry.body) s.entries && is_acyclic s && are_sessions s

@@ -1,0 +1,135 @@
+-- What a caller of the library knows of the words of the program.
+use Rattle.std.proofs.Common.{◌≡◌, ◌∙◌, ℕ, Bool, true, false, true≢false, List, [], ◌∷◌, length, Option, Some, None, refl, sym, ap, ap₂, subst, codes, inl, inr, map, String, string_bytes}
+use Rattle.std.specs.Prelude.{IsSome, if◌then◌else◌, is_some, nat_le, option_and_then, option_map, option_to_list, unwrap_or}
+use Rattle.std.specs.Borrow.{Bor}
+use Rattle.std.specs.List.{AllByRecursion}
+use Rattle.std.specs.Str.{IsUtf8}
+use Rattle.std.proofs.lemmas.Str.{IsUtf8-string_bytes}
+use Rattle.hac_model.specs.Script.CommandLine.{Parsed, Options, asked_by, fresh_of, given_by, options, store_of, tick_of}
+use Rattle.clap.specs.Values.{bool_text}
+use Rattle.clap.specs.Kinds.{Kinds}
+use Rattle.clap.specs.Faults.{fault_of}
+use Rattle.clap.specs.Simple.{App}
+use Rattle.clap.specs.Walk.{Row, Text, first_of, one_of}
+use Rattle.clap.specs.Words.{HasKind, HasMatchesOf, found_of, first_value, is_simple_and_free, kind_of, matches_of, one_text, rows_of}
+use Rattle.clap.specs.declared.error.Error.{Error}
+use Rattle.clap.specs.declared.parser.matches.ArgMatches.{ArgMatches}
+use Rattle.clap.proofs.WalkLemmas.{first_value-rows, one_text-rows}
+use Rattle.hac_top.specs.Words.{fault_by, hac, values_of}
+use Rattle.hac_top.specs.declared.words.WordsFault.{WordsFault}
+use Rattle.hac_top.specs.declared.words.WordsFault.TheVariants.{Memory, Usage}
+use Rattle.hac_top.proofs.WordLooks.{has_fault}
+use Rattle.hac_top.proofs.WordLemmas.{Finds, so_far, words-found}
+
+-- each word is text
+all-text : {Z : Type 0} (words : List (String Z)) → AllByRecursion IsUtf8 (map string_bytes words)
+all-text [] = tt
+all-text (word ∷ words) = (IsUtf8-string_bytes word, all-text words)
+
+-- what the words give is in the matches
+pub record IsFound (given : Option Parsed) (m : ArgMatches) : Type 0 where
+  pub fresh : Bool
+  pub tick : Option Text
+  pub store : Text
+  pub given_is : given ≡ Some (so_far (if fresh then 1 else 0) (option_to_list tick) (store ∷ []))
+  pub filled : nat_le 1 (length store) ≡ true
+  pub new_is : one_text (found_of m) (codes "new") ≡ Some (bool_text fresh)
+  pub tick_is : first_value (found_of m) (codes "tick") ≡ tick
+  pub store_is : first_value (found_of m) (codes "store") ≡ Some store
+
+found-in : (given : Option Parsed) (kinds : Kinds) (rows : List Row) (m : ArgMatches) → Finds given kinds rows → kinds ≡ [] → rows_of (found_of m) ≡ rows → IsFound given m
+found-in given kinds rows m (inl (fails, none)) passes same = absurd (true≢false (sym fails ∙ ap has_fault passes))
+found-in given kinds rows m (inr (free, found)) passes same = record {
+  fresh = found.fresh;
+  tick = found.tick;
+  store = found.store;
+  given_is = found.given_is;
+  filled = found.filled;
+  new_is = one_text-rows (found_of m) (codes "new") ∙ ap (one_of (codes "new")) same ∙ found.new_is;
+  tick_is = first_value-rows (found_of m) (codes "tick") ∙ ap (first_of (codes "tick")) same ∙ found.tick_is;
+  store_is = first_value-rows (found_of m) (codes "store") ∙ ap (first_of (codes "store")) same ∙ found.store_is;
+}
+
+pub found-in-matches : {Z : Type 0} (words : List (String Z)) (app : App) (m : ArgMatches) → app ≡ hac
+    → (is_simple_and_free app ≡ true → fault_of app (map string_bytes words) ≡ []) → HasMatchesOf app (map string_bytes words) m → IsFound (given_by (map string_bytes words)) m
+found-in-matches words app m is passes has =
+    let texts = map string_bytes words in
+    found-in (given_by texts) (fault_of hac texts) (matches_of hac texts) m (words-found texts (all-text words))
+    (subst (λ a. is_simple_and_free a ≡ true → fault_of a texts ≡ []) is passes refl)
+    (subst (λ a. HasMatchesOf a texts m) is has refl).0
+
+is_memory : WordsFault → Bool
+is_memory Memory = true
+is_memory Usage = false
+
+none-by : (given : Option Parsed) (kinds : Kinds) (rows : List Row) (e : Error) → Finds given kinds rows → HasKind kinds e → fault_by (kind_of e) ≡ Usage → option_and_then asked_by given ≡ None
+unfolding is_memory
+none-by given kinds rows e (inl (fails, none)) has is = none
+none-by given kinds rows e (inr (free, found)) has is = elim (subst (λ ks. HasKind ks e) free has) [
+  | inl memory ↦ absurd (true≢false (ap is_memory (sym (ap fault_by memory) ∙ is)))
+  | inr never ↦ absurd never
+]
+
+pub none-by-error : {Z : Type 0} (words : List (String Z)) (app : App) (e : Error) → app ≡ hac
+    → (is_simple_and_free app ≡ true → HasKind (fault_of app (map string_bytes words)) e) → fault_by (kind_of e) ≡ Usage → options (map string_bytes words) ≡ None
+unfolding options
+none-by-error words app e is has usage =
+    let texts = map string_bytes words in
+    none-by (given_by texts) (fault_of hac texts) (matches_of hac texts) e (words-found texts (all-text words))
+    (subst (λ a. is_simple_and_free a ≡ true → HasKind (fault_of a texts) e) is has refl) usage
+
+-- what they ask for, by the number that `--tick` gives
+abbrev asked_with : Bool → Text → Option ℕ → Option Options
+asked_with fresh store = option_map (λ tick. record { fresh = fresh; tick = tick; store = store })
+
+asked-is : (fresh : Bool) (tick : Option Text) (store : Text) → nat_le 1 (length store) ≡ true
+    → asked_by (so_far (if fresh then 1 else 0) (option_to_list tick) (store ∷ [])) ≡ asked_with fresh store (tick_of (option_to_list tick))
+asked-is fresh tick store filled = by fresh (tick_of (option_to_list tick))
+  where
+    number : (fresh : Bool) (tick : Option ℕ)
+        → option_and_then (λ tick. option_map (λ store. record { fresh = fresh; tick = tick; store = store }) (store_of (store ∷ []))) tick ≡ asked_with fresh store tick
+    number fresh None = refl
+    number fresh (Some tick) = rw filled refl
+
+    by : (fresh : Bool) (tick : Option ℕ)
+        → option_and_then (λ fresh. option_and_then (λ tick. option_map (λ store. record { fresh = fresh; tick = tick; store = store }) (store_of (store ∷ []))) tick) (fresh_of (if fresh then 1 else 0))
+        ≡ asked_with fresh store tick
+    by true tick = number true tick
+    by false tick = number false tick
+
+values-are : (got : Option (Bor Text)) → values_of got ≡ option_to_list (option_map (λ text. text.now) got)
+values-are None = refl
+values-are (Some text) = refl
+
+-- and in what the getters of the matches answer
+module _ {Z : Type 0} (words : List (String Z)) (m : ArgMatches) (has : IsFound (given_by (map string_bytes words)) m) where
+  asked-with : (got : Option (Bor Text)) → option_map (λ text. text.now) got ≡ first_value (found_of m) (codes "tick")
+      → options (map string_bytes words) ≡ asked_with has.fresh has.store (tick_of (values_of got))
+  unfolding options
+  asked-with got gets =
+      ap (option_and_then asked_by) has.given_is ∙ asked-is has.fresh has.tick has.store has.filled
+      ∙ ap (λ values. asked_with has.fresh has.store (tick_of values)) (sym (values-are got ∙ ap option_to_list (gets ∙ has.tick_is)))
+
+  -- the value of `--tick` is no number that it takes
+  pub none-by-tick : (got : Option (Bor Text)) → option_map (λ text. text.now) got ≡ first_value (found_of m) (codes "tick") → tick_of (values_of got) ≡ None → options (map string_bytes words) ≡ None
+  none-by-tick got gets none = asked-with got gets ∙ ap (asked_with has.fresh has.store) none
+
+  module _ (got : Option (Bor Text)) (gets : option_map (λ text. text.now) got ≡ first_value (found_of m) (codes "store")) where
+    pub store-got : IsSome got
+    store-got = by got (gets ∙ has.store_is)
+      where
+        by : (o : Option (Bor Text)) → option_map (λ text. text.now) o ≡ Some has.store → IsSome o
+        by None same = absurd (true≢false (sym (ap is_some same)))
+        by (Some text) same = refl
+
+    pub got-is : (number : ℕ) (given : Option (Bor Text)) (text : Bor Text) (flag : Bool) → option_map (λ text. text.now) given ≡ first_value (found_of m) (codes "tick") → Some number ≡ tick_of (values_of given)
+        → got ≡ Some text → (one_text (found_of m) (codes "new") ≡ Some (codes "true") → flag ≡ true) → (one_text (found_of m) (codes "new") ≡ Some (codes "false") → flag ≡ false)
+        → options (map string_bytes words) ≡ Some (record { fresh = flag; tick = number; store = text.now })
+    got-is number given text flag gives number_is one on off =
+        let named : text.now ≡ has.store = ap (λ (o : Option Text). unwrap_or o []) (sym (ap (option_map (λ (t : Bor Text). t.now)) one) ∙ gets ∙ has.store_is) in
+        asked-with given gives ∙ ap (asked_with has.fresh has.store) (sym number_is)
+        ∙ ap₂ (λ (f : Bool) (t : Text). Some (record { fresh = f; tick = number; store = t })) (sym (flag-is has.fresh has.new_is)) (sym named)
+      where
+        flag-is : (b : Bool) → one_text (found_of m) (codes "new") ≡ Some (bool_text b) → flag ≡ b
+        flag-is true same = on same
+        flag-is false same = off same

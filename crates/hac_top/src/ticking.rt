@@ -1,0 +1,60 @@
+//! Ticking: the index steps that follow each command by themselves, behind its reply.
+ghost use Rattle.std.specs.Prelude.{◌≡◌, ◌≤◌, ◌+◌, ◌⊎◌, true, false, replicate};
+ghost use Rattle.hac_model.specs.Laws.{AllHappen};
+ghost use Rattle.hac_model.specs.Run.Play.{have_room, steps_behind};
+ghost use Rattle.hac_model.specs.declared.events.Event.TheVariants as event;
+ghost use Rattle.hac_store.specs.Stores.{Bears};
+ghost use Rattle.hac_top.specs.Storing.{StoresSteps};
+
+use crate::status::{Status, store_status};
+use crate::storing::{STEP_BYTES, store_steps};
+use hac_disk::Disk;
+use hac_store::Store;
+
+/// Stores the index steps that follow a command by themselves, and then applies them: at most
+/// `most`, while a file is dirty and the store has room for the record of one more.
+pub fn tick<D: Disk>(store: &mut Store, disk: &mut D, most: u64) -> Result<(), Status>
+    requires intact { store.old.broken ≡ false }
+    requires place { Bears (D.seen disk.old) store.old }
+    ensures { StoresSteps D.seen D.image D.moment D.image_since D.attached D.faults disk.old
+        disk.new store.old store.new (steps_behind most store.old.setting) result }
+{
+    let count = steps_due(store, most);
+    match store_steps(store, disk, count) {
+        Ok(()) => Ok(()),
+        Err(fault) => Err(store_status(fault)),
+    }
+}
+
+// How many index steps follow a command by themselves, where at most `most` do.
+fn steps_due(store: &Store, most: u64) -> u64
+    ensures due { steps_behind most store.now.setting ≡ replicate result event.Step }
+    ensures happen { AllHappen store.now.setting.state (replicate result event.Step) }
+    ensures room { have_room store.now.setting (replicate result event.Step) ≡ true }
+{
+    let dirty = store.machine().dirty();
+    steps_with_room(store, most.min(dirty))
+}
+
+// How many of these index steps the store has room for.
+fn steps_with_room(store: &Store, wanted: u64) -> u64
+    ensures within { result ≤ wanted }
+    ensures room { have_room store.now.setting (replicate result event.Step) ≡ true }
+    ensures most { (result ≡ wanted) ⊎
+        (have_room store.now.setting (replicate (result + 1) event.Step) ≡ false) }
+{
+    if store.room_for(wanted, STEP_BYTES) {
+        return wanted;
+    }
+    let mut fits = 0;
+    let mut past = wanted;
+    while past - fits > 1 {
+        let middle = fits + (past - fits) / 2;
+        if store.room_for(middle, STEP_BYTES) {
+            fits = middle;
+        } else {
+            past = middle;
+        }
+    }
+    fits
+}
