@@ -53,9 +53,12 @@ class Terminal:
         return seen.decode("utf-8", "replace").replace("\r\n", "\n")
 
     def typed(self, keys: str, prompt: str = PROMPT) -> str:
-        """What is shown when a line was typed, from its echo to the next prompt."""
+        """What is shown when a line was typed, from its echo to the next prompt.
+
+        That prompt begins a line: the one with which the line that is typed is shown anew doesn't.
+        """
         os.write(self.keys, keys.encode("utf-8", "surrogateescape") + b"\n")
-        return self.until(prompt)[: -len(prompt)]
+        return self.until("\n" + prompt)[: -len(prompt)]
 
     def close(self) -> None:
         """Ends a session that a test left."""
