@@ -10,7 +10,7 @@ use Rattle.hac_model.specs.Tree.Limits.{passed_limit}
 use Rattle.hac_model.specs.Tree.Links.{parent_of, query_at}
 use Rattle.hac_model.specs.Query.Queries.{is_query}
 use Rattle.hac_model.specs.Tree.{empty, entry_at, is_directory, is_directory_at, is_made_directory, query_in}
-use Rattle.hac_model.specs.Tree.Valid.{AsksWell, IsLayout, IsValid}
+use Rattle.hac_model.specs.Tree.Valid.{AsksWell, IsLayout, IsValid, is_in_place}
 use Rattle.hac_model.specs.declared.events.Event.{Event}
 use Rattle.hac_model.specs.declared.events.Event.TheVariants.{Mkdir, NewFile, Rewrite, Ln, Mark, Mv, Rm, Rmdir, Setq, Smkdir, Step, Unq, Cd}
 use Rattle.hac_model.specs.declared.marks.Kind.{Kind}
@@ -25,7 +25,7 @@ use Rattle.hac_model.proofs.ChangeLemmas.{entry_at-changed, entry_at-gone, entry
 use Rattle.hac_model.proofs.CycleLemmas.{depends-is, edges_in, none-reaching}
 use Rattle.hac_model.proofs.GraphLemmas.{AreReplaced, never_returns-fewer, never_returns-replaced}
 use Rattle.hac_model.proofs.MapLemmas.{entry_at-mapped}
-use Rattle.hac_model.proofs.TreeLemmas.{entry_at-all, entry_at-cases, entry_at-next, entry_at-number, rise-below}
+use Rattle.hac_model.proofs.TreeLemmas.{entry_at-all, entry_at-cases, entry_at-next, entry_at-number, rise-below, place-directory}
 use Rattle.hac_model.proofs.ValidLemmas.{accepted-parts, apply-layout, empty-layout, free-parts, move-parts, setq-parts, smkdir-parts}
 
 -- Edges lead to directories.
@@ -56,7 +56,7 @@ edge-directory s d e h edge = found (entry_at-cases s.entries d) (subst (λ (es 
     found (inl none) edge = absurd (subst (λ (o : Option Entry). Among (edges_in o) e) none edge)
     found (inr (x, there)) edge =
         named-directory s x.body x.parent e
-        (entry_at-all (λ e. IsTrue (is_directory_at s.entries e.parent)) s.entries d x h.layout.parents there)
+        (place-directory s.entries x (entry_at-all (λ e. IsTrue (is_in_place s.entries e)) s.entries d x h.layout.places there))
         (entry_at-all (λ e. AsksWell s e.body) s.entries d x h.queries there)
         (subst (λ (o : Option Entry). Among (edges_in o) e) there edge)
 
@@ -245,10 +245,10 @@ apply-acyclic s (Cd session dir) h ok = h.acyclic
 apply-acyclic s other h ok = absurd cc
 
 pub empty-valid : IsValid empty
-empty-valid = record { layout = empty-layout; queries = tt; acyclic = (λ steps dir back. back.1); sessions = record { names = tt; differ = tt; there = tt; elsewhere = tt; few = refl } }
+empty-valid = record { layout = empty-layout; queries = tt; answers = tt; acyclic = (λ steps dir back. back.1); sessions = record { names = tt; differ = tt; there = tt; elsewhere = tt; few = refl } }
 
 pub apply-valid : (s : State) (event : Event) → IsValid s → IsTrue (accepted s event) → IsValid (apply s event)
 apply-valid s event h ok =
     let layout = apply-layout s event h.layout ok in
     let queries = apply-queries s event h ok in
-    record { layout = layout; queries = queries; acyclic = apply-acyclic s event h ok; sessions = apply-sessions s event h ok }
+    record { layout = layout; queries = queries; answers = apply-answers s event h ok; acyclic = apply-acyclic s event h ok; sessions = apply-sessions s event h ok }

@@ -16,85 +16,95 @@ use Rattle.hac_model.specs.Tree.Looks.{final_path, has_names, link_at, link_to_f
 use Rattle.hac_model.specs.Tree.Names.{is_name}
 use Rattle.hac_model.specs.Tree.Paths.{join, without_last}
 use Rattle.hac_model.specs.Query.Queries.{is_query}
-use Rattle.hac_model.specs.Run.Resolving.{directory_or_root, resolved_for, directory, entry, item_and_dir, listed_directory, numbered_query, place, resolved, wanted_entry}
-use Rattle.hac_model.specs.Tree.{body_at, child, entry_at, extends, is_directory, is_directory_at, is_dirty, is_file, is_file_at, is_symlink, is_symlink_at, path_of, query_in, target_in, text_in}
-use Rattle.hac_model.specs.Tree.Valid.{IsLayout, IsSound, NamesDiffer, NumbersRise}
+use Rattle.hac_model.specs.Run.Resolving.{directory_or_root, resolved_for, directory, entry, item_and_dir, listed_directory, numbered_query, place, resolved, wanted_entry, holder, mount_of, outside_mounts, own_entry, slot}
+use Rattle.hac_model.specs.Tree.{body_at, child, entry_at, extends, is_directory, is_directory_at, is_dirty, is_file, is_file_at, is_symlink, is_symlink_at, path_of, query_in, target_in, text_in, is_document, is_document_at, is_linkable, is_mount, is_mount_at}
+use Rattle.hac_model.specs.Tree.Valid.{IsLayout, IsSound, NamesDiffer, NumbersRise, is_in_place}
 use Rattle.hac_model.specs.declared.commands.Command.{Command}
 use Rattle.hac_model.specs.declared.commands.Command.TheVariants as command
 use Rattle.hac_model.specs.declared.limits.TheConstants.{FOLLOW_LIMIT}
 use Rattle.hac_model.specs.declared.paths.PathWord.{PathWord}
 use Rattle.hac_model.specs.declared.places.Place.{Place}
 use Rattle.hac_model.specs.declared.places.Place.TheVariants.{There, Free}
-use Rattle.hac_model.specs.declared.replies.Refusal.TheVariants.{Loop, NoPath, NotDir}
+use Rattle.hac_model.specs.declared.replies.Refusal.TheVariants.{Loop, NoPath, NotDir, InMount}
 use Rattle.hac_model.specs.declared.resolved.Resolved.{Resolved}
 use Rattle.hac_model.specs.declared.resolved.Resolved.TheVariants as done
 use Rattle.hac_model.specs.declared.states.Body.{Body}
 use Rattle.hac_model.specs.declared.states.Body.TheVariants.{Semantic, Mount}
 use Rattle.hac_model.specs.declared.states.Entry.{Entry}
 use Rattle.hac_model.specs.declared.states.State.{State}
-use Rattle.hac_model.proofs.CountLemmas.{is_queried, measured, measured-cons, one_if}
-use Rattle.hac_model.proofs.MapLemmas.{KeepsMeasures, mapped, mapped-layout, child-mapped, directory-mapped, entry_at-mapped, lineage-mapped, paths-mapped, test-mapped}
+use Rattle.hac_model.proofs.CountLemmas.{is_queried, measured, measured-cons, one_if, keeps-linkable}
+use Rattle.hac_model.proofs.MapLemmas.{KeepsMeasures, mapped, mapped-layout, child-mapped, directory-mapped, entry_at-mapped, lineage-mapped, paths-mapped, test-mapped, place-mapped}
 use Rattle.hac_model.proofs.PathLemmas.{path-names}
 
 -- Bodies without marks.
 
 pub bare-kind : (body : Body) → is_directory (bare_body body) ≡ is_directory body
 bare-kind (Semantic query permanent prohibited) = refl
-bare-kind (Mount space documents answers) = refl
+bare-kind (Mount space answers) = refl
 bare-kind other = refl
 
 pub bare-file : (body : Body) → is_file (bare_body body) ≡ is_file body
 bare-file (Semantic query permanent prohibited) = refl
-bare-file (Mount space documents answers) = refl
+bare-file (Mount space answers) = refl
 bare-file other = refl
 
 bare-symlink : (body : Body) → is_symlink (bare_body body) ≡ is_symlink body
 bare-symlink (Semantic query permanent prohibited) = refl
-bare-symlink (Mount space documents answers) = refl
+bare-symlink (Mount space answers) = refl
 bare-symlink other = refl
+
+bare-mount : (body : Body) → is_mount (bare_body body) ≡ is_mount body
+bare-mount (Semantic query permanent prohibited) = refl
+bare-mount (Mount space answers) = refl
+bare-mount other = refl
+
+bare-document : (body : Body) → is_document (bare_body body) ≡ is_document body
+bare-document (Semantic query permanent prohibited) = refl
+bare-document (Mount space answers) = refl
+bare-document other = refl
 
 pub bare-query : (body : Body) → query_in (bare_body body) ≡ query_in body
 bare-query (Semantic query permanent prohibited) = refl
-bare-query (Mount space documents answers) = refl
+bare-query (Mount space answers) = refl
 bare-query other = refl
 
 bare-text : (body : Body) → text_in (bare_body body) ≡ text_in body
 bare-text (Semantic query permanent prohibited) = refl
-bare-text (Mount space documents answers) = refl
+bare-text (Mount space answers) = refl
 bare-text other = refl
 
 bare-target : (body : Body) → target_in (bare_body body) ≡ target_in body
 bare-target (Semantic query permanent prohibited) = refl
-bare-target (Mount space documents answers) = refl
+bare-target (Mount space answers) = refl
 bare-target other = refl
 
 bare-dirty : (body : Body) → is_dirty (bare_body body) ≡ is_dirty body
 bare-dirty (Semantic query permanent prohibited) = refl
-bare-dirty (Mount space documents answers) = refl
+bare-dirty (Mount space answers) = refl
 bare-dirty other = refl
 
 bare-weight : (body : Body) → file_bytes (bare_body body) ≡ file_bytes body
 bare-weight (Semantic query permanent prohibited) = refl
-bare-weight (Mount space documents answers) = refl
+bare-weight (Mount space answers) = refl
 bare-weight other = refl
 
 bare-letter : (body : Body) → letter (bare_body body) ≡ letter body
 bare-letter (Semantic query permanent prohibited) = refl
-bare-letter (Mount space documents answers) = refl
+bare-letter (Mount space answers) = refl
 bare-letter other = refl
 
 bare-sound : (body : Body) → IsSound (bare_body body) → IsSound body
 bare-sound (Semantic query permanent prohibited) h = tt
-bare-sound (Mount space documents answers) h = h
+bare-sound (Mount space answers) h = h
 bare-sound other h = h
 
 sound-bare : (body : Body) → IsSound body → IsSound (bare_body body)
 sound-bare (Semantic query permanent prohibited) h = tt
-sound-bare (Mount space documents answers) h = h
+sound-bare (Mount space answers) h = h
 sound-bare other h = h
 
 pub bare-measures : KeepsMeasures bare_body
-bare-measures = record { kind = bare-kind; file = bare-file; symlink = bare-symlink; queried = (λ body. ap (λ (o : Option (Formula ℕ)). is_some o) (bare-query body)); texts = bare-weight }
+bare-measures = record { kind = bare-kind; file = bare-file; symlink = bare-symlink; mount = bare-mount; document = bare-document; queried = (λ body. ap (λ (o : Option (Formula ℕ)). is_some o) (bare-query body)); texts = bare-weight }
 
 -- What is looked up.
 
@@ -138,6 +148,12 @@ some-bare s n =
     ap (λ (o : Option Entry). is_some o) (entry_at-bare s n)
     ∙ (elim (entry_at s.entries n) as (λ o. is_some (option_map (edited bare_body) o) ≡ is_some o) [ None ↦ refl | Some e ↦ refl ])
 
+pub mount-bare : (s : State) (n : ℕ) → is_mount_at (bare s).entries n ≡ is_mount_at s.entries n
+mount-bare s n = test-mapped is_mount bare_body s.entries n bare-mount
+
+pub document-bare : (s : State) (n : ℕ) → is_document_at (bare s).entries n ≡ is_document_at s.entries n
+document-bare s n = test-mapped is_document bare_body s.entries n bare-document
+
 pub path_of-bare : (s : State) (n : ℕ) → path_of (bare s) n ≡ path_of s n
 path_of-bare s n = path-names (bare s) n ∙ ap reverse (lineage-mapped bare_body s.entries n) ∙ sym (path-names s n)
 
@@ -145,7 +161,7 @@ pub is_inside-bare : (s : State) (dir e : ℕ) → is_inside (bare s) dir e ≡ 
 is_inside-bare s dir e = λ i. dir == e || extends (path_of-bare s dir i) (path_of-bare s e i)
 
 pub is_free-bare : (s : State) (dir : ℕ) (name : List ℕ) → is_free (bare s) dir name ≡ is_free s dir name
-is_free-bare s dir name = λ i. directory-bare s dir i && is_name name && is_none (child-mapped bare_body s.entries dir name i)
+is_free-bare s dir name = λ i. directory-bare s dir i && is_name name && is_none (child-mapped bare_body s.entries dir name i) && not (mount-bare s dir i)
 
 pub is_bare-bare : (s : State) (dir : ℕ) → is_bare (bare s).entries dir ≡ is_bare s.entries dir
 is_bare-bare s dir = each s.entries
@@ -234,11 +250,27 @@ module _ (s : State) (base : ℕ) where
   standing-bare (There number) = refl
   standing-bare (Free dir name) = ap (λ (path : List (List ℕ)). Err (NoPath (path ++ name ∷ []))) (path_of-bare s dir)
 
+  mounted-bare : (found : Place) → mount_of (bare s) found ≡ mount_of s found
+  mounted-bare (There number) = λ i. cond (document-bare s number i) (Some (parent_of-bare s number i)) None
+  mounted-bare (Free dir name) = ap (λ (b : Bool). cond b (Some dir) None) (mount-bare s dir)
+
+  outside-bare : (found : Place) → outside_mounts (bare s) found ≡ outside_mounts s found
+  outside-bare found = λ i. option_map_or (λ mount. Err (InMount (path_of-bare s mount i))) (mounted-bare found i) (Ok found)
+
+  slot-bare : (follow : Bool) (word : PathWord) → slot (bare s) base follow word ≡ slot s base follow word
+  slot-bare follow word = λ i. and_then (λ found. outside-bare found i) (place-bare follow word i)
+
   entry-bare : (follow : Bool) (word : PathWord) → entry (bare s) base follow word ≡ entry s base follow word
   entry-bare follow word = λ i. and_then (λ found. standing-bare found i) (place-bare follow word i)
 
   directory-leads : (word : PathWord) → directory (bare s) base word ≡ directory s base word
   directory-leads word = λ i. and_then (λ number. cond (directory-bare s number i) (Ok number) (Err (NotDir (path_of-bare s number i)))) (entry-bare true word i)
+
+  own-bare : (follow : Bool) (word : PathWord) → own_entry (bare s) base follow word ≡ own_entry s base follow word
+  own-bare follow word = λ i. and_then (λ number. cond (document-bare s number i) (Err (InMount (path_of-bare s (parent_of-bare s number i) i))) (Ok number)) (entry-bare follow word i)
+
+  holder-leads : (word : PathWord) → holder (bare s) base word ≡ holder s base word
+  holder-leads word = λ i. and_then (λ number. cond (mount-bare s number i) (Err (InMount (path_of-bare s number i))) (Ok number)) (directory-leads word i)
 
   listed-bare : (word : Option PathWord) → listed_directory (bare s) base word ≡ listed_directory s base word
   listed-bare None = refl
@@ -260,17 +292,17 @@ module _ (s : State) (base : ℕ) where
 
   -- the outcome of a command
   resolved-bare : (c : Command) → resolved (bare s) base c ≡ resolved s base c
-  resolved-bare (command.Mkdir path) = ap (and_then (λ found. Ok (done.Mkdir found))) (place-bare true path)
-  resolved-bare (command.Rmdir path) = ap (and_then (λ dir. Ok (done.Rmdir dir))) (directory-leads path)
-  resolved-bare (command.Write path text) = ap (and_then (λ found. Ok (done.Write found text))) (place-bare true path)
+  resolved-bare (command.Mkdir path) = ap (and_then (λ found. Ok (done.Mkdir found))) (slot-bare true path)
+  resolved-bare (command.Rmdir path) = ap (and_then (λ dir. Ok (done.Rmdir dir))) (holder-leads path)
+  resolved-bare (command.Write path text) = ap (and_then (λ found. Ok (done.Write found text))) (slot-bare true path)
   resolved-bare (command.Cat path) = ap (and_then (λ number. Ok (done.Cat number))) (entry-bare true path)
   resolved-bare (command.Ls path) = ap (and_then (λ dir. Ok (done.Ls dir))) (listed-bare path)
-  resolved-bare (command.Mv from to) = λ i. and_then (λ number. and_then (λ found. Ok (done.Mv number found)) (place-bare false to i)) (entry-bare false from i)
-  resolved-bare (command.Rm path) = ap (and_then (λ number. Ok (done.Rm number))) (entry-bare false path)
-  resolved-bare (command.Ln target path) = ap (and_then (λ found. Ok (done.Ln found target))) (place-bare false path)
+  resolved-bare (command.Mv from to) = λ i. and_then (λ number. and_then (λ found. Ok (done.Mv number found)) (slot-bare false to i)) (own-bare false from i)
+  resolved-bare (command.Rm path) = ap (and_then (λ number. Ok (done.Rm number))) (own-bare false path)
+  resolved-bare (command.Ln target path) = ap (and_then (λ found. Ok (done.Ln found target))) (slot-bare false path)
   resolved-bare (command.Readlink path) = ap (and_then (λ number. Ok (done.Readlink number))) (entry-bare false path)
-  resolved-bare (command.Smkdir path raw) = λ i. and_then (λ found. and_then (λ asked. Ok (done.Smkdir found asked)) (numbered-bare raw i)) (place-bare true path i)
-  resolved-bare (command.Setq path raw) = λ i. and_then (λ dir. and_then (λ asked. Ok (done.Setq dir asked)) (numbered-bare raw i)) (directory-leads path i)
+  resolved-bare (command.Smkdir path raw) = λ i. and_then (λ found. and_then (λ asked. Ok (done.Smkdir found asked)) (numbered-bare raw i)) (slot-bare true path i)
+  resolved-bare (command.Setq path raw) = λ i. and_then (λ dir. and_then (λ asked. Ok (done.Setq dir asked)) (numbered-bare raw i)) (holder-leads path i)
   resolved-bare (command.Unq path) = ap (and_then (λ dir. Ok (done.Unq dir))) (directory-leads path)
   resolved-bare (command.Query path) = ap (and_then (λ dir. Ok (done.Query dir))) (directory-leads path)
   resolved-bare (command.Sls path) = ap (and_then (λ dir. Ok (done.Sls dir))) (listed-bare path)
@@ -300,8 +332,10 @@ counts-bare s = λ i. record {
   bytes = measured-bare file_bytes s.entries bare-weight i;
   directories = ones is_directory bare-kind i + 1;
   semantics = ones is_queried (λ body. ap (λ (o : Option (Formula ℕ)). is_some o) (bare-query body)) i;
+  mounts = ones is_mount bare-mount i;
   symlinks = ones is_symlink bare-symlink i;
   files = ones is_file bare-file i;
+  items = ones is_linkable (keeps-linkable bare_body bare-file bare-document) i;
   dirty = dirty-same s i;
   long_paths = cond {A = ℕ} (paths-mapped bare_body s.entries i) 0 1;
   next = s.next;
@@ -366,7 +400,7 @@ pub layout-unbare : (s : State) → IsLayout (bare s) → IsLayout s
 layout-unbare s h = record {
   numbers = numbers-unmap 0 s.entries s.next h.numbers;
   names = all-unmap (λ (e : Entry). IsTrue (is_name e.name)) (edited bare_body) s.entries h.names;
-  parents = all-weaker (λ (e : Entry). IsTrue (is_directory_at (bare s).entries e.parent)) (λ (e : Entry). IsTrue (is_directory_at s.entries e.parent)) s.entries (λ e there. sym (directory-bare s e.parent) ∙ there) (all-unmap (λ (e : Entry). IsTrue (is_directory_at (bare s).entries e.parent)) (edited bare_body) s.entries h.parents);
+  places = all-weaker (λ (e : Entry). IsTrue (is_in_place (bare s).entries (edited bare_body e))) (λ (e : Entry). IsTrue (is_in_place s.entries e)) s.entries (λ e there. sym (place-mapped bare_body s.entries e bare-kind bare-mount bare-document) ∙ there) (all-unmap (λ (e : Entry). IsTrue (is_in_place (bare s).entries e)) (edited bare_body) s.entries h.places);
   differ = differ-unmap s.entries h.differ;
   bodies = all-weaker (λ (e : Entry). IsSound (bare_body e.body)) (λ (e : Entry). IsSound e.body) s.entries (λ e sound. bare-sound e.body sound) (all-unmap (λ (e : Entry). IsSound e.body) (edited bare_body) s.entries h.bodies);
   limits = sym (passed-bare s) ∙ h.limits;
@@ -376,7 +410,7 @@ pub layout-bare : (s : State) → IsLayout s → IsLayout (bare s)
 layout-bare s h = record {
   numbers = layout.numbers;
   names = layout.names;
-  parents = layout.parents;
+  places = layout.places;
   differ = layout.differ;
   bodies = layout.bodies;
   limits = passed-bare s ∙ h.limits;

@@ -10,7 +10,7 @@ use Rattle.hac_model.specs.Query.Formula.{Formula}
 use Rattle.hac_model.specs.Tree.Limits.{passed_limit}
 use Rattle.hac_model.specs.Tree.Links.{has, is_item}
 use Rattle.hac_model.specs.Query.Queries.{is_query}
-use Rattle.hac_model.specs.Tree.{entry_at, is_directory, is_directory_at, is_file, is_file_at, is_leaf_at, is_made_directory, query_in}
+use Rattle.hac_model.specs.Tree.{body_at, entry_at, is_directory, is_directory_at, is_file_at, is_leaf_at, is_linkable, is_made_directory, query_in}
 use Rattle.hac_model.specs.Tree.Valid.{AreMarks, AsksWell, IsLayout, IsValid}
 use Rattle.hac_model.specs.declared.events.Event.{Event}
 use Rattle.hac_model.specs.declared.events.Event.TheVariants.{Mkdir, NewFile, Rewrite, Ln, Mark, Mv, Rm, Rmdir, Setq, Smkdir, Step, Unq, Cd}
@@ -21,11 +21,11 @@ use Rattle.hac_model.specs.declared.states.Body.TheVariants.{File, Dir, Symlink,
 use Rattle.hac_model.specs.declared.states.Entry.{Entry}
 use Rattle.hac_model.specs.declared.states.State.{State}
 use Rattle.hac_model.proofs.ChangeLemmas.{all-append, all-changed, all-filter, all-weaker, directory-append, directory-changed, directory-kept, entry_at-append, entry_at-kept, is_kept, test-changed}
-use Rattle.hac_model.proofs.CountLemmas.{indexed-keeps, rewritten-keeps}
+use Rattle.hac_model.proofs.CountLemmas.{indexed-keeps, keeps-linkable, rewritten-keeps}
 use Rattle.hac_model.proofs.MapLemmas.{all-map, directory-mapped, test-mapped}
 use Rattle.hac_model.proofs.MarkLemmas.{all-both, all-passes, forgetting-asks, marked-asks}
 use Rattle.hac_model.proofs.PathLemmas.{root-none}
-use Rattle.hac_model.proofs.TreeLemmas.{directory-no_leaf, file-leaf}
+use Rattle.hac_model.proofs.TreeLemmas.{directory-no_item, directory-no_leaf, file-leaf}
 use Rattle.hac_model.proofs.ValidLemmas.{accepted-parts, asking-kind, forgetting-measures, mark-parts, marked-kind, plain-kind, rmdir-parts, setq-parts, smkdir-parts}
 
 -- the directories of one state are directories of another
@@ -70,10 +70,11 @@ all-stay s t dirs items h = all-weaker (λ e. AsksWell s e.body) (λ e. AsksWell
 
 -- An entry is added.
 
-file-append : (es : List Entry) (e : Entry) (n : ℕ) → is_file_at es n ≡ true → is_file_at (es ++ e ∷ []) n ≡ true
-file-append es e n h = elim (entry_at es n) as (λ o. entry_at es n ≡ o → option_map_or is_file (option_map (λ (e : Entry). e.body) o) false ≡ true → is_file_at (es ++ e ∷ []) n ≡ true) [
+-- a test that the entry of a number passes is passed once another is added
+test-append : (test : Body → Bool) (es : List Entry) (e : Entry) (n : ℕ) → option_map_or test (body_at es n) false ≡ true → option_map_or test (body_at (es ++ e ∷ []) n) false ≡ true
+test-append test es e n h = elim (entry_at es n) as (λ o. entry_at es n ≡ o → option_map_or test (option_map (λ (e : Entry). e.body) o) false ≡ true → option_map_or test (body_at (es ++ e ∷ []) n) false ≡ true) [
   | None ↦ (λ found h. absurd cc)
-  | Some there ↦ (λ found h. ap (λ (o : Option Entry). option_map_or is_file (option_map (λ (e : Entry). e.body) o) false) (entry_at-append es e n there found) ∙ h)
+  | Some there ↦ (λ found h. ap (λ (o : Option Entry). option_map_or test (option_map (λ (e : Entry). e.body) o) false) (entry_at-append es e n there found) ∙ h)
 ] refl h
 
 pub added-directories : (s : State) (dir : ℕ) (name : List ℕ) (body : Body) → DirectoriesStay s (added s dir name body)
@@ -82,15 +83,15 @@ added-directories s dir name body d there = directory-append s.entries (record {
 added-asks : (s : State) (dir : ℕ) (name : List ℕ) (body : Body) → IsValid s → AsksWell (added s dir name body) body → AllByRecursion (λ e. AsksWell (added s dir name body) e.body) (added s dir name body).entries
 added-asks s dir name body h asks =
     let new : Entry = record { number = s.next; parent = dir; name = name; body = body } in
-    all-append (λ e. AsksWell (added s dir name body) e.body) s.entries new (all-stay s (added s dir name body) (added-directories s dir name body) (λ n there. file-append s.entries new n there) h.queries) asks
+    all-append (λ e. AsksWell (added s dir name body) e.body) s.entries new (all-stay s (added s dir name body) (added-directories s dir name body) (λ n there. test-append is_linkable s.entries new n there) h.queries) asks
 
 -- A body is edited, or an entry goes elsewhere.
 
-changed-asks : (s : State) (n : ℕ) (change : Entry → Entry) → ((e : Entry) → (change e).number ≡ e.number) → ((e : Entry) → is_directory (change e).body ≡ is_directory e.body) → ((e : Entry) → is_file (change e).body ≡ is_file e.body) →
+changed-asks : (s : State) (n : ℕ) (change : Entry → Entry) → ((e : Entry) → (change e).number ≡ e.number) → ((e : Entry) → is_directory (change e).body ≡ is_directory e.body) → ((e : Entry) → is_linkable (change e).body ≡ is_linkable e.body) →
     ((e : Entry) → AsksWell (changed_at s n change) e.body → AsksWell (changed_at s n change) (change e).body) → IsValid s → AllByRecursion (λ e. AsksWell (changed_at s n change) e.body) (changed_at s n change).entries
-changed-asks s n change numbers dirs files keeps h =
+changed-asks s n change numbers dirs items keeps h =
     all-changed (λ e. AsksWell (changed_at s n change) e.body) n change s.entries keeps
-    (all-stay s (changed_at s n change) (λ d there. directory-changed n change s.entries d numbers dirs ∙ there) (λ m there. test-changed is_file n change s.entries m numbers files ∙ there) h.queries)
+    (all-stay s (changed_at s n change) (λ d there. directory-changed n change s.entries d numbers dirs ∙ there) (λ m there. test-changed is_linkable n change s.entries m numbers items ∙ there) h.queries)
 
 rewritten-asks : (s : State) (text : List ℕ) (body : Body) → AsksWell s body → AsksWell s (rewritten text body)
 rewritten-asks s text (Semantic query permanent prohibited) h = h
@@ -109,31 +110,36 @@ plain-asks : (s : State) (body : Body) → AsksWell s body → AsksWell s (plain
 plain-asks s (Semantic query permanent prohibited) h = tt
 plain-asks s other h = tt
 
-asking-file : (query : Formula ℕ) (body : Body) → is_file (asking query body) ≡ is_file body
-asking-file query Dir = refl
-asking-file query (Semantic old permanent prohibited) = refl
-asking-file query other = refl
+-- what can be linked stays what can be linked
 
-plain-file : (body : Body) → is_file (plain_body body) ≡ is_file body
-plain-file (Semantic query permanent prohibited) = refl
-plain-file other = refl
+asking-items : (query : Formula ℕ) (body : Body) → is_linkable (asking query body) ≡ is_linkable body
+asking-items query Dir = refl
+asking-items query (Semantic old permanent prohibited) = refl
+asking-items query other = refl
 
-marked-file : (n : ℕ) (kind : Kind) (body : Body) → is_file (marked n kind body) ≡ is_file body
-marked-file n Permanent (Semantic query permanent prohibited) = refl
-marked-file n Prohibited (Semantic query permanent prohibited) = refl
-marked-file n Transient (Semantic query permanent prohibited) = refl
-marked-file n Unlinked (Semantic query permanent prohibited) = refl
-marked-file n Permanent other = refl
-marked-file n Prohibited other = refl
-marked-file n Transient other = refl
-marked-file n Unlinked other = refl
+plain-items : (body : Body) → is_linkable (plain_body body) ≡ is_linkable body
+plain-items (Semantic query permanent prohibited) = refl
+plain-items other = refl
+
+marked-items : (n : ℕ) (kind : Kind) (body : Body) → is_linkable (marked n kind body) ≡ is_linkable body
+marked-items n Permanent (Semantic query permanent prohibited) = refl
+marked-items n Prohibited (Semantic query permanent prohibited) = refl
+marked-items n Transient (Semantic query permanent prohibited) = refl
+marked-items n Unlinked (Semantic query permanent prohibited) = refl
+marked-items n Permanent other = refl
+marked-items n Prohibited other = refl
+marked-items n Transient other = refl
+marked-items n Unlinked other = refl
+
+forgetting-items : (n : ℕ) (body : Body) → is_linkable (forgetting n body) ≡ is_linkable body
+forgetting-items n = keeps-linkable (forgetting n) (forgetting-measures n).file (forgetting-measures n).document
 
 -- directories and items of a state in which a body was edited
 pub edited-directories : (s : State) (n : ℕ) (edit : Body → Body) → ((body : Body) → is_directory (edit body) ≡ is_directory body) → DirectoriesStay s (changed_at s n (edited edit))
 edited-directories s n edit kind d there = directory-changed n (edited edit) s.entries d (λ e. refl) (λ e. kind e.body) ∙ there
 
-edited-items : (s : State) (n : ℕ) (edit : Body → Body) → ((body : Body) → is_file (edit body) ≡ is_file body) → ItemsStay s (changed_at s n (edited edit))
-edited-items s n edit file m there = test-changed is_file n (edited edit) s.entries m (λ e. refl) (λ e. file e.body) ∙ there
+edited-items : (s : State) (n : ℕ) (edit : Body → Body) → ((body : Body) → is_linkable (edit body) ≡ is_linkable body) → ItemsStay s (changed_at s n (edited edit))
+edited-items s n edit item m there = test-changed is_linkable n (edited edit) s.entries m (λ e. refl) (λ e. item e.body) ∙ there
 
 -- An entry goes.
 
@@ -144,6 +150,12 @@ leaf-no_directory s leaf d h there dir same =
 
 pub file-no_directory : (s : State) (file d : ℕ) → IsLayout s → is_file_at s.entries file ≡ true → is_directory_at s.entries d ≡ true → file ≡ d → ⊥
 file-no_directory s file d h there dir = leaf-no_directory s file d h (file-leaf s.entries file there) dir
+
+-- an item is no directory
+pub item-no_directory : (s : State) (item d : ℕ) → IsLayout s → is_item s item ≡ true → is_directory_at s.entries d ≡ true → item ≡ d → ⊥
+item-no_directory s item d h there dir same =
+    let other : is_item s d ≡ false = directory-no_item s.entries d (root-none s h) dir in
+    let never : true ≡ false = sym there ∙ ap (is_item s) same ∙ other in cc
 
 -- without a leaf, of which no mark speaks any more
 forgotten-asks : (s : State) (file : ℕ) (body : Body) → IsLayout s → is_leaf_at s.entries file ≡ true → AsksWell s body → AsksWell (forgotten (removed s file) file) (forgetting file body)
@@ -161,8 +173,8 @@ forgotten-asks s file (Semantic query permanent prohibited) h there asks =
 
     item : (n : ℕ) → is_item s n ≡ true → not (n == file) ≡ true → is_item t n ≡ true
     item n there other =
-        test-mapped is_file (forgetting file) (filter (is_kept file) s.entries) n (forgetting-measures file).file
-        ∙ ap (λ (o : Option Entry). option_map_or is_file (option_map (λ (e : Entry). e.body) o) false) (entry_at-kept file s.entries n (λ same. eqb-false n file (not-true (n == file) other) (sym same)))
+        test-mapped is_linkable (forgetting file) (filter (is_kept file) s.entries) n (forgetting-items file)
+        ∙ ap (λ (o : Option Entry). option_map_or is_linkable (option_map (λ (e : Entry). e.body) o) false) (entry_at-kept file s.entries n (λ same. eqb-false n file (not-true (n == file) other) (sym same)))
         ∙ there
 
     marks : (xs : List ℕ) → AreMarks s (without file xs) → AreMarks t (without file xs)
@@ -184,7 +196,7 @@ unreferenced-asks s dir e h made apart asks = body e.body (not-true (names_direc
         or-right false b h = h
 
     item : ItemsStay s (removed s dir)
-    item n file = ap (λ (o : Option Entry). option_map_or is_file (option_map (λ (e : Entry). e.body) o) false) (entry_at-kept dir s.entries n (λ same. file-no_directory s n dir h file there (sym same))) ∙ file
+    item n linked = ap (λ (o : Option Entry). option_map_or is_linkable (option_map (λ (e : Entry). e.body) o) false) (entry_at-kept dir s.entries n (λ same. item-no_directory s n dir h linked there (sym same))) ∙ linked
 
     body : (b : Body) → option_map_or (λ query. has (named_in query) dir) (query_in b) false ≡ false → AsksWell s b → AsksWell (removed s dir) b
     body (Semantic query permanent prohibited) apart asks = record {
@@ -205,7 +217,7 @@ all-unreferenced s dir (e ∷ es) h made apart asks =
 pub apply-queries : (s : State) (event : Event) → IsValid s → IsTrue (accepted s event) → AllByRecursion (λ e. AsksWell (apply s event) e.body) (apply s event).entries
 apply-queries s (Mkdir dir name) h ok = added-asks s dir name Dir h tt
 apply-queries s (NewFile dir name text) h ok = added-asks s dir name (File text true None) h tt
-apply-queries s (Rewrite file text) h ok = changed-asks s file (edited (rewritten text)) (λ e. refl) (λ e. (rewritten-keeps text).directories e.body) (λ e. (rewritten-keeps text).files e.body) (λ e there. rewritten-asks (apply s (Rewrite file text)) text e.body there) h
+apply-queries s (Rewrite file text) h ok = changed-asks s file (edited (rewritten text)) (λ e. refl) (λ e. (rewritten-keeps text).directories e.body) (λ e. keeps-linkable (rewritten text) (rewritten-keeps text).files (rewritten-keeps text).documents e.body) (λ e there. rewritten-asks (apply s (Rewrite file text)) text e.body there) h
 apply-queries s (Ln dir name target) h ok = added-asks s dir name (Symlink target) h tt
 apply-queries s (Smkdir dir name query told) h ok =
     let parts = accepted-parts (is_possible s (Smkdir dir name query told)) (passed_limit (added s dir name (Semantic query [] []))) ok in
@@ -216,13 +228,13 @@ apply-queries s (Setq dir query told) h ok =
     let parts = accepted-parts (is_possible s (Setq dir query told)) (passed_limit (changed_at s dir (edited (asking query)))) ok in
     let t : State = changed_at s dir (edited (asking query)) in
     let fits = ask-stays s t query (λ d inside there. edited-directories s dir (asking query) (asking-kind query) d there) (setq-parts s dir query told parts.0).1 in
-    changed-asks s dir (edited (asking query)) (λ e. refl) (λ e. asking-kind query e.body) (λ e. asking-file query e.body) (λ e there. asking-asks t query e.body fits there) h
-apply-queries s (Unq dir) h ok = changed-asks s dir (edited plain_body) (λ e. refl) (λ e. plain-kind e.body) (λ e. plain-file e.body) (λ e there. plain-asks (apply s (Unq dir)) e.body there) h
+    changed-asks s dir (edited (asking query)) (λ e. refl) (λ e. asking-kind query e.body) (λ e. asking-items query e.body) (λ e there. asking-asks t query e.body fits there) h
+apply-queries s (Unq dir) h ok = changed-asks s dir (edited plain_body) (λ e. refl) (λ e. plain-kind e.body) (λ e. plain-items e.body) (λ e there. plain-asks (apply s (Unq dir)) e.body there) h
 apply-queries s (Mark mark) h ok =
     let edit : Body → Body = marked mark.item mark.kind in
     let parts = accepted-parts (is_possible s (Mark mark)) (passed_limit (changed_at s mark.dir (edited edit))) ok in
-    let item = edited-items s mark.dir edit (marked-file mark.item mark.kind) mark.item (mark-parts s mark.dir mark.item mark.kind parts.0).0 in
-    changed-asks s mark.dir (edited edit) (λ e. refl) (λ e. marked-kind mark.item mark.kind e.body) (λ e. marked-file mark.item mark.kind e.body) (λ e there. marked-asks (apply s (Mark mark)) mark.item mark.kind e.body item there) h
+    let item = edited-items s mark.dir edit (marked-items mark.item mark.kind) mark.item (mark-parts s mark.dir mark.item mark.kind parts.0).0 in
+    changed-asks s mark.dir (edited edit) (λ e. refl) (λ e. marked-kind mark.item mark.kind e.body) (λ e. marked-items mark.item mark.kind e.body) (λ e there. marked-asks (apply s (Mark mark)) mark.item mark.kind e.body item there) h
 apply-queries s (Mv entry dir name) h ok = changed-asks s entry (reseated dir name) (λ e. refl) (λ e. refl) (λ e. refl) (λ e there. there) h
 apply-queries s (Rm file) h ok =
     let parts = accepted-parts (is_leaf_at s.entries file) (passed_limit (forgotten (removed s file) file)) ok in
@@ -236,7 +248,7 @@ apply-queries s (Rmdir dir) h ok =
     all-filter (λ e. AsksWell (removed s dir) e.body) (is_kept dir) s.entries (all-unreferenced s dir s.entries h.layout fits.0 fits.2 h.queries)
 apply-queries s Step h ok = elim (next_dirty s.entries) as (λ o. AllByRecursion (λ e. AsksWell (option_map_or (λ file. changed_at s file (edited indexed)) o s) e.body) (option_map_or (λ file. changed_at s file (edited indexed)) o s).entries) [
   | None ↦ h.queries
-  | Some file ↦ changed-asks s file (edited indexed) (λ e. refl) (λ e. indexed-keeps.directories e.body) (λ e. indexed-keeps.files e.body) (λ e there. indexed-asks (changed_at s file (edited indexed)) e.body there) h
+  | Some file ↦ changed-asks s file (edited indexed) (λ e. refl) (λ e. indexed-keeps.directories e.body) (λ e. keeps-linkable indexed indexed-keeps.files indexed-keeps.documents e.body) (λ e there. indexed-asks (changed_at s file (edited indexed)) e.body there) h
 ]
 apply-queries s (Cd session dir) h ok = all-stay s (apply s (Cd session dir)) (λ d there. there) (λ n there. there) h.queries
 apply-queries s other h ok = absurd cc

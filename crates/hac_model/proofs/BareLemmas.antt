@@ -12,7 +12,7 @@ use Rattle.hac_model.specs.declared.events.Event.TheVariants.{Mkdir, NewFile, Re
 use Rattle.hac_model.specs.declared.marks.Kind.{Kind}
 use Rattle.hac_model.specs.declared.marks.Kind.TheVariants.{Transient, Permanent, Prohibited, Unlinked}
 use Rattle.hac_model.specs.declared.states.Body.{Body}
-use Rattle.hac_model.specs.declared.states.Body.TheVariants.{File, Dir, Symlink, Semantic, Mount}
+use Rattle.hac_model.specs.declared.states.Body.TheVariants.{File, Dir, Symlink, Semantic, Mount, Document}
 use Rattle.hac_model.specs.declared.states.Entry.{Entry}
 use Rattle.hac_model.specs.declared.states.State.{State}
 use Rattle.hac_model.proofs.ChangeLemmas.{is_kept, touched}
@@ -20,7 +20,7 @@ use Rattle.hac_model.proofs.ChangeLemmas.{is_kept, touched}
 -- what is bare stays so
 bare-again : (body : Body) → bare_body (bare_body body) ≡ bare_body body
 bare-again (Semantic query permanent prohibited) = refl
-bare-again (Mount space documents answers) = refl
+bare-again (Mount space answers) = refl
 bare-again other = refl
 
 entries-again : (es : List Entry) → map (edited bare_body) (map (edited bare_body) es) ≡ map (edited bare_body) es
@@ -73,7 +73,8 @@ rewritten-passes text e = ap (λ (body : Body). record e { body = body }) (same 
     same Dir = refl
     same (Symlink target) = refl
     same (Semantic query permanent prohibited) = refl
-    same (Mount space documents answers) = refl
+    same (Mount space answers) = refl
+    same Document = refl
 
 indexed-passes : Passes (edited indexed)
 indexed-passes e = ap (λ (body : Body). record e { body = body }) (same e.body)
@@ -83,7 +84,8 @@ indexed-passes e = ap (λ (body : Body). record e { body = body }) (same e.body)
     same Dir = refl
     same (Symlink target) = refl
     same (Semantic query permanent prohibited) = refl
-    same (Mount space documents answers) = refl
+    same (Mount space answers) = refl
+    same Document = refl
 
 asking-passes : (query : Formula ℕ) → Passes (edited (asking query))
 asking-passes query e = ap (λ (body : Body). record e { body = body }) (same e.body)
@@ -93,7 +95,8 @@ asking-passes query e = ap (λ (body : Body). record e { body = body }) (same e.
     same Dir = refl
     same (Symlink target) = refl
     same (Semantic old permanent prohibited) = refl
-    same (Mount space documents answers) = refl
+    same (Mount space answers) = refl
+    same Document = refl
 
 plain-passes : Passes (edited plain_body)
 plain-passes e = ap (λ (body : Body). record e { body = body }) (same e.body)
@@ -103,7 +106,8 @@ plain-passes e = ap (λ (body : Body). record e { body = body }) (same e.body)
     same Dir = refl
     same (Symlink target) = refl
     same (Semantic query permanent prohibited) = refl
-    same (Mount space documents answers) = refl
+    same (Mount space answers) = refl
+    same Document = refl
 
 -- marks are taken away with what is bare
 forgetting-bare : (n : ℕ) (body : Body) → bare_body (forgetting n body) ≡ bare_body body

@@ -1,14 +1,14 @@
 -- The counts of a state after an event, from those before it.
 use Rattle.std.proofs.Common.{◌≡◌, ℕ, ◌+◌, ◌<◌, ◌≤◌, Bool, true, false, cond, List, [], ◌∷◌, ◌++◌, refl, ap, ◌∙◌, arith}
-use Rattle.std.specs.Prelude.{◌==◌, not, filter, sum_by, Some, is_some}
+use Rattle.std.specs.Prelude.{◌==◌, ◌||◌, not, filter, sum_by, Some, is_some}
 use Rattle.std.proofs.lemmas.Bool.{eqb-true, ne_eqb}
 use Rattle.std.proofs.lemmas.List.Sums.{sum_by-cons, sum_by_push}
 use Rattle.hac_model.specs.Tree.Events.{changed_in, changed_at, edited, indexed, reseated, rewritten}
-use Rattle.hac_model.specs.Tree.Limits.{directory_count, dirty_count, file_count, semantic_count, symlink_count, text_size, file_bytes}
-use Rattle.hac_model.specs.Tree.{entry_at, is_directory, is_dirty, is_file, is_symlink, query_in}
+use Rattle.hac_model.specs.Tree.Limits.{directory_count, dirty_count, file_count, item_count, mount_count, semantic_count, symlink_count, text_size, file_bytes}
+use Rattle.hac_model.specs.Tree.{entry_at, is_directory, is_dirty, is_document, is_file, is_linkable, is_mount, is_symlink, query_in}
 use Rattle.hac_model.specs.Tree.Valid.{NumbersRise}
 use Rattle.hac_model.specs.declared.states.Body.{Body}
-use Rattle.hac_model.specs.declared.states.Body.TheVariants.{File, Dir, Symlink, Semantic, Mount}
+use Rattle.hac_model.specs.declared.states.Body.TheVariants.{File}
 use Rattle.hac_model.specs.declared.states.Entry.{Entry}
 use Rattle.hac_model.specs.declared.states.State.{State}
 use Rattle.hac_model.proofs.ChangeLemmas.{changed-low, is_kept, touched}
@@ -117,22 +117,66 @@ pub record KeepsKind (edit : Body → Body) : Type 0 where
   pub queries : (body : Body) → is_queried (edit body) ≡ is_queried body
   pub files : (body : Body) → is_file (edit body) ≡ is_file body
   pub symlinks : (body : Body) → is_symlink (edit body) ≡ is_symlink body
+  pub mounts : (body : Body) → is_mount (edit body) ≡ is_mount body
+  pub documents : (body : Body) → is_document (edit body) ≡ is_document body
+
+-- so what can be linked stays what can be linked
+pub keeps-linkable : (edit : Body → Body) → ((body : Body) → is_file (edit body) ≡ is_file body) → ((body : Body) → is_document (edit body) ≡ is_document body) → (body : Body) → is_linkable (edit body) ≡ is_linkable body
+keeps-linkable edit files documents body = λ i. files body i || documents body i
 
 pub rewritten-keeps : (text : List ℕ) → KeepsKind (rewritten text)
-rewritten-keeps text = record {
-  directories = (λ body. elim body as (λ b. is_directory (rewritten text b) ≡ is_directory b) [ File old dirty shown ↦ refl | Dir ↦ refl | Symlink target ↦ refl | Semantic query permanent prohibited ↦ refl | Mount space documents answers ↦ refl ]);
-  queries = (λ body. elim body as (λ b. is_queried (rewritten text b) ≡ is_queried b) [ File old dirty shown ↦ refl | Dir ↦ refl | Symlink target ↦ refl | Semantic query permanent prohibited ↦ refl | Mount space documents answers ↦ refl ]);
-  files = (λ body. elim body as (λ b. is_file (rewritten text b) ≡ is_file b) [ File old dirty shown ↦ refl | Dir ↦ refl | Symlink target ↦ refl | Semantic query permanent prohibited ↦ refl | Mount space documents answers ↦ refl ]);
-  symlinks = (λ body. elim body as (λ b. is_symlink (rewritten text b) ≡ is_symlink b) [ File old dirty shown ↦ refl | Dir ↦ refl | Symlink target ↦ refl | Semantic query permanent prohibited ↦ refl | Mount space documents answers ↦ refl ]);
-}
+rewritten-keeps text = record { directories = directories; queries = queries; files = files; symlinks = symlinks; mounts = mounts; documents = documents }
+  where
+    directories : (body : Body) → is_directory (rewritten text body) ≡ is_directory body
+    directories (File old dirty shown) = refl
+    directories other = refl
+
+    queries : (body : Body) → is_queried (rewritten text body) ≡ is_queried body
+    queries (File old dirty shown) = refl
+    queries other = refl
+
+    files : (body : Body) → is_file (rewritten text body) ≡ is_file body
+    files (File old dirty shown) = refl
+    files other = refl
+
+    symlinks : (body : Body) → is_symlink (rewritten text body) ≡ is_symlink body
+    symlinks (File old dirty shown) = refl
+    symlinks other = refl
+
+    mounts : (body : Body) → is_mount (rewritten text body) ≡ is_mount body
+    mounts (File old dirty shown) = refl
+    mounts other = refl
+
+    documents : (body : Body) → is_document (rewritten text body) ≡ is_document body
+    documents (File old dirty shown) = refl
+    documents other = refl
 
 pub indexed-keeps : KeepsKind indexed
-indexed-keeps = record {
-  directories = (λ body. elim body as (λ b. is_directory (indexed b) ≡ is_directory b) [ File old dirty shown ↦ refl | Dir ↦ refl | Symlink target ↦ refl | Semantic query permanent prohibited ↦ refl | Mount space documents answers ↦ refl ]);
-  queries = (λ body. elim body as (λ b. is_queried (indexed b) ≡ is_queried b) [ File old dirty shown ↦ refl | Dir ↦ refl | Symlink target ↦ refl | Semantic query permanent prohibited ↦ refl | Mount space documents answers ↦ refl ]);
-  files = (λ body. elim body as (λ b. is_file (indexed b) ≡ is_file b) [ File old dirty shown ↦ refl | Dir ↦ refl | Symlink target ↦ refl | Semantic query permanent prohibited ↦ refl | Mount space documents answers ↦ refl ]);
-  symlinks = (λ body. elim body as (λ b. is_symlink (indexed b) ≡ is_symlink b) [ File old dirty shown ↦ refl | Dir ↦ refl | Symlink target ↦ refl | Semantic query permanent prohibited ↦ refl | Mount space documents answers ↦ refl ]);
-}
+indexed-keeps = record { directories = directories; queries = queries; files = files; symlinks = symlinks; mounts = mounts; documents = documents }
+  where
+    directories : (body : Body) → is_directory (indexed body) ≡ is_directory body
+    directories (File old dirty shown) = refl
+    directories other = refl
+
+    queries : (body : Body) → is_queried (indexed body) ≡ is_queried body
+    queries (File old dirty shown) = refl
+    queries other = refl
+
+    files : (body : Body) → is_file (indexed body) ≡ is_file body
+    files (File old dirty shown) = refl
+    files other = refl
+
+    symlinks : (body : Body) → is_symlink (indexed body) ≡ is_symlink body
+    symlinks (File old dirty shown) = refl
+    symlinks other = refl
+
+    mounts : (body : Body) → is_mount (indexed body) ≡ is_mount body
+    mounts (File old dirty shown) = refl
+    mounts other = refl
+
+    documents : (body : Body) → is_document (indexed body) ≡ is_document body
+    documents (File old dirty shown) = refl
+    documents other = refl
 
 pub directory_count-edited : (s : State) (n : ℕ) (edit : Body → Body) → KeepsKind edit → directory_count (changed_at s n (edited edit)).entries ≡ directory_count s.entries
 directory_count-edited s n edit keeps = ap (λ (k : ℕ). k + 1) (measured-same (one_if is_directory) n (edited edit) s.entries (λ e. ap (λ (b : Bool). cond {A = ℕ} b 1 0) (keeps.directories e.body)))
@@ -145,6 +189,12 @@ file_count-edited s n edit keeps = measured-same (one_if is_file) n (edited edit
 
 pub symlink_count-edited : (s : State) (n : ℕ) (edit : Body → Body) → KeepsKind edit → symlink_count (changed_at s n (edited edit)).entries ≡ symlink_count s.entries
 symlink_count-edited s n edit keeps = measured-same (one_if is_symlink) n (edited edit) s.entries (λ e. ap (λ (b : Bool). cond {A = ℕ} b 1 0) (keeps.symlinks e.body))
+
+pub mount_count-edited : (s : State) (n : ℕ) (edit : Body → Body) → KeepsKind edit → mount_count (changed_at s n (edited edit)).entries ≡ mount_count s.entries
+mount_count-edited s n edit keeps = measured-same (one_if is_mount) n (edited edit) s.entries (λ e. ap (λ (b : Bool). cond {A = ℕ} b 1 0) (keeps.mounts e.body))
+
+pub item_count-edited : (s : State) (n : ℕ) (edit : Body → Body) → KeepsKind edit → item_count (changed_at s n (edited edit)).entries ≡ item_count s.entries
+item_count-edited s n edit keeps = measured-same (one_if is_linkable) n (edited edit) s.entries (λ e. ap (λ (b : Bool). cond {A = ℕ} b 1 0) (keeps-linkable edit keeps.files keeps.documents e.body))
 
 -- a text that is shown weighs no more than before
 pub indexed-lighter : (body : Body) → file_bytes (indexed body) ≤ file_bytes body

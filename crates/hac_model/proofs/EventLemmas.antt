@@ -6,7 +6,7 @@ use Rattle.std.specs.Option.{option_map, option_map_or}
 use Rattle.std.proofs.lemmas.Bool.{and_from, and_parts, not-true, not_from_false}
 use Rattle.std.proofs.lemmas.Bool.Decides.{nat_tests}
 use Rattle.hac_model.specs.Run.Answers.{first_cause}
-use Rattle.hac_model.specs.Tree.Events.{accepted, apply, apply_all, changed_at, dirty, edited, indexed, is_bare, is_free, is_clear, is_inside, is_placed, is_possible, is_unreferenced, may_ask, next_dirty}
+use Rattle.hac_model.specs.Tree.Events.{accepted, apply, apply_all, changed_at, dirty, edited, indexed, is_bare, is_free, is_clear, is_inside, is_placed, is_possible, is_unreferenced, may_ask, next_dirty, first_asked, is_made_holder, is_vacant}
 use Rattle.hac_model.specs.Tree.Depends.{cycle_of_move, cycle_over, names_directory, referrers}
 use Rattle.hac_model.specs.Laws.{AllHappen}
 use Rattle.hac_model.specs.Tree.Limits.{answer_limits, counts, dirty_count, first_passed, is_text, layout_limits, passed_limit}
@@ -15,11 +15,11 @@ use Rattle.hac_model.specs.Script.PathWords.{is_target}
 use Rattle.hac_model.specs.Script.SpaceNames.{is_space_name}
 use Rattle.hac_model.specs.Tree.Links.{has, is_item, is_permanent, is_prohibited, is_semantic, links, parent_of}
 use Rattle.hac_model.specs.Run.Given.{no_answers}
-use Rattle.hac_model.specs.Run.Refusals.{already_cause, answer_cause, blocking_cause, busy_cause, cause, cycle_by, cycle_cause, directory_cause, early_cause, event_of, events_of, filled_cause, layout_cause, least_path, led_to, plain_cause, referenced_cause, root_cause, taken_cause, under_cause, unlinked_cause, unmarked_cause}
+use Rattle.hac_model.specs.Run.Refusals.{already_cause, answer_cause, blocking_cause, busy_cause, cause, cycle_by, cycle_cause, directory_cause, early_cause, event_of, events_of, filled_cause, layout_cause, least_path, led_to, plain_cause, referenced_cause, root_cause, taken_cause, under_cause, unlinked_cause, unmarked_cause, query_cause, space_cause, unattached}
 use Rattle.hac_model.specs.Run.Resolving.{resolve}
-use Rattle.hac_model.specs.Run.Standing.{AllStand, is_there}
+use Rattle.hac_model.specs.Run.Standing.{AllStand, is_there, IsSlot, is_own}
 use Rattle.hac_model.specs.Tree.Sessions.{are_few, is_busy, least_name, sessions_with, visitors}
-use Rattle.hac_model.specs.Tree.{entry_at, is_directory_at, is_dirty, is_file_at, is_leaf_at, is_live, is_made_directory, is_symlink_at, path_of}
+use Rattle.hac_model.specs.Tree.{entry_at, is_directory_at, is_dirty, is_file_at, is_leaf_at, is_live, is_made_directory, is_symlink_at, path_of, is_document_at, is_holder_at, is_mount_at}
 use Rattle.hac_model.specs.Tree.Valid.{IsLayout, IsValid, NumbersRise}
 use Rattle.hac_model.specs.declared.commands.Line.{Line}
 use Rattle.hac_model.specs.declared.events.Event.{Event}
@@ -40,10 +40,11 @@ use Rattle.hac_model.specs.declared.states.State.{State}
 use Rattle.hac_model.proofs.AcyclicLemmas.{apply-valid}
 use Rattle.hac_model.proofs.CountLemmas.{dirty_count-is, measured-changed, measured-cons, one_if}
 use Rattle.hac_model.proofs.LimitLemmas.{passed-both}
-use Rattle.hac_model.proofs.LookLemmas.{leaf-file, leaf-or_directory}
+use Rattle.hac_model.proofs.LookLemmas.{leaf-file, leaf-or_directory, item-or_directory}
 use Rattle.hac_model.proofs.StandLemmas.{line-stands}
 use Rattle.hac_model.proofs.PassedLemmas.{step-passes}
 use Rattle.hac_model.proofs.TreeLemmas.{is-live, entry_at-above, entry_at-behind, entry_at-first}
+use Rattle.hac_model.specs.Query.Formula.{Formula}
 
 -- The events of a command that isn't refused can happen.
 
@@ -200,15 +201,53 @@ made s dir there other = ap (λ (b : Bool). b || is_made_directory s.entries dir
 
 -- a command that nothing blocks makes an event whose parts are in the tree
 module _ (s : State) (h : IsLayout s) where
-  -- what is found and isn't a directory is a leaf, and a file where it was followed
-  pub leaf-there : (follow : Bool) (n : ℕ) → is_there s follow n ≡ true → directory_cause s n ≡ None → is_leaf_at s.entries n ≡ true
-  leaf-there follow n there free =
-      let lives = (and_parts (is_live s.entries n) (not (follow && is_symlink_at s.entries n)) there).0 in
-      leaf-or_directory s n h (is-live s.entries n lives) (no_refusal (is_directory_at s.entries n) (refusal.NotFile (path_of s n)) free)
+  -- what is found outside mounts and isn't a directory is a leaf, and a file where it was followed
+  pub leaf-there : (follow : Bool) (n : ℕ) → is_own s follow n ≡ true → directory_cause s n ≡ None → is_leaf_at s.entries n ≡ true
+  leaf-there follow n own free =
+      let parts = and_parts (is_there s follow n) (not (is_document_at s.entries n)) own in
+      let lives = (and_parts (is_live s.entries n) (not (follow && is_symlink_at s.entries n)) parts.0).0 in
+      leaf-or_directory s n (is-live s.entries n lives) (no_refusal (is_directory_at s.entries n) (refusal.NotFile (path_of s n)) free) (not-true (is_document_at s.entries n) parts.1)
 
-  pub file-there : (n : ℕ) → is_there s true n ≡ true → directory_cause s n ≡ None → is_file_at s.entries n ≡ true
-  file-there n there free =
-      leaf-file s n (leaf-there true n there free) (not-true (is_symlink_at s.entries n) (and_parts (is_live s.entries n) (not (is_symlink_at s.entries n)) there).1)
+  pub file-there : (n : ℕ) → is_own s true n ≡ true → directory_cause s n ≡ None → is_file_at s.entries n ≡ true
+  file-there n own free =
+      let there = (and_parts (is_there s true n) (not (is_document_at s.entries n)) own).0 in
+      leaf-file s n (leaf-there true n own free) (not-true (is_symlink_at s.entries n) (and_parts (is_live s.entries n) (not (is_symlink_at s.entries n)) there).1)
+
+  -- what is found and isn't a directory is an item where it was followed
+  pub item-there : (n : ℕ) → is_there s true n ≡ true → directory_cause s n ≡ None → is_item s n ≡ true
+  item-there n there free =
+      let parts = and_parts (is_live s.entries n) (not (is_symlink_at s.entries n)) there in
+      item-or_directory s n (is-live s.entries n parts.0) (no_refusal (is_directory_at s.entries n) (refusal.NotFile (path_of s n)) free) (not-true (is_symlink_at s.entries n) parts.1)
+
+  -- what is in a slot is no document
+  slot-own : (n : ℕ) → IsSlot s true (There n) → is_own s true n ≡ true
+  slot-own n slot = and_from (is_there s true n) (not (is_document_at s.entries n)) slot.0 (ap not (unmounted (is_document_at s.entries n) slot.1))
+    where
+      unmounted : (b : Bool) → (if b then Some (parent_of s n) else None) ≡ None → b ≡ false
+      unmounted true none = absurd cc
+      unmounted false none = refl
+
+  -- a vacant slot is free
+  slot-free : (follow : Bool) (dir : ℕ) (name : List ℕ) → IsSlot s follow (Free dir name) → is_free s dir name ≡ true
+  slot-free follow dir name slot = and_from (is_vacant s dir name) (not (is_mount_at s.entries dir)) slot.0 (ap not (unmounted (is_mount_at s.entries dir) slot.1))
+    where
+      unmounted : (b : Bool) → (if b then Some dir else None) ≡ None → b ≡ false
+      unmounted true none = absurd cc
+      unmounted false none = refl
+
+  -- a holder that isn't the root was made
+  made-holder : (dir : ℕ) → is_holder_at s.entries dir ≡ true → (dir == 0) ≡ false → is_made_holder s dir ≡ true
+  made-holder dir there other =
+      let parts = and_parts (is_directory_at s.entries dir) (not (is_mount_at s.entries dir)) there in
+      and_from (is_made_directory s.entries dir) (not (is_mount_at s.entries dir)) (made s dir parts.0 other) parts.1
+
+  -- no mount has to be asked
+  known-query : (query : Formula ℕ) → query_cause s query ≡ None → is_none (first_asked s query) ≡ true
+  known-query query free = none (first_asked s query) free
+    where
+      none : (o : Option (List ℕ)) → unattached o ≡ None → is_none o ≡ true
+      none None free = refl
+      none (Some space) free = absurd cc
 
   -- an item and a semantic directory, of which a mark speaks
   mark-placed : (item dir : ℕ) (more : List (Option Refusal)) → is_there s true item ≡ true → first_cause (directory_cause s item ∷ plain_cause s dir ∷ more) ≡ None → ((is_item s item && is_semantic s dir) ≡ true) × (first_cause more ≡ None)
@@ -216,40 +255,46 @@ module _ (s : State) (h : IsLayout s) where
       let file = no_cause (directory_cause s item) (plain_cause s dir ∷ more) free in
       let plain = no_cause (plain_cause s dir) more file.1 in
       let semantic : is_semantic s dir ≡ true = no_other (is_semantic s dir) (refusal.NotSemantic (path_of s dir)) plain.0 in
-      (and_from (is_item s item) (is_semantic s dir) (file-there item there file.0) semantic, plain.1)
+      (and_from (is_item s item) (is_semantic s dir) (item-there item there file.0) semantic, plain.1)
 
-  pub unblocked-placed : (r : Resolved) → AllStand s r → blocking_cause s r ≡ None → IfSome (event_of r) (λ e. IsTrue (is_placed s e))
-  unblocked-placed (Mkdir (There number)) there free = tt
-  unblocked-placed (Mkdir (Free dir name)) there free = there
-  unblocked-placed (Rmdir dir) there free =
+  may-be-asked : (query : Formula ℕ) → may_ask s query ≡ true → query_cause s query ≡ None → (may_ask s query && (is_none (first_asked s query) && length {A = List ℕ} [] == 0)) ≡ true
+  may-be-asked query may free =
+      and_from (may_ask s query) (is_none (first_asked s query) && length {A = List ℕ} [] == 0) may (and_from (is_none (first_asked s query)) (length {A = List ℕ} [] == 0) (known-query query free) refl)
+
+  pub unblocked-placed : (r : Resolved) → AllStand s r → blocking_cause s r ≡ None → space_cause s r ≡ None → IfSome (event_of r) (λ e. IsTrue (is_placed s e))
+  unblocked-placed (Mkdir (There number)) there free known = tt
+  unblocked-placed (Mkdir (Free dir name)) there free known = slot-free true dir name there
+  unblocked-placed (Rmdir dir) there free known =
       let root = free-root s dir (filled_cause s dir ∷ referenced_cause s dir ∷ busy_cause s dir ∷ []) free in
       let full = no_cause (filled_cause s dir) (referenced_cause s dir ∷ busy_cause s dir ∷ []) root.1 in
-      and_from (is_made_directory s.entries dir) (is_bare s.entries dir) (made s dir there root.0) (no_other (is_bare s.entries dir) (refusal.NotEmpty (path_of s dir)) full.0)
-  unblocked-placed (Write (There number) text) there free = and_from (is_file_at s.entries number) (is_text text) (file-there number there.0 free) there.1
-  unblocked-placed (Write (Free dir name) text) there free = and_from (is_free s dir name) (is_text text) there.0 there.1
-  unblocked-placed (Cd session dir) there free = and_from (is_space_name session) (is_directory_at s.entries dir) there.0 there.1
-  unblocked-placed (Mv entry (There number)) there free = tt
-  unblocked-placed (Mv entry (Free dir name)) there free =
+      and_from (is_made_holder s dir) (is_bare s.entries dir) (made-holder dir there root.0) (no_other (is_bare s.entries dir) (refusal.NotEmpty (path_of s dir)) full.0)
+  unblocked-placed (Write (There number) text) there free known = and_from (is_file_at s.entries number) (is_text text) (file-there number (slot-own number there.0) free) there.1
+  unblocked-placed (Write (Free dir name) text) there free known = and_from (is_free s dir name) (is_text text) (slot-free true dir name there.0) there.1
+  unblocked-placed (Cd session dir) there free known = and_from (is_space_name session) (is_directory_at s.entries dir) there.0 there.1
+  unblocked-placed (Mv entry (There number)) there free known = tt
+  unblocked-placed (Mv entry (Free dir name)) there free known =
       let root = free-root s entry (taken_cause s (Free dir name) ∷ under_cause s entry (Free dir name) ∷ []) free in
       let under = no_cause (under_cause s entry (Free dir name)) [] root.1 in
       let outside : is_inside s dir entry ≡ false = no_refusal (is_inside s dir entry) (refusal.Under (path_of s entry)) under.0 in
-      let fits = and_from (is_some (entry_at s.entries entry)) (is_free s dir name) (lives-some s entry (and_parts (is_live s.entries entry) true there.0).0 root.0) there.1 in
-      and_from (is_some (entry_at s.entries entry) && is_free s dir name) (not (is_inside s dir entry)) fits (not_from_false (is_inside s dir entry) outside)
-  unblocked-placed (Rm entry) there free =
+      let own = and_parts (is_there s false entry) (not (is_document_at s.entries entry)) there.0 in
+      let lives = and_from (is_some (entry_at s.entries entry)) (not (is_document_at s.entries entry)) (lives-some s entry (and_parts (is_live s.entries entry) true own.0).0 root.0) own.1 in
+      let fits = and_from (is_some (entry_at s.entries entry) && not (is_document_at s.entries entry)) (is_free s dir name) lives (slot-free false dir name there.1) in
+      and_from (is_some (entry_at s.entries entry) && not (is_document_at s.entries entry) && is_free s dir name) (not (is_inside s dir entry)) fits (not_from_false (is_inside s dir entry) outside)
+  unblocked-placed (Rm entry) there free known =
       let root = free-root s entry (directory_cause s entry ∷ []) free in
       leaf-there false entry there (no_cause (directory_cause s entry) [] root.1).0
-  unblocked-placed (Ln (There number) target) there free = tt
-  unblocked-placed (Ln (Free dir name) target) there free = and_from (is_free s dir name) (is_target target) there.0 there.1
-  unblocked-placed (Smkdir (There number) query) there free = tt
-  unblocked-placed (Smkdir (Free dir name) query) there free =
-      and_from (is_free s dir name) (may_ask s query && length {A = List ℕ} [] == 0) there.0 (and_from (may_ask s query) (length {A = List ℕ} [] == 0) there.1 refl)
-  unblocked-placed (Setq dir query) there free =
-      and_from (is_made_directory s.entries dir) (may_ask s query && length {A = List ℕ} [] == 0) (made s dir there.0 (no_refusal (dir == 0) refusal.Root free)) (and_from (may_ask s query) (length {A = List ℕ} [] == 0) there.1 refl)
-  unblocked-placed (Unq dir) there free = no_other (is_semantic s dir) (refusal.NotSemantic (path_of s dir)) free
-  unblocked-placed (Sln item dir) there free = (mark-placed item dir (already_cause s item dir ∷ []) there.0 free).0
-  unblocked-placed (Srm item dir) there free = (mark-placed item dir (unlinked_cause s item dir ∷ []) there.0 free).0
-  unblocked-placed (Sforget item dir) there free = (mark-placed item dir (unmarked_cause s item dir ∷ []) there.0 free).0
-  unblocked-placed other there free = tt
+  unblocked-placed (Ln (There number) target) there free known = tt
+  unblocked-placed (Ln (Free dir name) target) there free known = and_from (is_free s dir name) (is_target target) (slot-free false dir name there.0) there.1
+  unblocked-placed (Smkdir (There number) query) there free known = tt
+  unblocked-placed (Smkdir (Free dir name) query) there free known =
+      and_from (is_free s dir name) (may_ask s query && (is_none (first_asked s query) && length {A = List ℕ} [] == 0)) (slot-free true dir name there.0) (may-be-asked query there.1 known)
+  unblocked-placed (Setq dir query) there free known =
+      and_from (is_made_holder s dir) (may_ask s query && (is_none (first_asked s query) && length {A = List ℕ} [] == 0)) (made-holder dir there.0 (no_refusal (dir == 0) refusal.Root free)) (may-be-asked query there.1 known)
+  unblocked-placed (Unq dir) there free known = no_other (is_semantic s dir) (refusal.NotSemantic (path_of s dir)) free
+  unblocked-placed (Sln item dir) there free known = (mark-placed item dir (already_cause s item dir ∷ []) there.0 free).0
+  unblocked-placed (Srm item dir) there free known = (mark-placed item dir (unlinked_cause s item dir ∷ []) there.0 free).0
+  unblocked-placed (Sforget item dir) there free known = (mark-placed item dir (unmarked_cause s item dir ∷ []) there.0 free).0
+  unblocked-placed other there free known = tt
 
   -- and against which nothing stands
   unblocked-clear : (r : Resolved) → AllStand s r → blocking_cause s r ≡ None → cycle_cause s r ≡ None → IfSome (event_of r) (λ e. IsTrue (is_clear s e))

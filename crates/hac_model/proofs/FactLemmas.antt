@@ -8,14 +8,14 @@ use Rattle.hac_model.specs.Tree.Depends.{depends, named_in}
 use Rattle.hac_model.specs.Tree.Events.{apply, asking, changed_at, edited, forgetting, indexed, is_possible, marked, next_dirty, plain_body, reseated, rewritten}
 use Rattle.hac_model.specs.Tree.Facts.{Facts, edges_to, facts_after, facts_at, facts_in, facts_of, no_facts, put_at, with_mark, without_item}
 use Rattle.hac_model.specs.Query.Formula.{Formula}
-use Rattle.hac_model.specs.Tree.{entry_at, is_directory, is_leaf, query_in}
+use Rattle.hac_model.specs.Tree.{entry_at, is_directory, is_leaf, query_in, is_mount}
 use Rattle.hac_model.specs.Tree.Valid.{NumbersRise}
 use Rattle.hac_model.specs.declared.events.Event.{Event}
 use Rattle.hac_model.specs.declared.events.Event.TheVariants.{Mkdir, NewFile, Rewrite, Ln, Smkdir, Setq, Unq, Mark, Mv, Rm, Rmdir, Step}
 use Rattle.hac_model.specs.declared.marks.Kind.{Kind}
 use Rattle.hac_model.specs.declared.marks.Kind.TheVariants.{Transient, Permanent, Prohibited, Unlinked}
 use Rattle.hac_model.specs.declared.states.Body.{Body}
-use Rattle.hac_model.specs.declared.states.Body.TheVariants.{File, Dir, Symlink, Semantic, Mount}
+use Rattle.hac_model.specs.declared.states.Body.TheVariants.{File, Dir, Symlink, Semantic, Mount, Document}
 use Rattle.hac_model.specs.declared.states.Entry.{Entry}
 use Rattle.hac_model.specs.declared.states.State.{State}
 use Rattle.hac_model.proofs.AlikeLemmas.{parent_of-bare, query_at-bare}
@@ -36,27 +36,30 @@ rewritten-facts text dir (File old dirty shown) = refl
 rewritten-facts text dir Dir = refl
 rewritten-facts text dir (Symlink target) = refl
 rewritten-facts text dir (Semantic query permanent prohibited) = refl
-rewritten-facts text dir (Mount space documents answers) = refl
+rewritten-facts text dir (Mount space answers) = refl
+rewritten-facts text dir Document = refl
 
 indexed-facts : (dir : ℕ) (body : Body) → facts_in dir (indexed body) ≡ facts_in dir body
 indexed-facts dir (File old dirty shown) = refl
 indexed-facts dir Dir = refl
 indexed-facts dir (Symlink target) = refl
 indexed-facts dir (Semantic query permanent prohibited) = refl
-indexed-facts dir (Mount space documents answers) = refl
+indexed-facts dir (Mount space answers) = refl
+indexed-facts dir Document = refl
 
 -- a directory gets a query
-asking-facts : (query : Formula ℕ) (o : Option Entry) → option_map_or is_directory (option_map (λ (e : Entry). e.body) o) false ≡ true →
+asking-facts : (query : Formula ℕ) (o : Option Entry) → option_map_or is_directory (option_map (λ (e : Entry). e.body) o) false ≡ true → option_map_or is_mount (option_map (λ (e : Entry). e.body) o) false ≡ false →
     facts_at (option_map (edited (asking query)) o) ≡ record (facts_at o) { edges = option_map_or (λ (e : Entry). e.parent) o 0 ∷ named_in query }
-asking-facts query None made = absurd cc
-asking-facts query (Some e) made = body e.body made
+asking-facts query None made holder = absurd cc
+asking-facts query (Some e) made holder = body e.body made holder
   where
-    body : (b : Body) → is_directory b ≡ true → facts_in e.parent (asking query b) ≡ record (facts_in e.parent b) { edges = e.parent ∷ named_in query }
-    body (File text dirty shown) made = absurd cc
-    body Dir made = refl
-    body (Symlink target) made = absurd cc
-    body (Semantic old permanent prohibited) made = refl
-    body (Mount space documents answers) made = absurd cc
+    body : (b : Body) → is_directory b ≡ true → is_mount b ≡ false → facts_in e.parent (asking query b) ≡ record (facts_in e.parent b) { edges = e.parent ∷ named_in query }
+    body (File text dirty shown) made holder = absurd cc
+    body Dir made holder = refl
+    body (Symlink target) made holder = absurd cc
+    body (Semantic old permanent prohibited) made holder = refl
+    body (Mount space answers) made holder = absurd cc
+    body Document made holder = absurd cc
 
 -- a semantic directory loses it
 plain-facts : (o : Option Entry) → is_some (option_and_then query_in (option_map (λ (e : Entry). e.body) o)) ≡ true → facts_at (option_map (edited plain_body) o) ≡ no_facts
@@ -68,7 +71,8 @@ plain-facts (Some e) semantic = body e.body semantic
     body Dir semantic = absurd cc
     body (Symlink target) semantic = absurd cc
     body (Semantic query permanent prohibited) semantic = refl
-    body (Mount space documents answers) semantic = absurd cc
+    body (Mount space answers) semantic = absurd cc
+    body Document semantic = absurd cc
 
 -- or gets a mark
 marked-facts : (item : ℕ) (kind : Kind) (o : Option Entry) → is_some (option_and_then query_in (option_map (λ (e : Entry). e.body) o)) ≡ true →
@@ -84,7 +88,8 @@ marked-facts item kind (Some e) semantic = body kind e.body semantic
     body Permanent (Semantic query permanent prohibited) semantic = refl
     body Prohibited (Semantic query permanent prohibited) semantic = refl
     body Unlinked (Semantic query permanent prohibited) semantic = refl
-    body kind (Mount space documents answers) semantic = absurd cc
+    body kind (Mount space answers) semantic = absurd cc
+    body kind Document semantic = absurd cc
 
 -- an entry goes elsewhere
 reseated-facts : (dir : ℕ) (name : List ℕ) (o : Option Entry) → facts_at (option_map (reseated dir name) o) ≡ record (facts_at o) { edges = edges_to dir (option_and_then query_in (option_map (λ (e : Entry). e.body) o)) }
@@ -104,7 +109,8 @@ forgetting-facts item (Some e) = body e.body
     body Dir = refl
     body (Symlink target) = refl
     body (Semantic query permanent prohibited) = refl
-    body (Mount space documents answers) = refl
+    body (Mount space answers) = refl
+    body Document = refl
 
 -- a leaf tells nothing
 leaf-facts : (o : Option Entry) → option_map_or is_leaf (option_map (λ (e : Entry). e.body) o) false ≡ true → facts_at o ≡ no_facts
@@ -116,7 +122,8 @@ leaf-facts (Some e) leaf = body e.body leaf
     body Dir leaf = absurd cc
     body (Symlink target) leaf = refl
     body (Semantic query permanent prohibited) leaf = absurd cc
-    body (Mount space documents answers) leaf = absurd cc
+    body (Mount space answers) leaf = absurd cc
+    body Document leaf = absurd cc
 
 removed-facts : (s : State) (item : ℕ) → is_possible s (Rm item) ≡ true → (n : ℕ) → facts_of (apply s (Rm item)) n ≡ forgotten_facts item (facts_of s n)
 removed-facts s item leaf n =
@@ -142,7 +149,7 @@ facts-law s (Ln dir name target) rise ok n = seen-plain facts_at s.entries (reco
 facts-law s (Smkdir dir name query told) rise ok n = seen-added facts_at s.entries (record { number = s.next; parent = dir; name = name; body = Semantic query [] [] }) rise n
 facts-law s (Setq dir query told) rise ok n =
     seen-changed facts_at s.entries dir (edited (asking query)) (λ e. refl) n
-    ∙ ap (λ (new : Facts). put_at (facts_of s) dir new n) (asking-facts query (entry_at s.entries dir) (setq-parts s dir query told ok).0)
+    ∙ ap (λ (new : Facts). put_at (facts_of s) dir new n) (asking-facts query (entry_at s.entries dir) (setq-parts s dir query told ok).0 (setq-parts s dir query told ok).5)
 facts-law s (Unq dir) rise ok n =
     seen-changed facts_at s.entries dir (edited plain_body) (λ e. refl) n
     ∙ ap (λ (new : Facts). put_at (facts_of s) dir new n) (plain-facts (entry_at s.entries dir) ok)

@@ -10,7 +10,7 @@ use Rattle.hac_model.specs.Tree.Valid.{NumbersRise}
 use Rattle.hac_model.specs.declared.events.Event.{Event}
 use Rattle.hac_model.specs.declared.events.Event.TheVariants.{Mark, Rm, Step, Cd}
 use Rattle.hac_model.specs.declared.states.Body.{Body}
-use Rattle.hac_model.specs.declared.states.Body.TheVariants.{File, Dir, Symlink, Semantic, Mount}
+use Rattle.hac_model.specs.declared.states.Body.TheVariants.{File, Dir, Symlink, Semantic, Mount, Document}
 use Rattle.hac_model.specs.declared.states.Entry.{Entry}
 use Rattle.hac_model.specs.declared.states.Session.{Session}
 use Rattle.hac_model.specs.declared.states.State.{State}
@@ -25,21 +25,24 @@ filled-again dir (File text dirty shown) = refl
 filled-again dir Dir = refl
 filled-again dir (Symlink target) = refl
 filled-again dir (Semantic query permanent prohibited) = refl
-filled-again dir (Mount space documents answers) = refl
+filled-again dir (Mount space answers) = refl
+filled-again dir Document = refl
 
 filled-bare : (facts : Facts) (body : Body) → filled facts (bare_body body) ≡ filled facts body
 filled-bare facts (File text dirty shown) = refl
 filled-bare facts Dir = refl
 filled-bare facts (Symlink target) = refl
 filled-bare facts (Semantic query permanent prohibited) = refl
-filled-bare facts (Mount space documents answers) = refl
+filled-bare facts (Mount space answers) = refl
+filled-bare facts Document = refl
 
 bare-filled : (facts : Facts) (body : Body) → bare_body (filled facts body) ≡ bare_body body
 bare-filled facts (File text dirty shown) = refl
 bare-filled facts Dir = refl
 bare-filled facts (Symlink target) = refl
 bare-filled facts (Semantic query permanent prohibited) = refl
-bare-filled facts (Mount space documents answers) = refl
+bare-filled facts (Mount space answers) = refl
+bare-filled facts Document = refl
 
 abbrev IsFilled : State → Entry → Type 0
 IsFilled s e = filled_entry (facts_of s) (edited bare_body e) ≡ e

@@ -8,7 +8,7 @@ use Rattle.std.proofs.lemmas.List.Folds.{list_all-append}
 use Rattle.hac_model.specs.Run.Answers.{first_cause}
 use Rattle.hac_model.specs.Run.Resolving.{place}
 use Rattle.hac_model.specs.Script.PathWords.{has_long_part, is_bad, is_path_word, is_target, untested_word, word_of}
-use Rattle.hac_model.specs.Tree.Events.{is_free}
+use Rattle.hac_model.specs.Tree.Events.{is_vacant}
 use Rattle.hac_model.specs.Tree.Looks.{final_path, link_at, link_to_follow, look, destination, next_path, next_path_behind, stands_at, stop_at, target_word, vacancy, ways}
 use Rattle.hac_model.specs.Tree.Names.{is_name}
 use Rattle.hac_model.specs.Tree.Paths.{are_names, join}
@@ -25,7 +25,7 @@ use Rattle.hac_model.specs.declared.states.Body.{Body}
 use Rattle.hac_model.specs.declared.states.Body.TheVariants.{Symlink}
 use Rattle.hac_model.specs.declared.states.Entry.{Entry}
 use Rattle.hac_model.specs.declared.states.State.{State}
-use Rattle.hac_model.proofs.LookLemmas.{free-is, join-named, path-named, destination-free, destination-lives}
+use Rattle.hac_model.proofs.LookLemmas.{vacant-is, join-named, path-named, destination-free, destination-lives}
 use Rattle.hac_model.proofs.PathLemmas.{from_root, parent-directory, path_of-parent, path_of-root, destination-path, root-none}
 use Rattle.hac_model.proofs.PlainLemmas.{stands-path}
 use Rattle.hac_model.proofs.TreeLemmas.{Lives, directory-lives, entry_at-all}
@@ -182,11 +182,11 @@ pub place-lives : (s : State) (base : ℕ) (follow : Bool) (word : PathWord) (n 
 place-lives s base follow word n is = let to = look-leads s follow (join (path_of s base) word) (There n) is in destination-lives s to.found n to.leads
 
 -- what it leads to and is missing is a free place
-pub place-free : (s : State) (base : ℕ) (follow : Bool) (word : PathWord) (dir : ℕ) (name : List ℕ) → IsLayout s → Lives s.entries base → are_names word.names ≡ true → place s base follow word ≡ Ok (Free dir name) → is_free s dir name ≡ true
+pub place-free : (s : State) (base : ℕ) (follow : Bool) (word : PathWord) (dir : ℕ) (name : List ℕ) → IsLayout s → Lives s.entries base → are_names word.names ≡ true → place s base follow word ≡ Ok (Free dir name) → is_vacant s dir name ≡ true
 place-free s base follow word dir name h lives named is =
     let to = look-leads s follow (join (path_of s base) word) (Free dir name) is in
     let joined = join-named (path_of s base) word (path-named s base h lives) named in
-    free-is s dir name (destination-free s to.found dir name h (to.followed_is.names joined) to.leads)
+    vacant-is s dir name (destination-free s to.found dir name h (to.followed_is.names joined) to.leads)
 
 -- The path of an entry leads to it.
 

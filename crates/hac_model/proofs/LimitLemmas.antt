@@ -1,9 +1,9 @@
 -- A state that exceeds no limit is within each of them.
 use Rattle.std.proofs.Common.{◌≡◌, Bool, true, false, cond, refl, ap, ◌∙◌, List, [], ◌∷◌, ◌++◌}
 use Rattle.std.specs.Prelude.{nat_lt, Option, Some, None}
-use Rattle.hac_model.specs.Tree.Limits.{answer_limits, are_paths_short, counts, directory_count, file_count, first_passed, layout_limits, long_paths, passed_limit, semantic_count, symlink_count, text_size}
+use Rattle.hac_model.specs.Tree.Limits.{answer_limits, are_paths_short, counts, directory_count, first_passed, item_count, layout_limits, long_paths, mount_count, passed_limit, semantic_count, symlink_count, text_size}
 use Rattle.hac_model.specs.declared.limits.Limit.{Limit}
-use Rattle.hac_model.specs.declared.limits.TheConstants.{TEXTS_LIMIT, DIRS_LIMIT, SEMANTICS_LIMIT, SYMLINKS_LIMIT, ITEMS_LIMIT, NUMBERS_LIMIT}
+use Rattle.hac_model.specs.declared.limits.TheConstants.{TEXTS_LIMIT, DIRS_LIMIT, SEMANTICS_LIMIT, MOUNTS_LIMIT, SYMLINKS_LIMIT, ITEMS_LIMIT, NUMBERS_LIMIT}
 use Rattle.hac_model.specs.declared.limits.LimitWord.{LimitWord}
 use Rattle.hac_model.specs.declared.states.Entry.{Entry}
 use Rattle.hac_model.specs.declared.states.State.{State}
@@ -13,9 +13,10 @@ pub record IsWithinLimits (s : State) : Type 0 where
   pub texts : nat_lt TEXTS_LIMIT (text_size s.entries) ≡ false
   pub dirs : nat_lt DIRS_LIMIT (directory_count s.entries) ≡ false
   pub semantics : nat_lt SEMANTICS_LIMIT (semantic_count s.entries) ≡ false
+  pub mounts : nat_lt MOUNTS_LIMIT (mount_count s.entries) ≡ false
   pub symlinks : nat_lt SYMLINKS_LIMIT (symlink_count s.entries) ≡ false
   pub paths : are_paths_short s.entries ≡ true
-  pub items : nat_lt ITEMS_LIMIT (file_count s.entries) ≡ false
+  pub items : nat_lt ITEMS_LIMIT (item_count s.entries) ≡ false
   pub numbers : nat_lt NUMBERS_LIMIT s.next ≡ false
 
 -- a limit that isn't passed, and those behind it
@@ -48,11 +49,12 @@ limits-within s h =
     let texts = first-behind _ _ h in
     let dirs = first-behind _ _ texts.1 in
     let semantics = first-behind _ _ dirs.1 in
-    let symlinks = first-behind _ _ semantics.1 in
+    let mounts = first-behind _ _ semantics.1 in
+    let symlinks = first-behind _ _ mounts.1 in
     let paths = first-behind _ _ symlinks.1 in
     let items = first-behind _ _ paths.1 in
     let numbers = first-behind _ _ items.1 in
-    record { texts = texts.0; dirs = dirs.0; semantics = semantics.0; symlinks = symlinks.0; paths = short-paths s.entries paths.0; items = items.0; numbers = numbers.0 }
+    record { texts = texts.0; dirs = dirs.0; semantics = semantics.0; mounts = mounts.0; symlinks = symlinks.0; paths = short-paths s.entries paths.0; items = items.0; numbers = numbers.0 }
 
 pub limits-none : (s : State) → IsWithinLimits s → passed_limit s ≡ None
 unfolding passed_limit
@@ -60,10 +62,11 @@ limits-none s h =
     first-before _ _ h.texts
     (first-before _ _ h.dirs
     (first-before _ _ h.semantics
+    (first-before _ _ h.mounts
     (first-before _ _ h.symlinks
     (first-before _ _ (paths-short s.entries h.paths)
     (first-before _ _ h.items
-    (first-before _ _ h.numbers none-passed))))))
+    (first-before _ _ h.numbers none-passed)))))))
 
 -- limits of two lists are passed by none where none of either is
 passed-append : (xs ys : List Limit) → first_passed xs ≡ None → first_passed ys ≡ None → first_passed (xs ++ ys) ≡ None

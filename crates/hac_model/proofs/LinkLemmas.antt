@@ -10,7 +10,7 @@ use Rattle.hac_model.specs.Tree.Depends.{depends, named_in, Among, Leads, IsAcyc
 use Rattle.hac_model.specs.Query.Formula.{Formula}
 use Rattle.hac_model.specs.Query.Formula as query
 use Rattle.hac_model.specs.Tree.Limits.{semantic_count}
-use Rattle.hac_model.specs.Tree.Links.{parent_of, is_permanent, is_semantic, is_unmarked, is_below, provide, holds, satisfies, passes, column, round, rounds, links, items, shown_of, query_at}
+use Rattle.hac_model.specs.Tree.Links.{parent_of, is_permanent, is_judged, is_semantic, is_unmarked, is_below, provide, holds, satisfies, passes, column, round, rounds, links, items, shown_of, query_at}
 use Rattle.hac_model.specs.Tree.{entry_at, body_at, query_in}
 use Rattle.hac_model.specs.declared.states.Entry.{Entry}
 use Rattle.hac_model.specs.declared.states.State.{State}
@@ -120,8 +120,8 @@ satisfied s a dir item q at = ap (λ (o : Option (Formula ℕ)). option_map_or (
 
 passes-same : (s : State) (a b : ℕ → Bool) (dir item : ℕ) (q : Formula ℕ) → query_at s dir ≡ Some q → ((e : ℕ) → Among (parent_of s dir ∷ named_in q) e → a e ≡ b e) → passes s a dir item ≡ passes s b dir item
 passes-same s a b dir item q at same =
-    ap (λ (t : Bool). t && is_some (shown_of s item) && satisfies s a dir item && is_unmarked s dir item) (provide-same s a b (parent_of s dir) item (same (parent_of s dir) (inl refl)))
-    ∙ ap (λ (t : Bool). provide s b (parent_of s dir) item && is_some (shown_of s item) && t && is_unmarked s dir item) (satisfied s a dir item q at ∙ holds-same s a b q item (λ e edge. same e (inr edge)) ∙ sym (satisfied s b dir item q at))
+    ap (λ (t : Bool). t && is_judged s item && satisfies s a dir item && is_unmarked s dir item) (provide-same s a b (parent_of s dir) item (same (parent_of s dir) (inl refl)))
+    ∙ ap (λ (t : Bool). provide s b (parent_of s dir) item && is_judged s item && t && is_unmarked s dir item) (satisfied s a dir item q at ∙ holds-same s a b q item (λ e edge. same e (inr edge)) ∙ sym (satisfied s b dir item q at))
 
 -- a round finds the links of a directory from those on which it depends
 round-local : (s : State) (b c : ℕ → List ℕ) (d : ℕ) → ((e : ℕ) → Among (depends s d) e → b e ≡ c e) → round s b d ≡ round s c d

@@ -6,7 +6,7 @@ use Rattle.std.specs.Option.{option_map, option_map_or}
 use Rattle.std.proofs.lemmas.Bool.{cases_eq, cases_lt}
 use Rattle.hac_model.specs.Tree.Depends.{IsAcyclic}
 use Rattle.hac_model.specs.Tree.Links.{has, is_item, is_semantic, passes, column, links, items, round}
-use Rattle.hac_model.specs.Tree.{is_file, is_file_at}
+use Rattle.hac_model.specs.Tree.{is_file, is_file_at, is_linkable}
 use Rattle.hac_model.specs.Tree.Valid.{IsLayout}
 use Rattle.hac_model.specs.declared.states.Entry.{Entry}
 use Rattle.hac_model.specs.declared.states.State.{State}
@@ -76,14 +76,14 @@ has-range a (suc n) x low high =
     or-right true q h = refl
     or-right false q h = h
 
--- a file is an item
-pub file-item : (s : State) (item : ℕ) → IsLayout s → is_file_at s.entries item ≡ true → has (items s) item ≡ true
-file-item s item h file =
-    let below = number-below s item h file in
-    has-filter (is_item s) (range_with_len 0 s.next) item ∙ ap (λ (b : Bool). b && has (range_with_len 0 s.next) item) file ∙ has-range 0 s.next item (omega arith) (omega (arith, below))
+-- an item is among them
+pub item-listed : (s : State) (item : ℕ) → IsLayout s → is_item s item ≡ true → has (items s) item ≡ true
+item-listed s item h linked =
+    let below = number-below s item h linked in
+    has-filter (is_item s) (range_with_len 0 s.next) item ∙ ap (λ (b : Bool). b && has (range_with_len 0 s.next) item) linked ∙ has-range 0 s.next item (omega arith) (omega (arith, below))
   where
-    number-below : (s : State) (n : ℕ) → IsLayout s → is_file_at s.entries n ≡ true → n < s.next
-    number-below s n h file = elim (cases_lt n s.next) [
+    number-below : (s : State) (n : ℕ) → IsLayout s → is_item s n ≡ true → n < s.next
+    number-below s n h linked = elim (cases_lt n s.next) [
       | inl less ↦ less
-      | inr high ↦ (let none : false ≡ true = ap (λ (o : Option Entry). option_map_or is_file (option_map (λ (e : Entry). e.body) o) false) (sym (entry_at-next 0 s.entries s.next n h.numbers high)) ∙ file in absurd cc)
+      | inr high ↦ (let none : false ≡ true = ap (λ (o : Option Entry). option_map_or is_linkable (option_map (λ (e : Entry). e.body) o) false) (sym (entry_at-next 0 s.entries s.next n h.numbers high)) ∙ linked in absurd cc)
     ]

@@ -6,11 +6,11 @@ use Rattle.std.specs.Option.{option_map, option_map_or}
 use Rattle.std.specs.Str.{bytes_eq}
 use Rattle.std.proofs.lemmas.Bool.{and_from, and_parts}
 use Rattle.std.proofs.lemmas.List.{append-nil}
-use Rattle.hac_model.specs.Tree.Events.{is_free}
+use Rattle.hac_model.specs.Tree.Events.{is_vacant}
 use Rattle.hac_model.specs.Tree.Looks.{has_names, destination}
 use Rattle.hac_model.specs.Tree.Names.{is_name}
 use Rattle.hac_model.specs.Tree.Paths.{are_names, join, without_last, origin}
-use Rattle.hac_model.specs.Tree.{child, entry_at, is_directory, is_directory_at, is_file, is_file_at, is_leaf, is_leaf_at, is_made_directory, is_symlink, is_symlink_at, path_of}
+use Rattle.hac_model.specs.Tree.{child, entry_at, is_directory, is_directory_at, is_file, is_file_at, is_leaf, is_leaf_at, is_made_directory, is_symlink, is_symlink_at, path_of, body_at, is_document, is_document_at, is_linkable}
 use Rattle.hac_model.specs.Tree.Valid.{IsLayout, IsSound}
 use Rattle.hac_model.specs.declared.paths.PathWord.{PathWord}
 use Rattle.hac_model.specs.declared.places.Place.{Place}
@@ -18,12 +18,13 @@ use Rattle.hac_model.specs.declared.places.Place.TheVariants.{There, Free}
 use Rattle.hac_model.specs.declared.replies.Refusal.{Refusal}
 use Rattle.hac_model.specs.declared.replies.Refusal.TheVariants.{NoPath, NotDir}
 use Rattle.hac_model.specs.declared.states.Body.{Body}
-use Rattle.hac_model.specs.declared.states.Body.TheVariants.{File, Dir, Symlink, Semantic, Mount}
+use Rattle.hac_model.specs.declared.states.Body.TheVariants.{File, Dir, Symlink, Semantic, Mount, Document}
 use Rattle.hac_model.specs.declared.states.Entry.{Entry}
 use Rattle.hac_model.specs.declared.states.State.{State}
 use Rattle.hac_model.proofs.PathLemmas.{path_of-parent, path_of-root, from_root}
 use Rattle.hac_model.proofs.TreeLemmas.{Lives, child-entry, entry_at-all, entry_at-cases}
 use Rattle.hac_model.proofs.Walks.{destination-walk, walk}
+use Rattle.hac_model.specs.Tree.Links.{is_item}
 
 found-more : (b : Bool) (e : Entry) (o : Option Entry) → is_some o ≡ true → is_some (cond b (Some e) o) ≡ true
 found-more true e o h = refl
@@ -44,24 +45,42 @@ child-lives es dir name n h = elim (entry_at-cases es n) [
   | inr found ↦ inr found
 ]
 
-kind-cases : (body : Body) → IsSound body → is_leaf body ≡ not (is_directory body)
-kind-cases (File text dirty shown) sound = refl
-kind-cases Dir sound = refl
-kind-cases (Semantic query permanent prohibited) sound = refl
-kind-cases (Symlink target) sound = refl
-kind-cases (Mount space documents answers) sound = absurd sound
-
--- what lives is a leaf or a directory
-pub leaf-or_directory : (s : State) (n : ℕ) → IsLayout s → Lives s.entries n → is_directory_at s.entries n ≡ false → is_leaf_at s.entries n ≡ true
-leaf-or_directory s n layout (inl root) h = let never : true ≡ false = ap (λ (k : ℕ). is_directory_at s.entries k) (sym root) ∙ h in absurd cc
-leaf-or_directory s n layout (inr found) h =
-    elim (n == 0) as (λ b. (b || is_made_directory s.entries n) ≡ false → is_leaf_at s.entries n ≡ true) [ true ↦ (λ h. absurd cc) | false ↦ (λ h. made h) ] h
+-- what is no directory and fails another test passes a third, where all bodies do so
+kind-or_directory : (fails passes : Body → Bool) → ((body : Body) → is_directory body ≡ false → fails body ≡ false → passes body ≡ true) → (s : State) (n : ℕ) → Lives s.entries n → is_directory_at s.entries n ≡ false →
+    option_map_or fails (body_at s.entries n) false ≡ false → option_map_or passes (body_at s.entries n) false ≡ true
+kind-or_directory fails passes cases s n (inl root) h other = let never : true ≡ false = ap (λ (k : ℕ). is_directory_at s.entries k) (sym root) ∙ h in absurd cc
+kind-or_directory fails passes cases s n (inr found) h other =
+    elim (n == 0) as (λ b. (b || is_made_directory s.entries n) ≡ false → option_map_or passes (body_at s.entries n) false ≡ true) [ true ↦ (λ h. absurd cc) | false ↦ (λ h. made h) ] h
   where
-    made : is_made_directory s.entries n ≡ false → is_leaf_at s.entries n ≡ true
-    made h =
-        let other : is_directory found.0.body ≡ false = ap (λ (o : Option Entry). option_map_or is_directory (option_map (λ (e : Entry). e.body) o) false) (sym found.1) ∙ h in
-        let sound : IsSound found.0.body = entry_at-all (λ e. IsSound e.body) s.entries n found.0 layout.bodies found.1 in
-        ap (λ (o : Option Entry). option_map_or is_leaf (option_map (λ (e : Entry). e.body) o) false) found.1 ∙ kind-cases found.0.body sound ∙ ap not other
+    tested : (test : Body → Bool) → option_map_or test (body_at s.entries n) false ≡ test found.0.body
+    tested test = ap (λ (o : Option Entry). option_map_or test (option_map (λ (e : Entry). e.body) o) false) found.1
+
+    made : is_made_directory s.entries n ≡ false → option_map_or passes (body_at s.entries n) false ≡ true
+    made h = tested passes ∙ cases found.0.body (sym (tested is_directory) ∙ h) (sym (tested fails) ∙ other)
+
+-- what lives is a document, a leaf or a directory
+pub leaf-or_directory : (s : State) (n : ℕ) → Lives s.entries n → is_directory_at s.entries n ≡ false → is_document_at s.entries n ≡ false → is_leaf_at s.entries n ≡ true
+leaf-or_directory s n lives h other = kind-or_directory is_document is_leaf cases s n lives h other
+  where
+    cases : (body : Body) → is_directory body ≡ false → is_document body ≡ false → is_leaf body ≡ true
+    cases (File text dirty shown) h other = refl
+    cases Dir h other = absurd cc
+    cases (Semantic query permanent prohibited) h other = absurd cc
+    cases (Symlink target) h other = refl
+    cases (Mount space answers) h other = absurd cc
+    cases Document h other = absurd cc
+
+-- what lives is a symbolic link, an item or a directory
+pub item-or_directory : (s : State) (n : ℕ) → Lives s.entries n → is_directory_at s.entries n ≡ false → is_symlink_at s.entries n ≡ false → is_item s n ≡ true
+item-or_directory s n lives h other = kind-or_directory is_symlink is_linkable cases s n lives h other
+  where
+    cases : (body : Body) → is_directory body ≡ false → is_symlink body ≡ false → is_linkable body ≡ true
+    cases (File text dirty shown) h other = refl
+    cases Dir h other = absurd cc
+    cases (Semantic query permanent prohibited) h other = absurd cc
+    cases (Symlink target) h other = absurd cc
+    cases (Mount space answers) h other = absurd cc
+    cases Document h other = refl
 
 -- a leaf is a file or a symbolic link
 pub leaf-file : (s : State) (n : ℕ) → is_leaf_at s.entries n ≡ true → is_symlink_at s.entries n ≡ false → is_file_at s.entries n ≡ true
@@ -76,7 +95,8 @@ leaf-file s n h other =
     body Dir h other = h
     body (Semantic query permanent prohibited) h other = h
     body (Symlink target) h other = absurd cc
-    body (Mount space documents answers) h other = h
+    body (Mount space answers) h other = h
+    body Document h other = h
 
 -- where a name that isn't missing leads on
 on : List Entry → List (List ℕ) → List (List ℕ) → ℕ → Result Place Refusal
@@ -179,8 +199,8 @@ join-named base word above named =
     front true = refl
     front false = take-named (length base - word.ups) base above
 
-pub free-is : (s : State) (dir : ℕ) (name : List ℕ) → IsFreePlace s.entries dir name → is_free s dir name ≡ true
-free-is s dir name h =
+pub vacant-is : (s : State) (dir : ℕ) (name : List ℕ) → IsFreePlace s.entries dir name → is_vacant s dir name ≡ true
+vacant-is s dir name h =
     and_from (is_directory_at s.entries dir && is_name name) (is_none (child s.entries dir name)) (and_from (is_directory_at s.entries dir) (is_name name) h.directory h.named) (ap (λ (o : Option ℕ). is_none o) h.empty)
 
 -- In a valid state what is found has the path that was looked up.

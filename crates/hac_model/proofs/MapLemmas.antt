@@ -1,22 +1,22 @@
 -- What is looked up after the bodies of all entries were edited.
 use Rattle.std.proofs.Common.{◌≡◌, ℕ, zero, suc, Bool, true, false, cond, List, [], ◌∷◌, length, map, refl, ap, sym, ◌∙◌, arith}
-use Rattle.std.specs.Prelude.{◌==◌, ◌&&◌, ◌||◌, ◌++◌, Option, Some, None, IsTrue, is_some}
+use Rattle.std.specs.Prelude.{◌==◌, ◌&&◌, ◌||◌, ◌++◌, if◌then◌else◌, not, Option, Some, None, IsTrue, is_some}
 use Rattle.std.specs.Option.{option_map, option_map_or}
 use Rattle.std.specs.List.{AllByRecursion, list_all}
 use Rattle.std.specs.Str.{bytes_eq}
 use Rattle.hac_model.specs.Tree.Events.{edited}
-use Rattle.hac_model.specs.Tree.Limits.{answer_limits, are_paths_short, counts, directory_count, file_count, first_passed, layout_limits, long_paths, passed_limit, semantic_count, symlink_count, text_size, file_bytes}
+use Rattle.hac_model.specs.Tree.Limits.{answer_limits, are_paths_short, counts, directory_count, first_passed, item_count, layout_limits, long_paths, mount_count, passed_limit, semantic_count, symlink_count, text_size, file_bytes}
 use Rattle.hac_model.specs.Tree.Limits as limits_of
 use Rattle.hac_model.specs.Tree.Names.{is_name}
-use Rattle.hac_model.specs.Tree.{ancestors, body_at, child, entry_at, is_directory, is_directory_at, is_file, is_path_short, is_symlink, lineage, query_in}
-use Rattle.hac_model.specs.Tree.Valid.{IsLayout, IsSound, NamesDiffer, NumbersRise}
-use Rattle.hac_model.specs.declared.limits.LimitWord.TheVariants.{Texts, Dirs, Semantics, Symlinks, Path, Items, Numbers}
-use Rattle.hac_model.specs.declared.limits.TheConstants.{DIRS_LIMIT, ITEMS_LIMIT, NUMBERS_LIMIT, SEMANTICS_LIMIT, SYMLINKS_LIMIT, TEXTS_LIMIT}
+use Rattle.hac_model.specs.Tree.{ancestors, body_at, child, entry_at, is_directory, is_directory_at, is_document, is_file, is_linkable, is_mount, is_mount_at, is_path_short, is_symlink, lineage, query_in}
+use Rattle.hac_model.specs.Tree.Valid.{IsLayout, IsSound, NamesDiffer, NumbersRise, is_in_place}
+use Rattle.hac_model.specs.declared.limits.LimitWord.TheVariants.{Texts, Dirs, Semantics, Mounts, Symlinks, Path, Items, Numbers}
+use Rattle.hac_model.specs.declared.limits.TheConstants.{DIRS_LIMIT, ITEMS_LIMIT, MOUNTS_LIMIT, NUMBERS_LIMIT, SEMANTICS_LIMIT, SYMLINKS_LIMIT, TEXTS_LIMIT}
 use Rattle.hac_model.specs.declared.states.Body.{Body}
 use Rattle.hac_model.specs.declared.states.Entry.{Entry}
 use Rattle.hac_model.specs.declared.states.State.{State}
 use Rattle.hac_model.proofs.ChangeLemmas.{all-weaker}
-use Rattle.hac_model.proofs.CountLemmas.{directory_count-is, is_queried, measured, measured-cons, one_if}
+use Rattle.hac_model.proofs.CountLemmas.{directory_count-is, is_queried, keeps-linkable, measured, measured-cons, one_if}
 use Rattle.hac_model.proofs.DepthLemmas.{names_of, short-names}
 use Rattle.hac_model.proofs.PathLemmas.{ancestors_by, limit, lineage-is}
 
@@ -41,6 +41,15 @@ test-mapped test edit es n same =
 
 pub directory-mapped : (edit : Body → Body) (es : List Entry) (d : ℕ) → ((body : Body) → is_directory (edit body) ≡ is_directory body) → is_directory_at (map (edited edit) es) d ≡ is_directory_at es d
 directory-mapped edit es d same = ap (λ (b : Bool). d == 0 || b) (test-mapped is_directory edit es d same)
+
+-- an entry in place stays there, where the edit keeps directories, mounts and documents
+pub place-mapped : (edit : Body → Body) (es : List Entry) (e : Entry) → ((body : Body) → is_directory (edit body) ≡ is_directory body) → ((body : Body) → is_mount (edit body) ≡ is_mount body) → ((body : Body) → is_document (edit body) ≡ is_document body) →
+    is_in_place (map (edited edit) es) (edited edit e) ≡ is_in_place es e
+place-mapped edit es e directories mounts documents = λ i.
+    if documents e.body i then mount i else (directory-mapped edit es e.parent directories i && not (mount i))
+  where
+    mount : is_mount_at (map (edited edit) es) e.parent ≡ is_mount_at es e.parent
+    mount = test-mapped is_mount edit es e.parent mounts
 
 pub child-mapped : (edit : Body → Body) (es : List Entry) (dir : ℕ) (name : List ℕ) → child (map (edited edit) es) dir name ≡ child es dir name
 child-mapped edit [] dir name = refl
@@ -85,6 +94,8 @@ pub record KeepsMeasures (edit : Body → Body) : Type 0 where
   pub kind : (body : Body) → is_directory (edit body) ≡ is_directory body
   pub file : (body : Body) → is_file (edit body) ≡ is_file body
   pub symlink : (body : Body) → is_symlink (edit body) ≡ is_symlink body
+  pub mount : (body : Body) → is_mount (edit body) ≡ is_mount body
+  pub document : (body : Body) → is_document (edit body) ≡ is_document body
   pub queried : (body : Body) → is_some (query_in (edit body)) ≡ is_some (query_in body)
   pub texts : (body : Body) → file_bytes (edit body) ≡ file_bytes body
 
@@ -98,7 +109,7 @@ measured-mapped f edit (e ∷ es) same =
 counts-mapped : (edit : Body → Body) (s : State) → KeepsMeasures edit → first_passed (layout_limits (counts (mapped edit s)) ++ answer_limits (counts (mapped edit s))) ≡ first_passed (layout_limits (counts s) ++ answer_limits (counts s))
 counts-mapped edit s keeps = λ i. first_passed (
     limits_of.limit (texts i) TEXTS_LIMIT Texts ∷ limits_of.limit (dirs i) DIRS_LIMIT Dirs ∷ limits_of.limit (semantics i) SEMANTICS_LIMIT Semantics
-    ∷ limits_of.limit (symlinks i) SYMLINKS_LIMIT Symlinks ∷ limits_of.limit (paths i) 0 Path ∷ limits_of.limit (items i) ITEMS_LIMIT Items ∷ limits_of.limit s.next NUMBERS_LIMIT Numbers ∷ [])
+    ∷ limits_of.limit (mounts i) MOUNTS_LIMIT Mounts ∷ limits_of.limit (symlinks i) SYMLINKS_LIMIT Symlinks ∷ limits_of.limit (paths i) 0 Path ∷ limits_of.limit (items i) ITEMS_LIMIT Items ∷ limits_of.limit s.next NUMBERS_LIMIT Numbers ∷ [])
   where
     es : List Entry
     es = s.entries
@@ -118,8 +129,11 @@ counts-mapped edit s keeps = λ i. first_passed (
     symlinks : symlink_count (map (edited edit) es) ≡ symlink_count es
     symlinks = ones is_symlink keeps.symlink
 
-    items : file_count (map (edited edit) es) ≡ file_count es
-    items = ones is_file keeps.file
+    mounts : mount_count (map (edited edit) es) ≡ mount_count es
+    mounts = ones is_mount keeps.mount
+
+    items : item_count (map (edited edit) es) ≡ item_count es
+    items = ones is_linkable (keeps-linkable edit keeps.file keeps.document)
 
     paths : long_paths (map (edited edit) es) ≡ long_paths es
     paths = ap (λ (b : Bool). cond {A = ℕ} b 0 1) (paths-mapped edit es)
@@ -139,7 +153,7 @@ pub mapped-layout : (edit : Body → Body) (s : State) → KeepsMeasures edit �
 mapped-layout edit s keeps sound h = record {
   numbers = numbers-mapped edit 0 s.entries s.next h.numbers;
   names = all-map (λ e. IsTrue (is_name e.name)) (edited edit) s.entries h.names;
-  parents = all-map (λ e. IsTrue (is_directory_at (map (edited edit) s.entries) e.parent)) (edited edit) s.entries (all-weaker (λ e. IsTrue (is_directory_at s.entries e.parent)) (λ e. IsTrue (is_directory_at (map (edited edit) s.entries) e.parent)) s.entries (λ e there. directory-mapped edit s.entries e.parent keeps.kind ∙ there) h.parents);
+  places = all-map (λ e. IsTrue (is_in_place (map (edited edit) s.entries) e)) (edited edit) s.entries (all-weaker (λ e. IsTrue (is_in_place s.entries e)) (λ e. IsTrue (is_in_place (map (edited edit) s.entries) (edited edit e))) s.entries (λ e there. place-mapped edit s.entries e keeps.kind keeps.mount keeps.document ∙ there) h.places);
   differ = differ-mapped edit s.entries h.differ;
   bodies = all-map (λ e. IsSound e.body) (edited edit) s.entries (all-weaker (λ e. IsSound e.body) (λ e. IsSound (edit e.body)) s.entries (λ e there. sound e.body there) h.bodies);
   limits = mapped-passes edit s keeps h.limits;

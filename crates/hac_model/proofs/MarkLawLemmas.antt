@@ -178,7 +178,7 @@ apart s dir item h removed =
     in_body (File text dirty shown) sound inside = refl
     in_body Dir sound inside = refl
     in_body (Symlink target) sound inside = refl
-    in_body (Mount space documents answers) sound inside = refl
+    in_body (Mount space answers) sound inside = refl
 
 pub removed-not_provided : (s : State) (dir item : ℕ) → IsValid s → is_prohibited s dir item ≡ true → provide s (column (links s) item) dir item ≡ is_below s dir item
 removed-not_provided s dir item h removed =

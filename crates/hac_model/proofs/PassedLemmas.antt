@@ -6,14 +6,14 @@ use Rattle.std.specs.List.{AllByRecursion}
 use Rattle.std.proofs.lemmas.Bool.{ltb-false, le-ltb}
 use Rattle.hac_model.specs.Tree.Events.{apply, changed_at, edited, indexed, is_bare, next_dirty, removed}
 use Rattle.hac_model.specs.Tree.Limits.{directory_count, passed_limit, text_size, file_bytes}
-use Rattle.hac_model.specs.Tree.{is_directory, is_file, is_symlink}
+use Rattle.hac_model.specs.Tree.{is_directory, is_linkable, is_mount, is_symlink}
 use Rattle.hac_model.specs.Tree.Valid.{IsLayout}
 use Rattle.hac_model.specs.declared.events.Event.TheVariants.{Rmdir, Step}
-use Rattle.hac_model.specs.declared.limits.TheConstants.{DIRS_LIMIT, SEMANTICS_LIMIT, SYMLINKS_LIMIT, ITEMS_LIMIT}
+use Rattle.hac_model.specs.declared.limits.TheConstants.{DIRS_LIMIT, SEMANTICS_LIMIT, MOUNTS_LIMIT, SYMLINKS_LIMIT, ITEMS_LIMIT}
 use Rattle.hac_model.specs.declared.states.Body.{Body}
 use Rattle.hac_model.specs.declared.states.State.{State}
 use Rattle.hac_model.proofs.ChangeLemmas.{is_kept}
-use Rattle.hac_model.proofs.CountLemmas.{directory_count-edited, directory_count-is, file_count-edited, indexed-keeps, KeepsKind, measured-fewer, one_if, is_queried, semantic_count-edited, symlink_count-edited, text_size-indexed}
+use Rattle.hac_model.proofs.CountLemmas.{directory_count-edited, directory_count-is, indexed-keeps, item_count-edited, KeepsKind, measured-fewer, mount_count-edited, one_if, is_queried, semantic_count-edited, symlink_count-edited, text_size-indexed}
 use Rattle.hac_model.proofs.DepthLemmas.{paths-edited, paths-removed}
 use Rattle.hac_model.proofs.LimitLemmas.{IsWithinLimits, limits-none, limits-within}
 use Rattle.hac_model.proofs.ValidLemmas.{bare-all}
@@ -30,9 +30,10 @@ edited-passes s n edit h keeps lighter =
       texts = smaller _ _ _ lighter old.texts;
       dirs = ap (λ (k : ℕ). nat_lt DIRS_LIMIT k) (directory_count-edited s n edit keeps) ∙ old.dirs;
       semantics = ap (λ (k : ℕ). nat_lt SEMANTICS_LIMIT k) (semantic_count-edited s n edit keeps) ∙ old.semantics;
+      mounts = ap (λ (k : ℕ). nat_lt MOUNTS_LIMIT k) (mount_count-edited s n edit keeps) ∙ old.mounts;
       symlinks = ap (λ (k : ℕ). nat_lt SYMLINKS_LIMIT k) (symlink_count-edited s n edit keeps) ∙ old.symlinks;
       paths = paths-edited s.entries n edit ∙ old.paths;
-      items = ap (λ (k : ℕ). nat_lt ITEMS_LIMIT k) (file_count-edited s n edit keeps) ∙ old.items;
+      items = ap (λ (k : ℕ). nat_lt ITEMS_LIMIT k) (item_count-edited s n edit keeps) ∙ old.items;
       numbers = old.numbers;
     })
 
@@ -51,9 +52,10 @@ removed-passes s n h bare =
       texts = smaller _ _ _ (measured-fewer file_bytes n s.entries) old.texts;
       dirs = smaller DIRS_LIMIT (directory_count (filter (is_kept n) s.entries)) (directory_count s.entries) (omega (arith, measured-fewer (one_if is_directory) n s.entries, directory_count-is s.entries, directory_count-is (filter (is_kept n) s.entries))) old.dirs;
       semantics = smaller _ _ _ (measured-fewer (one_if is_queried) n s.entries) old.semantics;
+      mounts = smaller _ _ _ (measured-fewer (one_if is_mount) n s.entries) old.mounts;
       symlinks = smaller _ _ _ (measured-fewer (one_if is_symlink) n s.entries) old.symlinks;
       paths = paths-removed s.entries n bare old.paths;
-      items = smaller _ _ _ (measured-fewer (one_if is_file) n s.entries) old.items;
+      items = smaller _ _ _ (measured-fewer (one_if is_linkable) n s.entries) old.items;
       numbers = old.numbers;
     })
 

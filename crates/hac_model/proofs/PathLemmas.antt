@@ -12,7 +12,7 @@ use Rattle.std.proofs.lemmas.List.{append-nil, length-map, length-reverse, rever
 use Rattle.std.proofs.lemmas.Slice.Eq.{bytes_eq-Decides, slice_eq-Decides}
 use Rattle.hac_model.specs.Tree.Looks.{has_names, destination}
 use Rattle.hac_model.specs.Tree.{ancestors, child, entry_at, extends, is_directory_at, is_path_short, lineage, path_of}
-use Rattle.hac_model.specs.Tree.Valid.{IsLayout}
+use Rattle.hac_model.specs.Tree.Valid.{IsLayout, is_in_place}
 use Rattle.hac_model.specs.declared.limits.TheConstants.{PATH_LIMIT}
 use Rattle.hac_model.specs.declared.places.Place.{Place}
 use Rattle.hac_model.specs.declared.places.Place.TheVariants.{There, Free}
@@ -21,7 +21,7 @@ use Rattle.hac_model.specs.declared.replies.Refusal.TheVariants.{NoPath, NotDir}
 use Rattle.hac_model.specs.declared.states.Entry.{Entry}
 use Rattle.hac_model.specs.declared.states.State.{State}
 use Rattle.hac_model.proofs.LimitLemmas.{IsWithinLimits, limits-within}
-use Rattle.hac_model.proofs.TreeLemmas.{Lives, child-own, directory-lives, entry_at-all, entry_at-low, entry_at-number}
+use Rattle.hac_model.proofs.TreeLemmas.{Lives, child-own, directory-lives, entry_at-all, entry_at-low, entry_at-number, place-directory}
 use Rattle.hac_model.proofs.Walks.{destination-walk, walk}
 
 -- what an entry leads to, or none
@@ -109,7 +109,7 @@ path_of-few s n h lives = subst (λ (k : ℕ). k ≤ PATH_LIMIT) (sym (length-pa
 
 -- what lives and isn't the root is in a directory, which lives
 pub parent-directory : (s : State) (n : ℕ) (e : Entry) → IsLayout s → entry_at s.entries n ≡ Some e → is_directory_at s.entries e.parent ≡ true
-parent-directory s n e h found = entry_at-all (λ e. IsTrue (is_directory_at s.entries e.parent)) s.entries n e h.parents found
+parent-directory s n e h found = place-directory s.entries e (entry_at-all (λ e. IsTrue (is_in_place s.entries e)) s.entries n e h.places found)
 
 pub parent-lives : (s : State) (n : ℕ) (e : Entry) → IsLayout s → entry_at s.entries n ≡ Some e → Lives s.entries e.parent
 parent-lives s n e h found = directory-lives s.entries e.parent (parent-directory s n e h found)

@@ -21,7 +21,7 @@ use Rattle.hac_model.specs.Payload.Payloads.{is_spellable, mark_field, name_fiel
 use Rattle.hac_model.specs.Query.Queries.{is_query}
 use Rattle.hac_model.specs.Payload.QueryFields.{are_nums, query_field}
 use Rattle.hac_model.specs.Tree.Sessions.{is_busy, is_stored, stored}
-use Rattle.hac_model.specs.Tree.{body_at, entry_at, is_directory, is_directory_at, is_file, is_file_at, is_leaf, path_of, query_in}
+use Rattle.hac_model.specs.Tree.{body_at, entry_at, is_directory, is_directory_at, is_file, is_file_at, is_leaf, path_of, query_in, is_linkable}
 use Rattle.hac_model.specs.Tree.Valid.{AsksWell, IsValid}
 use Rattle.hac_model.specs.declared.events.Event.{Event}
 use Rattle.hac_model.specs.declared.events.Event.TheVariants.{Mkdir, NewFile, Rewrite, Ln, Mv, Rm, Rmdir, Smkdir, Setq, Unq, Mark, Smount, Ssync, Sumount, Step, Cd}
@@ -145,7 +145,7 @@ module _ (s : State) (h : IsValid s) where
   possible-spelled (Unq dir) kept is = semantic-fits dir is
   possible-spelled (Mark set) kept is =
       let parts = mark-parts s set.dir set.item set.kind is in
-      and_from (num.fits set.dir) _ (semantic-fits set.dir parts.1) (and_from (num.fits set.item) (mark_field.fits set.kind) (tested-fits set.item is_file parts.0) (mark-fits set.dir set.item set.kind parts.2))
+      and_from (num.fits set.dir) _ (semantic-fits set.dir parts.1) (and_from (num.fits set.item) (mark_field.fits set.kind) (tested-fits set.item is_linkable parts.0) (mark-fits set.dir set.item set.kind parts.2))
   possible-spelled (Mv entry dir name) kept is =
       let parts = move-parts s entry dir name is in
       let place = place-fits dir name parts.1 in
@@ -170,12 +170,13 @@ stored-valid s h = record {
   layout = record {
     numbers = h.layout.numbers;
     names = h.layout.names;
-    parents = h.layout.parents;
+    places = h.layout.places;
     differ = h.layout.differ;
     bodies = h.layout.bodies;
     limits = h.layout.limits;
   };
   queries = all-weaker (λ e. AsksWell s e.body) (λ e. AsksWell (stored s) e.body) s.entries (λ e asks. asks-stays s (stored s) e.body (λ d there. there) (λ n there. there) asks) h.queries;
+  answers = h.answers;
   acyclic = h.acyclic;
   sessions = record { names = tt; differ = tt; there = tt; elsewhere = tt; few = refl };
 }

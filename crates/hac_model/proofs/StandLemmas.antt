@@ -5,14 +5,14 @@ use Rattle.std.proofs.lemmas.Bool.{and_from, and_parts}
 use Rattle.std.proofs.lemmas.List.Folds.{list_all-append}
 use Rattle.std.proofs.lemmas.Result.{IfOk-at_ok, IfOk-weaker}
 use Rattle.hac_model.specs.Run.Answers.{and_then}
-use Rattle.hac_model.specs.Run.Resolving.{wanted_directory, directory, directory_or_root, entry, item_and_dir, listed_directory, numbered_query, place, resolve, resolved, resolved_for, wanted_entry}
-use Rattle.hac_model.specs.Run.Standing.{AllStand, AreThere, StandsAt, is_there}
+use Rattle.hac_model.specs.Run.Resolving.{wanted_directory, directory, directory_or_root, entry, item_and_dir, listed_directory, numbered_query, place, resolve, resolved, resolved_for, wanted_entry, holder, mount_of, outside_mounts, own_entry, slot, wanted_holder, wanted_own}
+use Rattle.hac_model.specs.Run.Standing.{AllStand, AreThere, StandsAt, is_there, IsSlot, is_own}
 use Rattle.hac_model.specs.Tree.Depends.{named_in}
 use Rattle.hac_model.specs.Tree.Events.{are_directories, may_ask}
 use Rattle.hac_model.specs.Tree.Limits.{is_text}
 use Rattle.hac_model.specs.Tree.Paths.{are_names, join}
 use Rattle.hac_model.specs.Tree.Sessions.{stands_in}
-use Rattle.hac_model.specs.Tree.{is_directory_at, is_live, is_symlink_at, path_of}
+use Rattle.hac_model.specs.Tree.{is_directory_at, is_live, is_symlink_at, path_of, is_document_at, is_holder_at, is_mount_at}
 use Rattle.hac_model.specs.Tree.Valid.{IsLayout, IsValid}
 use Rattle.hac_model.specs.Query.Formula.{Formula}
 use Rattle.hac_model.specs.Query.Formula as query
@@ -29,13 +29,14 @@ use Rattle.hac_model.specs.declared.paths.PathWord.{PathWord}
 use Rattle.hac_model.specs.declared.places.Place.{Place}
 use Rattle.hac_model.specs.declared.places.Place.TheVariants.{There, Free}
 use Rattle.hac_model.specs.declared.replies.Refusal.{Refusal}
-use Rattle.hac_model.specs.declared.replies.Refusal.TheVariants.{NotDir}
+use Rattle.hac_model.specs.declared.replies.Refusal.TheVariants.{NotDir, InMount}
 use Rattle.hac_model.specs.declared.resolved.Resolved.{Resolved}
 use Rattle.hac_model.specs.declared.resolved.Resolved.TheVariants.{Mkdir, Rmdir, Write, Cat, Ls, Cd, Mv, Rm, Ln, Readlink, Smkdir, Setq, Unq, Query, Sls, Sln, Srm, Sforget, Find}
 use Rattle.hac_model.specs.declared.states.State.{State}
 use Rattle.hac_model.proofs.FollowLemmas.{look-follows, place-free, place-lives}
 use Rattle.hac_model.proofs.SessionLemmas.{session-there}
 use Rattle.hac_model.proofs.TreeLemmas.{directory-lives, live-is}
+use Rattle.hac_model.specs.Tree.Links.{parent_of}
 
 -- what is known of a value is known of what comes of it
 on-ok : {A B : Type 0} (P : A → Type 0) (Q : B → Type 0) (next : A → Result B Refusal) (r : Result A Refusal) → IfOk r P → ((x : A) → P x → IfOk (next x) Q) → IfOk (and_then next r) Q
@@ -79,6 +80,14 @@ module _ (s : State) (base : ℕ) (h : IsLayout s) (from : is_directory_at s.ent
       at (Ok (Free dir name)) is = place-free s base follow word dir name h (directory-lives s.entries base from) named is
       at (Err refusal) is = tt
 
+  -- a slot isn't in a mount either
+  slot-stands : (follow : Bool) (word : PathWord) → are_names word.names ≡ true → IfOk (slot s base follow word) (IsSlot s follow)
+  slot-stands follow word named = on-ok (StandsAt s follow) (IsSlot s follow) (outside_mounts s) (place s base follow word) (place-stands follow word named) (λ found stands. at found stands (mount_of s found) refl)
+    where
+      at : (found : Place) → StandsAt s follow found → (o : Option ℕ) → mount_of s found ≡ o → IfOk (option_map_or (λ mount. Err (InMount (path_of s mount))) o (Ok found)) (IsSlot s follow)
+      at found stands None none = (stands, none)
+      at found stands (Some mount) is = tt
+
   entry-stands : (follow : Bool) (word : PathWord) → IfOk (entry s base follow word) (IsThere follow)
   entry-stands follow word = at (place s base follow word) refl
     where
@@ -93,6 +102,26 @@ module _ (s : State) (base : ℕ) (h : IsLayout s) (from : is_directory_at s.ent
       at : (n : ℕ) (b : Bool) → is_directory_at s.entries n ≡ b → IfOk (if b then Ok n else Err (NotDir (path_of s n))) IsDirectory
       at n true is = is
       at n false is = tt
+
+  abbrev IsOwn : Bool → ℕ → Type 0
+  IsOwn follow n = IsTrue (is_own s follow n)
+
+  abbrev IsHolder : ℕ → Type 0
+  IsHolder n = IsTrue (is_holder_at s.entries n)
+
+  own-stands : (follow : Bool) (word : PathWord) → IfOk (own_entry s base follow word) (IsOwn follow)
+  own-stands follow word = on-ok (IsThere follow) (IsOwn follow) (wanted_own s) (entry s base follow word) (entry-stands follow word) (λ n there. at n there (is_document_at s.entries n) refl)
+    where
+      at : (n : ℕ) → IsThere follow n → (b : Bool) → is_document_at s.entries n ≡ b → IfOk (if b then Err (InMount (path_of s (parent_of s n))) else Ok n) (IsOwn follow)
+      at n there true is = tt
+      at n there false is = and_from (is_there s follow n) (not (is_document_at s.entries n)) there (ap not is)
+
+  holder-stands : (word : PathWord) → IfOk (holder s base word) IsHolder
+  holder-stands word = on-ok IsDirectory IsHolder (wanted_holder s) (directory s base word) (directory-stands word) (λ n there. at n there (is_mount_at s.entries n) refl)
+    where
+      at : (n : ℕ) → IsDirectory n → (b : Bool) → is_mount_at s.entries n ≡ b → IfOk (if b then Err (InMount (path_of s n)) else Ok n) IsHolder
+      at n there true is = tt
+      at n there false is = and_from (is_directory_at s.entries n) (not (is_mount_at s.entries n)) there (ap not is)
 
   listed-stands : (word : Option PathWord) → IfOk (listed_directory s base word) IsDirectory
   listed-stands (Some word) = directory-stands word
@@ -149,12 +178,18 @@ module _ (s : State) (base : ℕ) (h : IsLayout s) (from : is_directory_at s.ent
           let same : is_query asked ≡ is_query raw = λ i. is.terms i && nat_le (is.count i) TERMS_LIMIT && nat_le (is.letters i) QUERY_LIMIT && nat_le (is.nots i) NESTING_LIMIT in
           and_from (is_query asked) (are_directories s (named_in asked)) (same ∙ parts.0) is.named
 
-  -- one path, to a place, an entry or a directory
-  at-place : (make : Place → Resolved) (follow : Bool) (word : PathWord) → are_names word.names ≡ true → ((p : Place) → StandsAt s follow p → AllStand s (make p)) → IfOk (and_then (λ p. Ok (make p)) (place s base follow word)) (AllStand s)
-  at-place make follow word named known = on-ok (StandsAt s follow) (AllStand s) (λ p. Ok (make p)) (place s base follow word) (place-stands follow word named) known
+  -- one path, to a slot, an entry or a directory
+  at-slot : (make : Place → Resolved) (follow : Bool) (word : PathWord) → are_names word.names ≡ true → ((p : Place) → IsSlot s follow p → AllStand s (make p)) → IfOk (and_then (λ p. Ok (make p)) (slot s base follow word)) (AllStand s)
+  at-slot make follow word named known = on-ok (IsSlot s follow) (AllStand s) (λ p. Ok (make p)) (slot s base follow word) (slot-stands follow word named) known
 
   at-entry : (make : ℕ → Resolved) (follow : Bool) (word : PathWord) → ((n : ℕ) → IsThere follow n → AllStand s (make n)) → IfOk (and_then (λ n. Ok (make n)) (entry s base follow word)) (AllStand s)
   at-entry make follow word known = on-ok (IsThere follow) (AllStand s) (λ n. Ok (make n)) (entry s base follow word) (entry-stands follow word) known
+
+  at-own : (make : ℕ → Resolved) (follow : Bool) (word : PathWord) → ((n : ℕ) → IsOwn follow n → AllStand s (make n)) → IfOk (and_then (λ n. Ok (make n)) (own_entry s base follow word)) (AllStand s)
+  at-own make follow word known = on-ok (IsOwn follow) (AllStand s) (λ n. Ok (make n)) (own_entry s base follow word) (own-stands follow word) known
+
+  at-holder : (make : ℕ → Resolved) (word : PathWord) → ((n : ℕ) → IsHolder n → AllStand s (make n)) → IfOk (and_then (λ n. Ok (make n)) (holder s base word)) (AllStand s)
+  at-holder make word known = on-ok IsHolder (AllStand s) (λ n. Ok (make n)) (holder s base word) (holder-stands word) known
 
   at-directory : (make : ℕ → Resolved) (word : PathWord) → ((n : ℕ) → IsDirectory n → AllStand s (make n)) → IfOk (and_then (λ n. Ok (make n)) (directory s base word)) (AllStand s)
   at-directory make word known = on-ok IsDirectory (AllStand s) (λ n. Ok (make n)) (directory s base word) (directory-stands word) known
@@ -172,30 +207,30 @@ module _ (s : State) (base : ℕ) (h : IsLayout s) (from : is_directory_at s.ent
       at-directory (make n) dir (λ m there. known n m (lives, there)))
 
   resolved-stands : (c : Command) → is_spelled c ≡ true → IfOk (resolved s base c) (AllStand s)
-  resolved-stands (command.Mkdir path) spelled = at-place Mkdir true path spelled (λ p there. there)
-  resolved-stands (command.Rmdir path) spelled = at-directory Rmdir path (λ n there. there)
+  resolved-stands (command.Mkdir path) spelled = at-slot Mkdir true path spelled (λ p there. there)
+  resolved-stands (command.Rmdir path) spelled = at-holder Rmdir path (λ n there. there)
   resolved-stands (command.Write path text) spelled =
       let parts = and_parts (is_spelled_word path) (is_text text) spelled in
-      at-place (λ p. Write p text) true path parts.0 (λ p there. (there, parts.1))
+      at-slot (λ p. Write p text) true path parts.0 (λ p there. (there, parts.1))
   resolved-stands (command.Cat path) spelled = at-entry Cat true path (λ n lives. lives)
   resolved-stands (command.Ls path) spelled = at-listed Ls path (λ n there. there)
   resolved-stands command.Pwd spelled = from
   resolved-stands (command.Mv from to) spelled =
       let parts = and_parts (is_spelled_word from) (is_spelled_word to) spelled in
-      on-ok (IsThere false) (AllStand s) (λ n. and_then (λ p. Ok (Mv n p)) (place s base false to)) (entry s base false from) (entry-stands false from) (λ n lives.
-      at-place (Mv n) false to parts.1 (λ p there. (lives, there)))
-  resolved-stands (command.Rm path) spelled = at-entry Rm false path (λ n lives. lives)
+      on-ok (IsOwn false) (AllStand s) (λ n. and_then (λ p. Ok (Mv n p)) (slot s base false to)) (own_entry s base false from) (own-stands false from) (λ n lives.
+      at-slot (Mv n) false to parts.1 (λ p there. (lives, there)))
+  resolved-stands (command.Rm path) spelled = at-own Rm false path (λ n lives. lives)
   resolved-stands (command.Ln target path) spelled =
       let parts = and_parts (is_target target) (is_spelled_word path) spelled in
-      at-place (λ p. Ln p target) false path parts.1 (λ p there. (there, parts.0))
+      at-slot (λ p. Ln p target) false path parts.1 (λ p there. (there, parts.0))
   resolved-stands (command.Readlink path) spelled = at-entry Readlink false path (λ n lives. lives)
   resolved-stands (command.Smkdir path raw) spelled =
       let parts = and_parts (is_spelled_word path) (is_spelled_query raw) spelled in
-      on-ok (StandsAt s true) (AllStand s) (λ p. and_then (λ q. Ok (Smkdir p q)) (numbered_query s base raw)) (place s base true path) (place-stands true path parts.0) (λ p there.
+      on-ok (IsSlot s true) (AllStand s) (λ p. and_then (λ q. Ok (Smkdir p q)) (numbered_query s base raw)) (slot s base true path) (slot-stands true path parts.0) (λ p there.
       asking (Smkdir p) raw parts.1 (λ q may. (there, may)))
   resolved-stands (command.Setq path raw) spelled =
       let parts = and_parts (is_spelled_word path) (is_spelled_query raw) spelled in
-      on-ok IsDirectory (AllStand s) (λ n. and_then (λ q. Ok (Setq n q)) (numbered_query s base raw)) (directory s base path) (directory-stands path) (λ n there.
+      on-ok IsHolder (AllStand s) (λ n. and_then (λ q. Ok (Setq n q)) (numbered_query s base raw)) (holder s base path) (holder-stands path) (λ n there.
       asking (Setq n) raw parts.1 (λ q may. (there, may)))
   resolved-stands (command.Unq path) spelled = at-directory Unq path (λ n there. there)
   resolved-stands (command.Query path) spelled = at-directory Query path (λ n there. there)

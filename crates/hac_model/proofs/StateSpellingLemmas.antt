@@ -138,7 +138,7 @@ module _ (s : State) (h : IsValid s) where
   body-fits (Symlink target) sound asks = sound
   body-fits (Semantic query permanent prohibited) sound asks =
       and_from (query_field.fits query) _ (query-fits query asks.fits) (and_from (nums.fits permanent) (nums.fits prohibited) (marks-fit permanent asks.added) (marks-fit prohibited asks.removed))
-  body-fits (Mount space documents answers) sound asks = absurd sound
+  body-fits (Mount space answers) sound asks = absurd sound
 
   entries-fit : (above : ℕ) (last : Option Entry) (es : List Entry) → ((n : ℕ) → above < n → rises nat_lt (option_map (λ (e : Entry). e.number) last) n ≡ true)
       → NumbersRise above es s.next

@@ -1,15 +1,15 @@
 -- Look-ups among entries: by number, and by directory and name.
 use Rattle.std.proofs.Common.{◌≡◌, ℕ, zero, suc, ◌<◌, ◌≤◌, Bool, true, false, cond, List, [], ◌∷◌, length, get_or, subst, refl, ap, sym, ◌∙◌, arith, eq-eqb, inl, inr}
-use Rattle.std.specs.Prelude.{◌⊎◌, ◌==◌, ◌&&◌, ◌||◌, Option, Some, None, is_some}
+use Rattle.std.specs.Prelude.{◌⊎◌, ◌==◌, ◌&&◌, ◌||◌, if◌then◌else◌, not, Option, Some, None, is_some}
 use Rattle.std.specs.Option.{option_map, option_map_or}
 use Rattle.std.specs.List.{AllByRecursion}
 use Rattle.std.specs.Str.{bytes_eq}
 use Rattle.std.proofs.lemmas.Bool.{and_from, and_parts, cases_lt, eqb-true, ne_eqb}
 use Rattle.std.proofs.lemmas.Slice.Eq.{bytes_eq-Decides}
-use Rattle.hac_model.specs.Tree.{child, entry_at, is_directory, is_directory_at, is_file, is_file_at, is_leaf, is_leaf_at, is_symlink, is_made_directory, is_live}
-use Rattle.hac_model.specs.Tree.Valid.{NamesDiffer, NumbersRise}
+use Rattle.hac_model.specs.Tree.{body_at, child, entry_at, is_directory, is_directory_at, is_document, is_file, is_file_at, is_holder_at, is_leaf, is_leaf_at, is_linkable, is_symlink, is_made_directory, is_mount, is_mount_at, is_live}
+use Rattle.hac_model.specs.Tree.Valid.{NamesDiffer, NumbersRise, is_in_place}
 use Rattle.hac_model.specs.declared.states.Body.{Body}
-use Rattle.hac_model.specs.declared.states.Body.TheVariants.{File, Dir, Symlink, Semantic, Mount}
+use Rattle.hac_model.specs.declared.states.Body.TheVariants.{File, Dir, Symlink, Semantic, Mount, Document}
 use Rattle.hac_model.specs.declared.states.Entry.{Entry}
 
 -- the root, or an entry
@@ -187,21 +187,26 @@ other_kind (File text dirty shown) h = absurd cc
 other_kind Dir h = refl
 other_kind (Semantic query permanent prohibited) h = refl
 other_kind (Symlink target) h = absurd cc
-other_kind (Mount space documents answers) h = refl
+other_kind (Mount space answers) h = refl
+other_kind Document h = absurd cc
 
--- a directory is no leaf
-pub directory-no_leaf : (es : List Entry) (d : ℕ) → entry_at es 0 ≡ None → is_directory_at es d ≡ true → is_leaf_at es d ≡ false
-directory-no_leaf es d root h =
-    elim (entry_at es d) as (λ o. entry_at es d ≡ o → (d == 0 || option_map_or is_directory (option_map (λ (e : Entry). e.body) o) false) ≡ true → option_map_or is_leaf (option_map (λ (e : Entry). e.body) o) false ≡ false) [
+-- a directory fails a test that all directories fail
+directory-tests : (test : Body → Bool) → ((body : Body) → is_directory body ≡ true → test body ≡ false) → (es : List Entry) (d : ℕ) → entry_at es 0 ≡ None → is_directory_at es d ≡ true → option_map_or test (body_at es d) false ≡ false
+directory-tests test fails es d root h =
+    elim (entry_at es d) as (λ o. entry_at es d ≡ o → (d == 0 || option_map_or is_directory (option_map (λ (e : Entry). e.body) o) false) ≡ true → option_map_or test (option_map (λ (e : Entry). e.body) o) false ≡ false) [
       | None ↦ (λ found h. refl)
       | Some e ↦ (λ found h. made e found h)
     ] refl h
   where
-    made : (e : Entry) → entry_at es d ≡ Some e → (d == 0 || is_directory e.body) ≡ true → is_leaf e.body ≡ false
-    made e found h = elim (d == 0) as (λ b. (d == 0) ≡ b → (b || is_directory e.body) ≡ true → is_leaf e.body ≡ false) [
+    made : (e : Entry) → entry_at es d ≡ Some e → (d == 0 || is_directory e.body) ≡ true → test e.body ≡ false
+    made e found h = elim (d == 0) as (λ b. (d == 0) ≡ b → (b || is_directory e.body) ≡ true → test e.body ≡ false) [
       | true ↦ (λ here h. let none : entry_at es d ≡ None = subst (λ (k : ℕ). entry_at es k ≡ None) (sym (eqb-true d 0 here)) root in absurd cc)
-      | false ↦ (λ here h. other_kind e.body h)
+      | false ↦ (λ here h. fails e.body h)
     ] refl h
+
+-- a directory is no leaf
+pub directory-no_leaf : (es : List Entry) (d : ℕ) → entry_at es 0 ≡ None → is_directory_at es d ≡ true → is_leaf_at es d ≡ false
+directory-no_leaf es d root h = directory-tests is_leaf other_kind es d root h
 
 -- a file is one
 pub file-leaf : (es : List Entry) (n : ℕ) → is_file_at es n ≡ true → is_leaf_at es n ≡ true
@@ -210,3 +215,57 @@ file-leaf es n h =
       | None ↦ (λ h. absurd cc)
       | Some e ↦ (λ h. ap (λ (b : Bool). b || is_symlink e.body) h)
     ] h
+
+-- a mount is a directory
+pub mount-directory : (es : List Entry) (d : ℕ) → is_mount_at es d ≡ true → is_directory_at es d ≡ true
+mount-directory es d h = or-right (d == 0) (is_made_directory es d) (elim (entry_at es d) as (λ o. option_map_or is_mount (option_map (λ (e : Entry). e.body) o) false ≡ true → option_map_or is_directory (option_map (λ (e : Entry). e.body) o) false ≡ true) [
+  | None ↦ (λ h. absurd cc)
+  | Some e ↦ (λ h. body e.body h)
+] h)
+  where
+    or-right : (a b : Bool) → b ≡ true → (a || b) ≡ true
+    or-right true b h = refl
+    or-right false b h = h
+
+    body : (b : Body) → is_mount b ≡ true → is_directory b ≡ true
+    body (Mount space answers) h = refl
+    body (File text dirty shown) h = absurd cc
+    body Dir h = absurd cc
+    body (Symlink target) h = absurd cc
+    body (Semantic query permanent prohibited) h = absurd cc
+    body Document h = absurd cc
+
+-- what is in place is in a directory
+pub place-directory : (es : List Entry) (e : Entry) → is_in_place es e ≡ true → is_directory_at es e.parent ≡ true
+place-directory es e h =
+    elim (is_document e.body) as (λ b. (if b then is_mount_at es e.parent else is_holder_at es e.parent) ≡ true → is_directory_at es e.parent ≡ true) [
+      | true ↦ (λ mount. mount-directory es e.parent mount)
+      | false ↦ (λ holder. (and_parts (is_directory_at es e.parent) (not (is_mount_at es e.parent)) holder).0)
+    ] h
+
+-- it stays in place where the entry of its directory stays
+pub place-same : (es fs : List Entry) (e : Entry) → entry_at fs e.parent ≡ entry_at es e.parent → is_in_place fs e ≡ is_in_place es e
+place-same es fs e same = ap (λ (o : Option Entry).
+    if is_document e.body then option_map_or is_mount (option_map (λ (e : Entry). e.body) o) false
+    else ((e.parent == 0 || option_map_or is_directory (option_map (λ (e : Entry). e.body) o) false) && not (option_map_or is_mount (option_map (λ (e : Entry). e.body) o) false))) same
+
+-- a document is nothing else
+pub document-leaf : (body : Body) → is_document body ≡ true → is_leaf body ≡ false
+document-leaf Document h = refl
+document-leaf (File text dirty shown) h = absurd cc
+document-leaf Dir h = absurd cc
+document-leaf (Symlink target) h = absurd cc
+document-leaf (Semantic query permanent prohibited) h = absurd cc
+document-leaf (Mount space answers) h = absurd cc
+
+no_linkable : (body : Body) → is_directory body ≡ true → is_linkable body ≡ false
+no_linkable Dir h = refl
+no_linkable (Semantic query permanent prohibited) h = refl
+no_linkable (Mount space answers) h = refl
+no_linkable (File text dirty shown) h = absurd cc
+no_linkable (Symlink target) h = absurd cc
+no_linkable Document h = absurd cc
+
+-- a directory is nothing that can be linked
+pub directory-no_item : (es : List Entry) (d : ℕ) → entry_at es 0 ≡ None → is_directory_at es d ≡ true → option_map_or is_linkable (body_at es d) false ≡ false
+directory-no_item es d root h = directory-tests is_linkable no_linkable es d root h

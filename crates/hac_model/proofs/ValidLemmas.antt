@@ -1,10 +1,10 @@
 -- Events keep a tree one.
-use Rattle.std.proofs.Common.{◌≡◌, ℕ, Bool, true, false, List, [], ◌∷◌, length, refl, ap, sym, ◌∙◌, arith}
-use Rattle.std.specs.Prelude.{◌&&◌, ◌==◌, not, Option, Some, None, IsTrue, is_none, is_some}
-use Rattle.std.specs.Option.{option_map_or}
+use Rattle.std.proofs.Common.{◌≡◌, ℕ, ◌<◌, inl, inr, Bool, true, false, List, [], ◌∷◌, length, refl, ap, sym, ◌∙◌, arith}
+use Rattle.std.specs.Prelude.{◌&&◌, ◌==◌, if◌then◌else◌, not, Option, Some, None, IsTrue, is_none, is_some}
+use Rattle.std.specs.Option.{option_map, option_map_or}
 use Rattle.std.specs.List.{AllByRecursion}
-use Rattle.std.proofs.lemmas.Bool.{and_parts, eqb-false, not-true}
-use Rattle.hac_model.specs.Tree.Events.{accepted, added, apply, asking, changed_in, changed_at, edited, forgetting, forgotten, indexed, is_bare, is_free, is_inside, is_possible, is_unreferenced, marked, may_ask, may_mark, next_dirty, plain_body, removed, reseated, rewritten, is_placed}
+use Rattle.std.proofs.lemmas.Bool.{and_from, and_parts, eqb-false, eqb-true, not-true}
+use Rattle.hac_model.specs.Tree.Events.{accepted, added, apply, asking, changed_in, changed_at, edited, first_asked, forgetting, forgotten, indexed, is_bare, is_free, is_inside, is_made_holder, is_possible, is_unreferenced, marked, may_ask, may_mark, next_dirty, plain_body, removed, reseated, rewritten, is_placed, is_vacant}
 use Rattle.hac_model.specs.Tree.Depends.{cycle_of_move, cycle_over}
 use Rattle.hac_model.specs.Query.Formula.{Formula}
 use Rattle.hac_model.specs.Tree.Limits.{first_passed, is_text, passed_limit, file_bytes}
@@ -12,8 +12,8 @@ use Rattle.hac_model.specs.Tree.Links.{is_item, is_semantic, parent_of}
 use Rattle.hac_model.specs.Script.PathWords.{is_target}
 use Rattle.hac_model.specs.Tree.Names.{is_name}
 use Rattle.hac_model.specs.Tree.Sessions.{is_busy}
-use Rattle.hac_model.specs.Tree.{child, empty, entry_at, is_directory, is_directory_at, is_file, is_file_at, is_leaf_at, is_made_directory, is_symlink, query_in}
-use Rattle.hac_model.specs.Tree.Valid.{IsLayout, IsSound, IsSoundFile}
+use Rattle.hac_model.specs.Tree.{child, empty, entry_at, is_directory, is_directory_at, is_document, is_document_at, is_file, is_file_at, is_holder_at, is_leaf_at, is_made_directory, is_mount, is_mount_at, is_symlink, query_in}
+use Rattle.hac_model.specs.Tree.Valid.{IsLayout, IsSound, IsSoundFile, NumbersRise, is_in_place}
 use Rattle.hac_model.specs.declared.events.Event.{Event}
 use Rattle.hac_model.specs.declared.events.Event.TheVariants.{Mkdir, NewFile, Rewrite, Ln, Mark, Mv, Rm, Rmdir, Setq, Smkdir, Step, Unq, Cd}
 use Rattle.hac_model.specs.declared.limits.LimitWord.{LimitWord}
@@ -23,14 +23,15 @@ use Rattle.hac_model.specs.declared.states.Body.{Body}
 use Rattle.hac_model.specs.declared.states.Body.TheVariants.{File, Dir, Symlink, Semantic}
 use Rattle.hac_model.specs.declared.states.Entry.{Entry}
 use Rattle.hac_model.specs.declared.states.State.{State}
-use Rattle.hac_model.proofs.ChangeLemmas.{all-append, all-changed, all-filter, all-weaker, differ-append, differ-edited, differ-kept, differ-reseated, directory-append, directory-changed, directory-kept, is_kept, numbers-append, numbers-changed, numbers-kept}
+use Rattle.hac_model.proofs.ChangeLemmas.{all-append, all-changed, all-filter, all-weaker, differ-append, differ-edited, differ-kept, differ-reseated, directory-changed, entry_at-kept, entry_at-other, is_kept, numbers-append, numbers-changed, numbers-kept, test-changed}
+use Rattle.hac_model.proofs.CountLemmas.{indexed-keeps, rewritten-keeps}
 use Rattle.hac_model.proofs.MapLemmas.{KeepsMeasures, mapped-layout, measures-passed}
 use Rattle.hac_model.proofs.PathLemmas.{root-none}
-use Rattle.hac_model.proofs.TreeLemmas.{directory-no_leaf}
+use Rattle.hac_model.proofs.TreeLemmas.{Lives, directory-lives, directory-no_leaf, entry_at-behind, entry_at-below, entry_at-first, place-directory, place-same, rise-below}
 
 pub empty-layout : IsLayout empty
 unfolding passed_limit first_passed
-empty-layout = record { numbers = omega arith; names = tt; parents = tt; differ = tt; bodies = tt; limits = refl }
+empty-layout = record { numbers = omega arith; names = tt; places = tt; differ = tt; bodies = tt; limits = refl }
 
 pub none_from : {X : Type 0} (o : Option X) → is_none o ≡ true → o ≡ None
 none_from None h = refl
@@ -39,53 +40,116 @@ none_from (Some x) h = absurd cc
 -- what a free place is
 pub free-parts : (s : State) (dir : ℕ) (name : List ℕ) → is_free s dir name ≡ true → (is_directory_at s.entries dir ≡ true) × (is_name name ≡ true) × (child s.entries dir name ≡ None)
 free-parts s dir name free =
-    let parts = and_parts (is_directory_at s.entries dir && is_name name) (is_none (child s.entries dir name)) free in
+    let vacant = and_parts (is_vacant s dir name) (not (is_mount_at s.entries dir)) free in
+    let parts = and_parts (is_directory_at s.entries dir && is_name name) (is_none (child s.entries dir name)) vacant.0 in
     let first = and_parts (is_directory_at s.entries dir) (is_name name) parts.0 in
     (first.0, first.1, none_from (child s.entries dir name) parts.1)
 
+-- users can put entries there
+pub free-holder : (s : State) (dir : ℕ) (name : List ℕ) → is_free s dir name ≡ true → is_holder_at s.entries dir ≡ true
+free-holder s dir name free =
+    let vacant = and_parts (is_vacant s dir name) (not (is_mount_at s.entries dir)) free in
+    and_from (is_directory_at s.entries dir) (not (is_mount_at s.entries dir)) (free-parts s dir name free).0 vacant.1
+
+-- directories have lower numbers than the next entry
+pub directory-below : (s : State) (d : ℕ) → IsLayout s → is_directory_at s.entries d ≡ true → d < s.next
+directory-below s d h there = below (directory-lives s.entries d there)
+  where
+    below : Lives s.entries d → d < s.next
+    below (inl root) = let more : 0 < s.next = rise-below 0 s.entries s.next h.numbers in omega (arith, root)
+    below (inr found) = entry_at-below 0 s.entries s.next d found.0 h.numbers found.1
+
 -- a free place, taken by a sound body
-pub added-layout : (s : State) (dir : ℕ) (name : List ℕ) (body : Body) → IsLayout s → is_free s dir name ≡ true → IsSound body → passed_limit (added s dir name body) ≡ None → IsLayout (added s dir name body)
-added-layout s dir name body h free sound limits =
+pub added-layout : (s : State) (dir : ℕ) (name : List ℕ) (body : Body) → IsLayout s → is_free s dir name ≡ true → IsSound body → is_document body ≡ false → passed_limit (added s dir name body) ≡ None → IsLayout (added s dir name body)
+added-layout s dir name body h free sound kind limits =
     let parts = free-parts s dir name free in
     let new : Entry = record { number = s.next; parent = dir; name = name; body = body } in
-    let stay = all-weaker (λ e. IsTrue (is_directory_at s.entries e.parent)) (λ e. IsTrue (is_directory_at (added s dir name body).entries e.parent)) s.entries (λ e there. directory-append s.entries new e.parent there) h.parents in
+    let same : (d : ℕ) → is_directory_at s.entries d ≡ true → entry_at (added s dir name body).entries d ≡ entry_at s.entries d = λ d there. entry_at-other s.entries new d (λ here. (let below : d < s.next = directory-below s d h there in omega (arith, here, below))) in
+    let stay = all-weaker (λ e. IsTrue (is_in_place s.entries e)) (λ e. IsTrue (is_in_place (added s dir name body).entries e)) s.entries (λ e there. place-same s.entries (added s dir name body).entries e (same e.parent (place-directory s.entries e there)) ∙ there) h.places in
+    let placed : is_in_place s.entries new ≡ true = ap (λ (b : Bool). if b then is_mount_at s.entries dir else is_holder_at s.entries dir) kind ∙ free-holder s dir name free in
     record {
       numbers = numbers-append 0 s.entries new s.next h.numbers refl;
       names = all-append (λ e. IsTrue (is_name e.name)) s.entries new h.names parts.1;
-      parents = all-append (λ e. IsTrue (is_directory_at (added s dir name body).entries e.parent)) s.entries new stay (directory-append s.entries new dir parts.0);
+      places = all-append (λ e. IsTrue (is_in_place (added s dir name body).entries e)) s.entries new stay (place-same s.entries (added s dir name body).entries new (same dir parts.0) ∙ placed);
       differ = differ-append s.entries new h.differ parts.2;
       bodies = all-append (λ e. IsSound e.body) s.entries new h.bodies sound;
       limits = limits;
     }
 
+-- the edit keeps directories, mounts and documents
+pub record KeepsPlaces (edit : Body → Body) : Type 0 where
+  pub directories : (body : Body) → is_directory (edit body) ≡ is_directory body
+  pub mounts : (body : Body) → is_mount (edit body) ≡ is_mount body
+  pub documents : (body : Body) → is_document (edit body) ≡ is_document body
+
+-- what is in place stays there where one entry is changed, but for its place
+pub place-changed : (n : ℕ) (change : Entry → Entry) (es : List Entry) (e : Entry) → ((e : Entry) → (change e).number ≡ e.number) → ((e : Entry) → is_directory (change e).body ≡ is_directory e.body) → ((e : Entry) → is_mount (change e).body ≡ is_mount e.body) →
+    is_in_place (changed_in n change es) e ≡ is_in_place es e
+place-changed n change es e numbers directories mounts = λ i.
+    if is_document e.body then mount i else (directory-changed n change es e.parent numbers directories i && not (mount i))
+  where
+    mount : is_mount_at (changed_in n change es) e.parent ≡ is_mount_at es e.parent
+    mount = test-changed is_mount n change es e.parent numbers mounts
+
 -- a body is edited, and stays of its kind
-pub edited-layout : (s : State) (n : ℕ) (edit : Body → Body) → ((body : Body) → is_directory (edit body) ≡ is_directory body) → ((body : Body) → IsSound body → IsSound (edit body)) → IsLayout s → passed_limit (changed_at s n (edited edit)) ≡ None → IsLayout (changed_at s n (edited edit))
+pub edited-layout : (s : State) (n : ℕ) (edit : Body → Body) → KeepsPlaces edit → ((body : Body) → IsSound body → IsSound (edit body)) → IsLayout s → passed_limit (changed_at s n (edited edit)) ≡ None → IsLayout (changed_at s n (edited edit))
 edited-layout s n edit kind sound h limits =
     let change : Entry → Entry = edited edit in
-    let same : (d : ℕ) → is_directory_at (changed_in n change s.entries) d ≡ is_directory_at s.entries d = λ d. directory-changed n change s.entries d (λ e. refl) (λ e. kind e.body) in
+    let stay : (e : Entry) → is_in_place (changed_in n change s.entries) e ≡ is_in_place s.entries e = λ e. place-changed n change s.entries e (λ e. refl) (λ e. kind.directories e.body) (λ e. kind.mounts e.body) in
     record {
       numbers = numbers-changed n change 0 s.entries s.next (λ e. refl) h.numbers;
       names = all-changed (λ e. IsTrue (is_name e.name)) n change s.entries (λ e there. there) h.names;
-      parents = all-changed (λ e. IsTrue (is_directory_at (changed_in n change s.entries) e.parent)) n change s.entries (λ e there. there) (all-weaker (λ e. IsTrue (is_directory_at s.entries e.parent)) (λ e. IsTrue (is_directory_at (changed_in n change s.entries) e.parent)) s.entries (λ e there. same e.parent ∙ there) h.parents);
+      places = all-changed (λ e. IsTrue (is_in_place (changed_in n change s.entries) e)) n change s.entries
+          (λ e there. ap (λ (b : Bool). if b then is_mount_at (changed_in n change s.entries) e.parent else is_holder_at (changed_in n change s.entries) e.parent) (kind.documents e.body) ∙ there)
+          (all-weaker (λ e. IsTrue (is_in_place s.entries e)) (λ e. IsTrue (is_in_place (changed_in n change s.entries) e)) s.entries (λ e there. stay e ∙ there) h.places);
       differ = differ-edited n edit s.entries h.differ;
       bodies = all-changed (λ e. IsSound e.body) n change s.entries (λ e there. sound e.body there) h.bodies;
       limits = limits;
     }
 
--- an entry goes to a free place
-pub reseated-layout : (s : State) (n dir : ℕ) (name : List ℕ) → IsLayout s → is_free s dir name ≡ true → passed_limit (changed_at s n (reseated dir name)) ≡ None → IsLayout (changed_at s n (reseated dir name))
-reseated-layout s n dir name h free limits =
+-- the numbers of entries are above what they have to be above
+rise-above : (above : ℕ) (es : List Entry) (next : ℕ) → NumbersRise above es next → AllByRecursion (λ e. above < e.number) es
+rise-above above [] next h = tt
+rise-above above (e ∷ es) next h = (h.0, all-weaker (λ f. e.number < f.number) (λ f. above < f.number) es (λ f more. let first : above < e.number = h.0 in omega arith) (rise-above e.number es next h.1))
+
+-- each entry is the one of its number
+pub found-all : (above : ℕ) (es : List Entry) (next : ℕ) → NumbersRise above es next → AllByRecursion (λ e. entry_at es e.number ≡ Some e) es
+found-all above [] next h = tt
+found-all above (e ∷ es) next h = (entry_at-first e es, behind es (rise-above e.number es next h.1) (found-all e.number es next h.1))
+  where
+    behind : (rest : List Entry) → AllByRecursion (λ f. e.number < f.number) rest → AllByRecursion (λ f. entry_at es f.number ≡ Some f) rest → AllByRecursion (λ f. entry_at (e ∷ es) f.number ≡ Some f) rest
+    behind [] more found = tt
+    behind (f ∷ rest) more found = (entry_at-behind e es f.number (λ same. let above : e.number < f.number = more.0 in omega (arith, same, above)) ∙ found.0, behind rest more.1 found.1)
+
+-- all entries have what each has, where the one of the number has it once it is changed
+all-touched : (P : Entry → Type 0) (n : ℕ) (change : Entry → Entry) (all es : List Entry) → ((e : Entry) → entry_at all n ≡ Some e → P (change e)) → AllByRecursion (λ e. entry_at all e.number ≡ Some e) es → AllByRecursion P es → AllByRecursion P (changed_in n change es)
+all-touched P n change all [] own found h = tt
+all-touched P n change all (e ∷ es) own found h =
+    (elim (e.number == n) as (λ b. (e.number == n) ≡ b → P (if b then change e else e)) [
+      | true ↦ (λ here. own e (ap (entry_at all) (sym (eqb-true e.number n here)) ∙ found.0))
+      | false ↦ (λ _. h.0)
+    ] refl, all-touched P n change all es own found.1 h.1)
+
+-- an entry that is no document goes to a free place
+pub reseated-layout : (s : State) (n dir : ℕ) (name : List ℕ) → IsLayout s → is_free s dir name ≡ true → is_document_at s.entries n ≡ false → passed_limit (changed_at s n (reseated dir name)) ≡ None → IsLayout (changed_at s n (reseated dir name))
+reseated-layout s n dir name h free kind limits =
     let parts = free-parts s dir name free in
     let change : Entry → Entry = reseated dir name in
-    let same : (d : ℕ) → is_directory_at (changed_in n change s.entries) d ≡ is_directory_at s.entries d = λ d. directory-changed n change s.entries d (λ e. refl) (λ e. refl) in
+    let stay : (e : Entry) → is_in_place (changed_in n change s.entries) e ≡ is_in_place s.entries e = λ e. place-changed n change s.entries e (λ e. refl) (λ e. refl) (λ e. refl) in
     record {
       numbers = numbers-changed n change 0 s.entries s.next (λ e. refl) h.numbers;
       names = all-changed (λ e. IsTrue (is_name e.name)) n change s.entries (λ e there. parts.1) h.names;
-      parents = all-changed (λ e. IsTrue (is_directory_at (changed_in n change s.entries) e.parent)) n change s.entries (λ e there. same dir ∙ parts.0) (all-weaker (λ e. IsTrue (is_directory_at s.entries e.parent)) (λ e. IsTrue (is_directory_at (changed_in n change s.entries) e.parent)) s.entries (λ e there. same e.parent ∙ there) h.parents);
+      places = all-touched (λ e. IsTrue (is_in_place (changed_in n change s.entries) e)) n change s.entries s.entries
+          (λ e found. stay (change e) ∙ ap (λ (b : Bool). if b then is_mount_at s.entries dir else is_holder_at s.entries dir) (own e found) ∙ free-holder s dir name free)
+          (found-all 0 s.entries s.next h.numbers)
+          (all-weaker (λ e. IsTrue (is_in_place s.entries e)) (λ e. IsTrue (is_in_place (changed_in n change s.entries) e)) s.entries (λ e there. stay e ∙ there) h.places);
       differ = differ-reseated n dir name 0 s.entries s.next h.numbers parts.2 h.differ;
       bodies = all-changed (λ e. IsSound e.body) n change s.entries (λ e there. there) h.bodies;
       limits = limits;
     }
+  where
+    own : (e : Entry) → entry_at s.entries n ≡ Some e → is_document e.body ≡ false
+    own e found = sym (ap (λ (o : Option Entry). option_map_or is_document (option_map (λ (e : Entry). e.body) o) false) found) ∙ kind
 
 -- an empty entry is removed
 pub removed-layout : (s : State) (n : ℕ) → IsLayout s → AllByRecursion (λ e. n ≡ e.parent → ⊥) s.entries → passed_limit (removed s n) ≡ None → IsLayout (removed s n)
@@ -93,22 +157,22 @@ removed-layout s n h bare limits =
     record {
       numbers = numbers-kept n 0 s.entries s.next h.numbers;
       names = all-filter (λ e. IsTrue (is_name e.name)) (is_kept n) s.entries h.names;
-      parents = all-filter (λ e. IsTrue (is_directory_at (removed s n).entries e.parent)) (is_kept n) s.entries (stay s.entries bare h.parents);
+      places = all-filter (λ e. IsTrue (is_in_place (removed s n).entries e)) (is_kept n) s.entries (stay s.entries bare h.places);
       differ = differ-kept n s.entries h.differ;
       bodies = all-filter (λ e. IsSound e.body) (is_kept n) s.entries h.bodies;
       limits = limits;
     }
   where
-    stay : (es : List Entry) → AllByRecursion (λ e. n ≡ e.parent → ⊥) es → AllByRecursion (λ e. IsTrue (is_directory_at s.entries e.parent)) es → AllByRecursion (λ e. IsTrue (is_directory_at (removed s n).entries e.parent)) es
+    stay : (es : List Entry) → AllByRecursion (λ e. n ≡ e.parent → ⊥) es → AllByRecursion (λ e. IsTrue (is_in_place s.entries e)) es → AllByRecursion (λ e. IsTrue (is_in_place (removed s n).entries e)) es
     stay [] other there = tt
-    stay (e ∷ es) other there = (directory-kept n s.entries e.parent other.0 ∙ there.0, stay es other.1 there.1)
+    stay (e ∷ es) other there = (place-same s.entries (removed s n).entries e (entry_at-kept n s.entries e.parent other.0) ∙ there.0, stay es other.1 there.1)
 
 -- nothing is in a leaf
 pub leaf-bare : (s : State) (n : ℕ) → IsLayout s → is_leaf_at s.entries n ≡ true → AllByRecursion (λ e. n ≡ e.parent → ⊥) s.entries
-leaf-bare s n h leaf = all-weaker (λ e. IsTrue (is_directory_at s.entries e.parent)) (λ e. n ≡ e.parent → ⊥) s.entries (λ e there same.
-    let other : is_leaf_at s.entries e.parent ≡ false = directory-no_leaf s.entries e.parent (root-none s h) there in
+leaf-bare s n h leaf = all-weaker (λ e. IsTrue (is_in_place s.entries e)) (λ e. n ≡ e.parent → ⊥) s.entries (λ e there same.
+    let other : is_leaf_at s.entries e.parent ≡ false = directory-no_leaf s.entries e.parent (root-none s h) (place-directory s.entries e there) in
     let never : true ≡ false = sym leaf ∙ ap (λ (k : ℕ). is_leaf_at s.entries k) same ∙ other in
-    cc) h.parents
+    cc) h.places
 
 -- nor in a bare directory
 pub bare-all : (es : List Entry) (n : ℕ) → is_bare es n ≡ true → AllByRecursion (λ e. n ≡ e.parent → ⊥) es
@@ -134,12 +198,31 @@ pub indexed-kind : (body : Body) → is_directory (indexed body) ≡ is_director
 indexed-kind (File text dirty shown) = refl
 indexed-kind other = refl
 
+pub rewritten-places : (text : List ℕ) → KeepsPlaces (rewritten text)
+rewritten-places text = let keeps = rewritten-keeps text in record { directories = keeps.directories; mounts = keeps.mounts; documents = keeps.documents }
+
+pub indexed-places : KeepsPlaces indexed
+indexed-places = let keeps = indexed-keeps in record { directories = keeps.directories; mounts = keeps.mounts; documents = keeps.documents }
+
 -- Edits of queries and marks.
 
 pub asking-kind : (query : Formula ℕ) (body : Body) → is_directory (asking query body) ≡ is_directory body
 asking-kind query Dir = refl
 asking-kind query (Semantic old permanent prohibited) = refl
 asking-kind query other = refl
+
+pub asking-places : (query : Formula ℕ) → KeepsPlaces (asking query)
+asking-places query = record { directories = asking-kind query; mounts = mounts; documents = documents }
+  where
+    mounts : (body : Body) → is_mount (asking query body) ≡ is_mount body
+    mounts Dir = refl
+    mounts (Semantic old permanent prohibited) = refl
+    mounts other = refl
+
+    documents : (body : Body) → is_document (asking query body) ≡ is_document body
+    documents Dir = refl
+    documents (Semantic old permanent prohibited) = refl
+    documents other = refl
 
 asking-sound : (query : Formula ℕ) (body : Body) → IsSound body → IsSound (asking query body)
 asking-sound query Dir h = tt
@@ -150,13 +233,32 @@ pub plain-kind : (body : Body) → is_directory (plain_body body) ≡ is_directo
 plain-kind (Semantic query permanent prohibited) = refl
 plain-kind other = refl
 
+pub plain-places : KeepsPlaces plain_body
+plain-places = record { directories = plain-kind; mounts = mounts; documents = documents }
+  where
+    mounts : (body : Body) → is_mount (plain_body body) ≡ is_mount body
+    mounts (Semantic query permanent prohibited) = refl
+    mounts other = refl
+
+    documents : (body : Body) → is_document (plain_body body) ≡ is_document body
+    documents (Semantic query permanent prohibited) = refl
+    documents other = refl
+
 plain-sound : (body : Body) → IsSound body → IsSound (plain_body body)
 plain-sound (Semantic query permanent prohibited) h = tt
 plain-sound other h = h
 
 pub forgetting-measures : (n : ℕ) → KeepsMeasures (forgetting n)
-forgetting-measures n = record { kind = kind; file = file; symlink = symlink; queried = queried; texts = texts }
+forgetting-measures n = record { kind = kind; file = file; symlink = symlink; mount = mount; document = document; queried = queried; texts = texts }
   where
+    mount : (body : Body) → is_mount (forgetting n body) ≡ is_mount body
+    mount (Semantic query permanent prohibited) = refl
+    mount other = refl
+
+    document : (body : Body) → is_document (forgetting n body) ≡ is_document body
+    document (Semantic query permanent prohibited) = refl
+    document other = refl
+
     kind : (body : Body) → is_directory (forgetting n body) ≡ is_directory body
     kind (Semantic query permanent prohibited) = refl
     kind other = refl
@@ -191,6 +293,29 @@ marked-kind n Prohibited other = refl
 marked-kind n Transient other = refl
 marked-kind n Unlinked other = refl
 
+pub marked-places : (n : ℕ) (kind : Kind) → KeepsPlaces (marked n kind)
+marked-places n kind = record { directories = marked-kind n kind; mounts = mounts kind; documents = documents kind }
+  where
+    mounts : (kind : Kind) (body : Body) → is_mount (marked n kind body) ≡ is_mount body
+    mounts Permanent (Semantic query permanent prohibited) = refl
+    mounts Prohibited (Semantic query permanent prohibited) = refl
+    mounts Transient (Semantic query permanent prohibited) = refl
+    mounts Unlinked (Semantic query permanent prohibited) = refl
+    mounts Permanent other = refl
+    mounts Prohibited other = refl
+    mounts Transient other = refl
+    mounts Unlinked other = refl
+
+    documents : (kind : Kind) (body : Body) → is_document (marked n kind body) ≡ is_document body
+    documents Permanent (Semantic query permanent prohibited) = refl
+    documents Prohibited (Semantic query permanent prohibited) = refl
+    documents Transient (Semantic query permanent prohibited) = refl
+    documents Unlinked (Semantic query permanent prohibited) = refl
+    documents Permanent other = refl
+    documents Prohibited other = refl
+    documents Transient other = refl
+    documents Unlinked other = refl
+
 marked-sound : (n : ℕ) (kind : Kind) (body : Body) → IsSound body → IsSound (marked n kind body)
 marked-sound n Permanent (Semantic query permanent prohibited) h = tt
 marked-sound n Prohibited (Semantic query permanent prohibited) h = tt
@@ -207,18 +332,32 @@ passed-forgotten s n h = measures-passed (forgetting n) s (forgetting-measures n
 
 -- What an event that is possible speaks of.
 
-pub smkdir-parts : (s : State) (dir : ℕ) (name : List ℕ) (query : Formula ℕ) (told : List (List ℕ)) → is_possible s (Smkdir dir name query told) ≡ true → (is_free s dir name ≡ true) × (may_ask s query ≡ true) × ((length told == 0) ≡ true)
-smkdir-parts s dir name query told h =
-    let fits = and_parts (is_free s dir name) (may_ask s query && length told == 0) h in
-    let asks = and_parts (may_ask s query) (length told == 0) fits.1 in
-    (fits.0, asks.0, asks.1)
+-- what a query that mounts needn't be asked for may ask
+asked-parts : (s : State) (query : Formula ℕ) (told : List (List ℕ)) → (may_ask s query && (is_none (first_asked s query) && length told == 0)) ≡ true → (may_ask s query ≡ true) × (first_asked s query ≡ None) × ((length told == 0) ≡ true)
+asked-parts s query told h =
+    let asks = and_parts (may_ask s query) (is_none (first_asked s query) && length told == 0) h in
+    let knows = and_parts (is_none (first_asked s query)) (length told == 0) asks.1 in
+    (asks.0, none_from (first_asked s query) knows.0, knows.1)
 
-pub setq-parts : (s : State) (dir : ℕ) (query : Formula ℕ) (told : List (List ℕ)) → is_possible s (Setq dir query told) ≡ true → (is_made_directory s.entries dir ≡ true) × (may_ask s query ≡ true) × (cycle_over s dir (parent_of s dir) query ≡ None) × ((length told == 0) ≡ true)
+pub smkdir-parts : (s : State) (dir : ℕ) (name : List ℕ) (query : Formula ℕ) (told : List (List ℕ)) → is_possible s (Smkdir dir name query told) ≡ true → (is_free s dir name ≡ true) × (may_ask s query ≡ true) × ((length told == 0) ≡ true) × (first_asked s query ≡ None)
+smkdir-parts s dir name query told h =
+    let fits = and_parts (is_free s dir name) (may_ask s query && (is_none (first_asked s query) && length told == 0)) h in
+    let asks = asked-parts s query told fits.1 in
+    (fits.0, asks.0, asks.2, asks.1)
+
+-- a directory that was made and is a holder
+made-parts : (s : State) (dir : ℕ) → is_made_holder s dir ≡ true → (is_made_directory s.entries dir ≡ true) × (is_mount_at s.entries dir ≡ false)
+made-parts s dir h =
+    let parts = and_parts (is_made_directory s.entries dir) (not (is_mount_at s.entries dir)) h in
+    (parts.0, not-true (is_mount_at s.entries dir) parts.1)
+
+pub setq-parts : (s : State) (dir : ℕ) (query : Formula ℕ) (told : List (List ℕ)) → is_possible s (Setq dir query told) ≡ true → (is_made_directory s.entries dir ≡ true) × (may_ask s query ≡ true) × (cycle_over s dir (parent_of s dir) query ≡ None) × ((length told == 0) ≡ true) × (first_asked s query ≡ None) × (is_mount_at s.entries dir ≡ false)
 setq-parts s dir query told h =
     let way = and_parts (is_none (cycle_over s dir (parent_of s dir) query)) (is_placed s (Setq dir query told)) h in
-    let fits = and_parts (is_made_directory s.entries dir) (may_ask s query && length told == 0) way.1 in
-    let asks = and_parts (may_ask s query) (length told == 0) fits.1 in
-    (fits.0, asks.0, none_from (cycle_over s dir (parent_of s dir) query) way.0, asks.1)
+    let fits = and_parts (is_made_holder s dir) (may_ask s query && (is_none (first_asked s query) && length told == 0)) way.1 in
+    let asks = asked-parts s query told fits.1 in
+    let made = made-parts s dir fits.0 in
+    (made.0, asks.0, none_from (cycle_over s dir (parent_of s dir) query) way.0, asks.2, asks.1, made.1)
 
 pub mark-parts : (s : State) (dir item : ℕ) (kind : Kind) → is_possible s (Mark (record { dir = dir; item = item; kind = kind })) ≡ true → (is_item s item ≡ true) × (is_semantic s dir ≡ true) × (may_mark s dir item kind ≡ true)
 mark-parts s dir item kind h =
@@ -226,19 +365,21 @@ mark-parts s dir item kind h =
     let there = and_parts (is_item s item) (is_semantic s dir) may.1 in
     (there.0, there.1, may.0)
 
-pub move-parts : (s : State) (entry dir : ℕ) (name : List ℕ) → is_possible s (Mv entry dir name) ≡ true → (is_some (entry_at s.entries entry) ≡ true) × (is_free s dir name ≡ true) × (is_inside s dir entry ≡ false) × (cycle_of_move s entry dir ≡ None)
+pub move-parts : (s : State) (entry dir : ℕ) (name : List ℕ) → is_possible s (Mv entry dir name) ≡ true → (is_some (entry_at s.entries entry) ≡ true) × (is_free s dir name ≡ true) × (is_inside s dir entry ≡ false) × (cycle_of_move s entry dir ≡ None) × (is_document_at s.entries entry ≡ false)
 move-parts s entry dir name h =
     let way = and_parts (is_none (cycle_of_move s entry dir)) (is_placed s (Mv entry dir name)) h in
-    let there = and_parts (is_some (entry_at s.entries entry) && is_free s dir name) (not (is_inside s dir entry)) way.1 in
-    let free = and_parts (is_some (entry_at s.entries entry)) (is_free s dir name) there.0 in
-    (free.0, free.1, not-true (is_inside s dir entry) there.1, none_from (cycle_of_move s entry dir) way.0)
+    let there = and_parts (is_some (entry_at s.entries entry) && not (is_document_at s.entries entry) && is_free s dir name) (not (is_inside s dir entry)) way.1 in
+    let free = and_parts (is_some (entry_at s.entries entry) && not (is_document_at s.entries entry)) (is_free s dir name) there.0 in
+    let own = and_parts (is_some (entry_at s.entries entry)) (not (is_document_at s.entries entry)) free.0 in
+    (own.0, free.1, not-true (is_inside s dir entry) there.1, none_from (cycle_of_move s entry dir) way.0, not-true (is_document_at s.entries entry) own.1)
 
-pub rmdir-parts : (s : State) (dir : ℕ) → is_possible s (Rmdir dir) ≡ true → (is_made_directory s.entries dir ≡ true) × (is_bare s.entries dir ≡ true) × (is_unreferenced s dir ≡ true) × (is_busy s.sessions dir ≡ false)
+pub rmdir-parts : (s : State) (dir : ℕ) → is_possible s (Rmdir dir) ≡ true → (is_made_directory s.entries dir ≡ true) × (is_bare s.entries dir ≡ true) × (is_unreferenced s dir ≡ true) × (is_busy s.sessions dir ≡ false) × (is_mount_at s.entries dir ≡ false)
 rmdir-parts s dir h =
     let clear = and_parts (is_unreferenced s dir && not (is_busy s.sessions dir)) (is_placed s (Rmdir dir)) h in
     let named = and_parts (is_unreferenced s dir) (not (is_busy s.sessions dir)) clear.0 in
-    let bare = and_parts (is_made_directory s.entries dir) (is_bare s.entries dir) clear.1 in
-    (bare.0, bare.1, named.0, not-true (is_busy s.sessions dir) named.1)
+    let bare = and_parts (is_made_holder s dir) (is_bare s.entries dir) clear.1 in
+    let made = made-parts s dir bare.0 in
+    (made.0, bare.1, named.0, not-true (is_busy s.sessions dir) named.1, made.1)
 
 -- an event that is accepted fits, and leads to a state that exceeds no limit
 pub accepted-parts : (possible : Bool) (passes : Option LimitWord) → (possible && is_none passes) ≡ true → (possible ≡ true) × (passes ≡ None)
@@ -248,35 +389,36 @@ accepted-parts possible passes h = let parts = and_parts possible (is_none passe
 pub apply-layout : (s : State) (event : Event) → IsLayout s → IsTrue (accepted s event) → IsLayout (apply s event)
 apply-layout s (Mkdir dir name) h ok =
     let parts = accepted-parts (is_free s dir name) (passed_limit (added s dir name Dir)) ok in
-    added-layout s dir name Dir h parts.0 tt parts.1
+    added-layout s dir name Dir h parts.0 tt refl parts.1
 apply-layout s (NewFile dir name text) h ok =
     let parts = accepted-parts (is_free s dir name && is_text text) (passed_limit (added s dir name (File text true None))) ok in
     let fits = and_parts (is_free s dir name) (is_text text) parts.0 in
     let sound : IsSoundFile text true None = record { fits = fits.1; shown_fits = refl; clean = λ clean. absurd cc } in
-    added-layout s dir name (File text true None) h fits.0 sound parts.1
+    added-layout s dir name (File text true None) h fits.0 sound refl parts.1
 apply-layout s (Rewrite file text) h ok =
     let parts = accepted-parts (is_file_at s.entries file && is_text text) (passed_limit (changed_at s file (edited (rewritten text)))) ok in
     let fits = and_parts (is_file_at s.entries file) (is_text text) parts.0 in
-    edited-layout s file (rewritten text) (rewritten-kind text) (rewritten-sound text fits.1) h parts.1
+    edited-layout s file (rewritten text) (rewritten-places text) (rewritten-sound text fits.1) h parts.1
 apply-layout s (Ln dir name target) h ok =
     let parts = accepted-parts (is_free s dir name && is_target target) (passed_limit (added s dir name (Symlink target))) ok in
     let fits = and_parts (is_free s dir name) (is_target target) parts.0 in
-    added-layout s dir name (Symlink target) h fits.0 fits.1 parts.1
+    added-layout s dir name (Symlink target) h fits.0 fits.1 refl parts.1
 apply-layout s (Smkdir dir name query told) h ok =
     let parts = accepted-parts (is_possible s (Smkdir dir name query told)) (passed_limit (added s dir name (Semantic query [] []))) ok in
-    added-layout s dir name (Semantic query [] []) h (smkdir-parts s dir name query told parts.0).0 tt parts.1
+    added-layout s dir name (Semantic query [] []) h (smkdir-parts s dir name query told parts.0).0 tt refl parts.1
 apply-layout s (Setq dir query told) h ok =
     let parts = accepted-parts (is_possible s (Setq dir query told)) (passed_limit (changed_at s dir (edited (asking query)))) ok in
-    edited-layout s dir (asking query) (asking-kind query) (asking-sound query) h parts.1
+    edited-layout s dir (asking query) (asking-places query) (asking-sound query) h parts.1
 apply-layout s (Unq dir) h ok =
     let parts = accepted-parts (is_semantic s dir) (passed_limit (changed_at s dir (edited plain_body))) ok in
-    edited-layout s dir plain_body plain-kind plain-sound h parts.1
+    edited-layout s dir plain_body plain-places plain-sound h parts.1
 apply-layout s (Mark mark) h ok =
     let parts = accepted-parts (is_possible s (Mark mark)) (passed_limit (changed_at s mark.dir (edited (marked mark.item mark.kind)))) ok in
-    edited-layout s mark.dir (marked mark.item mark.kind) (marked-kind mark.item mark.kind) (marked-sound mark.item mark.kind) h parts.1
+    edited-layout s mark.dir (marked mark.item mark.kind) (marked-places mark.item mark.kind) (marked-sound mark.item mark.kind) h parts.1
 apply-layout s (Mv entry dir name) h ok =
     let parts = accepted-parts (is_possible s (Mv entry dir name)) (passed_limit (changed_at s entry (reseated dir name))) ok in
-    reseated-layout s entry dir name h (move-parts s entry dir name parts.0).1 parts.1
+    let fits = move-parts s entry dir name parts.0 in
+    reseated-layout s entry dir name h fits.1 fits.4 parts.1
 apply-layout s (Rm file) h ok =
     let parts = accepted-parts (is_leaf_at s.entries file) (passed_limit (forgotten (removed s file) file)) ok in
     mapped-layout (forgetting file) (removed s file) (forgetting-measures file) (forgetting-sound file) (removed-layout s file h (leaf-bare s file h parts.0) (passed-forgotten (removed s file) file parts.1))
@@ -286,12 +428,12 @@ apply-layout s (Rmdir dir) h ok =
 apply-layout s Step h ok =
     elim (next_dirty s.entries) as (λ o. (is_some o && is_none (passed_limit (option_map_or (λ file. changed_at s file (edited indexed)) o s))) ≡ true → IsLayout (option_map_or (λ file. changed_at s file (edited indexed)) o s)) [
       | None ↦ (λ ok. h)
-      | Some file ↦ (λ ok. edited-layout s file indexed indexed-kind indexed-sound h (none_from (passed_limit (changed_at s file (edited indexed))) ok))
+      | Some file ↦ (λ ok. edited-layout s file indexed indexed-places indexed-sound h (none_from (passed_limit (changed_at s file (edited indexed))) ok))
     ] ok
 apply-layout s (Cd session dir) h ok = record {
   numbers = h.numbers;
   names = h.names;
-  parents = h.parents;
+  places = h.places;
   differ = h.differ;
   bodies = h.bodies;
   limits = (accepted-parts (is_possible s (Cd session dir)) (passed_limit (apply s (Cd session dir))) ok).1;

@@ -79,14 +79,14 @@ sound-Decides (File text dirty shown) = file-Decides text dirty shown
 sound-Decides Dir = (λ _. tt, λ _. refl)
 sound-Decides (Symlink target) = Decides-test (is_target target)
 sound-Decides (Semantic query permanent prohibited) = (λ _. tt, λ _. refl)
-sound-Decides (Mount space documents answers) = (λ h. absurd cc, λ h. absurd h)
+sound-Decides (Mount space answers) = (λ h. absurd cc, λ h. absurd h)
 
 layout-Decides : (s : State) → Decides (is_layout s) (IsLayout s)
 unfolding is_layout
 layout-Decides s =
     Decides-like (is_layout s)
     (λ h. record { numbers = h.0.0.0.0.0; names = h.0.0.0.0.1; parents = h.0.0.0.1; differ = h.0.0.1; bodies = h.0.1; limits = h.1 })
-    (λ h. (((((h.numbers, h.names), h.parents), h.differ), h.bodies), h.limits))
+    (λ h. (((((h.numbers, h.names), h.places), h.differ), h.bodies), h.limits))
     (Decides-and _ _ (Decides-and _ _ (Decides-and _ _ (Decides-and _ _ (Decides-and _ _ (rise-Decides 0 s.entries s.next)
     (Decides-all (λ e. is_name e.name) (λ e. IsTrue (is_name e.name)) (λ e. Decides-test (is_name e.name)) s.entries))
     (Decides-all (λ e. is_directory_at s.entries e.parent) (λ e. IsTrue (is_directory_at s.entries e.parent)) (λ e. Decides-test (is_directory_at s.entries e.parent)) s.entries))
@@ -122,7 +122,7 @@ asks-Decides s (Semantic query permanent prohibited) = query-Decides s query per
 asks-Decides s (File text dirty shown) = (λ _. tt, λ _. refl)
 asks-Decides s Dir = (λ _. tt, λ _. refl)
 asks-Decides s (Symlink target) = (λ _. tt, λ _. refl)
-asks-Decides s (Mount space documents answers) = (λ _. tt, λ _. refl)
+asks-Decides s (Mount space answers) = (λ _. tt, λ _. refl)
 
 -- Cycles.
 

@@ -9,7 +9,7 @@ use Rattle.hac_model.specs.Tree.Events.{accepted, apply, apply_all, dirty, renam
 use Rattle.hac_model.specs.Tree.Facts.{facts_after, facts_of}
 use Rattle.hac_model.specs.Script.LineWords.{first_word, in_quotes, is_word_end, quoted_word}
 use Rattle.hac_model.specs.Script.Lines.{Item, is_spelled_line, item_of}
-use Rattle.hac_model.specs.Tree.Links.{column, found_by, has, is_below, is_permanent, is_prohibited, is_semantic, links, provide, round, shown_of}
+use Rattle.hac_model.specs.Tree.Links.{column, found_by, has, is_below, is_permanent, is_prohibited, is_semantic, is_judged, links, provide, round}
 use Rattle.hac_model.specs.Tree.Kinds as kinds
 use Rattle.hac_model.specs.Tree.Looks.{look, plain, destination}
 use Rattle.hac_model.specs.Script.Printed.{ended}
@@ -18,7 +18,7 @@ use Rattle.hac_model.specs.Run.Resolving.{resolve}
 use Rattle.hac_model.specs.Script.{due, whole}
 use Rattle.hac_model.specs.Tree.Sessions.{is_stored, sessions_after, stored}
 use Rattle.hac_model.specs.Payload.Payloads.{is_spellable}
-use Rattle.hac_model.specs.Payload.States.{is_spellable_state}
+use Rattle.hac_model.specs.Payload.States.{is_spellable_snapshot, snapshot_of}
 use Rattle.hac_model.specs.Run.Play.{Given, Setting, all_events, end_after, given_behind, left_by, new_setting, no_answers, nothing_given, play, ticking, turns, turns_text}
 use Rattle.hac_model.specs.Script.Texts.{escaped_text, text_of}
 use Rattle.hac_model.specs.Tree.{empty, entry_at, is_symlink_at, path_of}
@@ -140,9 +140,9 @@ EventsEnd =
 abbrev pub AcceptedAreSpelled : Type 0
 AcceptedAreSpelled = (s : State) (event : Event) → IsValid s → IsTrue (is_stored event) → IsTrue (accepted s event) → IsTrue (is_spellable event)
 
--- each valid state without sessions has a spelling
+-- what is stored of a valid state has a spelling
 abbrev pub ValidAreSpelled : Type 0
-ValidAreSpelled = (s : State) → IsValid s → s.sessions ≡ [] → IsTrue (is_spellable_state s)
+ValidAreSpelled = (s : State) → IsValid s → IsTrue (is_spellable_snapshot (snapshot_of s))
 
 -- where sessions stand is never stored: what can happen to a state and is stored can happen to what is stored of it,
 -- and leads to what is stored of the outcome
@@ -192,15 +192,15 @@ MarksGo =
     (s : State) (dir item : ℕ) → IsValid s → IsTrue (accepted s (Unq dir)) →
     (is_permanent (apply s (Unq dir)) dir item ≡ false) × (is_prohibited (apply s (Unq dir)) dir item ≡ false)
 
--- what is found in a directory was indexed, and the user neither added nor removed it there
+-- what is found in a directory is a document or was indexed, and the user neither added nor removed it there
 abbrev pub LinksAreUnmarked : Type 0
 LinksAreUnmarked =
     (s : State) (dir item : ℕ) → IsValid s → has (links s dir) item ≡ true →
-    (is_some (shown_of s item) ≡ true) × (is_permanent s dir item ≡ false) × (is_prohibited s dir item ≡ false)
+    (is_judged s item ≡ true) × (is_permanent s dir item ≡ false) × (is_prohibited s dir item ≡ false)
 
--- what a query finds anywhere was indexed
+-- what a query finds anywhere is a document or was indexed
 abbrev pub FoundAreIndexed : Type 0
-FoundAreIndexed = (s : State) (query : Formula ℕ) (item : ℕ) → has (found_by s query) item ≡ true → is_some (shown_of s item) ≡ true
+FoundAreIndexed = (s : State) (query : Formula ℕ) (item : ℕ) → has (found_by s query) item ≡ true → is_judged s item ≡ true
 
 -- a directory provides what the user added to it
 abbrev pub AddedAreProvided : Type 0

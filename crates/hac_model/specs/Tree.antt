@@ -13,13 +13,15 @@ pub mod Limits
 pub mod Events
 pub mod Facts
 pub mod Sessions
-use Rattle.std.specs.Prelude.{ℕ, zero, suc, ◌+◌, Bool, true, false, ◌==◌, ◌&&◌, ◌||◌, if◌then◌else◌, nat_le, List, [], ◌∷◌, length, map, reverse, Option, Some, None, is_some}
+pub mod Mounts
+use Rattle.std.specs.Prelude.{ℕ, zero, suc, ◌+◌, Bool, true, false, ◌==◌, ◌&&◌, ◌||◌, not, if◌then◌else◌, nat_le, List, [], ◌∷◌, length, map, reverse, Option, Some, None, is_some}
 use Rattle.std.specs.Option.{option_map, option_map_or}
 use Rattle.std.specs.Str.{bytes_eq}
 use Rattle.hac_model.specs.declared.limits.TheConstants.{PATH_LIMIT}
 use Rattle.hac_model.specs.Query.Formula.{Formula}
+use Rattle.hac_model.specs.declared.states.Answer.{Answer}
 use Rattle.hac_model.specs.declared.states.Body.{Body}
-use Rattle.hac_model.specs.declared.states.Body.TheVariants.{File, Dir, Symlink, Semantic}
+use Rattle.hac_model.specs.declared.states.Body.TheVariants.{File, Dir, Symlink, Semantic, Mount, Document}
 use Rattle.hac_model.specs.declared.states.Entry.{Entry}
 use Rattle.hac_model.specs.declared.states.State.{State}
 
@@ -71,10 +73,23 @@ is_symlink other = false
 abbrev pub is_leaf : Body → Bool
 is_leaf body = is_file body || is_symlink body
 
+abbrev pub is_mount : Body → Bool
+is_mount (Mount space answers) = true
+is_mount other = false
+
+abbrev pub is_document : Body → Bool
+is_document Document = true
+is_document other = false
+
+-- it can be linked: a file or a document
+abbrev pub is_linkable : Body → Bool
+is_linkable body = is_file body || is_document body
+
 -- a directory of any kind
 abbrev pub is_directory : Body → Bool
 is_directory Dir = true
 is_directory (Semantic query permanent prohibited) = true
+is_directory (Mount space answers) = true
 is_directory other = false
 
 -- a directory without a query
@@ -117,6 +132,16 @@ abbrev pub prohibited_in : Body → List ℕ
 prohibited_in (Semantic query permanent prohibited) = prohibited
 prohibited_in other = []
 
+-- the space that a mount shows
+abbrev pub space_in : Body → Option (List ℕ)
+space_in (Mount space answers) = Some space
+space_in other = None
+
+-- what the space of a mount answered
+abbrev pub answers_in : Body → List Answer
+answers_in (Mount space answers) = answers
+answers_in other = []
+
 -- a file has the number
 abbrev pub is_file_at : List Entry → ℕ → Bool
 is_file_at entries number = option_map_or is_file (body_at entries number) false
@@ -129,6 +154,14 @@ is_symlink_at entries number = option_map_or is_symlink (body_at entries number)
 abbrev pub is_leaf_at : List Entry → ℕ → Bool
 is_leaf_at entries number = option_map_or is_leaf (body_at entries number) false
 
+-- a mount has the number
+abbrev pub is_mount_at : List Entry → ℕ → Bool
+is_mount_at entries number = option_map_or is_mount (body_at entries number) false
+
+-- a document has the number
+abbrev pub is_document_at : List Entry → ℕ → Bool
+is_document_at entries number = option_map_or is_document (body_at entries number) false
+
 -- an entry of the number is a directory
 abbrev pub is_made_directory : List Entry → ℕ → Bool
 is_made_directory entries number = option_map_or is_directory (body_at entries number) false
@@ -136,6 +169,10 @@ is_made_directory entries number = option_map_or is_directory (body_at entries n
 -- a directory has the number: the root, or one that was made
 abbrev pub is_directory_at : List Entry → ℕ → Bool
 is_directory_at entries number = number == 0 || is_made_directory entries number
+
+-- users can put entries into the directory of the number: it isn't a mount
+abbrev pub is_holder_at : List Entry → ℕ → Bool
+is_holder_at entries number = is_directory_at entries number && not (is_mount_at entries number)
 
 -- the root, or an entry, has the number
 abbrev pub is_live : List Entry → ℕ → Bool

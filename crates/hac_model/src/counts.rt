@@ -10,10 +10,14 @@ pub struct Counts {
     pub directories: u64,
     /// Semantic directories.
     pub semantics: u64,
+    /// Mounts.
+    pub mounts: u64,
     /// Symbolic links.
     pub symlinks: u64,
     /// Files.
     pub files: u64,
+    /// Files and documents.
+    pub items: u64,
     /// Files that are to be indexed.
     pub dirty: u64,
     /// 1 where some path has more names than a path may have, else 0.

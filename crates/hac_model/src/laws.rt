@@ -91,7 +91,7 @@ pub fn accepted_events_are_spelled()
     ensures { AcceptedAreSpelled }
 {}
 
-/// A valid state in which no session stands anywhere has a spelling.
+/// What is stored of a valid state has a spelling.
 pub fn valid_states_are_spelled()
     ensures { ValidAreSpelled }
 {}

@@ -41,6 +41,9 @@ pub const DIRS_LIMIT: u64 = 10_000;
 /// The most semantic directories.
 pub const SEMANTICS_LIMIT: u64 = 1_000;
 
+/// The most mounts.
+pub const MOUNTS_LIMIT: u64 = 16;
+
 /// The most symbolic links.
 pub const SYMLINKS_LIMIT: u64 = 10_000;
 
@@ -53,7 +56,7 @@ pub const PATH_LIMIT: u64 = 64;
 /// The most sessions that are in a directory other than the root.
 pub const SESSIONS_LIMIT: u64 = 64;
 
-/// The most files.
+/// The most files and documents.
 pub const ITEMS_LIMIT: u64 = 65_536;
 
 /// The greatest number that the next entry may take.
@@ -132,7 +135,7 @@ pub fn first_passed(limits: &[Limit]) -> Option<LimitWord>
 
 impl Counts {
     /// The limits on the tree itself, in the order in which they are tested.
-    pub fn layout_limits(self) -> [Limit; 5]
+    pub fn layout_limits(self) -> [Limit; 6]
         ensures { result ≡ layout_limits self }
     {
         [
@@ -150,6 +153,11 @@ impl Counts {
                 count: self.semantics,
                 most: SEMANTICS_LIMIT,
                 word: LimitWord::Semantics,
+            },
+            Limit {
+                count: self.mounts,
+                most: MOUNTS_LIMIT,
+                word: LimitWord::Mounts,
             },
             Limit {
                 count: self.symlinks,
@@ -170,7 +178,7 @@ impl Counts {
     {
         [
             Limit {
-                count: self.files,
+                count: self.items,
                 most: ITEMS_LIMIT,
                 word: LimitWord::Items,
             },

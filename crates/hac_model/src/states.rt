@@ -24,7 +24,7 @@ pub struct Session {
     pub dir: Number,
 }
 
-/// A file, a directory or a link.
+/// A file, a directory, a link or a document.
 #[derive(Debug, Drop)]
 pub struct Entry {
     /// The number by which it is known.
@@ -69,20 +69,11 @@ pub enum Body {
     Mount {
         /// The space.
         space: Name,
-        /// The documents, their names rising.
-        documents: Seq<Document>,
         /// What the space answered, the terms rising.
         answers: Seq<Answer>,
     },
-}
-
-/// An entry of a mount.
-#[derive(Debug, Drop)]
-pub struct Document {
-    /// The number by which it is known.
-    pub number: Number,
-    /// Its name in the space, and in the mount.
-    pub name: Name,
+    /// An entry of a mount. Its text is the space's.
+    Document,
 }
 
 /// What a space answered to the question for a term.

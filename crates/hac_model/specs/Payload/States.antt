@@ -1,5 +1,5 @@
 -- How a whole state is spelled in a store, and what the bytes of such a payload say.
-use Rattle.std.specs.Prelude.{ℕ, Bool, true, false, ◌==◌, ◌&&◌, not, if◌then◌else◌, nat_lt, nat_le, List, [], ◌∷◌, ◌++◌, length, Option, Some, None, Result, Ok}
+use Rattle.std.specs.Prelude.{ℕ, Bool, true, false, ◌==◌, ◌&&◌, not, if◌then◌else◌, nat_lt, nat_le, List, [], ◌∷◌, ◌++◌, length, filter, map, Option, Some, None, Result, Ok}
 use Rattle.std.specs.Option.{option_map}
 use Rattle.std.specs.Str.{bytes_eq}
 use Rattle.hac_model.specs.Run.Answers.{◌>>=◌}
@@ -7,13 +7,15 @@ use Rattle.hac_model.specs.Payload.Fields.{Field, Part, Way, num, nothing, ◌&�
 use Rattle.hac_model.specs.Payload.Payloads.{all_of, name_field, nums, placed, rises, space_field, target_field, text_field}
 use Rattle.hac_model.specs.Payload.QueryFields.{query_field, word_field}
 use Rattle.hac_model.specs.Query.Terms.{is_term_before}
-use Rattle.hac_model.specs.Tree.Listing.{is_before}
+use Rattle.hac_model.specs.Tree.Listing.{children, is_before}
+use Rattle.hac_model.specs.Tree.{is_document}
 use Rattle.hac_model.specs.declared.states.Answer.{Answer}
 use Rattle.hac_model.specs.declared.states.Body.{Body}
 use Rattle.hac_model.specs.declared.states.Body.TheVariants.{File, Dir, Symlink, Semantic, Mount}
-use Rattle.hac_model.specs.declared.states.Document.{Document}
+use Rattle.hac_model.specs.declared.snapshots.Document.{Document}
+use Rattle.hac_model.specs.declared.snapshots.Snapshot.{Snapshot}
+use Rattle.hac_model.specs.declared.snapshots.StoredEntry.{StoredEntry}
 use Rattle.hac_model.specs.declared.states.Entry.{Entry}
-use Rattle.hac_model.specs.declared.states.Session.{Session}
 use Rattle.hac_model.specs.declared.states.State.{State}
 use Rattle.hac_model.specs.declared.terms.Term.{Term}
 use Rattle.hac_model.specs.declared.terms.Term.TheVariants.{Word, Prefix}
@@ -80,57 +82,84 @@ answer_field last =
 
 -- ---- states
 
-abbrev pub body_part : Body → Part
-body_part (File text dirty shown) = part 1 (flag_field & texts_field) (dirty, (text, shown))
-body_part Dir = part 2 nothing tt
-body_part (Symlink target) = part 3 target_field target
-body_part (Semantic query permanent prohibited) = part 4 (query_field & nums & nums) (query, (permanent, prohibited))
-body_part (Mount space documents answers) = part 5 (space_field & documents_field & list num answer_field) (space, (documents, answers))
+-- where nothing has documents, these have no bytes
+abbrev pub no_documents : Field (List Document)
+no_documents = record { fits = λ documents. length documents == 0; text = λ documents. []; read = λ bytes. Ok ([], bytes) }
 
-abbrev pub body_ways : List (Way Body)
-body_ways =
-    way 1 (flag_field & texts_field) (λ x. File x.1.0 x.0 x.1.1)
-    ∷ way 2 nothing (λ x. Dir)
-    ∷ way 3 target_field (λ target. Symlink target)
-    ∷ way 4 (query_field & nums & nums) (λ x. Semantic x.0 x.1.0 x.1.1)
-    ∷ way 5 (space_field & documents_field & list num answer_field) (λ x. Mount x.0 x.1.0 x.1.1)
+-- what has no spelling
+abbrev pub no_part : Part
+no_part = record { fits = false; text = [] }
+
+-- what an entry is, and the documents that are listed with it. Only a mount has any, and a document is listed there alone.
+abbrev pub stored_part : Body × List Document → Part
+stored_part stored = part_of stored.0
+  where
+    part_of : Body → Part
+    part_of (File text dirty shown) = part 1 (flag_field & texts_field & no_documents) (dirty, ((text, shown), stored.1))
+    part_of Dir = part 2 no_documents stored.1
+    part_of (Symlink target) = part 3 (target_field & no_documents) (target, stored.1)
+    part_of (Semantic query permanent prohibited) =
+        part 4 (query_field & nums & nums & no_documents) (query, (permanent, (prohibited, stored.1)))
+    part_of (Mount space answers) = part 5 (space_field & documents_field & list num answer_field) (space, (stored.1, answers))
+    part_of other = no_part
+
+abbrev pub stored_ways : List (Way (Body × List Document))
+stored_ways =
+    way 1 (flag_field & texts_field) (λ x. (File x.1.0 x.0 x.1.1, []))
+    ∷ way 2 nothing (λ x. (Dir, []))
+    ∷ way 3 target_field (λ target. (Symlink target, []))
+    ∷ way 4 (query_field & nums & nums) (λ x. (Semantic x.0 x.1.0 x.1.1, []))
+    ∷ way 5 (space_field & documents_field & list num answer_field) (λ x. (Mount x.0 x.1.1, x.1.0))
     ∷ []
 
--- what an entry is
-abbrev pub body_field : Field Body
-body_field = choice body_part body_ways
+abbrev pub stored_field : Field (Body × List Document)
+stored_field = choice stored_part stored_ways
 
 -- entries, whose numbers rise
-abbrev pub entry_field : Option Entry → Field Entry
+abbrev pub entry_field : Option StoredEntry → Field StoredEntry
 entry_field last =
-    seen (λ entry. (entry.number, (entry.parent, (entry.name, entry.body))))
-    (λ x. record { number = x.0; parent = x.1.0; name = x.1.1.0; body = x.1.1.1 })
-    (checked num (rises nat_lt (option_map (λ entry. entry.number) last)) & num & name_field & body_field)
+    seen (λ stored. (stored.entry.number, (stored.entry.parent, (stored.entry.name, (stored.entry.body, stored.documents)))))
+    (λ x. record { entry = record { number = x.0; parent = x.1.0; name = x.1.1.0; body = x.1.1.1.0 }; documents = x.1.1.1.1 })
+    (checked num (rises nat_lt (option_map (λ stored. stored.entry.number) last)) & num & name_field & stored_field)
 
--- where sessions stand has no bytes: in a state that is read there are none
-abbrev pub no_sessions : Field (List Session)
-no_sessions = record { fits = λ sessions. length sessions == 0; text = λ sessions. []; read = λ bytes. Ok ([], bytes) }
-
--- a state: the number that the next entry takes, and the entries
-abbrev pub state_field : Field State
-state_field =
-    seen (λ s. (s.next, (s.entries, s.sessions))) (λ x. record { next = x.0; entries = x.1.0; sessions = x.1.1 })
-    (num & list num entry_field & no_sessions)
+-- the number that the next entry takes, and the entries
+abbrev pub snapshot_field : Field Snapshot
+snapshot_field = seen (λ s. (s.next, s.entries)) (λ x. record { next = x.0; entries = x.1 }) (num & list num entry_field)
 
 -- ---- payloads
 
 -- a payload that holds a state: the byte of its kind, and the state
-abbrev pub state_payload : Field State
-state_payload = choice (λ s. part 2 state_field s) (way 2 state_field (λ s. s) ∷ [])
+abbrev pub snapshot_payload : Field Snapshot
+snapshot_payload = choice (λ s. part 2 snapshot_field s) (way 2 snapshot_field (λ s. s) ∷ [])
 
--- the state has a spelling: its parts are as they may be spelled, and no session stands anywhere
-unfoldable pub is_spellable_state : State → Bool
-is_spellable_state s = state_payload.fits s
+-- what is stored of a state has a spelling: its parts are as they may be spelled
+unfoldable pub is_spellable_snapshot : Snapshot → Bool
+is_spellable_snapshot s = snapshot_payload.fits s
 
--- the payload that a state is written as
-unfoldable pub state_text : State → List ℕ
-state_text s = state_payload.text s
+-- the payload that it is written as
+unfoldable pub snapshot_text : Snapshot → List ℕ
+snapshot_text s = snapshot_payload.text s
 
--- the state that a payload spells, or the place of the first field that has no allowed value or is cut short
-unfoldable pub spelled_state : List ℕ → Result State ℕ
-spelled_state bytes = placed (length bytes) (state_payload.read bytes >>= all_of)
+-- what a payload spells, or the place of the first field that has no allowed value or is cut short
+unfoldable pub spelled_snapshot : List ℕ → Result Snapshot ℕ
+spelled_snapshot bytes = placed (length bytes) (snapshot_payload.read bytes >>= all_of)
+
+-- ---- what is stored of a state
+
+-- a document, as it is listed with its mount
+abbrev pub listed_document : Entry → Document
+listed_document entry = record { number = entry.number; name = entry.name }
+
+-- an entry with the documents that are in it, in order of their names
+abbrev pub stored_entry : State → Entry → StoredEntry
+stored_entry s entry = record {
+  entry = entry;
+  documents = map listed_document (filter (λ child. is_document child.body) (children s entry.number));
+}
+
+-- the entries, the documents left out, which are listed with their mounts; where sessions stand is left out too
+unfoldable pub snapshot_of : State → Snapshot
+snapshot_of s = record {
+  next = s.next;
+  entries = map (stored_entry s) (filter (λ entry. not (is_document entry.body)) s.entries);
+}

@@ -38,6 +38,14 @@ named_in (query.Not query) = named_in query
 named_in (query.And left right) = named_in left ++ named_in right
 named_in (query.Or left right) = named_in left ++ named_in right
 
+-- the words and beginnings of words that a query asks for, in its order
+abbrev pub terms_of : {D : Type 0} → Formula D → List Term
+terms_of (query.Term term) = term ∷ []
+terms_of (query.Dir dir) = []
+terms_of (query.Not query) = terms_of query
+terms_of (query.And left right) = terms_of left ++ terms_of right
+terms_of (query.Or left right) = terms_of left ++ terms_of right
+
 -- the item satisfies the query, given which items have a term and which a directory provides
 abbrev pub query_meaning : (Term → ℕ → Bool) → (ℕ → ℕ → Bool) → Formula ℕ → ℕ → Bool
 query_meaning has provides (query.Term term) item = has term item
@@ -63,6 +71,10 @@ term_count query = sum_leaves (λ term. 1) (λ dir. 1) query
 -- how many bytes the letters of a term are
 abbrev pub term_size : Term → ℕ
 term_size term = length (letters_in term)
+
+-- a query can hold the term
+abbrev pub is_askable : Term → Bool
+is_askable term = is_term term && nat_le (term_size term) QUERY_LIMIT
 
 -- how many bytes the letters of a query's terms are, all together
 abbrev pub letter_count : {D : Type 0} → Formula D → ℕ

@@ -4,14 +4,16 @@ use Rattle.std.specs.Option.{option_map, option_map_or}
 use Rattle.hac_model.specs.Run.Answers.{first_cause}
 use Rattle.hac_model.specs.Run.Given.{no_answers}
 use Rattle.hac_model.specs.Tree.Depends.{cycle_of_move, cycle_over, referrers}
-use Rattle.hac_model.specs.Tree.Events.{apply_all, dirty, is_bare, is_inside}
+use Rattle.hac_model.specs.Tree.Events.{apply_all, dirty, first_asked, is_bare, is_inside}
 use Rattle.hac_model.specs.Tree.Limits.{answer_limits, counts, first_passed, layout_limits}
+use Rattle.hac_model.specs.Query.Formula.{Formula}
 use Rattle.hac_model.specs.Tree.Links.{has, is_permanent, is_prohibited, is_semantic, links, parent_of}
 use Rattle.hac_model.specs.Tree.Listing.{is_before}
 use Rattle.hac_model.specs.Tree.Paths.{path_text}
 use Rattle.hac_model.specs.Tree.Sessions.{are_few, least_name, sessions_with, visitors}
 use Rattle.hac_model.specs.Run.Resolving.{resolve}
-use Rattle.hac_model.specs.Tree.{is_directory_at, is_symlink_at, path_of}
+use Rattle.hac_model.specs.Tree.Links.{space_at}
+use Rattle.hac_model.specs.Tree.{is_directory_at, is_document_at, is_symlink_at, path_of}
 use Rattle.hac_model.specs.declared.commands.Line.{Line}
 use Rattle.hac_model.specs.declared.events.Event.{Event}
 use Rattle.hac_model.specs.declared.events.Event.TheVariants as event
@@ -21,7 +23,7 @@ use Rattle.hac_model.specs.declared.marks.Kind.TheVariants.{Permanent, Prohibite
 use Rattle.hac_model.specs.declared.places.Place.{Place}
 use Rattle.hac_model.specs.declared.places.Place.TheVariants.{There, Free}
 use Rattle.hac_model.specs.declared.replies.Refusal.{Refusal}
-use Rattle.hac_model.specs.declared.replies.Refusal.TheVariants.{NotFile, Exists, NotEmpty, Under, Root, Cycle, Referenced, Busy, NotSemantic, NotLink, NotLinked, Already, NoMark, Limit}
+use Rattle.hac_model.specs.declared.replies.Refusal.TheVariants.{NotFile, Exists, NotEmpty, Under, Root, Cycle, Referenced, Busy, NotSemantic, NotLink, NotLinked, Already, NoMark, NoSpace, Limit}
 use Rattle.hac_model.specs.declared.resolved.Resolved.{Resolved}
 use Rattle.hac_model.specs.declared.resolved.Resolved.TheVariants.{Mkdir, Rmdir, Write, Cat, Ls, Cd, Pwd, Mv, Rm, Ln, Readlink, Smkdir, Setq, Unq, Query, Sls, Sln, Srm, Sforget, Find, Index, Tick, Counts}
 use Rattle.hac_model.specs.declared.spaces.Answers.{Answers}
@@ -187,10 +189,31 @@ cycle_against s other = None
 abbrev pub cycle_cause : State → Resolved → Option Refusal
 cycle_cause s command = option_and_then (cycle_against s) (event_of command)
 
--- the first cause that doesn't depend on spaces: what blocks the command, then the limits on the tree itself, then a
--- cycle
+-- a space would have to be asked, and none is attached
+abbrev pub unattached : Option (List ℕ) → Option Refusal
+unattached space = option_map NoSpace space
+
+-- the same of the first mount that would have to be asked for a query
+abbrev pub query_cause : State → Formula ℕ → Option Refusal
+query_cause s query = unattached (first_asked s query)
+
+-- the same of the mount of a document, whose text is to be fetched
+abbrev pub text_cause : State → ℕ → Option Refusal
+text_cause s entry = if is_document_at s.entries entry then unattached (space_at s (parent_of s entry)) else None
+
+-- so far no space is attached: a command that would have to ask one is refused
+abbrev pub space_cause : State → Resolved → Option Refusal
+space_cause s (Cat entry) = text_cause s entry
+space_cause s (Smkdir place query) = query_cause s query
+space_cause s (Setq dir query) = query_cause s query
+space_cause s (Find query) = query_cause s query
+space_cause s other = None
+
+-- the causes that don't depend on answers: what blocks the command, then the limits on the tree itself, then a cycle,
+-- then a space that can't be asked
 abbrev pub early_cause : State → Resolved → Option Refusal
-early_cause s command = first_cause (blocking_cause s command ∷ layout_cause s command ∷ cycle_cause s command ∷ [])
+early_cause s command =
+    first_cause (blocking_cause s command ∷ layout_cause s command ∷ cycle_cause s command ∷ space_cause s command ∷ [])
 
 -- the first cause of all: the limits that depend on what spaces answer come last
 abbrev pub cause : Answers → State → Resolved → Option Refusal

@@ -1,5 +1,5 @@
 -- What the paths of a command lead to, from left to right, the directories of its query last.
-use Rattle.std.specs.Prelude.{ℕ, Bool, true, false, if◌then◌else◌, List, [], ◌∷◌, ◌++◌, Option, Result, Ok, Err}
+use Rattle.std.specs.Prelude.{ℕ, Bool, true, false, if◌then◌else◌, List, [], ◌∷◌, ◌++◌, Option, Some, None, Result, Ok, Err}
 use Rattle.std.specs.Option.{option_map_or}
 use Rattle.hac_model.specs.Run.Answers.{◌>>=◌}
 use Rattle.hac_model.specs.Query.Formula.{Formula}
@@ -7,7 +7,8 @@ use Rattle.hac_model.specs.Query.Formula as query
 use Rattle.hac_model.specs.Tree.Looks.{look}
 use Rattle.hac_model.specs.Tree.Paths.{join}
 use Rattle.hac_model.specs.Tree.Sessions.{stands_in}
-use Rattle.hac_model.specs.Tree.{is_directory_at, path_of}
+use Rattle.hac_model.specs.Tree.Links.{parent_of}
+use Rattle.hac_model.specs.Tree.{is_directory_at, is_document_at, is_mount_at, path_of}
 use Rattle.hac_model.specs.declared.commands.Command.{Command}
 use Rattle.hac_model.specs.declared.commands.Command.TheVariants as command
 use Rattle.hac_model.specs.declared.commands.Line.{Line}
@@ -15,7 +16,7 @@ use Rattle.hac_model.specs.declared.paths.PathWord.{PathWord}
 use Rattle.hac_model.specs.declared.places.Place.{Place}
 use Rattle.hac_model.specs.declared.places.Place.TheVariants.{There, Free}
 use Rattle.hac_model.specs.declared.replies.Refusal.{Refusal}
-use Rattle.hac_model.specs.declared.replies.Refusal.TheVariants.{BadLine, NoPath, NotDir}
+use Rattle.hac_model.specs.declared.replies.Refusal.TheVariants.{BadLine, InMount, NoPath, NotDir}
 use Rattle.hac_model.specs.declared.resolved.Resolved.{Resolved}
 use Rattle.hac_model.specs.declared.resolved.Resolved.TheVariants.{Mkdir, Rmdir, Write, Cat, Ls, Cd, Pwd, Mv, Rm, Ln, Readlink, Smkdir, Setq, Unq, Query, Sls, Sln, Srm, Sforget, Find, Index, Tick, Counts}
 use Rattle.hac_model.specs.declared.states.State.{State}
@@ -23,6 +24,21 @@ use Rattle.hac_model.specs.declared.states.State.{State}
 -- where a path word leads from a directory: to an entry or a vacancy. A symbolic link as its last name is followed or not.
 abbrev pub place : State → ℕ → Bool → PathWord → Result Place Refusal
 place s base follow word = look s follow (join (path_of s base) word)
+
+-- the mount to which a place belongs: that of a document, or one in which nothing has the name
+abbrev pub mount_of : State → Place → Option ℕ
+mount_of s (There number) = if is_document_at s.entries number then Some (parent_of s number) else None
+mount_of s (Free dir name) = if is_mount_at s.entries dir then Some dir else None
+
+-- the place isn't to be in a mount
+abbrev pub outside_mounts : State → Place → Result Place Refusal
+outside_mounts s found = option_map_or (λ mount. Err (InMount (path_of s mount))) (mount_of s found) (Ok found)
+
+-- where a path word leads from a directory, so that something can be put there
+abbrev pub slot : State → ℕ → Bool → PathWord → Result Place Refusal
+slot s base follow word = do
+  found ← place s base follow word
+  outside_mounts s found
 
 -- there is to be an entry there
 abbrev pub wanted_entry : State → Place → Result ℕ Refusal
@@ -35,6 +51,16 @@ entry s base follow word = do
   found ← place s base follow word
   wanted_entry s found
 
+-- the entry there isn't to be a document
+abbrev pub wanted_own : State → ℕ → Result ℕ Refusal
+wanted_own s number = if is_document_at s.entries number then Err (InMount (path_of s (parent_of s number))) else Ok number
+
+-- the entry to which a path word leads, which isn't a document
+abbrev pub own_entry : State → ℕ → Bool → PathWord → Result ℕ Refusal
+own_entry s base follow word = do
+  number ← entry s base follow word
+  wanted_own s number
+
 -- the entry there is to be a directory
 abbrev pub wanted_directory : State → ℕ → Result ℕ Refusal
 wanted_directory s number = if is_directory_at s.entries number then Ok number else Err (NotDir (path_of s number))
@@ -44,6 +70,16 @@ abbrev pub directory : State → ℕ → PathWord → Result ℕ Refusal
 directory s base word = do
   number ← entry s base true word
   wanted_directory s number
+
+-- the directory there isn't to be a mount
+abbrev pub wanted_holder : State → ℕ → Result ℕ Refusal
+wanted_holder s number = if is_mount_at s.entries number then Err (InMount (path_of s number)) else Ok number
+
+-- the directory to which a path word leads, which isn't a mount
+abbrev pub holder : State → ℕ → PathWord → Result ℕ Refusal
+holder s base word = do
+  number ← directory s base word
+  wanted_holder s number
 
 -- the directory to which a path word leads, the one that it goes on from if none is given
 abbrev pub listed_directory : State → ℕ → Option PathWord → Result ℕ Refusal
@@ -82,13 +118,13 @@ item_and_dir make s base item dir = do
 -- nothing without its session.
 abbrev pub resolved : State → ℕ → Command → Result Resolved Refusal
 resolved s base (command.Mkdir path) = do
-  found ← place s base true path
+  found ← slot s base true path
   Ok (Mkdir found)
 resolved s base (command.Rmdir path) = do
-  dir ← directory s base path
+  dir ← holder s base path
   Ok (Rmdir dir)
 resolved s base (command.Write path text) = do
-  found ← place s base true path
+  found ← slot s base true path
   Ok (Write found text)
 resolved s base (command.Cat path) = do
   number ← entry s base true path
@@ -98,24 +134,24 @@ resolved s base (command.Ls path) = do
   Ok (Ls dir)
 resolved s base command.Pwd = Ok (Pwd base)
 resolved s base (command.Mv from to) = do
-  number ← entry s base false from
-  found ← place s base false to
+  number ← own_entry s base false from
+  found ← slot s base false to
   Ok (Mv number found)
 resolved s base (command.Rm path) = do
-  number ← entry s base false path
+  number ← own_entry s base false path
   Ok (Rm number)
 resolved s base (command.Ln target path) = do
-  found ← place s base false path
+  found ← slot s base false path
   Ok (Ln found target)
 resolved s base (command.Readlink path) = do
   number ← entry s base false path
   Ok (Readlink number)
 resolved s base (command.Smkdir path raw) = do
-  found ← place s base true path
+  found ← slot s base true path
   asked ← numbered_query s base raw
   Ok (Smkdir found asked)
 resolved s base (command.Setq path raw) = do
-  dir ← directory s base path
+  dir ← holder s base path
   asked ← numbered_query s base raw
   Ok (Setq dir asked)
 resolved s base (command.Unq path) = do

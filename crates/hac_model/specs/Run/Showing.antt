@@ -1,5 +1,5 @@
 -- What commands that read show.
-use Rattle.std.specs.Prelude.{ℕ, List, [], ◌∷◌, ◌++◌, map, codes, decimal, option_and_then}
+use Rattle.std.specs.Prelude.{ℕ, ◌-◌, if◌then◌else◌, List, [], ◌∷◌, ◌++◌, map, codes, decimal, option_and_then}
 use Rattle.std.specs.List.{flat_map}
 use Rattle.std.specs.Option.{option_map_or}
 use Rattle.hac_model.specs.Query.Formula.{Formula}
@@ -9,7 +9,7 @@ use Rattle.hac_model.specs.Tree.Listing.{children, entry_line}
 use Rattle.hac_model.specs.Tree.Paths.{path_text}
 use Rattle.hac_model.specs.Query.QueryText.{query_text, named_by}
 use Rattle.hac_model.specs.Script.Texts.{escaped_text}
-use Rattle.hac_model.specs.Tree.{body_at, path_of, target_in, text_in}
+use Rattle.hac_model.specs.Tree.{body_at, is_document_at, path_of, target_in, text_in}
 use Rattle.hac_model.specs.declared.marks.Kind.{Kind}
 use Rattle.hac_model.specs.declared.marks.Kind.TheVariants.{Transient, Permanent, Prohibited, Unlinked}
 use Rattle.hac_model.specs.declared.resolved.Resolved.{Resolved}
@@ -37,9 +37,13 @@ query_line s query = codes "= " ++ query_text (named_by (λ dir. path_text (path
 abbrev pub query_lines : State → ℕ → List (List ℕ)
 query_lines s dir = option_map_or (λ query. query_line s query ∷ []) (query_at s dir) []
 
--- a file that a query finds
+-- the letter of an item
+abbrev pub item_letter : State → ℕ → List ℕ
+item_letter s item = if is_document_at s.entries item then codes "o" else codes "f"
+
+-- an item that a query finds
 abbrev pub found_line : State → ℕ → List ℕ
-found_line s item = codes "f " ++ path_text (path_of s item)
+found_line s item = item_letter s item ++ codes " " ++ path_text (path_of s item)
 
 -- how much there is of one thing
 abbrev pub count_text : List ℕ → ℕ → List ℕ
@@ -50,10 +54,10 @@ abbrev pub line_of_counts : Counts → ℕ → ℕ → ℕ → ℕ → List ℕ
 line_of_counts counts plain transient permanent prohibited =
     codes "="
     ++ count_text (codes "files") counts.files
-    ++ count_text (codes "documents") 0
+    ++ count_text (codes "documents") (counts.items - counts.files)
     ++ count_text (codes "directories") plain
     ++ count_text (codes "semantic") counts.semantics
-    ++ count_text (codes "mounts") 0
+    ++ count_text (codes "mounts") counts.mounts
     ++ count_text (codes "symbolic") counts.symlinks
     ++ count_text (codes "transient") transient
     ++ count_text (codes "permanent") permanent

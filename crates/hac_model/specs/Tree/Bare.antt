@@ -8,7 +8,7 @@ use Rattle.hac_model.specs.declared.states.State.{State}
 -- a body without marks and kept answers
 abbrev pub bare_body : Body → Body
 bare_body (Semantic query permanent prohibited) = Semantic query [] []
-bare_body (Mount space documents answers) = Mount space documents []
+bare_body (Mount space answers) = Mount space []
 bare_body other = other
 
 -- the tree alone

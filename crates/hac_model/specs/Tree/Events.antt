@@ -11,7 +11,9 @@ use Rattle.hac_model.specs.Tree.Sessions.{are_few, is_busy, sessions_with}
 use Rattle.hac_model.specs.Script.PathWords.{is_target}
 use Rattle.hac_model.specs.Script.SpaceNames.{is_space_name}
 use Rattle.hac_model.specs.Query.Queries.{is_query}
-use Rattle.hac_model.specs.Tree.{child, entry_at, extends, is_directory_at, is_dirty, is_file_at, is_leaf_at, is_made_directory, path_of}
+use Rattle.hac_model.specs.Query.Queries.{terms_of}
+use Rattle.hac_model.specs.Tree.Mounts.{is_kept}
+use Rattle.hac_model.specs.Tree.{answers_in, child, entry_at, extends, is_directory_at, is_dirty, is_document_at, is_file_at, is_leaf_at, is_made_directory, is_mount, is_mount_at, path_of, space_in}
 use Rattle.hac_model.specs.declared.events.Event.{Event}
 use Rattle.hac_model.specs.declared.events.Event.TheVariants.{Mkdir, NewFile, Rewrite, Ln, Smkdir, Setq, Unq, Mark, Mv, Rm, Rmdir, Step, Cd}
 use Rattle.hac_model.specs.declared.marks.Kind.{Kind}
@@ -30,9 +32,17 @@ next_dirty (entry ∷ entries) = if is_dirty entry.body then Some entry.number e
 abbrev pub dirty : State → ℕ
 dirty s = dirty_count s.entries
 
--- the directory has room for an entry of this name
+-- a directory has no entry of this name
+abbrev pub is_vacant : State → ℕ → List ℕ → Bool
+is_vacant s dir name = is_directory_at s.entries dir && is_name name && is_none (child s.entries dir name)
+
+-- an entry of this name can be put into the directory, which isn't a mount
 abbrev pub is_free : State → ℕ → List ℕ → Bool
-is_free s dir name = is_directory_at s.entries dir && is_name name && is_none (child s.entries dir name)
+is_free s dir name = is_vacant s dir name && not (is_mount_at s.entries dir)
+
+-- a directory that was made isn't a mount
+abbrev pub is_made_holder : State → ℕ → Bool
+is_made_holder s dir = is_made_directory s.entries dir && not (is_mount_at s.entries dir)
 
 -- the directory is empty
 abbrev pub is_bare : List Entry → ℕ → Bool
@@ -49,6 +59,18 @@ are_directories s dirs = list_all (λ dir. is_directory_at s.entries dir) dirs
 -- the query may be asked: it holds no more than it may, and names directories
 abbrev pub may_ask : State → Formula ℕ → Bool
 may_ask s query = is_query query && are_directories s (named_in query)
+
+-- the mount needn't be asked for the query: it keeps an answer for each of its terms. Other entries keep none.
+abbrev pub knows_all : Formula ℕ → Body → Bool
+knows_all query body = not (is_mount body) || list_all (is_kept (answers_in body)) (terms_of query)
+
+-- the space of the first mount that has to be asked for the query, if one has to
+abbrev pub first_asked_in : Formula ℕ → List Entry → Option (List ℕ)
+first_asked_in query [] = None
+first_asked_in query (entry ∷ entries) = if knows_all query entry.body then first_asked_in query entries else space_in entry.body
+
+abbrev pub first_asked : State → Formula ℕ → Option (List ℕ)
+first_asked s query = first_asked_in query s.entries
 
 -- no query names the directory
 abbrev pub is_unreferenced : State → ℕ → Bool
@@ -68,13 +90,14 @@ is_placed s (Mkdir dir name) = is_free s dir name
 is_placed s (NewFile dir name text) = is_free s dir name && is_text text
 is_placed s (Rewrite file text) = is_file_at s.entries file && is_text text
 is_placed s (Ln dir name target) = is_free s dir name && is_target target
-is_placed s (Smkdir dir name query told) = is_free s dir name && (may_ask s query && length told == 0)
-is_placed s (Setq dir query told) = is_made_directory s.entries dir && (may_ask s query && length told == 0)
+is_placed s (Smkdir dir name query told) = is_free s dir name && (may_ask s query && (is_none (first_asked s query) && length told == 0))
+is_placed s (Setq dir query told) = is_made_holder s dir && (may_ask s query && (is_none (first_asked s query) && length told == 0))
 is_placed s (Unq dir) = is_semantic s dir
 is_placed s (Mark mark) = is_item s mark.item && is_semantic s mark.dir
-is_placed s (Mv entry dir name) = is_some (entry_at s.entries entry) && is_free s dir name && not (is_inside s dir entry)
+is_placed s (Mv entry dir name) =
+    is_some (entry_at s.entries entry) && not (is_document_at s.entries entry) && is_free s dir name && not (is_inside s dir entry)
 is_placed s (Rm entry) = is_leaf_at s.entries entry
-is_placed s (Rmdir dir) = is_made_directory s.entries dir && is_bare s.entries dir
+is_placed s (Rmdir dir) = is_made_holder s dir && is_bare s.entries dir
 is_placed s Step = is_some (next_dirty s.entries)
 is_placed s (Cd session dir) = is_space_name session && is_directory_at s.entries dir
 is_placed s other = false

@@ -6,7 +6,7 @@ use Rattle.hac_model.specs.Tree.Depends.{named_in}
 use Rattle.hac_model.specs.Tree.Events.{apply, edited, put_in, removed, without}
 use Rattle.hac_model.specs.Query.Formula.{Formula}
 use Rattle.hac_model.specs.Tree.Links.{parent_of, query_at}
-use Rattle.hac_model.specs.Tree.{entry_at, permanent_in, prohibited_in, query_in}
+use Rattle.hac_model.specs.Tree.{answers_in, entry_at, permanent_in, prohibited_in, query_in}
 use Rattle.hac_model.specs.declared.events.Event.{Event}
 use Rattle.hac_model.specs.declared.events.Event.TheVariants.{Smkdir, Setq, Unq, Mark, Mv, Rm, Rmdir, Cd}
 use Rattle.hac_model.specs.declared.marks.Kind.{Kind}
@@ -39,11 +39,6 @@ no_facts = record { marks = no_marks; answers = []; edges = [] }
 abbrev pub marks_in : Body → Marks
 marks_in body = record { permanent = permanent_in body; prohibited = prohibited_in body }
 
--- the kept answers of a mount
-abbrev pub answers_in : Body → List Answer
-answers_in (Mount space documents answers) = answers
-answers_in other = []
-
 -- what depends on a directory and on those that its query names, if it has one
 abbrev pub edges_to : ℕ → Option (Formula ℕ) → List ℕ
 edges_to dir query = option_map_or (λ asked. dir ∷ named_in asked) query []
@@ -63,7 +58,7 @@ facts_of s number = facts_at (entry_at s.entries number)
 -- a body with the marks and answers of these facts
 abbrev pub filled : Facts → Body → Body
 filled facts (Semantic query permanent prohibited) = Semantic query facts.marks.permanent facts.marks.prohibited
-filled facts (Mount space documents answers) = Mount space documents facts.answers
+filled facts (Mount space answers) = Mount space facts.answers
 filled facts other = other
 
 abbrev pub filled_entry : (ℕ → Facts) → Entry → Entry

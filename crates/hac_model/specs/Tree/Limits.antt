@@ -2,12 +2,12 @@
 use Rattle.std.specs.Prelude.{ℕ, Bool, ◌+◌, if◌then◌else◌, nat_lt, nat_le, max, List, [], ◌∷◌, ◌++◌, length, sum_by, count_by, Option, Some, None, is_some}
 use Rattle.std.specs.List.{list_all}
 use Rattle.std.specs.Option.{option_map_or}
-use Rattle.hac_model.specs.Tree.{is_directory, is_dirty, is_file, is_path_short, is_plain, is_symlink, query_in}
+use Rattle.hac_model.specs.Tree.{is_directory, is_dirty, is_file, is_linkable, is_mount, is_path_short, is_plain, is_symlink, query_in}
 use Rattle.hac_model.specs.declared.counts.Counts.{Counts}
 use Rattle.hac_model.specs.declared.limits.Limit.{Limit}
 use Rattle.hac_model.specs.declared.limits.LimitWord.{LimitWord}
-use Rattle.hac_model.specs.declared.limits.LimitWord.TheVariants.{Texts, Dirs, Semantics, Symlinks, Path, Items, Numbers}
-use Rattle.hac_model.specs.declared.limits.TheConstants.{TEXT_LIMIT, TEXTS_LIMIT, DIRS_LIMIT, SEMANTICS_LIMIT, SYMLINKS_LIMIT, ITEMS_LIMIT, NUMBERS_LIMIT}
+use Rattle.hac_model.specs.declared.limits.LimitWord.TheVariants.{Texts, Dirs, Semantics, Mounts, Symlinks, Path, Items, Numbers}
+use Rattle.hac_model.specs.declared.limits.TheConstants.{TEXT_LIMIT, TEXTS_LIMIT, DIRS_LIMIT, SEMANTICS_LIMIT, MOUNTS_LIMIT, SYMLINKS_LIMIT, ITEMS_LIMIT, NUMBERS_LIMIT}
 use Rattle.hac_model.specs.declared.states.Body.{Body}
 use Rattle.hac_model.specs.declared.states.Body.TheVariants.{File}
 use Rattle.hac_model.specs.declared.states.Entry.{Entry}
@@ -33,11 +33,18 @@ directory_count entries = count_by (λ entry. is_directory entry.body) entries +
 abbrev pub semantic_count : List Entry → ℕ
 semantic_count entries = count_by (λ entry. is_some (query_in entry.body)) entries
 
+abbrev pub mount_count : List Entry → ℕ
+mount_count entries = count_by (λ entry. is_mount entry.body) entries
+
 abbrev pub symlink_count : List Entry → ℕ
 symlink_count entries = count_by (λ entry. is_symlink entry.body) entries
 
 abbrev pub file_count : List Entry → ℕ
 file_count entries = count_by (λ entry. is_file entry.body) entries
+
+-- how many files and documents there are
+abbrev pub item_count : List Entry → ℕ
+item_count entries = count_by (λ entry. is_linkable entry.body) entries
 
 -- how many files are dirty
 abbrev pub dirty_count : List Entry → ℕ
@@ -61,8 +68,10 @@ counts s = record {
   bytes = text_size s.entries;
   directories = directory_count s.entries;
   semantics = semantic_count s.entries;
+  mounts = mount_count s.entries;
   symlinks = symlink_count s.entries;
   files = file_count s.entries;
+  items = item_count s.entries;
   dirty = dirty_count s.entries;
   long_paths = long_paths s.entries;
   next = s.next;
@@ -78,6 +87,7 @@ layout_limits counts =
     limit counts.bytes TEXTS_LIMIT Texts
     ∷ limit counts.directories DIRS_LIMIT Dirs
     ∷ limit counts.semantics SEMANTICS_LIMIT Semantics
+    ∷ limit counts.mounts MOUNTS_LIMIT Mounts
     ∷ limit counts.symlinks SYMLINKS_LIMIT Symlinks
     ∷ limit counts.long_paths 0 Path
     ∷ []
@@ -85,7 +95,7 @@ layout_limits counts =
 -- those that depend on what spaces answer too, which are tested after all else
 abbrev pub answer_limits : Counts → List Limit
 answer_limits counts =
-    limit counts.files ITEMS_LIMIT Items
+    limit counts.items ITEMS_LIMIT Items
     ∷ limit counts.next NUMBERS_LIMIT Numbers
     ∷ []
 

@@ -1,20 +1,22 @@
 -- What directories provide, and the links that their queries give them.
 use Rattle.std.specs.Prelude.{ℕ, zero, suc, Bool, false, ◌==◌, ◌&&◌, ◌||◌, not, if◌then◌else◌, List, [], filter, length, sum_by, Option, is_some, option_and_then}
 use Rattle.std.specs.List.{list_any, range_with_len}
-use Rattle.std.specs.Option.{option_map_or}
+use Rattle.std.specs.Option.{option_map_or, unwrap_or}
 use Rattle.hac_model.specs.Tree.Limits.{semantic_count}
 use Rattle.hac_model.specs.Query.Formula.{Formula}
 use Rattle.hac_model.specs.Query.Queries.{query_meaning}
-use Rattle.hac_model.specs.Tree.{body_at, entry_at, extends, is_directory_at, is_file_at, path_of, permanent_in, prohibited_in, query_in, shown_text}
+use Rattle.hac_model.specs.Tree.Mounts.{kept_for}
+use Rattle.hac_model.specs.Tree.{answers_in, body_at, entry_at, extends, is_directory_at, is_document_at, is_linkable, path_of, permanent_in, prohibited_in, query_in, shown_text, space_in}
 use Rattle.hac_model.specs.Query.Words.{has_term}
 use Rattle.hac_model.specs.declared.marks.Kind.{Kind}
 use Rattle.hac_model.specs.declared.marks.Kind.TheVariants.{Transient, Permanent, Prohibited, Unlinked}
+use Rattle.hac_model.specs.declared.states.Answer.{Answer}
 use Rattle.hac_model.specs.declared.states.State.{State}
 use Rattle.hac_model.specs.declared.terms.Term.{Term}
 
--- what can be linked has the number: so far a file
+-- what can be linked has the number: a file or a document
 abbrev pub is_item : State → ℕ → Bool
-is_item s number = is_file_at s.entries number
+is_item s number = option_map_or is_linkable (body_at s.entries number) false
 
 -- what can be linked, in order of number
 abbrev pub items : State → List ℕ
@@ -27,6 +29,22 @@ parent_of s number = option_map_or (λ entry. entry.parent) (entry_at s.entries 
 -- the text of an item as it was last indexed
 abbrev pub shown_of : State → ℕ → Option (List ℕ)
 shown_of s item = option_and_then shown_text (body_at s.entries item)
+
+-- queries judge the item: it is a document, or a file that was indexed
+abbrev pub is_judged : State → ℕ → Bool
+is_judged s item = is_document_at s.entries item || is_some (shown_of s item)
+
+-- the space that a mount shows
+abbrev pub space_at : State → ℕ → Option (List ℕ)
+space_at s mount = option_and_then space_in (body_at s.entries mount)
+
+-- what the space of a mount answered
+abbrev pub answers_at : State → ℕ → List Answer
+answers_at s mount = option_map_or answers_in (body_at s.entries mount) []
+
+-- the documents of a mount that had a term when its space was asked for it
+abbrev pub kept_at : State → ℕ → Term → List ℕ
+kept_at s mount term = unwrap_or (kept_for (answers_at s mount) term) []
 
 -- the query of a directory, where it is semantic
 abbrev pub query_at : State → ℕ → Option (Formula ℕ)
@@ -59,9 +77,12 @@ is_permanent s dir item = has (permanent_at s dir) item
 abbrev pub is_prohibited : State → ℕ → ℕ → Bool
 is_prohibited s dir item = has (prohibited_at s dir) item
 
--- the item has the term, by its text as last indexed. One that was never indexed has none.
+-- the item has the term: a document by what its mount keeps, a file by its text as last indexed. A file that was never
+-- indexed has none.
 abbrev pub atom : State → Term → ℕ → Bool
-atom s term item = option_map_or (λ text. has_term text term) (shown_of s item) false
+atom s term item =
+    if is_document_at s.entries item then has (kept_at s (parent_of s item) term) item
+    else option_map_or (λ text. has_term text term) (shown_of s item) false
 
 -- Below, `linked` says of each directory whether the item is linked in it.
 
@@ -81,11 +102,11 @@ satisfies s linked dir item = option_map_or (λ query. holds s linked query item
 abbrev pub is_unmarked : State → ℕ → ℕ → Bool
 is_unmarked s dir item = not (is_permanent s dir item || is_prohibited s dir item)
 
--- the directory is to have a found link to the item: its parent provides it, it was indexed, it satisfies the query,
+-- the directory is to have a found link to the item: its parent provides it, queries judge it, it satisfies the query,
 -- and the user says nothing else
 abbrev pub passes : State → (ℕ → Bool) → ℕ → ℕ → Bool
 passes s linked dir item =
-    provide s linked (parent_of s dir) item && is_some (shown_of s item) && satisfies s linked dir item && is_unmarked s dir item
+    provide s linked (parent_of s dir) item && is_judged s item && satisfies s linked dir item && is_unmarked s dir item
 
 -- the directories in which an item is linked, given the links of each
 abbrev pub column : (ℕ → List ℕ) → ℕ → ℕ → Bool
@@ -104,9 +125,9 @@ rounds (suc n) s = round s (rounds n s)
 unfoldable pub links : State → ℕ → List ℕ
 links s = rounds (semantic_count s.entries) s
 
--- the items that a query finds anywhere: those that were indexed and satisfy it, given the links
+-- the items that a query finds anywhere: those that it judges and that satisfy it, given the links
 unfoldable pub found_by : State → Formula ℕ → List ℕ
-found_by s query = filter (λ item. is_some (shown_of s item) && holds s (column (links s) item) query item) (items s)
+found_by s query = filter (λ item. is_judged s item && holds s (column (links s) item) query item) (items s)
 
 -- how an item is linked in a directory
 unfoldable pub kind : State → ℕ → ℕ → Kind

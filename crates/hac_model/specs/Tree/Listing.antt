@@ -3,7 +3,7 @@ use Rattle.std.specs.Prelude.{ℕ, Bool, ◌==◌, if◌then◌else◌, List, []
 use Rattle.std.specs.Cmp.Lexicographic.{slice_cmp}
 use Rattle.std.specs.Ordering.{nat_cmp, is_lt}
 use Rattle.hac_model.specs.declared.states.Body.{Body}
-use Rattle.hac_model.specs.declared.states.Body.TheVariants.{File, Dir, Symlink, Semantic, Mount}
+use Rattle.hac_model.specs.declared.states.Body.TheVariants.{File, Dir, Symlink, Semantic, Mount, Document}
 use Rattle.hac_model.specs.declared.states.Entry.{Entry}
 use Rattle.hac_model.specs.declared.states.State.{State}
 
@@ -32,7 +32,8 @@ letter (File text dirty shown) = codes "f"
 letter Dir = codes "d"
 letter (Symlink target) = codes "l"
 letter (Semantic query permanent prohibited) = codes "s"
-letter (Mount space documents answers) = codes "m"
+letter (Mount space answers) = codes "m"
+letter Document = codes "o"
 
 -- an entry as `ls` lists it
 abbrev pub entry_line : Entry → List ℕ

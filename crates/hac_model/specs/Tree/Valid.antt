@@ -1,23 +1,28 @@
 -- Which states there can be.
-use Rattle.std.specs.Prelude.{◌≡◌, ℕ, ◌<◌, ◌≤◌, ◌+◌, ◌==◌, Bool, true, false, List, [], ◌∷◌, Option, Some, None, IsTrue}
+use Rattle.std.specs.Prelude.{◌≡◌, ℕ, ◌<◌, ◌≤◌, ◌+◌, ◌==◌, ◌&&◌, if◌then◌else◌, Bool, true, false, List, [], ◌∷◌, Option, Some, None, IsTrue}
 use Rattle.std.specs.List.{AllByRecursion}
 use Rattle.std.specs.Option.{option_map_or}
 use Rattle.std.specs.Str.{bytes_eq}
 use Rattle.hac_model.specs.Tree.Depends.{IsAcyclic}
 use Rattle.hac_model.specs.Query.Formula.{Formula}
 use Rattle.hac_model.specs.Tree.Limits.{is_text, passed_limit}
+use Rattle.hac_model.specs.Tree.Mounts.{is_kept, terms_in_use}
 use Rattle.hac_model.specs.Tree.Names.{is_name}
 use Rattle.hac_model.specs.Tree.Sessions.{are_few}
 use Rattle.hac_model.specs.Script.PathWords.{is_target}
 use Rattle.hac_model.specs.Script.SpaceNames.{is_space_name}
 use Rattle.hac_model.specs.Tree.Events.{may_ask}
-use Rattle.hac_model.specs.Tree.Links.{has, is_item}
-use Rattle.hac_model.specs.Tree.{child, is_directory_at}
+use Rattle.hac_model.specs.Query.Queries.{is_askable}
+use Rattle.hac_model.specs.Query.Terms.{is_term_before}
+use Rattle.hac_model.specs.Tree.Links.{has, is_item, parent_of}
+use Rattle.hac_model.specs.Tree.{child, is_directory_at, is_document, is_document_at, is_holder_at, is_mount_at}
+use Rattle.hac_model.specs.declared.states.Answer.{Answer}
 use Rattle.hac_model.specs.declared.states.Body.{Body}
-use Rattle.hac_model.specs.declared.states.Body.TheVariants.{File, Dir, Symlink, Semantic}
+use Rattle.hac_model.specs.declared.states.Body.TheVariants.{File, Dir, Symlink, Semantic, Mount, Document}
 use Rattle.hac_model.specs.declared.states.Entry.{Entry}
 use Rattle.hac_model.specs.declared.states.Session.{Session}
 use Rattle.hac_model.specs.declared.states.State.{State}
+use Rattle.hac_model.specs.declared.terms.Term.{Term}
 
 -- the numbers of the entries rise, above one number and below another
 abbrev pub NumbersRise : ℕ → List Entry → ℕ → Type 0
@@ -35,20 +40,24 @@ pub record IsSoundFile (text : List ℕ) (dirty : Bool) (shown : Option (List �
   pub shown_fits : IsTrue (option_map_or is_text shown true)
   pub clean : dirty ≡ false → shown ≡ Some text
 
--- the parts of a body fit together. No body is of a kind that no command makes yet.
+-- an entry is where its kind may be: a document in a mount, and anything else in a directory that is none
+abbrev pub is_in_place : List Entry → Entry → Bool
+is_in_place entries entry = if is_document entry.body then is_mount_at entries entry.parent else is_holder_at entries entry.parent
+
+-- the parts of a body fit together
 abbrev pub IsSound : Body → Type 0
 IsSound (File text dirty shown) = IsSoundFile text dirty shown
 IsSound Dir = Unit {0}
 IsSound (Symlink target) = IsTrue (is_target target)
 IsSound (Semantic query permanent prohibited) = Unit {0}
-IsSound other = ⊥
+IsSound (Mount space answers) = IsTrue (is_space_name space)
+IsSound Document = Unit {0}
 
 -- the entries are sound, and they fit one another and the next number: the tree without its queries
 pub record IsLayout (s : State) : Type 0 where
   pub numbers : NumbersRise 0 s.entries s.next
   pub names : AllByRecursion (λ entry. IsTrue (is_name entry.name)) s.entries
-  -- each is in a directory
-  pub parents : AllByRecursion (λ entry. IsTrue (is_directory_at s.entries entry.parent)) s.entries
+  pub places : AllByRecursion (λ entry. IsTrue (is_in_place s.entries entry)) s.entries
   pub differ : NamesDiffer s.entries
   pub bodies : AllByRecursion (λ entry. IsSound entry.body) s.entries
   -- so each path is short, which is to say that steps over parents end at the root
@@ -75,6 +84,32 @@ abbrev pub AsksWell : State → Body → Type 0
 AsksWell s (Semantic query permanent prohibited) = IsSoundQuery s query permanent prohibited
 AsksWell s other = Unit {0}
 
+-- the terms rise, each coming after this one if there is one
+abbrev pub TermsRise : Option Term → List Answer → Type 0
+TermsRise last [] = Unit {0}
+TermsRise last (answer ∷ answers) =
+    IsTrue (option_map_or (λ before. is_term_before before answer.term) last true) × TermsRise (Some answer.term) answers
+
+-- the number is that of a document of the mount
+abbrev pub is_document_of : State → ℕ → ℕ → Bool
+is_document_of s mount number = is_document_at s.entries number && (parent_of s number == mount)
+
+-- an answer names documents of the mount, each once, and its term is one that texts can have
+pub record IsAnswer (s : State) (mount : ℕ) (answer : Answer) : Type 0 where
+  pub fits : IsTrue (is_askable answer.term)
+  pub rise : RiseFrom 0 answer.documents
+  pub documents : AllByRecursion (λ number. IsTrue (is_document_of s mount number)) answer.documents
+
+-- a mount keeps one answer for a term at most, and one for each term in use
+pub record AreAnswers (s : State) (mount : ℕ) (answers : List Answer) : Type 0 where
+  pub rise : TermsRise None answers
+  pub sound : AllByRecursion (IsAnswer s mount) answers
+  pub all : AllByRecursion (λ term. IsTrue (is_kept answers term)) (terms_in_use s.entries)
+
+abbrev pub KeepsWell : State → ℕ → Body → Type 0
+KeepsWell s mount (Mount space answers) = AreAnswers s mount answers
+KeepsWell s mount other = Unit {0}
+
 -- no two sessions have one name
 abbrev pub SessionsDiffer : List Session → Type 0
 SessionsDiffer [] = Unit {0}
@@ -89,9 +124,10 @@ pub record AreSessions (s : State) : Type 0 where
   pub elsewhere : AllByRecursion (λ session. (session.dir == 0) ≡ false) s.sessions
   pub few : IsTrue (are_few s.sessions)
 
--- a tree whose queries, marks and sessions are sound too
+-- a tree whose queries, marks, kept answers and sessions are sound too
 pub record IsValid (s : State) : Type 0 where
   pub layout : IsLayout s
   pub queries : AllByRecursion (λ entry. AsksWell s entry.body) s.entries
+  pub answers : AllByRecursion (λ entry. KeepsWell s entry.number entry.body) s.entries
   pub acyclic : IsAcyclic s
   pub sessions : AreSessions s

@@ -1,5 +1,5 @@
 -- Whether a state is valid, as a test that can be computed: one for each of the definitions of `Valid`.
-use Rattle.std.specs.Prelude.{ℕ, ◌+◌, ◌==◌, ◌&&◌, ◌||◌, not, nat_lt, nat_le, Bool, true, false, List, [], ◌∷◌, Option, is_none}
+use Rattle.std.specs.Prelude.{ℕ, ◌+◌, ◌==◌, ◌&&◌, ◌||◌, not, nat_lt, nat_le, Bool, true, false, List, [], ◌∷◌, Option, Some, None, is_none}
 use Rattle.std.specs.List.{list_all, list_any}
 use Rattle.std.specs.Option.{option_map_or}
 use Rattle.std.specs.Str.{bytes_eq}
@@ -8,16 +8,22 @@ use Rattle.hac_model.specs.Script.PathWords.{is_target}
 use Rattle.hac_model.specs.Script.SpaceNames.{is_space_name}
 use Rattle.hac_model.specs.Tree.Depends.{depends, reaches}
 use Rattle.hac_model.specs.Tree.Events.{may_ask}
+use Rattle.hac_model.specs.Query.Queries.{is_askable}
+use Rattle.hac_model.specs.Query.Terms.{is_term_before}
 use Rattle.hac_model.specs.Tree.Limits.{is_text, passed_limit}
+use Rattle.hac_model.specs.Tree.Mounts.{is_kept, terms_in_use}
+use Rattle.hac_model.specs.Tree.Valid.{is_document_of, is_in_place}
 use Rattle.hac_model.specs.Tree.Links.{has, is_item}
 use Rattle.hac_model.specs.Tree.Names.{is_name}
 use Rattle.hac_model.specs.Tree.Sessions.{are_few}
 use Rattle.hac_model.specs.Tree.{child, is_directory_at}
+use Rattle.hac_model.specs.declared.states.Answer.{Answer}
 use Rattle.hac_model.specs.declared.states.Body.{Body}
-use Rattle.hac_model.specs.declared.states.Body.TheVariants.{File, Dir, Symlink, Semantic}
+use Rattle.hac_model.specs.declared.states.Body.TheVariants.{File, Dir, Symlink, Semantic, Mount, Document}
 use Rattle.hac_model.specs.declared.states.Entry.{Entry}
 use Rattle.hac_model.specs.declared.states.Session.{Session}
 use Rattle.hac_model.specs.declared.states.State.{State}
+use Rattle.hac_model.specs.declared.terms.Term.{Term}
 
 -- the numbers of the entries rise, above one number and below another
 abbrev pub do_numbers_rise : ℕ → List Entry → ℕ → Bool
@@ -40,14 +46,15 @@ is_sound (File text dirty shown) = is_sound_file text dirty shown
 is_sound Dir = true
 is_sound (Symlink target) = is_target target
 is_sound (Semantic query permanent prohibited) = true
-is_sound other = false
+is_sound (Mount space answers) = is_space_name space
+is_sound Document = true
 
 -- the entries are sound, and they fit one another and the next number
 unfoldable pub is_layout : State → Bool
 is_layout s =
     do_numbers_rise 0 s.entries s.next
     && list_all (λ entry. is_name entry.name) s.entries
-    && list_all (λ entry. is_directory_at s.entries entry.parent) s.entries
+    && list_all (λ entry. is_in_place s.entries entry) s.entries
     && do_names_differ s.entries
     && list_all (λ entry. is_sound entry.body) s.entries
     && is_none (passed_limit s)
@@ -70,6 +77,28 @@ is_sound_query s query permanent prohibited =
 abbrev pub asks_well : State → Body → Bool
 asks_well s (Semantic query permanent prohibited) = is_sound_query s query permanent prohibited
 asks_well s other = true
+
+-- the terms rise, each coming after this one if there is one
+abbrev pub do_terms_rise : Option Term → List Answer → Bool
+do_terms_rise last [] = true
+do_terms_rise last (answer ∷ answers) =
+    option_map_or (λ before. is_term_before before answer.term) last true && do_terms_rise (Some answer.term) answers
+
+-- an answer names documents of the mount, each once, and its term is one that texts can have
+abbrev pub is_answer : State → ℕ → Answer → Bool
+is_answer s mount answer =
+    is_askable answer.term && do_rise_from 0 answer.documents
+    && list_all (λ number. is_document_of s mount number) answer.documents
+
+-- a mount keeps one answer for a term at most, and one for each term in use
+abbrev pub are_answers : State → ℕ → List Answer → Bool
+are_answers s mount answers =
+    do_terms_rise None answers && list_all (is_answer s mount) answers
+    && list_all (λ term. is_kept answers term) (terms_in_use s.entries)
+
+abbrev pub keeps_well : State → ℕ → Body → Bool
+keeps_well s mount (Mount space answers) = are_answers s mount answers
+keeps_well s mount other = true
 
 -- the directory depends on one that depends on it
 abbrev pub returns : State → ℕ → Bool
@@ -96,4 +125,7 @@ are_sessions s =
 
 -- the state is valid
 unfoldable pub is_valid : State → Bool
-is_valid s = is_layout s && list_all (λ entry. asks_well s entry.body) s.entries && is_acyclic s && are_sessions s
+is_valid s =
+    is_layout s && list_all (λ entry. asks_well s entry.body) s.entries
+    && list_all (λ entry. keeps_well s entry.number entry.body) s.entries
+    && is_acyclic s && are_sessions s
