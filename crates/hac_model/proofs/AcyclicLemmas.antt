@@ -27,6 +27,7 @@ use Rattle.hac_model.proofs.GraphLemmas.{AreReplaced, never_returns-fewer, never
 use Rattle.hac_model.proofs.MapLemmas.{entry_at-mapped}
 use Rattle.hac_model.proofs.TreeLemmas.{entry_at-all, entry_at-cases, entry_at-next, entry_at-number, rise-below, place-directory}
 use Rattle.hac_model.proofs.ValidLemmas.{accepted-parts, apply-layout, empty-layout, free-parts, move-parts, setq-parts, smkdir-parts}
+use Rattle.hac_model.proofs.KeptLemmas.{apply-answers}
 
 -- Edges lead to directories.
 

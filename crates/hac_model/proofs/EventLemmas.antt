@@ -1,6 +1,6 @@
 -- The events of a command that isn't refused can happen, and steps leave fewer files dirty.
 use Rattle.std.proofs.Common.{◌≡◌, ℕ, zero, suc, ◌+◌, ◌<◌, ◌≤◌, Bool, true, false, cond, List, [], ◌∷◌, length, subst, refl, ap, sym, ◌∙◌, arith, zero-add}
-use Rattle.std.specs.Prelude.{◌==◌, ◌&&◌, ◌||◌, filter, map, min, not, nat_lt, replicate, Option, Some, None, Ok, IfSome, IsTrue, is_some, is_none}
+use Rattle.std.specs.Prelude.{if◌then◌else◌, ◌==◌, ◌&&◌, ◌||◌, filter, map, min, not, nat_lt, replicate, Option, Some, None, Ok, IfSome, IsTrue, is_some, is_none}
 use Rattle.std.specs.List.{list_all}
 use Rattle.std.specs.Option.{option_map, option_map_or}
 use Rattle.std.proofs.lemmas.Bool.{and_from, and_parts, not-true, not_from_false}
@@ -66,18 +66,20 @@ no_limit None h = refl
 no_limit (Some word) h = absurd cc
 
 -- nothing blocks the event, no directory would depend on itself, and the next state exceeds no limit
-pub cause-parts : (s : State) (r : Resolved) → cause no_answers s r ≡ None → (blocking_cause s r ≡ None) × (cycle_cause s r ≡ None) × (passed_limit (led_to no_answers s r) ≡ None)
+pub cause-parts : (s : State) (r : Resolved) → cause no_answers s r ≡ None → (blocking_cause s r ≡ None) × (cycle_cause s r ≡ None) × (passed_limit (led_to no_answers s r) ≡ None) × (space_cause s r ≡ None)
 cause-parts s r h =
     let both = no_cause (early_cause s r) (answer_cause no_answers s r ∷ []) h in
-    let early = no_cause (blocking_cause s r) (layout_cause s r ∷ cycle_cause s r ∷ []) both.0 in
-    let layout = no_cause (layout_cause s r) (cycle_cause s r ∷ []) early.1 in
-    let cycle = no_cause (cycle_cause s r) [] layout.1 in
+    let early = no_cause (blocking_cause s r) (layout_cause s r ∷ cycle_cause s r ∷ space_cause s r ∷ []) both.0 in
+    let layout = no_cause (layout_cause s r) (cycle_cause s r ∷ space_cause s r ∷ []) early.1 in
+    let cycle = no_cause (cycle_cause s r) (space_cause s r ∷ []) layout.1 in
+    let space = no_cause (space_cause s r) [] cycle.1 in
     let answers = no_cause (answer_cause no_answers s r) [] both.1 in (
       early.0,
       cycle.0,
       passed-both (led_to no_answers s r)
           (no_limit (first_passed (layout_limits (counts (led_to no_answers s r)))) layout.0)
           (no_limit (first_passed (answer_limits (counts (led_to no_answers s r)))) answers.0),
+      space.0,
     )
 
 lives-some : (s : State) (n : ℕ) → is_live s.entries n ≡ true → (n == 0) ≡ false → is_some (entry_at s.entries n) ≡ true
@@ -335,13 +337,13 @@ made-happens s (Some e) placed clear limits =
     let possible = and_from (is_clear s e) (is_placed s e) clear placed in
     (and_from (is_possible s e) (is_none (passed_limit (apply s e))) possible (ap (λ (o : Option LimitWord). is_none o) limits), tt)
 
-pub unblocked-happen : (s : State) (r : Resolved) → IsValid s → AllStand s r → blocking_cause s r ≡ None → cycle_cause s r ≡ None → passed_limit (led_to no_answers s r) ≡ None → AllHappen s (events_of no_answers s r)
-unblocked-happen s Index h there free acyclic limits = steps-happen (dirty s) s h (omega arith)
-unblocked-happen s (Tick steps) h there free acyclic limits = steps-happen (min steps (dirty s)) s h (omega arith)
-unblocked-happen s r h there free acyclic limits =
-    made-happens s (event_of r) (unblocked-placed s h.layout r there free) (unblocked-clear s h.layout r there free acyclic) limits
+pub unblocked-happen : (s : State) (r : Resolved) → IsValid s → AllStand s r → blocking_cause s r ≡ None → cycle_cause s r ≡ None → passed_limit (led_to no_answers s r) ≡ None → space_cause s r ≡ None → AllHappen s (events_of no_answers s r)
+unblocked-happen s Index h there free acyclic limits known = steps-happen (dirty s) s h (omega arith)
+unblocked-happen s (Tick steps) h there free acyclic limits known = steps-happen (min steps (dirty s)) s h (omega arith)
+unblocked-happen s r h there free acyclic limits known =
+    made-happens s (event_of r) (unblocked-placed s h.layout r there free known) (unblocked-clear s h.layout r there free acyclic) limits
 
 pub commands-happen : (s : State) (line : Line) (r : Resolved) → IsValid s → IsTrue (is_spelled_line line) → resolve s line ≡ Ok r → cause no_answers s r ≡ None → AllHappen s (events_of no_answers s r)
 commands-happen s line r h spelled leads free =
     let parts = cause-parts s r free in
-    unblocked-happen s r h (line-stands s line r h spelled leads) parts.0 parts.1 parts.2
+    unblocked-happen s r h (line-stands s line r h spelled leads) parts.0 parts.1 parts.2 parts.3

@@ -1,6 +1,7 @@
 pub mod TreeLemmas
 pub mod ChangeLemmas
 pub mod Walks
+pub mod KeptLemmas
 pub mod LimitLemmas
 pub mod PathLemmas
 pub mod PrefixLemmas

@@ -11,7 +11,7 @@ use Rattle.hac_model.specs.Tree.Events.{accepted, apply, is_possible, put_in, wi
 use Rattle.hac_model.specs.Tree.Facts.{Facts, Marks, facts_after, facts_at, facts_of, no_facts, put_at, with_mark}
 use Rattle.hac_model.specs.Tree.Kinds as kinds
 use Rattle.hac_model.specs.Tree.Limits.{passed_limit}
-use Rattle.hac_model.specs.Tree.Links.{column, found_by, has, holds, is_below, is_permanent, is_prohibited, is_semantic, is_unmarked, items, links, parent_of, passes, provide, satisfies, shown_of}
+use Rattle.hac_model.specs.Tree.Links.{column, found_by, has, holds, is_below, is_permanent, is_prohibited, is_semantic, is_unmarked, items, links, parent_of, passes, provide, satisfies, shown_of, is_judged}
 use Rattle.hac_model.specs.Tree.{entry_at, permanent_in, prohibited_in}
 use Rattle.hac_model.specs.Tree.Valid.{AsksWell, IsValid}
 use Rattle.hac_model.specs.Laws.{SameMarks}
@@ -20,7 +20,7 @@ use Rattle.hac_model.specs.declared.events.Event.TheVariants.{Setq, Unq}
 use Rattle.hac_model.specs.declared.marks.Kind.{Kind}
 use Rattle.hac_model.specs.declared.marks.Kind.TheVariants.{Transient, Permanent, Prohibited, Unlinked}
 use Rattle.hac_model.specs.declared.states.Body.{Body}
-use Rattle.hac_model.specs.declared.states.Body.TheVariants.{File, Dir, Symlink, Semantic, Mount}
+use Rattle.hac_model.specs.declared.states.Body.TheVariants.{File, Dir, Symlink, Semantic, Mount, Document}
 use Rattle.hac_model.specs.declared.states.Entry.{Entry}
 use Rattle.hac_model.specs.declared.states.State.{State}
 use Rattle.hac_model.proofs.FactLemmas.{facts-law}
@@ -132,22 +132,22 @@ neither true b h = absurd cc
 neither false true h = absurd cc
 neither false false h = (refl, refl)
 
-pub links-unmarked : (s : State) (dir item : ℕ) → IsValid s → has (links s dir) item ≡ true → (is_some (shown_of s item) ≡ true) × (is_permanent s dir item ≡ false) × (is_prohibited s dir item ≡ false)
+pub links-unmarked : (s : State) (dir item : ℕ) → IsValid s → has (links s dir) item ≡ true → (is_judged s item ≡ true) × (is_permanent s dir item ≡ false) × (is_prohibited s dir item ≡ false)
 links-unmarked s dir item h linked =
     let listed = sym (has-filter (λ x. column (links s) x dir) (items s) item) ∙ ap (λ (found : List ℕ). has found item) (sym (links-listed s dir h.acyclic)) ∙ linked in
     let inside = and_parts (column (links s) item dir) (has (items s) item) listed in
     let found = and_parts (is_semantic s dir) (passes s (column (links s) item) dir item) (sym (linked-item s item dir h.acyclic inside.1) ∙ linked) in
-    let marks = and_parts (provide s (column (links s) item) (parent_of s dir) item && is_some (shown_of s item) && satisfies s (column (links s) item) dir item) (is_unmarked s dir item) found.1 in
-    let asked = and_parts (provide s (column (links s) item) (parent_of s dir) item && is_some (shown_of s item)) (satisfies s (column (links s) item) dir item) marks.0 in
-    let shown = and_parts (provide s (column (links s) item) (parent_of s dir) item) (is_some (shown_of s item)) asked.0 in
+    let marks = and_parts (provide s (column (links s) item) (parent_of s dir) item && is_judged s item && satisfies s (column (links s) item) dir item) (is_unmarked s dir item) found.1 in
+    let asked = and_parts (provide s (column (links s) item) (parent_of s dir) item && is_judged s item) (satisfies s (column (links s) item) dir item) marks.0 in
+    let shown = and_parts (provide s (column (links s) item) (parent_of s dir) item) (is_judged s item) asked.0 in
     let none = neither (is_permanent s dir item) (is_prohibited s dir item) marks.1 in
     (shown.1, none.0, none.1)
 
-pub found-indexed : (s : State) (query : Formula ℕ) (item : ℕ) → has (found_by s query) item ≡ true → is_some (shown_of s item) ≡ true
+pub found-indexed : (s : State) (query : Formula ℕ) (item : ℕ) → has (found_by s query) item ≡ true → is_judged s item ≡ true
 unfolding found_by
 found-indexed s query item inside =
-    let found = and_parts (is_some (shown_of s item) && holds s (column (links s) item) query item) (has (items s) item) (sym (has-filter (λ x. is_some (shown_of s x) && holds s (column (links s) x) query x) (items s) item) ∙ inside) in
-    (and_parts (is_some (shown_of s item)) (holds s (column (links s) item) query item) found.0).0
+    let found = and_parts (is_judged s item && holds s (column (links s) item) query item) (has (items s) item) (sym (has-filter (λ x. is_judged s x && holds s (column (links s) x) query x) (items s) item) ∙ inside) in
+    (and_parts (is_judged s item) (holds s (column (links s) item) query item) found.0).0
 
 pub added-provided : (s : State) (dir item : ℕ) → is_semantic s dir ≡ true → is_permanent s dir item ≡ true → provide s (column (links s) item) dir item ≡ true
 added-provided s dir item semantic permanent = all-true (is_below s dir item) (is_semantic s dir) (column (links s) item dir) (is_permanent s dir item) semantic permanent
@@ -179,6 +179,7 @@ apart s dir item h removed =
     in_body Dir sound inside = refl
     in_body (Symlink target) sound inside = refl
     in_body (Mount space answers) sound inside = refl
+    in_body Document sound inside = refl
 
 pub removed-not_provided : (s : State) (dir item : ℕ) → IsValid s → is_prohibited s dir item ≡ true → provide s (column (links s) item) dir item ≡ is_below s dir item
 removed-not_provided s dir item h removed =

@@ -22,7 +22,7 @@ use Rattle.hac_model.specs.Query.Queries.{is_query}
 use Rattle.hac_model.specs.Payload.QueryFields.{are_nums, query_field}
 use Rattle.hac_model.specs.Tree.Sessions.{is_busy, is_stored, stored}
 use Rattle.hac_model.specs.Tree.{body_at, entry_at, is_directory, is_directory_at, is_file, is_file_at, is_leaf, path_of, query_in, is_linkable}
-use Rattle.hac_model.specs.Tree.Valid.{AsksWell, IsValid}
+use Rattle.hac_model.specs.Tree.Valid.{AsksWell, IsValid, KeepsWell}
 use Rattle.hac_model.specs.declared.events.Event.{Event}
 use Rattle.hac_model.specs.declared.events.Event.TheVariants.{Mkdir, NewFile, Rewrite, Ln, Mv, Rm, Rmdir, Smkdir, Setq, Unq, Mark, Smount, Ssync, Sumount, Step, Cd}
 use Rattle.hac_model.specs.declared.limits.LimitWord.{LimitWord}
@@ -37,6 +37,7 @@ use Rattle.hac_model.proofs.ChangeLemmas.{all-weaker}
 use Rattle.hac_model.proofs.LimitLemmas.{IsWithinLimits, limits-within}
 use Rattle.hac_model.proofs.TreeLemmas.{Lives, directory-lives, entry_at-below}
 use Rattle.hac_model.proofs.ValidLemmas.{accepted-parts, free-parts, mark-parts, move-parts, rmdir-parts, setq-parts, smkdir-parts}
+use Rattle.hac_model.proofs.KeptLemmas.{keeps-stays}
 
 module _ (s : State) (h : IsValid s) where
   -- the numbers of a valid state have four bytes
@@ -176,7 +177,7 @@ stored-valid s h = record {
     limits = h.layout.limits;
   };
   queries = all-weaker (λ e. AsksWell s e.body) (λ e. AsksWell (stored s) e.body) s.entries (λ e asks. asks-stays s (stored s) e.body (λ d there. there) (λ n there. there) asks) h.queries;
-  answers = h.answers;
+  answers = all-weaker (λ e. KeepsWell s e.number e.body) (λ e. KeepsWell (stored s) e.number e.body) s.entries (λ e keeps. keeps-stays s (stored s) e.number e.body (λ m n document. document) (λ m few. few) (λ m answers terms. terms) keeps) h.answers;
   acyclic = h.acyclic;
   sessions = record { names = tt; differ = tt; there = tt; elsewhere = tt; few = refl };
 }

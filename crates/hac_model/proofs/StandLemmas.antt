@@ -1,6 +1,7 @@
 -- What the paths of a command lead to is in the state.
 use Rattle.std.proofs.Common.{◌≡◌, ℕ, ◌+◌, Bool, true, false, List, refl, ap, ◌∙◌}
 use Rattle.std.specs.Prelude.{◌&&◌, ◌++◌, not, if◌then◌else◌, max, nat_le, Option, Some, None, Result, Ok, Err, IfOk, IsTrue}
+use Rattle.std.specs.Option.{option_map_or}
 use Rattle.std.proofs.lemmas.Bool.{and_from, and_parts}
 use Rattle.std.proofs.lemmas.List.Folds.{list_all-append}
 use Rattle.std.proofs.lemmas.Result.{IfOk-at_ok, IfOk-weaker}

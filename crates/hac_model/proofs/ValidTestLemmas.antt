@@ -18,15 +18,20 @@ use Rattle.hac_model.specs.Tree.Links.{has, is_item}
 use Rattle.hac_model.specs.Tree.Names.{is_name}
 use Rattle.hac_model.specs.Tree.Sessions.{are_few}
 use Rattle.hac_model.specs.Tree.{child, is_directory_at, query_in}
-use Rattle.hac_model.specs.Tree.Valid.{AreMarks, AreSessions, AsksWell, IsLayout, IsSound, IsSoundFile, IsSoundQuery, IsValid, NamesDiffer, NumbersRise, RiseFrom, SessionsDiffer}
-use Rattle.hac_model.specs.Tree.ValidTest.{are_marks, are_sessions, asks_well, do_names_differ, do_numbers_rise, do_rise_from, do_sessions_differ, is_acyclic, is_layout, is_sound, is_sound_file, is_sound_query, is_valid, returns}
+use Rattle.hac_model.specs.Tree.Valid.{AreMarks, AreSessions, AsksWell, IsLayout, IsSound, IsSoundFile, IsSoundQuery, IsValid, NamesDiffer, NumbersRise, RiseFrom, SessionsDiffer, IsAnswer, IsSoundMount, KeepsWell, TermsRise, has_few, is_document_of, is_in_place}
+use Rattle.hac_model.specs.Tree.ValidTest.{are_marks, are_sessions, asks_well, do_names_differ, do_numbers_rise, do_rise_from, do_sessions_differ, is_acyclic, is_layout, is_sound, is_sound_file, is_sound_query, is_valid, returns, do_terms_rise, is_answer, is_sound_mount, keeps_well}
 use Rattle.hac_model.specs.declared.states.Body.{Body}
-use Rattle.hac_model.specs.declared.states.Body.TheVariants.{File, Dir, Symlink, Semantic, Mount}
+use Rattle.hac_model.specs.declared.states.Body.TheVariants.{File, Dir, Symlink, Semantic, Mount, Document}
 use Rattle.hac_model.specs.declared.states.Entry.{Entry}
 use Rattle.hac_model.specs.declared.states.Session.{Session}
 use Rattle.hac_model.specs.declared.states.State.{State}
 use Rattle.hac_model.proofs.CycleLemmas.{among-any, any-among, reaches-told, reaches-walk}
 use Rattle.hac_model.proofs.LinkLemmas.{edge-among, semantic_numbers}
+use Rattle.hac_model.specs.Tree.Mounts.{is_kept, terms_in_use}
+use Rattle.hac_model.specs.Query.Queries.{is_askable}
+use Rattle.hac_model.specs.Query.Terms.{is_term_before}
+use Rattle.hac_model.specs.declared.states.Answer.{Answer}
+use Rattle.hac_model.specs.declared.terms.Term.{Term}
 
 -- Tests of parts.
 
@@ -79,17 +84,18 @@ sound-Decides (File text dirty shown) = file-Decides text dirty shown
 sound-Decides Dir = (λ _. tt, λ _. refl)
 sound-Decides (Symlink target) = Decides-test (is_target target)
 sound-Decides (Semantic query permanent prohibited) = (λ _. tt, λ _. refl)
-sound-Decides (Mount space answers) = (λ h. absurd cc, λ h. absurd h)
+sound-Decides (Mount space answers) = Decides-test (is_space_name space)
+sound-Decides Document = (λ _. tt, λ _. refl)
 
 layout-Decides : (s : State) → Decides (is_layout s) (IsLayout s)
 unfolding is_layout
 layout-Decides s =
     Decides-like (is_layout s)
-    (λ h. record { numbers = h.0.0.0.0.0; names = h.0.0.0.0.1; parents = h.0.0.0.1; differ = h.0.0.1; bodies = h.0.1; limits = h.1 })
+    (λ h. record { numbers = h.0.0.0.0.0; names = h.0.0.0.0.1; places = h.0.0.0.1; differ = h.0.0.1; bodies = h.0.1; limits = h.1 })
     (λ h. (((((h.numbers, h.names), h.places), h.differ), h.bodies), h.limits))
     (Decides-and _ _ (Decides-and _ _ (Decides-and _ _ (Decides-and _ _ (Decides-and _ _ (rise-Decides 0 s.entries s.next)
     (Decides-all (λ e. is_name e.name) (λ e. IsTrue (is_name e.name)) (λ e. Decides-test (is_name e.name)) s.entries))
-    (Decides-all (λ e. is_directory_at s.entries e.parent) (λ e. IsTrue (is_directory_at s.entries e.parent)) (λ e. Decides-test (is_directory_at s.entries e.parent)) s.entries))
+    (Decides-all (λ e. is_in_place s.entries e) (λ e. IsTrue (is_in_place s.entries e)) (λ e. Decides-test (is_in_place s.entries e)) s.entries))
     (differ-Decides s.entries))
     (Decides-all (λ e. is_sound e.body) (λ e. IsSound e.body) (λ e. sound-Decides e.body) s.entries))
     (Decides-none (passed_limit s)))
@@ -123,6 +129,39 @@ asks-Decides s (File text dirty shown) = (λ _. tt, λ _. refl)
 asks-Decides s Dir = (λ _. tt, λ _. refl)
 asks-Decides s (Symlink target) = (λ _. tt, λ _. refl)
 asks-Decides s (Mount space answers) = (λ _. tt, λ _. refl)
+asks-Decides s Document = (λ _. tt, λ _. refl)
+
+-- Kept answers.
+
+terms-Decides : (last : Option Term) (answers : List Answer) → Decides (do_terms_rise last answers) (TermsRise last answers)
+terms-Decides last [] = (λ _. tt, λ _. refl)
+terms-Decides last (answer ∷ answers) =
+    Decides-and _ _ (Decides-test (option_map_or (λ before. is_term_before before answer.term) last true)) (terms-Decides (Some answer.term) answers)
+
+answer-Decides : (s : State) (mount : ℕ) (answer : Answer) → Decides (is_answer s mount answer) (IsAnswer s mount answer)
+answer-Decides s mount answer =
+    Decides-like (is_answer s mount answer)
+    (λ h. record { fits = h.0.0; rise = h.0.1; documents = h.1 })
+    (λ h. ((h.fits, h.rise), h.documents))
+    (Decides-and _ _ (Decides-and _ _ (Decides-test (is_askable answer.term)) (from-Decides 0 answer.documents))
+    (Decides-all (λ n. is_document_of s mount n) (λ n. IsTrue (is_document_of s mount n)) (λ n. Decides-test (is_document_of s mount n)) answer.documents))
+
+mount-Decides : (s : State) (mount : ℕ) (answers : List Answer) → Decides (is_sound_mount s mount answers) (IsSoundMount s mount answers)
+mount-Decides s mount answers =
+    Decides-like (is_sound_mount s mount answers)
+    (λ h. record { few = h.0.0.0; rise = h.0.0.1; sound = h.0.1; all = h.1 })
+    (λ h. (((h.few, h.rise), h.sound), h.all))
+    (Decides-and _ _ (Decides-and _ _ (Decides-and _ _ (Decides-test (has_few s.entries mount)) (terms-Decides None answers))
+    (Decides-all (is_answer s mount) (IsAnswer s mount) (answer-Decides s mount) answers))
+    (Decides-all (λ term. is_kept answers term) (λ term. IsTrue (is_kept answers term)) (λ term. Decides-test (is_kept answers term)) (terms_in_use s.entries)))
+
+keeps-Decides : (s : State) (mount : ℕ) (body : Body) → Decides (keeps_well s mount body) (KeepsWell s mount body)
+keeps-Decides s mount (Mount space answers) = mount-Decides s mount answers
+keeps-Decides s mount (Semantic query permanent prohibited) = (λ _. tt, λ _. refl)
+keeps-Decides s mount (File text dirty shown) = (λ _. tt, λ _. refl)
+keeps-Decides s mount Dir = (λ _. tt, λ _. refl)
+keeps-Decides s mount (Symlink target) = (λ _. tt, λ _. refl)
+keeps-Decides s mount Document = (λ _. tt, λ _. refl)
 
 -- Cycles.
 
@@ -199,9 +238,10 @@ pub valid-Decides : (s : State) → Decides (is_valid s) (IsValid s)
 unfolding is_valid
 valid-Decides s =
     Decides-like (is_valid s)
-    (λ h. record { layout = h.0.0.0; queries = h.0.0.1; acyclic = h.0.1; sessions = h.1 })
-    (λ h. (((h.layout, h.queries), h.acyclic), h.sessions))
-    (Decides-and _ _ (Decides-and _ _ (Decides-and _ _ (layout-Decides s)
+    (λ h. record { layout = h.0.0.0.0; queries = h.0.0.0.1; answers = h.0.0.1; acyclic = h.0.1; sessions = h.1 })
+    (λ h. ((((h.layout, h.queries), h.answers), h.acyclic), h.sessions))
+    (Decides-and _ _ (Decides-and _ _ (Decides-and _ _ (Decides-and _ _ (layout-Decides s)
     (Decides-all (λ e. asks_well s e.body) (λ e. AsksWell s e.body) (λ e. asks-Decides s e.body) s.entries))
+    (Decides-all (λ e. keeps_well s e.number e.body) (λ e. KeepsWell s e.number e.body) (λ e. keeps-Decides s e.number e.body) s.entries))
     (acyclic-Decides s))
     (sessions-Decides s))

@@ -56,6 +56,9 @@ pub const PATH_LIMIT: u64 = 64;
 /// The most sessions that are in a directory other than the root.
 pub const SESSIONS_LIMIT: u64 = 64;
 
+/// The most documents of one mount.
+pub const DOCS_LIMIT: u64 = 10_000;
+
 /// The most files and documents.
 pub const ITEMS_LIMIT: u64 = 65_536;
 

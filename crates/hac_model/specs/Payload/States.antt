@@ -19,6 +19,7 @@ use Rattle.hac_model.specs.declared.states.Entry.{Entry}
 use Rattle.hac_model.specs.declared.states.State.{State}
 use Rattle.hac_model.specs.declared.terms.Term.{Term}
 use Rattle.hac_model.specs.declared.terms.Term.TheVariants.{Word, Prefix}
+use Rattle.hac_model.specs.declared.limits.TheConstants.{DOCS_LIMIT}
 
 -- ---- files
 
@@ -62,9 +63,9 @@ document_field last =
     seen (λ document. (document.number, document.name)) (λ x. record { number = x.0; name = x.1 })
     (num & checked name_field (rises is_before (option_map (λ document. document.name) last)))
 
--- at most 10,000 of them
+-- no more of them than a mount may have
 abbrev pub documents_field : Field (List Document)
-documents_field = list (checked num (λ n. nat_le n 10000)) document_field
+documents_field = list (checked num (λ n. nat_le n DOCS_LIMIT)) document_field
 
 abbrev pub term_part : Term → Part
 term_part (Word letters) = part 1 word_field letters

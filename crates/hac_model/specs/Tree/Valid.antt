@@ -1,5 +1,5 @@
 -- Which states there can be.
-use Rattle.std.specs.Prelude.{◌≡◌, ℕ, ◌<◌, ◌≤◌, ◌+◌, ◌==◌, ◌&&◌, if◌then◌else◌, Bool, true, false, List, [], ◌∷◌, Option, Some, None, IsTrue}
+use Rattle.std.specs.Prelude.{◌≡◌, ℕ, ◌<◌, ◌≤◌, ◌+◌, ◌==◌, ◌&&◌, if◌then◌else◌, filter, length, nat_le, Bool, true, false, List, [], ◌∷◌, Option, Some, None, IsTrue}
 use Rattle.std.specs.List.{AllByRecursion}
 use Rattle.std.specs.Option.{option_map_or}
 use Rattle.std.specs.Str.{bytes_eq}
@@ -23,6 +23,7 @@ use Rattle.hac_model.specs.declared.states.Entry.{Entry}
 use Rattle.hac_model.specs.declared.states.Session.{Session}
 use Rattle.hac_model.specs.declared.states.State.{State}
 use Rattle.hac_model.specs.declared.terms.Term.{Term}
+use Rattle.hac_model.specs.declared.limits.TheConstants.{DOCS_LIMIT}
 
 -- the numbers of the entries rise, above one number and below another
 abbrev pub NumbersRise : ℕ → List Entry → ℕ → Type 0
@@ -100,14 +101,19 @@ pub record IsAnswer (s : State) (mount : ℕ) (answer : Answer) : Type 0 where
   pub rise : RiseFrom 0 answer.documents
   pub documents : AllByRecursion (λ number. IsTrue (is_document_of s mount number)) answer.documents
 
--- a mount keeps one answer for a term at most, and one for each term in use
-pub record AreAnswers (s : State) (mount : ℕ) (answers : List Answer) : Type 0 where
+-- the directory has no more entries than a mount may have documents
+abbrev pub has_few : List Entry → ℕ → Bool
+has_few entries dir = nat_le (length (filter (λ entry. entry.parent == dir) entries)) DOCS_LIMIT
+
+-- a mount has no more documents than it may, and keeps one answer for a term at most, and one for each term in use
+pub record IsSoundMount (s : State) (mount : ℕ) (answers : List Answer) : Type 0 where
+  pub few : IsTrue (has_few s.entries mount)
   pub rise : TermsRise None answers
   pub sound : AllByRecursion (IsAnswer s mount) answers
   pub all : AllByRecursion (λ term. IsTrue (is_kept answers term)) (terms_in_use s.entries)
 
 abbrev pub KeepsWell : State → ℕ → Body → Type 0
-KeepsWell s mount (Mount space answers) = AreAnswers s mount answers
+KeepsWell s mount (Mount space answers) = IsSoundMount s mount answers
 KeepsWell s mount other = Unit {0}
 
 -- no two sessions have one name

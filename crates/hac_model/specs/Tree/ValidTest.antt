@@ -12,7 +12,7 @@ use Rattle.hac_model.specs.Query.Queries.{is_askable}
 use Rattle.hac_model.specs.Query.Terms.{is_term_before}
 use Rattle.hac_model.specs.Tree.Limits.{is_text, passed_limit}
 use Rattle.hac_model.specs.Tree.Mounts.{is_kept, terms_in_use}
-use Rattle.hac_model.specs.Tree.Valid.{is_document_of, is_in_place}
+use Rattle.hac_model.specs.Tree.Valid.{has_few, is_document_of, is_in_place}
 use Rattle.hac_model.specs.Tree.Links.{has, is_item}
 use Rattle.hac_model.specs.Tree.Names.{is_name}
 use Rattle.hac_model.specs.Tree.Sessions.{are_few}
@@ -90,14 +90,14 @@ is_answer s mount answer =
     is_askable answer.term && do_rise_from 0 answer.documents
     && list_all (λ number. is_document_of s mount number) answer.documents
 
--- a mount keeps one answer for a term at most, and one for each term in use
-abbrev pub are_answers : State → ℕ → List Answer → Bool
-are_answers s mount answers =
-    do_terms_rise None answers && list_all (is_answer s mount) answers
+-- a mount has no more documents than it may, and keeps one answer for a term at most, and one for each term in use
+abbrev pub is_sound_mount : State → ℕ → List Answer → Bool
+is_sound_mount s mount answers =
+    has_few s.entries mount && do_terms_rise None answers && list_all (is_answer s mount) answers
     && list_all (λ term. is_kept answers term) (terms_in_use s.entries)
 
 abbrev pub keeps_well : State → ℕ → Body → Bool
-keeps_well s mount (Mount space answers) = are_answers s mount answers
+keeps_well s mount (Mount space answers) = is_sound_mount s mount answers
 keeps_well s mount other = true
 
 -- the directory depends on one that depends on it

@@ -1,0 +1,584 @@
+-- Events keep what mounts keep sound: their documents stay theirs, and each term in use has an answer.
+use Rattle.std.proofs.Common.{◌≡◌, ℕ, ◌+◌, ◌≤◌, inl, inr, Bool, true, false, List, [], ◌∷◌, ◌++◌, length, map, refl, ap, sym, ◌∙◌, arith, subst, eq-eqb}
+use Rattle.std.specs.Prelude.{◌⊎◌, ◌==◌, ◌&&◌, ◌||◌, not, if◌then◌else◌, filter, nat_le, Option, Some, None, IsTrue}
+use Rattle.std.specs.Option.{option_map, option_map_or}
+use Rattle.std.specs.List.{AllByRecursion, flat_map, list_all}
+use Rattle.std.proofs.lemmas.Bool.{and_from, and_parts, eqb-false, eqb-true, leb-true, le-leb, ne_eqb, not-true}
+use Rattle.hac_model.specs.Query.Formula.{Formula}
+use Rattle.hac_model.specs.Query.Queries.{terms_of}
+use Rattle.hac_model.specs.Tree.Events.{is_free, accepted, added, apply, asking, changed_at, changed_in, edited, first_asked, first_asked_in, forgetting, forgotten, indexed, is_possible, knows_all, marked, next_dirty, plain_body, removed, reseated, rewritten}
+use Rattle.hac_model.specs.Tree.Limits.{is_text, passed_limit}
+use Rattle.hac_model.specs.Script.PathWords.{is_target}
+use Rattle.hac_model.specs.Tree.Links.{parent_of}
+use Rattle.hac_model.specs.Tree.Mounts.{is_kept, terms_in, terms_in_use}
+use Rattle.hac_model.specs.Tree.{answers_in, body_at, entry_at, is_directory, is_directory_at, is_document, is_document_at, is_leaf, is_leaf_at, is_made_directory, is_mount, is_mount_at, query_in, space_in}
+use Rattle.hac_model.specs.Tree.Valid.{IsAnswer, IsLayout, IsSoundMount, IsValid, KeepsWell, has_few, is_document_of}
+use Rattle.hac_model.specs.declared.events.Event.{Event}
+use Rattle.hac_model.specs.declared.events.Event.TheVariants.{Mkdir, NewFile, Rewrite, Ln, Mark, Mv, Rm, Rmdir, Setq, Smkdir, Step, Unq, Cd}
+use Rattle.hac_model.specs.declared.limits.TheConstants.{DOCS_LIMIT}
+use Rattle.hac_model.specs.declared.marks.Kind.{Kind}
+use Rattle.hac_model.specs.declared.marks.Kind.TheVariants.{Transient, Permanent, Prohibited, Unlinked}
+use Rattle.hac_model.specs.declared.states.Answer.{Answer}
+use Rattle.hac_model.specs.declared.states.Body.{Body}
+use Rattle.hac_model.specs.declared.states.Body.TheVariants.{File, Dir, Symlink, Semantic, Mount, Document}
+use Rattle.hac_model.specs.declared.states.Entry.{Entry}
+use Rattle.hac_model.specs.declared.states.State.{State}
+use Rattle.hac_model.specs.declared.terms.Term.{Term}
+use Rattle.hac_model.proofs.ChangeLemmas.{all-append, all-changed, all-filter, all-weaker, entry_at-append, entry_at-changed, entry_at-kept, is_kept as is_left, touched}
+use Rattle.hac_model.proofs.MapLemmas.{all-map, entry_at-mapped}
+use Rattle.hac_model.proofs.TreeLemmas.{entry_at-number}
+use Rattle.hac_model.proofs.ValidLemmas.{accepted-parts, found-all, free-holder, move-parts, rmdir-parts, setq-parts, smkdir-parts}
+
+-- What a mount keeps stays sound from one state to another, where its documents stay, it gets no more, and its answers
+-- are those for all terms in use.
+
+-- documents of a mount stay its documents
+abbrev pub DocumentsStay : State → State → Type 0
+DocumentsStay s t = (m n : ℕ) → is_document_of s m n ≡ true → is_document_of t m n ≡ true
+
+-- a mount with few documents has few
+abbrev FewStay : State → State → Type 0
+FewStay s t = (m : ℕ) → has_few s.entries m ≡ true → has_few t.entries m ≡ true
+
+-- each term of these has an answer
+abbrev AreKept : List Answer → List Term → Type 0
+AreKept answers terms = AllByRecursion (λ term. IsTrue (is_kept answers term)) terms
+
+-- answers for all terms in use are those for all that are in use then
+abbrev TermsStay : State → State → Type 0
+TermsStay s t = (m : ℕ) (answers : List Answer) → AreKept answers (terms_in_use s.entries) → AreKept answers (terms_in_use t.entries)
+
+answer-stays : (s t : State) (m : ℕ) (answer : Answer) → DocumentsStay s t → IsAnswer s m answer → IsAnswer t m answer
+answer-stays s t m answer documents h = record {
+  fits = h.fits;
+  rise = h.rise;
+  documents = all-weaker (λ n. IsTrue (is_document_of s m n)) (λ n. IsTrue (is_document_of t m n)) answer.documents (λ n there. documents m n there) h.documents;
+}
+
+pub keeps-stays : (s t : State) (m : ℕ) (body : Body) → DocumentsStay s t → ((m : ℕ) → has_few s.entries m ≡ true → has_few t.entries m ≡ true) → TermsStay s t → KeepsWell s m body → KeepsWell t m body
+keeps-stays s t m (Mount space answers) documents few terms h = record {
+  few = few m h.few;
+  rise = h.rise;
+  sound = all-weaker (IsAnswer s m) (IsAnswer t m) answers (λ answer sound. answer-stays s t m answer documents sound) h.sound;
+  all = terms m answers h.all;
+}
+keeps-stays s t m other documents few terms h = tt
+
+-- Terms in use, by entries.
+
+all-joined : {X : Type 0} (P : X → Type 0) (xs ys : List X) → AllByRecursion P xs → AllByRecursion P ys → AllByRecursion P (xs ++ ys)
+all-joined P [] ys h k = k
+all-joined P (x ∷ xs) ys h k = (h.0, all-joined P xs ys h.1 k)
+
+all-parted : {X : Type 0} (P : X → Type 0) (xs ys : List X) → AllByRecursion P (xs ++ ys) → AllByRecursion P xs × AllByRecursion P ys
+all-parted P [] ys h = (tt, h)
+all-parted P (x ∷ xs) ys h = let parts = all-parted P xs ys h.1 in ((h.0, parts.0), parts.1)
+
+abbrev EachKept : List Answer → List Entry → Type 0
+EachKept answers es = AllByRecursion (λ e. AreKept answers (terms_in e.body)) es
+
+each-kept : (answers : List Answer) (es : List Entry) → AreKept answers (terms_in_use es) → EachKept answers es
+each-kept answers [] h = tt
+each-kept answers (e ∷ es) h = let parts = all-parted (λ term. IsTrue (is_kept answers term)) (terms_in e.body) (terms_in_use es) h in (parts.0, each-kept answers es parts.1)
+
+all-kept : (answers : List Answer) (es : List Entry) → EachKept answers es → AreKept answers (terms_in_use es)
+all-kept answers [] h = tt
+all-kept answers (e ∷ es) h = all-joined (λ term. IsTrue (is_kept answers term)) (terms_in e.body) (terms_in_use es) h.0 (all-kept answers es h.1)
+
+-- How many entries a directory has.
+
+abbrev inside : ℕ → List Entry → List Entry
+inside m es = filter (λ (e : Entry). e.parent == m) es
+
+fewer : (n m : ℕ) → m ≤ n → nat_le n DOCS_LIMIT ≡ true → nat_le m DOCS_LIMIT ≡ true
+fewer n m less few = let within : n ≤ DOCS_LIMIT = leb-true n DOCS_LIMIT few in le-leb m DOCS_LIMIT (omega arith)
+
+-- a change that puts no entry into the directory
+inside-changed : (m n : ℕ) (change : Entry → Entry) (es : List Entry) → ((e : Entry) → ((change e).parent == m) ≡ true → (e.parent == m) ≡ true) → length (inside m (changed_in n change es)) ≤ length (inside m es)
+inside-changed m n change [] stays = omega arith
+inside-changed m n change (e ∷ es) stays =
+    let rest = inside-changed m n change es stays in
+    elim (e.number == n) as (λ b. length (inside m ((if b then change e else e) ∷ changed_in n change es)) ≤ length (inside m (e ∷ es))) [
+      | true ↦ elim ((change e).parent == m) as (λ b. ((change e).parent == m) ≡ b → length (if b then change e ∷ inside m (changed_in n change es) else inside m (changed_in n change es)) ≤ length (inside m (e ∷ es))) [
+        | true ↦ (λ here. subst (λ (b : Bool). length (change e ∷ inside m (changed_in n change es)) ≤ length (if b then e ∷ inside m es else inside m es)) (sym (stays e here)) (omega (arith, rest)))
+        | false ↦ (λ here. less (e.parent == m) rest)
+      ] refl
+      | false ↦ both (e.parent == m) rest
+    ]
+  where
+    less : (b : Bool) → length (inside m (changed_in n change es)) ≤ length (inside m es) → length (inside m (changed_in n change es)) ≤ length (if b then e ∷ inside m es else inside m es)
+    less true rest = omega (arith, rest)
+    less false rest = rest
+
+    both : (b : Bool) → length (inside m (changed_in n change es)) ≤ length (inside m es) → length (if b then e ∷ inside m (changed_in n change es) else inside m (changed_in n change es)) ≤ length (if b then e ∷ inside m es else inside m es)
+    both true rest = omega (arith, rest)
+    both false rest = rest
+
+inside-left : (m n : ℕ) (es : List Entry) → length (inside m (filter (is_left n) es)) ≤ length (inside m es)
+inside-left m n [] = omega arith
+inside-left m n (e ∷ es) =
+    let rest = inside-left m n es in
+    elim (is_left n e) as (λ b. length (inside m (if b then e ∷ filter (is_left n) es else filter (is_left n) es)) ≤ length (inside m (e ∷ es))) [
+      | true ↦ elim (e.parent == m) as (λ b. length (if b then e ∷ inside m (filter (is_left n) es) else inside m (filter (is_left n) es)) ≤ length (if b then e ∷ inside m es else inside m es)) [ true ↦ omega (arith, rest) | false ↦ rest ]
+      | false ↦ elim (e.parent == m) as (λ b. length (inside m (filter (is_left n) es)) ≤ length (if b then e ∷ inside m es else inside m es)) [ true ↦ omega (arith, rest) | false ↦ rest ]
+    ]
+
+inside-mapped : (m : ℕ) (edit : Body → Body) (es : List Entry) → length (inside m (map (edited edit) es)) ≡ length (inside m es)
+inside-mapped m edit [] = refl
+inside-mapped m edit (e ∷ es) =
+    let rest = inside-mapped m edit es in
+    elim (e.parent == m) as (λ b. length (if b then edited edit e ∷ inside m (map (edited edit) es) else inside m (map (edited edit) es)) ≡ length (if b then e ∷ inside m es else inside m es)) [ true ↦ omega (arith, rest) | false ↦ rest ]
+
+inside-added : (m : ℕ) (es : List Entry) (new : Entry) → (new.parent == m) ≡ false → inside m (es ++ new ∷ []) ≡ inside m es
+inside-added m [] new other = ap (λ (b : Bool). if b then new ∷ [] else []) other
+inside-added m (e ∷ es) new other = ap (λ (rest : List Entry). if e.parent == m then e ∷ rest else rest) (inside-added m es new other)
+
+-- Whose document a number is, by its entry.
+
+abbrev document_by : ℕ → Option Entry → Bool
+document_by m o = option_map_or is_document (option_map (λ (e : Entry). e.body) o) false && (option_map_or (λ (e : Entry). e.parent) o 0 == m)
+
+same-document : (s t : State) (m n : ℕ) → entry_at t.entries n ≡ entry_at s.entries n → is_document_of s m n ≡ true → is_document_of t m n ≡ true
+same-document s t m n same there = ap (document_by m) same ∙ there
+
+-- what is a document has an entry, which is one
+document-entry : (s : State) (m n : ℕ) → is_document_of s m n ≡ true → (e : Entry) × (entry_at s.entries n ≡ Some e) × (is_document e.body ≡ true)
+document-entry s m n there =
+    elim (entry_at s.entries n) as (λ o. entry_at s.entries n ≡ o → document_by m o ≡ true → (e : Entry) × (entry_at s.entries n ≡ Some e) × (is_document e.body ≡ true)) [
+      | None ↦ (λ found there. absurd cc)
+      | Some e ↦ (λ found there. (e, found, (and_parts (is_document e.body) (e.parent == m) there).0))
+    ] refl there
+
+-- a test that a document's body passes is passed by its number
+document-tests : (s : State) (m n : ℕ) (test : Body → Bool) → ((b : Body) → is_document b ≡ true → test b ≡ false) → is_document_of s m n ≡ true → option_map_or test (body_at s.entries n) false ≡ false
+document-tests s m n test fails there =
+    let found = document-entry s m n there in
+    ap (λ (o : Option Entry). option_map_or test (option_map (λ (e : Entry). e.body) o) false) found.1 ∙ fails found.0.body found.2
+
+-- An entry is added.
+
+module _ (s : State) (dir : ℕ) (name : List ℕ) (body : Body) where
+  abbrev new-entry : Entry
+  new-entry = record { number = s.next; parent = dir; name = name; body = body }
+
+  added-documents : DocumentsStay s (added s dir name body)
+  added-documents m n there =
+      let found = document-entry s m n there in
+      same-document s (added s dir name body) m n (entry_at-append s.entries new-entry n found.0 found.1 ∙ sym found.1) there
+
+  added-terms : (answers : List Answer) → AreKept answers (terms_in body) → AreKept answers (terms_in_use s.entries) → AreKept answers (terms_in_use (added s dir name body).entries)
+  added-terms answers new old =
+      all-kept answers (added s dir name body).entries (all-append (λ e. AreKept answers (terms_in e.body)) s.entries new-entry (each-kept answers s.entries old) new)
+
+  -- where the directory is no mount, and each mount has an answer for each term of what is added
+  added-keeps : IsValid s → is_mount_at s.entries dir ≡ false → is_mount body ≡ false → ((e : Entry) → entry_at s.entries e.number ≡ Some e → (space : List ℕ) (answers : List Answer) → e.body ≡ Mount space answers → AreKept answers (terms_in body)) →
+      AllByRecursion (λ e. KeepsWell (added s dir name body) e.number e.body) (added s dir name body).entries
+  added-keeps h holder plain known = all-append (λ e. KeepsWell (added s dir name body) e.number e.body) s.entries new-entry (old s.entries (found-all 0 s.entries s.next h.layout.numbers) h.answers) (new body plain)
+    where
+      new : (b : Body) → is_mount b ≡ false → KeepsWell (added s dir name body) s.next b
+      new (Mount space answers) plain = absurd cc
+      new (File text dirty shown) plain = tt
+      new Dir plain = tt
+      new (Symlink target) plain = tt
+      new (Semantic query permanent prohibited) plain = tt
+      new Document plain = tt
+
+      old : (es : List Entry) → AllByRecursion (λ e. entry_at s.entries e.number ≡ Some e) es → AllByRecursion (λ e. KeepsWell s e.number e.body) es → AllByRecursion (λ e. KeepsWell (added s dir name body) e.number e.body) es
+      old [] found keeps = tt
+      old (e ∷ es) found keeps = (each e.body refl keeps.0, old es found.1 keeps.1)
+        where
+          each : (b : Body) → e.body ≡ b → KeepsWell s e.number b → KeepsWell (added s dir name body) e.number b
+          each (Mount space answers) is sound = record {
+            few = ap (λ (es : List Entry). nat_le (length es) DOCS_LIMIT) (inside-added e.number s.entries new-entry (apart is)) ∙ sound.few;
+            rise = sound.rise;
+            sound = all-weaker (IsAnswer s e.number) (IsAnswer (added s dir name body) e.number) answers (λ answer well. answer-stays s (added s dir name body) e.number answer added-documents well) sound.sound;
+            all = added-terms answers (known e found.0 space answers is) sound.all;
+          }
+            where
+              apart : e.body ≡ Mount space answers → (dir == e.number) ≡ false
+              apart is = ne_eqb dir e.number (λ same.
+                  let mount : is_mount_at s.entries dir ≡ true = ap (is_mount_at s.entries) same ∙ ap (λ (o : Option Entry). option_map_or is_mount (option_map (λ (e : Entry). e.body) o) false) found.0 ∙ ap is_mount is in
+                  let never : true ≡ false = sym mount ∙ holder in cc)
+          each (File text dirty shown) is sound = tt
+          each Dir is sound = tt
+          each (Symlink target) is sound = tt
+          each (Semantic query permanent prohibited) is sound = tt
+          each Document is sound = tt
+
+-- An entry is changed: it stays what it is, and its directory isn't made a mount's.
+
+changed-keeps : (s : State) (n : ℕ) (change : Entry → Entry) → ((e : Entry) → (change e).number ≡ e.number) → DocumentsStay s (changed_at s n change) → ((m : ℕ) → is_mount_at s.entries m ≡ true → (e : Entry) → ((change e).parent == m) ≡ true → (e.parent == m) ≡ true) →
+    ((e : Entry) → entry_at s.entries e.number ≡ Some e → (space : List ℕ) (answers : List Answer) → e.body ≡ Mount space answers → AreKept answers (terms_in_use s.entries) → AreKept answers (terms_in_use (changed_at s n change).entries)) →
+    ((e : Entry) → KeepsWell (changed_at s n change) e.number e.body → KeepsWell (changed_at s n change) (change e).number (change e).body) → IsValid s →
+    AllByRecursion (λ e. KeepsWell (changed_at s n change) e.number e.body) (changed_at s n change).entries
+changed-keeps s n change numbers documents parents terms keeps h =
+    all-changed (λ e. KeepsWell (changed_at s n change) e.number e.body) n change s.entries keeps (old s.entries (found-all 0 s.entries s.next h.layout.numbers) h.answers)
+  where
+    old : (es : List Entry) → AllByRecursion (λ e. entry_at s.entries e.number ≡ Some e) es → AllByRecursion (λ e. KeepsWell s e.number e.body) es → AllByRecursion (λ e. KeepsWell (changed_at s n change) e.number e.body) es
+    old [] found keeps = tt
+    old (e ∷ es) found keeps = (each e.body refl keeps.0, old es found.1 keeps.1)
+      where
+        each : (b : Body) → e.body ≡ b → KeepsWell s e.number b → KeepsWell (changed_at s n change) e.number b
+        each (Mount space answers) is sound = record {
+          few = fewer (length (inside e.number s.entries)) (length (inside e.number (changed_in n change s.entries)))
+              (inside-changed e.number n change s.entries (parents e.number (ap (λ (o : Option Entry). option_map_or is_mount (option_map (λ (e : Entry). e.body) o) false) found.0 ∙ ap is_mount is))) sound.few;
+          rise = sound.rise;
+          sound = all-weaker (IsAnswer s e.number) (IsAnswer (changed_at s n change) e.number) answers (λ answer well. answer-stays s (changed_at s n change) e.number answer documents well) sound.sound;
+          all = terms e found.0 space answers is sound.all;
+        }
+        each (File text dirty shown) is sound = tt
+        each Dir is sound = tt
+        each (Symlink target) is sound = tt
+        each (Semantic query permanent prohibited) is sound = tt
+        each Document is sound = tt
+
+-- documents stay where an entry is changed that keeps its number, and its directory if it is a document
+changed-documents : (s : State) (n : ℕ) (change : Entry → Entry) → ((e : Entry) → (change e).number ≡ e.number) → ((e : Entry) → is_document (change e).body ≡ is_document e.body) → ((e : Entry) → is_document e.body ≡ true → entry_at s.entries n ≡ Some e → (change e).parent ≡ e.parent) → DocumentsStay s (changed_at s n change)
+changed-documents s n change numbers kinds parents m k there =
+    let found = document-entry s m k there in
+    let moved : entry_at (changed_at s n change).entries k ≡ Some (touched n change found.0) = entry_at-changed n change s.entries k numbers ∙ ap (option_map (touched n change)) found.1 in
+    ap (document_by m) moved ∙ own found.0 found.1 found.2 ∙ ap (document_by m) (sym found.1) ∙ there
+  where
+    own : (e : Entry) → entry_at s.entries k ≡ Some e → is_document e.body ≡ true → document_by m (Some (touched n change e)) ≡ document_by m (Some e)
+    own e found is = elim (e.number == n) as (λ b. (e.number == n) ≡ b → document_by m (Some (if b then change e else e)) ≡ document_by m (Some e)) [
+      | true ↦ (λ here. λ i. kinds e i && (parents e is (ap (entry_at s.entries) (sym (eqb-true e.number n here) ∙ entry_at-number s.entries k e found) ∙ found) i == m))
+      | false ↦ (λ other. refl)
+    ] refl
+
+-- A body is edited.
+
+-- the edit leaves mounts and documents as they are
+pub record LeavesMounts (edit : Body → Body) : Type 0 where
+  pub mounts : (space : List ℕ) (answers : List Answer) → edit (Mount space answers) ≡ Mount space answers
+  pub kinds : (body : Body) → is_mount (edit body) ≡ is_mount body
+  pub documents : (body : Body) → is_document (edit body) ≡ is_document body
+
+-- what is no mount keeps nothing
+no-mount : (t : State) (m : ℕ) (body : Body) → is_mount body ≡ false → KeepsWell t m body
+no-mount t m (Mount space answers) other = absurd cc
+no-mount t m (File text dirty shown) other = tt
+no-mount t m Dir other = tt
+no-mount t m (Symlink target) other = tt
+no-mount t m (Semantic query permanent prohibited) other = tt
+no-mount t m Document other = tt
+
+edit-keeps : (edit : Body → Body) → LeavesMounts edit → (t : State) (m : ℕ) (body : Body) → KeepsWell t m body → KeepsWell t m (edit body)
+edit-keeps edit leaves t m (Mount space answers) h = subst (KeepsWell t m) (sym (leaves.mounts space answers)) h
+edit-keeps edit leaves t m (File text dirty shown) h = no-mount t m (edit (File text dirty shown)) (leaves.kinds (File text dirty shown))
+edit-keeps edit leaves t m Dir h = no-mount t m (edit Dir) (leaves.kinds Dir)
+edit-keeps edit leaves t m (Symlink target) h = no-mount t m (edit (Symlink target)) (leaves.kinds (Symlink target))
+edit-keeps edit leaves t m (Semantic query permanent prohibited) h = no-mount t m (edit (Semantic query permanent prohibited)) (leaves.kinds (Semantic query permanent prohibited))
+edit-keeps edit leaves t m Document h = no-mount t m (edit Document) (leaves.kinds Document)
+
+-- the terms of all entries after a change, from those of each
+changed-terms : (answers : List Answer) (n : ℕ) (change : Entry → Entry) (es : List Entry) → ((e : Entry) → AreKept answers (terms_in e.body) → AreKept answers (terms_in (change e).body)) → AreKept answers (terms_in_use es) → AreKept answers (terms_in_use (changed_in n change es))
+changed-terms answers n change es stay h =
+    all-kept answers (changed_in n change es) (all-changed (λ e. AreKept answers (terms_in e.body)) n change es stay (each-kept answers es h))
+
+-- where each mount has an answer for each term that the edit brings
+edited-keeps : (s : State) (n : ℕ) (edit : Body → Body) → LeavesMounts edit → ((e : Entry) → entry_at s.entries e.number ≡ Some e → (space : List ℕ) (answers : List Answer) → e.body ≡ Mount space answers → (body : Body) → AreKept answers (terms_in body) → AreKept answers (terms_in (edit body))) → IsValid s →
+    AllByRecursion (λ e. KeepsWell (changed_at s n (edited edit)) e.number e.body) (changed_at s n (edited edit)).entries
+edited-keeps s n edit leaves known h =
+    changed-keeps s n (edited edit) (λ e. refl) (changed-documents s n (edited edit) (λ e. refl) (λ e. leaves.documents e.body) (λ e is found. refl)) (λ m mount e here. here)
+    (λ e found space answers is old. changed-terms answers n (edited edit) s.entries (λ f kept. known e found space answers is f.body kept) old)
+    (λ e keeps. edit-keeps edit leaves (changed_at s n (edited edit)) e.number e.body keeps) h
+
+-- terms that stay the same
+same-terms : (edit : Body → Body) → ((body : Body) → terms_in (edit body) ≡ terms_in body) → (answers : List Answer) (body : Body) → AreKept answers (terms_in body) → AreKept answers (terms_in (edit body))
+same-terms edit same answers body kept = subst (AreKept answers) (sym (same body)) kept
+
+-- The edits of events.
+
+rewritten-leaves : (text : List ℕ) → LeavesMounts (rewritten text)
+rewritten-leaves text = record { mounts = λ space answers. refl; kinds = kinds; documents = documents }
+  where
+    kinds : (body : Body) → is_mount (rewritten text body) ≡ is_mount body
+    kinds (File old dirty shown) = refl
+    kinds other = refl
+
+    documents : (body : Body) → is_document (rewritten text body) ≡ is_document body
+    documents (File old dirty shown) = refl
+    documents other = refl
+
+rewritten-terms : (text : List ℕ) (body : Body) → terms_in (rewritten text body) ≡ terms_in body
+rewritten-terms text (File old dirty shown) = refl
+rewritten-terms text other = refl
+
+indexed-leaves : LeavesMounts (indexed)
+indexed-leaves = record { mounts = λ space answers. refl; kinds = kinds; documents = documents }
+  where
+    kinds : (body : Body) → is_mount (indexed body) ≡ is_mount body
+    kinds (File old dirty shown) = refl
+    kinds other = refl
+
+    documents : (body : Body) → is_document (indexed body) ≡ is_document body
+    documents (File old dirty shown) = refl
+    documents other = refl
+
+indexed-terms : (body : Body) → terms_in (indexed body) ≡ terms_in body
+indexed-terms (File old dirty shown) = refl
+indexed-terms other = refl
+
+asking-leaves : (query : Formula ℕ) → LeavesMounts (asking query)
+asking-leaves query = record { mounts = λ space answers. refl; kinds = kinds; documents = documents }
+  where
+    kinds : (body : Body) → is_mount (asking query body) ≡ is_mount body
+    kinds Dir = refl
+    kinds (Semantic old permanent prohibited) = refl
+    kinds other = refl
+
+    documents : (body : Body) → is_document (asking query body) ≡ is_document body
+    documents Dir = refl
+    documents (Semantic old permanent prohibited) = refl
+    documents other = refl
+
+plain-leaves : LeavesMounts (plain_body)
+plain-leaves = record { mounts = λ space answers. refl; kinds = kinds; documents = documents }
+  where
+    kinds : (body : Body) → is_mount (plain_body body) ≡ is_mount body
+    kinds (Semantic old permanent prohibited) = refl
+    kinds other = refl
+
+    documents : (body : Body) → is_document (plain_body body) ≡ is_document body
+    documents (Semantic old permanent prohibited) = refl
+    documents other = refl
+
+forgetting-leaves : (n : ℕ) → LeavesMounts (forgetting n)
+forgetting-leaves n = record { mounts = λ space answers. refl; kinds = kinds; documents = documents }
+  where
+    kinds : (body : Body) → is_mount (forgetting n body) ≡ is_mount body
+    kinds (Semantic old permanent prohibited) = refl
+    kinds other = refl
+
+    documents : (body : Body) → is_document (forgetting n body) ≡ is_document body
+    documents (Semantic old permanent prohibited) = refl
+    documents other = refl
+
+forgetting-terms : (n : ℕ) (body : Body) → terms_in (forgetting n body) ≡ terms_in body
+forgetting-terms n (Semantic old permanent prohibited) = refl
+forgetting-terms n other = refl
+
+marked-leaves : (n : ℕ) (kind : Kind) → LeavesMounts (marked n kind)
+marked-leaves n kind = record { mounts = mounts kind; kinds = kinds kind; documents = documents kind }
+  where
+    mounts : (kind : Kind) (space : List ℕ) (answers : List Answer) → marked n kind (Mount space answers) ≡ Mount space answers
+    mounts Transient space answers = refl
+    mounts Permanent space answers = refl
+    mounts Prohibited space answers = refl
+    mounts Unlinked space answers = refl
+
+    kinds : (kind : Kind) (body : Body) → is_mount (marked n kind body) ≡ is_mount body
+    kinds Transient (Semantic old permanent prohibited) = refl
+    kinds Transient other = refl
+    kinds Permanent (Semantic old permanent prohibited) = refl
+    kinds Permanent other = refl
+    kinds Prohibited (Semantic old permanent prohibited) = refl
+    kinds Prohibited other = refl
+    kinds Unlinked (Semantic old permanent prohibited) = refl
+    kinds Unlinked other = refl
+
+    documents : (kind : Kind) (body : Body) → is_document (marked n kind body) ≡ is_document body
+    documents Transient (Semantic old permanent prohibited) = refl
+    documents Transient other = refl
+    documents Permanent (Semantic old permanent prohibited) = refl
+    documents Permanent other = refl
+    documents Prohibited (Semantic old permanent prohibited) = refl
+    documents Prohibited other = refl
+    documents Unlinked (Semantic old permanent prohibited) = refl
+    documents Unlinked other = refl
+
+marked-terms : (n : ℕ) (kind : Kind) (body : Body) → terms_in (marked n kind body) ≡ terms_in body
+marked-terms n Transient (Semantic old permanent prohibited) = refl
+marked-terms n Transient other = refl
+marked-terms n Permanent (Semantic old permanent prohibited) = refl
+marked-terms n Permanent other = refl
+marked-terms n Prohibited (Semantic old permanent prohibited) = refl
+marked-terms n Prohibited other = refl
+marked-terms n Unlinked (Semantic old permanent prohibited) = refl
+marked-terms n Unlinked other = refl
+
+-- a query that no mount has to be asked for: each has an answer for each of its terms
+known-terms : (es : List Entry) (query : Formula ℕ) (n : ℕ) (e : Entry) (space : List ℕ) (answers : List Answer) → first_asked_in query es ≡ None → entry_at es n ≡ Some e → e.body ≡ Mount space answers → AreKept answers (terms_of query)
+known-terms [] query n e space answers none found is = absurd cc
+known-terms (x ∷ es) query n e space answers none found is =
+    elim (x.number == n) as (λ b. (if b then Some x else entry_at es n) ≡ Some e → AreKept answers (terms_of query)) [
+      | true ↦ (λ found.
+          let same : x ≡ e = cc in
+          let body : x.body ≡ Mount space answers = ap (λ (y : Entry). y.body) same ∙ is in
+          all-told answers (terms_of query) (sym (ap (λ (b : Body). not (is_mount b) || list_all (is_kept (answers_in b)) (terms_of query)) body) ∙ knows body))
+      | false ↦ (λ found. known-terms es query n e space answers behind found is)
+    ] found
+  where
+    all-told : (answers : List Answer) (terms : List Term) → list_all (is_kept answers) terms ≡ true → AreKept answers terms
+    all-told answers [] h = tt
+    all-told answers (term ∷ terms) h = let parts = and_parts (is_kept answers term) (list_all (is_kept answers) terms) h in (parts.0, all-told answers terms parts.1)
+
+    first : (b : Bool) → (if b then first_asked_in query es else space_in x.body) ≡ None → (first_asked_in query es ≡ None) ⊎ (space_in x.body ≡ None)
+    first true h = inl h
+    first false h = inr h
+
+    knows : x.body ≡ Mount space answers → knows_all query x.body ≡ true
+    knows body = elim (knows_all query x.body) as (λ b. (if b then first_asked_in query es else space_in x.body) ≡ None → b ≡ true) [
+      | true ↦ (λ h. refl)
+      | false ↦ (λ h. let never : Some space ≡ None = sym (ap space_in body) ∙ h in absurd cc)
+    ] none
+
+    -- what has no space is no mount, and knows all
+    behind : first_asked_in query es ≡ None
+    behind = elim (knows_all query x.body) as (λ b. knows_all query x.body ≡ b → (if b then first_asked_in query es else space_in x.body) ≡ None → first_asked_in query es ≡ None) [
+      | true ↦ (λ _ h. h)
+      | false ↦ (λ asked h. let plain : knows_all query x.body ≡ true = spaceless x.body h in let never : true ≡ false = sym plain ∙ asked in absurd cc)
+    ] refl none
+      where
+        spaceless : (b : Body) → space_in b ≡ None → knows_all query b ≡ true
+        spaceless (Mount space answers) h = absurd cc
+        spaceless (File text dirty shown) h = refl
+        spaceless Dir h = refl
+        spaceless (Symlink target) h = refl
+        spaceless (Semantic old permanent prohibited) h = refl
+        spaceless Document h = refl
+
+asking-terms : (query : Formula ℕ) (answers : List Answer) → AreKept answers (terms_of query) → (body : Body) → AreKept answers (terms_in body) → AreKept answers (terms_in (asking query body))
+asking-terms query answers new Dir old = new
+asking-terms query answers new (Semantic query_was permanent prohibited) old = new
+asking-terms query answers new (File text dirty shown) old = old
+asking-terms query answers new (Symlink target) old = old
+asking-terms query answers new (Mount space kept) old = old
+asking-terms query answers new Document old = old
+
+plain-terms : (answers : List Answer) (body : Body) → AreKept answers (terms_in body) → AreKept answers (terms_in (plain_body body))
+plain-terms answers (Semantic query permanent prohibited) old = tt
+plain-terms answers Dir old = old
+plain-terms answers (File text dirty shown) old = old
+plain-terms answers (Symlink target) old = old
+plain-terms answers (Mount space kept) old = old
+plain-terms answers Document old = old
+
+-- An entry goes.
+
+-- where no document goes
+removed-documents : (s : State) (n : ℕ) → is_document_at s.entries n ≡ false → DocumentsStay s (removed s n)
+removed-documents s n other m k there =
+    same-document s (removed s n) m k (entry_at-kept n s.entries k (λ same.
+    let here : is_document_at s.entries n ≡ true = ap (is_document_at s.entries) same ∙ (and_parts (is_document_at s.entries k) (parent_of s k == m) there).0 in
+    let never : true ≡ false = sym here ∙ other in cc)) there
+
+removed-terms : (answers : List Answer) (n : ℕ) (es : List Entry) → AreKept answers (terms_in_use es) → AreKept answers (terms_in_use (filter (is_left n) es))
+removed-terms answers n es h = all-kept answers (filter (is_left n) es) (all-filter (λ e. AreKept answers (terms_in e.body)) (is_left n) es (each-kept answers es h))
+
+removed-few : (s : State) (n m : ℕ) → has_few s.entries m ≡ true → has_few (removed s n).entries m ≡ true
+removed-few s n m few = fewer (length (inside m s.entries)) (length (inside m (filter (is_left n) s.entries))) (inside-left m n s.entries) few
+
+removed-keeps : (s : State) (n : ℕ) → is_document_at s.entries n ≡ false → IsValid s → AllByRecursion (λ e. KeepsWell (removed s n) e.number e.body) (removed s n).entries
+removed-keeps s n other h =
+    all-filter (λ e. KeepsWell (removed s n) e.number e.body) (is_left n) s.entries
+    (all-weaker (λ e. KeepsWell s e.number e.body) (λ e. KeepsWell (removed s n) e.number e.body) s.entries
+    (λ e keeps. keeps-stays s (removed s n) e.number e.body (removed-documents s n other) (removed-few s n) (λ m answers old. removed-terms answers n s.entries old) keeps) h.answers)
+
+-- marks go from all entries
+forgotten-keeps : (s : State) (n : ℕ) → AllByRecursion (λ e. KeepsWell s e.number e.body) s.entries → AllByRecursion (λ e. KeepsWell (forgotten s n) e.number e.body) (forgotten s n).entries
+forgotten-keeps s n h =
+    all-map (λ e. KeepsWell (forgotten s n) e.number e.body) (edited (forgetting n)) s.entries
+    (all-weaker (λ e. KeepsWell s e.number e.body) (λ e. KeepsWell (forgotten s n) e.number (forgetting n e.body)) s.entries
+    (λ e keeps. edit-keeps (forgetting n) (forgetting-leaves n) (forgotten s n) e.number e.body (keeps-stays s (forgotten s n) e.number e.body documents few terms keeps)) h)
+  where
+    documents : DocumentsStay s (forgotten s n)
+    documents m k there =
+        ap (document_by m) (entry_at-mapped (forgetting n) s.entries k)
+        ∙ (elim (entry_at s.entries k) as (λ o. document_by m (option_map (edited (forgetting n)) o) ≡ document_by m o) [ None ↦ refl | Some e ↦ ap (λ (b : Bool). b && (e.parent == m)) ((forgetting-leaves n).documents e.body) ])
+        ∙ there
+
+    few : (m : ℕ) → has_few s.entries m ≡ true → has_few (forgotten s n).entries m ≡ true
+    few m h = ap (λ (k : ℕ). nat_le k DOCS_LIMIT) (inside-mapped m (forgetting n) s.entries) ∙ h
+
+    terms : TermsStay s (forgotten s n)
+    terms m answers old = all-kept answers (forgotten s n).entries
+        (all-map (λ e. AreKept answers (terms_in e.body)) (edited (forgetting n)) s.entries
+        (all-weaker (λ e. AreKept answers (terms_in e.body)) (λ e. AreKept answers (terms_in (forgetting n e.body))) s.entries (λ e kept. same-terms (forgetting n) (forgetting-terms n) answers e.body kept) (each-kept answers s.entries old)))
+
+-- All events.
+
+-- a leaf is no document
+leaf-document : (s : State) (n : ℕ) → is_leaf_at s.entries n ≡ true → is_document_at s.entries n ≡ false
+leaf-document s n h = elim (entry_at s.entries n) as (λ o. option_map_or is_leaf (option_map (λ (e : Entry). e.body) o) false ≡ true → option_map_or is_document (option_map (λ (e : Entry). e.body) o) false ≡ false) [
+  | None ↦ (λ h. refl)
+  | Some e ↦ (λ h. body e.body h)
+] h
+  where
+    body : (b : Body) → is_leaf b ≡ true → is_document b ≡ false
+    body Document h = absurd cc
+    body (File text dirty shown) h = refl
+    body (Symlink target) h = refl
+    body Dir h = absurd cc
+    body (Semantic query permanent prohibited) h = absurd cc
+    body (Mount space answers) h = absurd cc
+
+-- nor is a directory
+made-document : (s : State) (n : ℕ) → is_made_directory s.entries n ≡ true → is_document_at s.entries n ≡ false
+made-document s n h = elim (entry_at s.entries n) as (λ o. option_map_or is_directory (option_map (λ (e : Entry). e.body) o) false ≡ true → option_map_or is_document (option_map (λ (e : Entry). e.body) o) false ≡ false) [
+  | None ↦ (λ h. refl)
+  | Some e ↦ (λ h. body e.body h)
+] h
+  where
+    body : (b : Body) → is_directory b ≡ true → is_document b ≡ false
+    body Document h = absurd cc
+    body (File text dirty shown) h = absurd cc
+    body (Symlink target) h = absurd cc
+    body Dir h = refl
+    body (Semantic query permanent prohibited) h = refl
+    body (Mount space answers) h = refl
+
+-- what stands at a free place's directory is no mount
+free-plain : (s : State) (dir : ℕ) (name : List ℕ) → is_free s dir name ≡ true → is_mount_at s.entries dir ≡ false
+free-plain s dir name free = not-true (is_mount_at s.entries dir) (and_parts (is_directory_at s.entries dir) (not (is_mount_at s.entries dir)) (free-holder s dir name free)).1
+
+-- an entry without a query is added
+plain-added : (s : State) (dir : ℕ) (name : List ℕ) (body : Body) → IsValid s → is_free s dir name ≡ true → is_mount body ≡ false → query_in body ≡ None → AllByRecursion (λ e. KeepsWell (added s dir name body) e.number e.body) (added s dir name body).entries
+plain-added s dir name body h free plain none =
+    added-keeps s dir name body h (free-plain s dir name free) plain (λ e found space answers is. subst (AreKept answers) (sym (ap (λ (o : Option (Formula ℕ)). option_map_or terms_of o []) none)) tt)
+
+pub apply-answers : (s : State) (event : Event) → IsValid s → IsTrue (accepted s event) → AllByRecursion (λ e. KeepsWell (apply s event) e.number e.body) (apply s event).entries
+apply-answers s (Mkdir dir name) h ok =
+    plain-added s dir name Dir h (accepted-parts (is_free s dir name) (passed_limit (added s dir name Dir)) ok).0 refl refl
+apply-answers s (NewFile dir name text) h ok =
+    let parts = accepted-parts (is_free s dir name && is_text text) (passed_limit (added s dir name (File text true None))) ok in
+    plain-added s dir name (File text true None) h (and_parts (is_free s dir name) (is_text text) parts.0).0 refl refl
+apply-answers s (Ln dir name target) h ok =
+    let parts = accepted-parts (is_free s dir name && is_target target) (passed_limit (added s dir name (Symlink target))) ok in
+    plain-added s dir name (Symlink target) h (and_parts (is_free s dir name) (is_target target) parts.0).0 refl refl
+apply-answers s (Rewrite file text) h ok = edited-keeps s file (rewritten text) (rewritten-leaves text) (λ e found space answers is body kept. same-terms (rewritten text) (rewritten-terms text) answers body kept) h
+apply-answers s (Smkdir dir name query told) h ok =
+    let parts = accepted-parts (is_possible s (Smkdir dir name query told)) (passed_limit (added s dir name (Semantic query [] []))) ok in
+    let fits = smkdir-parts s dir name query told parts.0 in
+    added-keeps s dir name (Semantic query [] []) h (free-plain s dir name fits.0) refl (λ e found space answers is. known-terms s.entries query e.number e space answers fits.3 found is)
+apply-answers s (Setq dir query told) h ok =
+    let parts = accepted-parts (is_possible s (Setq dir query told)) (passed_limit (changed_at s dir (edited (asking query)))) ok in
+    let fits = setq-parts s dir query told parts.0 in
+    edited-keeps s dir (asking query) (asking-leaves query) (λ e found space answers is body kept. asking-terms query answers (known-terms s.entries query e.number e space answers fits.4 found is) body kept) h
+apply-answers s (Unq dir) h ok = edited-keeps s dir plain_body plain-leaves (λ e found space answers is body kept. plain-terms answers body kept) h
+apply-answers s (Mark mark) h ok =
+    edited-keeps s mark.dir (marked mark.item mark.kind) (marked-leaves mark.item mark.kind) (λ e found space answers is body kept. same-terms (marked mark.item mark.kind) (marked-terms mark.item mark.kind) answers body kept) h
+apply-answers s (Mv entry dir name) h ok =
+    let parts = accepted-parts (is_possible s (Mv entry dir name)) (passed_limit (changed_at s entry (reseated dir name))) ok in
+    let fits = move-parts s entry dir name parts.0 in
+    let holder = free-plain s dir name fits.1 in
+    changed-keeps s entry (reseated dir name) (λ e. refl)
+    (changed-documents s entry (reseated dir name) (λ e. refl) (λ e. refl) (λ e is found.
+    let document : is_document_at s.entries entry ≡ true = ap (λ (o : Option Entry). option_map_or is_document (option_map (λ (e : Entry). e.body) o) false) found ∙ is in
+    let never : true ≡ false = sym document ∙ fits.4 in absurd cc))
+    (λ m mount e here. let same : dir ≡ m = eqb-true dir m here in let never : true ≡ false = sym mount ∙ ap (is_mount_at s.entries) (sym same) ∙ holder in absurd cc)
+    (λ e found space answers is old. changed-terms answers entry (reseated dir name) s.entries (λ f kept. kept) old)
+    (λ e keeps. keeps) h
+apply-answers s (Rm leaf) h ok =
+    let parts = accepted-parts (is_leaf_at s.entries leaf) (passed_limit (forgotten (removed s leaf) leaf)) ok in
+    forgotten-keeps (removed s leaf) leaf (removed-keeps s leaf (leaf-document s leaf parts.0) h)
+apply-answers s (Rmdir dir) h ok =
+    let parts = accepted-parts (is_possible s (Rmdir dir)) (passed_limit (removed s dir)) ok in
+    removed-keeps s dir (made-document s dir (rmdir-parts s dir parts.0).0) h
+apply-answers s Step h ok = elim (next_dirty s.entries) as (λ o. AllByRecursion (λ e. KeepsWell (option_map_or (λ file. changed_at s file (edited indexed)) o s) e.number e.body) (option_map_or (λ file. changed_at s file (edited indexed)) o s).entries) [
+  | None ↦ h.answers
+  | Some file ↦ edited-keeps s file indexed indexed-leaves (λ e found space answers is body kept. same-terms indexed indexed-terms answers body kept) h
+]
+apply-answers s (Cd session dir) h ok =
+    all-weaker (λ e. KeepsWell s e.number e.body) (λ e. KeepsWell (apply s (Cd session dir)) e.number e.body) s.entries (λ e keeps. keeps-stays s (apply s (Cd session dir)) e.number e.body (λ m n there. there) (λ m few. few) (λ m answers old. old) keeps) h.answers
+apply-answers s other h ok = absurd cc
