@@ -12,6 +12,7 @@ ghost use Rattle.hac_model.specs.Laws.{FirstCommandLines, NoCommandLines, LinksS
 ghost use Rattle.hac_model.specs.Laws.{ValidIsAcyclic, PlainTellsState, LooksFind, LooksFollow, LooksTell};
 ghost use Rattle.hac_model.specs.Laws.{MovesRename, PrintedTextIsRead, PrintedTextIsOneLine};
 ghost use Rattle.hac_model.specs.Laws.{QuotedWordIsRead, QuotesAreOneSpelling, FirstListings};
+ghost use Rattle.hac_model.specs.FirstMounts.{FirstMounts, LibraryIsValid, MountsRefuse};
 ghost use Rattle.hac_model.specs.Laws.{MovedListings, FirstLinks, FirstSteps, ValidityIsTested};
 
 /// Two joined scripts are played one after the other, where the first one consists of whole lines,
@@ -172,6 +173,14 @@ pub fn moved_listings()
 /// A run with symbolic links: relative ones, one that is moved, one that leads nowhere, and a loop.
 pub fn first_links()
     ensures { FirstLinks }
+{}
+
+/// A valid state with a mount, and runs from it: documents are found, linked and moved with their
+/// mount, nothing is put into it, and what has to ask its space is refused.
+pub fn first_mounts()
+    ensures valid { LibraryIsValid }
+    ensures run { FirstMounts }
+    ensures refuse { MountsRefuse }
 {}
 
 /// A run with an index step behind each command.

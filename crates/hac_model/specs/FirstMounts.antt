@@ -1,0 +1,56 @@
+-- A small state with a mount, proved to be valid, and a run from it: what a directory that queries a mount lists, what
+-- may be done in a mount, and what has to ask its space. No space is attached.
+use Rattle.std.specs.Prelude.{◌≡◌, true, [], ◌∷◌, codes}
+use Rattle.hac_model.specs.Laws.{lines_text}
+use Rattle.hac_model.specs.Query.Formula as query
+use Rattle.hac_model.specs.Run.Play.{Setting, new_setting, nothing_given, play, turns_text}
+use Rattle.hac_model.specs.Tree.ValidTest.{is_valid}
+use Rattle.hac_model.specs.declared.states.Body.TheVariants.{Document, Mount, Semantic}
+use Rattle.hac_model.specs.declared.states.State.{State}
+use Rattle.hac_model.specs.declared.terms.Term.TheVariants.{Word}
+
+-- `/s` asks for apple, and of the documents of `/lib` the first and the last had the word
+abbrev pub small_library : State
+small_library = record {
+  next = 6;
+  entries =
+      record { number = 1; parent = 0; name = codes "s"; body = Semantic (query.Term (Word (codes "apple"))) [] [] }
+      ∷ record { number = 2; parent = 0; name = codes "lib"; body = Mount (codes "space") (record { term = Word (codes "apple"); documents = 3 ∷ 5 ∷ [] } ∷ []) }
+      ∷ record { number = 3; parent = 2; name = codes "one"; body = Document }
+      ∷ record { number = 4; parent = 2; name = codes "three"; body = Document }
+      ∷ record { number = 5; parent = 2; name = codes "two"; body = Document }
+      ∷ [];
+  sessions = [];
+}
+
+abbrev pub LibraryIsValid : Type 0
+LibraryIsValid = is_valid small_library ≡ true
+
+-- documents are linked as files are, and a query finds them by the answers that are kept
+abbrev pub FirstMounts : Type 0
+FirstMounts =
+    turns_text (play nothing_given (record new_setting { state = small_library }) (lines_text (
+    codes "sls /s" ∷ codes "ls /lib" ∷ codes "ls" ∷ codes "srm /lib/one /s" ∷ codes "sls /s" ∷ codes "smkdir /t NOT apple"
+    ∷ codes "sls /t" ∷ codes "mv /lib /m" ∷ codes "find apple AND {/m}" ∷ codes "sln /m/one /t" ∷ codes "sls /t" ∷ codes "counts" ∷ [])))
+    ≡ lines_text (
+    codes "t /lib/one" ∷ codes "t /lib/two" ∷ codes "ok"
+    ∷ codes "o one" ∷ codes "o three" ∷ codes "o two" ∷ codes "ok"
+    ∷ codes "m lib" ∷ codes "s s" ∷ codes "ok"
+    ∷ codes "ok" ∷ codes "x /lib/one" ∷ codes "t /lib/two" ∷ codes "ok"
+    ∷ codes "ok" ∷ codes "t /lib/three" ∷ codes "ok"
+    ∷ codes "ok" ∷ codes "o /m/one" ∷ codes "o /m/two" ∷ codes "ok"
+    ∷ codes "ok" ∷ codes "p /m/one" ∷ codes "t /m/three" ∷ codes "ok"
+    ∷ codes "= files 0 documents 3 directories 0 semantic 2 mounts 1 symbolic 0 transient 2 permanent 1 prohibited 1 dirty 0 next 7" ∷ codes "ok" ∷ [])
+
+-- nothing is put into a mount or taken out of it, and what has to ask its space is refused
+abbrev pub MountsRefuse : Type 0
+MountsRefuse =
+    turns_text (play nothing_given (record new_setting { state = small_library }) (lines_text (
+    codes "write /lib/x y" ∷ codes "write /lib/one y" ∷ codes "mkdir /lib/one" ∷ codes "rm /lib/one" ∷ codes "mv /lib/one /x"
+    ∷ codes "ln a /lib/x" ∷ codes "rmdir /lib" ∷ codes "setq /lib apple" ∷ codes "cd /lib/one" ∷ codes "cat /lib/none"
+    ∷ codes "cat /lib/one" ∷ codes "cat /lib" ∷ codes "smkdir /t pear" ∷ codes "setq /s apple*" ∷ codes "find pear" ∷ codes "sls /lib" ∷ [])))
+    ≡ lines_text (
+    codes "no in-mount /lib" ∷ codes "no in-mount /lib" ∷ codes "no in-mount /lib" ∷ codes "no in-mount /lib" ∷ codes "no in-mount /lib"
+    ∷ codes "no in-mount /lib" ∷ codes "no in-mount /lib" ∷ codes "no in-mount /lib" ∷ codes "no not-dir /lib/one" ∷ codes "no no-path /lib/none"
+    ∷ codes "no no-space space" ∷ codes "no not-file /lib" ∷ codes "no no-space space" ∷ codes "no no-space space" ∷ codes "no no-space space"
+    ∷ codes "no not-semantic /lib" ∷ [])
