@@ -27,7 +27,6 @@ pub mod StandLemmas
 pub mod EventLemmas
 pub mod SessionLemmas
 pub mod SpelledLemmas
-pub mod StateSpellingLemmas
 pub mod PlayLemmas
 pub mod PlainLemmas
 pub mod ListedLemmas
