@@ -12,6 +12,7 @@ use Rattle.hac_model.specs.Script.Lines.{Item, is_spelled_line, item_of}
 use Rattle.hac_model.specs.Tree.Links.{column, found_by, has, is_below, is_permanent, is_prohibited, is_semantic, is_judged, links, provide, round}
 use Rattle.hac_model.specs.Tree.Kinds as kinds
 use Rattle.hac_model.specs.Tree.Looks.{look, plain, destination}
+use Rattle.hac_model.specs.Tree.Mounts.{are_mounts_small}
 use Rattle.hac_model.specs.Script.Printed.{ended}
 use Rattle.hac_model.specs.Run.Refusals.{cause, events_of, led_to, marks}
 use Rattle.hac_model.specs.Run.Resolving.{resolve}
@@ -140,9 +141,9 @@ EventsEnd =
 abbrev pub AcceptedAreSpelled : Type 0
 AcceptedAreSpelled = (s : State) (event : Event) → IsValid s → IsTrue (is_stored event) → IsTrue (accepted s event) → IsTrue (is_spellable event)
 
--- what is stored of a valid state has a spelling
+-- what is stored of a valid state has a spelling, where no mount is too large
 abbrev pub ValidAreSpelled : Type 0
-ValidAreSpelled = (s : State) → IsValid s → IsTrue (is_spellable_snapshot (snapshot_of s))
+ValidAreSpelled = (s : State) → IsValid s → IsTrue (are_mounts_small s.entries) → IsTrue (is_spellable_snapshot (snapshot_of s))
 
 -- where sessions stand is never stored: what can happen to a state and is stored can happen to what is stored of it,
 -- and leads to what is stored of the outcome

@@ -91,7 +91,7 @@ pub fn accepted_events_are_spelled()
     ensures { AcceptedAreSpelled }
 {}
 
-/// What is stored of a valid state has a spelling.
+/// What is stored of a valid state has a spelling, where no mount is too large.
 pub fn valid_states_are_spelled()
     ensures { ValidAreSpelled }
 {}
