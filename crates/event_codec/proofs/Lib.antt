@@ -4,4 +4,4 @@ pub mod PartLemmas
 pub mod PutLemmas
 pub mod QueryLemmas
 pub mod PayloadLemmas
-pub mod StateLemmas
+pub mod SnapshotLemmas

@@ -4,7 +4,7 @@ use Rattle.std.specs.Int.{Width, byte_len, from_le_bytes}
 use Rattle.hac_model.specs.Run.Answers as gives
 use Rattle.hac_model.specs.Payload.Payloads.{is_spellable}
 use Rattle.hac_model.specs.declared.events.Event.{Event}
-use Rattle.hac_model.specs.declared.states.State.{State}
+use Rattle.hac_model.specs.declared.snapshots.Snapshot.{Snapshot}
 use Rattle.event_codec.specs.declared.faults.Fault.{Fault}
 use Rattle.event_codec.specs.declared.faults.Fault.TheVariants as fault
 use Rattle.event_codec.specs.declared.faults.CodecFault.{CodecFault}
@@ -35,9 +35,9 @@ abbrev pub ReadsPayload : Result Payload CodecFault → Result Event ℕ → Typ
 ReadsPayload (Ok (payload.Event event)) wanted = wanted ≡ Ok event
 ReadsPayload (Err fault) wanted = IsPayloadFault fault wanted
 
--- the call gave the state that the payload says, or the place of the fault
-abbrev pub ReadsState : Result State CodecFault → Result State ℕ → Type 0
-ReadsState result wanted = gives.Gives IsPayloadFault result wanted
+-- the call gave the snapshot that the payload says, or the place of the fault
+abbrev pub ReadsSnapshot : Result Snapshot CodecFault → Result Snapshot ℕ → Type 0
+ReadsSnapshot result wanted = gives.Gives IsPayloadFault result wanted
 
 -- what the payload holds has a spelling
 abbrev pub IsSpellable : Payload → Type 0

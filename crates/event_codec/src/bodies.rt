@@ -1,10 +1,10 @@
-//! What entries are, as bytes and back.
+//! What entries are, with the documents that are listed with them, as bytes and back.
 ghost use Rattle.std.specs.Prelude.{◌≡◌, ◌++◌, ◌+◌, IsTrue, List, OnOk, ℕ, Err, Ok, length};
 ghost use Rattle.std.specs.Option.{option_map_or};
 ghost use Rattle.std.specs.Str.{bytes_eq};
 ghost use Rattle.hac_model.specs.Payload.Fields.{way_at};
-ghost use Rattle.hac_model.specs.Payload.States.{body_field, body_ways, flag_field, other_text};
-ghost use Rattle.hac_model.specs.Payload.States.{shown_field};
+ghost use Rattle.hac_model.specs.Payload.States.{flag_field, other_text, shown_field};
+ghost use Rattle.hac_model.specs.Payload.States.{stored_field, stored_ways};
 ghost use Rattle.event_codec.specs.Reading.{GivesField};
 
 use crate::bytes::Bytes;
@@ -13,50 +13,79 @@ use crate::fields::{space, target, text};
 use crate::lists::{list, put_list, short_list};
 use crate::putting::{put_long, put_middle, put_query, put_short};
 use crate::queries::query;
-use hac_model::{Body, Memory, Text};
+use hac_model::{Body, Document, Memory, Seq, Text};
 use std::alloc::Global;
 
-/// What the entry at the front is.
+/// What the entry at the front is, and the documents that are listed with it.
 #[tactic(auto, unfolding(hac_model::specs::Payload::Fields::choice_at))]
-pub(crate) fn body(alloc: Global, bytes: &mut Bytes) -> Result<Body, Fault>
-    ensures { GivesField result bytes.new (body_field.read bytes.old) }
+pub(crate) fn stored(alloc: Global, bytes: &mut Bytes) -> Result<(Body, Seq<Document>), Fault>
+    ensures { GivesField result bytes.new (stored_field.read bytes.old) }
 {
     match bytes.byte() {
-        Some(kind) => body_of(alloc, kind, bytes),
+        Some(kind) => stored_of(alloc, kind, bytes),
         None => Err(Fault::Bad { left: 0 }),
     }
 }
 
 /// The same of a kind, behind its kind byte.
 #[tactic(auto, unfolding(hac_model::specs::Payload::Fields::way_at))]
-fn body_of(alloc: Global, kind: u8, bytes: &mut Bytes) -> Result<Body, Fault>
-    ensures { GivesField result bytes.new (way_at body_ways kind bytes.old) }
+fn stored_of(alloc: Global, kind: u8, bytes: &mut Bytes) -> Result<(Body, Seq<Document>), Fault>
+    ensures { GivesField result bytes.new (way_at stored_ways kind bytes.old) }
 {
     match kind {
-        1 => {
-            let dirty = flag(bytes)?;
-            let text = text(alloc, bytes)?;
-            let shown = shown(alloc, bytes, &text)?;
-            Ok(Body::File { text, dirty, shown })
-        }
-        2 => Ok(Body::Dir),
-        3 => Ok(Body::Symlink {
-            target: target(alloc, bytes)?,
-        }),
-        4 => Ok(Body::Semantic {
-            query: query(alloc, bytes)?,
-            permanent: list(alloc, bytes)?,
-            prohibited: list(alloc, bytes)?,
-        }),
-        5 => Ok(Body::Mount {
-            space: space(alloc, bytes)?,
-            documents: short_list(alloc, bytes)?,
-            answers: list(alloc, bytes)?,
-        }),
+        1 => file(alloc, bytes),
+        2 => Ok((Body::Dir, Seq::new(Vec::new(alloc)))),
+        3 => symlink(alloc, bytes),
+        4 => semantic(alloc, bytes),
+        5 => mount(alloc, bytes),
         _ => Err(Fault::Bad {
             left: bytes.left() + 1,
         }),
     }
+}
+
+/// A file, behind its kind byte. It has no documents, as nothing but a mount has any.
+#[tactic(auto, unfolding(hac_model::specs::Payload::Fields::way_at))]
+fn file(alloc: Global, bytes: &mut Bytes) -> Result<(Body, Seq<Document>), Fault>
+    ensures { GivesField result bytes.new (way_at stored_ways 1 bytes.old) }
+{
+    let dirty = flag(bytes)?;
+    let text = text(alloc, bytes)?;
+    let shown = shown(alloc, bytes, &text)?;
+    Ok((Body::File { text, dirty, shown }, Seq::new(Vec::new(alloc))))
+}
+
+/// A symbolic link, behind its kind byte.
+#[tactic(auto, unfolding(hac_model::specs::Payload::Fields::way_at))]
+fn symlink(alloc: Global, bytes: &mut Bytes) -> Result<(Body, Seq<Document>), Fault>
+    ensures { GivesField result bytes.new (way_at stored_ways 3 bytes.old) }
+{
+    let target = target(alloc, bytes)?;
+    Ok((Body::Symlink { target }, Seq::new(Vec::new(alloc))))
+}
+
+/// A semantic directory, behind its kind byte.
+#[tactic(auto, unfolding(hac_model::specs::Payload::Fields::way_at))]
+fn semantic(alloc: Global, bytes: &mut Bytes) -> Result<(Body, Seq<Document>), Fault>
+    ensures { GivesField result bytes.new (way_at stored_ways 4 bytes.old) }
+{
+    let body = Body::Semantic {
+        query: query(alloc, bytes)?,
+        permanent: list(alloc, bytes)?,
+        prohibited: list(alloc, bytes)?,
+    };
+    Ok((body, Seq::new(Vec::new(alloc))))
+}
+
+/// A mount and its documents, behind its kind byte. What the space answered follows these.
+#[tactic(auto, unfolding(hac_model::specs::Payload::Fields::way_at))]
+fn mount(alloc: Global, bytes: &mut Bytes) -> Result<(Body, Seq<Document>), Fault>
+    ensures { GivesField result bytes.new (way_at stored_ways 5 bytes.old) }
+{
+    let space = space(alloc, bytes)?;
+    let documents = short_list(alloc, bytes)?;
+    let answers = list(alloc, bytes)?;
+    Ok((Body::Mount { space, answers }, documents))
 }
 
 /// Whether a file is dirty.
@@ -104,11 +133,16 @@ fn is_same(text: &Text, other: &Text) -> bool
     text.as_slice() == other.as_slice()
 }
 
-/// Adds what an entry is.
+/// Adds what an entry is, with the documents that are listed with it.
 #[tactic(auto, using(crate::proofs::PutLemmas::puts))]
-pub(crate) fn put_body(out: &mut Vec<u8>, body: &Body) -> Result<(), Memory>
-    requires { IsTrue (body_field.fits body.now) }
-    ensures { OnOk result (out.new.items ≡ out.old.items ++ body_field.text body.now) }
+pub(crate) fn put_stored(
+    out: &mut Vec<u8>,
+    body: &Body,
+    documents: &Seq<Document>,
+) -> Result<(), Memory>
+    requires { IsTrue (stored_field.fits (body.now, documents.now)) }
+    ensures { OnOk result (out.new.items ≡ out.old.items ++
+        stored_field.text (body.now, documents.now)) }
 {
     match body {
         Body::File { text, dirty, shown } => {
@@ -135,16 +169,13 @@ pub(crate) fn put_body(out: &mut Vec<u8>, body: &Body) -> Result<(), Memory>
             put_list(out, permanent.as_slice())?;
             put_list(out, prohibited.as_slice())
         }
-        Body::Mount {
-            space,
-            documents,
-            answers,
-        } => {
+        Body::Mount { space, answers } => {
             out.push(5)?;
             put_short(out, space.as_bytes())?;
             put_list(out, documents.as_slice())?;
             put_list(out, answers.as_slice())
         }
+        Body::Document => Ok(()),
     }
 }
 

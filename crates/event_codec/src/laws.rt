@@ -1,5 +1,5 @@
 //! Theorems over the definitions alone. Each is the contract of a function that does nothing.
-ghost use Rattle.event_codec.specs.Laws.{ReadIsState, ReadIsWritten, StateIsRead, WrittenIsRead};
+ghost use Rattle.event_codec.specs.Laws.{ReadIsSnapshot, ReadIsWritten, SnapshotIsRead, WrittenIsRead};
 
 /// An event is read back from its spelling.
 pub fn written_is_read()
@@ -11,12 +11,12 @@ pub fn read_is_written()
     ensures { ReadIsWritten }
 {}
 
-/// A state is read back from its spelling.
-pub fn state_is_read()
-    ensures { StateIsRead }
+/// A snapshot is read back from its spelling.
+pub fn snapshot_is_read()
+    ensures { SnapshotIsRead }
 {}
 
-/// Bytes that are read as a state are its spelling, so that each state has one.
-pub fn read_is_state()
-    ensures { ReadIsState }
+/// Bytes that are read as a snapshot are its spelling, so that each snapshot has one.
+pub fn read_is_snapshot()
+    ensures { ReadIsSnapshot }
 {}

@@ -1,4 +1,4 @@
-//! Events and whole states as the bytes of a payload, and back. It knows the grammar of payloads;
+//! Events and snapshots of whole states as the bytes of a payload, and back. It knows the grammar of payloads;
 //! where in a store they lie, which events fit a state, and which states there can be, is for others
 //! to say.
 #![tactic(auto)]
@@ -14,10 +14,10 @@ mod putting;
 mod queries;
 mod reading;
 mod rooms;
-mod states;
+mod snapshots;
 mod writing;
 
 pub use faults::CodecFault;
 pub use reading::{Payload, read_payload};
-pub use states::{read_state, write_state};
+pub use snapshots::{read_snapshot, write_snapshot};
 pub use writing::write_event;

@@ -3,7 +3,7 @@ ghost use Rattle.std.specs.Prelude.{◌≡◌, ◌++◌, IsTrue, OnOk};
 ghost use Rattle.std.specs.Option.{option_copied, option_map};
 ghost use Rattle.hac_model.specs.Payload.States.{term_field};
 ghost use Rattle.hac_model.specs.declared.states.Answer.{Answer};
-ghost use Rattle.hac_model.specs.declared.states.Document.{Document};
+ghost use Rattle.hac_model.specs.declared.snapshots.Document.{Document};
 ghost use Rattle.event_codec.specs.Reading.{GivesField};
 
 use crate::bytes::Bytes;

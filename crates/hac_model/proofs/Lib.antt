@@ -13,6 +13,7 @@ pub mod AmongLemmas
 pub mod LinkLemmas
 pub mod CountLemmas
 pub mod ValidLemmas
+pub mod StateSpellingLemmas
 pub mod ValidTestLemmas
 pub mod DepthLemmas
 pub mod MoveLemmas

@@ -41,7 +41,7 @@ use Rattle.hac_model.proofs.KeptLemmas.{keeps-stays}
 
 module _ (s : State) (h : IsValid s) where
   -- the numbers of a valid state have four bytes
-  number-fits : (n : ℕ) → Lives s.entries n → num.fits n ≡ true
+  pub number-fits : (n : ℕ) → Lives s.entries n → num.fits n ≡ true
   number-fits n (inl root) = ap (λ (m : ℕ). num.fits m) root
   number-fits n (inr found) =
       let within : IsWithinLimits s = limits-within s h.layout.limits in
@@ -62,7 +62,7 @@ module _ (s : State) (h : IsValid s) where
       ] refl passes
 
   -- a query that may be asked
-  query-fits : (q : Formula ℕ) → may_ask s q ≡ true → query_field.fits q ≡ true
+  pub query-fits : (q : Formula ℕ) → may_ask s q ≡ true → query_field.fits q ≡ true
   query-fits q may =
       let asks = and_parts (is_query q) (are_directories s (named_in q)) may in
       and_from (is_query q) (are_nums q) asks.0 (nums-fit q asks.1)
@@ -80,7 +80,7 @@ module _ (s : State) (h : IsValid s) where
       nums-fit (formula.And left right) named = both-fit left right (nums-fit left) (nums-fit right) named
       nums-fit (formula.Or left right) named = both-fit left right (nums-fit left) (nums-fit right) named
 
-  name-fits : (name : List ℕ) → is_name name ≡ true → name_field.fits name ≡ true
+  pub name-fits : (name : List ℕ) → is_name name ≡ true → name_field.fits name ≡ true
   name-fits name is =
       let one = and_parts (nat_le 1 (length name) && nat_le (length name) NAME_LIMIT && list_all is_name_byte name && not (bytes_eq name (codes "."))) (not (bytes_eq name (codes ".."))) is in
       let two = and_parts (nat_le 1 (length name) && nat_le (length name) NAME_LIMIT && list_all is_name_byte name) (not (bytes_eq name (codes "."))) one.0 in
@@ -88,7 +88,7 @@ module _ (s : State) (h : IsValid s) where
       let four = and_parts (nat_le 1 (length name)) (nat_le (length name) NAME_LIMIT) three.0 in
       and_from (nat_le (length name) NAME_LIMIT) (is_name name) four.1 is
 
-  text-fits : (text : List ℕ) → is_text text ≡ true → text_field.fits text ≡ true
+  pub text-fits : (text : List ℕ) → is_text text ≡ true → text_field.fits text ≡ true
   text-fits text is = and_from (nat_le (length text) TEXT_LIMIT) true is refl
 
   told-fits : (told : List (List ℕ)) → (length told == 0) ≡ true → told_field.fits told ≡ true

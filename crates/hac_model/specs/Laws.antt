@@ -18,7 +18,7 @@ use Rattle.hac_model.specs.Run.Resolving.{resolve}
 use Rattle.hac_model.specs.Script.{due, whole}
 use Rattle.hac_model.specs.Tree.Sessions.{is_stored, sessions_after, stored}
 use Rattle.hac_model.specs.Payload.Payloads.{is_spellable}
-use Rattle.hac_model.specs.Payload.States.{is_spellable_snapshot, snapshot_of}
+use Rattle.hac_model.specs.Payload.States.{are_mounts_small, is_spellable_snapshot, snapshot_of}
 use Rattle.hac_model.specs.Run.Play.{Given, Setting, all_events, end_after, given_behind, left_by, new_setting, no_answers, nothing_given, play, ticking, turns, turns_text}
 use Rattle.hac_model.specs.Script.Texts.{escaped_text, text_of}
 use Rattle.hac_model.specs.Tree.{empty, entry_at, is_symlink_at, path_of}
@@ -140,9 +140,9 @@ EventsEnd =
 abbrev pub AcceptedAreSpelled : Type 0
 AcceptedAreSpelled = (s : State) (event : Event) → IsValid s → IsTrue (is_stored event) → IsTrue (accepted s event) → IsTrue (is_spellable event)
 
--- what is stored of a valid state has a spelling
+-- what is stored of a valid state has a spelling, where no mount is too large
 abbrev pub ValidAreSpelled : Type 0
-ValidAreSpelled = (s : State) → IsValid s → IsTrue (is_spellable_snapshot (snapshot_of s))
+ValidAreSpelled = (s : State) → IsValid s → IsTrue (are_mounts_small s.entries) → IsTrue (is_spellable_snapshot (snapshot_of s))
 
 -- where sessions stand is never stored: what can happen to a state and is stored can happen to what is stored of it,
 -- and leads to what is stored of the outcome

@@ -7,7 +7,7 @@ ghost use Rattle.hac_model.specs.Laws.{BareCommutes, FactsFollow, SessionsFollow
 ghost use Rattle.hac_model.specs.Laws.{LinesSpell};
 ghost use Rattle.hac_model.specs.Laws.{CommandsHappen, StepsAreDue, StepsClean, IndexCleans};
 ghost use Rattle.hac_model.specs.Laws.{ScriptsKeepValid, EventsLead, EventsEnd, AcceptedAreSpelled};
-ghost use Rattle.hac_model.specs.Laws.{SessionsAreNotStored, FullStore, FirstEnd};
+ghost use Rattle.hac_model.specs.Laws.{ValidAreSpelled, SessionsAreNotStored, FullStore, FirstEnd};
 ghost use Rattle.hac_model.specs.Laws.{FirstCommandLines, NoCommandLines, LinksStay, LinksAreOnly};
 ghost use Rattle.hac_model.specs.Laws.{ValidIsAcyclic, PlainTellsState, LooksFind, LooksFollow, LooksTell};
 ghost use Rattle.hac_model.specs.Laws.{MovesRename, PrintedTextIsRead, PrintedTextIsOneLine};
@@ -90,6 +90,11 @@ pub fn events_lead()
 /// An event that can happen has a spelling, if it is one that is stored.
 pub fn accepted_events_are_spelled()
     ensures { AcceptedAreSpelled }
+{}
+
+/// What is stored of a valid state has a spelling, where no mount is too large.
+pub fn valid_states_are_spelled()
+    ensures { ValidAreSpelled }
 {}
 
 /// Where sessions stand is never stored.

@@ -1,28 +1,28 @@
--- States are read back, and what is read is what they spell.
-use Rattle.std.proofs.Common.{◌≡◌, ℕ, Bool, true, false, eqb, nat_lt, nat_le, List, [], ◌∷◌, ◌++◌, length, Option, Some, None, Result, Ok, Err, refl, sym, ap, subst, ◌∙◌, append_assoc, IsTrue}
-use Rattle.std.specs.Prelude.{not}
+-- Snapshots are read back, and what is read is what they spell.
+use Rattle.std.proofs.Common.{◌≡◌, ℕ, Bool, true, false, eqb, nat_lt, nat_le, List, [], ◌∷◌, ◌++◌, length, Option, Some, None, Ok, refl, sym, ap, subst, ◌∙◌, append_assoc, IsTrue}
+use Rattle.std.specs.Prelude.{not, ◌&&◌}
 use Rattle.std.specs.Option.{option_map}
 use Rattle.std.specs.Str.{bytes_eq}
 use Rattle.std.proofs.lemmas.Bool.{eqb-true, and_parts, and_from}
 use Rattle.std.proofs.lemmas.List.{append-nil, nil_from_length}
 use Rattle.std.proofs.lemmas.Slice.Eq.{bytes_eq-Decides}
 use Rattle.hac_model.specs.Run.Answers.{◌>>=◌}
-use Rattle.hac_model.specs.Payload.Fields.{num, nothing, ◌&◌, checked, list, part, way, way_at, choice_at}
+use Rattle.hac_model.specs.Payload.Fields.{Part, num, nothing, ◌&◌, checked, list, part, way, way_at, choice_at}
 use Rattle.hac_model.specs.Payload.Payloads.{all_of, name_field, space_field, target_field, text_field, nums, rises}
 use Rattle.hac_model.specs.Payload.QueryFields.{query_field, word_field}
-use Rattle.hac_model.specs.Payload.States.{answer_field, body_field, body_part, body_ways, document_field, documents_field, entry_field, flag_field, flag_part, is_spellable_state, no_sessions, other_text, shown_field, shown_part, shown_ways, spelled_state, state_field, state_payload, state_text, term_field, term_part, texts_field}
+use Rattle.hac_model.specs.Payload.States.{answer_field, document_field, documents_field, entry_field, flag_field, flag_part, is_spellable_snapshot, no_documents, other_text, shown_field, shown_part, shown_ways, snapshot_field, snapshot_payload, snapshot_text, spelled_snapshot, stored_field, stored_part, stored_ways, term_field, term_part, texts_field}
+use Rattle.hac_model.specs.Query.Formula.{Formula}
 use Rattle.hac_model.specs.Query.Terms.{is_term_before}
 use Rattle.hac_model.specs.Tree.Listing.{is_before}
 use Rattle.hac_model.specs.declared.states.Answer.{Answer}
 use Rattle.hac_model.specs.declared.states.Body.{Body}
 use Rattle.hac_model.specs.declared.states.Body.TheVariants.{File, Dir, Symlink, Semantic, Mount}
-use Rattle.hac_model.specs.declared.states.Document.{Document}
-use Rattle.hac_model.specs.declared.states.Entry.{Entry}
-use Rattle.hac_model.specs.declared.states.Session.{Session}
-use Rattle.hac_model.specs.declared.states.State.{State}
+use Rattle.hac_model.specs.declared.snapshots.Document.{Document}
+use Rattle.hac_model.specs.declared.snapshots.Snapshot.{Snapshot}
+use Rattle.hac_model.specs.declared.snapshots.StoredEntry.{StoredEntry}
 use Rattle.hac_model.specs.declared.terms.Term.{Term}
 use Rattle.hac_model.specs.declared.terms.Term.TheVariants.{Word, Prefix}
-use Rattle.event_codec.specs.Laws.{AreBytes, ReadIsState, StateIsRead}
+use Rattle.event_codec.specs.Laws.{AreBytes, ReadIsSnapshot, SnapshotIsRead}
 use Rattle.event_codec.proofs.FieldLemmas.{Took, Lawful, bind_ok, guard_ok, ok_is, nothing_lawful, both_lawful, checked_lawful, list_lawful, seen_lawful, way_is, way_is_fitting, whole_way_is, choice_takes, way_again, whole_way_again}
 use Rattle.event_codec.proofs.PayloadLemmas.{name_lawful, space_lawful, target_lawful, text_lawful, nums_lawful, placed_ok}
 use Rattle.event_codec.proofs.QueryLemmas.{num_lawful, query_lawful, word_lawful}
@@ -146,74 +146,104 @@ semantic_lawful = both_lawful query_field (nums & nums) query_lawful (both_lawfu
 mount_lawful : Lawful (space_field & documents_field & list num answer_field)
 mount_lawful = both_lawful space_field (documents_field & list num answer_field) space_lawful (both_lawful documents_field (list num answer_field) documents_lawful (list_lawful num answer_field num_lawful answer_lawful))
 
-body_again : (body : Body) (rest : List ℕ) → body_field.fits body ≡ true → body_field.read (body_field.text body ++ rest) ≡ Ok (body, rest)
-unfolding choice_at way_at
-body_again (File text dirty shown) rest fits = way_again (flag_field & texts_field) (λ x. File x.1.0 x.0 x.1.1) file_lawful (dirty, (text, shown)) rest fits
-body_again Dir rest fits = refl
-body_again (Symlink target) rest fits = way_again target_field (λ target. Symlink target) target_lawful target rest fits
-body_again (Semantic query permanent prohibited) rest fits = way_again (query_field & nums & nums) (λ x. Semantic x.0 x.1.0 x.1.1) semantic_lawful (query, (permanent, prohibited)) rest fits
-body_again (Mount space documents answers) rest fits = way_again (space_field & documents_field & list num answer_field) (λ x. Mount x.0 x.1.0 x.1.1) mount_lawful (space, (documents, answers)) rest fits
+-- what has no documents is spelled without them
+no-documents : (documents : List Document) → no_documents.fits documents ≡ true → documents ≡ []
+no-documents documents none = nil_from_length documents (eqb-true _ _ none)
 
-body_lawful : Lawful body_field
-body_lawful = record {
-  takes = choice_takes body_part body_ways (
-    way_is body_part 1 (flag_field & texts_field) (λ x. File x.1.0 x.0 x.1.1) file_lawful (λ x. refl),
+and-true : (b : Bool) → (b && true) ≡ b
+and-true false = refl
+and-true true = refl
+
+file-part : (x : Bool × (List ℕ × Option (List ℕ))) → stored_part (File x.1.0 x.0 x.1.1, []) ≡ part 1 (flag_field & texts_field) x
+file-part x = rw (append-nil (texts_field.text x.1), and-true (texts_field.fits x.1)) refl
+
+symlink-part : (target : List ℕ) → stored_part (Symlink target, []) ≡ part 3 target_field target
+symlink-part target = rw (append-nil (target_field.text target), and-true (target_field.fits target)) refl
+
+semantic-part : (x : Formula ℕ × (List ℕ × List ℕ)) → stored_part (Semantic x.0 x.1.0 x.1.1, []) ≡ part 4 (query_field & nums & nums) x
+semantic-part x = rw (append-nil (nums.text x.1.1), and-true (nums.fits x.1.1)) refl
+
+stored_again : (x : Body × List Document) (rest : List ℕ) → stored_field.fits x ≡ true → stored_field.read (stored_field.text x ++ rest) ≡ Ok (x, rest)
+unfolding choice_at way_at
+stored_again (File text dirty shown, documents) rest fits =
+    let flag = and_parts (flag_field.fits dirty) (texts_field.fits (text, shown) && no_documents.fits documents) fits in
+    let texts = and_parts (texts_field.fits (text, shown)) (no_documents.fits documents) flag.1 in
+    rw (no-documents documents texts.1, append-nil (texts_field.text (text, shown)))
+    (way_again (flag_field & texts_field) (λ x. (File x.1.0 x.0 x.1.1, [])) file_lawful (dirty, (text, shown)) rest (and_from _ _ flag.0 texts.0))
+stored_again (Dir, documents) rest fits = rw (no-documents documents fits) refl
+stored_again (Symlink target, documents) rest fits =
+    let parts = and_parts (target_field.fits target) (no_documents.fits documents) fits in
+    let alone : stored_field.read (stored_field.text (Symlink target, []) ++ rest) ≡ Ok ((Symlink target, []), rest) =
+    ap (λ (p : Part). choice_at stored_ways (p.text ++ rest)) (symlink-part target) ∙ way_again target_field (λ target. (Symlink target, [])) target_lawful target rest parts.0 in
+    rw (no-documents documents parts.1) alone
+stored_again (Semantic query permanent prohibited, documents) rest fits =
+    let asked = and_parts (query_field.fits query) (nums.fits permanent && (nums.fits prohibited && no_documents.fits documents)) fits in
+    let added = and_parts (nums.fits permanent) (nums.fits prohibited && no_documents.fits documents) asked.1 in
+    let removed = and_parts (nums.fits prohibited) (no_documents.fits documents) added.1 in
+    rw (no-documents documents removed.1, append-nil (nums.text prohibited))
+    (way_again (query_field & nums & nums) (λ x. (Semantic x.0 x.1.0 x.1.1, [])) semantic_lawful (query, (permanent, prohibited)) rest (and_from _ _ asked.0 (and_from _ _ added.0 removed.0)))
+stored_again (Mount space answers, documents) rest fits =
+    way_again (space_field & documents_field & list num answer_field) (λ x. (Mount x.0 x.1.1, x.1.0)) mount_lawful (space, (documents, answers)) rest fits
+stored_again (other, documents) rest fits = absurd cc
+
+stored_lawful : Lawful stored_field
+stored_lawful = record {
+  takes = choice_takes stored_part stored_ways (
+    way_is stored_part 1 (flag_field & texts_field) (λ x. (File x.1.0 x.0 x.1.1, [])) file_lawful file-part,
     (
-      way_is body_part 2 nothing (λ x. Dir) nothing_lawful (λ x. refl),
+      way_is stored_part 2 nothing (λ x. (Dir, [])) nothing_lawful (λ x. refl),
       (
-        way_is body_part 3 target_field (λ target. Symlink target) target_lawful (λ x. refl),
+        way_is stored_part 3 target_field (λ target. (Symlink target, [])) target_lawful symlink-part,
         (
-          way_is body_part 4 (query_field & nums & nums) (λ x. Semantic x.0 x.1.0 x.1.1) semantic_lawful (λ x. refl),
-          (way_is body_part 5 (space_field & documents_field & list num answer_field) (λ x. Mount x.0 x.1.0 x.1.1) mount_lawful (λ x. refl), tt),
+          way_is stored_part 4 (query_field & nums & nums) (λ x. (Semantic x.0 x.1.0 x.1.1, [])) semantic_lawful semantic-part,
+          (way_is stored_part 5 (space_field & documents_field & list num answer_field) (λ x. (Mount x.0 x.1.1, x.1.0)) mount_lawful (λ x. refl), tt),
         ),
       ),
     ),
   );
-  again = body_again;
+  again = stored_again;
 }
 
-entry_lawful : (last : Option Entry) → Lawful (entry_field last)
+entry_lawful : (last : Option StoredEntry) → Lawful (entry_field last)
 entry_lawful last =
-    let later = rises nat_lt (option_map (λ (entry : Entry). entry.number) last) in
-    seen_lawful (λ entry. (entry.number, (entry.parent, (entry.name, entry.body)))) (λ x. record { number = x.0; parent = x.1.0; name = x.1.1.0; body = x.1.1.1 })
-    (checked num later & num & name_field & body_field)
-    (both_lawful (checked num later) (num & name_field & body_field) (checked_lawful num later num_lawful) (both_lawful num (name_field & body_field) num_lawful (both_lawful name_field body_field name_lawful body_lawful)))
+    let later = rises nat_lt (option_map (λ (stored : StoredEntry). stored.entry.number) last) in
+    seen_lawful (λ stored. (stored.entry.number, (stored.entry.parent, (stored.entry.name, (stored.entry.body, stored.documents)))))
+    (λ x. record { entry = record { number = x.0; parent = x.1.0; name = x.1.1.0; body = x.1.1.1.0 }; documents = x.1.1.1.1 })
+    (checked num later & num & name_field & stored_field)
+    (both_lawful (checked num later) (num & name_field & stored_field) (checked_lawful num later num_lawful) (both_lawful num (name_field & stored_field) num_lawful (both_lawful name_field stored_field name_lawful stored_lawful)))
     (λ x. refl) (λ x. refl)
 
--- ---- states
+-- ---- snapshots
 
-sessions_lawful : Lawful no_sessions
-sessions_lawful = record {
-  takes = λ bytes x fits e. let same = ok_is ([], bytes) x e in subst (λ (y : List Session × List ℕ). Took no_sessions bytes y) same (record { parts = refl; rest = fits; fits = refl });
-  again = λ sessions rest none. ap (λ (others : List Session). Ok (others, rest)) (sym (nil_from_length sessions (eqb-true _ _ none)));
-}
+snapshot_lawful : Lawful snapshot_field
+snapshot_lawful =
+    seen_lawful (λ s. (s.next, s.entries)) (λ x. record { next = x.0; entries = x.1 }) (num & list num entry_field)
+    (both_lawful num (list num entry_field) num_lawful (list_lawful num entry_field num_lawful entry_lawful)) (λ x. refl) (λ x. refl)
 
-state_lawful : Lawful state_field
-state_lawful =
-    seen_lawful (λ s. (s.next, (s.entries, s.sessions))) (λ x. record { next = x.0; entries = x.1.0; sessions = x.1.1 })
-    (num & list num entry_field & no_sessions)
-    (both_lawful num (list num entry_field & no_sessions) num_lawful (both_lawful (list num entry_field) no_sessions (list_lawful num entry_field num_lawful entry_lawful) sessions_lawful))
-    (λ x. refl) (λ x. refl)
+payload_takes : (bytes : List ℕ) (x : Snapshot × List ℕ) → AreBytes bytes → snapshot_payload.read bytes ≡ Ok x → Took snapshot_payload bytes x
+payload_takes = choice_takes (λ s. part 2 snapshot_field s) (way 2 snapshot_field (λ s. s) ∷ []) (way_is (λ s. part 2 snapshot_field s) 2 snapshot_field (λ s. s) snapshot_lawful (λ x. refl), tt)
 
-payload_takes : (bytes : List ℕ) (x : State × List ℕ) → AreBytes bytes → state_payload.read bytes ≡ Ok x → Took state_payload bytes x
-payload_takes = choice_takes (λ s. part 2 state_field s) (way 2 state_field (λ s. s) ∷ []) (way_is (λ s. part 2 state_field s) 2 state_field (λ s. s) state_lawful (λ x. refl), tt)
-
-payload_again : (s : State) (rest : List ℕ) → state_payload.fits s ≡ true → state_payload.read (state_payload.text s ++ rest) ≡ Ok (s, rest)
+payload_again : (s : Snapshot) (rest : List ℕ) → snapshot_payload.fits s ≡ true → snapshot_payload.read (snapshot_payload.text s ++ rest) ≡ Ok (s, rest)
 unfolding choice_at way_at
-payload_again s rest fits = way_again state_field (λ s. s) state_lawful s rest fits
+payload_again s rest fits = way_again snapshot_field (λ s. s) snapshot_lawful s rest fits
 
-pub state_is_read : StateIsRead
-unfolding is_spellable_state state_text spelled_state
-state_is_read s fits =
-    let read : state_payload.read (state_payload.text s) ≡ Ok (s, []) = ap (λ (bytes : List ℕ). state_payload.read bytes) (sym (append-nil (state_payload.text s))) ∙ payload_again s [] fits in
+pub snapshot_is_read : SnapshotIsRead
+unfolding is_spellable_snapshot snapshot_text spelled_snapshot
+snapshot_is_read s fits =
+    let read : snapshot_payload.read (snapshot_payload.text s) ≡ Ok (s, []) = ap (λ (bytes : List ℕ). snapshot_payload.read bytes) (sym (append-nil (snapshot_payload.text s))) ∙ payload_again s [] fits in
     rw read refl
 
-pub read_is_state : ReadIsState
-unfolding is_spellable_state state_text spelled_state
-read_is_state bytes s fits h =
-    let a = bind_ok (state_payload.read bytes) all_of s (placed_ok (length bytes) _ s h) in
+pub read_is_snapshot : ReadIsSnapshot
+unfolding is_spellable_snapshot snapshot_text spelled_snapshot
+read_is_snapshot bytes s fits h =
+    let a = bind_ok (snapshot_payload.read bytes) all_of s (placed_ok (length bytes) _ s h) in
     let g = guard_ok (eqb (length a.0.1) 0) (length a.0.1) a.0.0 s a.2 in
     let empty : a.0.1 ≡ [] = nil_from_length a.0.1 (eqb-true _ _ g.0) in
     let took = payload_takes bytes a.0 fits a.1 in
-    let whole : bytes ≡ state_payload.text a.0.0 = took.parts ∙ ap (λ (t : List ℕ). state_payload.text a.0.0 ++ t) empty ∙ append-nil (state_payload.text a.0.0) in
-    subst (λ (x : State). IsTrue (state_payload.fits x) × (bytes ≡ state_payload.text x)) g.1 (took.fits, whole)
+    let whole : bytes ≡ snapshot_payload.text a.0.0 = took.parts ∙ ap (λ (t : List ℕ). snapshot_payload.text a.0.0 ++ t) empty ∙ append-nil (snapshot_payload.text a.0.0) in
+    subst (λ (x : Snapshot). IsTrue (snapshot_payload.fits x) × (bytes ≡ snapshot_payload.text x)) g.1 (took.fits, whole)
+
+-- what is read has a spelling
+pub snapshot_fits : (bytes : List ℕ) (x : Snapshot × List ℕ) → AreBytes bytes → snapshot_payload.read bytes ≡ Ok x → IsTrue (is_spellable_snapshot x.0)
+unfolding is_spellable_snapshot
+snapshot_fits bytes x fits e = (payload_takes bytes x fits e).fits
