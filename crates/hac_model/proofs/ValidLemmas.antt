@@ -124,11 +124,13 @@ found-all above (e ∷ es) next h = (entry_at-first e es, behind es (rise-above 
 -- all entries have what each has, where the one of the number has it once it is changed
 all-touched : (P : Entry → Type 0) (n : ℕ) (change : Entry → Entry) (all es : List Entry) → ((e : Entry) → entry_at all n ≡ Some e → P (change e)) → AllByRecursion (λ e. entry_at all e.number ≡ Some e) es → AllByRecursion P es → AllByRecursion P (changed_in n change es)
 all-touched P n change all [] own found h = tt
-all-touched P n change all (e ∷ es) own found h =
-    (elim (e.number == n) as (λ b. (e.number == n) ≡ b → P (if b then change e else e)) [
-      | true ↦ (λ here. own e (ap (entry_at all) (sym (eqb-true e.number n here)) ∙ found.0))
-      | false ↦ (λ _. h.0)
-    ] refl, all-touched P n change all es own found.1 h.1)
+all-touched P n change all (e ∷ es) own found h = (
+  elim (e.number == n) as (λ b. (e.number == n) ≡ b → P (if b then change e else e)) [
+    | true ↦ (λ here. own e (ap (entry_at all) (sym (eqb-true e.number n here)) ∙ found.0))
+    | false ↦ (λ _. h.0)
+  ] refl,
+  all-touched P n change all es own found.1 h.1,
+)
 
 -- an entry that is no document goes to a free place
 pub reseated-layout : (s : State) (n dir : ℕ) (name : List ℕ) → IsLayout s → is_free s dir name ≡ true → is_document_at s.entries n ≡ false → passed_limit (changed_at s n (reseated dir name)) ≡ None → IsLayout (changed_at s n (reseated dir name))

@@ -1,5 +1,5 @@
 -- Theorems over the definitions, each proved as the contract of a function of the module `laws`.
-use Rattle.std.specs.Prelude.{true, false, ◌≡◌, ⊤, ℕ, zero, suc, ◌≤◌, ◌+◌, length, nat_lt, List, [], ◌∷◌, ◌++◌, None, Some, Ok, IsTrue, is_some, codes}
+use Rattle.std.specs.Prelude.{true, false, ◌≡◌, ⊤, ℕ, zero, suc, ◌≤◌, ◌+◌, length, nat_lt, List, [], ◌∷◌, ◌++◌, map, None, Some, Ok, IsTrue, is_some, codes}
 use Rattle.std.specs.List.{flat_map, position_or_len}
 use Rattle.hac_model.specs.Tree.Bare.{bare}
 use Rattle.hac_model.specs.Bytes.{is_line_end}
@@ -319,20 +319,30 @@ FullStore =
 abbrev pub FirstEnd : Type 0
 FirstEnd = (left_by new_setting (play nothing_given new_setting (lines_text (codes "mkdir /a" ∷ [])))).end ≡ 64 + 13
 
--- a new store, an existing one, one whose name begins like an option, and both options, before the name or behind it
+-- a new store, an existing one, one whose name begins like an option, and both options, before the name or behind it;
+-- then spaces: the first name is the store's whatever it looks like, a file may hold `=`, options stand between spaces
+-- too, behind `--` each word is a name, and there may be sixteen
 abbrev pub FirstCommandLines : Type 0
 FirstCommandLines =
-    (options (codes "--new" ∷ codes "notes" ∷ []) ≡ Some (record { fresh = true; tick = 0; store = codes "notes" }))
-    × (options (codes "notes" ∷ codes "--new" ∷ []) ≡ Some (record { fresh = true; tick = 0; store = codes "notes" }))
-    × (options (codes "-" ∷ []) ≡ Some (record { fresh = false; tick = 0; store = codes "-" }))
-    × (options (codes "--" ∷ codes "--new" ∷ []) ≡ Some (record { fresh = false; tick = 0; store = codes "--new" }))
-    × (options (codes "--tick" ∷ codes "3" ∷ codes "notes" ∷ []) ≡ Some (record { fresh = false; tick = 3; store = codes "notes" }))
-    × (options (codes "--tick=3" ∷ codes "notes" ∷ []) ≡ Some (record { fresh = false; tick = 3; store = codes "notes" }))
-    × (options (codes "notes" ∷ codes "--tick" ∷ codes "0" ∷ codes "--new" ∷ []) ≡ Some (record { fresh = true; tick = 0; store = codes "notes" }))
-    × (options (codes "--tick" ∷ codes "65536" ∷ codes "--" ∷ codes "--tick" ∷ []) ≡ Some (record { fresh = false; tick = 65536; store = codes "--tick" }))
+    (options (codes "--new" ∷ codes "notes" ∷ []) ≡ Some (record { fresh = true; tick = 0; store = codes "notes"; spaces = [] }))
+    × (options (codes "notes" ∷ codes "--new" ∷ []) ≡ Some (record { fresh = true; tick = 0; store = codes "notes"; spaces = [] }))
+    × (options (codes "-" ∷ []) ≡ Some (record { fresh = false; tick = 0; store = codes "-"; spaces = [] }))
+    × (options (codes "--" ∷ codes "--new" ∷ []) ≡ Some (record { fresh = false; tick = 0; store = codes "--new"; spaces = [] }))
+    × (options (codes "--tick" ∷ codes "3" ∷ codes "notes" ∷ []) ≡ Some (record { fresh = false; tick = 3; store = codes "notes"; spaces = [] }))
+    × (options (codes "--tick=3" ∷ codes "notes" ∷ []) ≡ Some (record { fresh = false; tick = 3; store = codes "notes"; spaces = [] }))
+    × (options (codes "notes" ∷ codes "--tick" ∷ codes "0" ∷ codes "--new" ∷ []) ≡ Some (record { fresh = true; tick = 0; store = codes "notes"; spaces = [] }))
+    × (options (codes "--tick" ∷ codes "65536" ∷ codes "--" ∷ codes "--tick" ∷ []) ≡ Some (record { fresh = false; tick = 65536; store = codes "--tick"; spaces = [] }))
+    × (options (codes "a=b" ∷ []) ≡ Some (record { fresh = false; tick = 0; store = codes "a=b"; spaces = [] }))
+    × (options (codes "S" ∷ codes "a=b=c" ∷ []) ≡ Some (record { fresh = false; tick = 0; store = codes "S"; spaces = (codes "a", codes "b=c") ∷ [] }))
+    × (options (codes "S" ∷ codes "b=f" ∷ codes "--new" ∷ codes "a=f" ∷ codes "--tick=1" ∷ [])
+    ≡ Some (record { fresh = true; tick = 1; store = codes "S"; spaces = (codes "b", codes "f") ∷ (codes "a", codes "f") ∷ [] }))
+    × (options (codes "S" ∷ codes "--" ∷ codes "--new=-" ∷ []) ≡ Some (record { fresh = false; tick = 0; store = codes "S"; spaces = (codes "--new", codes "-") ∷ [] }))
+    × (options (codes "S" ∷ map (λ letter. letter ∷ codes "=f") (codes "abcdefghijklmnop"))
+    ≡ Some (record { fresh = false; tick = 0; store = codes "S"; spaces = map (λ letter. (letter ∷ [], codes "f")) (codes "abcdefghijklmnop") }))
 
--- faulty command lines: no word, an empty name, two names, `--new` twice or with a value, and an unknown option; and
--- `--tick` with what is no such number, without a value or with one that begins with `-`, and twice
+-- faulty command lines: no word, an empty name, a second name that is no space, `--new` twice or with a value, and an
+-- unknown option; `--tick` with what is no such number, without a value or with one that begins with `-`, and twice; and
+-- spaces without a file, without a name, with a name that no space has, twice with one name, and seventeen of them
 abbrev pub NoCommandLines : Type 0
 NoCommandLines =
     (options [] ≡ None) × (options ([] ∷ []) ≡ None) × (options (codes "a" ∷ codes "b" ∷ []) ≡ None)
@@ -343,3 +353,6 @@ NoCommandLines =
     × (options (codes "--tick" ∷ []) ≡ None) × (options (codes "--tick" ∷ codes "a" ∷ []) ≡ None)
     × (options (codes "--tick" ∷ codes "--new" ∷ codes "a" ∷ []) ≡ None) × (options (codes "--tick" ∷ codes "--" ∷ codes "a" ∷ []) ≡ None)
     × (options (codes "--tick" ∷ codes "1" ∷ codes "--tick" ∷ codes "1" ∷ codes "a" ∷ []) ≡ None)
+    × (options ([] ∷ codes "a=f" ∷ []) ≡ None) × (options (codes "S" ∷ codes "a=" ∷ []) ≡ None) × (options (codes "S" ∷ codes "=f" ∷ []) ≡ None)
+    × (options (codes "S" ∷ codes "a!=f" ∷ []) ≡ None) × (options (codes "S" ∷ codes "a=1" ∷ codes "b=1" ∷ codes "a=2" ∷ []) ≡ None)
+    × (options (codes "S" ∷ map (λ letter. letter ∷ codes "=f") (codes "abcdefghijklmnopq")) ≡ None)

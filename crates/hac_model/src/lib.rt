@@ -29,10 +29,10 @@ pub use commands::{Command, Line};
 pub use counts::Counts;
 pub use events::Event;
 pub use limits::{
-    DIRS_LIMIT, DOCS_LIMIT, FOLLOW_LIMIT, ITEMS_LIMIT, LINE_LIMIT, Limit, LimitWord,
-    MOUNTS_LIMIT, NAME_LIMIT, NESTING_LIMIT, NUMBERS_LIMIT, PATH_LIMIT, QUERY_LIMIT, SCRIPT_LIMIT, SEMANTICS_LIMIT, SESSIONS_LIMIT,
-    STORE_LIMIT, SYMLINKS_LIMIT, TARGET_LIMIT, TERMS_LIMIT, TEXT_LIMIT, TEXTS_LIMIT, TICK_LIMIT,
-    first_passed,
+    DIRS_LIMIT, DOCS_LIMIT, FOLLOW_LIMIT, ITEMS_LIMIT, LINE_LIMIT, Limit, LimitWord, MOUNTS_LIMIT,
+    NAME_LIMIT, NESTING_LIMIT, NUMBERS_LIMIT, PATH_LIMIT, QUERY_LIMIT, SCRIPT_LIMIT,
+    SEMANTICS_LIMIT, SESSIONS_LIMIT, SPACES_LIMIT, STORE_LIMIT, SYMLINKS_LIMIT, TARGET_LIMIT,
+    TERMS_LIMIT, TEXT_LIMIT, TEXTS_LIMIT, TICK_LIMIT, first_passed,
 };
 pub use marks::{Kind, Mark};
 pub use members::Member;
@@ -43,8 +43,8 @@ pub use places::Place;
 pub use queries::{Node, Query, RawQuery};
 pub use replies::{Deny, Refusal, Reply};
 pub use resolved::Resolved;
-pub use spaces::{Answers, Asks, Fetch, Search};
 pub use snapshots::{Document, Snapshot, StoredEntry};
+pub use spaces::{Answers, Asks, Fetch, Search};
 pub use states::{Answer, Body, Entry, Session, State};
 pub use taken::Taken;
 pub use terms::{Term, Words};

@@ -28,6 +28,9 @@ pub const TARGET_LIMIT: u64 = 1_024;
 /// The most files that one `tick` indexes.
 pub const TICK_LIMIT: u64 = 65_536;
 
+/// The most spaces that the words of the program name.
+pub const SPACES_LIMIT: usize = 16;
+
 /// The most bytes of a script.
 pub const SCRIPT_LIMIT: u64 = 268_435_456;
 

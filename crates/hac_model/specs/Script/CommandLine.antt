@@ -1,14 +1,23 @@
 -- What the words of the program ask for.
-use Rattle.std.specs.Prelude.{ℕ, zero, suc, Bool, true, false, ◌&&◌, if◌then◌else◌, nat_le, List, [], ◌∷◌, length, take, drop, codes, Option, Some, None, option_and_then, option_map}
+use Rattle.std.specs.Prelude.{ℕ, zero, suc, Bool, true, false, ◌==◌, ◌&&◌, not, if◌then◌else◌, nat_le, List, [], ◌∷◌, length, map, take, drop, codes, Option, Some, None, option_and_then, option_map}
+use Rattle.std.specs.List.{after_first, before_first, list_any}
 use Rattle.std.specs.Str.{bytes_eq}
 use Rattle.std.specs.Str.Parse.{digits_value}
 use Rattle.hac_model.specs.Script.Numbers.{is_tick}
+use Rattle.hac_model.specs.Script.SpaceNames.{is_space_name}
+use Rattle.hac_model.specs.declared.limits.TheConstants.{SPACES_LIMIT}
 
--- whether the store is to be a new one, how many files may be indexed behind each command, and the store's file
+-- the name of a space, and the file of its documents
+abbrev pub Space : Type 0
+Space = List ℕ × List ℕ
+
+-- whether the store is to be a new one, how many files may be indexed behind each command, the store's file, and the
+-- spaces in their order
 pub record Options : Type 0 where
   pub fresh : Bool
   pub tick : ℕ
   pub store : List ℕ
+  pub spaces : List Space
 
 -- what words give: `--new` so many times, these values of `--tick`, and these names
 pub record Parsed : Type 0 where
@@ -78,17 +87,46 @@ tick_of [] = Some 0
 tick_of (value ∷ []) = if is_tick value then Some (digits_value 10 value) else None
 tick_of other = None
 
--- there is one name, and not an empty one
+-- the first name is the store's, and not an empty one
 abbrev pub store_of : List (List ℕ) → Option (List ℕ)
-store_of (name ∷ []) = if nat_le 1 (length name) then Some name else None
-store_of other = None
+store_of [] = None
+store_of (name ∷ names) = if nat_le 1 (length name) then Some name else None
+
+abbrev pub is_equals : ℕ → Bool
+is_equals b = b == 61
+
+-- a space's name stands before the first `=` of a word, and its file behind that
+abbrev pub space_of : List ℕ → Option Space
+space_of word =
+    let name = before_first is_equals word in
+    let file = after_first is_equals word in
+    if is_space_name name && nat_le 1 (length file) then Some (name, file) else None
+
+-- the spaces of words, if each word has one
+abbrev pub each_space : List (List ℕ) → Option (List Space)
+each_space [] = Some []
+each_space (word ∷ words) = option_and_then (λ space. option_map (λ spaces. space ∷ spaces) (each_space words)) (space_of word)
+
+-- no two of the names are the same
+abbrev pub names_differ : List (List ℕ) → Bool
+names_differ [] = true
+names_differ (name ∷ names) = not (list_any (bytes_eq name) names) && names_differ names
+
+-- they are few enough, and their names differ
+abbrev pub may_stand : List Space → Bool
+may_stand spaces = nat_le (length spaces) SPACES_LIMIT && names_differ (map (λ space. space.0) spaces)
+
+-- each name behind the store's is that of a space with its file
+abbrev pub spaces_of : List (List ℕ) → Option (List Space)
+spaces_of words = option_and_then (λ spaces. if may_stand spaces then Some spaces else None) (each_space words)
 
 -- what is asked for by what was given
 abbrev pub asked_by : Parsed → Option Options
 asked_by given =
-    option_and_then (λ fresh. option_and_then (λ tick. option_map (λ store. record { fresh = fresh; tick = tick; store = store })
-    (store_of given.names)) (tick_of given.ticks)) (fresh_of given.news)
+    option_and_then (λ fresh. option_and_then (λ tick. option_and_then (λ store. option_map (λ spaces.
+    record { fresh = fresh; tick = tick; store = store; spaces = spaces })
+    (spaces_of (drop 1 given.names))) (store_of given.names)) (tick_of given.ticks)) (fresh_of given.news)
 
--- what words ask for, if they fit the usage: `[--new] [--tick N] STORE`, with options anywhere before `--`
+-- what words ask for, if they fit the usage: `[--new] [--tick N] STORE [NAME=FILE]...`, with options anywhere before `--`
 unfoldable pub options : List (List ℕ) → Option Options
 options words = option_and_then asked_by (given_by words)
