@@ -10,7 +10,7 @@ use Rattle.hac_model.specs.Tree.Depends.{depends, named_in, Among, Leads, IsAcyc
 use Rattle.hac_model.specs.Query.Formula.{Formula}
 use Rattle.hac_model.specs.Query.Formula as query
 use Rattle.hac_model.specs.Tree.Limits.{semantic_count}
-use Rattle.hac_model.specs.Tree.Links.{parent_of, is_permanent, is_judged, is_semantic, is_unmarked, is_below, provide, holds, satisfies, passes, column, round, rounds, links, items, shown_of, query_at}
+use Rattle.hac_model.specs.Tree.Links.{parent_of, is_permanent, is_judged, is_semantic, is_unmarked, is_below, provide, holds, satisfies, passes, column, round, rounds, links, items, query_at}
 use Rattle.hac_model.specs.Tree.{entry_at, body_at, query_in}
 use Rattle.hac_model.specs.declared.states.Entry.{Entry}
 use Rattle.hac_model.specs.declared.states.State.{State}

@@ -6,7 +6,7 @@ use Rattle.std.specs.Option.{option_map, option_map_or}
 use Rattle.std.proofs.lemmas.Bool.{cases_eq, cases_lt}
 use Rattle.hac_model.specs.Tree.Depends.{IsAcyclic}
 use Rattle.hac_model.specs.Tree.Links.{has, is_item, is_semantic, passes, column, links, items, round}
-use Rattle.hac_model.specs.Tree.{is_file, is_file_at, is_linkable}
+use Rattle.hac_model.specs.Tree.{is_linkable}
 use Rattle.hac_model.specs.Tree.Valid.{IsLayout}
 use Rattle.hac_model.specs.declared.states.Entry.{Entry}
 use Rattle.hac_model.specs.declared.states.State.{State}

@@ -11,7 +11,7 @@ use Rattle.hac_model.specs.Tree.Looks.{has_names, destination}
 use Rattle.hac_model.specs.Tree.Names.{is_name}
 use Rattle.hac_model.specs.Tree.Paths.{are_names, join, without_last, origin}
 use Rattle.hac_model.specs.Tree.{child, entry_at, is_directory, is_directory_at, is_file, is_file_at, is_leaf, is_leaf_at, is_made_directory, is_symlink, is_symlink_at, path_of, body_at, is_document, is_document_at, is_linkable}
-use Rattle.hac_model.specs.Tree.Valid.{IsLayout, IsSound}
+use Rattle.hac_model.specs.Tree.Valid.{IsLayout}
 use Rattle.hac_model.specs.declared.paths.PathWord.{PathWord}
 use Rattle.hac_model.specs.declared.places.Place.{Place}
 use Rattle.hac_model.specs.declared.places.Place.TheVariants.{There, Free}

@@ -1,6 +1,6 @@
 -- Marks after events, and what links and queries say of marked items.
 use Rattle.std.proofs.Common.{◌≡◌, ℕ, Bool, true, false, cond, List, [], ◌∷◌, subst, refl, ap, sym, ◌∙◌, eq-eqb}
-use Rattle.std.specs.Prelude.{◌==◌, ◌&&◌, ◌||◌, not, Some, None, IsTrue, is_some}
+use Rattle.std.specs.Prelude.{◌==◌, ◌&&◌, ◌||◌, not, Some, None, IsTrue}
 use Rattle.std.specs.List.{AllByRecursion}
 use Rattle.std.specs.Option.{option_map, option_map_or}
 use Rattle.std.proofs.lemmas.Bool.{and_parts, eqb-true, ne_eqb}
@@ -11,7 +11,7 @@ use Rattle.hac_model.specs.Tree.Events.{accepted, apply, is_possible, put_in, wi
 use Rattle.hac_model.specs.Tree.Facts.{Facts, Marks, facts_after, facts_at, facts_of, no_facts, put_at, with_mark}
 use Rattle.hac_model.specs.Tree.Kinds as kinds
 use Rattle.hac_model.specs.Tree.Limits.{passed_limit}
-use Rattle.hac_model.specs.Tree.Links.{column, found_by, has, holds, is_below, is_permanent, is_prohibited, is_semantic, is_unmarked, items, links, parent_of, passes, provide, satisfies, shown_of, is_judged}
+use Rattle.hac_model.specs.Tree.Links.{column, found_by, has, holds, is_below, is_permanent, is_prohibited, is_semantic, is_unmarked, items, links, parent_of, passes, provide, satisfies, is_judged}
 use Rattle.hac_model.specs.Tree.{entry_at, permanent_in, prohibited_in}
 use Rattle.hac_model.specs.Tree.Valid.{AsksWell, IsValid}
 use Rattle.hac_model.specs.Laws.{SameMarks}

@@ -3,7 +3,7 @@
 use Rattle.std.specs.Prelude.{◌≡◌, true, [], ◌∷◌, codes}
 use Rattle.hac_model.specs.Laws.{lines_text}
 use Rattle.hac_model.specs.Query.Formula as query
-use Rattle.hac_model.specs.Run.Play.{Setting, new_setting, nothing_given, play, turns_text}
+use Rattle.hac_model.specs.Run.Play.{new_setting, nothing_given, play, turns_text}
 use Rattle.hac_model.specs.Tree.ValidTest.{is_valid}
 use Rattle.hac_model.specs.declared.states.Body.TheVariants.{Document, Mount, Semantic}
 use Rattle.hac_model.specs.declared.states.State.{State}
