@@ -21,7 +21,7 @@ shown_in text Never = None
 shown_in text AsItIs = Some text
 shown_in text (Older shown) = Some shown
 
--- what the content of a node says. No marks and no answers are kept in it.
+-- what the content of a node says. Neither marks nor answers are kept in it.
 abbrev pub body_of : Content → Body
 body_of (File text dirty shown) = body.File text dirty (shown_in text shown)
 body_of Dir = body.Dir
@@ -30,7 +30,7 @@ body_of (Semantic query) = body.Semantic query [] []
 body_of (Mount space) = body.Mount space []
 body_of Document = body.Document
 
--- what a new entry is: a file is dirty, and a directory has no marks
+-- what a new entry is: a file is dirty, and a directory has neither marks nor answers
 abbrev pub body_from : NewBody → Body
 body_from (new.File text) = body.File text true None
 body_from new.Dir = body.Dir

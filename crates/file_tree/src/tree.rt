@@ -7,8 +7,7 @@ ghost use Rattle.hac_model.specs.Tree.Limits.{counts};
 ghost use Rattle.hac_model.specs.Tree.Links.{is_item, parent_of, query_at, shown_of, space_at};
 ghost use Rattle.hac_model.specs.Tree.Listing.{children};
 ghost use Rattle.hac_model.specs.Tree.{body_at, child, empty, entry_at, is_directory_at};
-ghost use Rattle.hac_model.specs.Tree.{is_document_at, is_file_at, is_made_directory};
-ghost use Rattle.hac_model.specs.Tree.{is_mount_at, is_symlink_at};
+ghost use Rattle.hac_model.specs.Tree.{is_document_at, is_file_at, is_made_directory, is_mount_at, is_symlink_at};
 ghost use Rattle.hac_model.specs.Tree.{target_in, text_in};
 ghost use Rattle.hac_model.specs.Tree.Valid.{IsLayout};
 ghost use Rattle.file_tree.specs.Answers.{entry_kind_at, entry_kind, is_dirty_at, next_from};
@@ -193,6 +192,13 @@ impl Tree {
         self.content(dir)?.query()
     }
 
+    /// The space that a mount shows.
+    pub fn space(&self, mount: Number) -> Option<&Name>
+        ensures { option_copied result ≡ space_at self.now.state mount }
+    {
+        self.content(mount)?.space()
+    }
+
     /// Where a symbolic link leads, as it was given.
     pub fn target(&self, link: Number) -> Option<&Text>
         ensures { option_copied result ≡
@@ -213,10 +219,7 @@ impl Tree {
         ensures { result ≡ is_made_directory self.now.state.entries number }
     {
         match self.content(number) {
-            Some(content) => matches!(
-                content,
-                Content::Dir | Content::Semantic { .. } | Content::Mount { .. }
-            ),
+            Some(content) => content.is_directory(),
             None => false,
         }
     }
@@ -266,16 +269,9 @@ impl Tree {
         ensures { result ≡ is_item self.now.state number }
     {
         match self.content(number) {
-            Some(content) => matches!(content, Content::File { .. } | Content::Document),
+            Some(content) => content.is_linkable(),
             None => false,
         }
-    }
-
-    /// The space that a mount shows.
-    pub fn space(&self, mount: Number) -> Option<&Name>
-        ensures { option_copied result ≡ space_at self.now.state mount }
-    {
-        self.content(mount)?.space()
     }
 
     pub(crate) fn content(&self, entry: Number) -> Option<&Content>
