@@ -9,6 +9,7 @@ pub mod GoesOn
 pub mod RunLemmas
 pub mod LineLemmas
 pub mod OpenedLemmas
+pub mod WordSpaces
 pub mod WordLooks
 pub mod WordLemmas
 pub mod WordMatches

@@ -1,8 +1,8 @@
 -- The words of the program: what the library finds in them is what they give.
 use Rattle.std.proofs.Common.{◌≡◌, ◌∙◌, ◌||◌, ◌&&◌, ℕ, suc, ◌+◌, Bool, cond, true, false, true≢false, List, [], ◌∷◌, ◌++◌, length, Option, Some, None, refl, sym, ap, ap₂, subst, append_assoc, append-nil, arith, codes, le-leb, lt-ltb, inl, inr}
-use Rattle.std.specs.Prelude.{◌⊎◌, ⊤, if◌then◌else◌, nat_lt, nat_le, option_and_then, option_map, option_to_list, is_some, find, fold, slice_get}
+use Rattle.std.specs.Prelude.{◌⊎◌, ⊤, if◌then◌else◌, nat_lt, nat_le, option_and_then, option_map, option_to_list, is_some, find, fold, slice_get, unwrap_or}
 use Rattle.std.specs.List.{list_any, AllByRecursion}
-use Rattle.std.specs.Option.{option_map_or, option_or}
+use Rattle.std.specs.Option.{option_or}
 use Rattle.std.specs.Str.{IsUtf8, bytes_eq}
 use Rattle.std.proofs.lemmas.List.Folds.{find-append}
 use Rattle.std.proofs.Math.Bool.{or-false}
@@ -10,13 +10,13 @@ use Rattle.hac_model.specs.Script.CommandLine.{Parsed, asked_by, fresh_of, given
 use Rattle.clap.specs.Values.{bool_text}
 use Rattle.clap.specs.Kinds.{Kinds, or_else}
 use Rattle.clap.specs.Faults.{check_fault, defaults_fault, entered_fault, fault_of, level_fault, settle_fault, step_fault, turn_fault, walk_fault, word_fault}
-use Rattle.clap.specs.Walk.{Held, Row, Rule, Step, Text, Walk, after_step, at_row, finished, first_of, has_row, idle, nothing_held, walk, more_values, is_pending, one_of, row_text, option, pushed, settled, settled_rows, value, walked, with_default, with_values, word_met}
+use Rattle.clap.specs.Walk.{Held, Row, Rule, Step, Text, Waiting, Walk, after_step, all_of, at_row, finished, first_of, has_row, idle, nothing_held, walk, more_values, is_pending, one_of, plain_word, positional, row_text, option, pushed, stronger, settled, settled_rows, value, walked, with_default, with_values, word_met}
 use Rattle.clap.specs.declared.builder.value_parser.Reading.TheVariants.{AsWritten}
 use Rattle.clap.specs.declared.parser.matches.ValueSource.TheVariants.{CommandLine, DefaultValue}
 use Rattle.clap.specs.Words.{matches_of}
 use Rattle.clap.specs.Simple.{built, entered, filled}
-use Rattle.hac_top.specs.Words.{hac, store_name}
-use Rattle.hac_top.proofs.WordLooks.{IsFaulty, IsPlain, Look, Looks, arguments, ends, faulty, faulty-behind, fresh, has_fault, held_with, looks, plain, tick, tick_with, top, two-or-more}
+use Rattle.hac_top.specs.Words.{hac, space_names, store_name}
+use Rattle.hac_top.proofs.WordLooks.{IsFaulty, IsPlain, Look, Looks, arguments, ends, faulty, faulty-behind, fresh, has_fault, held_with, looks, plain, same-bytes, tick, tick_with, top, two-or-more}
 
 -- ---- rows
 
@@ -65,6 +65,40 @@ other-row id row rows differs =
     let last : row_by id (row ∷ []) ≡ None = rw differs refl in
     find-append (λ r. bytes_eq r.id id) rows (row ∷ []) ∙ ap (option_or (row_by id rows)) last ∙ or-none (row_by id rows)
 
+-- ids that were told apart by one are told apart by the other
+apart : (id other name : Text) → bytes_eq name id ≡ true → bytes_eq id other ≡ false → bytes_eq name other ≡ false
+apart id other name same differs = subst (λ (text : Text). bytes_eq text other ≡ false) (sym (same-bytes name id same)) differs
+
+-- a row that is changed keeps its id, so it is found as before, and no other is
+module _ (id : Text) (change : Row → Row) (keeps : (row : Row) → (change row).id ≡ row.id) (missing : List Row) where
+  changed-row : (rows : List Row) (row : Row) → row_by id rows ≡ Some row → row_by id (at_row id (λ r. change r ∷ []) missing rows) ≡ Some (change row)
+  changed-row [] row found = absurd (true≢false (sym (ap is_some found)))
+  changed-row (first ∷ rows) row found = by (bytes_eq first.id id) refl found (changed-row rows row)
+    where
+      by : (b : Bool) → bytes_eq first.id id ≡ b → cond b (Some first) (row_by id rows) ≡ Some row
+          → (row_by id rows ≡ Some row → row_by id (at_row id (λ r. change r ∷ []) missing rows) ≡ Some (change row))
+          → row_by id (cond b (change first ∷ rows) (first ∷ at_row id (λ r. change r ∷ []) missing rows)) ≡ Some (change row)
+      by true same here later =
+          let first_is : first ≡ row = ap (λ (o : Option Row). unwrap_or o first) here in
+          let kept : bytes_eq (change first).id id ≡ true = ap (λ (text : Text). bytes_eq text id) (keeps first) ∙ same in
+          ap (λ b. cond b (Some (change first)) (row_by id rows)) kept ∙ ap (λ (r : Row). Some (change r)) first_is
+      by false differs there later =
+          ap (λ b. cond b (Some first) (row_by id (at_row id (λ r. change r ∷ []) missing rows))) differs ∙ later there
+
+  unchanged-row : (other : Text) → bytes_eq id other ≡ false → (rows : List Row) (row : Row) → row_by id rows ≡ Some row
+      → row_by other (at_row id (λ r. change r ∷ []) missing rows) ≡ row_by other rows
+  unchanged-row other differs [] row found = absurd (true≢false (sym (ap is_some found)))
+  unchanged-row other differs (first ∷ rows) row found = by (bytes_eq first.id id) refl found (unchanged-row other differs rows row)
+    where
+      by : (b : Bool) → bytes_eq first.id id ≡ b → cond b (Some first) (row_by id rows) ≡ Some row
+          → (row_by id rows ≡ Some row → row_by other (at_row id (λ r. change r ∷ []) missing rows) ≡ row_by other rows)
+          → row_by other (cond b (change first ∷ rows) (first ∷ at_row id (λ r. change r ∷ []) missing rows)) ≡ row_by other (first ∷ rows)
+      by true same here later =
+          let changed : bytes_eq (change first).id other ≡ false = apart id other (change first).id (ap (λ (text : Text). bytes_eq text id) (keeps first) ∙ same) differs in
+          ap (λ b. cond b (Some (change first)) (row_by other rows)) changed
+          ∙ sym (ap (λ b. cond b (Some first) (row_by other rows)) (apart id other first.id same differs))
+      by false apart_from there later = ap (λ (o : Option Row). cond (bytes_eq first.id other) (Some first) o) (later there)
+
 -- ---- what was given
 
 abbrev pub so_far : ℕ → List Text → List Text → Parsed
@@ -102,15 +136,8 @@ two-news ticks names more =
 two-ticks : (news : ℕ) (a b : Text) (names : List Text) → IsTooMuch (so_far news (a ∷ b ∷ []) names)
 two-ticks news a b names more = none-by-ticks (joined (so_far news (a ∷ b ∷ []) names) more) refl
 
-two-names : (news : ℕ) (ticks : List Text) (a b : Text) (names : List Text) → IsTooMuch (so_far news ticks (a ∷ b ∷ names))
-two-names news ticks a b names more = none-by-names (joined (so_far news ticks (a ∷ b ∷ names)) more) refl
-
 empty-name : (news : ℕ) (ticks : List Text) → IsTooMuch (so_far news ticks ([] ∷ []))
-empty-name news ticks more = none-by-names (joined (so_far news ticks ([] ∷ [])) more) (by more.names)
-  where
-    by : (names : List Text) → store_of ([] ∷ names) ≡ None
-    by [] = refl
-    by (name ∷ names) = refl
+empty-name news ticks more = none-by-names (joined (so_far news ticks ([] ∷ [])) more) refl
 
 none-more : (before : Parsed) (more : Option Parsed) → IsTooMuch before → option_and_then asked_by (option_map (joined before) more) ≡ None
 none-more before None too_much = refl
@@ -133,18 +160,38 @@ name-moves news ticks names word more = same-given _ _ _ _ _ _ refl refl (sym (a
 
 -- ---- the rows of what was given
 
--- each option at most once, and at most one name, which isn't empty
+-- the rows of names: the first one is the store's, and spaces follow
+abbrev store_row_of : List Text → Option Row
+store_row_of [] = None
+store_row_of (name ∷ names) = Some (one_row (codes "store") name)
+
+abbrev row_of_spaces : Text → List Text → Row
+row_of_spaces space spaces = record { id = codes "spaces"; values = space ∷ spaces; count = None; source = Some CommandLine; reading = AsWritten }
+
+abbrev spaces_row : List Text → Option Row
+spaces_row [] = None
+spaces_row (space ∷ spaces) = Some (row_of_spaces space spaces)
+
+abbrev spaces_row_of : List Text → Option Row
+spaces_row_of [] = None
+spaces_row_of (name ∷ names) = spaces_row names
+
+-- the store's name isn't empty
+abbrev is_filled : List Text → Bool
+is_filled [] = true
+is_filled (name ∷ names) = nat_le 1 (length name)
+
+-- each option at most once, and the names
 record Shows (rows : List Row) (given : Parsed) : Type 0 where
   fresh : Bool
   tick : Option Text
-  store : Option Text
   news_are : given.news ≡ (if fresh then 1 else 0)
   ticks_are : given.ticks ≡ option_to_list tick
-  names_are : given.names ≡ option_to_list store
   new_row : row_by (codes "new") rows ≡ (if fresh then Some (one_row (codes "new") (codes "true")) else None)
   tick_row : row_by (codes "tick") rows ≡ option_map (one_row (codes "tick")) tick
-  store_row : row_by (codes "store") rows ≡ option_map (one_row (codes "store")) store
-  filled : option_map_or (λ name. nat_le 1 (length name)) store true ≡ true
+  store_row : row_by (codes "store") rows ≡ store_row_of given.names
+  spaces_row : row_by (codes "spaces") rows ≡ spaces_row_of given.names
+  filled : is_filled given.names ≡ true
 
 -- the library holds what was given, or too much was given, and the fault will be told
 abbrev Holds : List Row → Option (Text × List Text) → Parsed → Type 0
@@ -168,13 +215,12 @@ use-new rows news ticks names shows = by shows.fresh shows.news_are shows.new_ro
           subst (λ r. Shows r (so_far (suc news) ticks names)) (sym (used-first (codes "new") (codes "true") rows row)) (record {
             fresh = true;
             tick = shows.tick;
-            store = shows.store;
             news_are = one;
             ticks_are = shows.ticks_are;
-            names_are = shows.names_are;
             new_row = own-row (codes "new") (one_row (codes "new") (codes "true")) rows row refl;
             tick_row = other-row (codes "tick") (one_row (codes "new") (codes "true")) rows refl ∙ shows.tick_row;
             store_row = other-row (codes "store") (one_row (codes "new") (codes "true")) rows refl ∙ shows.store_row;
+            spaces_row = other-row (codes "spaces") (one_row (codes "new") (codes "true")) rows refl ∙ shows.spaces_row;
             filled = shows.filled;
           }),
         )
@@ -193,46 +239,72 @@ use-tick rows news ticks names word shows = by shows.tick shows.ticks_are shows.
           subst (λ r. Shows r (so_far news (ticks ++ word ∷ []) names)) (sym (used-first (codes "tick") word rows row)) (record {
             fresh = shows.fresh;
             tick = Some word;
-            store = shows.store;
             news_are = shows.news_are;
             ticks_are = ap (λ t. t ++ word ∷ []) is;
-            names_are = shows.names_are;
             new_row = other-row (codes "new") (one_row (codes "tick") word) rows refl ∙ shows.new_row;
             tick_row = own-row (codes "tick") (one_row (codes "tick") word) rows row refl;
             store_row = other-row (codes "store") (one_row (codes "tick") word) rows refl ∙ shows.store_row;
+            spaces_row = other-row (codes "spaces") (one_row (codes "tick") word) rows refl ∙ shows.spaces_row;
             filled = shows.filled;
           }),
         )
 
-abbrev has_text : List Text → Bool
-has_text [] = false
-has_text (text ∷ texts) = true
-
 use-store : (rows : List Row) (news : ℕ) (ticks : List Text) (word : Text) → Shows rows (so_far news ticks []) → Holds rows (Some (codes "store", word ∷ [])) (so_far news ticks (word ∷ []))
-use-store rows news ticks word shows = by shows.store shows.names_are shows.store_row word
-  where
-    by : (store : Option Text) → [] ≡ option_to_list store → row_by (codes "store") rows ≡ option_map (one_row (codes "store")) store
-        → (word : Text) → Holds rows (Some (codes "store", word ∷ [])) (so_far news ticks (word ∷ []))
-    by (Some first) is row word =
-        absurd (true≢false (sym (ap has_text is)))
-    by None is row [] = inr (rw (has-row (codes "store") rows _ row) refl, empty-name news ticks)
-    by None is row (x ∷ xs) =
-        let long : nat_lt 0 (length (x ∷ xs)) ≡ true = lt-ltb 0 (length (x ∷ xs)) (omega arith) in
-        inl (
-          rw (has-row (codes "store") rows _ row, long) refl,
-          subst (λ r. Shows r (so_far news ticks ((x ∷ xs) ∷ []))) (sym (used-first (codes "store") (x ∷ xs) rows row)) (record {
-            fresh = shows.fresh;
-            tick = shows.tick;
-            store = Some (x ∷ xs);
-            news_are = shows.news_are;
-            ticks_are = shows.ticks_are;
-            names_are = refl;
-            new_row = other-row (codes "new") (one_row (codes "store") (x ∷ xs)) rows refl ∙ shows.new_row;
-            tick_row = other-row (codes "tick") (one_row (codes "store") (x ∷ xs)) rows refl ∙ shows.tick_row;
-            store_row = own-row (codes "store") (one_row (codes "store") (x ∷ xs)) rows row refl;
-            filled = le-leb 1 (length (x ∷ xs)) (omega arith);
-          }),
-        )
+use-store rows news ticks [] shows = inr (rw (has-row (codes "store") rows _ shows.store_row) refl, empty-name news ticks)
+use-store rows news ticks (x ∷ xs) shows =
+    let long : nat_lt 0 (length (x ∷ xs)) ≡ true = lt-ltb 0 (length (x ∷ xs)) (omega arith) in
+    inl (
+      rw (has-row (codes "store") rows _ shows.store_row, long) refl,
+      subst (λ r. Shows r (so_far news ticks ((x ∷ xs) ∷ []))) (sym (used-first (codes "store") (x ∷ xs) rows shows.store_row)) (record {
+        fresh = shows.fresh;
+        tick = shows.tick;
+        news_are = shows.news_are;
+        ticks_are = shows.ticks_are;
+        new_row = other-row (codes "new") (one_row (codes "store") (x ∷ xs)) rows refl ∙ shows.new_row;
+        tick_row = other-row (codes "tick") (one_row (codes "store") (x ∷ xs)) rows refl ∙ shows.tick_row;
+        store_row = own-row (codes "store") (one_row (codes "store") (x ∷ xs)) rows shows.store_row refl;
+        spaces_row = other-row (codes "spaces") (one_row (codes "store") (x ∷ xs)) rows refl ∙ shows.spaces_row;
+        filled = le-leb 1 (length (x ∷ xs)) (omega arith);
+      }),
+    )
+
+-- one more value of a row
+abbrev one_more : Text → Row → Row
+one_more word row = record row { values = row.values ++ word ∷ []; source = Some (stronger row.source CommandLine) }
+
+-- the row of a first space is new, and each further one is a value more of it
+space-rows : (rows : List Row) (word : Text) (spaces : List Text) → row_by (codes "spaces") rows ≡ spaces_row spaces
+    → (row_by (codes "spaces") (with_values (codes "spaces") AsWritten CommandLine (word ∷ []) rows) ≡ spaces_row (spaces ++ word ∷ []))
+    × ((other : Text) → bytes_eq (codes "spaces") other ≡ false → row_by other (with_values (codes "spaces") AsWritten CommandLine (word ∷ []) rows) ≡ row_by other rows)
+space-rows rows word [] row =
+    let same : with_values (codes "spaces") AsWritten CommandLine (word ∷ []) rows ≡ rows ++ one_row (codes "spaces") word ∷ []
+    = absent (codes "spaces") (more_values CommandLine (word ∷ [])) (one_row (codes "spaces") word ∷ []) rows row in (
+      ap (row_by (codes "spaces")) same ∙ own-row (codes "spaces") (one_row (codes "spaces") word) rows row refl,
+      λ other differs. ap (row_by other) same ∙ other-row other (one_row (codes "spaces") word) rows differs,
+    )
+space-rows rows word (space ∷ spaces) row = (
+  changed-row (codes "spaces") (one_more word) (λ r. refl) (one_row (codes "spaces") word ∷ []) rows (row_of_spaces space spaces) row,
+  λ other differs. unchanged-row (codes "spaces") (one_more word) (λ r. refl) (one_row (codes "spaces") word ∷ []) other differs rows (row_of_spaces space spaces) row,
+)
+
+use-space : (rows : List Row) (news : ℕ) (ticks : List Text) (name : Text) (spaces : List Text) (word : Text) → Shows rows (so_far news ticks (name ∷ spaces))
+    → Holds rows (Some (codes "spaces", word ∷ [])) (so_far news ticks (name ∷ (spaces ++ word ∷ [])))
+use-space rows news ticks name spaces word shows =
+    let after = space-rows rows word spaces shows.spaces_row in
+    inl (
+      refl,
+      record {
+        fresh = shows.fresh;
+        tick = shows.tick;
+        news_are = shows.news_are;
+        ticks_are = shows.ticks_are;
+        new_row = after.1 (codes "new") refl ∙ shows.new_row;
+        tick_row = after.1 (codes "tick") refl ∙ shows.tick_row;
+        store_row = after.1 (codes "store") refl ∙ shows.store_row;
+        spaces_row = after.0;
+        filled = shows.filled;
+      },
+    )
 
 -- ---- what the library finds
 
@@ -241,8 +313,13 @@ abbrev place_of : List Text → ℕ
 place_of [] = 1
 place_of (name ∷ names) = 2
 
-abbrev walk_at : Bool → ℕ → List Row → Option (Text × List Text) → Walk
-walk_at ended place rows pending = record { held = held_with rows pending; waiting = idle; position = place; is_trailing = ended; stopped = None }
+-- whether the word before was a space, behind which the library waits for more of them
+abbrev waiting_by : Bool → Waiting
+waiting_by false = idle
+waiting_by true = positional
+
+abbrev walk_at : Bool → Bool → ℕ → List Row → Option (Text × List Text) → Walk
+walk_at ended behind place rows pending = record { held = held_with rows pending; waiting = waiting_by behind; position = place; is_trailing = ended; stopped = None }
 
 -- the same where the value of `--tick` is due
 abbrev due_at : Bool → ℕ → List Row → Walk
@@ -262,16 +339,22 @@ fault_from walk words = or_else (walk_fault top [] walk words) (end_fault (end_f
 abbrev rows_from : Walk → List Text → List Row
 rows_from walk words = finished arguments (end_from walk words)
 
--- what was given has one name, and each option at most once, and the rows have just that
+-- the texts of an argument, if it has any
+abbrev pub texts_of : Text → List Row → List Text
+texts_of id rows = unwrap_or (all_of id rows) []
+
+-- what was given has a name that isn't empty, and each option at most once, and the rows have just that
 pub record Found (given : Option Parsed) (rows : List Row) : Type 0 where
   pub fresh : Bool
   pub tick : Option Text
   pub store : Text
-  pub given_is : given ≡ Some (so_far (if fresh then 1 else 0) (option_to_list tick) (store ∷ []))
+  pub spaces : List Text
+  pub given_is : given ≡ Some (so_far (if fresh then 1 else 0) (option_to_list tick) (store ∷ spaces))
   pub filled : nat_le 1 (length store) ≡ true
   pub new_is : one_of (codes "new") rows ≡ Some (bool_text fresh)
   pub tick_is : first_of (codes "tick") rows ≡ tick
   pub store_is : first_of (codes "store") rows ≡ Some store
+  pub spaces_are : texts_of (codes "spaces") rows ≡ spaces
 
 -- the library finds it, or tells a fault where nothing is asked for
 abbrev pub Finds : Option Parsed → Kinds → List Row → Type 0
@@ -294,8 +377,8 @@ or-true : {T : Type 0} (b : Bool) (x y : T) → cond (b || true) x y ≡ x
 or-true true x y = refl
 or-true false x y = refl
 
-all-pass : (a b c : Kinds) → a ≡ [] → b ≡ [] → c ≡ [] → or_else a (or_else b (or_else c [])) ≡ []
-all-pass a b c first second third = rw (first, second, third) refl
+all-pass : (a b c d : Kinds) → a ≡ [] → b ≡ [] → c ≡ [] → d ≡ [] → or_else a (or_else b (or_else c (or_else d []))) ≡ []
+all-pass a b c d first second third fourth = rw (first, second, third, fourth) refl
 
 abbrev default_row : Row
 default_row = record { id = codes "new"; values = codes "false" ∷ []; count = None; source = Some DefaultValue; reading = AsWritten }
@@ -304,30 +387,37 @@ default_row = record { id = codes "new"; values = codes "false" ∷ []; count = 
 abbrev with_first : List Row → List Row
 with_first rows = if has_row (codes "new") rows then rows else with_values (codes "new") AsWritten DefaultValue (codes "false" ∷ []) rows
 
-with-defaults : (rows : List Row) → fold with_default rows arguments ≡ with_first rows
-with-defaults rows =
-    let first : List Row = with_first rows in
-    let second : List Row = if has_row (codes "tick") first then first else first in
-    same-both (has_row (codes "store") second) second ∙ same-both (has_row (codes "tick") first) first
+module _ (rows : List Row) where
+  abbrev first_added : List Row
+  first_added = with_first rows
 
-defaults-pass : (rows : List Row) → defaults_fault rows arguments ≡ []
-unfolding defaults_fault
-defaults-pass rows =
-    let first : List Row = with_first rows in
-    let second : List Row = if has_row (codes "tick") first then first else first in
-    all-pass _ _ _ (same-both (has_row (codes "new") rows || false) []) (or-true (has_row (codes "tick") first) [] _) (or-true (has_row (codes "store") second) [] _)
+  abbrev second_added : List Row
+  second_added = if has_row (codes "tick") first_added then first_added else first_added
+
+  abbrev third_added : List Row
+  third_added = if has_row (codes "store") second_added then second_added else second_added
+
+  with-defaults : fold with_default rows arguments ≡ with_first rows
+  with-defaults =
+      same-both (has_row (codes "spaces") third_added) third_added ∙ same-both (has_row (codes "store") second_added) second_added
+      ∙ same-both (has_row (codes "tick") first_added) first_added
+
+  defaults-pass : defaults_fault rows arguments ≡ []
+  unfolding defaults_fault
+  defaults-pass =
+      all-pass _ _ _ _ (same-both (has_row (codes "new") rows || false) []) (or-true (has_row (codes "tick") first_added) [] _)
+      (or-true (has_row (codes "store") second_added) [] _) (or-true (has_row (codes "spaces") third_added) [] _)
 
 defaulted : (rows : List Row) (fresh : Bool) → row_by (codes "new") rows ≡ (if fresh then Some (one_row (codes "new") (codes "true")) else None)
-    → (row_by (codes "tick") (with_first rows) ≡ row_by (codes "tick") rows) × (row_by (codes "store") (with_first rows) ≡ row_by (codes "store") rows)
+    → ((other : Text) → bytes_eq (codes "new") other ≡ false → row_by other (with_first rows) ≡ row_by other rows)
     × (one_of (codes "new") (with_first rows) ≡ Some (bool_text fresh))
 defaulted rows true row =
     let same : with_first rows ≡ rows = rw (has-row (codes "new") rows _ row) refl in
-    (ap (row_by (codes "tick")) same, ap (row_by (codes "store")) same, ap (one_of (codes "new")) same ∙ ap (option_and_then row_text) row)
+    (λ other differs. ap (row_by other) same, ap (one_of (codes "new")) same ∙ ap (option_and_then row_text) row)
 defaulted rows false row =
     let added : with_values (codes "new") AsWritten DefaultValue (codes "false" ∷ []) rows ≡ rows ++ default_row ∷ [] = absent (codes "new") (more_values DefaultValue (codes "false" ∷ [])) (default_row ∷ []) rows row in
     let same : with_first rows ≡ rows ++ default_row ∷ [] = ap (λ b. cond b rows (with_values (codes "new") AsWritten DefaultValue (codes "false" ∷ []) rows)) (has-row (codes "new") rows None row) ∙ added in (
-      ap (row_by (codes "tick")) same ∙ other-row (codes "tick") default_row rows refl,
-      ap (row_by (codes "store")) same ∙ other-row (codes "store") default_row rows refl,
+      λ other differs. ap (row_by other) same ∙ other-row other default_row rows differs,
       ap (one_of (codes "new")) same ∙ ap (option_and_then row_text) (own-row (codes "new") default_row rows row refl),
     )
 
@@ -338,41 +428,45 @@ only-value : (tick : Option Text) → option_and_then (λ r. slice_get r.values 
 only-value None = refl
 only-value (Some text) = refl
 
+all-values : (spaces : List Text) → unwrap_or (option_map (λ r. r.values) (spaces_row spaces)) [] ≡ spaces
+all-values [] = refl
+all-values (space ∷ spaces) = refl
+
 end-of : (rows : List Row) (pending : Option (Text × List Text)) (news : ℕ) (ticks names : List Text) → Holds rows pending (so_far news ticks names)
     → Finds (Some (so_far news ticks names)) (end_fault (held_with rows pending)) (finished arguments (held_with rows pending))
 end-of rows pending news ticks names (inr (fails, too_much)) =
     inl (or-first (settle_fault arguments false (held_with rows pending)) _ fails, ap asked_by (sym (nothing-more news ticks names)) ∙ too_much (names_alone []))
-end-of rows pending news ticks names (inl (passes, shows)) = by shows.store shows.names_are shows.store_row shows.filled
+end-of rows pending news ticks names (inl (passes, shows)) = by names shows
   where
     now : List Row
     now = settled_rows arguments pending rows
 
-    has : (row_by (codes "tick") (with_first now) ≡ row_by (codes "tick") now) × (row_by (codes "store") (with_first now) ≡ row_by (codes "store") now)
-        × (one_of (codes "new") (with_first now) ≡ Some (bool_text shows.fresh))
-    has = defaulted now shows.fresh shows.new_row
-
     checked : end_fault (held_with rows pending) ≡ check_fault top (with_first now) false
     checked = rw (passes, defaults-pass now) (ap (λ r. check_fault top r false) (with-defaults now))
 
-    by : (store : Option Text) → names ≡ option_to_list store → row_by (codes "store") now ≡ option_map (one_row (codes "store")) store
-        → option_map_or (λ name. nat_le 1 (length name)) store true ≡ true
+    by : (names : List Text) → Shows now (so_far news ticks names)
         → Finds (Some (so_far news ticks names)) (end_fault (held_with rows pending)) (finished arguments (held_with rows pending))
-    by None none row filled =
-        let required : has_fault (check_fault top (with_first now) false) ≡ true = rw (has.1 ∙ row) refl in
-        inl (ap has_fault checked ∙ required, none-by-names (so_far news ticks names) (ap store_of none))
-    by (Some name) one row filled =
-        let given : check_fault top (with_first now) false ≡ [] = rw (has.1 ∙ row) refl in
+    by [] shows =
+        let has = defaulted now shows.fresh shows.new_row in
+        let required : has_fault (check_fault top (with_first now) false) ≡ true = rw (has.0 (codes "store") refl ∙ shows.store_row) refl in
+        inl (ap has_fault checked ∙ required, none-by-names (so_far news ticks []) refl)
+    by (name ∷ spaces) shows =
+        let has = defaulted now shows.fresh shows.new_row in
+        let given : check_fault top (with_first now) false ≡ [] = rw (has.0 (codes "store") refl ∙ shows.store_row) refl in
         inr (
           checked ∙ given,
           record {
             fresh = shows.fresh;
             tick = shows.tick;
             store = name;
-            given_is = ap Some (same-given _ _ _ _ _ _ shows.news_are shows.ticks_are one);
-            filled = filled;
-            new_is = ap (one_of (codes "new")) (with-defaults now) ∙ has.2;
-            tick_is = ap (first_of (codes "tick")) (with-defaults now) ∙ ap (option_and_then (λ r. slice_get r.values 0)) (has.0 ∙ shows.tick_row) ∙ only-value shows.tick;
-            store_is = ap (first_of (codes "store")) (with-defaults now) ∙ ap (option_and_then (λ r. slice_get r.values 0)) (has.1 ∙ row);
+            spaces = spaces;
+            given_is = ap Some (same-given _ _ _ _ _ _ shows.news_are shows.ticks_are refl);
+            filled = shows.filled;
+            new_is = ap (one_of (codes "new")) (with-defaults now) ∙ has.1;
+            tick_is = ap (first_of (codes "tick")) (with-defaults now) ∙ ap (option_and_then (λ r. slice_get r.values 0)) (has.0 (codes "tick") refl ∙ shows.tick_row) ∙ only-value shows.tick;
+            store_is = ap (first_of (codes "store")) (with-defaults now) ∙ ap (option_and_then (λ r. slice_get r.values 0)) (has.0 (codes "store") refl ∙ shows.store_row);
+            spaces_are = ap (texts_of (codes "spaces")) (with-defaults now)
+                ∙ ap (λ row. unwrap_or (option_map (λ r. r.values) row) []) (has.0 (codes "spaces") refl ∙ shows.spaces_row) ∙ all-values spaces;
           },
         )
 
@@ -398,9 +492,9 @@ given_in true words = Some (names_alone words)
 given_in false words = given_by words
 
 -- what the library finds in the words that follow what was given; `ended`: they are names alone
-abbrev FindsAt : Bool → List Text → List Row → Option (Text × List Text) → ℕ → List Text → List Text → Type 0
-FindsAt ended words rows pending news ticks names =
-    FindsFrom (option_map (joined (so_far news ticks names)) (given_in ended words)) (walk_at ended (place_of names) rows pending) words
+abbrev FindsAt : Bool → Bool → List Text → List Row → Option (Text × List Text) → ℕ → List Text → List Text → Type 0
+FindsAt ended behind words rows pending news ticks names =
+    FindsFrom (option_map (joined (so_far news ticks names)) (given_in ended words)) (walk_at ended behind (place_of names) rows pending) words
 
 -- the same where the value of `--tick` is due
 abbrev FindsDue : List Text → List Row → ℕ → List Text → List Text → Type 0
@@ -409,8 +503,8 @@ FindsDue words rows news ticks names =
 
 -- what the library finds from each stand between two words
 record FindsAll (words : List Text) : Type 0 where
-  free : (ended : Bool) (rows : List Row) (pending : Option (Text × List Text)) (news : ℕ) (ticks names : List Text) → Holds rows pending (so_far news ticks names)
-      → FindsAt ended words rows pending news ticks names
+  free : (ended behind : Bool) (rows : List Row) (pending : Option (Text × List Text)) (news : ℕ) (ticks names : List Text) → Holds rows pending (so_far news ticks names)
+      → FindsAt ended behind words rows pending news ticks names
   due : (rows : List Row) (news : ℕ) (ticks names : List Text) → Shows rows (so_far news ticks names)
       → FindsDue words rows news ticks names
 
@@ -424,13 +518,17 @@ name-given : (ended : Bool) (word : Text) → AsName ended word → (rest : List
 name-given true word is rest = refl
 name-given false word is rest = is.given rest
 
-name-met : (ended : Bool) (word : Text) → AsName ended word → (place : ℕ) (held : Held) → word_met arguments [] ended idle place word held ≡ (held, value)
-name-met true word is place held = refl
-name-met false word is place held = is.met false place held
+as-value : (behind : Bool) (word : Text) (held : Held) → plain_word arguments (waiting_by behind) word held ≡ (held, value)
+as-value false word held = refl
+as-value true word held = refl
 
-name-passes : (ended : Bool) (word : Text) → AsName ended word → (held : Held) → word_fault top [] ended idle word held ≡ []
-name-passes true word is held = refl
-name-passes false word is held = is.passes false held
+name-met : (ended : Bool) (word : Text) → AsName ended word → (behind : Bool) (place : ℕ) (held : Held) → word_met arguments [] ended (waiting_by behind) place word held ≡ (held, value)
+name-met true word is behind place held = refl
+name-met false word is behind place held = is.met (waiting_by behind) place held ∙ as-value behind word held
+
+name-passes : (ended : Bool) (word : Text) → AsName ended word → (behind : Bool) (held : Held) → word_fault top [] ended (waiting_by behind) word held ≡ []
+name-passes true word is behind held = refl
+name-passes false word is behind held = is.passes (waiting_by behind) held
 
 never : {T : Type 0} (b : Bool) (x y : T) → cond (b && false) x y ≡ y
 never true x y = refl
@@ -439,46 +537,57 @@ never false x y = refl
 abbrev store_argument : Rule
 store_argument = record (filled store_name) { index = Some 1 }
 
-module _ (rest : List Text) (later : FindsAll rest) (ended : Bool) (word : Text) (is : AsName ended word) where
-  name-turn : (place : ℕ) (rows : List Row) (pending : Option (Text × List Text)) → turn_fault top [] (walk_at ended place rows pending) word ≡ step_fault top place (held_with rows pending) value
+abbrev spaces_argument : Rule
+spaces_argument = record (filled space_names) { index = Some 2 }
+
+module _ (rest : List Text) (later : FindsAll rest) (ended : Bool) (word : Text) (is : AsName ended word) (behind : Bool) where
+  name-turn : (place : ℕ) (rows : List Row) (pending : Option (Text × List Text)) → turn_fault top [] (walk_at ended behind place rows pending) word ≡ step_fault top place (held_with rows pending) value
   name-turn place rows pending =
-      ap₂ (λ (kinds : Kinds) (met : Held × Step). or_else kinds (step_fault top place met.0 met.1)) (name-passes ended word is (held_with rows pending)) (name-met ended word is place (held_with rows pending))
+      ap₂ (λ (kinds : Kinds) (met : Held × Step). or_else kinds (step_fault top place met.0 met.1)) (name-passes ended word is behind (held_with rows pending)) (name-met ended word is behind place (held_with rows pending))
 
   name-walked : (place : ℕ) (rows : List Row) (pending : Option (Text × List Text))
-      → walked arguments [] (walk_at ended place rows pending) word ≡ after_step arguments word (walk_at ended place rows pending) (held_with rows pending) value
+      → walked arguments [] (walk_at ended behind place rows pending) word ≡ after_step arguments word (walk_at ended behind place rows pending) (held_with rows pending) value
   unfolding walked
-  name-walked place rows pending = ap (λ (met : Held × Step). after_step arguments word (walk_at ended place rows pending) met.0 met.1) (name-met ended word is place (held_with rows pending))
+  name-walked place rows pending = ap (λ (met : Held × Step). after_step arguments word (walk_at ended behind place rows pending) met.0 met.1) (name-met ended word is behind place (held_with rows pending))
 
   name-moved : (news : ℕ) (ticks names : List Text) → option_map (joined (so_far news ticks (names ++ word ∷ []))) (given_in ended rest) ≡ option_map (joined (so_far news ticks names)) (given_in ended (word ∷ rest))
   name-moved news ticks names =
       moved (so_far news ticks names) (so_far news ticks (names ++ word ∷ [])) (with_name word) (name-moves news ticks names word) (given_in ended rest)
       ∙ ap (option_map (joined (so_far news ticks names))) (sym (name-given ended word is rest))
 
-  first-turn : (rows : List Row) (pending : Option (Text × List Text)) → turn_fault top [] (walk_at ended 1 rows pending) word ≡ settle_fault arguments false (held_with rows pending)
+  first-turn : (rows : List Row) (pending : Option (Text × List Text)) → turn_fault top [] (walk_at ended behind 1 rows pending) word ≡ settle_fault arguments false (held_with rows pending)
   first-turn rows pending = name-turn 1 rows pending ∙ never (is_pending store_argument pending) [] (settle_fault arguments false (held_with rows pending))
 
-  first-walked : (rows : List Row) (pending : Option (Text × List Text)) → walked arguments [] (walk_at ended 1 rows pending) word ≡ walk_at ended 2 (settled_rows arguments pending rows) (Some (codes "store", word ∷ []))
+  first-walked : (rows : List Row) (pending : Option (Text × List Text)) → walked arguments [] (walk_at ended behind 1 rows pending) word ≡ walk_at ended false 2 (settled_rows arguments pending rows) (Some (codes "store", word ∷ []))
   first-walked rows pending =
       name-walked 1 rows pending
       ∙ ap₂ (λ (held : Held) (trailing : Bool). record { held = pushed (codes "store") word held; waiting = idle; position = 2; is_trailing = trailing; stopped = None })
       (never (is_pending store_argument pending) (held_with rows pending) (settled arguments (held_with rows pending))) (or-false ended)
 
+  second-turn : (rows : List Row) (pending : Option (Text × List Text)) → turn_fault top [] (walk_at ended behind 2 rows pending) word ≡ settle_fault arguments false (held_with rows pending)
+  second-turn rows pending = name-turn 2 rows pending ∙ never (is_pending spaces_argument pending) [] (settle_fault arguments false (held_with rows pending))
+
+  second-walked : (rows : List Row) (pending : Option (Text × List Text)) → walked arguments [] (walk_at ended behind 2 rows pending) word ≡ walk_at ended true 2 (settled_rows arguments pending rows) (Some (codes "spaces", word ∷ []))
+  second-walked rows pending =
+      name-walked 2 rows pending
+      ∙ ap₂ (λ (held : Held) (trailing : Bool). record { held = pushed (codes "spaces") word held; waiting = positional; position = 2; is_trailing = trailing; stopped = None })
+      (never (is_pending spaces_argument pending) (held_with rows pending) (settled arguments (held_with rows pending))) (or-false ended)
+
   name-comes : (rows : List Row) (pending : Option (Text × List Text)) (news : ℕ) (ticks names : List Text) → Holds rows pending (so_far news ticks names)
-      → FindsAt ended (word ∷ rest) rows pending news ticks names
+      → FindsAt ended behind (word ∷ rest) rows pending news ticks names
   name-comes rows pending news ticks [] (inl (passes, shows)) =
-      goes-on (walk_at ended 1 rows pending) (walk_at ended 2 (settled_rows arguments pending rows) (Some (codes "store", word ∷ []))) word rest
+      goes-on (walk_at ended behind 1 rows pending) (walk_at ended false 2 (settled_rows arguments pending rows) (Some (codes "store", word ∷ []))) word rest
       _ (option_map (joined (so_far news ticks (word ∷ []))) (given_in ended rest)) (first-turn rows pending ∙ passes) (first-walked rows pending) (name-moved news ticks [])
-      (later.free ended (settled_rows arguments pending rows) (Some (codes "store", word ∷ [])) news ticks (word ∷ []) (use-store (settled_rows arguments pending rows) news ticks word shows))
+      (later.free ended false (settled_rows arguments pending rows) (Some (codes "store", word ∷ [])) news ticks (word ∷ []) (use-store (settled_rows arguments pending rows) news ticks word shows))
   name-comes rows pending news ticks [] (inr (fails, too_much)) =
-      refused (walk_at ended 1 rows pending) word rest _ (none-more (so_far news ticks []) (given_in ended (word ∷ rest)) too_much) (ap has_fault (first-turn rows pending) ∙ fails)
-  name-comes rows pending news ticks (name ∷ names) holds =
-      refused (walk_at ended 2 rows pending) word rest _
-      (ap (option_and_then asked_by) (sym (name-moved news ticks (name ∷ names))) ∙ none-more (so_far news ticks (name ∷ (names ++ word ∷ []))) (given_in ended rest) (second names))
-      (ap has_fault (name-turn 2 rows pending))
-    where
-      second : (names : List Text) → IsTooMuch (so_far news ticks (name ∷ (names ++ word ∷ [])))
-      second [] = two-names news ticks name word []
-      second (other ∷ names) = two-names news ticks name other (names ++ word ∷ [])
+      refused (walk_at ended behind 1 rows pending) word rest _ (none-more (so_far news ticks []) (given_in ended (word ∷ rest)) too_much) (ap has_fault (first-turn rows pending) ∙ fails)
+  name-comes rows pending news ticks (name ∷ spaces) (inl (passes, shows)) =
+      goes-on (walk_at ended behind 2 rows pending) (walk_at ended true 2 (settled_rows arguments pending rows) (Some (codes "spaces", word ∷ []))) word rest
+      _ (option_map (joined (so_far news ticks (name ∷ (spaces ++ word ∷ [])))) (given_in ended rest)) (second-turn rows pending ∙ passes) (second-walked rows pending) (name-moved news ticks (name ∷ spaces))
+      (later.free ended true (settled_rows arguments pending rows) (Some (codes "spaces", word ∷ [])) news ticks (name ∷ (spaces ++ word ∷ []))
+      (use-space (settled_rows arguments pending rows) news ticks name spaces word shows))
+  name-comes rows pending news ticks (name ∷ spaces) (inr (fails, too_much)) =
+      refused (walk_at ended behind 2 rows pending) word rest _ (none-more (so_far news ticks (name ∷ spaces)) (given_in ended (word ∷ rest)) too_much) (ap has_fault (second-turn rows pending) ∙ fails)
 
 -- ---- options
 
@@ -489,94 +598,122 @@ stays-faulty rows names [] = refl
 stays-faulty rows [] (word ∷ words) = refl
 stays-faulty rows (name ∷ names) (word ∷ words) = refl
 
-module _ (rest : List Text) (later : FindsAll rest) where
-  end-comes : (rows : List Row) (pending : Option (Text × List Text)) (news : ℕ) (ticks names : List Text) → Holds rows pending (so_far news ticks names)
-      → FindsAt false (codes "--" ∷ rest) rows pending news ticks names
-  unfolding walked
-  end-comes rows pending news ticks names holds =
-      goes-on (walk_at false (place_of names) rows pending) (walk_at true (place_of names) rows pending) (codes "--") rest
-      _ (option_map (joined (so_far news ticks names)) (given_in true rest)) refl refl refl (later.free true rows pending news ticks names holds)
+-- a word that begins an option looks the same behind a space
+end-met : (behind : Bool) (place : ℕ) (rows : List Row) (pending : Option (Text × List Text))
+    → (turn_fault top [] (walk_at false behind place rows pending) (codes "--") ≡ []) × (walked arguments [] (walk_at false behind place rows pending) (codes "--") ≡ walk_at true behind place rows pending)
+unfolding walked
+end-met false place rows pending = (refl, refl)
+end-met true place rows pending = (refl, refl)
 
-  -- an option with all that belongs to it
+-- an option with all that belongs to it: what is pending is used, and then this
+abbrev IsUse : Text → Text × List Text → Bool → ℕ → List Row → Option (Text × List Text) → Type 0
+IsUse word used behind place rows pending =
+    (turn_fault top [] (walk_at false behind place rows pending) word
+    ≡ or_else (or_else (settle_fault arguments false (held_with rows pending)) (settle_fault arguments false (held_with (settled_rows arguments pending rows) (Some used)))) [])
+    × (walked arguments [] (walk_at false behind place rows pending) word ≡ walk_at false false place (settled_rows arguments (Some used) (settled_rows arguments pending rows)) None)
+
+new-met : (behind : Bool) (place : ℕ) (rows : List Row) (pending : Option (Text × List Text)) → IsUse (codes "--new") (codes "new", []) behind place rows pending
+unfolding walked
+new-met false place rows pending = (refl, refl)
+new-met true place rows pending = (refl, refl)
+
+value-met : (text : Text) (behind : Bool) (place : ℕ) (rows : List Row) (pending : Option (Text × List Text)) → IsUse (codes "--tick=" ++ text) (codes "tick", text ∷ []) behind place rows pending
+unfolding walked
+value-met text false place rows pending = (refl, refl)
+value-met text true place rows pending = (refl, refl)
+
+tick-met : (behind : Bool) (place : ℕ) (rows : List Row) (pending : Option (Text × List Text))
+    → (turn_fault top [] (walk_at false behind place rows pending) (codes "--tick") ≡ or_else (settle_fault arguments false (held_with rows pending)) [])
+    × (walked arguments [] (walk_at false behind place rows pending) (codes "--tick") ≡ due_at false place (settled_rows arguments pending rows))
+unfolding walked
+tick-met false place rows pending = (refl, refl)
+tick-met true place rows pending = (refl, refl)
+
+module _ (rest : List Text) (later : FindsAll rest) (behind : Bool) where
+  end-comes : (rows : List Row) (pending : Option (Text × List Text)) (news : ℕ) (ticks names : List Text) → Holds rows pending (so_far news ticks names)
+      → FindsAt false behind (codes "--" ∷ rest) rows pending news ticks names
+  end-comes rows pending news ticks names holds =
+      let met = end-met behind (place_of names) rows pending in
+      goes-on (walk_at false behind (place_of names) rows pending) (walk_at true behind (place_of names) rows pending) (codes "--") rest
+      _ (option_map (joined (so_far news ticks names)) (given_in true rest)) met.0 met.1 refl (later.free true behind rows pending news ticks names holds)
+
   use-comes : (word : Text) (used : Text × List Text) (step : Parsed → Parsed) (rows : List Row) (pending : Option (Text × List Text)) (news new_news : ℕ) (ticks new_ticks names : List Text)
       → given_by (word ∷ rest) ≡ option_map step (given_by rest)
       → ((more : Parsed) → joined (so_far news ticks names) (step more) ≡ joined (so_far new_news new_ticks names) more)
-      → turn_fault top [] (walk_at false (place_of names) rows pending) word
-      ≡ or_else (or_else (settle_fault arguments false (held_with rows pending)) (settle_fault arguments false (held_with (settled_rows arguments pending rows) (Some used)))) []
-      → walked arguments [] (walk_at false (place_of names) rows pending) word ≡ walk_at false (place_of names) (settled_rows arguments (Some used) (settled_rows arguments pending rows)) None
+      → IsUse word used behind (place_of names) rows pending
       → (Shows (settled_rows arguments pending rows) (so_far news ticks names) → Holds (settled_rows arguments pending rows) (Some used) (so_far new_news new_ticks names))
       → Holds rows pending (so_far news ticks names)
-      → FindsAt false (word ∷ rest) rows pending news ticks names
-  use-comes word used step rows pending news new_news ticks new_ticks names given moves turn goes shown (inr (fails, too_much)) =
-      refused (walk_at false (place_of names) rows pending) word rest _ (none-more (so_far news ticks names) (given_by (word ∷ rest)) too_much)
-      (ap has_fault turn ∙ or-first (or_else (settle_fault arguments false (held_with rows pending)) _) [] (or-first (settle_fault arguments false (held_with rows pending)) _ fails))
-  use-comes word used step rows pending news new_news ticks new_ticks names given moves turn goes shown (inl (passes, shows)) = by (shown shows)
+      → FindsAt false behind (word ∷ rest) rows pending news ticks names
+  use-comes word used step rows pending news new_news ticks new_ticks names given moves met shown (inr (fails, too_much)) =
+      refused (walk_at false behind (place_of names) rows pending) word rest _ (none-more (so_far news ticks names) (given_by (word ∷ rest)) too_much)
+      (ap has_fault met.0 ∙ or-first (or_else (settle_fault arguments false (held_with rows pending)) _) [] (or-first (settle_fault arguments false (held_with rows pending)) _ fails))
+  use-comes word used step rows pending news new_news ticks new_ticks names given moves met shown (inl (passes, shows)) = by (shown shows)
     where
       same : option_map (joined (so_far new_news new_ticks names)) (given_by rest) ≡ option_map (joined (so_far news ticks names)) (given_by (word ∷ rest))
       same =
           moved (so_far news ticks names) (so_far new_news new_ticks names) step moves (given_by rest) ∙ ap (option_map (joined (so_far news ticks names))) (sym given)
 
-      first : turn_fault top [] (walk_at false (place_of names) rows pending) word ≡ or_else (settle_fault arguments false (held_with (settled_rows arguments pending rows) (Some used))) []
-      first = turn ∙ ap (λ kinds. or_else (or_else kinds (settle_fault arguments false (held_with (settled_rows arguments pending rows) (Some used)))) []) passes
+      first : turn_fault top [] (walk_at false behind (place_of names) rows pending) word ≡ or_else (settle_fault arguments false (held_with (settled_rows arguments pending rows) (Some used))) []
+      first = met.0 ∙ ap (λ kinds. or_else (or_else kinds (settle_fault arguments false (held_with (settled_rows arguments pending rows) (Some used)))) []) passes
 
       by : Holds (settled_rows arguments pending rows) (Some used) (so_far new_news new_ticks names)
-          → FindsAt false (word ∷ rest) rows pending news ticks names
+          → FindsAt false behind (word ∷ rest) rows pending news ticks names
       by (inl (uses, has)) =
-          goes-on (walk_at false (place_of names) rows pending) (walk_at false (place_of names) (settled_rows arguments (Some used) (settled_rows arguments pending rows)) None) word rest
-          _ (option_map (joined (so_far new_news new_ticks names)) (given_by rest)) (first ∙ ap (λ kinds. or_else kinds []) uses) goes same
-          (later.free false (settled_rows arguments (Some used) (settled_rows arguments pending rows)) None new_news new_ticks names (inl (refl, has)))
+          goes-on (walk_at false behind (place_of names) rows pending) (walk_at false false (place_of names) (settled_rows arguments (Some used) (settled_rows arguments pending rows)) None) word rest
+          _ (option_map (joined (so_far new_news new_ticks names)) (given_by rest)) (first ∙ ap (λ kinds. or_else kinds []) uses) met.1 same
+          (later.free false false (settled_rows arguments (Some used) (settled_rows arguments pending rows)) None new_news new_ticks names (inl (refl, has)))
       by (inr (fails, too_much)) =
-          refused (walk_at false (place_of names) rows pending) word rest _
+          refused (walk_at false behind (place_of names) rows pending) word rest _
           (ap (option_and_then asked_by) (sym same) ∙ none-more (so_far new_news new_ticks names) (given_by rest) too_much)
           (ap has_fault first ∙ or-first (settle_fault arguments false (held_with (settled_rows arguments pending rows) (Some used))) [] fails)
 
   new-comes : (rows : List Row) (pending : Option (Text × List Text)) (news : ℕ) (ticks names : List Text) → Holds rows pending (so_far news ticks names)
-      → FindsAt false (codes "--new" ∷ rest) rows pending news ticks names
-  unfolding walked
+      → FindsAt false behind (codes "--new" ∷ rest) rows pending news ticks names
   new-comes rows pending news ticks names =
-      use-comes (codes "--new") (codes "new", []) with_new rows pending news (suc news) ticks ticks names refl (new-moves news ticks names) refl refl
+      use-comes (codes "--new") (codes "new", []) with_new rows pending news (suc news) ticks ticks names refl (new-moves news ticks names) (new-met behind (place_of names) rows pending)
       (use-new (settled_rows arguments pending rows) news ticks names)
 
   value-comes : (text : Text) (rows : List Row) (pending : Option (Text × List Text)) (news : ℕ) (ticks names : List Text) → Holds rows pending (so_far news ticks names)
-      → FindsAt false ((codes "--tick=" ++ text) ∷ rest) rows pending news ticks names
-  unfolding walked
+      → FindsAt false behind ((codes "--tick=" ++ text) ∷ rest) rows pending news ticks names
   value-comes text rows pending news ticks names =
-      use-comes (codes "--tick=" ++ text) (codes "tick", text ∷ []) (with_tick text) rows pending news news ticks (ticks ++ text ∷ []) names refl (tick-moves news ticks names text) refl refl
-      (use-tick (settled_rows arguments pending rows) news ticks names text)
+      use-comes (codes "--tick=" ++ text) (codes "tick", text ∷ []) (with_tick text) rows pending news news ticks (ticks ++ text ∷ []) names refl (tick-moves news ticks names text)
+      (value-met text behind (place_of names) rows pending) (use-tick (settled_rows arguments pending rows) news ticks names text)
 
   tick-comes : (rows : List Row) (pending : Option (Text × List Text)) (news : ℕ) (ticks names : List Text) → Holds rows pending (so_far news ticks names)
-      → FindsAt false (codes "--tick" ∷ rest) rows pending news ticks names
-  unfolding walked
+      → FindsAt false behind (codes "--tick" ∷ rest) rows pending news ticks names
   tick-comes rows pending news ticks names (inl (passes, shows)) =
-      goes-on (walk_at false (place_of names) rows pending) (due_at false (place_of names) (settled_rows arguments pending rows)) (codes "--tick") rest
-      _ (option_map (joined (so_far news ticks names)) (given_behind_tick rest)) (ap (λ kinds. or_else kinds []) passes) refl refl (later.due (settled_rows arguments pending rows) news ticks names shows)
+      let met = tick-met behind (place_of names) rows pending in
+      goes-on (walk_at false behind (place_of names) rows pending) (due_at false (place_of names) (settled_rows arguments pending rows)) (codes "--tick") rest
+      _ (option_map (joined (so_far news ticks names)) (given_behind_tick rest)) (met.0 ∙ ap (λ kinds. or_else kinds []) passes) met.1 refl
+      (later.due (settled_rows arguments pending rows) news ticks names shows)
   tick-comes rows pending news ticks names (inr (fails, too_much)) =
-      refused (walk_at false (place_of names) rows pending) (codes "--tick") rest _ (none-more (so_far news ticks names) (given_by (codes "--tick" ∷ rest)) too_much)
-      (or-first (settle_fault arguments false (held_with rows pending)) [] fails)
+      refused (walk_at false behind (place_of names) rows pending) (codes "--tick") rest _ (none-more (so_far news ticks names) (given_by (codes "--tick" ∷ rest)) too_much)
+      (ap has_fault (tick-met behind (place_of names) rows pending).0 ∙ or-first (settle_fault arguments false (held_with rows pending)) [] fails)
 
   faulty-comes : (word : Text) → IsFaulty word → (rows : List Row) (pending : Option (Text × List Text)) (news : ℕ) (ticks names : List Text)
-      → FindsAt false (word ∷ rest) rows pending news ticks names
+      → FindsAt false behind (word ∷ rest) rows pending news ticks names
   faulty-comes word is rows pending news ticks names =
-      refused (walk_at false (place_of names) rows pending) word rest _ (ap (λ o. option_and_then asked_by (option_map (joined (so_far news ticks names)) o)) (is.given rest))
-      (or-first (word_fault top [] false idle word (held_with rows pending)) _ (is.fails false rows pending))
+      refused (walk_at false behind (place_of names) rows pending) word rest _ (ap (λ o. option_and_then asked_by (option_map (joined (so_far news ticks names)) o)) (is.given rest))
+      (or-first (word_fault top [] false (waiting_by behind) word (held_with rows pending)) _ (is.fails (waiting_by behind) rows pending))
 
   word-comes : (word : Text) (look : Look) → Looks look word → (rows : List Row) (pending : Option (Text × List Text)) (news : ℕ) (ticks names : List Text) → Holds rows pending (so_far news ticks names)
-      → FindsAt false (word ∷ rest) rows pending news ticks names
-  word-comes word plain is rows pending news ticks names = name-comes rest later false word is rows pending news ticks names
+      → FindsAt false behind (word ∷ rest) rows pending news ticks names
+  word-comes word plain is rows pending news ticks names = name-comes rest later false word is behind rows pending news ticks names
   word-comes word faulty is rows pending news ticks names = λ holds. faulty-comes word is rows pending news ticks names
   word-comes word ends is rows pending news ticks names =
-      subst (λ w. Holds rows pending (so_far news ticks names) → FindsAt false (w ∷ rest) rows pending news ticks names) (sym is)
+      subst (λ w. Holds rows pending (so_far news ticks names) → FindsAt false behind (w ∷ rest) rows pending news ticks names) (sym is)
       (end-comes rows pending news ticks names)
   word-comes word fresh is rows pending news ticks names =
-      subst (λ w. Holds rows pending (so_far news ticks names) → FindsAt false (w ∷ rest) rows pending news ticks names) (sym is)
+      subst (λ w. Holds rows pending (so_far news ticks names) → FindsAt false behind (w ∷ rest) rows pending news ticks names) (sym is)
       (new-comes rows pending news ticks names)
   word-comes word tick is rows pending news ticks names =
-      subst (λ w. Holds rows pending (so_far news ticks names) → FindsAt false (w ∷ rest) rows pending news ticks names) (sym is)
+      subst (λ w. Holds rows pending (so_far news ticks names) → FindsAt false behind (w ∷ rest) rows pending news ticks names) (sym is)
       (tick-comes rows pending news ticks names)
   word-comes word (tick_with text) is rows pending news ticks names =
-      subst (λ w. Holds rows pending (so_far news ticks names) → FindsAt false (w ∷ rest) rows pending news ticks names) (sym is)
+      subst (λ w. Holds rows pending (so_far news ticks names) → FindsAt false behind (w ∷ rest) rows pending news ticks names) (sym is)
       (value-comes text rows pending news ticks names)
 
+module _ (rest : List Text) (later : FindsAll rest) where
   -- ---- where the value of `--tick` is due
 
   due-plain : (word : Text) → IsPlain word → (rows : List Row) (news : ℕ) (ticks names : List Text) → Shows rows (so_far news ticks names)
@@ -584,12 +721,13 @@ module _ (rest : List Text) (later : FindsAll rest) where
   unfolding walked
   due-plain word is rows news ticks names shows =
       let held : Held = held_with rows (Some (codes "tick", [])) in
-      goes-on (due_at false (place_of names) rows) (walk_at false (place_of names) rows (Some (codes "tick", word ∷ []))) word rest _ (option_map (joined (so_far news (ticks ++ word ∷ []) names)) (given_by rest))
-      (ap₂ (λ (kinds : Kinds) (met : Held × Step). or_else kinds (step_fault top (place_of names) met.0 met.1)) (is.passes true held) (is.met true (place_of names) held))
-      (ap (λ (met : Held × Step). after_step arguments word (due_at false (place_of names) rows) met.0 met.1) (is.met true (place_of names) held))
+      let due : Waiting = option (codes "tick") in
+      goes-on (due_at false (place_of names) rows) (walk_at false false (place_of names) rows (Some (codes "tick", word ∷ []))) word rest _ (option_map (joined (so_far news (ticks ++ word ∷ []) names)) (given_by rest))
+      (ap₂ (λ (kinds : Kinds) (met : Held × Step). or_else kinds (step_fault top (place_of names) met.0 met.1)) (is.passes due held) (is.met due (place_of names) held))
+      (ap (λ (met : Held × Step). after_step arguments word (due_at false (place_of names) rows) met.0 met.1) (is.met due (place_of names) held))
       (moved (so_far news ticks names) (so_far news (ticks ++ word ∷ []) names) (with_tick word) (tick-moves news ticks names word) (given_by rest)
       ∙ ap (option_map (joined (so_far news ticks names))) (sym (is.behind rest)))
-      (later.free false rows (Some (codes "tick", word ∷ [])) news (ticks ++ word ∷ []) names (use-tick rows news ticks names word shows))
+      (later.free false false rows (Some (codes "tick", word ∷ [])) news (ticks ++ word ∷ []) names (use-tick rows news ticks names word shows))
 
   -- `--`: the library tells the fault later
   due-end : (rows : List Row) (news : ℕ) (ticks names : List Text)
@@ -607,7 +745,7 @@ module _ (rest : List Text) (later : FindsAll rest) where
   due-comes : (word : Text) (look : Look) → Looks look word → (rows : List Row) (news : ℕ) (ticks names : List Text) → Shows rows (so_far news ticks names)
       → FindsDue (word ∷ rest) rows news ticks names
   due-comes word plain is rows news ticks names shows = due-plain word is rows news ticks names shows
-  due-comes word faulty is rows news ticks names shows = due-refused word rows news ticks names (is.behind rest) (is.fails true rows (Some (codes "tick", [])))
+  due-comes word faulty is rows news ticks names shows = due-refused word rows news ticks names (is.behind rest) (is.fails (option (codes "tick")) rows (Some (codes "tick", [])))
   due-comes word ends is rows news ticks names shows =
       subst (λ w. FindsDue (w ∷ rest) rows news ticks names) (sym is)
       (due-end rows news ticks names)
@@ -623,11 +761,11 @@ module _ (rest : List Text) (later : FindsAll rest) where
 
 -- ---- all the words
 
-at-end : (ended : Bool) (rows : List Row) (pending : Option (Text × List Text)) (news : ℕ) (ticks names : List Text) → Holds rows pending (so_far news ticks names)
-    → FindsAt ended [] rows pending news ticks names
+at-end : (ended behind : Bool) (rows : List Row) (pending : Option (Text × List Text)) (news : ℕ) (ticks names : List Text) → Holds rows pending (so_far news ticks names)
+    → FindsAt ended behind [] rows pending news ticks names
 unfolding walk_fault
-at-end ended rows pending news ticks names holds =
-    subst (λ given. FindsFrom given (walk_at ended (place_of names) rows pending) []) (sym (same ended)) (end-of rows pending news ticks names holds)
+at-end ended behind rows pending news ticks names holds =
+    subst (λ given. FindsFrom given (walk_at ended behind (place_of names) rows pending) []) (sym (same ended)) (end-of rows pending news ticks names holds)
   where
     same : (b : Bool) → option_map (joined (so_far news ticks names)) (given_in b []) ≡ Some (so_far news ticks names)
     same true = ap Some (nothing-more news ticks names)
@@ -644,10 +782,10 @@ found-all (word ∷ rest) texts =
     let look = looks word texts.0 in
     record { free = by later look.0 look.1; due = due-comes rest later word look.0 look.1 }
   where
-    by : FindsAll rest → (look : Look) → Looks look word → (ended : Bool) (rows : List Row) (pending : Option (Text × List Text)) (news : ℕ) (ticks names : List Text) → Holds rows pending (so_far news ticks names)
-        → FindsAt ended (word ∷ rest) rows pending news ticks names
-    by later look is true rows pending news ticks names holds = name-comes rest later true word tt rows pending news ticks names holds
-    by later look is false rows pending news ticks names holds = word-comes rest later word look is rows pending news ticks names holds
+    by : FindsAll rest → (look : Look) → Looks look word → (ended behind : Bool) (rows : List Row) (pending : Option (Text × List Text)) (news : ℕ) (ticks names : List Text)
+        → Holds rows pending (so_far news ticks names) → FindsAt ended behind (word ∷ rest) rows pending news ticks names
+    by later look is true behind rows pending news ticks names holds = name-comes rest later true word tt behind rows pending news ticks names holds
+    by later look is false behind rows pending news ticks names holds = word-comes rest later behind word look is rows pending news ticks names holds
 
 -- no word is the name of a subcommand
 not-entered : (stop : Option (Text × List Text)) → (entered_fault (built hac) stop ≡ []) × (is_some (entered (built hac) stop) ≡ false)
@@ -662,6 +800,6 @@ nothing-before (Some given) = ap Some (same-given _ _ _ _ _ _ (omega arith) refl
 pub words-found : (words : List Text) → AllByRecursion IsUtf8 words → Finds (given_by words) (fault_of hac words) (matches_of hac words)
 words-found words texts =
     let no_entry = not-entered (walk arguments [] nothing_held words).stopped in
-    let shows : Shows [] (so_far 0 [] []) = record { fresh = false; tick = None; store = None; news_are = refl; ticks_are = refl; names_are = refl; new_row = refl; tick_row = refl; store_row = refl; filled = refl } in
+    let shows : Shows [] (so_far 0 [] []) = record { fresh = false; tick = None; news_are = refl; ticks_are = refl; new_row = refl; tick_row = refl; store_row = refl; spaces_row = refl; filled = refl } in
     subst (λ kinds. Finds (given_by words) kinds (matches_of hac words)) (sym (ap₂ (λ below entered. level_fault top [] nothing_held words entered below) no_entry.0 no_entry.1))
-    (subst (λ given. FindsFrom given (walk_at false 1 [] None) words) (nothing-before (given_by words)) ((found-all words texts).free false [] None 0 [] [] (inl (refl, shows))))
+    (subst (λ given. FindsFrom given (walk_at false false 1 [] None) words) (nothing-before (given_by words)) ((found-all words texts).free false false [] None 0 [] [] (inl (refl, shows))))

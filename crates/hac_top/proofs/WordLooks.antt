@@ -10,7 +10,7 @@ use Rattle.clap.specs.Lexer.{has_byte}
 use Rattle.clap.specs.Kinds.{Kinds}
 use Rattle.clap.specs.Faults.{bundle_step_fault, flags_fault, word_fault}
 use Rattle.clap.specs.Simple.{Shape, built}
-use Rattle.clap.specs.Walk.{Held, Row, Rule, Text, Waiting, idle, option, plain_word, word_met}
+use Rattle.clap.specs.Walk.{Held, Row, Rule, Text, Waiting, idle, option, positional, plain_word, word_met}
 use Rattle.hac_top.specs.Words.{hac}
 
 -- the command as the library completes it, and its arguments
@@ -29,25 +29,20 @@ has_fault (kind ∷ kinds) = true
 abbrev pub held_with : List Row → Option (Text × List Text) → Held
 held_with rows pending = record { rows = rows; pending = pending; skip = 0 }
 
--- whether the value of `--tick` is due
-abbrev pub waiting_at : Bool → Waiting
-waiting_at false = idle
-waiting_at true = option (codes "tick")
-
 -- ---- what a word is, before `--`
 
 -- a name, or a value
 pub record IsPlain (word : Text) : Type 0 where
   pub given : (words : List Text) → given_by (word ∷ words) ≡ option_map (with_name word) (given_by words)
   pub behind : (words : List Text) → given_behind_tick (word ∷ words) ≡ option_map (with_tick word) (given_by words)
-  pub met : (due : Bool) (place : ℕ) (held : Held) → word_met arguments [] false (waiting_at due) place word held ≡ plain_word arguments (waiting_at due) word held
-  pub passes : (due : Bool) (held : Held) → word_fault top [] false (waiting_at due) word held ≡ []
+  pub met : (waiting : Waiting) (place : ℕ) (held : Held) → word_met arguments [] false waiting place word held ≡ plain_word arguments waiting word held
+  pub passes : (waiting : Waiting) (held : Held) → word_fault top [] false waiting word held ≡ []
 
 -- no option that the program has
 pub record IsFaulty (word : Text) : Type 0 where
   pub given : (words : List Text) → given_by (word ∷ words) ≡ None
   pub behind : (words : List Text) → given_behind_tick (word ∷ words) ≡ None
-  pub fails : (due : Bool) (rows : List Row) (pending : Option (Text × List Text)) → has_fault (word_fault top [] false (waiting_at due) word (held_with rows pending)) ≡ true
+  pub fails : (waiting : Waiting) (rows : List Row) (pending : Option (Text × List Text)) → has_fault (word_fault top [] false waiting word (held_with rows pending)) ≡ true
 
 -- how a word looks
 pub data Look : Type 0 where
@@ -68,7 +63,7 @@ Looks faulty word = IsFaulty word
 
 -- ---- lists
 
-same-bytes : (xs ys : Text) → bytes_eq xs ys ≡ true → xs ≡ ys
+pub same-bytes : (xs ys : Text) → bytes_eq xs ys ≡ true → xs ≡ ys
 same-bytes xs ys h = search (rules, bytes_eq-Decides)
 
 abbrev is_equals : ℕ → Bool
@@ -166,9 +161,10 @@ short-is x xs other text = record {
     named : (rows : List Row) (pending : Option (Text × List Text)) → has_fault (flags_fault arguments false (length (x ∷ xs)) (x ∷ xs) 0 (held_with rows pending)) ≡ true
     named rows pending = ap (λ cs. has_fault (bundle_step_fault arguments false (slice_get cs 0) (x ∷ xs) 0 (held_with rows pending) (flags_fault arguments false (length xs)))) first.2
 
-    fails : (due : Bool) (rows : List Row) (pending : Option (Text × List Text)) → has_fault (word_fault top [] false (waiting_at due) (45 ∷ x ∷ xs) (held_with rows pending)) ≡ true
-    fails false rows pending = rw other (rw other (named rows pending))
-    fails true rows pending = rw other (rw other (named rows pending))
+    fails : (waiting : Waiting) (rows : List Row) (pending : Option (Text × List Text)) → has_fault (word_fault top [] false waiting (45 ∷ x ∷ xs) (held_with rows pending)) ≡ true
+    fails idle rows pending = rw other (rw other (named rows pending))
+    fails (option id) rows pending = rw other (rw other (named rows pending))
+    fails positional rows pending = rw other (rw other (named rows pending))
 
 -- two hyphens, and what follows them
 abbrev is_named : Text → Text → Bool
@@ -187,9 +183,10 @@ module _ (x : ℕ) (xs : Text) where
     fails = fails;
   }
     where
-      fails : (due : Bool) (rows : List Row) (pending : Option (Text × List Text)) → has_fault (word_fault top [] false (waiting_at due) (45 ∷ 45 ∷ x ∷ xs) (held_with rows pending)) ≡ true
-      fails false rows pending = rw (no_new, no_tick) refl
-      fails true rows pending = rw (no_new, no_tick) refl
+      fails : (waiting : Waiting) (rows : List Row) (pending : Option (Text × List Text)) → has_fault (word_fault top [] false waiting (45 ∷ 45 ∷ x ∷ xs) (held_with rows pending)) ≡ true
+      fails idle rows pending = rw (no_new, no_tick) refl
+      fails (option id) rows pending = rw (no_new, no_tick) refl
+      fails positional rows pending = rw (no_new, no_tick) refl
 
   -- `--new` with a value
   valued-is : is_named (codes "new") rest ≡ true → has_byte 61 rest ≡ true → IsFaulty (45 ∷ 45 ∷ x ∷ xs)
@@ -200,9 +197,10 @@ module _ (x : ℕ) (xs : Text) where
     fails = fails;
   }
     where
-      fails : (due : Bool) (rows : List Row) (pending : Option (Text × List Text)) → has_fault (word_fault top [] false (waiting_at due) (45 ∷ 45 ∷ x ∷ xs) (held_with rows pending)) ≡ true
-      fails false rows pending = rw (new, has) refl
-      fails true rows pending = rw (new, has) refl
+      fails : (waiting : Waiting) (rows : List Row) (pending : Option (Text × List Text)) → has_fault (word_fault top [] false waiting (45 ∷ 45 ∷ x ∷ xs) (held_with rows pending)) ≡ true
+      fails idle rows pending = rw (new, has) refl
+      fails (option id) rows pending = rw (new, has) refl
+      fails positional rows pending = rw (new, has) refl
 
   whole-name : (name : Text) → is_named name rest ≡ true → has_byte 61 rest ≡ false → 45 ∷ 45 ∷ x ∷ xs ≡ 45 ∷ 45 ∷ name
   whole-name name is has = ap (λ t. 45 ∷ 45 ∷ t) (sym (all-before rest has) ∙ sym (same-bytes name (before_first is_equals rest) is))
@@ -230,24 +228,28 @@ hyphens-are (x ∷ xs) = long-is x xs
 empty-is : IsPlain []
 empty-is = record { given = λ words. refl; behind = λ words. refl; met = met; passes = passes }
   where
-    met : (due : Bool) (place : ℕ) (held : Held) → word_met arguments [] false (waiting_at due) place [] held ≡ plain_word arguments (waiting_at due) [] held
-    met false place held = refl
-    met true place held = refl
+    met : (waiting : Waiting) (place : ℕ) (held : Held) → word_met arguments [] false waiting place [] held ≡ plain_word arguments waiting [] held
+    met idle place held = refl
+    met (option id) place held = refl
+    met positional place held = refl
 
-    passes : (due : Bool) (held : Held) → word_fault top [] false (waiting_at due) [] held ≡ []
-    passes false held = refl
-    passes true held = refl
+    passes : (waiting : Waiting) (held : Held) → word_fault top [] false waiting [] held ≡ []
+    passes idle held = refl
+    passes (option id) held = refl
+    passes positional held = refl
 
 lone-is : IsPlain (45 ∷ [])
 lone-is = record { given = λ words. refl; behind = λ words. refl; met = met; passes = passes }
   where
-    met : (due : Bool) (place : ℕ) (held : Held) → word_met arguments [] false (waiting_at due) place (45 ∷ []) held ≡ plain_word arguments (waiting_at due) (45 ∷ []) held
-    met false place held = refl
-    met true place held = refl
+    met : (waiting : Waiting) (place : ℕ) (held : Held) → word_met arguments [] false waiting place (45 ∷ []) held ≡ plain_word arguments waiting (45 ∷ []) held
+    met idle place held = refl
+    met (option id) place held = refl
+    met positional place held = refl
 
-    passes : (due : Bool) (held : Held) → word_fault top [] false (waiting_at due) (45 ∷ []) held ≡ []
-    passes false held = refl
-    passes true held = refl
+    passes : (waiting : Waiting) (held : Held) → word_fault top [] false waiting (45 ∷ []) held ≡ []
+    passes idle held = refl
+    passes (option id) held = refl
+    passes positional held = refl
 
 -- a word that begins with anything else
 plain-is : (x : ℕ) (xs : Text) → (x == 45) ≡ false → IsPlain (x ∷ xs)
@@ -262,13 +264,15 @@ plain-is x xs other = record {
     bare [] = refl
     bare (y ∷ ys) = two-or-more x y ys ∙ rw other refl
 
-    met : (due : Bool) (place : ℕ) (held : Held) → word_met arguments [] false (waiting_at due) place (x ∷ xs) held ≡ plain_word arguments (waiting_at due) (x ∷ xs) held
-    met false place held = rw other (rw other refl)
-    met true place held = rw other (rw other refl)
+    met : (waiting : Waiting) (place : ℕ) (held : Held) → word_met arguments [] false waiting place (x ∷ xs) held ≡ plain_word arguments waiting (x ∷ xs) held
+    met idle place held = rw other (rw other refl)
+    met (option id) place held = rw other (rw other refl)
+    met positional place held = rw other (rw other refl)
 
-    passes : (due : Bool) (held : Held) → word_fault top [] false (waiting_at due) (x ∷ xs) held ≡ []
-    passes false held = rw other (rw other refl)
-    passes true held = rw other (rw other refl)
+    passes : (waiting : Waiting) (held : Held) → word_fault top [] false waiting (x ∷ xs) held ≡ []
+    passes idle held = rw other (rw other refl)
+    passes (option id) held = rw other (rw other refl)
+    passes positional held = rw other (rw other refl)
 
 hyphen-is : (xs : Text) → IsUtf8 (45 ∷ xs) → (look : Look) × Looks look (45 ∷ xs)
 hyphen-is [] text = (plain, lone-is)

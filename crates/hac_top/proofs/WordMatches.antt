@@ -5,37 +5,53 @@ use Rattle.std.specs.Borrow.{Bor}
 use Rattle.std.specs.List.{AllByRecursion}
 use Rattle.std.specs.Str.{IsUtf8}
 use Rattle.std.proofs.lemmas.Str.{IsUtf8-string_bytes}
-use Rattle.hac_model.specs.Script.CommandLine.{Parsed, Options, asked_by, fresh_of, given_by, options, store_of, tick_of}
+use Rattle.hac_model.specs.Script.CommandLine.{Parsed, Options, Space, asked_by, fresh_of, given_by, options, spaces_of, store_of, tick_of}
 use Rattle.clap.specs.Values.{bool_text}
 use Rattle.clap.specs.Kinds.{Kinds}
 use Rattle.clap.specs.Faults.{fault_of}
 use Rattle.clap.specs.Simple.{App}
 use Rattle.clap.specs.Walk.{Row, Text, first_of, one_of}
-use Rattle.clap.specs.Words.{HasKind, HasMatchesOf, found_of, first_value, is_simple_and_free, kind_of, matches_of, one_text, rows_of}
+use Rattle.clap.specs.Words.{HasKind, HasMatchesOf, found_of, first_value, is_simple_and_free, kind_of, matched_of, matches_of, one_text, raw_values, rows_of}
 use Rattle.clap.specs.declared.error.Error.{Error}
 use Rattle.clap.specs.declared.parser.matches.ArgMatches.{ArgMatches}
-use Rattle.clap.proofs.WalkLemmas.{first_value-rows, one_text-rows}
+use Rattle.clap.proofs.WalkLemmas.{first_value-rows, one_text-rows, raw_values-rows}
 use Rattle.hac_top.specs.Words.{fault_by, hac, values_of}
 use Rattle.hac_top.specs.declared.words.WordsFault.{WordsFault}
 use Rattle.hac_top.specs.declared.words.WordsFault.TheVariants.{Memory, Usage}
 use Rattle.hac_top.proofs.WordLooks.{has_fault}
-use Rattle.hac_top.proofs.WordLemmas.{Finds, so_far, words-found}
+use Rattle.hac_top.proofs.WordLemmas.{Finds, so_far, texts_of, words-found}
 
 -- each word is text
 all-text : {Z : Type 0} (words : List (String Z)) → AllByRecursion IsUtf8 (map string_bytes words)
 all-text [] = tt
 all-text (word ∷ words) = (IsUtf8-string_bytes word, all-text words)
 
+-- the values of an argument, if it has any
+abbrev pub given_values : ArgMatches → Text → List Text
+given_values m id = unwrap_or (option_map raw_values (matched_of (found_of m) id)) []
+
+-- what a getter answers of them, or none in its place
+pub names-got : (m : ArgMatches) (got : Option (Bor (List (Bor Text)))) (given none : Bor (List (Bor Text)))
+    → option_map (λ texts. map (λ text. text.now) texts.now) got ≡ option_map raw_values (matched_of (found_of m) (codes "spaces")) → none.now ≡ [] → given ≡ unwrap_or got none
+    → map (λ text. text.now) given.now ≡ given_values m (codes "spaces")
+names-got m got given none gets empty is = ap (λ (texts : Bor (List (Bor Text))). map (λ text. text.now) texts.now) is ∙ by got ∙ ap (λ texts. unwrap_or texts []) gets
+  where
+    by : (o : Option (Bor (List (Bor Text)))) → map (λ text. text.now) (unwrap_or o none).now ≡ unwrap_or (option_map (λ texts. map (λ text. text.now) texts.now) o) []
+    by None = ap (map (λ text. text.now)) empty
+    by (Some texts) = refl
+
 -- what the words give is in the matches
 pub record IsFound (given : Option Parsed) (m : ArgMatches) : Type 0 where
   pub fresh : Bool
   pub tick : Option Text
   pub store : Text
-  pub given_is : given ≡ Some (so_far (if fresh then 1 else 0) (option_to_list tick) (store ∷ []))
+  pub spaces : List Text
+  pub given_is : given ≡ Some (so_far (if fresh then 1 else 0) (option_to_list tick) (store ∷ spaces))
   pub filled : nat_le 1 (length store) ≡ true
   pub new_is : one_text (found_of m) (codes "new") ≡ Some (bool_text fresh)
   pub tick_is : first_value (found_of m) (codes "tick") ≡ tick
   pub store_is : first_value (found_of m) (codes "store") ≡ Some store
+  pub spaces_are : given_values m (codes "spaces") ≡ spaces
 
 found-in : (given : Option Parsed) (kinds : Kinds) (rows : List Row) (m : ArgMatches) → Finds given kinds rows → kinds ≡ [] → rows_of (found_of m) ≡ rows → IsFound given m
 found-in given kinds rows m (inl (fails, none)) passes same = absurd (true≢false (sym fails ∙ ap has_fault passes))
@@ -43,11 +59,13 @@ found-in given kinds rows m (inr (free, found)) passes same = record {
   fresh = found.fresh;
   tick = found.tick;
   store = found.store;
+  spaces = found.spaces;
   given_is = found.given_is;
   filled = found.filled;
   new_is = one_text-rows (found_of m) (codes "new") ∙ ap (one_of (codes "new")) same ∙ found.new_is;
   tick_is = first_value-rows (found_of m) (codes "tick") ∙ ap (first_of (codes "tick")) same ∙ found.tick_is;
   store_is = first_value-rows (found_of m) (codes "store") ∙ ap (first_of (codes "store")) same ∙ found.store_is;
+  spaces_are = ap (λ values. unwrap_or values []) (raw_values-rows (found_of m) (codes "spaces")) ∙ ap (texts_of (codes "spaces")) same ∙ found.spaces_are;
 }
 
 pub found-in-matches : {Z : Type 0} (words : List (String Z)) (app : App) (m : ArgMatches) → app ≡ hac
@@ -78,22 +96,24 @@ none-by-error words app e is has usage =
     none-by (given_by texts) (fault_of hac texts) (matches_of hac texts) e (words-found texts (all-text words))
     (subst (λ a. is_simple_and_free a ≡ true → HasKind (fault_of a texts) e) is has refl) usage
 
--- what they ask for, by the number that `--tick` gives
-abbrev asked_with : Bool → Text → Option ℕ → Option Options
-asked_with fresh store = option_map (λ tick. record { fresh = fresh; tick = tick; store = store })
+-- what they ask for, by the number that `--tick` gives and by the spaces
+abbrev asked_with : Bool → Text → Option ℕ → Option (List Space) → Option Options
+asked_with fresh store tick spaces =
+    option_and_then (λ tick. option_map (λ spaces. record { fresh = fresh; tick = tick; store = store; spaces = spaces }) spaces) tick
 
-asked-is : (fresh : Bool) (tick : Option Text) (store : Text) → nat_le 1 (length store) ≡ true
-    → asked_by (so_far (if fresh then 1 else 0) (option_to_list tick) (store ∷ [])) ≡ asked_with fresh store (tick_of (option_to_list tick))
-asked-is fresh tick store filled = by fresh (tick_of (option_to_list tick))
+asked-is : (fresh : Bool) (tick : Option Text) (store : Text) (spaces : List Text) → nat_le 1 (length store) ≡ true
+    → asked_by (so_far (if fresh then 1 else 0) (option_to_list tick) (store ∷ spaces)) ≡ asked_with fresh store (tick_of (option_to_list tick)) (spaces_of spaces)
+asked-is fresh tick store spaces filled = by fresh (tick_of (option_to_list tick))
   where
-    number : (fresh : Bool) (tick : Option ℕ)
-        → option_and_then (λ tick. option_map (λ store. record { fresh = fresh; tick = tick; store = store }) (store_of (store ∷ []))) tick ≡ asked_with fresh store tick
+    rest_of : Bool → ℕ → Option Options
+    rest_of fresh tick =
+        option_and_then (λ store. option_map (λ spaces. record { fresh = fresh; tick = tick; store = store; spaces = spaces }) (spaces_of spaces)) (store_of (store ∷ spaces))
+
+    number : (fresh : Bool) (tick : Option ℕ) → option_and_then (rest_of fresh) tick ≡ asked_with fresh store tick (spaces_of spaces)
     number fresh None = refl
     number fresh (Some tick) = rw filled refl
 
-    by : (fresh : Bool) (tick : Option ℕ)
-        → option_and_then (λ fresh. option_and_then (λ tick. option_map (λ store. record { fresh = fresh; tick = tick; store = store }) (store_of (store ∷ []))) tick) (fresh_of (if fresh then 1 else 0))
-        ≡ asked_with fresh store tick
+    by : (fresh : Bool) (tick : Option ℕ) → option_and_then (λ fresh. option_and_then (rest_of fresh) tick) (fresh_of (if fresh then 1 else 0)) ≡ asked_with fresh store tick (spaces_of spaces)
     by true tick = number true tick
     by false tick = number false tick
 
@@ -101,18 +121,30 @@ values-are : (got : Option (Bor Text)) → values_of got ≡ option_to_list (opt
 values-are None = refl
 values-are (Some text) = refl
 
+none-behind : {T U : Type 0} (o : Option T) (f : T → Option U) → ((x : T) → f x ≡ None) → option_and_then f o ≡ None
+none-behind None f none = refl
+none-behind (Some x) f none = none x
+
 -- and in what the getters of the matches answer
 module _ {Z : Type 0} (words : List (String Z)) (m : ArgMatches) (has : IsFound (given_by (map string_bytes words)) m) where
+  abbrev named : Option (List Space)
+  named = spaces_of (given_values m (codes "spaces"))
+
   asked-with : (got : Option (Bor Text)) → option_map (λ text. text.now) got ≡ first_value (found_of m) (codes "tick")
-      → options (map string_bytes words) ≡ asked_with has.fresh has.store (tick_of (values_of got))
+      → options (map string_bytes words) ≡ asked_with has.fresh has.store (tick_of (values_of got)) named
   unfolding options
   asked-with got gets =
-      ap (option_and_then asked_by) has.given_is ∙ asked-is has.fresh has.tick has.store has.filled
-      ∙ ap (λ values. asked_with has.fresh has.store (tick_of values)) (sym (values-are got ∙ ap option_to_list (gets ∙ has.tick_is)))
+      ap (option_and_then asked_by) has.given_is ∙ asked-is has.fresh has.tick has.store has.spaces has.filled
+      ∙ ap₂ (λ values spaces. asked_with has.fresh has.store (tick_of values) (spaces_of spaces)) (sym (values-are got ∙ ap option_to_list (gets ∙ has.tick_is))) (sym has.spaces_are)
 
   -- the value of `--tick` is no number that it takes
   pub none-by-tick : (got : Option (Bor Text)) → option_map (λ text. text.now) got ≡ first_value (found_of m) (codes "tick") → tick_of (values_of got) ≡ None → options (map string_bytes words) ≡ None
-  none-by-tick got gets none = asked-with got gets ∙ ap (asked_with has.fresh has.store) none
+  none-by-tick got gets none = asked-with got gets ∙ ap (λ tick. asked_with has.fresh has.store tick named) none
+
+  -- some name behind the store's is that of no space, or they may not stand together
+  pub none-by-spaces : (got : Option (Bor Text)) → option_map (λ text. text.now) got ≡ first_value (found_of m) (codes "tick") → named ≡ None → options (map string_bytes words) ≡ None
+  none-by-spaces got gets none =
+      asked-with got gets ∙ ap (asked_with has.fresh has.store (tick_of (values_of got))) none ∙ none-behind (tick_of (values_of got)) _ (λ tick. refl)
 
   module _ (got : Option (Bor Text)) (gets : option_map (λ text. text.now) got ≡ first_value (found_of m) (codes "store")) where
     pub store-got : IsSome got
@@ -122,13 +154,14 @@ module _ {Z : Type 0} (words : List (String Z)) (m : ArgMatches) (has : IsFound 
         by None same = absurd (true≢false (sym (ap is_some same)))
         by (Some text) same = refl
 
-    pub got-is : (number : ℕ) (given : Option (Bor Text)) (text : Bor Text) (flag : Bool) → option_map (λ text. text.now) given ≡ first_value (found_of m) (codes "tick") → Some number ≡ tick_of (values_of given)
+    pub got-is : (number : ℕ) (given : Option (Bor Text)) (text : Bor Text) (flag : Bool) (spaces : List Space)
+        → option_map (λ text. text.now) given ≡ first_value (found_of m) (codes "tick") → Some number ≡ tick_of (values_of given) → named ≡ Some spaces
         → got ≡ Some text → (one_text (found_of m) (codes "new") ≡ Some (codes "true") → flag ≡ true) → (one_text (found_of m) (codes "new") ≡ Some (codes "false") → flag ≡ false)
-        → options (map string_bytes words) ≡ Some (record { fresh = flag; tick = number; store = text.now })
-    got-is number given text flag gives number_is one on off =
-        let named : text.now ≡ has.store = ap (λ (o : Option Text). unwrap_or o []) (sym (ap (option_map (λ (t : Bor Text). t.now)) one) ∙ gets ∙ has.store_is) in
-        asked-with given gives ∙ ap (asked_with has.fresh has.store) (sym number_is)
-        ∙ ap₂ (λ (f : Bool) (t : Text). Some (record { fresh = f; tick = number; store = t })) (sym (flag-is has.fresh has.new_is)) (sym named)
+        → options (map string_bytes words) ≡ Some (record { fresh = flag; tick = number; store = text.now; spaces = spaces })
+    got-is number given text flag spaces gives number_is spaces_are one on off =
+        let store_is : text.now ≡ has.store = ap (λ (o : Option Text). unwrap_or o []) (sym (ap (option_map (λ (t : Bor Text). t.now)) one) ∙ gets ∙ has.store_is) in
+        asked-with given gives ∙ ap₂ (asked_with has.fresh has.store) (sym number_is) spaces_are
+        ∙ ap₂ (λ (f : Bool) (t : Text). Some (record { fresh = f; tick = number; store = t; spaces = spaces })) (sym (flag-is has.fresh has.new_is)) (sym store_is)
       where
         flag-is : (b : Bool) → one_text (found_of m) (codes "new") ≡ Some (bool_text b) → flag ≡ b
         flag-is true same = on same

@@ -33,7 +33,7 @@ outside source sink = record { source = source; sink = sink }
 
 -- what is written where the words of the program are none that it takes
 abbrev pub usage_line : List ℕ
-usage_line = ended (codes "usage: hac [--new] [--tick N] STORE")
+usage_line = ended (codes "usage: hac [--new] [--tick N] STORE [NAME=FILE]...")
 
 -- known bytes grow by some beginning of these bytes
 abbrev pub AppendsSome : Option (List ℕ) → Option (List ℕ) → List ℕ → Type 0

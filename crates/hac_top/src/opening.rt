@@ -22,11 +22,11 @@ use std::alloc::Global;
 /// Attaches the file of a store, and opens the store that it holds, or makes a new one.
 pub fn open_store<D: Disk>(
     alloc: Global,
-    options: Options<'_>,
+    options: &Options<'_>,
     disk: &mut D,
 ) -> Result<Store, Status>
     ensures opened { IfSome (D.seen disk.old) (λ file. IsOpened result
-        (opening_outcome options.entry.fresh (held file))) }
+        (opening_outcome options.now.fresh (held file))) }
     ensures intact { IfOk result (λ store. store.broken ≡ false) }
     ensures place { IfOk result (λ store. Bears (D.seen disk.new) store) }
     ensures stands { IfSome (D.seen disk.old) (λ _. IfOk result
@@ -35,20 +35,20 @@ pub fn open_store<D: Disk>(
 
     // At each moment a crash leaves the store as it was, or the root alone, or no store yet.
     ensures any_moment { IfSome (D.seen disk.old) (λ file. IfOk
-        (opening_outcome options.entry.fresh (held file))
+        (opening_outcome options.now.fresh (held file))
         (λ setting. IsSettled (D.seen disk.old) (D.image disk.old) →
         LeavesOnly D.moment D.image_since disk.old disk.new
-        (Reopens options.entry.fresh (λ s. s ≡ stored setting.state)))) }
+        (Reopens options.now.fresh (λ s. s ≡ stored setting.state)))) }
 
     // Where the file holds no store, or one that is in the way, nothing is written.
     ensures quiet { IfSome (D.seen disk.old) (λ file. IfErr
-        (opening_outcome options.entry.fresh (held file))
+        (opening_outcome options.now.fresh (held file))
         (λ _. IsQuiet D.seen D.image D.moment D.image_since disk.old disk.new)) }
 
-    ensures attached { MayAttach (D.attached disk.old) (asked_of options.entry)
+    ensures attached { MayAttach (D.attached disk.old) (asked_of options.now)
         (D.attached disk.new) }
     ensures attaches { (result ≡ Err Status.DiskFault → ⊥) →
-        AttachesStore (D.attached disk.old) (asked_of options.entry) (D.attached disk.new) }
+        AttachesStore (D.attached disk.old) (asked_of options.now) (D.attached disk.new) }
     ensures faults { ReportsFault (reports_disk result) (D.faults disk.old) (D.faults disk.new) }
 {
     if disk.attach(options.store, options.fresh).is_err() {

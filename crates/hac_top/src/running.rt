@@ -28,8 +28,8 @@ use std::alloc::Global;
 /// Opens the store that the words name, plays the script that the source gives, and writes the
 /// reply to each command to the sink.
 ///
-/// `words` are those of the program behind its own name: `[--new] [--tick N] STORE`. The disk is
-/// bound to the file STORE, which is made where it is missing and `--new` is given. The source is
+/// `words` are those of the program behind its own name: `[--new] [--tick N] STORE [NAME=FILE]...`.
+/// The disk is bound to the file STORE, which is made where it is missing and `--new` is given. The source is
 /// read in pieces, and no line is carried out before the reply to the line before it was written
 /// and flushed; what a line changes is stored before its reply is written. Behind each reply up to
 /// N index steps follow. A `put` is carried out with the bytes that follow its line.
@@ -90,7 +90,7 @@ pub fn run<S: Source, K: Sink, D: Disk>(
         Err(WordsFault::Usage) => return write_usage(output),
         Err(WordsFault::Memory) => return Status::Memory,
     };
-    match open_store(alloc, options, disk) {
+    match open_store(alloc, &options, disk) {
         Ok(store) => play_store(alloc, store, options.tick, input, output, disk),
         Err(status) => status,
     }
@@ -105,7 +105,7 @@ fn write_usage<K: Sink>(output: &mut K) -> Status
     ensures faults { ReportsFault (is_write_fault result) (K.seen output.old).faults
         (K.seen output.new).faults }
 {
-    match write_now(output, b"usage: hac [--new] [--tick N] STORE\n") {
+    match write_now(output, b"usage: hac [--new] [--tick N] STORE [NAME=FILE]...\n") {
         Ok(()) => Status::Usage,
         Err(_) => Status::WriteFault,
     }

@@ -1,18 +1,23 @@
-//! Reading the words of the program: the name of its store, whether that is to be a new one, and
-//! how many files may be indexed behind each command. It knows no device.
+//! Reading the words of the program: the name of its store, whether that is to be a new one, how
+//! many files may be indexed behind each command, and which spaces there are. It knows no device.
 ghost use Rattle.std.specs.Prelude.{◌≡◌, IfErr, IfOk, Some, None, map, string_bytes};
+ghost use Rattle.std.specs.List.{list_any};
+ghost use Rattle.std.specs.Str.{bytes_eq};
 ghost use Rattle.clap.specs.Words.{app_of};
-ghost use Rattle.hac_model.specs.Script.CommandLine.{options, tick_of};
-ghost use Rattle.hac_top.specs.Words.{asked_of, hac, values_of};
+ghost use Rattle.hac_model.specs.Script.CommandLine.{each_space, may_stand, names_differ};
+ghost use Rattle.hac_model.specs.Script.CommandLine.{options, space_of, spaces_of, tick_of};
+ghost use Rattle.hac_top.specs.Words.{asked_of, hac, space_asked, spaces_asked, values_of};
 
 use clap::builder::ValueParser;
 use clap::error::ErrorKind;
 use clap::{Arg, ArgAction, Command};
+use hac_model::{Name, SPACES_LIMIT};
+use hac_names::is_space_name;
 use shell_lang::steps_of;
 use std::alloc::{AllocError, Global};
 
 /// What the words ask for.
-#[derive(Clone, Copy, Debug)]
+#[derive(Debug, Drop)]
 pub(crate) struct Options<'a> {
     /// The store is to be a new one.
     pub(crate) fresh: bool,
@@ -20,6 +25,17 @@ pub(crate) struct Options<'a> {
     pub(crate) tick: u64,
     /// The name of its file.
     pub(crate) store: &'a str,
+    /// The spaces, in the order of the words. No two have the same name.
+    pub(crate) spaces: Vec<SpaceFile<'a>>,
+}
+
+/// A space that the words name.
+#[derive(Debug, Drop)]
+pub(crate) struct SpaceFile<'a> {
+    /// Its name.
+    pub(crate) name: Name,
+    /// The file of its documents.
+    pub(crate) file: &'a str,
 }
 
 /// Why the words aren't read.
@@ -68,11 +84,16 @@ pub(crate) fn read_words(alloc: Global, words: &[String]) -> Result<Options<'_>,
     let Some(tick) = tick_of(matches.get_str("tick")) else {
         return Err(WordsFault::Usage);
     };
-    Ok(Options {
-        fresh: matches.get_flag("new"),
-        tick,
-        store: matches.get_str("store").unwrap(),
-    })
+    let names = matches.get_raw("spaces").unwrap_or(&[]);
+    match spaces_of(alloc, names) {
+        Ok(spaces) => Ok(Options {
+            fresh: matches.get_flag("new"),
+            tick,
+            store: matches.get_str("store").unwrap(),
+            spaces,
+        }),
+        Err(fault) => Err(fault),
+    }
 }
 
 /// The number that `--tick` gives. The numbers of the library may begin with `+` or with zeros, and
@@ -86,6 +107,83 @@ fn tick_of(value: Option<&str>) -> Option<u64>
     }
 }
 
+/// The spaces that words name, unless there are too many or two of them have the same name.
+fn spaces_of<'a>(alloc: Global, words: &[&'a str]) -> Result<Vec<SpaceFile<'a>>, WordsFault>
+    ensures read { IfOk result (λ spaces. spaces_of (map (λ word. word.now) words.now)
+        ≡ Some (spaces_asked spaces.items)) }
+    ensures usage { IfErr result (λ fault. fault ≡ WordsFault.Usage
+        → spaces_of (map (λ word. word.now) words.now) ≡ None) }
+{
+    match each_space(alloc, words) {
+        Ok(spaces) if may_stand(&spaces) => Ok(spaces),
+        Ok(_) => Err(WordsFault::Usage),
+        Err(fault) => Err(fault),
+    }
+}
+
+/// The space of each word.
+fn each_space<'a>(alloc: Global, words: &[&'a str]) -> Result<Vec<SpaceFile<'a>>, WordsFault>
+    ensures read { IfOk result (λ spaces. each_space (map (λ word. word.now) words.now)
+        ≡ Some (spaces_asked spaces.items)) }
+    ensures usage { IfErr result (λ fault. fault ≡ WordsFault.Usage
+        → each_space (map (λ word. word.now) words.now) ≡ None) }
+{
+    let mut spaces = Vec::new(alloc);
+    for word in words {
+        match space_of(alloc, word) {
+            Ok(space) => {
+                if spaces.push(space).is_err() {
+                    return Err(WordsFault::Memory);
+                }
+            }
+            Err(fault) => return Err(fault),
+        }
+    }
+    Ok(spaces)
+}
+
+/// The space of a word. Its name stands before the first `=` and its file behind that, which may
+/// hold more of them.
+fn space_of<'a>(alloc: Global, word: &'a str) -> Result<SpaceFile<'a>, WordsFault>
+    ensures read { IfOk result (λ space. space_of word.now ≡ Some (space_asked space)) }
+    ensures usage { IfErr result (λ fault. fault ≡ WordsFault.Usage → space_of word.now ≡ None) }
+{
+    let Some((name, file)) = word.split_once('=') else {
+        return Err(WordsFault::Usage);
+    };
+    if !is_space_name(name.as_bytes()) || file.is_empty() {
+        return Err(WordsFault::Usage);
+    }
+    let name = Name::new(name.as_bytes().to_vec(alloc)?);
+    Ok(SpaceFile { name, file })
+}
+
+/// Whether the spaces are few enough, and their names differ.
+fn may_stand(spaces: &[SpaceFile<'_>]) -> bool
+    ensures { result ≡ may_stand (spaces_asked spaces.now) }
+{
+    spaces.len() <= SPACES_LIMIT && names_differ(spaces)
+}
+
+/// Whether no two of the spaces have the same name.
+fn names_differ(spaces: &[SpaceFile<'_>]) -> bool
+    ensures { result ≡ names_differ (map (λ space. space.name) spaces.now) }
+{
+    for at in 0..spaces.len() {
+        if is_named(&spaces[at + 1..], &spaces[at].name) {
+            return false;
+        }
+    }
+    true
+}
+
+/// Whether one of the spaces has the name.
+fn is_named(spaces: &[SpaceFile<'_>], name: &Name) -> bool
+    ensures { result ≡ list_any (λ space. bytes_eq name.now space.name) spaces.now }
+{
+    spaces.iter().any(|space| *name == space.name)
+}
+
 /// The command line, as the library reads it.
 fn command<'a>(alloc: Global) -> Result<Command<'a>, AllocError>
     ensures { IfOk result (λ command. app_of command ≡ hac) }
@@ -97,10 +195,12 @@ fn command<'a>(alloc: Global) -> Result<Command<'a>, AllocError>
     let store = Arg::new(alloc, "store")
         .value_parser(ValueParser::NonEmptyString)
         .required(true);
+    let spaces = Arg::new(alloc, "spaces").action(ArgAction::Append);
     Command::new(alloc, "hac")
         .no_binary_name(true)
         .disable_help_flag(true)
         .arg(fresh)?
         .arg(tick)?
-        .arg(store)
+        .arg(store)?
+        .arg(spaces)
 }

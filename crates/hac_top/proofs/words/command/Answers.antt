@@ -3,7 +3,7 @@ use Rattle.clap.specs.Simple.{App}
 use Rattle.clap.specs.Words.{AddsArg, Rule, app_of, rule_of, with_rule}
 use Rattle.clap.specs.declared.builder.arg.Arg.{Arg}
 use Rattle.clap.specs.declared.builder.command.Command.{Command}
-use Rattle.hac_top.specs.Words.{bare, new_option, store_name, tick_option}
+use Rattle.hac_top.specs.Words.{bare, new_option, space_names, store_name, tick_option}
 use Rattle.hac_top.proofs.words.command.Goals as goal
 
 -- a command with one more argument
@@ -19,4 +19,5 @@ pub returns : goal.returns
 returns c =
     let first = with-one c.disable_help_flag.result c.in_ok-arg.field-0 c.action-fresh.result bare new_option c.in_ok-arg.ensures (search rules) (search rules) (search rules) in
     let second = with-one c.in_ok-arg.field-0 c.in_ok-arg-2.field-0 c.long-tick.result (with_rule bare new_option) tick_option c.in_ok-arg-2.ensures (search rules) first (search rules) in
-    with-last c.in_ok-arg-2.field-0 c.arg-3.result c.required-store.result (with_rule (with_rule bare new_option) tick_option) store_name c.arg-3.ensures (search rules) second (search rules)
+    let third = with-one c.in_ok-arg-2.field-0 c.in_ok-arg-3.field-0 c.required-store.result (with_rule (with_rule bare new_option) tick_option) store_name c.in_ok-arg-3.ensures (search rules) second (search rules) in
+    with-last c.in_ok-arg-3.field-0 c.arg-4.result c.action-spaces.result (with_rule (with_rule (with_rule bare new_option) tick_option) store_name) space_names c.arg-4.ensures (search rules) third (search rules)
