@@ -454,6 +454,16 @@ def unspelled(spelled: bytes) -> bytes:
     return _ESCAPE.sub(lambda found: bytes([int(found[1], 16)]) if found[1] else _ESCAPED[found[2]], spelled)
 
 
+_TO_SPELL = re.compile(rb"[\x00-\x1f\x7f\\]")
+_SPELLED = {bytes([byte]): b"\\x%02x" % byte for byte in (*range(32), 127)}
+_SPELLED.update((meant, b"\\" + escape) for escape, meant in _ESCAPED.items())
+
+
+def spelled(text: bytes) -> bytes:
+    """A text on one line, as `cat` shows it and `write` takes it."""
+    return _TO_SPELL.sub(lambda found: _SPELLED[found[0]], text)
+
+
 def shown(name: bytes) -> str:
     """A name as a person may see it: bytes and signs that a terminal might obey are spelled out."""
     text = name.decode("utf-8", "backslashreplace")
@@ -517,8 +527,14 @@ class Progress:
         self._width = len(line)
 
 
-def run_tool(tool: str, main: Callable[[], int]) -> NoReturn:
-    """Runs a tool and ends with its status: 0 well, 1 with something refused, as hac did where that ended."""
+_GOES_ON = "stopped; what was done is in the store, and the next run goes on"
+
+
+def run_tool(tool: str, main: Callable[[], int], stopped: str = _GOES_ON) -> NoReturn:
+    """Runs a tool and ends with its status: 0 well, 1 with something refused, as hac did where that ended.
+
+    `stopped` is what a user who stopped it should know.
+    """
     for stream in (sys.stdout, sys.stderr):
         stream.reconfigure(errors="backslashreplace")
     try:
@@ -528,7 +544,7 @@ def run_tool(tool: str, main: Callable[[], int]) -> NoReturn:
         print(f"{tool}: {error}", file=sys.stderr)
         status = error.status
     except KeyboardInterrupt:
-        print(f"\n{tool}: stopped; what was done is in the store, and the next run goes on", file=sys.stderr)
+        print(f"\n{tool}: {stopped}", file=sys.stderr)
         status = 128 + signal.SIGINT
     except BrokenPipeError:
         # Nobody reads on. What is left in the buffer must not raise this again at the end.

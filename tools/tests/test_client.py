@@ -22,6 +22,7 @@ from hac_client import (
     name_fault,
     names_of,
     shown,
+    spelled,
     unspelled,
     word,
 )
@@ -34,6 +35,9 @@ class Spelling(unittest.TestCase):
     def test_texts(self) -> None:
         self.assertEqual(unspelled(b"a\\nb\\tc"), b"a\nb\tc")
         self.assertEqual(unspelled(b"\\\\n\\x00\\x7f\xff\\n"), b"\\n\0\x7f\xff\n")
+        self.assertEqual(spelled(b"\\n\0\x1f\x7f\x80\xff\n\t\r a"), b"\\\\n\\x00\\x1f\\x7f\x80\xff\\n\\t\\x0d a")
+        every = bytes(range(256))
+        self.assertEqual(unspelled(spelled(every)), every)
 
     def test_lines_without_a_reply(self) -> None:
         for line in (b"", b"   ", b"#", b"# x"):

@@ -12,7 +12,7 @@ import unittest
 
 from tests.support import HAC, TOOLS, ToolTest
 
-NAMES = ("hac-shell", "hac-sync", "hac-mail", "hac-view")
+NAMES = ("hac-shell", "hac-sync", "hac-mail", "hac-view", "hac-catalogue")
 
 
 class Pages(unittest.TestCase):
