@@ -12,10 +12,10 @@ import signal
 import subprocess
 import unittest
 from pathlib import Path
-from typing import Dict, List, Tuple
+from typing import Dict, List, Optional, Tuple, Union
 from unittest.mock import patch
 
-from tests.support import TOOLS, Run, ToolTest, load
+from tests.support import TOOLS, ToolTest, load
 
 tool = load("hac-catalogue")
 
@@ -57,7 +57,7 @@ def is_name(name: bytes) -> bool:
     return all(byte >= 32 and byte != 127 and byte != ord("/") for byte in name)
 
 
-def text_of(spelled: bytes) -> "bytes | None":
+def text_of(spelled: bytes) -> Optional[bytes]:
     """The text with such escapes, or none where one is bad."""
     pieces = spelled.split(b"\\")
     text = bytearray(pieces[0])
@@ -220,7 +220,8 @@ class Mailboxes(CatalogueTest):
     def test_long_texts_are_cut_and_told(self) -> None:
         html = b"Subject: page\nContent-Type: text/html\n\nwords<!--" + b"x" * 8_400_000 + b"-->end\n"
         documents, told = self.written(self.box(
-            b"Subject: long\n\n" + "ä".encode() * 600_000, b"Subject: x\n\nshort", html, b"Subject: fits\n\n" + b"\\" * 1_048_560
+            b"Subject: long\n\n" + "ä".encode() * 600_000, b"Subject: x\n\nshort", html,
+            b"Subject: fits\n\n" + b"\\" * 1_048_560,
         ))
         self.assertEqual(len(documents["undated long"].encode()), 1_048_575)
         self.assertEqual(documents["undated long"], "Subject: long\n\n" + "ä" * 524_280)
@@ -286,7 +287,7 @@ class Mailboxes(CatalogueTest):
 
 
 class Tables(CatalogueTest):
-    def table(self, content: "str | bytes", name: str = "table.csv") -> Path:
+    def table(self, content: Union[str, bytes], name: str = "table.csv") -> Path:
         path = self.made / name
         path.write_bytes(content if isinstance(content, bytes) else content.encode())
         return path
@@ -397,7 +398,7 @@ class Tables(CatalogueTest):
 
     def test_any_bytes_become_a_catalogue_or_a_fault(self) -> None:
         chance = random.Random(11)
-        pieces = [b",", b",", b"\n", b"\r\n", b"\r", b'"', b'""', b"a", b"b/c", b" ", b"\\", b"\0", b"\x1f", b"\xff", b"\xc3\xa4"]
+        pieces = [b",", b",", b"\n", b"\r\n", b"\r", b'"', b'""', b"a", b"b/c", b" ", b"\\", b"\0", b"\x1f", b"\xff", b"\xc3"]
         written = 0
         for _ in range(1000):
             table = self.table(b"n,t\n" + b"".join(chance.choices(pieces, k=chance.randrange(40))))
