@@ -4,7 +4,7 @@ use Rattle.std.specs.Prelude.{Some, None, not, nat_le, nat_lt, filter}
 use Rattle.std.proofs.lemmas.Bool.Decides.{nat_tests}
 use Rattle.hac_model.specs.Tree.Events.{added, changed_in, changed_at, edited, removed, reseated}
 use Rattle.hac_model.specs.Tree.Limits.{are_paths_short, counts, long_paths, passed_limit, file_bytes}
-use Rattle.hac_model.specs.Tree.{entry_at, is_directory, is_directory_at, is_dirty, is_file, is_symlink, path_of}
+use Rattle.hac_model.specs.Tree.{entry_at, is_directory, is_directory_at, is_dirty, is_file, is_linkable, is_mount, is_symlink, path_of}
 use Rattle.hac_model.specs.Tree.Valid.{IsLayout}
 use Rattle.hac_model.specs.declared.counts.Counts.{Counts}
 use Rattle.hac_model.specs.declared.limits.TheConstants.{PATH_LIMIT}
@@ -27,8 +27,10 @@ tally es long next = record {
   bytes = measured file_bytes es;
   directories = measured (one_if is_directory) es + 1;
   semantics = measured (one_if is_queried) es;
+  mounts = measured (one_if is_mount) es;
   symlinks = measured (one_if is_symlink) es;
   files = measured (one_if is_file) es;
+  items = measured (one_if is_linkable) es;
   dirty = measured (one_if is_dirty) es;
   long_paths = long;
   next = next;
@@ -49,8 +51,10 @@ module _ (s : State) (h : IsLayout s) where
     bytes = measured-added file_bytes s.entries (new_entry s dir name new) i;
     directories = more i;
     semantics = measured-added (one_if is_queried) s.entries (new_entry s dir name new) i;
+    mounts = measured-added (one_if is_mount) s.entries (new_entry s dir name new) i;
     symlinks = measured-added (one_if is_symlink) s.entries (new_entry s dir name new) i;
     files = measured-added (one_if is_file) s.entries (new_entry s dir name new) i;
+    items = measured-added (one_if is_linkable) s.entries (new_entry s dir name new) i;
     dirty = measured-added (one_if is_dirty) s.entries (new_entry s dir name new) i;
     long_paths = longs i;
     next = s.next + 1;
@@ -74,8 +78,10 @@ module _ (s : State) (h : IsLayout s) where
         bytes = gone file_bytes i;
         directories = less i;
         semantics = gone (one_if is_queried) i;
+        mounts = gone (one_if is_mount) i;
         symlinks = gone (one_if is_symlink) i;
         files = gone (one_if is_file) i;
+        items = gone (one_if is_linkable) i;
         dirty = gone (one_if is_dirty) i;
         long_paths = same_long i;
         next = same_next i;
@@ -102,8 +108,10 @@ module _ (s : State) (h : IsLayout s) where
       bytes = new file_bytes i;
       directories = other i;
       semantics = new (one_if is_queried) i;
+      mounts = new (one_if is_mount) i;
       symlinks = new (one_if is_symlink) i;
       files = new (one_if is_file) i;
+      items = new (one_if is_linkable) i;
       dirty = new (one_if is_dirty) i;
       long_paths = cond {A = ℕ} (paths-edited s.entries n edit i) 0 1 + 0;
       next = s.next + 0;
@@ -122,8 +130,10 @@ counts-reseated s n dir name long told = λ i. record {
   bytes = measured-reseated file_bytes s n dir name i;
   directories = measured-reseated (one_if is_directory) s n dir name i + 1;
   semantics = measured-reseated (one_if is_queried) s n dir name i;
+  mounts = measured-reseated (one_if is_mount) s n dir name i;
   symlinks = measured-reseated (one_if is_symlink) s n dir name i;
   files = measured-reseated (one_if is_file) s n dir name i;
+  items = measured-reseated (one_if is_linkable) s n dir name i;
   dirty = measured-reseated (one_if is_dirty) s n dir name i;
   long_paths = told i;
   next = s.next;
@@ -137,8 +147,10 @@ part-replaced all new old (rest, sum) = (
     bytes = turned rest.bytes old.bytes new.bytes i;
     directories = turned rest.directories old.directories new.directories i;
     semantics = turned rest.semantics old.semantics new.semantics i;
+    mounts = turned rest.mounts old.mounts new.mounts i;
     symlinks = turned rest.symlinks old.symlinks new.symlinks i;
     files = turned rest.files old.files new.files i;
+    items = turned rest.items old.items new.items i;
     dirty = turned rest.dirty old.dirty new.dirty i;
     long_paths = turned rest.long_paths old.long_paths new.long_paths i;
     next = turned rest.next old.next new.next i;
@@ -153,12 +165,14 @@ same-part a b part same =
     let bytes : a.bytes ≡ b.bytes = omega (arith, ap (λ (c : Counts). c.bytes) same) in
     let directories : a.directories ≡ b.directories = omega (arith, ap (λ (c : Counts). c.directories) same) in
     let semantics : a.semantics ≡ b.semantics = omega (arith, ap (λ (c : Counts). c.semantics) same) in
+    let mounts : a.mounts ≡ b.mounts = omega (arith, ap (λ (c : Counts). c.mounts) same) in
     let symlinks : a.symlinks ≡ b.symlinks = omega (arith, ap (λ (c : Counts). c.symlinks) same) in
     let files : a.files ≡ b.files = omega (arith, ap (λ (c : Counts). c.files) same) in
+    let items : a.items ≡ b.items = omega (arith, ap (λ (c : Counts). c.items) same) in
     let dirty : a.dirty ≡ b.dirty = omega (arith, ap (λ (c : Counts). c.dirty) same) in
     let long_paths : a.long_paths ≡ b.long_paths = omega (arith, ap (λ (c : Counts). c.long_paths) same) in
     let next : a.next ≡ b.next = omega (arith, ap (λ (c : Counts). c.next) same) in
-    λ i. record { bytes = bytes i; directories = directories i; semantics = semantics i; symlinks = symlinks i; files = files i; dirty = dirty i; long_paths = long_paths i; next = next i }
+    λ i. record { bytes = bytes i; directories = directories i; semantics = semantics i; mounts = mounts i; symlinks = symlinks i; files = files i; items = items i; dirty = dirty i; long_paths = long_paths i; next = next i }
 
 -- a file that is dirty is a file
 dirty-few : (es : List Entry) → measured (one_if is_dirty) es ≤ measured (one_if is_file) es
@@ -167,6 +181,15 @@ dirty-few (e ∷ es) = omega (arith, measured-cons (one_if is_dirty) e es, measu
   where
     head : (b : Body) → one_if is_dirty b ≤ one_if is_file b
     head (body.File text dirty shown) = elim dirty as (λ d. cond {A = ℕ} d 1 0 ≤ 1) [ true ↦ omega arith | false ↦ omega arith ]
+    head other = omega arith
+
+-- a file is an item
+files-few : (es : List Entry) → measured (one_if is_file) es ≤ measured (one_if is_linkable) es
+files-few [] = omega arith
+files-few (e ∷ es) = omega (arith, measured-cons (one_if is_file) e es, measured-cons (one_if is_linkable) e es, head e.body, files-few es)
+  where
+    head : (b : Body) → one_if is_file b ≤ one_if is_linkable b
+    head (body.File text dirty shown) = omega arith
     head other = omega arith
 
 -- What a layout holds can be counted on.
@@ -179,8 +202,10 @@ counts-small s h =
       directories_are = grind (arith, nat_tests, within.dirs);
       semantics_are = grind (arith, nat_tests, within.semantics);
       symlinks_are = grind (arith, nat_tests, within.symlinks);
-      files_are = grind (arith, nat_tests, within.items);
-      dirty_are = grind (arith, nat_tests, within.items, dirty-few s.entries);
+      mounts_are = grind (arith, nat_tests, within.mounts);
+      files_are = grind (arith, nat_tests, within.items, files-few s.entries);
+      items_are = grind (arith, nat_tests, within.items);
+      dirty_are = grind (arith, nat_tests, within.items, files-few s.entries, dirty-few s.entries);
       long_paths_are = omega (arith, long-none s h.limits);
       next_is = grind (arith, nat_tests, within.numbers);
     }

@@ -85,6 +85,8 @@ dirty-added s dir name b n h = ap (λ (t : Bool). is_dirty_at s.entries n || t) 
     awaits new.Dir = refl
     awaits (new.Symlink target) = refl
     awaits (new.Semantic query) = refl
+    awaits (new.Mount space) = refl
+    awaits new.Document = refl
 
 -- after a change of one entry
 dirty-changed : (s : State) (k : ℕ) (change : Entry → Entry) (n : ℕ) → ((e : Entry) → (change e).number ≡ e.number) →

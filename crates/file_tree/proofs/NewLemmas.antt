@@ -72,3 +72,5 @@ spare-new dir (new.File text) nodes next spare has = has
 spare-new dir new.Dir nodes next spare has = has
 spare-new dir (new.Symlink target) nodes next spare has = has
 spare-new dir (new.Semantic query) nodes next spare has = has
+spare-new dir (new.Mount space) nodes next spare has = has
+spare-new dir new.Document nodes next spare has = has

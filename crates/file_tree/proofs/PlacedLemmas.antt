@@ -1,12 +1,13 @@
 -- The counts of a state after events whose references are in it.
 use Rattle.std.proofs.Common.{◌≡◌, ℕ, true, false, cond, List, [], ◌∷◌, length, map, refl, ap, sym, ◌∙◌, arith}
-use Rattle.std.specs.Prelude.{◌==◌, max, Option, Some, None, IsTrue}
+use Rattle.std.specs.Prelude.{◌==◌, not, max, Option, Some, None, IsTrue}
 use Rattle.std.specs.Option.{option_map, option_map_or}
+use Rattle.std.proofs.lemmas.Bool.{and_parts, not-true}
 use Rattle.hac_model.specs.Query.Formula.{Formula}
 use Rattle.hac_model.specs.Tree.Bare.{bare, bare_body}
-use Rattle.hac_model.specs.Tree.Events.{apply, asking, changed_in, changed_at, edited, forgotten, is_bare, marked, removed}
+use Rattle.hac_model.specs.Tree.Events.{apply, asking, changed_in, changed_at, edited, forgotten, is_bare, is_made_holder, marked, removed}
 use Rattle.hac_model.specs.Tree.Limits.{counts, long_paths, file_bytes}
-use Rattle.hac_model.specs.Tree.{entry_at, is_directory, is_dirty, is_file, is_file_at, is_leaf_at, is_made_directory}
+use Rattle.hac_model.specs.Tree.{entry_at, is_directory, is_dirty, is_file, is_file_at, is_leaf_at, is_made_directory, is_mount, is_mount_at}
 use Rattle.hac_model.specs.Tree.Valid.{IsLayout}
 use Rattle.hac_model.specs.declared.counts.Counts.{Counts}
 use Rattle.hac_model.specs.declared.events.Event.{Event}
@@ -58,14 +59,18 @@ mark-counts s e mark is = marked-counts s mark.dir mark.item mark.kind ∙ ap (�
 -- What the entry of an edited body counts for.
 
 -- a directory that asks something counts as a semantic one
-pub asking-share : (s : State) (dir : ℕ) (query : Formula ℕ) (share : Counts) → is_made_directory s.entries dir ≡ true → ((asked : Formula ℕ) (permanent prohibited : List ℕ) → share ≡ share_of (body.Semantic asked permanent prohibited)) →
+pub asking-share : (s : State) (dir : ℕ) (query : Formula ℕ) (share : Counts) → is_made_holder s dir ≡ true → ((asked : Formula ℕ) (permanent prohibited : List ℕ) → share ≡ share_of (body.Semantic asked permanent prohibited)) →
     (e : Entry) → entry_at s.entries dir ≡ Some e → share ≡ share_of (asking query e.body)
-asking-share s dir query share made each e found = in_body e.body (sym (ap (λ (o : Option Entry). option_map_or is_directory (option_map (λ (e : Entry). e.body) o) false) found) ∙ made)
+asking-share s dir query share made each e found =
+    let parts = and_parts (is_made_directory s.entries dir) (not (is_mount_at s.entries dir)) made in
+    in_body e.body (sym (ap (λ (o : Option Entry). option_map_or is_directory (option_map (λ (e : Entry). e.body) o) false) found) ∙ parts.0)
+    (sym (ap (λ (o : Option Entry). option_map_or is_mount (option_map (λ (e : Entry). e.body) o) false) found) ∙ not-true (is_mount_at s.entries dir) parts.1)
   where
-    in_body : (b : Body) → is_directory b ≡ true → share ≡ share_of (asking query b)
-    in_body body.Dir is = each query [] []
-    in_body (body.Semantic old permanent prohibited) is = each query permanent prohibited
-    in_body other is = absurd cc
+    in_body : (b : Body) → is_directory b ≡ true → is_mount b ≡ false → share ≡ share_of (asking query b)
+    in_body body.Dir is holder = each query [] []
+    in_body (body.Semantic old permanent prohibited) is holder = each query permanent prohibited
+    in_body (body.Mount space answers) is holder = absurd cc
+    in_body other is holder = absurd cc
 
 -- a new file counts for its text
 pub new-file : (text : List ℕ) (bytes : ℕ) (share : Counts) → bytes ≡ length text → ((b : Body) → IsTrue (is_file b) → file_bytes b ≡ bytes → is_dirty b ≡ true → share ≡ share_of b) → share ≡ share_of (body.File text true None)

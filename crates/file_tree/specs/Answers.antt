@@ -12,7 +12,7 @@ use Rattle.hac_model.specs.declared.states.Entry.{Entry}
 use Rattle.file_tree.specs.declared.placing.Stop.{Stop}
 use Rattle.file_tree.specs.declared.placing.Stop.TheVariants.{Missing, NotDir, Loop, Memory}
 use Rattle.file_tree.specs.declared.tree.EntryKind.{EntryKind}
-use Rattle.file_tree.specs.declared.tree.EntryKind.TheVariants.{File, Dir, Symlink, Semantic, Mount}
+use Rattle.file_tree.specs.declared.tree.EntryKind.TheVariants.{File, Dir, Symlink, Semantic, Mount, Document}
 
 -- the stop is for the refusal that is wanted; memory may run out in place of any answer
 abbrev pub IsPlaceFault : Stop → Result Place Refusal → Type 0
@@ -30,7 +30,8 @@ entry_kind (body.File text dirty shown) = File
 entry_kind body.Dir = Dir
 entry_kind (body.Symlink target) = Symlink
 entry_kind (body.Semantic query permanent prohibited) = Semantic
-entry_kind (body.Mount space documents answers) = Mount
+entry_kind (body.Mount space answers) = Mount
+entry_kind body.Document = Document
 
 -- the kind of the entry of a number. The root, which is no entry, is a directory.
 abbrev pub entry_kind_at : List Entry → ℕ → EntryKind

@@ -8,7 +8,7 @@ use Rattle.hac_model.specs.declared.states.Body.{Body}
 use Rattle.hac_model.specs.declared.states.Body.TheVariants as body
 use Rattle.hac_model.specs.declared.states.Entry.{Entry}
 use Rattle.file_tree.specs.declared.nodes.Content.{Content}
-use Rattle.file_tree.specs.declared.nodes.Content.TheVariants.{File, Dir, Symlink, Semantic}
+use Rattle.file_tree.specs.declared.nodes.Content.TheVariants.{File, Dir, Symlink, Semantic, Mount, Document}
 use Rattle.file_tree.specs.declared.nodes.NewBody.{NewBody}
 use Rattle.file_tree.specs.declared.nodes.NewBody.TheVariants as new
 use Rattle.file_tree.specs.declared.nodes.Node.{Node}
@@ -21,19 +21,23 @@ shown_in text Never = None
 shown_in text AsItIs = Some text
 shown_in text (Older shown) = Some shown
 
--- what the content of a node says. No marks are kept in it.
+-- what the content of a node says. Neither marks nor answers are kept in it.
 abbrev pub body_of : Content → Body
 body_of (File text dirty shown) = body.File text dirty (shown_in text shown)
 body_of Dir = body.Dir
 body_of (Symlink target) = body.Symlink target
 body_of (Semantic query) = body.Semantic query [] []
+body_of (Mount space) = body.Mount space []
+body_of Document = body.Document
 
--- what a new entry is: a file is dirty, and a directory has no marks
+-- what a new entry is: a file is dirty, and a directory has neither marks nor answers
 abbrev pub body_from : NewBody → Body
 body_from (new.File text) = body.File text true None
 body_from new.Dir = body.Dir
 body_from (new.Symlink target) = body.Symlink target
 body_from (new.Semantic query) = body.Semantic query [] []
+body_from (new.Mount space) = body.Mount space []
+body_from new.Document = body.Document
 
 -- the word of a new symbolic link
 abbrev pub new_word : NewBody → Option PathWord

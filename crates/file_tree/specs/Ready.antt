@@ -9,7 +9,7 @@ use Rattle.file_tree.specs.declared.nodes.NewBody.{NewBody}
 use Rattle.file_tree.specs.declared.nodes.NewBody.TheVariants as new
 use Rattle.file_tree.specs.declared.ready.Ready.{Ready}
 use Rattle.file_tree.specs.declared.ready.Ready.TheVariants.{Nothing, Add, Link, Move, Text}
-use Rattle.file_tree.specs.declared.tree.EntryKind.TheVariants.{File, Dir, Semantic}
+use Rattle.file_tree.specs.declared.tree.EntryKind.TheVariants.{File, Dir, Semantic, Mount, Document}
 
 -- the file that the prepared change will make dirty, given the number of a new entry
 abbrev pub awaited : ℕ → Ready → Option ℕ
@@ -31,6 +31,8 @@ ready_for dir (new.File text) = Add dir File
 ready_for dir new.Dir = Add dir Dir
 ready_for dir (new.Symlink target) = Link dir (untested_word target)
 ready_for dir (new.Semantic query) = Add dir Semantic
+ready_for dir (new.Mount space) = Add dir Mount
+ready_for dir new.Document = Add dir Document
 
 -- it is this number
 abbrev pub is_number : Option ℕ → ℕ → Bool

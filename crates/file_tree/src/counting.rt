@@ -15,8 +15,8 @@ ghost use Rattle.hac_model.specs.Tree.Events.{is_placed};
 
 use crate::nodes::Content;
 use crate::shares::{
-    NOTHING, as_new, minus, of_directory, of_file, of_semantic, of_symlink, plus, replaced,
-    with_long_paths,
+    NOTHING, as_new, minus, of_directory, of_document, of_file, of_mount, of_semantic, of_symlink,
+    plus, replaced, with_long_paths,
 };
 use crate::tree::Tree;
 use hac_model::{Counts, Event, Number, PATH_LIMIT, Text};
@@ -145,6 +145,8 @@ fn share_of(content: &Content) -> Counts
         Content::Dir => of_directory(),
         Content::Symlink(_) => of_symlink(),
         Content::Semantic { .. } => of_semantic(),
+        Content::Mount { .. } => of_mount(),
+        Content::Document => of_document(),
     }
 }
 

@@ -7,7 +7,7 @@ ghost use Rattle.file_tree.specs.Nodes.{body_from, body_of, entry_of, has_node, 
 ghost use Rattle.file_tree.specs.Nodes.{new_word, placed_at};
 ghost use Rattle.hac_model.specs.Tree.Events.{asking, edited, indexed, plain_body, reseated};
 ghost use Rattle.hac_model.specs.Tree.Events.{rewritten};
-ghost use Rattle.hac_model.specs.Tree.{is_dirty, query_in, shown_text, target_in};
+ghost use Rattle.hac_model.specs.Tree.{is_directory, is_dirty, is_linkable, query_in, shown_text, space_in, target_in};
 ghost use Rattle.hac_model.specs.Tree.Valid.{IsSound};
 
 use crate::targets::Target;
@@ -46,6 +46,11 @@ pub(crate) enum Content {
     Semantic {
         query: Query<Number>,
     },
+    // What the space answered isn't kept here.
+    Mount {
+        space: Name,
+    },
+    Document,
 }
 
 /// What a new entry is.
@@ -59,6 +64,10 @@ pub enum NewBody {
     Symlink(Text),
     /// A directory with this query, and without marks.
     Semantic(Query<Number>),
+    /// A directory that shows this space, and keeps no answers.
+    Mount(Name),
+    /// An entry of a mount.
+    Document,
 }
 
 /// The text of a file as it was last indexed.
@@ -89,6 +98,8 @@ impl Content {
                 None => unreachable!(),
             },
             NewBody::Semantic(query) => Content::Semantic { query },
+            NewBody::Mount(space) => Content::Mount { space },
+            NewBody::Document => Content::Document,
         }
     }
 }
@@ -118,12 +129,39 @@ impl Content {
         }
     }
 
+    /// Whether this is a directory of any kind.
+    pub(crate) fn is_directory(&self) -> bool
+        ensures { result ≡ is_directory (body_of self.now) }
+    {
+        matches!(
+            self,
+            Content::Dir | Content::Semantic { .. } | Content::Mount { .. }
+        )
+    }
+
+    /// Whether this can be linked: a file or a document.
+    pub(crate) fn is_linkable(&self) -> bool
+        ensures { result ≡ is_linkable (body_of self.now) }
+    {
+        matches!(self, Content::File { .. } | Content::Document)
+    }
+
     /// The query of a directory, where it has one.
     pub(crate) fn query(&self) -> Option<&Query<Number>>
         ensures { option_copied result ≡ query_in (body_of self.now) }
     {
         match self {
             Content::Semantic { query, .. } => Some(query),
+            _ => None,
+        }
+    }
+
+    /// The space that a mount shows.
+    pub(crate) fn space(&self) -> Option<&Name>
+        ensures { option_copied result ≡ space_in (body_of self.now) }
+    {
+        match self {
+            Content::Mount { space } => Some(space),
             _ => None,
         }
     }
@@ -158,7 +196,7 @@ impl Content {
         match self {
             Content::Semantic { query } => *query = new,
             Content::Dir => *self = Content::Semantic { query: new },
-            Content::File { .. } | Content::Symlink(_) => {}
+            _ => {}
         }
     }
 

@@ -3,6 +3,7 @@ ghost use Rattle.std.specs.Prelude.{◌≡◌, ◌<◌, ◌^◌, ℕ, List, IsTr
 ghost use Rattle.hac_model.specs.Tree.Limits.{counts, file_bytes};
 ghost use Rattle.hac_model.specs.Tree.{empty, is_dirty, is_file};
 ghost use Rattle.hac_model.specs.Query.Formula.{Formula};
+ghost use Rattle.hac_model.specs.declared.states.Answer.{Answer};
 ghost use Rattle.hac_model.specs.declared.states.Body.{Body};
 ghost use Rattle.file_tree.specs.Counting.{AreSmall, one_if, plus, share_of};
 
@@ -13,8 +14,10 @@ pub(crate) const NOTHING: Counts = Counts {
     bytes: 0,
     directories: 0,
     semantics: 0,
+    mounts: 0,
     symlinks: 0,
     files: 0,
+    items: 0,
     dirty: 0,
     long_paths: 0,
     next: 0,
@@ -55,6 +58,30 @@ pub(crate) fn of_semantic() -> Counts
     }
 }
 
+/// What a mount counts for.
+pub(crate) fn of_mount() -> Counts
+    ensures share { (space : List ℕ) (answers : List Answer) →
+        result ≡ share_of (Body.Mount space answers) }
+    ensures small { AreSmall result }
+{
+    Counts {
+        directories: 1,
+        mounts: 1,
+        ..NOTHING
+    }
+}
+
+/// What a document counts for.
+pub(crate) fn of_document() -> Counts
+    ensures share { result ≡ share_of Body.Document }
+    ensures small { AreSmall result }
+{
+    Counts {
+        items: 1,
+        ..NOTHING
+    }
+}
+
 /// What a symbolic link counts for.
 pub(crate) fn of_symlink() -> Counts
     ensures share { (target : List ℕ) → result ≡ share_of (Body.Symlink target) }
@@ -76,6 +103,7 @@ pub(crate) fn of_file(bytes: u64, dirty: bool) -> Counts
     Counts {
         bytes,
         files: 1,
+        items: 1,
         dirty: u64::from(dirty),
         ..NOTHING
     }
@@ -114,8 +142,10 @@ pub(crate) fn plus(counts: Counts, more: Counts) -> Counts
         bytes: counts.bytes + more.bytes,
         directories: counts.directories + more.directories,
         semantics: counts.semantics + more.semantics,
+        mounts: counts.mounts + more.mounts,
         symlinks: counts.symlinks + more.symlinks,
         files: counts.files + more.files,
+        items: counts.items + more.items,
         dirty: counts.dirty + more.dirty,
         long_paths: counts.long_paths + more.long_paths,
         next: counts.next + more.next,
@@ -131,8 +161,10 @@ pub(crate) fn minus(counts: Counts, part: Counts) -> Counts
         bytes: counts.bytes - part.bytes,
         directories: counts.directories - part.directories,
         semantics: counts.semantics - part.semantics,
+        mounts: counts.mounts - part.mounts,
         symlinks: counts.symlinks - part.symlinks,
         files: counts.files - part.files,
+        items: counts.items - part.items,
         dirty: counts.dirty - part.dirty,
         long_paths: counts.long_paths - part.long_paths,
         next: counts.next - part.next,

@@ -4,10 +4,10 @@ ghost use Rattle.std.specs.Prelude.{length, map};
 ghost use Rattle.std.specs.Option.{option_copied, option_map, option_map_or, option_and_then};
 ghost use Rattle.hac_model.specs.Tree.Events.{is_bare, next_dirty};
 ghost use Rattle.hac_model.specs.Tree.Limits.{counts};
-ghost use Rattle.hac_model.specs.Tree.Links.{parent_of, query_at, shown_of};
+ghost use Rattle.hac_model.specs.Tree.Links.{is_item, parent_of, query_at, shown_of, space_at};
 ghost use Rattle.hac_model.specs.Tree.Listing.{children};
 ghost use Rattle.hac_model.specs.Tree.{body_at, child, empty, entry_at, is_directory_at};
-ghost use Rattle.hac_model.specs.Tree.{is_file_at, is_made_directory, is_symlink_at};
+ghost use Rattle.hac_model.specs.Tree.{is_document_at, is_file_at, is_made_directory, is_mount_at, is_symlink_at};
 ghost use Rattle.hac_model.specs.Tree.{target_in, text_in};
 ghost use Rattle.hac_model.specs.Tree.Valid.{IsLayout};
 ghost use Rattle.file_tree.specs.Answers.{entry_kind_at, entry_kind, is_dirty_at, next_from};
@@ -192,6 +192,13 @@ impl Tree {
         self.content(dir)?.query()
     }
 
+    /// The space that a mount shows.
+    pub fn space(&self, mount: Number) -> Option<&Name>
+        ensures { option_copied result ≡ space_at self.now.state mount }
+    {
+        self.content(mount)?.space()
+    }
+
     /// Where a symbolic link leads, as it was given.
     pub fn target(&self, link: Number) -> Option<&Text>
         ensures { option_copied result ≡
@@ -212,7 +219,7 @@ impl Tree {
         ensures { result ≡ is_made_directory self.now.state.entries number }
     {
         match self.content(number) {
-            Some(content) => matches!(content, Content::Dir | Content::Semantic { .. }),
+            Some(content) => content.is_directory(),
             None => false,
         }
     }
@@ -233,6 +240,36 @@ impl Tree {
     {
         match self.content(number) {
             Some(content) => matches!(content, Content::Symlink(_)),
+            None => false,
+        }
+    }
+
+    /// Whether a mount has the number.
+    pub fn is_mount(&self, number: Number) -> bool
+        ensures { result ≡ is_mount_at self.now.state.entries number }
+    {
+        match self.content(number) {
+            Some(content) => matches!(content, Content::Mount { .. }),
+            None => false,
+        }
+    }
+
+    /// Whether a document has the number.
+    pub fn is_document(&self, number: Number) -> bool
+        ensures { result ≡ is_document_at self.now.state.entries number }
+    {
+        match self.content(number) {
+            Some(content) => matches!(content, Content::Document),
+            None => false,
+        }
+    }
+
+    /// Whether what can be linked has the number: a file or a document.
+    pub fn is_item(&self, number: Number) -> bool
+        ensures { result ≡ is_item self.now.state number }
+    {
+        match self.content(number) {
+            Some(content) => content.is_linkable(),
             None => false,
         }
     }
@@ -295,5 +332,7 @@ fn entry_kind(content: &Content) -> EntryKind
         Content::Dir => EntryKind::Dir,
         Content::Symlink(_) => EntryKind::Symlink,
         Content::Semantic { .. } => EntryKind::Semantic,
+        Content::Mount { .. } => EntryKind::Mount,
+        Content::Document => EntryKind::Document,
     }
 }

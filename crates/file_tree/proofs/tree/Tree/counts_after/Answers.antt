@@ -1,9 +1,8 @@
 use Rattle.std.proofs.Common.{◌∙◌, [], None, ap, subst, sym, true}
 use Rattle.std.specs.Prelude.{IsTrue}
 use Rattle.std.proofs.lemmas.Bool.{and_parts}
-use Rattle.hac_model.specs.Tree.Events.{apply, asking, is_bare, removed}
+use Rattle.hac_model.specs.Tree.Events.{apply, asking, is_bare, is_made_holder, removed}
 use Rattle.hac_model.specs.Tree.Limits.{counts}
-use Rattle.hac_model.specs.Tree.{is_made_directory}
 use Rattle.hac_model.specs.declared.events.Event.{Event}
 use Rattle.hac_model.specs.declared.states.Body.TheVariants as body
 use Rattle.hac_model.specs.Tree.Events.{is_placed}
@@ -16,7 +15,7 @@ without-requires-clause-short c = leaf-short c.args.self.now.state c.in-Rm.entry
 pub without-requires-in-Rmdir-clause-short : goal.without-requires-in-Rmdir-clause-short
 without-requires-in-Rmdir-clause-short c =
     let s = c.args.self.now.state in
-    bare-short s c.in-Rmdir.dir c.know_layout.ensures.layout (and_parts (is_made_directory s.entries c.in-Rmdir.dir) (is_bare s.entries c.in-Rmdir.dir) (subst (λ (e : Event). IsTrue (is_placed s e)) c.in-Rmdir.is c.requires)).1
+    bare-short s c.in-Rmdir.dir c.know_layout.ensures.layout (and_parts (is_made_holder s c.in-Rmdir.dir) (is_bare s.entries c.in-Rmdir.dir) (subst (λ (e : Event). IsTrue (is_placed s e)) c.in-Rmdir.is c.requires)).1
 
 pub returns-in-NewFile : goal.returns-in-NewFile
 returns-in-NewFile c =
@@ -37,7 +36,7 @@ pub returns-in-Setq : goal.returns-in-Setq
 returns-in-Setq c =
     let s = c.args.self.now.state in
     let placed = subst (λ (e : Event). IsTrue (is_placed s e)) c.in-Setq.is c.requires in
-    c.with_share.ensures (asking c.in-Setq.query) (asking-share s c.in-Setq.dir c.in-Setq.query c.of_semantic-in-Setq.result (and_parts (is_made_directory s.entries c.in-Setq.dir) _ placed).0 c.of_semantic-in-Setq.ensures.share)
+    c.with_share.ensures (asking c.in-Setq.query) (asking-share s c.in-Setq.dir c.in-Setq.query c.of_semantic-in-Setq.result (and_parts (is_made_holder s c.in-Setq.dir) _ placed).0 c.of_semantic-in-Setq.ensures.share)
     ∙ ap (λ (e : Event). counts (apply s e)) (sym c.in-Setq.is)
 
 pub returns-in-Rm : goal.returns-in-Rm
