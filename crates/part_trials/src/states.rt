@@ -1,55 +1,56 @@
 //! Whole states whose bytes were written by hand from the table of bodies.
-use event_codec::{CodecFault, read_state, write_state};
-use hac_model::{Number, Seq, State};
+use event_codec::{CodecFault, read_snapshot, write_snapshot};
 use std::alloc::Global;
 use std::process::Abort;
 use std::test::Fail;
 
 #[test]
-fn states_are_read(rt: HostRuntime) -> Result<(), Fail> {
+fn states_are_read_and_written(rt: HostRuntime) -> Result<(), Fail> {
     let alloc = rt.alloc();
     let rows: [(&[u8], &str); 5] = [
         (
             b"\x02\x01\0\0\0\0\0\0\0",
-            "State { next: Number(1), entries: Seq([]), sessions: Seq([]) }",
+            "Snapshot { next: Number(1), entries: Seq([]) }",
         ),
         (
             b"\x02\x02\0\0\0\x01\0\0\0\x01\0\0\0\0\0\0\0\x01a\x02",
-            "State { next: Number(2), entries: Seq([Entry { number: Number(1), \
-              parent: Number(0), name: Name([97]), body: Dir }]), sessions: Seq([]) }",
+            "Snapshot { next: Number(2), entries: Seq([StoredEntry { entry: Entry { \
+              number: Number(1), parent: Number(0), name: Name([97]), body: Dir }, \
+              documents: Seq([]) }]) }",
         ),
         (
             b"\x02\x05\0\0\0\x03\0\0\0\x01\0\0\0\0\0\0\0\x01f\x01\x01\x01\0\0\0x\0\x02\0\0\0\0\
               \0\0\0\x01g\x01\0\x01\0\0\0x\x01\x04\0\0\0\0\0\0\0\x01h\x01\x01\x01\0\0\0x\x02\0\0\
               \0\0",
-            "State { next: Number(5), entries: Seq([Entry { number: Number(1), \
-              parent: Number(0), name: Name([102]), body: File { text: Seq([120]), dirty: true, \
-              shown: None } }, Entry { number: Number(2), parent: Number(0), name: Name([103]), \
-              body: File { text: Seq([120]), dirty: false, shown: Some(Seq([120])) } }, \
-              Entry { number: Number(4), parent: Number(0), name: Name([104]), \
-              body: File { text: Seq([120]), dirty: true, shown: Some(Seq([])) } }]), \
-              sessions: Seq([]) }",
+            "Snapshot { next: Number(5), entries: Seq([StoredEntry { entry: Entry { \
+              number: Number(1), parent: Number(0), name: Name([102]), body: File { \
+              text: Seq([120]), dirty: true, shown: None } }, documents: Seq([]) }, \
+              StoredEntry { entry: Entry { number: Number(2), parent: Number(0), \
+              name: Name([103]), body: File { text: Seq([120]), dirty: false, \
+              shown: Some(Seq([120])) } }, documents: Seq([]) }, StoredEntry { entry: Entry { \
+              number: Number(4), parent: Number(0), name: Name([104]), body: File { \
+              text: Seq([120]), dirty: true, shown: Some(Seq([])) } }, documents: Seq([]) }]) }",
         ),
         (
             b"\x02\x09\0\0\0\x02\0\0\0\x03\0\0\0\0\0\0\0\x01l\x03\x02\0/a\x04\0\0\0\x03\0\0\0\
               \x01s\x04\x04\x01\x01\0k\x02\0\0\0\x05\0\0\0\x07\0\0\0\x01\0\0\0\x06\0\0\0",
-            "State { next: Number(9), entries: Seq([Entry { number: Number(3), \
-              parent: Number(0), name: Name([108]), body: Symlink { target: Seq([47, 97]) } }, \
-              Entry { number: Number(4), parent: Number(3), name: Name([115]), \
-              body: Semantic { query: Query { node: Not(Query { node: Term(Word(Name([\
-              107]))) }) }, permanent: Seq([Number(5), Number(7)]), prohibited: Seq([\
-              Number(6)]) } }]), sessions: Seq([]) }",
+            "Snapshot { next: Number(9), entries: Seq([StoredEntry { entry: Entry { \
+              number: Number(3), parent: Number(0), name: Name([108]), body: Symlink { \
+              target: Seq([47, 97]) } }, documents: Seq([]) }, StoredEntry { entry: Entry { \
+              number: Number(4), parent: Number(3), name: Name([115]), body: Semantic { \
+              query: Query { node: Not(Query { node: Term(Word(Name([107]))) }) }, \
+              permanent: Seq([Number(5), Number(7)]), prohibited: Seq([Number(6)]) } }, \
+              documents: Seq([]) }]) }",
         ),
         (
             b"\x02\x09\0\0\0\x01\0\0\0\x01\0\0\0\0\0\0\0\x01m\x05\x02sp\x02\0\0\0\x08\0\0\0\x01\
               a\x07\0\0\0\x01b\x02\0\0\0\x01\x01\0k\x01\0\0\0\x07\0\0\0\x02\x01\0k\0\0\0\0",
-            "State { next: Number(9), entries: Seq([Entry { number: Number(1), \
-              parent: Number(0), name: Name([109]), body: Mount { space: Name([115, 112]), \
-              documents: Seq([Document { number: Number(8), name: Name([97]) }, \
-              Document { number: Number(7), name: Name([98]) }]), answers: Seq([\
-              Answer { term: Word(Name([107])), documents: Seq([Number(7)]) }, \
-              Answer { term: Prefix(Name([107])), documents: Seq([]) }]) } }]), sessions: Seq([\
-              ]) }",
+            "Snapshot { next: Number(9), entries: Seq([StoredEntry { entry: Entry { \
+              number: Number(1), parent: Number(0), name: Name([109]), body: Mount { \
+              space: Name([115, 112]), answers: Seq([Answer { term: Word(Name([107])), \
+              documents: Seq([Number(7)]) }, Answer { term: Prefix(Name([107])), \
+              documents: Seq([]) }]) } }, documents: Seq([Document { number: Number(8), \
+              name: Name([97]) }, Document { number: Number(7), name: Name([98]) }]) }]) }",
         ),
     ];
     for (bytes, told) in rows {
@@ -58,27 +59,14 @@ fn states_are_read(rt: HostRuntime) -> Result<(), Fail> {
     Ok(())
 }
 
-/// The payload is read as the state that is shown so.
+/// The payload is read as what is shown so, and that is written as the payload.
 fn expect_state(rt: &impl Abort, alloc: Global, bytes: &[u8], shown: &str) -> Result<(), Fail> {
-    let state = read_state(alloc, bytes)?;
-    let printed = format!(in alloc; "{state:?}");
-    drop(state);
+    let snapshot = read_snapshot(alloc, bytes)?;
+    let printed = format!(in alloc; "{snapshot:?}");
+    let written = write_snapshot(alloc, &snapshot);
+    drop(snapshot);
     assert_eq!(rt; printed?.as_str(), shown);
-    Ok(())
-}
-
-#[test]
-#[tactic(auto, unfolding(hac_model::specs::Payload::States::is_spellable_state))]
-fn empty_state_is_written(rt: HostRuntime) -> Result<(), Fail> {
-    let alloc = rt.alloc();
-    let state = State {
-        next: Number::new(1),
-        entries: Seq::new(Vec::new(alloc)),
-        sessions: Seq::new(Vec::new(alloc)),
-    };
-    let written = write_state(alloc, &state);
-    drop(state);
-    assert_eq!(rt; written?.as_slice(), b"\x02\x01\0\0\0\0\0\0\0".as_slice());
+    assert_eq!(rt; written?.as_slice(), bytes);
     Ok(())
 }
 
@@ -120,7 +108,7 @@ fn faults_of_states_are_told_with_their_place(rt: HostRuntime) -> Result<(), Fai
         ),
     ];
     for (bytes, at) in rows {
-        let fault = match read_state(alloc, bytes) {
+        let fault = match read_snapshot(alloc, bytes) {
             Ok(_) => None,
             Err(fault) => Some(fault),
         };
