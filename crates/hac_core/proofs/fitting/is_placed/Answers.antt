@@ -3,4 +3,4 @@ use Rattle.kept_state.proofs.StateLemmas.{same-placed}
 use Rattle.hac_core.proofs.fitting.is_placed.Goals as goal
 
 pub returns : goal.returns
-returns c = c.is_placed_in.ensures ∙ sym (same-placed c.args.kept.now.state c.tree.result.now.state c.tree.ensures.tree.bares c.args.event.now)
+returns c = c.is_placed_in.ensures ∙ sym (same-placed c.args.kept.now.state c.tree.result.now.state c.tree.ensures.tree.bares c.tree.ensures.tree.asked c.args.event.now)
