@@ -1,22 +1,27 @@
 -- What a tree keeps beside its nodes, after a change.
-use Rattle.std.proofs.Common.{◌≡◌, ℕ, false, subst, refl, ap, sym, ◌∙◌}
+use Rattle.std.proofs.Common.{◌≡◌, ℕ, true, false, List, [], ◌∷◌, ◌++◌, subst, refl, ap, sym, arith, ◌∙◌}
 use Rattle.std.specs.Prelude.{◌||◌, nat_eq}
 use Rattle.std.specs.BTreeSet.{contains}
 use Rattle.std.specs.Ordering.{nat_cmp}
 use Rattle.std.proofs.Math.Bool.{or-false}
+use Rattle.std.proofs.lemmas.Bool.{ne_eqb}
+use Rattle.indexmap.specs.IndexMap.{IndexMap}
 use Rattle.hac_model.specs.Tree.Events.{changed_at, edited}
 use Rattle.hac_model.specs.Tree.Limits.{counts}
 use Rattle.hac_model.specs.Tree.Valid.{IsLayout}
+use Rattle.hac_model.specs.Tree.{is_directory_at}
 use Rattle.hac_model.specs.declared.states.Body.{Body}
 use Rattle.hac_model.specs.declared.states.State.{State}
 use Rattle.file_tree.specs.Answers.{is_dirty_at}
 use Rattle.file_tree.specs.Nodes.{entry_of, has_node, kids_of, name_of}
 use Rattle.file_tree.specs.Ready.{is_awaited}
 use Rattle.file_tree.specs.Seen.{Seen}
-use Rattle.file_tree.specs.Shape.{HasSpare, IsShaped, IsTree, seen_of, state_of}
+use Rattle.file_tree.specs.Shape.{HasNew, HasSpare, IsShaped, IsTree, seen_of, state_of}
+use Rattle.file_tree.specs.declared.nodes.Node.{Node}
+use Rattle.file_tree.specs.declared.ready.Ready.{Ready}
 use Rattle.file_tree.specs.declared.ready.Ready.TheVariants.{Nothing}
 use Rattle.file_tree.specs.declared.tree.Tree.TheInside.{Inside}
-use Rattle.file_tree.proofs.StateLemmas.{shaped-edited, shaped-prepared, state-changed, state-same, touched_at}
+use Rattle.file_tree.proofs.StateLemmas.{directory-there, shaped-edited, shaped-prepared, state-changed, state-same, touched_at}
 
 -- the tree has become this state, and is ready for nothing
 pub became : (u : Inside) (after : State) → seen_of u ≡ record { state = after; ready = Nothing } → IsShaped u → u.counts ≡ counts after → ((n : ℕ) → contains nat_cmp u.to_index n ≡ is_dirty_at after.entries n) → IsTree u
@@ -41,6 +46,23 @@ tree-prepared t h u next told names kids numbers spare same set =
       counts_are = same ∙ h.counts_are ∙ sym (ap counts state);
       dirty_are = λ n. set n ∙ (λ i. is_dirty_at (sym state i).entries n || is_awaited (sym next i) u.ready n);
     }
+
+-- A tree that is ready for nothing.
+
+module _ (t : Inside) (state : State) (view : seen_of t ≡ record { state = state; ready = Nothing }) where
+  pub ready-nothing : t.ready ≡ Nothing
+  ready-nothing = ap (λ (x : Seen). x.ready) view
+
+  -- what was prepared needn't be in it
+  pub spare-nothing : {S : Type 0} (nodes : IndexMap ℕ Node S) (next : ℕ) (spare : List ℕ) → HasSpare t.ready nodes next spare
+  spare-nothing nodes next spare = subst (λ (r : Ready). HasSpare r nodes next spare) (sym ready-nothing) tt
+
+  -- a new entry is prepared in one of its directories
+  pub new-prepared : {S : Type 0} (nodes : IndexMap ℕ Node S) (dir : ℕ) (spare : List ℕ) → IsTree t → is_directory_at state.entries dir ≡ true → ((n : ℕ) → nat_eq t.next n ≡ false → has_node nodes n ≡ has_node t.nodes n) → has_node nodes t.next ≡ true →
+      spare ≡ kids_of nodes dir ++ t.next ∷ [] → HasNew dir nodes t.next spare
+  new-prepared nodes dir spare h is others new listed =
+      let there = directory-there t (record { state = state; ready = Nothing }) view h.shaped t dir is in
+      (listed, new, others dir (ne_eqb t.next dir (λ same. omega (arith, there.1))) ∙ there.0, there.1)
 
 -- it is seen as this state, and keeps all
 abbrev pub Became : Inside → State → Type 0

@@ -24,11 +24,12 @@ use Rattle.dep_graph.specs.declared.graph.NewEdges.{NewEdges}
 use Rattle.link_kinds.specs.Kinds.{Lists}
 use Rattle.link_kinds.specs.Seen.{has_sets, lists_in, permanent_in, prohibited_in}
 use Rattle.kept_state.specs.Kept.{IsKept}
-use Rattle.kept_state.specs.Parts.{AreAlike, IsLinked, facts_kept, state_of}
+use Rattle.kept_state.specs.Parts.{AreAlike, IsLinked, KeepsNoAnswers, facts_kept, state_of}
 use Rattle.kept_state.specs.Ready.{IsCommitted, IsReady, CanCommit, IsPreparedFor, ready_events}
 use Rattle.kept_state.specs.declared.parts.Parts.{Parts}
 use Rattle.kept_state.specs.declared.ready.Ready.{Ready}
 use Rattle.kept_state.specs.declared.ready.Ready.TheVariants.{Change}
+use Rattle.kept_state.proofs.AskedLemmas.{after-none}
 use Rattle.kept_state.proofs.StateLemmas.{kept-bares, same-counts, same-next-bare, same-semantic}
 
 -- lists of these marks, in which no link was found
@@ -66,6 +67,7 @@ module _ (old new : Parts) (same : AreAlike old new) where
     found = λ d. ap (λ (lists : Lists). lists.transient) (same.kinds d) ∙ h.found d;
     sets = λ d has. ap (λ (s : State). is_semantic s d) alike-state ∙ either (has_sets old.marks d) d refl (same.sets d has);
     alone = ap (λ (s : State). s.sessions) same.state ∙ h.alone;
+    untold = subst KeepsNoAnswers (sym same.state) h.untold;
   }
     where
       either : (b : Bool) (d : ℕ) → has_sets old.marks d ≡ b → (b || is_semantic old.tree.state d) ≡ true → is_semantic (state_of old) d ≡ true
@@ -141,6 +143,7 @@ module _ (kept new : Parts) (event : Event) (h : IsLinked kept) (ok : IsTrue (ac
       sets = λ n has. semantic-edges (state_of new) n (now n) (own n ∙ facts n) ∙ sets n has;
       found = λ d. ap (λ (lists : Lists). lists.transient) (marks d);
       alone = ap (λ (s : State). s.sessions) tree ∙ tree-sessions event kept.tree.state ∙ h.alone;
+      untold = subst KeepsNoAnswers (sym tree) (after-none event kept.tree.state h.untold);
     };
   }
     where

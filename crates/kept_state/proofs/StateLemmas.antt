@@ -1,26 +1,26 @@
 -- What a linked tree says of its state: all but marks is in the tree alone.
 use Rattle.std.proofs.Common.{◌≡◌, ℕ, false, List, map, refl, ap, subst, sym, ◌∙◌}
-use Rattle.std.specs.Prelude.{◌==◌, ◌&&◌, ◌||◌, not, length, nat_lt, Option, Some, None, is_some, option_and_then}
+use Rattle.std.specs.Prelude.{◌==◌, ◌&&◌, ◌||◌, not, length, nat_lt, Option, Some, None, is_none, is_some, option_and_then}
 use Rattle.std.specs.Option.{option_map, option_map_or}
 use Rattle.hac_model.specs.Tree.Bare.{bare, bare_body}
 use Rattle.hac_model.specs.Tree.Depends.{depends, referrers}
-use Rattle.hac_model.specs.Tree.Events.{apply, dirty, edited, is_bare, is_free, is_inside, may_ask}
+use Rattle.hac_model.specs.Tree.Events.{apply, dirty, edited, first_asked, is_bare, is_free, is_inside, is_made_holder, may_ask}
 use Rattle.hac_model.specs.Query.Formula.{Formula}
 use Rattle.hac_model.specs.Tree.Limits.{counts, is_text}
-use Rattle.hac_model.specs.Tree.Links.{is_semantic, parent_of, query_at, shown_of}
+use Rattle.hac_model.specs.Tree.Links.{is_item, is_semantic, parent_of, query_at, shown_of}
 use Rattle.hac_model.specs.Run.Resolving.{resolved_for}
 use Rattle.hac_model.specs.Script.PathWords.{is_target}
 use Rattle.hac_model.specs.Script.SpaceNames.{is_space_name}
-use Rattle.hac_model.specs.Tree.{body_at, entry_at, is_directory, is_directory_at, is_file, is_file_at, is_leaf, is_leaf_at, is_made_directory, is_symlink, is_symlink_at, path_of, shown_text, target_in}
+use Rattle.hac_model.specs.Tree.{body_at, entry_at, is_directory, is_directory_at, is_document, is_document_at, is_file, is_file_at, is_leaf, is_leaf_at, is_linkable, is_made_directory, is_mount_at, is_symlink, is_symlink_at, path_of, shown_text, target_in}
 use Rattle.hac_model.specs.Tree.Valid.{IsLayout}
 use Rattle.hac_model.specs.declared.commands.Command.{Command}
 use Rattle.hac_model.specs.declared.events.Event.{Event}
 use Rattle.hac_model.specs.declared.events.Event.TheVariants.{Mkdir, NewFile, Rewrite, Ln, Smkdir, Setq, Unq, Mark, Mv, Rm, Rmdir, Step, Cd}
 use Rattle.hac_model.specs.declared.states.Body.{Body}
-use Rattle.hac_model.specs.declared.states.Body.TheVariants.{File, Dir, Symlink, Semantic, Mount}
+use Rattle.hac_model.specs.declared.states.Body.TheVariants.{File, Dir, Symlink, Semantic, Mount, Document}
 use Rattle.hac_model.specs.declared.states.Entry.{Entry}
 use Rattle.hac_model.specs.declared.states.State.{State}
-use Rattle.hac_model.proofs.AlikeLemmas.{bare-kind, counts-bare, depends-bare, directory-bare, dirty-same, entry_at-bare, file-bare, layout-bare, layout-unbare, is_bare-bare, is_free-bare, is_inside-bare, may_ask-bare, parent_of-bare, path_of-bare, query_at-bare, referrers-bare, for-bare, some-bare, symlink-bare, target_at-bare}
+use Rattle.hac_model.proofs.AlikeLemmas.{bare-kind, counts-bare, depends-bare, directory-bare, dirty-same, document-bare, entry_at-bare, file-bare, layout-bare, layout-unbare, is_bare-bare, is_free-bare, is_inside-bare, may_ask-bare, mount-bare, parent_of-bare, path_of-bare, query_at-bare, referrers-bare, for-bare, some-bare, symlink-bare, target_at-bare}
 use Rattle.hac_model.proofs.BareLemmas.{bare-commutes}
 use Rattle.hac_model.proofs.EventLemmas.{due}
 use Rattle.hac_model.proofs.FillLemmas.{bare-joined}
@@ -42,13 +42,22 @@ shown-bare s n = ap (λ (o : Option Entry). option_and_then shown_text (option_m
         body Dir = refl
         body (Symlink target) = refl
         body (Semantic query permanent prohibited) = refl
-        body (Mount space documents answers) = refl
+        body (Mount space answers) = refl
+        body Document = refl
 
 -- a leaf is a file or a symbolic link
 pub leaf-told : (es : List Entry) (n : ℕ) → is_leaf_at es n ≡ (is_file_at es n || is_symlink_at es n)
 leaf-told es n = at (body_at es n)
   where
     at : (o : Option Body) → option_map_or is_leaf o false ≡ (option_map_or is_file o false || option_map_or is_symlink o false)
+    at None = refl
+    at (Some body) = refl
+
+-- an item is a file or a document
+item-told : (s : State) (n : ℕ) → is_item s n ≡ (is_file_at s.entries n || is_document_at s.entries n)
+item-told s n = at (body_at s.entries n)
+  where
+    at : (o : Option Body) → option_map_or is_linkable o false ≡ (option_map_or is_file o false || option_map_or is_document o false)
     at None = refl
     at (Some body) = refl
 
@@ -68,6 +77,15 @@ module _ (s t : State) (bares : bare s ≡ bare t) where
 
   pub same-symlink : (n : ℕ) → is_symlink_at s.entries n ≡ is_symlink_at t.entries n
   same-symlink n = alike (λ s. is_symlink_at s.entries n) (λ s. symlink-bare s n)
+
+  pub same-mount : (n : ℕ) → is_mount_at s.entries n ≡ is_mount_at t.entries n
+  same-mount n = alike (λ s. is_mount_at s.entries n) (λ s. mount-bare s n)
+
+  pub same-document : (n : ℕ) → is_document_at s.entries n ≡ is_document_at t.entries n
+  same-document n = alike (λ s. is_document_at s.entries n) (λ s. document-bare s n)
+
+  pub same-item : (n : ℕ) → is_item s n ≡ is_item t n
+  same-item n = item-told s n ∙ (λ i. same-file n i || same-document n i) ∙ sym (item-told t n)
 
   pub same-leaf : (n : ℕ) → is_leaf_at s.entries n ≡ is_leaf_at t.entries n
   same-leaf n = leaf-told s.entries n ∙ (λ i. same-file n i || same-symlink n i) ∙ sym (leaf-told t.entries n)
@@ -120,22 +138,26 @@ module _ (s t : State) (bares : bare s ≡ bare t) where
   pub same-free : (dir : ℕ) (name : List ℕ) → is_free s dir name ≡ is_free t dir name
   same-free dir name = alike (λ s. is_free s dir name) (λ s. is_free-bare s dir name)
 
-  -- and what is placed
-  pub same-placed : (e : Event) → is_placed s e ≡ is_placed t e
-  same-placed (Mkdir dir name) = same-free dir name
-  same-placed (NewFile dir name text) = λ i. same-free dir name i && is_text text
-  same-placed (Rewrite file text) = λ i. same-file file i && is_text text
-  same-placed (Ln dir name target) = λ i. same-free dir name i && is_target target
-  same-placed (Smkdir dir name query told) = λ i. same-free dir name i && (same-asks query i && length told == 0)
-  same-placed (Setq dir query told) = λ i. same-made dir i && (same-asks query i && length told == 0)
-  same-placed (Unq dir) = same-semantic dir
-  same-placed (Mark mark) = λ i. same-file mark.item i && same-semantic mark.dir i
-  same-placed (Mv entry dir name) = λ i. same-some entry i && same-free dir name i && not (same-inside dir entry i)
-  same-placed (Rm entry) = same-leaf entry
-  same-placed (Rmdir dir) = λ i. same-made dir i && same-bare dir i
-  same-placed Step = due s.entries ∙ ap (λ (k : ℕ). nat_lt 0 k) (same-dirty) ∙ sym (due t.entries)
-  same-placed (Cd session dir) = λ i. is_space_name session && same-directory dir i
-  same-placed other = refl
+  -- a directory that was made isn't a mount
+  same-holder : (n : ℕ) → is_made_holder s n ≡ is_made_holder t n
+  same-holder n = λ i. same-made n i && not (same-mount n i)
+
+  -- and what is placed, where both want the same space to be asked for a query
+  pub same-placed : ((q : Formula ℕ) → first_asked s q ≡ first_asked t q) → (e : Event) → is_placed s e ≡ is_placed t e
+  same-placed asked (Mkdir dir name) = same-free dir name
+  same-placed asked (NewFile dir name text) = λ i. same-free dir name i && is_text text
+  same-placed asked (Rewrite file text) = λ i. same-file file i && is_text text
+  same-placed asked (Ln dir name target) = λ i. same-free dir name i && is_target target
+  same-placed asked (Smkdir dir name query told) = λ i. same-free dir name i && (same-asks query i && (is_none (asked query i) && length told == 0))
+  same-placed asked (Setq dir query told) = λ i. same-holder dir i && (same-asks query i && (is_none (asked query i) && length told == 0))
+  same-placed asked (Unq dir) = same-semantic dir
+  same-placed asked (Mark mark) = λ i. same-item mark.item i && same-semantic mark.dir i
+  same-placed asked (Mv entry dir name) = λ i. same-some entry i && not (same-document entry i) && same-free dir name i && not (same-inside dir entry i)
+  same-placed asked (Rm entry) = same-leaf entry
+  same-placed asked (Rmdir dir) = λ i. same-holder dir i && same-bare dir i
+  same-placed asked Step = due s.entries ∙ ap (λ (k : ℕ). nat_lt 0 k) (same-dirty) ∙ sym (due t.entries)
+  same-placed asked (Cd session dir) = λ i. is_space_name session && same-directory dir i
+  same-placed asked other = refl
 
   -- the outcome of a command
   pub same-resolved : (session : List ℕ) (base : ℕ) (c : Command) → resolved_for s session base c ≡ resolved_for t session base c

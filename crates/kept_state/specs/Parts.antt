@@ -1,10 +1,12 @@
 -- A tree with the marks of its semantic directories, with what depends on what, and with its sessions.
 use Rattle.std.specs.Prelude.{◌≡◌, ℕ, ◌||◌, [], ◌∷◌, Option, Some, None, IsTrue}
+use Rattle.std.specs.List.{AllByRecursion}
 use Rattle.hac_model.specs.Tree.Depends.{named_in}
 use Rattle.hac_model.specs.Tree.Facts.{Facts, Marks, facts_of, joined}
 use Rattle.hac_model.specs.Query.Formula.{Formula}
 use Rattle.hac_model.specs.Tree.Links.{is_semantic, query_at}
 use Rattle.hac_model.specs.Tree.Valid.{IsValid}
+use Rattle.hac_model.specs.Tree.{answers_in}
 use Rattle.hac_model.specs.declared.states.State.{State}
 use Rattle.dep_graph.specs.Graphs.{edges_of}
 use Rattle.dep_graph.specs.Graphs as graph
@@ -24,6 +26,10 @@ facts_kept kept number = record { marks = marks_kept kept.marks number; answers 
 abbrev pub state_of : Parts → State
 state_of kept = joined (facts_kept kept) kept.sessions kept.tree.state
 
+-- no mount of the state keeps answers
+abbrev pub KeepsNoAnswers : State → Type 0
+KeepsNoAnswers s = AllByRecursion (λ entry. answers_in entry.body ≡ []) s.entries
+
 -- the tree, the marks, the graph and the sessions are those of one valid state
 pub record IsLinked (kept : Parts) : Type 0 where
   pub valid : IsValid (state_of kept)
@@ -33,8 +39,9 @@ pub record IsLinked (kept : Parts) : Type 0 where
   pub found : (dir : ℕ) → transient_in kept.marks dir ≡ []
   -- only semantic directories have sets of marks
   pub sets : (dir : ℕ) → IsTrue (has_sets kept.marks dir) → IsTrue (is_semantic (state_of kept) dir)
-  -- and the tree keeps no sessions
+  -- and the tree keeps no sessions and no answers
   pub alone : kept.tree.state.sessions ≡ []
+  pub untold : KeepsNoAnswers kept.tree.state
 
 -- the one has what the other has, and may be ready for something else, as a semantic directory for marks
 pub record AreAlike (old new : Parts) : Type 0 where

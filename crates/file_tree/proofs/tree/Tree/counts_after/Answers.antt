@@ -46,3 +46,9 @@ returns-in-Rm c =
 
 pub returns-in-Mark : goal.returns-in-Mark
 returns-in-Mark c = c.counts.ensures.counts ∙ mark-counts c.args.self.now.state c.args.event.now _ c.in-Mark.is
+
+pub returns-in-Rewrite : goal.returns-in-Rewrite
+returns-in-Rewrite c = c.with_text.ensures c.in-Rewrite.text (sym c.len-in-Rewrite.ensures.len) ∙ ap (λ (e : Event). counts (apply c.args.self.now.state e)) (sym c.in-Rewrite.is)
+
+pub returns-in-Mv : goal.returns-in-Mv
+returns-in-Mv c = c.with_moved.ensures c.in-Mv.name ∙ ap (λ (e : Event). counts (apply c.args.self.now.state e)) (sym c.in-Mv.is)
