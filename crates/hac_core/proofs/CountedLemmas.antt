@@ -3,7 +3,7 @@ use Rattle.std.proofs.Common.{◌≡◌, ℕ, ◌+◌, Bool, true, false, cond, 
 use Rattle.std.specs.Prelude.{◌==◌, ◌&&◌, ◌||◌, not, is_none, Some, None}
 use Rattle.hac_model.specs.Query.Formula.{Formula}
 use Rattle.hac_model.specs.Query.Formula as query
-use Rattle.hac_model.specs.Tree.Events.{added, apply, asking, changed_in, edited, first_asked, first_asked_in}
+use Rattle.hac_model.specs.Tree.Events.{added, apply, asking, changed_at, changed_in, edited, first_asked, first_asked_in}
 use Rattle.hac_model.specs.Tree.Limits.{counts, file_bytes}
 use Rattle.hac_model.specs.Tree.{is_directory, is_dirty, is_document, is_file, is_linkable, is_mount, is_symlink, space_in}
 use Rattle.hac_model.specs.declared.events.Event.{Event}
@@ -14,10 +14,9 @@ use Rattle.hac_model.specs.declared.states.Entry.{Entry}
 use Rattle.hac_model.specs.declared.states.State.{State}
 use Rattle.hac_model.proofs.CountLemmas.{is_queried, measured, measured-cons, one_if}
 use Rattle.hac_model.proofs.MapLemmas.{mapped, paths-mapped}
-use Rattle.hac_core.specs.Drafts.{unasking}
 
 -- the query becomes one that asks nothing
-unasked : Body → Body
+abbrev unasked : Body → Body
 unasked (Semantic asked permanent prohibited) = Semantic (query.Dir 0) permanent prohibited
 unasked other = other
 
@@ -80,20 +79,25 @@ same-changed p q dir (e ∷ es) = λ i. here (e.number == dir) i ∷ same-change
 same-entries : (s t : State) → s.next ≡ t.next → map (edited unasked) s.entries ≡ map (edited unasked) t.entries → counts s ≡ counts t
 same-entries s t next same = sym (counts-unasked s) ∙ (λ i. counts (record { next = next i; entries = same i; sessions = [] })) ∙ counts-unasked t
 
-pub counts-unasking : (s : State) (e : Event) → counts (apply s (unasking e)) ≡ counts (apply s e)
-counts-unasking s (Smkdir dir name asked told) =
-    same-entries (apply s (unasking (Smkdir dir name asked told))) (apply s (Smkdir dir name asked told)) refl
-    (map-added s.entries (record { number = s.next; parent = dir; name = name; body = Semantic (query.Dir 0) [] [] })
-    ∙ sym (map-added s.entries (record { number = s.next; parent = dir; name = name; body = Semantic asked [] [] })))
-counts-unasking s (Setq dir asked told) =
-    same-entries (apply s (unasking (Setq dir asked told))) (apply s (Setq dir asked told)) refl (same-changed (query.Dir 0) asked dir s.entries)
-counts-unasking s other = refl
+-- what a state holds after an event, by what it holds after one with another query
+pub semantic-counts : (s : State) (e : Event) (dir : ℕ) (name own : List ℕ) (asked other : Formula ℕ) (told : List (List ℕ)) → e ≡ Smkdir dir name asked told → own ≡ name → counts (added s dir own (Semantic other [] [])) ≡ counts (apply s e)
+semantic-counts s e dir name own asked other told is same =
+    same-entries (added s dir own (Semantic other [] [])) (apply s (Smkdir dir own asked told)) refl
+    (map-added s.entries (record { number = s.next; parent = dir; name = own; body = Semantic other [] [] })
+    ∙ sym (map-added s.entries (record { number = s.next; parent = dir; name = own; body = Semantic asked [] [] })))
+    ∙ ap (λ (name : List ℕ). counts (apply s (Smkdir dir name asked told))) same
+    ∙ sym (ap (λ (e : Event). counts (apply s e)) is)
+
+pub asking-counts : (s : State) (e : Event) (dir : ℕ) (asked other : Formula ℕ) (told : List (List ℕ)) → e ≡ Setq dir asked told → counts (changed_at s dir (edited (asking other))) ≡ counts (apply s e)
+asking-counts s e dir asked other told is =
+    same-entries (changed_at s dir (edited (asking other))) (apply s (Setq dir asked told)) refl (same-changed other asked dir s.entries)
+    ∙ sym (ap (λ (e : Event). counts (apply s e)) is)
 
 -- the query that asks nothing wants no mount to be asked
 pub asks-nothing : (es : List Entry) → first_asked_in (query.Dir 0) es ≡ None
 asks-nothing [] = refl
-asks-nothing (e ∷ es) = at (is_mount e.body)
+asks-nothing (e ∷ es) = ap (λ (b : Bool). cond b (first_asked_in (query.Dir 0) es) (space_in e.body)) (either (is_mount e.body)) ∙ asks-nothing es
   where
-    at : (b : Bool) → cond (not b || true) (first_asked_in (query.Dir 0) es) (space_in e.body) ≡ None
-    at true = asks-nothing es
-    at false = asks-nothing es
+    either : (b : Bool) → (not b || true) ≡ true
+    either true = refl
+    either false = refl

@@ -77,15 +77,15 @@ asks-none s q none no-terms = asked-in q s.entries none ∙ ap (λ (b : Bool). c
 -- without mounts there is none to be asked
 unmounted : (q : Formula ℕ) (es : List Entry) → mount_count es ≡ 0 → first_asked_in q es ≡ None
 unmounted q [] none = refl
-unmounted q (e ∷ es) none = at (is_mount e.body) refl
+unmounted q (e ∷ es) none = at (is_mount e.body) refl (λ rest. unmounted q es rest)
   where
-    at : (b : Bool) → is_mount e.body ≡ b → first_asked_in q (e ∷ es) ≡ None
-    at true is =
+    at : (b : Bool) → is_mount e.body ≡ b → (mount_count es ≡ 0 → first_asked_in q es ≡ None) → first_asked_in q (e ∷ es) ≡ None
+    at true is more =
         let one : one_if is_mount e.body ≡ 1 = ap (λ (b : Bool). cond {A = ℕ} b 1 0) is in
         absurd (omega (arith, measured-cons (one_if is_mount) e es, one, none))
-    at false is =
+    at false is more =
         let rest : mount_count es ≡ 0 = omega (arith, measured-cons (one_if is_mount) e es, none) in
-        ap (λ (b : Bool). cond (not b || list_all (is_kept (answers_in e.body)) (terms_of q)) (first_asked_in q es) (space_in e.body)) is ∙ unmounted q es rest
+        ap (λ (b : Bool). cond (not b || list_all (is_kept (answers_in e.body)) (terms_of q)) (first_asked_in q es) (space_in e.body)) is ∙ more rest
 
 pub asks-unmounted : (s : State) (q : Formula ℕ) → mount_count s.entries ≡ 0 → first_asked s q ≡ None
 asks-unmounted s q none = unmounted q s.entries none

@@ -55,7 +55,7 @@ fn answered_in(tree: &Tree, event: &Event) -> Result<(), Deny>
 
 /// Refuses what a space would have to be asked for.
 fn unattached(space: Option<&Name>) -> Result<(), Deny>
-    ensures { Passes result (unattached (option_copied space)) }
+    ensures { Passes result (unattached (option_copied space.entry)) }
 {
     match space {
         Some(space) => Err(Deny::Refused(Refusal::NoSpace(space.clone()?))),
@@ -102,10 +102,9 @@ fn has_terms(query: &Query<Number>) -> bool
 fn first_space(tree: &Tree) -> Option<&Name>
     ensures { option_copied result ≡ first_space tree.now.state.entries }
 {
-    'numbers: for number in 0..tree.next_number().get() {
-        let space = tree.space(Number::new(number));
-        if space.is_some() {
-            return space;
+    for number in 0..tree.next_number().get() {
+        if let Some(space) = tree.space(Number::new(number)) {
+            return Some(space);
         }
     }
     None
