@@ -1,11 +1,11 @@
 //! The state as it is kept, and the events that it is ready for.
-ghost use Rattle.std.specs.Prelude.{◌≡◌, ◌∷◌, [], IfOk, IsTrue, OnOk, OnErr, replicate};
+ghost use Rattle.std.specs.Prelude.{◌≡◌, ◌∷◌, [], ℕ, IfOk, IsTrue, OnOk, OnErr, replicate};
 ghost use Rattle.hac_model.specs.Tree.Depends.{cycle_of_move, cycle_over};
 ghost use Rattle.hac_model.specs.Tree.Events.{accepted, apply, apply_all};
 ghost use Rattle.hac_model.specs.Laws.{AllHappen};
 ghost use Rattle.hac_model.specs.Tree.Limits as limits;
 ghost use Rattle.hac_model.specs.Tree.Limits.{counts};
-ghost use Rattle.hac_model.specs.Tree.Links.{parent_of};
+ghost use Rattle.hac_model.specs.Tree.Links.{answers_at, parent_of};
 ghost use Rattle.hac_model.specs.Tree.{empty, path_of};
 ghost use Rattle.hac_model.specs.Tree.Sessions.{are_few, is_busy, is_stored, least_name};
 ghost use Rattle.hac_model.specs.Tree.Sessions.{sessions_with, stands_in, visitors};
@@ -74,6 +74,13 @@ impl KeptState {
     /// The state is valid. This does nothing: it is called where a proof has to know so.
     pub fn know_valid(&self)
         ensures { IsValid self.now.state }
+    {
+        let _parts = &self.parts;
+    }
+
+    /// No mount keeps an answer yet. This does nothing: it is called where a proof has to know so.
+    pub fn know_no_answers(&self)
+        ensures { (number : ℕ) → answers_at self.now.state number ≡ [] }
     {
         let _parts = &self.parts;
     }

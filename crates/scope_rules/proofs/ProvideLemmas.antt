@@ -1,13 +1,22 @@
 -- What a directory provides, by the links that were found and the marks.
 use Rattle.std.proofs.Common.{◌≡◌, ℕ, Bool, true, false, ◌||◌, ◌&&◌, refl, ap, sym, ◌∙◌}
-use Rattle.std.specs.Prelude.{is_some}
+use Rattle.std.specs.Prelude.{Option, Some, None, is_some}
+use Rattle.std.specs.Option.{option_map_or}
 use Rattle.hac_model.specs.Tree.Bare.{bare}
-use Rattle.hac_model.specs.Tree.Links.{column, has, is_below, is_semantic, permanent_at, provide}
-use Rattle.hac_model.specs.Tree.{extends}
+use Rattle.hac_model.specs.Tree.Links.{column, has, is_below, is_item, is_semantic, permanent_at, provide}
+use Rattle.hac_model.specs.Tree.{body_at, extends, is_document, is_document_at, is_file, is_file_at, is_linkable}
+use Rattle.hac_model.specs.declared.states.Body.{Body}
 use Rattle.hac_model.specs.declared.states.State.{State}
-use Rattle.hac_model.proofs.AlikeLemmas.{directory-bare, file-bare, path_of-bare, query_at-bare}
+use Rattle.hac_model.proofs.AlikeLemmas.{directory-bare, document-bare, file-bare, path_of-bare, query_at-bare}
 use Rattle.link_kinds.specs.Seen.{Known, permanent_in, transient_in}
 use Rattle.scope_rules.specs.Made.{IsMadeOf}
+
+-- an item is a file or a document
+item-told : (s : State) (n : ℕ) → is_item s n ≡ (is_file_at s.entries n || is_document_at s.entries n)
+item-told s n = elim (body_at s.entries n) as (λ (o : Option Body). option_map_or is_linkable o false ≡ (option_map_or is_file o false || option_map_or is_document o false)) [ None ↦ refl | Some body ↦ refl ]
+
+item-bare : (s : State) (n : ℕ) → is_item (bare s) n ≡ is_item s n
+item-bare s n = item-told (bare s) n ∙ (λ i. file-bare s n i || document-bare s n i) ∙ sym (item-told s n)
 
 module _ (s tree : State) (marks found : Known) (made : IsMadeOf s tree marks) (dir item : ℕ) where
   -- what depends on no mark is as in the tree
@@ -15,7 +24,7 @@ module _ (s tree : State) (marks found : Known) (made : IsMadeOf s tree marks) (
   alike tell same = sym (same tree) ∙ ap tell (sym made.bares) ∙ same s
 
   below : is_below tree dir item ≡ is_below s dir item
-  below = alike (λ s. is_below s dir item) (λ s i. (file-bare s item i && directory-bare s dir i) && extends (path_of-bare s item i) (path_of-bare s dir i))
+  below = alike (λ s. is_below s dir item) (λ s i. (item-bare s item i && directory-bare s dir i) && extends (path_of-bare s item i) (path_of-bare s dir i))
 
   semantic : is_semantic tree dir ≡ is_semantic s dir
   semantic = alike (λ s. is_semantic s dir) (λ s. ap is_some (query_at-bare s dir))

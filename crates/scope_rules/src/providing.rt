@@ -22,7 +22,7 @@ pub fn provides(tree: &Tree, marks: &Links, found: &Links, dir: Number, item: Nu
 fn is_stored_below(tree: &Tree, dir: Number, item: Number) -> bool
     ensures { result ≡ is_below tree.now.state dir item }
 {
-    tree.is_file(item) && tree.is_directory(dir) && tree.is_below(item, dir)
+    tree.is_item(item) && tree.is_directory(dir) && tree.is_below(item, dir)
 }
 
 /// Whether an item is a link of a semantic directory.

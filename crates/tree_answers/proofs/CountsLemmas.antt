@@ -103,16 +103,12 @@ module _ (s : State) (h : IsValid s) where
     pub count-told : link_count kind s links ≡ over_directories s numbers
     count-told = λ i. sum_by (λ dir. length (are dir i)) (range_with_len 0 s.next)
 
--- the line of a state is that of its counts. Until the definition of `counts_line` is this one, by each row.
-rows : (s : State) → counts_line s ≡ line_of_counts (counts s) (plain_count s.entries) (transient_count s) (permanent_count s) (prohibited_count s)
-rows s = refl
-
-pub line-counted : (s : State) (k : Counts) (transient permanent prohibited : ℕ) (line : List ℕ) → k ≡ counts s → transient ≡ transient_count s → permanent ≡ permanent_count s → prohibited ≡ prohibited_count s → line ≡ line_of_counts k (k.directories - 1 - k.semantics) transient permanent prohibited → line ≡ counts_line s
+-- the line of a state is that of its counts
+pub line-counted : (s : State) (k : Counts) (transient permanent prohibited : ℕ) (line : List ℕ) → k ≡ counts s → transient ≡ transient_count s → permanent ≡ permanent_count s → prohibited ≡ prohibited_count s → line ≡ line_of_counts k (k.directories - 1 - k.semantics - k.mounts) transient permanent prohibited → line ≡ counts_line s
 line-counted s k transient permanent prohibited line same t p x told =
     told
-    ∙ (λ i. line_of_counts (same i) ((same i).directories - 1 - (same i).semantics) (t i) (p i) (x i))
+    ∙ (λ i. line_of_counts (same i) ((same i).directories - 1 - (same i).semantics - (same i).mounts) (t i) (p i) (x i))
     ∙ ap (λ plain. line_of_counts (counts s) plain (transient_count s) (permanent_count s) (prohibited_count s)) (sym (plain-counted s).1)
-    ∙ sym (rows s)
 
 module _ (s : State) (valid : IsValid s) (dirs : List ℕ) (are : (dir : ℕ) → IsTrue (is_semantic s dir) → Among dirs dir) (found : Known) (all : AreFound s dirs 0 s.next found) (rise : LinkListsRise found) where
   -- the links that were found are all links

@@ -6,8 +6,8 @@ use Rattle.std.specs.Option.{option_map, option_map_or}
 use Rattle.std.proofs.lemmas.Bool.{cases_eq, cases_lt, eq-eqb, le-leb, lt-ltb, ne_eqb}
 use Rattle.hac_model.specs.Tree.Depends.{Among, IsAcyclic, NeverReturns, depends, named_in}
 use Rattle.hac_model.specs.Query.Formula.{Formula}
-use Rattle.hac_model.specs.Tree.Links.{column, has, holds, is_item, is_permanent, is_prohibited, is_semantic, is_unmarked, items, kind, links, parent_of, passes, query_at, satisfies, shown_of}
-use Rattle.hac_model.specs.Tree.{is_file}
+use Rattle.hac_model.specs.Tree.Links.{column, has, holds, is_item, is_judged, is_permanent, is_prohibited, is_semantic, is_unmarked, items, kind, links, parent_of, passes, query_at, satisfies}
+use Rattle.hac_model.specs.Tree.{is_linkable}
 use Rattle.hac_model.specs.Tree.Valid.{IsLayout, IsValid}
 use Rattle.hac_model.specs.declared.states.Entry.{Entry}
 use Rattle.hac_model.specs.declared.marks.Kind.TheVariants.{Transient, Permanent, Prohibited, Unlinked}
@@ -17,7 +17,7 @@ use Rattle.std.proofs.lemmas.Bool.Decides.{nat_tests}
 use Rattle.hac_model.specs.declared.limits.TheConstants.{NUMBERS_LIMIT}
 use Rattle.hac_model.proofs.LimitLemmas.{IsWithinLimits, limits-within}
 use Rattle.hac_model.proofs.LinkLemmas.{holds-same, links-fixed, provide-same}
-use Rattle.hac_model.proofs.ListedLemmas.{file-item, linked-item, links-listed}
+use Rattle.hac_model.proofs.ListedLemmas.{item-listed, linked-item, links-listed}
 use Rattle.hac_model.proofs.MarkLemmas.{has-filter}
 use Rattle.hac_model.proofs.TreeLemmas.{entry_at-next}
 use Rattle.dep_graph.specs.Graphs.{edges_of}
@@ -99,7 +99,7 @@ module _ (s : State) (valid : IsValid s) (dirs : List ℕ) (first end : ℕ) whe
 
 -- an item passes alike, where the directories that the query is about found it alike
 passes-same : (s : State) (a b : ℕ → Bool) (dir item : ℕ) (q : Formula ℕ) → query_at s dir ≡ Some q → ((e : ℕ) → Among (parent_of s dir ∷ named_in q) e → a e ≡ b e) → passes s a dir item ≡ passes s b dir item
-passes-same s a b dir item q asks same = λ i. provide-same s a b (parent_of s dir) item (same (parent_of s dir) (inl refl)) i && is_some (shown_of s item) && met i && is_unmarked s dir item
+passes-same s a b dir item q asks same = λ i. provide-same s a b (parent_of s dir) item (same (parent_of s dir) (inl refl)) i && is_judged s item && met i && is_unmarked s dir item
   where
     asked : (known : ℕ → Bool) → satisfies s known dir item ≡ holds s known q item
     asked known = ap (λ (o : Option (Formula ℕ)). option_map_or (λ asked. holds s known asked item) o false) asks
@@ -128,7 +128,7 @@ module _ (s : State) (valid : IsValid s) (dirs : List ℕ) (first end : ℕ) (x 
         by_query None none file = absurd ((p.reached x (inl refl)).0 (ap (λ (o : Option (Formula ℕ)). option_map_or (λ (asked : Formula ℕ). parent_of s x ∷ named_in asked) o []) none))
         by_query (Some q) asks file =
             passes-same s known (column (links s) item) x item q asks (λ e among. sym (before e (subst (λ (o : Option (Formula ℕ)). Among (option_map_or (λ (asked : Formula ℕ). parent_of s x ∷ named_in asked) o []) e) (sym asks) among)))
-            ∙ sym (linked-item s item x valid.acyclic (file-item s item valid.layout file) ∙ ap (λ (o : Option (Formula ℕ)). is_some o && passes s (column (links s) item) x item) asks)
+            ∙ sym (linked-item s item x valid.acyclic (item-listed s item valid.layout file) ∙ ap (λ (o : Option (Formula ℕ)). is_some o && passes s (column (links s) item) x item) asks)
 
         by_file : (b : Bool) → is_item s item ≡ b → (b && passes s known x item) ≡ column (links s) item x
         by_file true file = by_query (query_at s x) refl file
@@ -172,11 +172,11 @@ module _ (s : State) (valid : IsValid s) (dirs : List ℕ) (first end : ℕ) (x 
 
 -- What was found of one item.
 
--- a file has a number below the next
+-- an item has a number below the next
 pub file-below : (s : State) (n : ℕ) → IsLayout s → is_item s n ≡ true → n < s.next
 file-below s n h file = elim (cases_lt n s.next) as (λ _. n < s.next) [
   | inl less ↦ less
-  | inr high ↦ (let none : false ≡ true = ap (λ (o : Option Entry). option_map_or is_file (option_map (λ (e : Entry). e.body) o) false) (sym (entry_at-next 0 s.entries s.next n h.numbers high)) ∙ file in absurd cc)
+  | inr high ↦ (let none : false ≡ true = ap (λ (o : Option Entry). option_map_or is_linkable (option_map (λ (e : Entry). e.body) o) false) (sym (entry_at-next 0 s.entries s.next n h.numbers high)) ∙ file in absurd cc)
 ]
 
 pub next-few : (s : State) → IsLayout s → s.next ≤ NUMBERS_LIMIT

@@ -1,11 +1,11 @@
 -- Lines of links, given what was found.
 use Rattle.std.proofs.Common.{◌≡◌, ℕ, Bool, true, false, cond, List, [], ◌∷◌, map, refl, ap, sym, subst, ◌∙◌}
-use Rattle.std.specs.Prelude.{◌&&◌, filter, is_some}
+use Rattle.std.specs.Prelude.{◌&&◌, filter}
 use Rattle.std.specs.List.{flat_map, range_with_len}
 use Rattle.std.proofs.lemmas.List.Concat.{flat_map_single}
 use Rattle.hac_model.specs.Tree.Depends.{Among, depends, named_in}
 use Rattle.hac_model.specs.Query.Formula.{Formula}
-use Rattle.hac_model.specs.Tree.Links.{column, found_by, holds, is_item, items, kind, links, shown_of}
+use Rattle.hac_model.specs.Tree.Links.{column, found_by, holds, is_item, is_judged, items, kind, links}
 use Rattle.hac_model.specs.Run.Play.{found_line, kind_lines, link_lines}
 use Rattle.hac_model.specs.Tree.{path_of}
 use Rattle.hac_model.specs.Tree.Valid.{IsValid}
@@ -40,10 +40,10 @@ module _ (s : State) (valid : IsValid s) (dirs : List ℕ) (found : Known) (all 
       ∙ flat_map_single (found_line s) (filter passes (items s))
     where
       passes : ℕ → Bool
-      passes item = is_some (shown_of s item) && holds s (column (links s) item) asked item
+      passes item = is_judged s item && holds s (column (links s) item) asked item
 
-      each : (item : ℕ) (b : Bool) → is_item s item ≡ b → cond ((b && is_some (shown_of s item)) && holds s (column (transient_in found) item) asked item) (found_line s item ∷ []) [] ≡ cond b (cond (passes item) (found_line s item ∷ []) []) []
-      each item true file = ap (λ h. cond (is_some (shown_of s item) && h) (found_line s item ∷ []) [])
+      each : (item : ℕ) (b : Bool) → is_item s item ≡ b → cond ((b && is_judged s item) && holds s (column (transient_in found) item) asked item) (found_line s item ∷ []) [] ≡ cond b (cond (passes item) (found_line s item ∷ []) []) []
+      each item true file = ap (λ h. cond (is_judged s item && h) (found_line s item ∷ []) [])
           (holds-same s (column (transient_in found) item) (column (links s) item) asked item
           (λ e among. all.links e item (λ is. alone-reaches (depends s) dirs e (subst (λ (ds : List ℕ). Among ds e) (sym named) among)) (within item file)))
       each item false other = refl

@@ -8,7 +8,7 @@ use Rattle.hac_model.specs.Tree.Listing.{children, entry_line}
 use Rattle.hac_model.specs.Tree.{entry_at, is_file, text_in}
 use Rattle.hac_model.specs.Tree.Valid.{IsLayout}
 use Rattle.hac_model.specs.declared.states.Body.{Body}
-use Rattle.hac_model.specs.declared.states.Body.TheVariants.{File, Dir, Symlink, Semantic, Mount}
+use Rattle.hac_model.specs.declared.states.Body.TheVariants.{File, Dir, Symlink, Semantic, Mount, Document}
 use Rattle.hac_model.specs.declared.states.Entry.{Entry}
 use Rattle.hac_model.specs.declared.states.State.{State}
 use Rattle.file_tree.proofs.OrderLemmas.{children-found}
@@ -20,7 +20,8 @@ no-text (Some (File text dirty shown)) other = absurd cc
 no-text (Some Dir) other = refl
 no-text (Some (Symlink target)) other = refl
 no-text (Some (Semantic query permanent prohibited)) other = refl
-no-text (Some (Mount space documents answers)) other = refl
+no-text (Some (Mount space answers)) other = refl
+no-text (Some Document) other = refl
 
 -- the numbers of entries
 abbrev numbers_of : List Entry → List ℕ

@@ -1,8 +1,8 @@
 -- Links as a command finds them.
-use Rattle.std.specs.Prelude.{◌≡◌, ℕ, Bool, true, false, ◌&&◌, ◌||◌, ◌==◌, nat_le, nat_lt, is_some, List, if◌then◌else◌}
+use Rattle.std.specs.Prelude.{◌≡◌, ℕ, Bool, true, false, ◌&&◌, ◌||◌, ◌==◌, nat_le, nat_lt, List, if◌then◌else◌}
 use Rattle.hac_model.specs.Tree.Depends.{depends}
 use Rattle.hac_model.specs.Query.Formula.{Formula}
-use Rattle.hac_model.specs.Tree.Links.{column, holds, is_item, is_permanent, is_prohibited, is_semantic, links, passes, shown_of}
+use Rattle.hac_model.specs.Tree.Links.{column, holds, is_item, is_judged, is_permanent, is_prohibited, is_semantic, links, passes}
 use Rattle.hac_model.specs.declared.marks.Kind.{Kind}
 use Rattle.hac_model.specs.declared.marks.Kind.TheVariants.{Transient, Permanent, Prohibited, Unlinked}
 use Rattle.hac_model.specs.declared.states.State.{State}
@@ -13,17 +13,17 @@ use Rattle.link_kinds.specs.Seen.{Known, transient_in}
 abbrev pub is_within : ℕ → ℕ → ℕ → Bool
 is_within first end number = nat_le first number && nat_lt number end
 
--- the number is that of an item that was indexed
-abbrev pub is_indexed : State → ℕ → Bool
-is_indexed s number = is_item s number && is_some (shown_of s number)
+-- the number is that of an item that queries judge
+abbrev pub is_judged_item : State → ℕ → Bool
+is_judged_item s number = is_item s number && is_judged s number
 
 -- the directory finds the item, given the links so far
 abbrev pub finds : State → Known → ℕ → ℕ → Bool
 finds s found dir item = is_item s item && passes s (column (transient_in found) item) dir item
 
--- the query finds the item, which was indexed and satisfies it, given the links so far
+-- the query finds the item, which it judges and which satisfies it, given the links so far
 abbrev pub is_found_by : State → Known → Formula ℕ → ℕ → Bool
-is_found_by s found query item = is_indexed s item && holds s (column (transient_in found) item) query item
+is_found_by s found query item = is_judged_item s item && holds s (column (transient_in found) item) query item
 
 -- how an item is linked in a directory, given the links that it finds
 abbrev pub kind_given : State → Known → ℕ → ℕ → Kind

@@ -1,12 +1,14 @@
 //! The links that queries give to directories, found anew where a command asks for them.
-ghost use Rattle.std.specs.Prelude.{◌≡◌, ◌≤◌, IfOk, IsTrue, OnOk};
-ghost use Rattle.hac_model.specs.Tree.Links.{atom, column, has, holds, is_unmarked, links};
-ghost use Rattle.hac_model.specs.Tree.Links.{parent_of, provide, satisfies};
-ghost use Rattle.hac_model.specs.Tree.{is_file_at};
+ghost use Rattle.std.specs.Prelude.{◌≡◌, ◌≤◌, ℕ, false, IfOk, IsTrue, OnOk};
+ghost use Rattle.std.specs.Option.{option_map_or};
+ghost use Rattle.hac_model.specs.Query.Words.{has_term};
+ghost use Rattle.hac_model.specs.Tree.Links.{atom, column, has, holds, is_item, is_unmarked, kept_at};
+ghost use Rattle.hac_model.specs.Tree.Links.{links, parent_of, provide, satisfies, shown_of};
+ghost use Rattle.hac_model.specs.declared.terms.Term.{Term};
 ghost use Rattle.link_kinds.specs.Seen.{LinkListsRise, transient_in};
 ghost use Rattle.tree_answers.specs.Finding.{AreFound, GetsFound, GetsOne, finds};
 
-use crate::lookups::{is_indexed, parent_of, query_at, shown_of};
+use crate::lookups::{is_document, is_judged_item, parent_of, query_at, shown_of};
 use hac_model::{Kind, Member, Memory, Number, Query, Term};
 use hac_words::has_term;
 use kept_state::KeptState;
@@ -15,8 +17,8 @@ use query_eval::{Atoms, judge};
 use scope_rules::{has_found, provides};
 use std::alloc::Global;
 
-/// What queries are judged by: the texts of files as they were last indexed, and what directories
-/// provide.
+/// What queries are judged by: the texts of files as they were last indexed, the answers that
+/// mounts keep, and what directories provide.
 #[derive(Clone, Copy)]
 pub struct Sight<'a> {
     /// The state.
@@ -29,10 +31,31 @@ impl<'a> Atoms for Sight<'a> {
     ghost atoms = { λ sight. atom sight.kept.now.state };
 
     fn has(&self, term: &Term, item: Number) -> bool {
-        match shown_of(self.kept, item) {
-            Some(text) => has_term(text, term),
-            None => false,
+        if is_document(self.kept, item) {
+            document_has(self.kept)
+        } else {
+            text_has(self.kept, term, item)
         }
+    }
+}
+
+/// Whether a document has a term, by what its mount keeps. No answers are kept yet, so it has none.
+fn document_has(kept: &KeptState) -> bool
+    ensures { (mount : ℕ) (term : Term) (item : ℕ) →
+        result ≡ has (kept_at kept.now.state mount term) item }
+{
+    kept.know_no_answers();
+    false
+}
+
+/// Whether the text of an item, as it was last indexed, has a term.
+fn text_has(kept: &KeptState, term: &Term, item: Number) -> bool
+    ensures { result
+        ≡ option_map_or (λ text. has_term text term.now) (shown_of kept.now.state item) false }
+{
+    match shown_of(kept, item) {
+        Some(text) => has_term(text, term),
+        None => false,
     }
 }
 
@@ -94,12 +117,12 @@ fn find_one(kept: &KeptState, found: &mut Links, dir: Number, item: Number) -> R
     Ok(())
 }
 
-/// Whether a directory finds an item: it was indexed, the user says nothing of it there, the
+/// Whether a directory finds an item: queries judge it, the user says nothing of it there, the
 /// directory above provides it, and it satisfies the query. What costs least comes first.
 fn passes(kept: &KeptState, found: &Links, dir: Number, item: Number) -> bool
     ensures { result ≡ finds kept.now.state found.now dir item }
 {
-    is_indexed(kept, item)
+    is_judged_item(kept, item)
         && is_unmarked(kept, dir, item)
         && is_provided_above(kept, found, dir, item)
         && satisfies(kept, found, dir, item)
@@ -148,7 +171,7 @@ pub fn satisfies_query(kept: &KeptState, found: &Links, query: &Query<Number>, i
 
 /// Whether an item is found by a directory. No other item is looked at.
 pub fn is_found(alloc: Global, kept: &KeptState, dir: Number, item: Number) -> Result<bool, Memory>
-    requires { IsTrue (is_file_at kept.now.state.entries item) }
+    requires { IsTrue (is_item kept.now.state item) }
     ensures { IfOk result (λ is_found. is_found ≡ has (links kept.now.state dir) item) }
 {
     kept.know_valid();

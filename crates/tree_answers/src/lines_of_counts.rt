@@ -60,17 +60,18 @@ fn line_of_counts(
     permanent: u64,
     prohibited: u64,
 ) -> Result<Name, Memory>
-    requires { 1 + counts.semantics ≤ counts.directories }
+    requires plain { 1 + counts.semantics + counts.mounts ≤ counts.directories }
+    requires items { counts.files ≤ counts.items }
     ensures { IfOk result (λ line. line ≡ line_of_counts counts
-        (counts.directories - 1 - counts.semantics) transient permanent prohibited) }
+        (counts.directories - 1 - counts.semantics - counts.mounts) transient permanent prohibited) }
 {
-    let plain = counts.directories - 1 - counts.semantics;
+    let plain = counts.directories - 1 - counts.semantics - counts.mounts;
     let mut line = Vec::from_slice(alloc, b"=")?;
     push_count(alloc, &mut line, b"files", counts.files)?;
-    push_count(alloc, &mut line, b"documents", 0)?;
+    push_count(alloc, &mut line, b"documents", counts.items - counts.files)?;
     push_count(alloc, &mut line, b"directories", plain)?;
     push_count(alloc, &mut line, b"semantic", counts.semantics)?;
-    push_count(alloc, &mut line, b"mounts", 0)?;
+    push_count(alloc, &mut line, b"mounts", counts.mounts)?;
     push_count(alloc, &mut line, b"symbolic", counts.symlinks)?;
     push_count(alloc, &mut line, b"transient", transient)?;
     push_count(alloc, &mut line, b"permanent", permanent)?;

@@ -100,6 +100,7 @@ fn letter(kind: EntryKind) -> u8
         EntryKind::Symlink => b'l',
         EntryKind::Semantic => b's',
         EntryKind::Mount => b'm',
-        EntryKind::File | EntryKind::Document => b'f',
+        EntryKind::File => b'f',
+        EntryKind::Document => b'o',
     }
 }

@@ -9,7 +9,7 @@ ghost use Rattle.link_kinds.specs.Seen.{transient_in};
 ghost use Rattle.tree_answers.specs.Finding.{is_found_by, kind_given};
 
 use crate::finding::{find_links, satisfies_query};
-use crate::lookups::{is_indexed, is_item, next_number};
+use crate::lookups::{is_document, is_item, is_judged_item, next_number};
 use hac_model::{Kind, Memory, Name, Number, Query};
 use hac_names::print_path;
 use kept_state::{KeptState, push_named};
@@ -112,7 +112,7 @@ fn push_link(
     Ok(())
 }
 
-/// The files that a query finds anywhere, in order of number.
+/// The items that a query finds anywhere, in order of number.
 pub fn found_lines(
     alloc: Global,
     kept: &KeptState,
@@ -128,7 +128,7 @@ pub fn found_lines(
     lines_of_found(alloc, kept, &found, query)
 }
 
-/// The lines of the files that a query finds, given the links.
+/// The lines of the items that a query finds, given the links.
 #[tactic(auto, using(crate::proofs::RangeLemmas::flat_next))]
 fn lines_of_found(
     alloc: Global,
@@ -165,16 +165,27 @@ fn push_found(
 {
     let item = Number::new(number);
     if is_found_by(kept, found, query, item) {
-        lines.push(path_line(alloc, b"f ", kept, item)?)?;
+        lines.push(found_line(alloc, kept, item)?)?;
     }
     Ok(())
 }
 
-/// Whether a query finds a number: that of an item that was indexed and satisfies it.
+/// The line of an item that a query finds: its letter and its path.
+fn found_line(alloc: Global, kept: &KeptState, item: Number) -> Result<Name, Memory>
+    ensures { IfOk result (λ line. line ≡ found_line kept.now.state item) }
+{
+    if is_document(kept, item) {
+        path_line(alloc, b"o ", kept, item)
+    } else {
+        path_line(alloc, b"f ", kept, item)
+    }
+}
+
+/// Whether a query finds a number: that of an item that it judges, and which satisfies it.
 fn is_found_by(kept: &KeptState, found: &Links, query: &Query<Number>, number: Number) -> bool
     ensures { result ≡ is_found_by kept.now.state found.now query.now number }
 {
-    is_indexed(kept, number) && satisfies_query(kept, found, query, number)
+    is_judged_item(kept, number) && satisfies_query(kept, found, query, number)
 }
 
 /// A line of a letter and the path of an entry.

@@ -2,8 +2,8 @@
 ghost use Rattle.std.specs.Prelude.{◌≡◌, is_some, option_and_then};
 ghost use Rattle.std.specs.Option.{option_copied};
 ghost use Rattle.hac_model.specs.Tree.Links.{is_item, is_semantic, parent_of, query_at, shown_of};
-ghost use Rattle.hac_model.specs.Tree.{body_at, target_in, text_in};
-ghost use Rattle.tree_answers.specs.Finding.{is_indexed};
+ghost use Rattle.hac_model.specs.Tree.{body_at, is_document_at, target_in, text_in};
+ghost use Rattle.tree_answers.specs.Finding.{is_judged_item};
 
 use hac_model::{Number, Query, Text};
 use kept_state::KeptState;
@@ -67,14 +67,21 @@ pub fn is_semantic(kept: &KeptState, dir: Number) -> bool
 pub fn is_item(kept: &KeptState, number: Number) -> bool
     ensures { result ≡ is_item kept.now.state number }
 {
-    kept.tree().is_file(number)
+    kept.tree().is_item(number)
 }
 
-/// Whether a number is that of an item that was indexed.
-pub fn is_indexed(kept: &KeptState, number: Number) -> bool
-    ensures { result ≡ is_indexed kept.now.state number }
+/// Whether a number is that of a document.
+pub fn is_document(kept: &KeptState, number: Number) -> bool
+    ensures { result ≡ is_document_at kept.now.state.entries number }
 {
-    is_item(kept, number) && is_shown(kept, number)
+    kept.tree().is_document(number)
+}
+
+/// Whether a number is that of an item that queries judge: a document, or a file that was indexed.
+pub fn is_judged_item(kept: &KeptState, number: Number) -> bool
+    ensures { result ≡ is_judged_item kept.now.state number }
+{
+    is_item(kept, number) && (is_document(kept, number) || is_shown(kept, number))
 }
 
 /// Whether an item was indexed.

@@ -1,8 +1,7 @@
 //! Marks and links of single items.
 ghost use Rattle.std.specs.Prelude.{◌≡◌, ◌||◌, IfOk, IsTrue};
 ghost use Rattle.hac_model.specs.Tree.Events.{may_mark};
-ghost use Rattle.hac_model.specs.Tree.Links.{has, is_permanent, is_prohibited, links};
-ghost use Rattle.hac_model.specs.Tree.{is_file_at};
+ghost use Rattle.hac_model.specs.Tree.Links.{has, is_item, is_permanent, is_prohibited, links};
 
 use crate::finding::is_found;
 use hac_model::{Kind, Mark, Memory, Number};
@@ -12,7 +11,7 @@ use std::alloc::Global;
 /// Whether a mark changes something: an item becomes permanent where it isn't yet, prohibited where
 /// it is a link, and unmarked where it has a mark.
 pub fn may_mark(alloc: Global, kept: &KeptState, mark: Mark) -> Result<bool, Memory>
-    requires { IsTrue (is_file_at kept.now.state.entries mark.item) }
+    requires { IsTrue (is_item kept.now.state mark.item) }
     ensures { IfOk result (λ may. may ≡ may_mark kept.now.state mark.dir mark.item mark.kind) }
 {
     match mark.kind {
@@ -25,7 +24,7 @@ pub fn may_mark(alloc: Global, kept: &KeptState, mark: Mark) -> Result<bool, Mem
 
 /// Whether an item is a link of a directory, added or found.
 pub fn is_linked(alloc: Global, kept: &KeptState, dir: Number, item: Number) -> Result<bool, Memory>
-    requires { IsTrue (is_file_at kept.now.state.entries item) }
+    requires { IsTrue (is_item kept.now.state item) }
     ensures { IfOk result (λ is_linked. is_linked
         ≡ (is_permanent kept.now.state dir item || has (links kept.now.state dir) item)) }
 {
