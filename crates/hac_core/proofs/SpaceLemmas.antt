@@ -1,8 +1,8 @@
 -- Which space has to be asked first, where no answers are kept.
-use Rattle.std.proofs.Common.{◌≡◌, ℕ, ◌+◌, ◌<◌, Bool, true, false, cond, List, [], ◌∷◌, ◌++◌, refl, ap, sym, ◌∙◌, arith, inl, inr}
+use Rattle.std.proofs.Common.{◌≡◌, ℕ, ◌+◌, ◌<◌, Bool, true, false, cond, List, [], ◌∷◌, ◌++◌, map, refl, ap, sym, ◌∙◌, arith, inl, inr}
 use Rattle.std.specs.Prelude.{◌==◌, ◌&&◌, ◌||◌, not, Option, Some, None, is_some, option_and_then}
 use Rattle.std.specs.List.{AllByRecursion, list_all}
-use Rattle.std.specs.Option.{option_map}
+use Rattle.std.specs.Option.{option_map, option_map_or}
 use Rattle.std.proofs.lemmas.Bool.{cases_lt}
 use Rattle.std.proofs.lemmas.List.Folds.{list_all-append}
 use Rattle.hac_model.specs.Query.Formula.{Formula}
@@ -12,9 +12,9 @@ use Rattle.hac_model.specs.Run.Refusals.{space_cause, unattached}
 use Rattle.hac_model.specs.Tree.Bare.{bare, bare_body}
 use Rattle.hac_model.specs.Tree.Events.{edited, first_asked, first_asked_in, knows_all}
 use Rattle.hac_model.specs.Tree.Limits.{mount_count}
-use Rattle.hac_model.specs.Tree.Links.{parent_of, space_at}
+use Rattle.hac_model.specs.Tree.Links.{answers_at, parent_of, space_at}
 use Rattle.hac_model.specs.Tree.Mounts.{is_kept}
-use Rattle.hac_model.specs.Tree.Valid.{NumbersRise}
+use Rattle.hac_model.specs.Tree.Valid.{IsLayout, NumbersRise}
 use Rattle.hac_model.specs.Tree.{answers_in, body_at, entry_at, is_document_at, is_mount, space_in}
 use Rattle.hac_model.specs.declared.events.Event.{Event}
 use Rattle.hac_model.specs.declared.events.Event.TheVariants as event
@@ -23,17 +23,16 @@ use Rattle.hac_model.specs.declared.resolved.Resolved.{Resolved}
 use Rattle.hac_model.specs.declared.resolved.Resolved.TheVariants.{Cat, Smkdir, Setq, Find}
 use Rattle.hac_model.specs.declared.states.Answer.{Answer}
 use Rattle.hac_model.specs.declared.states.Body.{Body}
-use Rattle.hac_model.specs.declared.states.Body.TheVariants.{Semantic, Mount}
+use Rattle.hac_model.specs.declared.states.Body.TheVariants.{File, Dir, Symlink, Semantic, Mount, Document}
 use Rattle.hac_model.specs.declared.states.Entry.{Entry}
 use Rattle.hac_model.specs.declared.states.State.{State}
 use Rattle.hac_model.specs.declared.terms.Term.{Term}
 use Rattle.hac_model.proofs.AlikeLemmas.{entry_at-bare}
 use Rattle.hac_model.proofs.CountLemmas.{measured-cons, one_if}
 use Rattle.hac_model.proofs.TreeLemmas.{entry_at-behind, entry_at-first, entry_at-low, rise-below}
-use Rattle.kept_state.specs.Parts.{KeepsNoAnswers}
 use Rattle.kept_state.proofs.StateLemmas.{alike, same-document, same-parent}
 use Rattle.hac_core.specs.Drafts.{space_against}
-use Rattle.hac_core.specs.Spaces.{first_space, has_terms}
+use Rattle.hac_core.specs.Spaces.{AsksFirst, first_space, has_terms}
 
 -- where nothing is kept, no answer is there for a term, if there is one
 none-kept : (q : Formula ℕ) → list_all (is_kept []) (terms_of q) ≡ not (has_terms q)
@@ -68,11 +67,17 @@ asked-in q (e ∷ es) none =
     at false true = refl
     at false false = refl
 
-pub asks-first : (s : State) (q : Formula ℕ) → KeepsNoAnswers s → has_terms q ≡ true → first_asked s q ≡ first_space s.entries
-asks-first s q none some = asked-in q s.entries none ∙ ap (λ (b : Bool). cond b (first_space s.entries) None) some
-
-pub asks-none : (s : State) (q : Formula ℕ) → KeepsNoAnswers s → has_terms q ≡ false → first_asked s q ≡ None
-asks-none s q none no-terms = asked-in q s.entries none ∙ ap (λ (b : Bool). cond b (first_space s.entries) None) no-terms
+-- no entry keeps an answer where none has any by its number
+untold : (above : ℕ) (es : List Entry) (next : ℕ) → NumbersRise above es next → ((n : ℕ) → option_map_or answers_in (body_at es n) [] ≡ []) → AllByRecursion (λ entry. answers_in entry.body ≡ []) es
+untold above [] next h none = tt
+untold above (e ∷ es) next h none =
+    (sym (ap (λ (o : Option Entry). option_map_or answers_in (option_map (λ (e : Entry). e.body) o) []) (entry_at-first e es)) ∙ none e.number, untold e.number es next h.1 (λ n. rest n))
+  where
+    rest : (n : ℕ) → option_map_or answers_in (body_at es n) [] ≡ []
+    rest n = elim (cases_lt e.number n) [
+      | inl less ↦ ap (λ (o : Option Entry). option_map_or answers_in (option_map (λ (e : Entry). e.body) o) []) (sym (entry_at-behind e es n (λ same. omega arith))) ∙ none n
+      | inr more ↦ ap (λ (o : Option Entry). option_map_or answers_in (option_map (λ (e : Entry). e.body) o) []) (entry_at-low e.number es next n h.1 (omega arith))
+    ]
 
 -- without mounts there is none to be asked
 unmounted : (q : Formula ℕ) (es : List Entry) → mount_count es ≡ 0 → first_asked_in q es ≡ None
@@ -166,6 +171,18 @@ space-bare s n = ap (λ (o : Option Entry). option_and_then space_in (option_map
     at None = refl
     at (Some e) = body e.body
 
+first-bare : (es : List Entry) → first_space (map (edited bare_body) es) ≡ first_space es
+first-bare [] = refl
+first-bare (e ∷ es) = at e.body (first_space (map (edited bare_body) es)) (first_space es) (first-bare es)
+  where
+    at : (body : Body) (one other : Option (List ℕ)) → one ≡ other → cond (is_mount (bare_body body)) (space_in (bare_body body)) one ≡ cond (is_mount body) (space_in body) other
+    at (Mount space answers) one other same = refl
+    at (File text dirty shown) one other same = same
+    at Dir one other same = same
+    at (Symlink target) one other same = same
+    at (Semantic query permanent prohibited) one other same = same
+    at Document one other same = same
+
 module _ (s t : State) (bares : bare s ≡ bare t) (asked : (q : Formula ℕ) → first_asked s q ≡ first_asked t q) where
   same-space : (n : ℕ) → space_at s n ≡ space_at t n
   same-space n = alike s t bares (λ s. space_at s n) (λ s. space-bare s n)
@@ -183,3 +200,9 @@ module _ (s t : State) (bares : bare s ≡ bare t) (asked : (q : Formula ℕ) �
   same-answered (event.Smkdir dir name query told) = ap unattached (asked query)
   same-answered (event.Setq dir query told) = ap unattached (asked query)
   same-answered other = refl
+
+  -- so the tree has to ask the first mount where the state keeps no answer
+  pub tree-asks : IsLayout s → ((n : ℕ) → answers_at s n ≡ []) → AsksFirst t
+  tree-asks h none q =
+      sym (asked q) ∙ asked-in q s.entries (untold 0 s.entries s.next h.numbers none)
+      ∙ ap (λ (o : Option (List ℕ)). cond (has_terms q) o None) (alike s t bares (λ s. first_space s.entries) (λ s. first-bare s.entries))

@@ -6,8 +6,8 @@ ghost use Rattle.hac_model.specs.Tree.{is_leaf_at};
 ghost use Rattle.hac_model.specs.Tree.Events.{first_asked, is_clear, is_free, is_made_holder};
 ghost use Rattle.hac_model.specs.Tree.Events.{is_placed, may_ask};
 ghost use Rattle.hac_model.specs.Tree.Limits.{is_text};
-ghost use Rattle.kept_state.specs.Parts.{KeepsNoAnswers};
 ghost use Rattle.hac_core.specs.Fitting.{FitsAs, IsWithin, passes_none};
+ghost use Rattle.hac_core.specs.Spaces.{AsksFirst};
 
 use crate::asking::may_ask;
 use crate::blocking::is_inside;
@@ -61,12 +61,13 @@ fn within(alloc: Global, kept: &KeptState, event: &Event) -> Result<Option<Count
 fn is_placed(kept: &KeptState, event: &Event) -> bool
     ensures { result ≡ is_placed kept.now.state event.now }
 {
+    kept.know_no_answers();
     is_placed_in(kept.tree(), event)
 }
 
 /// The same by the tree alone.
 fn is_placed_in(tree: &Tree, event: &Event) -> bool
-    requires { KeepsNoAnswers tree.now.state }
+    requires { AsksFirst tree.now.state }
     ensures { result ≡ is_placed tree.now.state event.now }
 {
     match event {
@@ -172,7 +173,7 @@ fn is_leaf(tree: &Tree, number: Number) -> bool
 
 /// Whether a query may be asked without asking a space, and none answered anything.
 fn may_be_asked(tree: &Tree, query: &Query<Number>, told: &Seq<Seq<Number>>) -> bool
-    requires { KeepsNoAnswers tree.now.state }
+    requires { AsksFirst tree.now.state }
     ensures { result ≡ may_ask tree.now.state query.now
         && (is_none (first_asked tree.now.state query.now) && length told.now == 0) }
 {

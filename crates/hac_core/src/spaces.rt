@@ -4,9 +4,8 @@ ghost use Rattle.std.specs.Option.{option_copied};
 ghost use Rattle.hac_model.specs.Run.Answers.{Passes};
 ghost use Rattle.hac_model.specs.Run.Refusals.{space_cause, text_cause, unattached};
 ghost use Rattle.hac_model.specs.Tree.Events.{first_asked};
-ghost use Rattle.kept_state.specs.Parts.{KeepsNoAnswers};
 ghost use Rattle.hac_core.specs.Drafts.{space_against};
-ghost use Rattle.hac_core.specs.Spaces.{first_space, has_terms};
+ghost use Rattle.hac_core.specs.Spaces.{AsksFirst, first_space, has_terms};
 
 use file_tree::Tree;
 use hac_model::{Deny, Event, Name, Node, Number, Query, Refusal, Resolved};
@@ -16,19 +15,19 @@ use kept_state::KeptState;
 pub fn attached(kept: &KeptState, command: &Resolved) -> Result<(), Deny>
     ensures { Passes result (space_cause kept.now.state command.now) }
 {
+    kept.know_no_answers();
     attached_in(kept.tree(), command)
 }
 
 /// The same by the tree alone.
 fn attached_in(tree: &Tree, command: &Resolved) -> Result<(), Deny>
-    requires { KeepsNoAnswers tree.now.state }
+    requires { AsksFirst tree.now.state }
     ensures { Passes result (space_cause tree.now.state command.now) }
 {
     match command {
         Resolved::Cat { entry } => unattached(text_space(tree, *entry)),
-        Resolved::Smkdir { query, .. } | Resolved::Setq { query, .. } | Resolved::Find { query } => {
-            unattached(first_asked(tree, query))
-        }
+        Resolved::Smkdir { query, .. } | Resolved::Setq { query, .. } | Resolved::Find { query } =>
+            { unattached(first_asked(tree, query)) }
         _ => Ok(()),
     }
 }
@@ -37,12 +36,13 @@ fn attached_in(tree: &Tree, command: &Resolved) -> Result<(), Deny>
 pub fn answered(kept: &KeptState, event: &Event) -> Result<(), Deny>
     ensures { Passes result (space_against kept.now.state event.now) }
 {
+    kept.know_no_answers();
     answered_in(kept.tree(), event)
 }
 
 /// The same by the tree alone.
 fn answered_in(tree: &Tree, event: &Event) -> Result<(), Deny>
-    requires { KeepsNoAnswers tree.now.state }
+    requires { AsksFirst tree.now.state }
     ensures { Passes result (space_against tree.now.state event.now) }
 {
     match event {
@@ -77,13 +77,17 @@ fn text_space(tree: &Tree, entry: Number) -> Option<&Name>
 /// The space of the first mount that has to be asked for a query. No answers are kept, so each
 /// mount has to be asked for each term.
 pub fn first_asked<'a>(tree: &'a Tree, query: &Query<Number>) -> Option<&'a Name>
-    requires { KeepsNoAnswers tree.now.state }
+    requires { AsksFirst tree.now.state }
     ensures { option_copied result ≡ first_asked tree.now.state query.now }
 {
-    if tree.counts().mounts == 0 || !has_terms(query) {
+    if tree.counts().mounts == 0 {
         return None;
     }
-    first_space(tree)
+    if has_terms(query) {
+        first_space(tree)
+    } else {
+        None
+    }
 }
 
 /// Whether a query asks for a word or a beginning of words.
