@@ -7,7 +7,8 @@ ghost use Rattle.file_tree.specs.Nodes.{body_from, body_of, entry_of, has_node, 
 ghost use Rattle.file_tree.specs.Nodes.{new_word, placed_at};
 ghost use Rattle.hac_model.specs.Tree.Events.{asking, edited, indexed, plain_body, reseated};
 ghost use Rattle.hac_model.specs.Tree.Events.{rewritten};
-ghost use Rattle.hac_model.specs.Tree.{is_directory, is_dirty, is_linkable, query_in, shown_text, space_in, target_in};
+ghost use Rattle.hac_model.specs.Tree.{is_directory, is_dirty, is_linkable, query_in, shown_text};
+ghost use Rattle.hac_model.specs.Tree.{space_in, target_in};
 ghost use Rattle.hac_model.specs.Tree.Valid.{IsSound};
 
 use crate::targets::Target;

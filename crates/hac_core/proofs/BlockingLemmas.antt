@@ -13,11 +13,11 @@ use Rattle.hac_model.specs.declared.states.State.{State}
 use Rattle.hac_core.specs.Blocking.{item_cause, link_cause, tree_cause}
 use Rattle.hac_model.specs.Tree.Valid.{IsLayout}
 use Rattle.hac_model.specs.Run.Standing.{is_there}
-use Rattle.hac_model.specs.Tree.{is_file_at}
+use Rattle.hac_model.specs.Tree.Links.{is_item}
 use Rattle.hac_model.specs.declared.replies.Deny.{Deny}
 use Rattle.hac_model.specs.declared.replies.Deny.TheVariants as deny
 use Rattle.hac_model.specs.declared.replies.Refusal.{Refusal}
-use Rattle.hac_model.proofs.EventLemmas.{file-there, no_cause}
+use Rattle.hac_model.proofs.EventLemmas.{item-there, no_cause}
 use Rattle.kept_state.proofs.StateLemmas.{same-bare, same-directory, same-inside, same-path, same-semantic, same-symlink}
 
 module _ (s t : State) (bares : bare s ≡ bare t) where
@@ -103,6 +103,6 @@ pub blocked-late : {A : Type 0} (s : State) (r : Resolved) (result : Result A De
 blocked-late s r result free passes =
     subst (λ (cause : Option Refusal). Passes result cause) (sym (ap (λ (o : Option Refusal). first_cause (o ∷ link_cause s r ∷ [])) free ∙ lone (link_cause s r)) ∙ parted s r) passes
 
--- an item that may be a link is a file
-pub item-file : (s : State) (item dir : ℕ) → IsLayout s → IsTrue (is_there s true item) → item_cause s item dir ≡ None → IsTrue (is_file_at s.entries item)
-item-file s item dir h there free = file-there s h item there (no_cause (directory_cause s item) (plain_cause s dir ∷ []) free).0
+-- what may be a link is an item
+pub linkable : (s : State) (item dir : ℕ) → IsLayout s → IsTrue (is_there s true item) → item_cause s item dir ≡ None → IsTrue (is_item s item)
+linkable s item dir h there free = item-there s h item there (no_cause (directory_cause s item) (plain_cause s dir ∷ []) free).0

@@ -1,4 +1,6 @@
 mod BlockingLemmas
+mod CountedLemmas
 mod DraftLemmas
 mod FittingLemmas
+mod SpaceLemmas
 mod StandsLemmas

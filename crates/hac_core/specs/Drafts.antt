@@ -4,7 +4,8 @@ use Rattle.std.specs.Option.{option_map}
 use Rattle.hac_model.specs.Laws.{AllHappen}
 use Rattle.hac_model.specs.Run.Answers.{first_cause}
 use Rattle.hac_model.specs.Run.Given.{no_answers}
-use Rattle.hac_model.specs.Run.Refusals.{cause, cycle_against, early_cause, event_of, events_of}
+use Rattle.hac_model.specs.Query.Formula as query
+use Rattle.hac_model.specs.Run.Refusals.{cause, cycle_against, early_cause, event_of, events_of, query_cause}
 use Rattle.hac_model.specs.Run.Resolving.{resolve}
 use Rattle.hac_model.specs.Run.Standing.{AllStand}
 use Rattle.hac_model.specs.Tree.Events.{apply}
@@ -12,7 +13,7 @@ use Rattle.hac_model.specs.Tree.Limits.{counts, first_passed, layout_limits}
 use Rattle.hac_model.specs.Tree.Sessions.{is_stored}
 use Rattle.hac_model.specs.declared.commands.Line.{Line}
 use Rattle.hac_model.specs.declared.events.Event.{Event}
-use Rattle.hac_model.specs.declared.events.Event.TheVariants.{Step}
+use Rattle.hac_model.specs.declared.events.Event.TheVariants.{Setq, Smkdir, Step}
 use Rattle.hac_model.specs.declared.places.Place.{Place}
 use Rattle.hac_model.specs.declared.places.Place.TheVariants.{There, Free}
 use Rattle.hac_model.specs.declared.replies.Refusal.{Refusal}
@@ -94,9 +95,22 @@ abbrev pub reads : Known → Bool
 reads (Reads command) = true
 reads other = false
 
--- the first cause against an event that nothing blocks: a limit on the tree itself, then a cycle
+-- a space would have to be asked for the query of the event, and none is attached
+abbrev pub space_against : State → Event → Option Refusal
+space_against s (Smkdir dir name asked told) = query_cause s asked
+space_against s (Setq dir asked told) = query_cause s asked
+space_against s other = None
+
+-- the first cause against an event that nothing blocks: a limit on the tree itself, then a cycle, then a space
 abbrev pub change_cause : State → Event → Option Refusal
-change_cause s event = first_cause (option_map Limit (first_passed (layout_limits (counts (apply s event)))) ∷ cycle_against s event ∷ [])
+change_cause s event =
+    first_cause (option_map Limit (first_passed (layout_limits (counts (apply s event)))) ∷ cycle_against s event ∷ space_against s event ∷ [])
+
+-- the event with a query that asks no space in place of its own: the state holds as much after it
+abbrev pub unasking : Event → Event
+unasking (Smkdir dir name asked told) = Smkdir dir name (query.Dir 0) []
+unasking (Setq dir asked told) = Setq dir (query.Dir 0) []
+unasking other = other
 
 -- the outcome of a change: an event that moves a session isn't stored
 abbrev pub settled_change : Change → Settled

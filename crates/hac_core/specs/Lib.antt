@@ -2,4 +2,5 @@ pub mod Drafts
 pub mod Blocking
 pub mod Seen
 pub mod Shape
+pub mod Spaces
 pub mod Fitting

@@ -4,7 +4,7 @@ ghost use Rattle.hac_model.specs.Run.Answers.{Passes};
 ghost use Rattle.hac_model.specs.Run.Refusals.{blocking_cause, directory_cause, filled_cause};
 ghost use Rattle.hac_model.specs.Run.Refusals.{not_link_cause, plain_cause};
 ghost use Rattle.hac_model.specs.Run.Refusals.{root_cause, taken_cause, under_cause, written_cause};
-ghost use Rattle.hac_model.specs.Run.Standing.{AllStand, StandsAt, is_there};
+ghost use Rattle.hac_model.specs.Run.Standing.{AllStand, IsSlot, is_own};
 ghost use Rattle.hac_model.specs.Tree.Events.{is_inside};
 ghost use Rattle.hac_model.specs.Tree.{is_live};
 ghost use Rattle.hac_core.specs.Blocking.{link_cause, tree_cause};
@@ -162,8 +162,8 @@ fn empty(tree: &Tree, dir: Number) -> Result<(), Deny>
 
 /// An entry doesn't move into itself.
 fn outside(tree: &Tree, entry: Number, place: &Place) -> Result<(), Deny>
-    requires entry { IsTrue (is_there tree.now.state false entry) }
-    requires place { StandsAt tree.now.state false place.now }
+    requires entry { IsTrue (is_own tree.now.state false entry) }
+    requires place { IsSlot tree.now.state false place.now }
     ensures { Passes result (under_cause tree.now.state entry place.now) }
 {
     let Place::Free { dir, .. } = place else {

@@ -5,7 +5,7 @@ ghost use Rattle.hac_model.specs.Run.Resolving.{resolved, resolved_for};
 ghost use Rattle.hac_model.specs.Tree.{is_directory_at};
 
 use crate::resolving::{
-    directory, directory_or_root, entry, listed_directory, numbered_query, place,
+    directory, directory_or_root, entry, holder, listed_directory, numbered_query, own_entry, slot,
 };
 use file_tree::Tree;
 use hac_model::{Command, Deny, Name, Number, PathWord, RawQuery, Refusal, Resolved, Text};
@@ -66,7 +66,7 @@ fn mkdir(tree: &Tree, base: Number, path: &PathWord) -> Result<Resolved, Deny>
     requires { IsTrue (is_directory_at tree.now.state.entries base) }
     ensures { Answers result (resolved tree.now.state base (Command.Mkdir path.now)) }
 {
-    let place = place(tree, base, path, true)?;
+    let place = slot(tree, base, path, true)?;
     Ok(Resolved::Mkdir { place })
 }
 
@@ -75,7 +75,7 @@ fn rmdir(tree: &Tree, base: Number, path: &PathWord) -> Result<Resolved, Deny>
     requires { IsTrue (is_directory_at tree.now.state.entries base) }
     ensures { Answers result (resolved tree.now.state base (Command.Rmdir path.now)) }
 {
-    let dir = directory(tree, base, path)?;
+    let dir = holder(tree, base, path)?;
     Ok(Resolved::Rmdir { dir })
 }
 
@@ -84,7 +84,7 @@ fn write(tree: &Tree, base: Number, path: &PathWord, text: Text) -> Result<Resol
     requires { IsTrue (is_directory_at tree.now.state.entries base) }
     ensures { Answers result (resolved tree.now.state base (Command.Write path.now text)) }
 {
-    let place = place(tree, base, path, true)?;
+    let place = slot(tree, base, path, true)?;
     Ok(Resolved::Write { place, text })
 }
 
@@ -122,8 +122,8 @@ fn mv(tree: &Tree, base: Number, from: &PathWord, to: &PathWord) -> Result<Resol
     requires { IsTrue (is_directory_at tree.now.state.entries base) }
     ensures { Answers result (resolved tree.now.state base (Command.Mv from.now to.now)) }
 {
-    let entry = entry(tree, base, from, false)?;
-    let place = place(tree, base, to, false)?;
+    let entry = own_entry(tree, base, from, false)?;
+    let place = slot(tree, base, to, false)?;
     Ok(Resolved::Mv { entry, place })
 }
 
@@ -132,7 +132,7 @@ fn rm(tree: &Tree, base: Number, path: &PathWord) -> Result<Resolved, Deny>
     requires { IsTrue (is_directory_at tree.now.state.entries base) }
     ensures { Answers result (resolved tree.now.state base (Command.Rm path.now)) }
 {
-    let entry = entry(tree, base, path, false)?;
+    let entry = own_entry(tree, base, path, false)?;
     Ok(Resolved::Rm { entry })
 }
 
@@ -141,7 +141,7 @@ fn ln(tree: &Tree, base: Number, target: Text, path: &PathWord) -> Result<Resolv
     requires { IsTrue (is_directory_at tree.now.state.entries base) }
     ensures { Answers result (resolved tree.now.state base (Command.Ln target path.now)) }
 {
-    let place = place(tree, base, path, false)?;
+    let place = slot(tree, base, path, false)?;
     Ok(Resolved::Ln { place, target })
 }
 
@@ -165,7 +165,7 @@ fn smkdir(
     requires { IsTrue (is_directory_at tree.now.state.entries base) }
     ensures { Answers result (resolved tree.now.state base (Command.Smkdir path.now query)) }
 {
-    let place = place(tree, base, path, true)?;
+    let place = slot(tree, base, path, true)?;
     match numbered_query(alloc, tree, base, query) {
         Ok(query) => Ok(Resolved::Smkdir { place, query }),
         Err(deny) => Err(deny),
@@ -183,7 +183,7 @@ fn setq(
     requires { IsTrue (is_directory_at tree.now.state.entries base) }
     ensures { Answers result (resolved tree.now.state base (Command.Setq path.now query)) }
 {
-    let dir = directory(tree, base, path)?;
+    let dir = holder(tree, base, path)?;
     match numbered_query(alloc, tree, base, query) {
         Ok(query) => Ok(Resolved::Setq { dir, query }),
         Err(deny) => Err(deny),

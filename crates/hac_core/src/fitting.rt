@@ -1,15 +1,18 @@
 //! Whether an event can happen to the state, wherever it comes from. Commands make only such
 //! events; a log may hold any.
-ghost use Rattle.std.specs.Prelude.{◌≡◌, ◌==◌, ◌&&◌, length, IfOk, IsTrue};
+ghost use Rattle.std.specs.Prelude.{◌≡◌, ◌==◌, ◌&&◌, length, IfOk, IsTrue, is_none};
 ghost use Rattle.hac_model.specs.Script.PathWords.{is_target};
 ghost use Rattle.hac_model.specs.Tree.{is_leaf_at};
-ghost use Rattle.hac_model.specs.Tree.Events.{is_clear, is_free, is_placed, may_ask};
+ghost use Rattle.hac_model.specs.Tree.Events.{first_asked, is_clear, is_free, is_made_holder};
+ghost use Rattle.hac_model.specs.Tree.Events.{is_placed, may_ask};
 ghost use Rattle.hac_model.specs.Tree.Limits.{is_text};
 ghost use Rattle.hac_core.specs.Fitting.{FitsAs, IsWithin, passes_none};
+ghost use Rattle.hac_core.specs.Spaces.{AsksFirst};
 
 use crate::asking::may_ask;
 use crate::blocking::is_inside;
 use crate::drafts::Change;
+use crate::spaces::first_asked;
 use file_tree::Tree;
 use hac_model::{
     Counts, Event, Memory, Name, Number, Query, Seq, TARGET_LIMIT, TEXT_LIMIT, Text, first_passed,
@@ -58,11 +61,13 @@ fn within(alloc: Global, kept: &KeptState, event: &Event) -> Result<Option<Count
 fn is_placed(kept: &KeptState, event: &Event) -> bool
     ensures { result ≡ is_placed kept.now.state event.now }
 {
+    kept.know_no_answers();
     is_placed_in(kept.tree(), event)
 }
 
 /// The same by the tree alone.
 fn is_placed_in(tree: &Tree, event: &Event) -> bool
+    requires { AsksFirst tree.now.state }
     ensures { result ≡ is_placed tree.now.state event.now }
 {
     match event {
@@ -77,13 +82,13 @@ fn is_placed_in(tree: &Tree, event: &Event) -> bool
             told,
         } => is_free(tree, *dir, name) && may_be_asked(tree, query, told),
         Event::Setq { dir, query, told } => {
-            tree.is_made_directory(*dir) && may_be_asked(tree, query, told)
+            is_made_holder(tree, *dir) && may_be_asked(tree, query, told)
         }
         Event::Unq { dir } => tree.query(*dir).is_some(),
-        Event::Mark(mark) => tree.is_file(mark.item) && tree.query(mark.dir).is_some(),
+        Event::Mark(mark) => tree.is_item(mark.item) && tree.query(mark.dir).is_some(),
         Event::Mv { entry, dir, name } => may_go(tree, *entry, *dir, name),
         Event::Rm { entry } => is_leaf(tree, *entry),
-        Event::Rmdir { dir } => tree.is_made_directory(*dir) && tree.children(*dir).is_empty(),
+        Event::Rmdir { dir } => is_made_holder(tree, *dir) && tree.children(*dir).is_empty(),
         Event::Step => tree.counts().dirty > 0,
         Event::Cd { session, dir } => {
             is_space_name(session.as_bytes()) && tree.is_directory(*dir)
@@ -121,11 +126,21 @@ fn passes_none(counts: Counts) -> bool
         && first_passed(&counts.answer_limits()).is_none()
 }
 
-/// Whether a directory has room for an entry of a name.
+/// Whether an entry of a name can be put into a directory, which isn't a mount.
 fn is_free(tree: &Tree, dir: Number, name: &Name) -> bool
     ensures { result ≡ is_free tree.now.state dir name.now }
 {
-    tree.is_directory(dir) && is_name(name.as_bytes()) && tree.child(dir, name).is_none()
+    tree.is_directory(dir)
+        && is_name(name.as_bytes())
+        && tree.child(dir, name).is_none()
+        && !tree.is_mount(dir)
+}
+
+/// Whether a directory that was made isn't a mount.
+fn is_made_holder(tree: &Tree, dir: Number) -> bool
+    ensures { result ≡ is_made_holder tree.now.state dir }
+{
+    tree.is_made_directory(dir) && !tree.is_mount(dir)
 }
 
 /// Whether the bytes may be a file's text.
@@ -156,16 +171,21 @@ fn is_leaf(tree: &Tree, number: Number) -> bool
     tree.is_file(number) || tree.is_symlink(number)
 }
 
-/// Whether a query may be asked, and no space answered anything.
+/// Whether a query may be asked without asking a space, and none answered anything.
 fn may_be_asked(tree: &Tree, query: &Query<Number>, told: &Seq<Seq<Number>>) -> bool
-    ensures { result ≡ may_ask tree.now.state query.now && length told.now == 0 }
+    requires { AsksFirst tree.now.state }
+    ensures { result ≡ may_ask tree.now.state query.now
+        && (is_none (first_asked tree.now.state query.now) && length told.now == 0) }
 {
-    may_ask(tree, query) && told.as_slice().is_empty()
+    may_ask(tree, query) && first_asked(tree, query).is_none() && told.as_slice().is_empty()
 }
 
 /// Whether an entry may go to a directory under a name, limits and queries left out.
 fn may_go(tree: &Tree, entry: Number, dir: Number, name: &Name) -> bool
     ensures { result ≡ is_placed tree.now.state (Event.Mv entry dir name.now) }
 {
-    tree.has_entry(entry) && is_free(tree, dir, name) && !is_inside(tree, dir, entry)
+    tree.has_entry(entry)
+        && !tree.is_document(entry)
+        && is_free(tree, dir, name)
+        && !is_inside(tree, dir, entry)
 }

@@ -15,6 +15,7 @@ mod machine;
 mod marking;
 mod resolving;
 mod sessions;
+mod spaces;
 
 pub use drafts::{Change, Draft, Settled};
 pub use machine::Machine;

@@ -3,7 +3,7 @@ ghost use Rattle.std.specs.Prelude.{IsTrue};
 ghost use Rattle.hac_model.specs.Run.Answers.{Passes};
 ghost use Rattle.hac_model.specs.Run.Refusals.{already_cause, referenced_cause, unlinked_cause};
 ghost use Rattle.hac_model.specs.Run.Refusals.{unmarked_cause};
-ghost use Rattle.hac_model.specs.Tree.{is_file_at};
+ghost use Rattle.hac_model.specs.Tree.Links.{is_item};
 
 use hac_model::{Deny, Number, Refusal};
 use kept_state::KeptState;
@@ -22,7 +22,7 @@ pub fn not_permanent(kept: &KeptState, item: Number, dir: Number) -> Result<(), 
 
 /// The item is a link, added or found.
 pub fn linked(alloc: Global, kept: &KeptState, item: Number, dir: Number) -> Result<(), Deny>
-    requires { IsTrue (is_file_at kept.now.state.entries item) }
+    requires { IsTrue (is_item kept.now.state item) }
     ensures { Passes result (unlinked_cause kept.now.state item dir) }
 {
     if is_linked(alloc, kept, dir, item)? {

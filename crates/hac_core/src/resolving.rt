@@ -1,9 +1,9 @@
 //! Where path words lead.
-ghost use Rattle.std.specs.Prelude.{◌≡◌, ◌++◌, ◌∷◌, [], IfOk, IsTrue};
-ghost use Rattle.hac_model.specs.Run.Answers.{Answers};
+ghost use Rattle.std.specs.Prelude.{◌≡◌, ◌++◌, ◌∷◌, [], IfOk, IsTrue, Some};
+ghost use Rattle.hac_model.specs.Run.Answers.{Answers, Refuses};
 ghost use Rattle.hac_model.specs.Run.Resolving.{place, entry, directory, directory_or_root};
-ghost use Rattle.hac_model.specs.Run.Resolving.{listed_directory};
-ghost use Rattle.hac_model.specs.Run.Resolving.{numbered_query};
+ghost use Rattle.hac_model.specs.Run.Resolving.{holder, listed_directory, mount_of};
+ghost use Rattle.hac_model.specs.Run.Resolving.{numbered_query, outside_mounts, own_entry, slot};
 ghost use Rattle.hac_model.specs.Tree.{is_directory_at, path_of};
 
 use file_tree::{Stop, Tree};
@@ -23,6 +23,62 @@ pub fn place(tree: &Tree, base: Number, word: &PathWord, follow: bool) -> Result
         Err(Stop::NotDir(path)) => Err(Deny::Refused(Refusal::NotDir(path))),
         Err(Stop::Loop(path)) => Err(Deny::Refused(Refusal::Loop(path))),
         Err(Stop::Memory) => Err(Deny::Memory),
+    }
+}
+
+/// Where a path word leads from a directory, so that something can be put there: not into a mount.
+pub fn slot(tree: &Tree, base: Number, word: &PathWord, follow: bool) -> Result<Place, Deny>
+    requires { IsTrue (is_directory_at tree.now.state.entries base) }
+    ensures { Answers result (slot tree.now.state base follow word.now) }
+{
+    match place(tree, base, word, follow) {
+        Ok(found) => outside_mounts(tree, found),
+        Err(deny) => Err(deny),
+    }
+}
+
+/// The place, which isn't to be in a mount.
+fn outside_mounts(tree: &Tree, found: Place) -> Result<Place, Deny>
+    ensures { Answers result (outside_mounts tree.now.state found) }
+{
+    match mount_of(tree, &found) {
+        Some(mount) => {
+            drop(found);
+            Err(in_mount(tree, mount))
+        }
+        None => Ok(found),
+    }
+}
+
+/// The mount to which a place belongs: that of a document, or one in which nothing has the name.
+fn mount_of(tree: &Tree, found: &Place) -> Option<Number>
+    ensures { result ≡ mount_of tree.now.state found.now }
+{
+    match found {
+        Place::There(number) => {
+            if tree.is_document(*number) {
+                Some(tree.parent(*number))
+            } else {
+                None
+            }
+        }
+        Place::Free { dir, .. } => {
+            if tree.is_mount(*dir) {
+                Some(*dir)
+            } else {
+                None
+            }
+        }
+    }
+}
+
+/// The entries of a mount belong to its space.
+fn in_mount(tree: &Tree, mount: Number) -> Deny
+    ensures { Refuses result (Some (Refusal.InMount (path_of tree.now.state mount))) }
+{
+    match tree.path_of(mount) {
+        Ok(path) => Deny::Refused(Refusal::InMount(path)),
+        Err(_) => Deny::Memory,
     }
 }
 
@@ -47,6 +103,18 @@ fn named(tree: &Tree, dir: Number, name: Name) -> Result<Path, Memory>
     Ok(path)
 }
 
+/// The entry to which a path word leads, or the root, which isn't a document.
+pub fn own_entry(tree: &Tree, base: Number, word: &PathWord, follow: bool) -> Result<Number, Deny>
+    requires { IsTrue (is_directory_at tree.now.state.entries base) }
+    ensures { Answers result (own_entry tree.now.state base follow word.now) }
+{
+    let number = entry(tree, base, word, follow)?;
+    if tree.is_document(number) {
+        return Err(in_mount(tree, tree.parent(number)));
+    }
+    Ok(number)
+}
+
 /// The directory to which a path word leads.
 pub fn directory(tree: &Tree, base: Number, word: &PathWord) -> Result<Number, Deny>
     requires { IsTrue (is_directory_at tree.now.state.entries base) }
@@ -58,6 +126,18 @@ pub fn directory(tree: &Tree, base: Number, word: &PathWord) -> Result<Number, D
     } else {
         Err(Deny::Refused(Refusal::NotDir(tree.path_of(number)?)))
     }
+}
+
+/// The directory to which a path word leads, which isn't a mount.
+pub fn holder(tree: &Tree, base: Number, word: &PathWord) -> Result<Number, Deny>
+    requires { IsTrue (is_directory_at tree.now.state.entries base) }
+    ensures { Answers result (holder tree.now.state base word.now) }
+{
+    let dir = directory(tree, base, word)?;
+    if tree.is_mount(dir) {
+        return Err(in_mount(tree, dir));
+    }
+    Ok(dir)
 }
 
 /// The directory to which a path word leads, the one that it would go on from if none is given.
