@@ -6,10 +6,10 @@ use Rattle.std.specs.Option.{option_map, option_map_or}
 use Rattle.hac_model.specs.Query.Formula.{Formula}
 use Rattle.hac_model.specs.Query.Queries.{terms_of}
 use Rattle.hac_model.specs.Tree.Events.{added, asking, changed_at, edited, first_asked, first_asked_in, indexed, knows_all, next_dirty, plain_body, removed, reseated, rewritten}
-use Rattle.hac_model.specs.Tree.Facts.{Facts, bare_after, facts_at, facts_of, filled, filled_entry, joined}
+use Rattle.hac_model.specs.Tree.Facts.{Facts, bare_after, facts_at, facts_of, filled, filled_entry}
 use Rattle.hac_model.specs.Tree.Links.{answers_at}
 use Rattle.hac_model.specs.Tree.Mounts.{is_kept}
-use Rattle.hac_model.specs.Tree.{answers_in, entry_at, is_mount, space_in}
+use Rattle.hac_model.specs.Tree.{answers_in, entry_at, space_in}
 use Rattle.hac_model.specs.declared.events.Event.{Event}
 use Rattle.hac_model.specs.declared.events.Event.TheVariants.{Mkdir, NewFile, Rewrite, Ln, Smkdir, Setq, Unq, Mark, Mv, Rm, Rmdir, Step, Cd}
 use Rattle.hac_model.specs.declared.states.Answer.{Answer}

@@ -16,7 +16,7 @@ one : (Body → Bool) → Body → ℕ
 one test b = cond {A = ℕ} (test b) 1 0
 
 ones-cons : (test : Body → Bool) (e : Entry) (es : List Entry) → ones test (e ∷ es) ≡ one test e.body + ones test es
-unfolding ones, one
+unfolding ones one
 ones-cons test e es = sum_by-cons (λ (e : Entry). cond {A = ℕ} (test e.body) 1 0) e es
 
 abbrev asks : Body → Bool
