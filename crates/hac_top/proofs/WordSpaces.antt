@@ -5,7 +5,6 @@ use Rattle.std.specs.Borrow.{Bor}
 use Rattle.std.specs.List.{list_any}
 use Rattle.std.specs.Str.{bytes_eq}
 use Rattle.std.proofs.lemmas.List.{at_drop_more, drop_all, length-map, map-append}
-
 use Rattle.hac_model.specs.Script.CommandLine.{Space, each_space, may_stand, names_differ, space_of}
 use Rattle.hac_model.specs.declared.limits.TheConstants.{SPACES_LIMIT}
 use Rattle.hac_top.specs.Words.{space_asked, spaces_asked}

@@ -105,7 +105,10 @@ fn write_usage<K: Sink>(output: &mut K) -> Status
     ensures faults { ReportsFault (is_write_fault result) (K.seen output.old).faults
         (K.seen output.new).faults }
 {
-    match write_now(output, b"usage: hac [--new] [--tick N] STORE [NAME=FILE]...\n") {
+    match write_now(
+        output,
+        b"usage: hac [--new] [--tick N] STORE [NAME=FILE]...\n",
+    ) {
         Ok(()) => Status::Usage,
         Err(_) => Status::WriteFault,
     }
