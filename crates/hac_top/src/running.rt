@@ -29,10 +29,11 @@ use std::alloc::Global;
 /// reply to each command to the sink.
 ///
 /// `words` are those of the program behind its own name: `[--new] [--tick N] STORE [NAME=FILE]...`.
-/// The disk is bound to the file STORE, which is made where it is missing and `--new` is given. The source is
-/// read in pieces, and no line is carried out before the reply to the line before it was written
-/// and flushed; what a line changes is stored before its reply is written. Behind each reply up to
-/// N index steps follow. A `put` is carried out with the bytes that follow its line.
+/// The disk is bound to the file STORE, which is made where it is missing and `--new` is given. The
+/// spaces are read from the words, and no FILE is attached yet. The source is read in pieces, and
+/// no line is carried out before the reply to the line before it was written and flushed; what a
+/// line changes is stored before its reply is written. Behind each reply up to N index steps
+/// follow. A `put` is carried out with the bytes that follow its line.
 pub fn run<S: Source, K: Sink, D: Disk>(
     alloc: Global,
     words: &[String],
