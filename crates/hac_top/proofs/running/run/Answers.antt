@@ -20,8 +20,8 @@ returns-in-Ok-open_store-clause-ran g c =
     (ran-opened disk.seen disk.image disk.moment disk.image_since disk.attached disk.faults g.met.D.Disk.counts_now c.in-Ok.options.fresh c.in-Ok.options.tick (IsSettled (disk.seen old) (disk.image old)) old c.open_store.new.disk c.play_store.new.disk c.in-Ok-open_store.store.setting before after
     c.play_store.result c.play_store.ensures c.in-Ok-open_store.ensures.faults (disk.seen old) c.in-Ok-open_store.ensures.opened c.in-Ok-open_store.ensures.stands c.in-Ok-open_store.ensures.any_moment)
 
-pub returns-in-Err-clause-ran : goal.returns-in-Err-clause-ran
-returns-in-Err-clause-ran g c =
+pub returns-clause-ran : goal.returns-clause-ran
+returns-clause-ran g c =
     let disk = g.D.Disk in
     let old = c.args.disk.now in
     let before = outside (g.S.Source.seen c.args.input.now) (g.K.Sink.seen c.args.output.now) in
