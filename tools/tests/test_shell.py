@@ -37,10 +37,10 @@ class Terminal:
         fcntl.ioctl(self.keys, termios.TIOCSWINSZ, struct.pack("HHHH", 24, COLUMNS, 0, 0))
 
     def until(self, ending: str, seconds: float = 30) -> str:
-        """What is shown up to this ending."""
+        """What is shown up to this ending, which is not at the beginning of a line that is shown anew."""
         seen = b""
         until = time.monotonic() + seconds
-        while not seen.endswith(ending.encode()):
+        while not seen.endswith(ending.encode()) or seen.endswith(b"\r" + ending.encode()):
             if not select.select([self.keys], [], [], max(0, until - time.monotonic()))[0]:
                 raise AssertionError(f"{ending!r} doesn't come, but {seen!r}")
             try:
@@ -53,12 +53,9 @@ class Terminal:
         return seen.decode("utf-8", "replace").replace("\r\n", "\n")
 
     def typed(self, keys: str, prompt: str = PROMPT) -> str:
-        """What is shown when a line was typed, from its echo to the next prompt.
-
-        That prompt begins a line: the one with which the line that is typed is shown anew doesn't.
-        """
+        """What is shown when a line was typed, from its echo to the next prompt."""
         os.write(self.keys, keys.encode("utf-8", "surrogateescape") + b"\n")
-        return self.until("\n" + prompt)[: -len(prompt)]
+        return self.until(prompt)[: -len(prompt)]
 
     def close(self) -> None:
         """Ends a session that a test left."""
