@@ -1,5 +1,6 @@
 -- The tree: entries, and which is in which directory.
 pub mod Bare
+pub mod Changes
 pub mod Valid
 pub mod ValidTest
 pub mod Looks
@@ -14,6 +15,7 @@ pub mod Events
 pub mod Facts
 pub mod Sessions
 pub mod Mounts
+pub mod Mounting
 use Rattle.std.specs.Prelude.{ℕ, zero, suc, ◌+◌, Bool, true, false, ◌==◌, ◌&&◌, ◌||◌, not, if◌then◌else◌, nat_le, List, [], ◌∷◌, length, map, reverse, Option, Some, None, is_some}
 use Rattle.std.specs.Option.{option_map, option_map_or}
 use Rattle.std.specs.Str.{bytes_eq}

@@ -2,6 +2,7 @@
 use Rattle.std.specs.Prelude.{ℕ, Bool, true, false, ◌+◌, ◌==◌, ◌&&◌, ◌||◌, not, if◌then◌else◌, List, [], ◌∷◌, ◌++◌, length, drop, filter, map, nat_lt, Option, Some, None, is_some, is_none}
 use Rattle.std.specs.List.{list_all}
 use Rattle.std.specs.Option.{option_map_or}
+pub use Rattle.hac_model.specs.Tree.Changes.{added, asking, changed_at, changed_in, edited, forgetting, forgotten, indexed, marked, marking, plain_body, put_in, removed, reseated, rewritten, without}
 use Rattle.hac_model.specs.Tree.Depends.{cycle_of_move, cycle_over, named_in, names_directory}
 use Rattle.hac_model.specs.Query.Formula.{Formula}
 use Rattle.hac_model.specs.Tree.Limits.{dirty_count, is_text, passed_limit}
@@ -12,10 +13,11 @@ use Rattle.hac_model.specs.Script.PathWords.{is_target}
 use Rattle.hac_model.specs.Script.SpaceNames.{is_space_name}
 use Rattle.hac_model.specs.Query.Queries.{is_query}
 use Rattle.hac_model.specs.Query.Queries.{terms_of}
-use Rattle.hac_model.specs.Tree.Mounts.{is_kept}
+use Rattle.hac_model.specs.Tree.Mounting.{answers_to, are_documents, are_told, mounted, redocumented, synced, unmounted}
+use Rattle.hac_model.specs.Tree.Mounts.{is_kept, terms_to_ask}
 use Rattle.hac_model.specs.Tree.{answers_in, child, entry_at, extends, is_directory_at, is_dirty, is_document_at, is_file_at, is_leaf_at, is_made_directory, is_mount, is_mount_at, path_of, space_in}
 use Rattle.hac_model.specs.declared.events.Event.{Event}
-use Rattle.hac_model.specs.declared.events.Event.TheVariants.{Mkdir, NewFile, Rewrite, Ln, Smkdir, Setq, Unq, Mark, Mv, Rm, Rmdir, Step, Cd}
+use Rattle.hac_model.specs.declared.events.Event.TheVariants.{Mkdir, NewFile, Rewrite, Ln, Smkdir, Setq, Unq, Mark, Mv, Rm, Rmdir, Smount, Ssync, Sumount, Step, Cd}
 use Rattle.hac_model.specs.declared.marks.Kind.{Kind}
 use Rattle.hac_model.specs.declared.marks.Kind.TheVariants.{Transient, Permanent, Prohibited, Unlinked}
 use Rattle.hac_model.specs.declared.states.Body.{Body}
@@ -83,6 +85,19 @@ may_mark s dir item Prohibited = is_permanent s dir item || has (links s dir) it
 may_mark s dir item Unlinked = is_permanent s dir item || is_prohibited s dir item
 may_mark s dir item Transient = false
 
+-- a space with these documents can be mounted, and what was told of each term in use are some of its documents, by the
+-- numbers that they will have
+abbrev pub may_mount : State → ℕ → List ℕ → List ℕ → List (List ℕ) → List (List ℕ) → Bool
+may_mount s dir name space documents told =
+    is_free s dir name && is_space_name space && are_documents documents
+    && are_told (mounted s dir name space [] documents) s.next (terms_to_ask s.entries) told
+
+-- a mount can take over these documents, and what was told of each term in use are some of them
+abbrev pub may_sync : State → ℕ → List (List ℕ) → List (List ℕ) → Bool
+may_sync s mount documents told =
+    is_mount_at s.entries mount && are_documents documents
+    && are_told (redocumented s mount documents) mount (terms_to_ask s.entries) told
+
 -- what the event refers to is in the tree. Marks, links, the queries of other directories and where sessions stand are
 -- left out. What no command makes yet is nowhere.
 abbrev pub is_placed : State → Event → Bool
@@ -115,90 +130,12 @@ is_clear s other = true
 abbrev pub is_possible : State → Event → Bool
 is_possible s event = is_clear s event && is_placed s event
 
--- a new entry, which takes the next number
-abbrev pub added : State → ℕ → List ℕ → Body → State
-added s dir name body = record s {
-  next = s.next + 1;
-  entries = s.entries ++ record { number = s.next; parent = dir; name = name; body = body } ∷ [];
-}
-
--- the entries, of which the one with the number is changed
-abbrev pub changed_in : ℕ → (Entry → Entry) → List Entry → List Entry
-changed_in number change [] = []
-changed_in number change (entry ∷ entries) =
-    (if entry.number == number then change entry else entry) ∷ changed_in number change entries
-
--- the state, in which the entry with the number is changed
-abbrev pub changed_at : State → ℕ → (Entry → Entry) → State
-changed_at s number change = record s { entries = changed_in number change s.entries }
-
--- the text is replaced, and what was indexed stays shown
-abbrev pub rewritten : List ℕ → Body → Body
-rewritten new (File text dirty shown) = File new true shown
-rewritten new other = other
-
--- the text becomes the shown text, and the file is clean
-abbrev pub indexed : Body → Body
-indexed (File text dirty shown) = File text false (Some text)
-indexed other = other
-
--- the directory gets a query. Its marks stay.
-abbrev pub asking : Formula ℕ → Body → Body
-asking new Dir = Semantic new [] []
-asking new (Semantic query permanent prohibited) = Semantic new permanent prohibited
-asking new other = other
-
--- a semantic directory becomes a plain one
-abbrev pub plain_body : Body → Body
-plain_body (Semantic query permanent prohibited) = Dir
-plain_body other = other
-
--- the numbers without one of them
-abbrev pub without : ℕ → List ℕ → List ℕ
-without number numbers = filter (λ other. not (other == number)) numbers
-
--- rising numbers with one more inserted in order
-abbrev pub put_in : ℕ → List ℕ → List ℕ
-put_in number [] = number ∷ []
-put_in number (first ∷ numbers) = if nat_lt number first then number ∷ first ∷ numbers else first ∷ put_in number numbers
-
--- the item loses its mark
-abbrev pub forgetting : ℕ → Body → Body
-forgetting item (Semantic query permanent prohibited) = Semantic query (without item permanent) (without item prohibited)
-forgetting item other = other
-
--- an item without a mark gets one
-abbrev pub marking : ℕ → Kind → Body → Body
-marking item Permanent (Semantic query permanent prohibited) = Semantic query (put_in item permanent) prohibited
-marking item Prohibited (Semantic query permanent prohibited) = Semantic query permanent (put_in item prohibited)
-marking item other body = body
-
--- the item leaves both lists, and then joins the list of its mark, if any
-abbrev pub marked : ℕ → Kind → Body → Body
-marked item kind body = marking item kind (forgetting item body)
-
--- the entry with its body edited
-abbrev pub edited : (Body → Body) → Entry → Entry
-edited edit entry = record entry { body = edit entry.body }
-
--- the entry in another place
-abbrev pub reseated : ℕ → List ℕ → Entry → Entry
-reseated dir name entry = record entry { parent = dir; name = name }
-
 -- the path of a number once an entry is in another place: what is the entry, or is below it, has the new path in
 -- place of the old one at its beginning
 abbrev pub renamed : State → ℕ → ℕ → List ℕ → ℕ → List (List ℕ)
 renamed s entry dir name number =
     if is_inside s number entry then path_of s dir ++ name ∷ drop (length (path_of s entry)) (path_of s number)
     else path_of s number
-
--- the state without the entry of the number
-abbrev pub removed : State → ℕ → State
-removed s number = record s { entries = filter (λ entry. not (entry.number == number)) s.entries }
-
--- the state in which an item has no mark anywhere
-abbrev pub forgotten : State → ℕ → State
-forgotten s item = record s { entries = map (edited (forgetting item)) s.entries }
 
 -- the state after an event
 abbrev pub apply : State → Event → State
@@ -213,9 +150,12 @@ apply s (Mark mark) = changed_at s mark.dir (edited (marked mark.item mark.kind)
 apply s (Mv entry dir name) = changed_at s entry (reseated dir name)
 apply s (Rm entry) = forgotten (removed s entry) entry
 apply s (Rmdir dir) = removed s dir
+apply s (Smount dir name space documents told) =
+    mounted s dir name space (answers_to (terms_to_ask s.entries) told) documents
+apply s (Ssync mount documents told) = synced s mount (answers_to (terms_to_ask s.entries) told) documents
+apply s (Sumount mount) = unmounted s mount
 apply s Step = option_map_or (λ file. changed_at s file (edited indexed)) (next_dirty s.entries) s
 apply s (Cd session dir) = record s { sessions = sessions_with session dir s.sessions }
-apply s other = s
 
 -- the state accepts the event: what it refers to is there, and no limit is exceeded
 abbrev pub accepted : State → Event → Bool

@@ -1,14 +1,16 @@
 -- A state as its bare tree, its sessions and the facts of each number: what is kept of it beside the tree, and what it
 -- depends on.
-use Rattle.std.specs.Prelude.{ℕ, ◌==◌, List, [], ◌∷◌, map, Option, Some, None, if◌then◌else◌}
+use Rattle.std.specs.Prelude.{ℕ, Bool, ◌==◌, List, [], ◌∷◌, map, Option, Some, None, if◌then◌else◌}
 use Rattle.std.specs.Option.{option_map_or}
 use Rattle.hac_model.specs.Tree.Depends.{named_in}
 use Rattle.hac_model.specs.Tree.Events.{apply, edited, put_in, removed, without}
+use Rattle.hac_model.specs.Tree.Mounting.{answers_to, fresh, is_gone, is_of_mount, is_such_at, mounted, numbers_without, with_documents, without_such}
+use Rattle.hac_model.specs.Tree.Mounts.{terms_to_ask}
 use Rattle.hac_model.specs.Query.Formula.{Formula}
 use Rattle.hac_model.specs.Tree.Links.{parent_of, query_at}
 use Rattle.hac_model.specs.Tree.{answers_in, entry_at, permanent_in, prohibited_in, query_in}
 use Rattle.hac_model.specs.declared.events.Event.{Event}
-use Rattle.hac_model.specs.declared.events.Event.TheVariants.{Smkdir, Setq, Unq, Mark, Mv, Rm, Rmdir, Cd}
+use Rattle.hac_model.specs.declared.events.Event.TheVariants.{Smkdir, Setq, Unq, Mark, Mv, Rm, Rmdir, Smount, Ssync, Sumount, Cd}
 use Rattle.hac_model.specs.declared.marks.Kind.{Kind}
 use Rattle.hac_model.specs.declared.marks.Kind.TheVariants.{Permanent, Prohibited}
 use Rattle.hac_model.specs.declared.states.Answer.{Answer}
@@ -82,6 +84,17 @@ with_mark Permanent item marks = record (without_item item marks) { permanent = 
 with_mark Prohibited item marks = record (without_item item marks) { prohibited = put_in item (without item marks.prohibited) }
 with_mark other item marks = without_item item marks
 
+-- the marks without those of items that pass a test
+abbrev pub marks_without : (ℕ → Bool) → Marks → Marks
+marks_without test marks = record {
+  permanent = numbers_without test marks.permanent;
+  prohibited = numbers_without test marks.prohibited;
+}
+
+-- the facts without marks on items that pass a test
+abbrev pub facts_without : (ℕ → Bool) → (ℕ → Facts) → ℕ → Facts
+facts_without test facts number = record (facts number) { marks = marks_without test (facts number).marks }
+
 -- the facts after an event, of which only the tree is asked what else it needs
 abbrev pub facts_after : Event → State → (ℕ → Facts) → ℕ → Facts
 facts_after (Smkdir dir name query told) tree facts = put_at facts tree.next (record no_facts { edges = dir ∷ named_in query })
@@ -94,11 +107,20 @@ facts_after (Mv entry dir name) tree facts =
     put_at facts entry (record (facts entry) { edges = edges_to dir (query_at tree entry) })
 facts_after (Rm item) tree facts = λ number. record (facts number) { marks = without_item item (facts number).marks }
 facts_after (Rmdir dir) tree facts = put_at facts dir no_facts
+facts_after (Smount dir name space documents told) tree facts =
+    put_at facts tree.next (record no_facts { answers = answers_to (terms_to_ask tree.entries) told })
+facts_after (Ssync mount documents told) tree facts =
+    put_at (facts_without (is_such_at (is_gone mount documents) tree.entries) facts) mount
+    (record no_facts { answers = answers_to (terms_to_ask tree.entries) told })
+facts_after (Sumount mount) tree facts = put_at (facts_without (is_such_at (is_of_mount mount) tree.entries) facts) mount no_facts
 facts_after other tree facts = facts
 
--- the tree after an event. It has no marks to lose, and no sessions.
+-- the tree after an event. It has no marks to lose, no answers to keep, and no sessions.
 abbrev pub bare_after : Event → State → State
 bare_after (Mark mark) tree = tree
 bare_after (Rm entry) tree = removed tree entry
+bare_after (Smount dir name space documents told) tree = mounted tree dir name space [] documents
+bare_after (Ssync mount documents told) tree = with_documents (without_such (is_gone mount documents) tree) mount (fresh tree mount documents)
+bare_after (Sumount mount) tree = without_such (is_of_mount mount) tree
 bare_after (Cd session dir) tree = tree
 bare_after other tree = apply tree other

@@ -3,7 +3,7 @@ use Rattle.std.specs.Prelude.{ℕ, Bool, if◌then◌else◌, List, [], ◌∷�
 use Rattle.std.specs.List.{flat_map}
 use Rattle.std.specs.Option.{option_map_or}
 use Rattle.hac_model.specs.Query.Queries.{terms_of}
-use Rattle.hac_model.specs.Query.Terms.{is_same_term}
+use Rattle.hac_model.specs.Query.Terms.{is_same_term, is_term_before}
 use Rattle.hac_model.specs.Tree.{query_in}
 use Rattle.hac_model.specs.declared.states.Answer.{Answer}
 use Rattle.hac_model.specs.declared.states.Body.{Body}
@@ -26,3 +26,19 @@ terms_in body = option_map_or terms_of (query_in body) []
 -- the terms in use: those of all queries
 abbrev pub terms_in_use : List Entry → List Term
 terms_in_use entries = flat_map (λ entry. terms_in entry.body) entries
+
+-- a term put into its place among terms in order, where it isn't among them yet
+abbrev pub put_term : Term → List Term → List Term
+put_term term [] = term ∷ []
+put_term term (first ∷ terms) =
+    if is_term_before term first then term ∷ first ∷ terms
+    else (if is_term_before first term then first ∷ put_term term terms else first ∷ terms)
+
+-- terms in order, each once
+abbrev pub in_order : List Term → List Term
+in_order [] = []
+in_order (term ∷ terms) = put_term term (in_order terms)
+
+-- what a space is asked for as it is mounted, and as its mount is synced: the terms in use, in order
+abbrev pub terms_to_ask : List Entry → List Term
+terms_to_ask entries = in_order (terms_in_use entries)

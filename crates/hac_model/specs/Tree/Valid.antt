@@ -6,6 +6,7 @@ use Rattle.std.specs.Str.{bytes_eq}
 use Rattle.hac_model.specs.Tree.Depends.{IsAcyclic}
 use Rattle.hac_model.specs.Query.Formula.{Formula}
 use Rattle.hac_model.specs.Tree.Limits.{is_text, passed_limit}
+pub use Rattle.hac_model.specs.Tree.Mounting.{is_document_of}
 use Rattle.hac_model.specs.Tree.Mounts.{is_kept, terms_in_use}
 use Rattle.hac_model.specs.Tree.Names.{is_name}
 use Rattle.hac_model.specs.Tree.Sessions.{are_few}
@@ -90,10 +91,6 @@ abbrev pub TermsRise : Option Term → List Answer → Type 0
 TermsRise last [] = Unit {0}
 TermsRise last (answer ∷ answers) =
     IsTrue (option_map_or (λ before. is_term_before before answer.term) last true) × TermsRise (Some answer.term) answers
-
--- the number is that of a document of the mount
-abbrev pub is_document_of : State → ℕ → ℕ → Bool
-is_document_of s mount number = is_document_at s.entries number && (parent_of s number == mount)
 
 -- an answer names documents of the mount, each once, and its term is one that texts can have
 pub record IsAnswer (s : State) (mount : ℕ) (answer : Answer) : Type 0 where

@@ -11,6 +11,7 @@ use Rattle.hac_model.specs.Tree.Events.{may_ask}
 use Rattle.hac_model.specs.Query.Queries.{is_askable}
 use Rattle.hac_model.specs.Query.Terms.{is_term_before}
 use Rattle.hac_model.specs.Tree.Limits.{is_text, passed_limit}
+pub use Rattle.hac_model.specs.Tree.Mounting.{do_rise_from}
 use Rattle.hac_model.specs.Tree.Mounts.{is_kept, terms_in_use}
 use Rattle.hac_model.specs.Tree.Valid.{has_few, is_document_of, is_in_place}
 use Rattle.hac_model.specs.Tree.Links.{has, is_item}
@@ -58,11 +59,6 @@ is_layout s =
     && do_names_differ s.entries
     && list_all (λ entry. is_sound entry.body) s.entries
     && is_none (passed_limit s)
-
--- numbers rise, from a bound on
-abbrev pub do_rise_from : ℕ → List ℕ → Bool
-do_rise_from bound [] = true
-do_rise_from bound (number ∷ numbers) = nat_le bound number && do_rise_from (number + 1) numbers
 
 -- marks are on items, each once
 abbrev pub are_marks : State → List ℕ → Bool
