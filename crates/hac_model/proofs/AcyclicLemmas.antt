@@ -26,6 +26,8 @@ use Rattle.hac_model.proofs.CycleLemmas.{depends-is, edges_in, none-reaching}
 use Rattle.hac_model.proofs.GraphLemmas.{AreReplaced, never_returns-fewer, never_returns-replaced}
 use Rattle.hac_model.proofs.MapLemmas.{entry_at-mapped}
 use Rattle.hac_model.proofs.TreeLemmas.{entry_at-all, entry_at-cases, entry_at-next, entry_at-number, rise-below, place-directory}
+use Rattle.hac_model.proofs.TermLemmas.{asked-kept, in_use-askable, answers-rise}
+use Rattle.hac_model.proofs.MountLayoutLemmas.{mounted-layout, synced-layout, unmounted-layout}
 use Rattle.hac_model.proofs.ValidLemmas.{accepted-parts, apply-layout, empty-layout, free-parts, move-parts, setq-parts, smkdir-parts}
 use Rattle.hac_model.proofs.KeptLemmas.{apply-answers}
 

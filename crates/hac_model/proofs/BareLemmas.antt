@@ -1,21 +1,25 @@
 -- Events change the tree alone as they change the state whose tree it is.
 use Rattle.std.proofs.Common.{◌≡◌, ℕ, ◌+◌, Bool, true, false, cond, List, [], ◌∷◌, ◌++◌, refl, ap, sym, ◌∙◌}
-use Rattle.std.specs.Prelude.{◌==◌, not, filter, map, Option, Some, None}
+use Rattle.std.specs.Prelude.{◌==◌, ◌&&◌, if◌then◌else◌, length, not, filter, map, Option, Some, None, is_none}
 use Rattle.std.specs.Option.{option_map_or}
 use Rattle.std.proofs.lemmas.List.{map-append}
 use Rattle.hac_model.specs.Tree.Bare.{bare, bare_body}
 use Rattle.hac_model.specs.Tree.Events.{added, apply, asking, changed_in, changed_at, edited, forgetting, forgotten, indexed, marked, next_dirty, plain_body, removed, reseated, rewritten}
 use Rattle.hac_model.specs.Query.Formula.{Formula}
-use Rattle.hac_model.specs.Tree.{is_dirty}
+use Rattle.hac_model.specs.Tree.Mounting.{answers_to, cleared, documents_from, forgetting_such, fresh, is_among, is_gone, is_of_mount, is_such_at, keeping, mounted, synced, unmounted, without_such}
+use Rattle.hac_model.specs.Tree.Mounts.{terms_to_ask}
+use Rattle.hac_model.specs.Tree.{child, is_dirty, is_document}
 use Rattle.hac_model.specs.declared.events.Event.{Event}
-use Rattle.hac_model.specs.declared.events.Event.TheVariants.{Mkdir, NewFile, Rewrite, Ln, Mark, Mv, Rm, Rmdir, Setq, Smkdir, Step, Unq}
+use Rattle.hac_model.specs.declared.events.Event.TheVariants.{Mkdir, NewFile, Rewrite, Ln, Mark, Mv, Rm, Rmdir, Setq, Smkdir, Smount, Ssync, Sumount, Step, Unq}
 use Rattle.hac_model.specs.declared.marks.Kind.{Kind}
 use Rattle.hac_model.specs.declared.marks.Kind.TheVariants.{Transient, Permanent, Prohibited, Unlinked}
+use Rattle.hac_model.specs.declared.states.Answer.{Answer}
 use Rattle.hac_model.specs.declared.states.Body.{Body}
 use Rattle.hac_model.specs.declared.states.Body.TheVariants.{File, Dir, Symlink, Semantic, Mount, Document}
 use Rattle.hac_model.specs.declared.states.Entry.{Entry}
 use Rattle.hac_model.specs.declared.states.State.{State}
 use Rattle.hac_model.proofs.ChangeLemmas.{is_kept, touched}
+use Rattle.hac_model.proofs.MapLemmas.{child-mapped}
 
 -- what is bare stays so
 bare-again : (body : Body) → bare_body (bare_body body) ≡ bare_body body
@@ -162,6 +166,100 @@ step-bare : (s : State) (o : Option ℕ) → bare (option_map_or (λ file. chang
 step-bare s None = alike s.next s.entries (map (edited bare_body) s.entries) s (bare s) (sym (entries-again s.entries))
 step-bare s (Some file) = changed_at-bare s file (edited indexed) indexed-passes
 
+-- Mounts come, are synced and go.
+
+-- marks on several items are taken away with what is bare
+such-bare : (test : ℕ → Bool) (body : Body) → bare_body (forgetting_such test body) ≡ bare_body body
+such-bare test (Semantic query permanent prohibited) = refl
+such-bare test other = refl
+
+pub such-entries : (test : ℕ → Bool) (es : List Entry) → map (edited bare_body) (map (edited (forgetting_such test)) es) ≡ map (edited bare_body) es
+such-entries test [] = refl
+such-entries test (e ∷ es) = λ i. record e { body = such-bare test e.body i } ∷ such-entries test es i
+
+keeping-bare : (answers : List Answer) (body : Body) → bare_body (keeping answers body) ≡ bare_body body
+keeping-bare answers (Mount space kept) = refl
+keeping-bare answers other = refl
+
+-- a test that what is bare passes as before
+abbrev PassesBare : (Entry → Bool) → Type 0
+PassesBare test = (e : Entry) → test (edited bare_body e) ≡ test e
+
+without-bare : (test : Entry → Bool) (es : List Entry) → PassesBare test →
+    map (edited bare_body) (filter (λ e. not (test e)) es) ≡ map (edited bare_body) (filter (λ e. not (test e)) (map (edited bare_body) es))
+without-bare test [] same = refl
+without-bare test (e ∷ es) same =
+    let rest = without-bare test es same in
+    elim (test e) as (λ b. map (edited bare_body) (if not b then e ∷ filter (λ e. not (test e)) es else filter (λ e. not (test e)) es)
+        ≡ map (edited bare_body) (if not b then edited bare_body e ∷ filter (λ e. not (test e)) (map (edited bare_body) es) else filter (λ e. not (test e)) (map (edited bare_body) es))) [
+      | true ↦ rest
+      | false ↦ (λ i. record e { body = sym (bare-again e.body) i } ∷ rest i)
+    ] ∙ ap (λ (b : Bool). map (edited bare_body) (if not b then edited bare_body e ∷ filter (λ e. not (test e)) (map (edited bare_body) es) else filter (λ e. not (test e)) (map (edited bare_body) es))) (sym (same e))
+
+document-bare : (body : Body) → is_document (bare_body body) ≡ is_document body
+document-bare (Semantic query permanent prohibited) = refl
+document-bare (Mount space answers) = refl
+document-bare other = refl
+
+gone-bare : (mount : ℕ) (names : List (List ℕ)) → PassesBare (is_gone mount names)
+gone-bare mount names e = ap (λ (b : Bool). b && (e.parent == mount && not (is_among names e.name))) (document-bare e.body)
+
+fresh-bare : (es : List Entry) (mount : ℕ) (names : List (List ℕ)) → filter (λ name. is_none (child (map (edited bare_body) es) mount name)) names ≡ filter (λ name. is_none (child es mount name)) names
+fresh-bare es mount [] = refl
+fresh-bare es mount (name ∷ names) = λ i. if is_none (child-mapped bare_body es mount name i) then name ∷ fresh-bare es mount names i else fresh-bare es mount names i
+
+mounted-bare : (s : State) (dir : ℕ) (name space : List ℕ) (answers others : List Answer) (documents : List (List ℕ)) → bare (mounted s dir name space answers documents) ≡ bare (mounted (bare s) dir name space others documents)
+mounted-bare s dir name space answers others documents =
+    alike (s.next + 1 + length documents) ((s.entries ++ one answers ∷ []) ++ behind) ((map (edited bare_body) s.entries ++ one others ∷ []) ++ behind) s (bare s) (
+    map-append (edited bare_body) (s.entries ++ one answers ∷ []) behind
+    ∙ ap (λ (es : List Entry). es ++ map (edited bare_body) behind) (
+    map-append (edited bare_body) s.entries (one answers ∷ [])
+    ∙ ap (λ (es : List Entry). es ++ edited bare_body (one others) ∷ []) (sym (entries-again s.entries))
+    ∙ sym (map-append (edited bare_body) (map (edited bare_body) s.entries) (one others ∷ [])))
+    ∙ sym (map-append (edited bare_body) (map (edited bare_body) s.entries ++ one others ∷ []) behind))
+  where
+    one : List Answer → Entry
+    one answers = record { number = s.next; parent = dir; name = name; body = Mount space answers }
+
+    behind : List Entry
+    behind = documents_from (s.next + 1) s.next documents
+
+cleared-bare : (s : State) (test : Entry → Bool) → PassesBare test → map (edited bare_body) (cleared test s).entries ≡ map (edited bare_body) (cleared test (bare s)).entries
+cleared-bare s test same =
+    such-entries (is_such_at test s.entries) (without_such test s).entries
+    ∙ without-bare test s.entries same
+    ∙ sym (such-entries (is_such_at test (bare s).entries) (without_such test (bare s)).entries)
+
+synced-bare : (s : State) (mount : ℕ) (answers others : List Answer) (documents : List (List ℕ)) → bare (synced s mount answers documents) ≡ bare (synced (bare s) mount others documents)
+synced-bare s mount answers others documents =
+    (λ i. record { next = s.next + length (names i); entries = entries i; sessions = [] })
+  where
+    test : Entry → Bool
+    test = is_gone mount documents
+
+    names : fresh s mount documents ≡ fresh (bare s) mount documents
+    names = sym (fresh-bare s.entries mount documents)
+
+    left : List Entry
+    left = (cleared test s).entries
+
+    bare-left : List Entry
+    bare-left = (cleared test (bare s)).entries
+
+    come : List (List ℕ) → List Entry
+    come names = documents_from s.next mount names
+
+    entries : map (edited bare_body) (synced s mount answers documents).entries ≡ map (edited bare_body) (synced (bare s) mount others documents).entries
+    entries =
+        changed-kept mount (keeping answers) (left ++ come (fresh s mount documents)) (keeping-bare answers)
+        ∙ map-append (edited bare_body) left (come (fresh s mount documents))
+        ∙ (λ i. cleared-bare s test (gone-bare mount documents) i ++ map (edited bare_body) (come (names i)))
+        ∙ sym (map-append (edited bare_body) bare-left (come (fresh (bare s) mount documents)))
+        ∙ sym (changed-kept mount (keeping others) (bare-left ++ come (fresh (bare s) mount documents)) (keeping-bare others))
+
+unmounted-bare : (s : State) (mount : ℕ) → bare (unmounted s mount) ≡ bare (unmounted (bare s) mount)
+unmounted-bare s mount = alike s.next (unmounted s mount).entries (unmounted (bare s) mount).entries s (bare s) (cleared-bare s (is_of_mount mount) (λ e. refl))
+
 pub bare-commutes : (s : State) (event : Event) → bare (apply s event) ≡ bare (apply (bare s) event)
 bare-commutes s (Mkdir dir name) = added-bare s dir name Dir
 bare-commutes s (NewFile dir name text) = added-bare s dir name (File text true None)
@@ -175,4 +273,9 @@ bare-commutes s (Mark mark) = changed_at-bare s mark.dir (edited (marked mark.it
 bare-commutes s (Rm entry) = forgotten-bare s entry
 bare-commutes s (Rmdir dir) = removed-bare s dir
 bare-commutes s Step = step-bare s (next_dirty s.entries) ∙ ap (λ (o : Option ℕ). bare (option_map_or (λ file. changed_at (bare s) file (edited indexed)) o (bare s))) (sym (next_dirty-bare s.entries))
+bare-commutes s (Smount dir name space documents told) =
+    mounted-bare s dir name space (answers_to (terms_to_ask s.entries) told) (answers_to (terms_to_ask (bare s).entries) told) documents
+bare-commutes s (Ssync mount documents told) =
+    synced-bare s mount (answers_to (terms_to_ask s.entries) told) (answers_to (terms_to_ask (bare s).entries) told) documents
+bare-commutes s (Sumount mount) = unmounted-bare s mount
 bare-commutes s other = alike s.next s.entries (map (edited bare_body) s.entries) s (bare s) (sym (entries-again s.entries))

@@ -194,20 +194,56 @@ pub rise-lower : (low above : ℕ) (es : List Entry) (next : ℕ) → low ≤ ab
 rise-lower low above [] next less h = omega arith
 rise-lower low above (e ∷ es) next less h = let first : above < e.number = h.0 in (omega arith, h.1)
 
-pub numbers-kept : (n above : ℕ) (es : List Entry) (next : ℕ) → NumbersRise above es next → NumbersRise above (filter (is_kept n) es) next
-numbers-kept n above [] next h = h
-numbers-kept n above (e ∷ es) next h =
+pub numbers-filter : (p : Entry → Bool) (above : ℕ) (es : List Entry) (next : ℕ) → NumbersRise above es next → NumbersRise above (filter p es) next
+numbers-filter p above [] next h = h
+numbers-filter p above (e ∷ es) next h =
     let first : above < e.number = h.0 in
-    let rest = numbers-kept n e.number es next h.1 in
-    elim (is_kept n e) as (λ b. NumbersRise above (cond b (e ∷ filter (is_kept n) es) (filter (is_kept n) es)) next) [ true ↦ (first, rest) | false ↦ rise-lower above e.number (filter (is_kept n) es) next (omega arith) rest ]
+    let rest = numbers-filter p e.number es next h.1 in
+    elim (p e) as (λ b. NumbersRise above (cond b (e ∷ filter p es) (filter p es)) next) [ true ↦ (first, rest) | false ↦ rise-lower above e.number (filter p es) next (omega arith) rest ]
 
-pub child-kept : (n : ℕ) (es : List Entry) (d : ℕ) (x : List ℕ) → child es d x ≡ None → child (filter (is_kept n) es) d x ≡ None
-child-kept n [] d x h = refl
-child-kept n (e ∷ es) d x h =
+pub child-filter : (p : Entry → Bool) (es : List Entry) (d : ℕ) (x : List ℕ) → child es d x ≡ None → child (filter p es) d x ≡ None
+child-filter p [] d x h = refl
+child-filter p (e ∷ es) d x h =
     let parts = first_apart (e.parent == d && bytes_eq e.name x) e.number (child es d x) h in
-    let rest = child-kept n es d x parts.1 in
-    elim (is_kept n e) as (λ b. child (cond b (e ∷ filter (is_kept n) es) (filter (is_kept n) es)) d x ≡ None) [ true ↦ ap (λ (b : Bool). cond b (Some e.number) (child (filter (is_kept n) es) d x)) parts.0 ∙ rest | false ↦ rest ]
+    let rest = child-filter p es d x parts.1 in
+    elim (p e) as (λ b. child (cond b (e ∷ filter p es) (filter p es)) d x ≡ None) [ true ↦ ap (λ (b : Bool). cond b (Some e.number) (child (filter p es) d x)) parts.0 ∙ rest | false ↦ rest ]
+
+pub differ-filter : (p : Entry → Bool) (es : List Entry) → NamesDiffer es → NamesDiffer (filter p es)
+differ-filter p [] h = tt
+differ-filter p (e ∷ es) h = elim (p e) as (λ b. NamesDiffer (cond b (e ∷ filter p es) (filter p es))) [ true ↦ (child-filter p es e.parent e.name h.0, differ-filter p es h.1) | false ↦ differ-filter p es h.1 ]
+
+-- what is left is found as before
+pub entry_at-filter : (p : Entry → Bool) (es : List Entry) (n : ℕ) (found : Entry) → entry_at es n ≡ Some found → p found ≡ true → entry_at (filter p es) n ≡ Some found
+entry_at-filter p [] n found h left = absurd cc
+entry_at-filter p (e ∷ es) n found h left =
+    elim (e.number == n) as (λ b. (e.number == n) ≡ b → cond b (Some e) (entry_at es n) ≡ Some found → entry_at (cond (p e) (e ∷ filter p es) (filter p es)) n ≡ Some found) [
+      | true ↦ (λ here h.
+          let same : e ≡ found = cc in
+          ap (λ (b : Bool). entry_at (cond b (e ∷ filter p es) (filter p es)) n) (ap p same ∙ left)
+          ∙ ap (λ (b : Bool). cond b (Some e) (entry_at (filter p es) n)) here ∙ ap (λ (x : Entry). Some x) same)
+      | false ↦ (λ other h.
+          let rest = entry_at-filter p es n found h left in
+          elim (p e) as (λ b. entry_at (cond b (e ∷ filter p es) (filter p es)) n ≡ Some found) [
+            | true ↦ ap (λ (b : Bool). cond b (Some e) (entry_at (filter p es) n)) other ∙ rest
+            | false ↦ rest
+          ])
+    ] refl h
+
+pub entry_at-none : (p : Entry → Bool) (es : List Entry) (n : ℕ) → entry_at es n ≡ None → entry_at (filter p es) n ≡ None
+entry_at-none p [] n h = refl
+entry_at-none p (e ∷ es) n h =
+    elim (e.number == n) as (λ b. (e.number == n) ≡ b → cond b (Some e) (entry_at es n) ≡ None → entry_at (cond (p e) (e ∷ filter p es) (filter p es)) n ≡ None) [
+      | true ↦ (λ here h. absurd cc)
+      | false ↦ (λ other h.
+          let rest = entry_at-none p es n h in
+          elim (p e) as (λ b. entry_at (cond b (e ∷ filter p es) (filter p es)) n ≡ None) [
+            | true ↦ ap (λ (b : Bool). cond b (Some e) (entry_at (filter p es) n)) other ∙ rest
+            | false ↦ rest
+          ])
+    ] refl h
+
+pub numbers-kept : (n above : ℕ) (es : List Entry) (next : ℕ) → NumbersRise above es next → NumbersRise above (filter (is_kept n) es) next
+numbers-kept n above es next h = numbers-filter (is_kept n) above es next h
 
 pub differ-kept : (n : ℕ) (es : List Entry) → NamesDiffer es → NamesDiffer (filter (is_kept n) es)
-differ-kept n [] h = tt
-differ-kept n (e ∷ es) h = elim (is_kept n e) as (λ b. NamesDiffer (cond b (e ∷ filter (is_kept n) es) (filter (is_kept n) es))) [ true ↦ (child-kept n es e.parent e.name h.0, differ-kept n es h.1) | false ↦ differ-kept n es h.1 ]
+differ-kept n es h = differ-filter (is_kept n) es h

@@ -13,6 +13,10 @@ pub mod AmongLemmas
 pub mod LinkLemmas
 pub mod CountLemmas
 pub mod ValidLemmas
+pub mod FittingLemmas
+pub mod MountLayoutLemmas
+pub mod TermLemmas
+pub mod MountKeptLemmas
 pub mod StateSpellingLemmas
 pub mod ValidTestLemmas
 pub mod DepthLemmas

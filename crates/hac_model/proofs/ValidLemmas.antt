@@ -25,6 +25,7 @@ use Rattle.hac_model.specs.declared.states.Entry.{Entry}
 use Rattle.hac_model.specs.declared.states.State.{State}
 use Rattle.hac_model.proofs.ChangeLemmas.{all-append, all-changed, all-filter, all-weaker, differ-append, differ-edited, differ-kept, differ-reseated, directory-changed, entry_at-kept, entry_at-other, is_kept, numbers-append, numbers-changed, numbers-kept, test-changed}
 use Rattle.hac_model.proofs.CountLemmas.{indexed-keeps, rewritten-keeps}
+use Rattle.hac_model.proofs.FittingLemmas.{IsFitting, fitting-layout, layout-fits}
 use Rattle.hac_model.proofs.MapLemmas.{KeepsMeasures, mapped-layout, measures-passed}
 use Rattle.hac_model.proofs.PathLemmas.{root-none}
 use Rattle.hac_model.proofs.TreeLemmas.{Lives, directory-lives, directory-no_leaf, entry_at-behind, entry_at-below, entry_at-first, place-directory, place-same, rise-below}
@@ -60,8 +61,8 @@ directory-below s d h there = below (directory-lives s.entries d there)
     below (inr found) = entry_at-below 0 s.entries s.next d found.0 h.numbers found.1
 
 -- a free place, taken by a sound body
-pub added-layout : (s : State) (dir : ℕ) (name : List ℕ) (body : Body) → IsLayout s → is_free s dir name ≡ true → IsSound body → is_document body ≡ false → passed_limit (added s dir name body) ≡ None → IsLayout (added s dir name body)
-added-layout s dir name body h free sound kind limits =
+pub added-fits : (s : State) (dir : ℕ) (name : List ℕ) (body : Body) → IsLayout s → is_free s dir name ≡ true → IsSound body → is_document body ≡ false → IsFitting (added s dir name body)
+added-fits s dir name body h free sound kind =
     let parts = free-parts s dir name free in
     let new : Entry = record { number = s.next; parent = dir; name = name; body = body } in
     let same : (d : ℕ) → is_directory_at s.entries d ≡ true → entry_at (added s dir name body).entries d ≡ entry_at s.entries d = λ d there. entry_at-other s.entries new d (λ here. (let below : d < s.next = directory-below s d h there in omega (arith, here, below))) in
@@ -73,8 +74,10 @@ added-layout s dir name body h free sound kind limits =
       places = all-append (λ e. IsTrue (is_in_place (added s dir name body).entries e)) s.entries new stay (place-same s.entries (added s dir name body).entries new (same dir parts.0) ∙ placed);
       differ = differ-append s.entries new h.differ parts.2;
       bodies = all-append (λ e. IsSound e.body) s.entries new h.bodies sound;
-      limits = limits;
     }
+
+pub added-layout : (s : State) (dir : ℕ) (name : List ℕ) (body : Body) → IsLayout s → is_free s dir name ≡ true → IsSound body → is_document body ≡ false → passed_limit (added s dir name body) ≡ None → IsLayout (added s dir name body)
+added-layout s dir name body h free sound kind limits = fitting-layout (added s dir name body) (added-fits s dir name body h free sound kind) limits
 
 -- the edit keeps directories, mounts and documents
 pub record KeepsPlaces (edit : Body → Body) : Type 0 where
@@ -92,8 +95,8 @@ place-changed n change es e numbers directories mounts = λ i.
     mount = test-changed is_mount n change es e.parent numbers mounts
 
 -- a body is edited, and stays of its kind
-pub edited-layout : (s : State) (n : ℕ) (edit : Body → Body) → KeepsPlaces edit → ((body : Body) → IsSound body → IsSound (edit body)) → IsLayout s → passed_limit (changed_at s n (edited edit)) ≡ None → IsLayout (changed_at s n (edited edit))
-edited-layout s n edit kind sound h limits =
+pub edited-fits : (s : State) (n : ℕ) (edit : Body → Body) → KeepsPlaces edit → ((body : Body) → IsSound body → IsSound (edit body)) → IsFitting s → IsFitting (changed_at s n (edited edit))
+edited-fits s n edit kind sound h =
     let change : Entry → Entry = edited edit in
     let stay : (e : Entry) → is_in_place (changed_in n change s.entries) e ≡ is_in_place s.entries e = λ e. place-changed n change s.entries e (λ e. refl) (λ e. kind.directories e.body) (λ e. kind.mounts e.body) in
     record {
@@ -104,8 +107,10 @@ edited-layout s n edit kind sound h limits =
           (all-weaker (λ e. IsTrue (is_in_place s.entries e)) (λ e. IsTrue (is_in_place (changed_in n change s.entries) e)) s.entries (λ e there. stay e ∙ there) h.places);
       differ = differ-edited n edit s.entries h.differ;
       bodies = all-changed (λ e. IsSound e.body) n change s.entries (λ e there. sound e.body there) h.bodies;
-      limits = limits;
     }
+
+pub edited-layout : (s : State) (n : ℕ) (edit : Body → Body) → KeepsPlaces edit → ((body : Body) → IsSound body → IsSound (edit body)) → IsLayout s → passed_limit (changed_at s n (edited edit)) ≡ None → IsLayout (changed_at s n (edited edit))
+edited-layout s n edit kind sound h limits = fitting-layout (changed_at s n (edited edit)) (edited-fits s n edit kind sound (layout-fits s h)) limits
 
 -- the numbers of entries are above what they have to be above
 rise-above : (above : ℕ) (es : List Entry) (next : ℕ) → NumbersRise above es next → AllByRecursion (λ e. above < e.number) es

@@ -13,7 +13,7 @@ use Rattle.hac_model.specs.Script.PathWords.{is_target}
 use Rattle.hac_model.specs.Script.SpaceNames.{is_space_name}
 use Rattle.hac_model.specs.Query.Queries.{is_query}
 use Rattle.hac_model.specs.Query.Queries.{terms_of}
-use Rattle.hac_model.specs.Tree.Mounting.{answers_to, are_documents, are_told, mounted, redocumented, synced, unmounted}
+use Rattle.hac_model.specs.Tree.Mounting.{answers_to, are_documents, are_told, mounted, synced, unmounted}
 use Rattle.hac_model.specs.Tree.Mounts.{is_kept, terms_to_ask}
 use Rattle.hac_model.specs.Tree.{answers_in, child, entry_at, extends, is_directory_at, is_dirty, is_document_at, is_file_at, is_leaf_at, is_made_directory, is_mount, is_mount_at, path_of, space_in}
 use Rattle.hac_model.specs.declared.events.Event.{Event}
@@ -90,13 +90,13 @@ may_mark s dir item Transient = false
 abbrev pub may_mount : State → ℕ → List ℕ → List ℕ → List (List ℕ) → List (List ℕ) → Bool
 may_mount s dir name space documents told =
     is_free s dir name && is_space_name space && are_documents documents
-    && are_told (mounted s dir name space [] documents) s.next (terms_to_ask s.entries) told
+    && are_told (mounted s dir name space (answers_to (terms_to_ask s.entries) told) documents) s.next (terms_to_ask s.entries) told
 
 -- a mount can take over these documents, and what was told of each term in use are some of them
 abbrev pub may_sync : State → ℕ → List (List ℕ) → List (List ℕ) → Bool
 may_sync s mount documents told =
     is_mount_at s.entries mount && are_documents documents
-    && are_told (redocumented s mount documents) mount (terms_to_ask s.entries) told
+    && are_told (synced s mount (answers_to (terms_to_ask s.entries) told) documents) mount (terms_to_ask s.entries) told
 
 -- what the event refers to is in the tree. Marks, links, the queries of other directories and where sessions stand are
 -- left out. What no command makes yet is nowhere.
