@@ -1,15 +1,14 @@
 -- Events keep what directories ask and how items are marked sound.
-use Rattle.std.proofs.Common.{◌≡◌, ℕ, Bool, true, false, List, [], ◌∷◌, ◌++◌, refl, ap, sym, ◌∙◌, eq-eqb}
+use Rattle.std.proofs.Common.{◌≡◌, ℕ, Bool, true, false, List, [], ◌∷◌, ◌++◌, refl, ap, sym, ◌∙◌}
 use Rattle.std.specs.Prelude.{◌==◌, ◌||◌, not, filter, Option, Some, None, IsTrue}
 use Rattle.std.specs.Option.{option_map, option_map_or}
 use Rattle.std.specs.List.{AllByRecursion, list_all}
-use Rattle.std.proofs.lemmas.Bool.{and_from, and_parts, eqb-false, not-true}
+use Rattle.std.proofs.lemmas.Bool.{and_parts, eqb-false, not-true}
 use Rattle.hac_model.specs.Tree.Depends.{named_in, names_directory}
-use Rattle.hac_model.specs.Tree.Events.{accepted, added, apply, are_directories, asking, changed_at, edited, forgetting, forgotten, indexed, is_possible, marked, may_ask, next_dirty, plain_body, removed, reseated, rewritten, without}
+use Rattle.hac_model.specs.Tree.Events.{accepted, added, apply, asking, changed_at, edited, forgetting, forgotten, indexed, is_possible, marked, may_ask, next_dirty, plain_body, removed, reseated, rewritten, without}
 use Rattle.hac_model.specs.Query.Formula.{Formula}
 use Rattle.hac_model.specs.Tree.Limits.{passed_limit}
 use Rattle.hac_model.specs.Tree.Links.{has, is_item}
-use Rattle.hac_model.specs.Query.Queries.{is_query}
 use Rattle.hac_model.specs.Tree.{body_at, entry_at, is_directory, is_directory_at, is_file_at, is_leaf_at, is_linkable, is_made_directory, query_in}
 use Rattle.hac_model.specs.Tree.Valid.{AreMarks, AsksWell, IsLayout, IsValid}
 use Rattle.hac_model.specs.declared.events.Event.{Event}

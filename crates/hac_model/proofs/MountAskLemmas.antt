@@ -1,5 +1,5 @@
 -- Mounts come, are synced and go: what directories ask, how items are marked and where sessions stand stay sound.
-use Rattle.std.proofs.Common.{◌≡◌, ℕ, ◌+◌, inl, inr, Bool, true, false, cond, List, [], ◌∷◌, ◌++◌, length, refl, ap, sym, ◌∙◌, arith, eq-eqb}
+use Rattle.std.proofs.Common.{◌≡◌, ℕ, ◌+◌, inl, inr, Bool, true, false, cond, List, [], ◌∷◌, ◌++◌, length, refl, ap, sym, ◌∙◌, arith}
 use Rattle.std.specs.Prelude.{◌⊎◌, ◌==◌, ◌&&◌, ◌||◌, if◌then◌else◌, not, filter, Option, Some, None, IsTrue, option_and_then}
 use Rattle.std.specs.Option.{option_map, option_map_or}
 use Rattle.std.specs.List.{AllByRecursion, list_all}
@@ -8,13 +8,13 @@ use Rattle.hac_model.specs.Tree.Changes.{added, changed_at, edited}
 use Rattle.hac_model.specs.Tree.Depends.{named_in, names_directory}
 use Rattle.hac_model.specs.Tree.Events.{is_unreferenced}
 use Rattle.hac_model.specs.Tree.Links.{has, is_item}
-use Rattle.hac_model.specs.Tree.Mounting.{cleared, documents_from, forgetting_such, fresh, is_gone, is_of_mount, is_such_at, keeping, mounted, numbers_without, redocumented, synced, unmounted, with_documents, without_such}
+use Rattle.hac_model.specs.Tree.Mounting.{cleared, documents_from, forgetting_such, fresh, is_gone, is_of_mount, is_such_at, keeping, mounted, numbers_without, redocumented, synced, unmounted, without_such}
 use Rattle.hac_model.specs.Tree.Sessions.{is_busy}
 use Rattle.hac_model.specs.Tree.{body_at, entry_at, is_directory, is_directory_at, is_document, is_file, is_holder_at, is_linkable, is_made_directory, is_mount_at, query_in}
 use Rattle.hac_model.specs.Tree.Valid.{AreMarks, AreSessions, AsksWell, IsLayout, IsValid, NumbersRise, is_in_place}
 use Rattle.hac_model.specs.declared.states.Answer.{Answer}
 use Rattle.hac_model.specs.declared.states.Body.{Body}
-use Rattle.hac_model.specs.declared.states.Body.TheVariants.{Semantic, Mount, Document}
+use Rattle.hac_model.specs.declared.states.Body.TheVariants.{Semantic, Mount}
 use Rattle.hac_model.specs.declared.states.Entry.{Entry}
 use Rattle.hac_model.specs.declared.states.Session.{Session}
 use Rattle.hac_model.specs.declared.states.State.{State}
@@ -35,6 +35,7 @@ extended s next new = record s { next = next; entries = s.entries ++ new }
 abbrev pub AskNothing : List Entry → Type 0
 AskNothing es = AllByRecursion (λ e. query_in e.body ≡ None) es
 
+-- documents have none
 pub documents-ask_nothing : (n m : ℕ) (names : List (List ℕ)) → AskNothing (documents_from n m names)
 documents-ask_nothing n m [] = tt
 documents-ask_nothing n m (name ∷ names) = (refl, documents-ask_nothing (n + 1) m names)
@@ -77,6 +78,7 @@ extended-asks s next new nothing asks =
 abbrev pub passing : (Entry → Bool) → Entry → Option Entry
 passing p e = if p e then Some e else None
 
+-- nor does it leave what isn't there
 filter-none : (p : Entry → Bool) (es : List Entry) (n : ℕ) → entry_at es n ≡ None → entry_at (filter p es) n ≡ None
 filter-none p [] n none = refl
 filter-none p (x ∷ es) n none =
@@ -88,6 +90,7 @@ filter-none p (x ∷ es) n none =
       ])
     ] refl none
 
+-- where numbers rise there is no second entry of a number
 pub entry_at-filter : (p : Entry → Bool) (above : ℕ) (es : List Entry) (next n : ℕ) → NumbersRise above es next → entry_at (filter p es) n ≡ option_and_then (passing p) (entry_at es n)
 entry_at-filter p above [] next n h = refl
 entry_at-filter p above (x ∷ es) next n h =
@@ -120,6 +123,10 @@ such-item : (gone : ℕ → Bool) (body : Body) → is_linkable (forgetting_such
 such-item gone (Semantic query permanent prohibited) = refl
 such-item gone other = refl
 
+-- the query of a body names no directory that goes
+abbrev pub NamesLeft : (Entry → Bool) → State → Body → Type 0
+NamesLeft test s body = (d : ℕ) → option_map_or (λ query. has (named_in query) d) (query_in body) false ≡ true → is_directory_at s.entries d ≡ true → is_such_at test s.entries d ≡ false
+
 module _ (test : Entry → Bool) (s : State) (h : IsLayout s) where
   abbrev gone : ℕ → Bool
   gone n = is_such_at test s.entries n
@@ -133,12 +140,8 @@ module _ (test : Entry → Bool) (s : State) (h : IsLayout s) where
   pub cleared-directory : (d : ℕ) → gone d ≡ false → is_directory_at (cleared test s).entries d ≡ is_directory_at s.entries d
   cleared-directory d other = ap (λ (b : Bool). d == 0 || b) (cleared-test is_directory d (such-directory gone) other)
 
-  -- the query of a body names no directory that goes
-  abbrev pub NamesLeft : Body → Type 0
-  NamesLeft body = (d : ℕ) → option_map_or (λ query. has (named_in query) d) (query_in body) false ≡ true → is_directory_at s.entries d ≡ true → gone d ≡ false
-
-  -- so what it asks stays sound without marks on what goes
-  cleared-body : (body : Body) → NamesLeft body → AsksWell s body → AsksWell (cleared test s) (forgetting_such gone body)
+  -- what a body asks stays sound without marks on what goes
+  cleared-body : (body : Body) → NamesLeft test s body → AsksWell s body → AsksWell (cleared test s) (forgetting_such gone body)
   cleared-body (Semantic query permanent prohibited) left asks = record {
     fits = ask-stays s (cleared test s) query (λ d inside there. cleared-directory d (left d inside there) ∙ there) asks.fits;
     added = marks permanent asks.added;
@@ -160,11 +163,11 @@ module _ (test : Entry → Bool) (s : State) (h : IsLayout s) where
       }
   cleared-body other left asks = tt
 
-  pub cleared-asks : AllByRecursion (λ e. NamesLeft e.body) s.entries → AllByRecursion (λ e. AsksWell s e.body) s.entries → AllByRecursion (λ e. AsksWell (cleared test s) e.body) (cleared test s).entries
+  pub cleared-asks : AllByRecursion (λ e. NamesLeft test s e.body) s.entries → AllByRecursion (λ e. AsksWell s e.body) s.entries → AllByRecursion (λ e. AsksWell (cleared test s) e.body) (cleared test s).entries
   cleared-asks left asks =
       all-map (λ e. AsksWell (cleared test s) e.body) (edited (forgetting_such gone)) (without_such test s).entries
       (all-filter (λ e. AsksWell (cleared test s) (forgetting_such gone e.body)) (λ e. not (test e)) s.entries
-      (all-both (λ e. NamesLeft e.body) (λ e. AsksWell s e.body) (λ e. AsksWell (cleared test s) (forgetting_such gone e.body)) s.entries (λ e left asks. cleared-body e.body left asks) left asks))
+      (all-both (λ e. NamesLeft test s e.body) (λ e. AsksWell s e.body) (λ e. AsksWell (cleared test s) (forgetting_such gone e.body)) s.entries (λ e left asks. cleared-body e.body left asks) left asks))
 
 -- Which directories go.
 
@@ -248,7 +251,7 @@ synced-queries s mount answers documents h =
     let u : State = cleared (is_gone mount documents) s in
     let new = documents_from u.next mount (fresh s mount documents) in
     let v : State = redocumented s mount documents in
-    let left = all-weaker (λ e. AsksWell s e.body) (λ e. NamesLeft (is_gone mount documents) s h.layout e.body) s.entries (λ e asks d inside there. gone-directory s mount documents d h.layout there) h.queries in
+    let left = all-weaker (λ e. AsksWell s e.body) (λ e. NamesLeft (is_gone mount documents) s e.body) s.entries (λ e asks d inside there. gone-directory s mount documents d h.layout there) h.queries in
     let asks = extended-asks u v.next new (documents-ask_nothing u.next mount (fresh s mount documents)) (cleared-asks (is_gone mount documents) s h.layout left h.queries) in
     let t : State = synced s mount answers documents in
     all-changed (λ e. AsksWell t e.body) mount (edited (keeping answers)) v.entries (λ e there. keeping-asks t answers e.body there)
@@ -258,13 +261,15 @@ pub unmounted-queries : (s : State) (mount : ℕ) → IsValid s → is_mount_at 
     AllByRecursion (λ e. AsksWell (unmounted s mount) e.body) (unmounted s mount).entries
 unmounted-queries s mount h here apart = cleared-asks (is_of_mount mount) s h.layout (each s.entries apart) h.queries
   where
-    each : (es : List Entry) → list_all (λ e. not (names_directory mount e)) es ≡ true → AllByRecursion (λ e. NamesLeft (is_of_mount mount) s h.layout e.body) es
+    each : (es : List Entry) → list_all (λ e. not (names_directory mount e)) es ≡ true → AllByRecursion (λ e. NamesLeft (is_of_mount mount) s e.body) es
     each [] apart = tt
     each (e ∷ es) apart =
-        let parts = and_parts (not (names_directory mount e)) (list_all (λ e. not (names_directory mount e)) es) apart in
-        (λ d inside there. of_mount-directory s mount d h.layout here there (λ same.
-            let named : names_directory mount e ≡ true = ap (λ (n : ℕ). names_directory n e) (sym same) ∙ inside in
-            let never : true ≡ false = sym named ∙ not-true (names_directory mount e) parts.0 in cc), each es parts.1)
+        let parts = and_parts (not (names_directory mount e)) (list_all (λ e. not (names_directory mount e)) es) apart in (
+          λ d inside there. of_mount-directory s mount d h.layout here there (λ same.
+              let named : names_directory mount e ≡ true = ap (λ (n : ℕ). names_directory n e) (sym same) ∙ inside in
+              let never : true ≡ false = sym named ∙ not-true (names_directory mount e) parts.0 in cc),
+          each es parts.1,
+        )
 
 -- Where sessions stand.
 

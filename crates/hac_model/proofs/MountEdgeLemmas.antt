@@ -1,6 +1,6 @@
 -- Mounts come, are synced and go: no directory comes to depend on itself.
 use Rattle.std.proofs.Common.{◌≡◌, ℕ, ◌+◌, Bool, true, false, cond, List, [], ◌∷◌, ◌++◌, length, subst, refl, ap, sym, ◌∙◌}
-use Rattle.std.specs.Prelude.{◌==◌, not, filter, Option, Some, None, option_and_then}
+use Rattle.std.specs.Prelude.{◌==◌, not, Option, Some, None, option_and_then}
 use Rattle.std.specs.Option.{option_map, option_map_or}
 use Rattle.hac_model.specs.Tree.Changes.{changed_at, edited}
 use Rattle.hac_model.specs.Tree.Depends.{Among, IsAcyclic, depends, named_in}

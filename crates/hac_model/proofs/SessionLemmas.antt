@@ -1,5 +1,5 @@
 -- Sessions stay sound, and what an event does to them.
-use Rattle.std.proofs.Common.{◌≡◌, ℕ, Bool, true, false, List, [], ◌∷◌, ◌++◌, cond, filter, refl, ap, sym, subst, ◌∙◌, append-nil}
+use Rattle.std.proofs.Common.{◌≡◌, ℕ, Bool, true, false, List, [], ◌∷◌, ◌++◌, cond, filter, refl, sym, subst, ◌∙◌, append-nil}
 use Rattle.std.specs.Prelude.{◌==◌, ◌&&◌, ◌||◌, not, if◌then◌else◌, Some, None, IsTrue}
 use Rattle.std.specs.List.{AllByRecursion}
 use Rattle.std.specs.Option.{option_map_or}
@@ -17,7 +17,7 @@ use Rattle.hac_model.specs.declared.states.Body.TheVariants.{File, Dir, Symlink,
 use Rattle.hac_model.specs.declared.states.Session.{Session}
 use Rattle.hac_model.specs.declared.states.State.{State}
 use Rattle.hac_model.proofs.AskLemmas.{added-directories, edited-directories, leaf-no_directory}
-use Rattle.hac_model.proofs.ChangeLemmas.{all-append, all-filter, all-weaker, directory-changed, directory-kept, is_kept}
+use Rattle.hac_model.proofs.ChangeLemmas.{all-append, all-filter, directory-changed, directory-kept, is_kept}
 use Rattle.hac_model.proofs.MapLemmas.{directory-mapped}
 use Rattle.hac_model.proofs.StayLemmas.{sessions-stay, sessions-there}
 use Rattle.hac_model.proofs.ValidLemmas.{accepted-parts, asking-kind, forgetting-measures, indexed-kind, marked-kind, plain-kind, rewritten-kind, rmdir-parts}
