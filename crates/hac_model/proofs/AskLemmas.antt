@@ -1,15 +1,14 @@
 -- Events keep what directories ask and how items are marked sound.
-use Rattle.std.proofs.Common.{◌≡◌, ℕ, Bool, true, false, List, [], ◌∷◌, ◌++◌, refl, ap, sym, ◌∙◌, eq-eqb}
+use Rattle.std.proofs.Common.{◌≡◌, ℕ, Bool, true, false, List, [], ◌∷◌, ◌++◌, refl, ap, sym, ◌∙◌}
 use Rattle.std.specs.Prelude.{◌==◌, ◌||◌, not, filter, Option, Some, None, IsTrue}
 use Rattle.std.specs.Option.{option_map, option_map_or}
 use Rattle.std.specs.List.{AllByRecursion, list_all}
-use Rattle.std.proofs.lemmas.Bool.{and_from, and_parts, eqb-false, not-true}
+use Rattle.std.proofs.lemmas.Bool.{and_parts, eqb-false, not-true}
 use Rattle.hac_model.specs.Tree.Depends.{named_in, names_directory}
-use Rattle.hac_model.specs.Tree.Events.{accepted, added, apply, are_directories, asking, changed_at, edited, forgetting, forgotten, indexed, is_possible, marked, may_ask, next_dirty, plain_body, removed, reseated, rewritten, without}
+use Rattle.hac_model.specs.Tree.Events.{accepted, added, apply, asking, changed_at, edited, forgetting, forgotten, indexed, is_possible, marked, may_ask, next_dirty, plain_body, removed, reseated, rewritten, without}
 use Rattle.hac_model.specs.Query.Formula.{Formula}
 use Rattle.hac_model.specs.Tree.Limits.{passed_limit}
 use Rattle.hac_model.specs.Tree.Links.{has, is_item}
-use Rattle.hac_model.specs.Query.Queries.{is_query}
 use Rattle.hac_model.specs.Tree.{body_at, entry_at, is_directory, is_directory_at, is_file_at, is_leaf_at, is_linkable, is_made_directory, query_in}
 use Rattle.hac_model.specs.Tree.Valid.{AreMarks, AsksWell, IsLayout, IsValid}
 use Rattle.hac_model.specs.declared.events.Event.{Event}
@@ -25,48 +24,9 @@ use Rattle.hac_model.proofs.CountLemmas.{indexed-keeps, keeps-linkable, rewritte
 use Rattle.hac_model.proofs.MapLemmas.{all-map, directory-mapped, test-mapped}
 use Rattle.hac_model.proofs.MarkLemmas.{all-both, all-passes, forgetting-asks, marked-asks}
 use Rattle.hac_model.proofs.PathLemmas.{root-none}
+use Rattle.hac_model.proofs.StayLemmas.{DirectoriesStay, ItemsStay, all-stay, ask-stays, marks-stay}
 use Rattle.hac_model.proofs.TreeLemmas.{directory-no_item, directory-no_leaf, file-leaf}
 use Rattle.hac_model.proofs.ValidLemmas.{accepted-parts, asking-kind, forgetting-measures, mark-parts, marked-kind, plain-kind, rmdir-parts, setq-parts, smkdir-parts}
-
--- the directories of one state are directories of another
-abbrev pub DirectoriesStay : State → State → Type 0
-DirectoriesStay s t = (d : ℕ) → is_directory_at s.entries d ≡ true → is_directory_at t.entries d ≡ true
-
-abbrev pub ItemsStay : State → State → Type 0
-ItemsStay s t = (n : ℕ) → is_item s n ≡ true → is_item t n ≡ true
-
-directories-stay : (s t : State) (ds : List ℕ) → ((d : ℕ) → has ds d ≡ true → is_directory_at s.entries d ≡ true → is_directory_at t.entries d ≡ true) → are_directories s ds ≡ true → are_directories t ds ≡ true
-directories-stay s t [] stay h = refl
-directories-stay s t (d ∷ ds) stay h =
-    let parts = and_parts (is_directory_at s.entries d) (are_directories s ds) h in
-    and_from (is_directory_at t.entries d) (are_directories t ds)
-    (stay d (ap (λ (b : Bool). b || has ds d) (eq-eqb d d refl)) parts.0)
-    (directories-stay s t ds (λ e inside. stay e (or-right (d == e) (has ds e) inside)) parts.1)
-  where
-    or-right : (a b : Bool) → b ≡ true → (a || b) ≡ true
-    or-right true b h = refl
-    or-right false b h = h
-
-ask-stays : (s t : State) (query : Formula ℕ) → ((d : ℕ) → has (named_in query) d ≡ true → is_directory_at s.entries d ≡ true → is_directory_at t.entries d ≡ true) → may_ask s query ≡ true → may_ask t query ≡ true
-ask-stays s t query stay h =
-    let parts = and_parts (is_query query) (are_directories s (named_in query)) h in
-    and_from (is_query query) (are_directories t (named_in query)) parts.0 (directories-stay s t (named_in query) stay parts.1)
-
-marks-stay : (s t : State) (xs : List ℕ) → ItemsStay s t → AreMarks s xs → AreMarks t xs
-marks-stay s t xs items h = record { rise = h.rise; items = all-weaker (λ n. is_item s n ≡ true) (λ n. is_item t n ≡ true) xs items h.items }
-
--- what a directory asks stays sound where directories and items stay
-pub asks-stays : (s t : State) (body : Body) → DirectoriesStay s t → ItemsStay s t → AsksWell s body → AsksWell t body
-asks-stays s t (Semantic query permanent prohibited) dirs items h = record {
-  fits = ask-stays s t query (λ d inside there. dirs d there) h.fits;
-  added = marks-stay s t permanent items h.added;
-  removed = marks-stay s t prohibited items h.removed;
-  apart = h.apart;
-}
-asks-stays s t other dirs items h = tt
-
-all-stay : (s t : State) → DirectoriesStay s t → ItemsStay s t → AllByRecursion (λ e. AsksWell s e.body) s.entries → AllByRecursion (λ e. AsksWell t e.body) s.entries
-all-stay s t dirs items h = all-weaker (λ e. AsksWell s e.body) (λ e. AsksWell t e.body) s.entries (λ e asks. asks-stays s t e.body dirs items asks) h
 
 -- An entry is added.
 

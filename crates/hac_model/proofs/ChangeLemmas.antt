@@ -17,6 +17,10 @@ pub all-append : {X : Type 0} (P : X → Type 0) (xs : List X) (x : X) → AllBy
 all-append P [] x h p = (p, tt)
 all-append P (y ∷ xs) x h p = (h.0, all-append P xs x h.1 p)
 
+pub all-joined : {X : Type 0} (P : X → Type 0) (xs ys : List X) → AllByRecursion P xs → AllByRecursion P ys → AllByRecursion P (xs ++ ys)
+all-joined P [] ys h k = k
+all-joined P (x ∷ xs) ys h k = (h.0, all-joined P xs ys h.1 k)
+
 pub all-weaker : {X : Type 0} (P Q : X → Type 0) (xs : List X) → ((x : X) → P x → Q x) → AllByRecursion P xs → AllByRecursion Q xs
 all-weaker P Q [] f h = tt
 all-weaker P Q (x ∷ xs) f h = (f x h.0, all-weaker P Q xs f h.1)

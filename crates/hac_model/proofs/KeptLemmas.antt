@@ -24,7 +24,7 @@ use Rattle.hac_model.specs.declared.states.Body.TheVariants.{File, Dir, Symlink,
 use Rattle.hac_model.specs.declared.states.Entry.{Entry}
 use Rattle.hac_model.specs.declared.states.State.{State}
 use Rattle.hac_model.specs.declared.terms.Term.{Term}
-use Rattle.hac_model.proofs.ChangeLemmas.{all-append, all-changed, all-filter, all-weaker, entry_at-append, entry_at-changed, entry_at-kept, is_kept as is_left, touched}
+use Rattle.hac_model.proofs.ChangeLemmas.{all-append, all-changed, all-filter, all-joined, all-weaker, entry_at-append, entry_at-changed, entry_at-kept, is_kept as is_left, touched}
 use Rattle.hac_model.proofs.MapLemmas.{all-map, entry_at-mapped}
 use Rattle.hac_model.proofs.TreeLemmas.{entry_at-number}
 use Rattle.hac_model.proofs.ValidLemmas.{accepted-parts, found-all, free-holder, move-parts, rmdir-parts, setq-parts, smkdir-parts}
@@ -65,10 +65,6 @@ keeps-stays s t m (Mount space answers) documents few terms h = record {
 keeps-stays s t m other documents few terms h = tt
 
 -- Terms in use, by entries.
-
-all-joined : {X : Type 0} (P : X → Type 0) (xs ys : List X) → AllByRecursion P xs → AllByRecursion P ys → AllByRecursion P (xs ++ ys)
-all-joined P [] ys h k = k
-all-joined P (x ∷ xs) ys h k = (h.0, all-joined P xs ys h.1 k)
 
 all-parted : {X : Type 0} (P : X → Type 0) (xs ys : List X) → AllByRecursion P (xs ++ ys) → AllByRecursion P xs × AllByRecursion P ys
 all-parted P [] ys h = (tt, h)

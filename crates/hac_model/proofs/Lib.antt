@@ -41,7 +41,10 @@ pub mod GraphLemmas
 pub mod CycleLemmas
 pub mod MapLemmas
 pub mod MarkLemmas
+pub mod StayLemmas
 pub mod AskLemmas
+pub mod MountAskLemmas
+pub mod MountEdgeLemmas
 pub mod AcyclicLemmas
 pub mod AlikeLemmas
 pub mod ViewLemmas

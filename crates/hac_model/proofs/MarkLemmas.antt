@@ -70,7 +70,7 @@ all-passes p (x ∷ xs) = elim (p x) as (λ b. p x ≡ b → AllByRecursion (λ 
 ] refl
 
 -- what holds of all in two ways holds in both
-pub all-both : (P Q R : ℕ → Type 0) (xs : List ℕ) → ((x : ℕ) → P x → Q x → R x) → AllByRecursion P xs → AllByRecursion Q xs → AllByRecursion R xs
+pub all-both : {X : Type 0} (P Q R : X → Type 0) (xs : List X) → ((x : X) → P x → Q x → R x) → AllByRecursion P xs → AllByRecursion Q xs → AllByRecursion R xs
 all-both P Q R [] f h k = tt
 all-both P Q R (x ∷ xs) f h k = (f x h.0 k.0, all-both P Q R xs f h.1 k.1)
 
@@ -78,7 +78,8 @@ rise-lower : (low bound : ℕ) (xs : List ℕ) → low ≤ bound → RiseFrom bo
 rise-lower low bound [] less h = tt
 rise-lower low bound (x ∷ xs) less h = let first : bound ≤ x = h.0 in (omega arith, h.1)
 
-rise-filter : (p : ℕ → Bool) (bound : ℕ) (xs : List ℕ) → RiseFrom bound xs → RiseFrom bound (filter p xs)
+-- what a filter leaves of rising numbers rises
+pub rise-filter : (p : ℕ → Bool) (bound : ℕ) (xs : List ℕ) → RiseFrom bound xs → RiseFrom bound (filter p xs)
 rise-filter p bound [] h = tt
 rise-filter p bound (x ∷ xs) h =
     let first : bound ≤ x = h.0 in

@@ -1,5 +1,5 @@
 -- Sessions stay sound, and what an event does to them.
-use Rattle.std.proofs.Common.{◌≡◌, ℕ, Bool, true, false, List, [], ◌∷◌, ◌++◌, cond, filter, refl, ap, sym, subst, ◌∙◌, append-nil}
+use Rattle.std.proofs.Common.{◌≡◌, ℕ, Bool, true, false, List, [], ◌∷◌, ◌++◌, cond, filter, refl, sym, subst, ◌∙◌, append-nil}
 use Rattle.std.specs.Prelude.{◌==◌, ◌&&◌, ◌||◌, not, if◌then◌else◌, Some, None, IsTrue}
 use Rattle.std.specs.List.{AllByRecursion}
 use Rattle.std.specs.Option.{option_map_or}
@@ -16,9 +16,10 @@ use Rattle.hac_model.specs.declared.events.Event.TheVariants.{Mkdir, NewFile, Re
 use Rattle.hac_model.specs.declared.states.Body.TheVariants.{File, Dir, Symlink, Semantic}
 use Rattle.hac_model.specs.declared.states.Session.{Session}
 use Rattle.hac_model.specs.declared.states.State.{State}
-use Rattle.hac_model.proofs.AskLemmas.{DirectoriesStay, added-directories, edited-directories, leaf-no_directory}
-use Rattle.hac_model.proofs.ChangeLemmas.{all-append, all-filter, all-weaker, directory-changed, directory-kept, is_kept}
+use Rattle.hac_model.proofs.AskLemmas.{added-directories, edited-directories, leaf-no_directory}
+use Rattle.hac_model.proofs.ChangeLemmas.{all-append, all-filter, directory-changed, directory-kept, is_kept}
 use Rattle.hac_model.proofs.MapLemmas.{directory-mapped}
+use Rattle.hac_model.proofs.StayLemmas.{sessions-stay, sessions-there}
 use Rattle.hac_model.proofs.ValidLemmas.{accepted-parts, asking-kind, forgetting-measures, indexed-kind, marked-kind, plain-kind, rewritten-kind, rmdir-parts}
 
 -- only an event of a session changes sessions
@@ -34,21 +35,6 @@ session-there s (session ∷ sessions) name there =
       | true ↦ there.0
       | false ↦ session-there s sessions name there.1
     ]
-
--- The same sessions, in a state with the same directories.
-
-module _ (s t : State) (same : t.sessions ≡ s.sessions) (h : AreSessions s) where
-  still : AllByRecursion (λ session. IsTrue (is_directory_at t.entries session.dir)) s.sessions → AreSessions t
-  still there = record {
-    names = subst (λ (ss : List Session). AllByRecursion (λ session. IsTrue (is_space_name session.name)) ss) (sym same) h.names;
-    differ = subst SessionsDiffer (sym same) h.differ;
-    there = subst (λ (ss : List Session). AllByRecursion (λ session. IsTrue (is_directory_at t.entries session.dir)) ss) (sym same) there;
-    elsewhere = subst (λ (ss : List Session). AllByRecursion (λ session. (session.dir == 0) ≡ false) ss) (sym same) h.elsewhere;
-    few = ap are_few same ∙ h.few;
-  }
-
-  stay : DirectoriesStay s t → AreSessions t
-  stay dirs = still (all-weaker (λ session. IsTrue (is_directory_at s.entries session.dir)) (λ session. IsTrue (is_directory_at t.entries session.dir)) s.sessions (λ session there. dirs session.dir there) h.there)
 
 -- nobody stands in a directory that isn't busy
 not-there : (s : State) (dir : ℕ) (sessions : List Session) → is_busy sessions dir ≡ false → AllByRecursion (λ session. IsTrue (is_directory_at s.entries session.dir)) sessions →
@@ -124,28 +110,28 @@ moved s session dir h named there few = record {
 
 -- sessions stay sound
 pub apply-sessions : (s : State) (event : Event) → IsValid s → IsTrue (accepted s event) → AreSessions (apply s event)
-apply-sessions s (Mkdir dir name) h ok = stay s (apply s (Mkdir dir name)) refl h.sessions (added-directories s dir name Dir)
-apply-sessions s (NewFile dir name text) h ok = stay s (apply s (NewFile dir name text)) refl h.sessions (added-directories s dir name (File text true None))
-apply-sessions s (Rewrite file text) h ok = stay s (apply s (Rewrite file text)) refl h.sessions (edited-directories s file (rewritten text) (rewritten-kind text))
-apply-sessions s (Ln dir name target) h ok = stay s (apply s (Ln dir name target)) refl h.sessions (added-directories s dir name (Symlink target))
-apply-sessions s (Smkdir dir name query told) h ok = stay s (apply s (Smkdir dir name query told)) refl h.sessions (added-directories s dir name (Semantic query [] []))
-apply-sessions s (Setq dir query told) h ok = stay s (apply s (Setq dir query told)) refl h.sessions (edited-directories s dir (asking query) (asking-kind query))
-apply-sessions s (Unq dir) h ok = stay s (apply s (Unq dir)) refl h.sessions (edited-directories s dir plain_body plain-kind)
-apply-sessions s (Mark mark) h ok = stay s (apply s (Mark mark)) refl h.sessions (edited-directories s mark.dir (marked mark.item mark.kind) (marked-kind mark.item mark.kind))
+apply-sessions s (Mkdir dir name) h ok = sessions-stay s (apply s (Mkdir dir name)) refl h.sessions (added-directories s dir name Dir)
+apply-sessions s (NewFile dir name text) h ok = sessions-stay s (apply s (NewFile dir name text)) refl h.sessions (added-directories s dir name (File text true None))
+apply-sessions s (Rewrite file text) h ok = sessions-stay s (apply s (Rewrite file text)) refl h.sessions (edited-directories s file (rewritten text) (rewritten-kind text))
+apply-sessions s (Ln dir name target) h ok = sessions-stay s (apply s (Ln dir name target)) refl h.sessions (added-directories s dir name (Symlink target))
+apply-sessions s (Smkdir dir name query told) h ok = sessions-stay s (apply s (Smkdir dir name query told)) refl h.sessions (added-directories s dir name (Semantic query [] []))
+apply-sessions s (Setq dir query told) h ok = sessions-stay s (apply s (Setq dir query told)) refl h.sessions (edited-directories s dir (asking query) (asking-kind query))
+apply-sessions s (Unq dir) h ok = sessions-stay s (apply s (Unq dir)) refl h.sessions (edited-directories s dir plain_body plain-kind)
+apply-sessions s (Mark mark) h ok = sessions-stay s (apply s (Mark mark)) refl h.sessions (edited-directories s mark.dir (marked mark.item mark.kind) (marked-kind mark.item mark.kind))
 apply-sessions s (Mv entry dir name) h ok =
-    stay s (apply s (Mv entry dir name)) refl h.sessions (λ d there. directory-changed entry (reseated dir name) s.entries d (λ e. refl) (λ e. refl) ∙ there)
+    sessions-stay s (apply s (Mv entry dir name)) refl h.sessions (λ d there. directory-changed entry (reseated dir name) s.entries d (λ e. refl) (λ e. refl) ∙ there)
 apply-sessions s (Rm file) h ok =
     let possible = (accepted-parts (is_possible s (Rm file)) (passed_limit (apply s (Rm file))) ok).0 in
-    stay s (apply s (Rm file)) refl h.sessions (λ d there.
+    sessions-stay s (apply s (Rm file)) refl h.sessions (λ d there.
     directory-mapped (forgetting file) (filter (is_kept file) s.entries) d (forgetting-measures file).kind
     ∙ directory-kept file s.entries d (leaf-no_directory s file d h.layout possible there) ∙ there)
 apply-sessions s (Rmdir dir) h ok =
     let possible = (accepted-parts (is_possible s (Rmdir dir)) (passed_limit (apply s (Rmdir dir))) ok).0 in
-    still s (apply s (Rmdir dir)) refl h.sessions (not-there s dir s.sessions (rmdir-parts s dir possible).3 h.sessions.there)
+    sessions-there s (apply s (Rmdir dir)) refl h.sessions (not-there s dir s.sessions (rmdir-parts s dir possible).3 h.sessions.there)
 apply-sessions s Step h ok =
     elim (next_dirty s.entries) as (λ o. AreSessions (option_map_or (λ file. changed_at s file (edited indexed)) o s)) [
       | None ↦ h.sessions
-      | Some file ↦ stay s (changed_at s file (edited indexed)) refl h.sessions (edited-directories s file indexed indexed-kind)
+      | Some file ↦ sessions-stay s (changed_at s file (edited indexed)) refl h.sessions (edited-directories s file indexed indexed-kind)
     ]
 apply-sessions s (Cd session dir) h ok =
     let parts = cd-parts s session dir (accepted-parts (is_possible s (Cd session dir)) (passed_limit (apply s (Cd session dir))) ok).0 in

@@ -32,7 +32,7 @@ use Rattle.hac_model.specs.declared.marks.Kind.TheVariants.{Transient, Permanent
 use Rattle.hac_model.specs.declared.states.Body.{Body}
 use Rattle.hac_model.specs.declared.states.Entry.{Entry}
 use Rattle.hac_model.specs.declared.states.State.{State}
-use Rattle.hac_model.proofs.AskLemmas.{asks-stays}
+use Rattle.hac_model.proofs.StayLemmas.{asks-stays}
 use Rattle.hac_model.proofs.ChangeLemmas.{all-weaker}
 use Rattle.hac_model.proofs.LimitLemmas.{IsWithinLimits, limits-within}
 use Rattle.hac_model.proofs.TreeLemmas.{Lives, directory-lives, entry_at-below}
