@@ -99,7 +99,7 @@ may_sync s mount documents told =
     && are_told (synced s mount (answers_to (terms_to_ask s.entries) told) documents) mount (terms_to_ask s.entries) told
 
 -- what the event refers to is in the tree. Marks, links, the queries of other directories and where sessions stand are
--- left out. What no command makes yet is nowhere.
+-- left out.
 abbrev pub is_placed : State → Event → Bool
 is_placed s (Mkdir dir name) = is_free s dir name
 is_placed s (NewFile dir name text) = is_free s dir name && is_text text
@@ -115,7 +115,9 @@ is_placed s (Rm entry) = is_leaf_at s.entries entry
 is_placed s (Rmdir dir) = is_made_holder s dir && is_bare s.entries dir
 is_placed s Step = is_some (next_dirty s.entries)
 is_placed s (Cd session dir) = is_space_name session && is_directory_at s.entries dir
-is_placed s other = false
+is_placed s (Smount dir name space documents told) = may_mount s dir name space documents told
+is_placed s (Ssync mount documents told) = may_sync s mount documents told
+is_placed s (Sumount mount) = is_mount_at s.entries mount
 
 -- no mark, no link, no query of another directory and no session stands against the event
 abbrev pub is_clear : State → Event → Bool
@@ -123,6 +125,7 @@ is_clear s (Setq dir query told) = is_none (cycle_over s dir (parent_of s dir) q
 is_clear s (Mark mark) = may_mark s mark.dir mark.item mark.kind
 is_clear s (Mv entry dir name) = is_none (cycle_of_move s entry dir)
 is_clear s (Rmdir dir) = is_unreferenced s dir && not (is_busy s.sessions dir)
+is_clear s (Sumount mount) = is_unreferenced s mount && not (is_busy s.sessions mount)
 is_clear s (Cd session dir) = are_few (sessions_with session dir s.sessions)
 is_clear s other = true
 
