@@ -23,7 +23,7 @@ use Rattle.hac_model.specs.declared.states.State.{State}
 use Rattle.hac_model.proofs.ChangeLemmas.{entry_at-changed, entry_at-gone, entry_at-kept, entry_at-new, entry_at-other, touched}
 use Rattle.hac_model.proofs.EventLemmas.{due, steps-due}
 use Rattle.hac_model.proofs.TreeLemmas.{entry_at-behind, entry_at-first, entry_at-low, entry_at-next, entry_at-number}
-use Rattle.hac_model.proofs.ValidLemmas.{apply-layout}
+use Rattle.hac_model.proofs.LayoutLemmas.{apply-layout}
 use Rattle.file_tree.specs.Answers.{is_dirty_at}
 use Rattle.file_tree.specs.Nodes.{body_from}
 use Rattle.file_tree.specs.Ready.{is_awaited, ready_for}

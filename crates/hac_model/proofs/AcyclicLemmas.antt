@@ -1,4 +1,9 @@
 -- Events keep a state valid: no directory comes to depend on itself.
+use Rattle.hac_model.specs.declared.events.Event.TheVariants.{Smount, Ssync, Sumount}
+use Rattle.hac_model.specs.Tree.Events.{may_mount, may_sync}
+use Rattle.hac_model.specs.Tree.Mounting.{answers_to}
+use Rattle.hac_model.specs.Tree.Mounts.{terms_to_ask}
+use Rattle.hac_model.proofs.MountEdgeLemmas.{mounted-acyclic, synced-acyclic, unmounted-acyclic}
 use Rattle.std.proofs.Common.{◌≡◌, ℕ, zero, suc, Bool, true, false, cond, List, [], ◌∷◌, subst, refl, ap, sym, ◌∙◌, arith, inl, inr}
 use Rattle.std.specs.Prelude.{◌⊎◌, ◌==◌, ◌||◌, filter, Option, Some, None, IsTrue, option_and_then}
 use Rattle.std.specs.Option.{option_map, option_map_or}
@@ -26,9 +31,8 @@ use Rattle.hac_model.proofs.CycleLemmas.{depends-is, edges_in, none-reaching}
 use Rattle.hac_model.proofs.GraphLemmas.{AreReplaced, never_returns-fewer, never_returns-replaced}
 use Rattle.hac_model.proofs.MapLemmas.{entry_at-mapped}
 use Rattle.hac_model.proofs.TreeLemmas.{entry_at-all, entry_at-cases, entry_at-next, entry_at-number, rise-below, place-directory}
-use Rattle.hac_model.proofs.TermLemmas.{asked-kept, in_use-askable, answers-rise}
-use Rattle.hac_model.proofs.MountLayoutLemmas.{mounted-layout, synced-layout, unmounted-layout}
-use Rattle.hac_model.proofs.ValidLemmas.{accepted-parts, apply-layout, empty-layout, free-parts, move-parts, setq-parts, smkdir-parts}
+use Rattle.hac_model.proofs.LayoutLemmas.{apply-layout}
+use Rattle.hac_model.proofs.ValidLemmas.{accepted-parts, empty-layout, free-parts, move-parts, setq-parts, smkdir-parts}
 use Rattle.hac_model.proofs.KeptLemmas.{apply-answers}
 
 -- Edges lead to directories.
@@ -245,7 +249,9 @@ apply-acyclic s Step h ok = elim (next_dirty s.entries) as (λ o. IsAcyclic (opt
   | Some file ↦ edited-acyclic s file indexed indexed-edges h.acyclic
 ]
 apply-acyclic s (Cd session dir) h ok = h.acyclic
-apply-acyclic s other h ok = absurd cc
+apply-acyclic s (Smount dir name space documents told) h ok = mounted-acyclic s dir name space (answers_to (terms_to_ask s.entries) told) documents h
+apply-acyclic s (Ssync mount documents told) h ok = synced-acyclic s mount (answers_to (terms_to_ask s.entries) told) documents h
+apply-acyclic s (Sumount mount) h ok = unmounted-acyclic s mount h
 
 pub empty-valid : IsValid empty
 empty-valid = record { layout = empty-layout; queries = tt; answers = tt; acyclic = (λ steps dir back. back.1); sessions = record { names = tt; differ = tt; there = tt; elsewhere = tt; few = refl } }

@@ -1,4 +1,10 @@
 -- Events keep what directories ask and how items are marked sound.
+use Rattle.hac_model.specs.declared.events.Event.TheVariants.{Smount, Ssync, Sumount}
+use Rattle.hac_model.specs.Tree.Events.{may_mount, may_sync}
+use Rattle.hac_model.specs.Tree.Mounting.{answers_to}
+use Rattle.hac_model.specs.Tree.Mounts.{terms_to_ask}
+use Rattle.hac_model.proofs.LayoutLemmas.{sumount-parts}
+use Rattle.hac_model.proofs.MountAskLemmas.{mounted-queries, synced-queries, unmounted-queries}
 use Rattle.std.proofs.Common.{◌≡◌, ℕ, Bool, true, false, List, [], ◌∷◌, ◌++◌, refl, ap, sym, ◌∙◌}
 use Rattle.std.specs.Prelude.{◌==◌, ◌||◌, not, filter, Option, Some, None, IsTrue}
 use Rattle.std.specs.Option.{option_map, option_map_or}
@@ -211,4 +217,8 @@ apply-queries s Step h ok = elim (next_dirty s.entries) as (λ o. AllByRecursion
   | Some file ↦ changed-asks s file (edited indexed) (λ e. refl) (λ e. indexed-keeps.directories e.body) (λ e. keeps-linkable indexed indexed-keeps.files indexed-keeps.documents e.body) (λ e there. indexed-asks (changed_at s file (edited indexed)) e.body there) h
 ]
 apply-queries s (Cd session dir) h ok = all-stay s (apply s (Cd session dir)) (λ d there. there) (λ n there. there) h.queries
-apply-queries s other h ok = absurd cc
+apply-queries s (Smount dir name space documents told) h ok = mounted-queries s dir name space (answers_to (terms_to_ask s.entries) told) documents h
+apply-queries s (Ssync mount documents told) h ok = synced-queries s mount (answers_to (terms_to_ask s.entries) told) documents h
+apply-queries s (Sumount mount) h ok =
+    let parts = sumount-parts s mount (accepted-parts (is_possible s (Sumount mount)) (passed_limit (apply s (Sumount mount))) ok).0 in
+    unmounted-queries s mount h parts.0 parts.1

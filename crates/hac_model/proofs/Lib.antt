@@ -13,9 +13,11 @@ pub mod AmongLemmas
 pub mod LinkLemmas
 pub mod CountLemmas
 pub mod ValidLemmas
+pub mod LayoutLemmas
 pub mod FittingLemmas
 pub mod MountLayoutLemmas
 pub mod TermLemmas
+pub mod KeepingLemmas
 pub mod MountKeptLemmas
 pub mod StateSpellingLemmas
 pub mod ValidTestLemmas

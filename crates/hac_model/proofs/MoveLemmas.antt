@@ -22,7 +22,8 @@ use Rattle.hac_model.proofs.ChangeLemmas.{entry_at-changed, entry_at-new, entry_
 use Rattle.hac_model.proofs.DepthLemmas.{entry-no_root, names_of, short-names}
 use Rattle.hac_model.proofs.PathLemmas.{ancestors-none, ancestors-step, ancestors_by, few-ancestors, length-path, limit, lineage-is, lineage-take, path-names, root-none, short-is, extends-parent, extends-root, from_root, parent-lives, path_of-few, path-short, path_of-parent, path_of-root}
 use Rattle.hac_model.proofs.TreeLemmas.{Lives, all-entries, directory-lives, entry_at-below, entry_at-cases, entry_at-next, entry_at-number, rise-below}
-use Rattle.hac_model.proofs.ValidLemmas.{accepted-parts, apply-layout, free-parts, move-parts}
+use Rattle.hac_model.proofs.LayoutLemmas.{apply-layout}
+use Rattle.hac_model.proofs.ValidLemmas.{accepted-parts, free-parts, move-parts}
 
 -- An entry is added.
 

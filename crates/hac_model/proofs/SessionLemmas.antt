@@ -1,4 +1,10 @@
 -- Sessions stay sound, and what an event does to them.
+use Rattle.hac_model.specs.declared.events.Event.TheVariants.{Smount, Ssync, Sumount}
+use Rattle.hac_model.specs.Tree.Events.{may_mount, may_sync}
+use Rattle.hac_model.specs.Tree.Mounting.{answers_to}
+use Rattle.hac_model.specs.Tree.Mounts.{terms_to_ask}
+use Rattle.hac_model.proofs.LayoutLemmas.{sumount-parts}
+use Rattle.hac_model.proofs.MountAskLemmas.{mounted-sessions, synced-sessions, unmounted-sessions}
 use Rattle.std.proofs.Common.{◌≡◌, ℕ, Bool, true, false, List, [], ◌∷◌, ◌++◌, cond, filter, refl, sym, subst, ◌∙◌, append-nil}
 use Rattle.std.specs.Prelude.{◌==◌, ◌&&◌, ◌||◌, not, if◌then◌else◌, Some, None, IsTrue}
 use Rattle.std.specs.List.{AllByRecursion}
@@ -136,4 +142,8 @@ apply-sessions s Step h ok =
 apply-sessions s (Cd session dir) h ok =
     let parts = cd-parts s session dir (accepted-parts (is_possible s (Cd session dir)) (passed_limit (apply s (Cd session dir))) ok).0 in
     moved s session dir h.sessions parts.0 parts.1 parts.2
-apply-sessions s other h ok = absurd cc
+apply-sessions s (Smount dir name space documents told) h ok = mounted-sessions s dir name space (answers_to (terms_to_ask s.entries) told) documents h
+apply-sessions s (Ssync mount documents told) h ok = synced-sessions s mount (answers_to (terms_to_ask s.entries) told) documents h
+apply-sessions s (Sumount mount) h ok =
+    let parts = sumount-parts s mount (accepted-parts (is_possible s (Sumount mount)) (passed_limit (apply s (Sumount mount))) ok).0 in
+    unmounted-sessions s mount h parts.0 parts.2

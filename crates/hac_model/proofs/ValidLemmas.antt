@@ -231,7 +231,7 @@ asking-places query = record { directories = asking-kind query; mounts = mounts;
     documents (Semantic old permanent prohibited) = refl
     documents other = refl
 
-asking-sound : (query : Formula ℕ) (body : Body) → IsSound body → IsSound (asking query body)
+pub asking-sound : (query : Formula ℕ) (body : Body) → IsSound body → IsSound (asking query body)
 asking-sound query Dir h = tt
 asking-sound query (Semantic old permanent prohibited) h = tt
 asking-sound query other h = h
@@ -251,7 +251,7 @@ plain-places = record { directories = plain-kind; mounts = mounts; documents = d
     documents (Semantic query permanent prohibited) = refl
     documents other = refl
 
-plain-sound : (body : Body) → IsSound body → IsSound (plain_body body)
+pub plain-sound : (body : Body) → IsSound body → IsSound (plain_body body)
 plain-sound (Semantic query permanent prohibited) h = tt
 plain-sound other h = h
 
@@ -323,7 +323,7 @@ marked-places n kind = record { directories = marked-kind n kind; mounts = mount
     documents Transient other = refl
     documents Unlinked other = refl
 
-marked-sound : (n : ℕ) (kind : Kind) (body : Body) → IsSound body → IsSound (marked n kind body)
+pub marked-sound : (n : ℕ) (kind : Kind) (body : Body) → IsSound body → IsSound (marked n kind body)
 marked-sound n Permanent (Semantic query permanent prohibited) h = tt
 marked-sound n Prohibited (Semantic query permanent prohibited) h = tt
 marked-sound n Transient (Semantic query permanent prohibited) h = tt
@@ -391,58 +391,3 @@ rmdir-parts s dir h =
 -- an event that is accepted fits, and leads to a state that exceeds no limit
 pub accepted-parts : (possible : Bool) (passes : Option LimitWord) → (possible && is_none passes) ≡ true → (possible ≡ true) × (passes ≡ None)
 accepted-parts possible passes h = let parts = and_parts possible (is_none passes) h in (parts.0, none_from passes parts.1)
-
--- so the tree stays one
-pub apply-layout : (s : State) (event : Event) → IsLayout s → IsTrue (accepted s event) → IsLayout (apply s event)
-apply-layout s (Mkdir dir name) h ok =
-    let parts = accepted-parts (is_free s dir name) (passed_limit (added s dir name Dir)) ok in
-    added-layout s dir name Dir h parts.0 tt refl parts.1
-apply-layout s (NewFile dir name text) h ok =
-    let parts = accepted-parts (is_free s dir name && is_text text) (passed_limit (added s dir name (File text true None))) ok in
-    let fits = and_parts (is_free s dir name) (is_text text) parts.0 in
-    let sound : IsSoundFile text true None = record { fits = fits.1; shown_fits = refl; clean = λ clean. absurd cc } in
-    added-layout s dir name (File text true None) h fits.0 sound refl parts.1
-apply-layout s (Rewrite file text) h ok =
-    let parts = accepted-parts (is_file_at s.entries file && is_text text) (passed_limit (changed_at s file (edited (rewritten text)))) ok in
-    let fits = and_parts (is_file_at s.entries file) (is_text text) parts.0 in
-    edited-layout s file (rewritten text) (rewritten-places text) (rewritten-sound text fits.1) h parts.1
-apply-layout s (Ln dir name target) h ok =
-    let parts = accepted-parts (is_free s dir name && is_target target) (passed_limit (added s dir name (Symlink target))) ok in
-    let fits = and_parts (is_free s dir name) (is_target target) parts.0 in
-    added-layout s dir name (Symlink target) h fits.0 fits.1 refl parts.1
-apply-layout s (Smkdir dir name query told) h ok =
-    let parts = accepted-parts (is_possible s (Smkdir dir name query told)) (passed_limit (added s dir name (Semantic query [] []))) ok in
-    added-layout s dir name (Semantic query [] []) h (smkdir-parts s dir name query told parts.0).0 tt refl parts.1
-apply-layout s (Setq dir query told) h ok =
-    let parts = accepted-parts (is_possible s (Setq dir query told)) (passed_limit (changed_at s dir (edited (asking query)))) ok in
-    edited-layout s dir (asking query) (asking-places query) (asking-sound query) h parts.1
-apply-layout s (Unq dir) h ok =
-    let parts = accepted-parts (is_semantic s dir) (passed_limit (changed_at s dir (edited plain_body))) ok in
-    edited-layout s dir plain_body plain-places plain-sound h parts.1
-apply-layout s (Mark mark) h ok =
-    let parts = accepted-parts (is_possible s (Mark mark)) (passed_limit (changed_at s mark.dir (edited (marked mark.item mark.kind)))) ok in
-    edited-layout s mark.dir (marked mark.item mark.kind) (marked-places mark.item mark.kind) (marked-sound mark.item mark.kind) h parts.1
-apply-layout s (Mv entry dir name) h ok =
-    let parts = accepted-parts (is_possible s (Mv entry dir name)) (passed_limit (changed_at s entry (reseated dir name))) ok in
-    let fits = move-parts s entry dir name parts.0 in
-    reseated-layout s entry dir name h fits.1 fits.4 parts.1
-apply-layout s (Rm file) h ok =
-    let parts = accepted-parts (is_leaf_at s.entries file) (passed_limit (forgotten (removed s file) file)) ok in
-    mapped-layout (forgetting file) (removed s file) (forgetting-measures file) (forgetting-sound file) (removed-layout s file h (leaf-bare s file h parts.0) (passed-forgotten (removed s file) file parts.1))
-apply-layout s (Rmdir dir) h ok =
-    let parts = accepted-parts (is_possible s (Rmdir dir)) (passed_limit (removed s dir)) ok in
-    removed-layout s dir h (bare-all s.entries dir (rmdir-parts s dir parts.0).1) parts.1
-apply-layout s Step h ok =
-    elim (next_dirty s.entries) as (λ o. (is_some o && is_none (passed_limit (option_map_or (λ file. changed_at s file (edited indexed)) o s))) ≡ true → IsLayout (option_map_or (λ file. changed_at s file (edited indexed)) o s)) [
-      | None ↦ (λ ok. h)
-      | Some file ↦ (λ ok. edited-layout s file indexed indexed-places indexed-sound h (none_from (passed_limit (changed_at s file (edited indexed))) ok))
-    ] ok
-apply-layout s (Cd session dir) h ok = record {
-  numbers = h.numbers;
-  names = h.names;
-  places = h.places;
-  differ = h.differ;
-  bodies = h.bodies;
-  limits = (accepted-parts (is_possible s (Cd session dir)) (passed_limit (apply s (Cd session dir))) ok).1;
-}
-apply-layout s other h ok = absurd cc

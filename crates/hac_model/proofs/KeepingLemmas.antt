@@ -1,0 +1,152 @@
+-- What mounts keep: their documents, and an answer for each term in use.
+use Rattle.std.proofs.Common.{◌≡◌, ℕ, ◌≤◌, inl, inr, Bool, true, false, List, [], ◌∷◌, ◌++◌, length, map, refl, ap, sym, ◌∙◌, arith, subst}
+use Rattle.std.specs.Prelude.{◌⊎◌, ◌==◌, ◌&&◌, ◌||◌, not, if◌then◌else◌, filter, nat_le, Option, Some, None, IsTrue}
+use Rattle.std.specs.Option.{option_map, option_map_or}
+use Rattle.std.specs.List.{AllByRecursion, list_all}
+use Rattle.std.proofs.lemmas.Bool.{and_parts, eqb-true, leb-true, le-leb, ne_eqb, not-true}
+use Rattle.hac_model.specs.Query.Formula.{Formula}
+use Rattle.hac_model.specs.Query.Queries.{terms_of}
+use Rattle.hac_model.specs.Tree.Events.{is_free, accepted, added, apply, asking, changed_at, changed_in, edited, first_asked_in, forgetting, forgotten, indexed, is_possible, knows_all, marked, next_dirty, plain_body, removed, reseated, rewritten}
+use Rattle.hac_model.specs.Tree.Limits.{is_text, passed_limit}
+use Rattle.hac_model.specs.Script.PathWords.{is_target}
+use Rattle.hac_model.specs.Tree.Links.{parent_of}
+use Rattle.hac_model.specs.Tree.Mounts.{is_kept, terms_in, terms_in_use}
+use Rattle.hac_model.specs.Tree.{answers_in, body_at, entry_at, is_directory, is_directory_at, is_document, is_document_at, is_leaf, is_leaf_at, is_made_directory, is_mount, is_mount_at, query_in, space_in}
+use Rattle.hac_model.specs.Tree.Valid.{IsAnswer, IsValid, KeepsWell, has_few, is_document_of}
+use Rattle.hac_model.specs.declared.events.Event.{Event}
+use Rattle.hac_model.specs.declared.events.Event.TheVariants.{Mkdir, NewFile, Rewrite, Ln, Mark, Mv, Rm, Rmdir, Setq, Smkdir, Step, Unq, Cd}
+use Rattle.hac_model.specs.declared.limits.TheConstants.{DOCS_LIMIT}
+use Rattle.hac_model.specs.declared.marks.Kind.{Kind}
+use Rattle.hac_model.specs.declared.marks.Kind.TheVariants.{Transient, Permanent, Prohibited, Unlinked}
+use Rattle.hac_model.specs.declared.states.Answer.{Answer}
+use Rattle.hac_model.specs.declared.states.Body.{Body}
+use Rattle.hac_model.specs.declared.states.Body.TheVariants.{File, Dir, Symlink, Semantic, Mount, Document}
+use Rattle.hac_model.specs.declared.states.Entry.{Entry}
+use Rattle.hac_model.specs.declared.states.State.{State}
+use Rattle.hac_model.specs.declared.terms.Term.{Term}
+use Rattle.hac_model.proofs.ChangeLemmas.{all-append, all-changed, all-filter, all-joined, all-weaker, entry_at-append, entry_at-changed, entry_at-kept, is_kept as is_left, touched}
+use Rattle.hac_model.proofs.MapLemmas.{all-map, entry_at-mapped}
+use Rattle.hac_model.proofs.TreeLemmas.{entry_at-number}
+use Rattle.hac_model.proofs.ValidLemmas.{accepted-parts, found-all, free-holder, move-parts, rmdir-parts, setq-parts, smkdir-parts}
+
+-- What a mount keeps stays sound from one state to another, where its documents stay, it gets no more, and its answers
+-- are those for all terms in use.
+
+-- documents of a mount stay its documents
+abbrev pub DocumentsStay : State → State → Type 0
+DocumentsStay s t = (m n : ℕ) → is_document_of s m n ≡ true → is_document_of t m n ≡ true
+
+-- a mount with few documents has few
+abbrev pub FewStay : State → State → Type 0
+FewStay s t = (m : ℕ) → has_few s.entries m ≡ true → has_few t.entries m ≡ true
+
+-- each term of these has an answer
+abbrev pub AreKept : List Answer → List Term → Type 0
+AreKept answers terms = AllByRecursion (λ term. IsTrue (is_kept answers term)) terms
+
+-- answers for all terms in use are those for all that are in use then
+abbrev pub TermsStay : State → State → Type 0
+TermsStay s t = (m : ℕ) (answers : List Answer) → AreKept answers (terms_in_use s.entries) → AreKept answers (terms_in_use t.entries)
+
+pub answer-stays : (s t : State) (m : ℕ) (answer : Answer) → DocumentsStay s t → IsAnswer s m answer → IsAnswer t m answer
+answer-stays s t m answer documents h = record {
+  fits = h.fits;
+  rise = h.rise;
+  documents = all-weaker (λ n. IsTrue (is_document_of s m n)) (λ n. IsTrue (is_document_of t m n)) answer.documents (λ n there. documents m n there) h.documents;
+}
+
+pub keeps-stays : (s t : State) (m : ℕ) (body : Body) → DocumentsStay s t → ((m : ℕ) → has_few s.entries m ≡ true → has_few t.entries m ≡ true) → TermsStay s t → KeepsWell s m body → KeepsWell t m body
+keeps-stays s t m (Mount space answers) documents few terms h = record {
+  few = few m h.few;
+  rise = h.rise;
+  sound = all-weaker (IsAnswer s m) (IsAnswer t m) answers (λ answer sound. answer-stays s t m answer documents sound) h.sound;
+  all = terms m answers h.all;
+}
+keeps-stays s t m other documents few terms h = tt
+
+-- Terms in use, by entries.
+
+pub all-parted : {X : Type 0} (P : X → Type 0) (xs ys : List X) → AllByRecursion P (xs ++ ys) → AllByRecursion P xs × AllByRecursion P ys
+all-parted P [] ys h = (tt, h)
+all-parted P (x ∷ xs) ys h = let parts = all-parted P xs ys h.1 in ((h.0, parts.0), parts.1)
+
+abbrev pub EachKept : List Answer → List Entry → Type 0
+EachKept answers es = AllByRecursion (λ e. AreKept answers (terms_in e.body)) es
+
+pub each-kept : (answers : List Answer) (es : List Entry) → AreKept answers (terms_in_use es) → EachKept answers es
+each-kept answers [] h = tt
+each-kept answers (e ∷ es) h = let parts = all-parted (λ term. IsTrue (is_kept answers term)) (terms_in e.body) (terms_in_use es) h in (parts.0, each-kept answers es parts.1)
+
+pub all-kept : (answers : List Answer) (es : List Entry) → EachKept answers es → AreKept answers (terms_in_use es)
+all-kept answers [] h = tt
+all-kept answers (e ∷ es) h = all-joined (λ term. IsTrue (is_kept answers term)) (terms_in e.body) (terms_in_use es) h.0 (all-kept answers es h.1)
+
+-- How many entries a directory has.
+
+abbrev pub inside : ℕ → List Entry → List Entry
+inside m es = filter (λ (e : Entry). e.parent == m) es
+
+pub fewer : (n m : ℕ) → m ≤ n → nat_le n DOCS_LIMIT ≡ true → nat_le m DOCS_LIMIT ≡ true
+fewer n m less few = let within : n ≤ DOCS_LIMIT = leb-true n DOCS_LIMIT few in le-leb m DOCS_LIMIT (omega arith)
+
+-- a change that puts no entry into the directory
+pub inside-changed : (m n : ℕ) (change : Entry → Entry) (es : List Entry) → ((e : Entry) → ((change e).parent == m) ≡ true → (e.parent == m) ≡ true) → length (inside m (changed_in n change es)) ≤ length (inside m es)
+inside-changed m n change [] stays = omega arith
+inside-changed m n change (e ∷ es) stays =
+    let rest = inside-changed m n change es stays in
+    elim (e.number == n) as (λ b. length (inside m ((if b then change e else e) ∷ changed_in n change es)) ≤ length (inside m (e ∷ es))) [
+      | true ↦ elim ((change e).parent == m) as (λ b. ((change e).parent == m) ≡ b → length (if b then change e ∷ inside m (changed_in n change es) else inside m (changed_in n change es)) ≤ length (inside m (e ∷ es))) [
+        | true ↦ (λ here. subst (λ (b : Bool). length (change e ∷ inside m (changed_in n change es)) ≤ length (if b then e ∷ inside m es else inside m es)) (sym (stays e here)) (omega (arith, rest)))
+        | false ↦ (λ here. less (e.parent == m) rest)
+      ] refl
+      | false ↦ both (e.parent == m) rest
+    ]
+  where
+    less : (b : Bool) → length (inside m (changed_in n change es)) ≤ length (inside m es) → length (inside m (changed_in n change es)) ≤ length (if b then e ∷ inside m es else inside m es)
+    less true rest = omega (arith, rest)
+    less false rest = rest
+
+    both : (b : Bool) → length (inside m (changed_in n change es)) ≤ length (inside m es) → length (if b then e ∷ inside m (changed_in n change es) else inside m (changed_in n change es)) ≤ length (if b then e ∷ inside m es else inside m es)
+    both true rest = omega (arith, rest)
+    both false rest = rest
+
+pub inside-left : (m n : ℕ) (es : List Entry) → length (inside m (filter (is_left n) es)) ≤ length (inside m es)
+inside-left m n [] = omega arith
+inside-left m n (e ∷ es) =
+    let rest = inside-left m n es in
+    elim (is_left n e) as (λ b. length (inside m (if b then e ∷ filter (is_left n) es else filter (is_left n) es)) ≤ length (inside m (e ∷ es))) [
+      | true ↦ elim (e.parent == m) as (λ b. length (if b then e ∷ inside m (filter (is_left n) es) else inside m (filter (is_left n) es)) ≤ length (if b then e ∷ inside m es else inside m es)) [ true ↦ omega (arith, rest) | false ↦ rest ]
+      | false ↦ elim (e.parent == m) as (λ b. length (inside m (filter (is_left n) es)) ≤ length (if b then e ∷ inside m es else inside m es)) [ true ↦ omega (arith, rest) | false ↦ rest ]
+    ]
+
+pub inside-mapped : (m : ℕ) (edit : Body → Body) (es : List Entry) → length (inside m (map (edited edit) es)) ≡ length (inside m es)
+inside-mapped m edit [] = refl
+inside-mapped m edit (e ∷ es) =
+    let rest = inside-mapped m edit es in
+    elim (e.parent == m) as (λ b. length (if b then edited edit e ∷ inside m (map (edited edit) es) else inside m (map (edited edit) es)) ≡ length (if b then e ∷ inside m es else inside m es)) [ true ↦ omega (arith, rest) | false ↦ rest ]
+
+pub inside-added : (m : ℕ) (es : List Entry) (new : Entry) → (new.parent == m) ≡ false → inside m (es ++ new ∷ []) ≡ inside m es
+inside-added m [] new other = ap (λ (b : Bool). if b then new ∷ [] else []) other
+inside-added m (e ∷ es) new other = ap (λ (rest : List Entry). if e.parent == m then e ∷ rest else rest) (inside-added m es new other)
+
+-- Whose document a number is, by its entry.
+
+abbrev pub document_by : ℕ → Option Entry → Bool
+document_by m o = option_map_or is_document (option_map (λ (e : Entry). e.body) o) false && (option_map_or (λ (e : Entry). e.parent) o 0 == m)
+
+pub same-document : (s t : State) (m n : ℕ) → entry_at t.entries n ≡ entry_at s.entries n → is_document_of s m n ≡ true → is_document_of t m n ≡ true
+same-document s t m n same there = ap (document_by m) same ∙ there
+
+-- what is a document has an entry, which is one
+pub document-entry : (s : State) (m n : ℕ) → is_document_of s m n ≡ true → (e : Entry) × (entry_at s.entries n ≡ Some e) × (is_document e.body ≡ true)
+document-entry s m n there =
+    elim (entry_at s.entries n) as (λ o. entry_at s.entries n ≡ o → document_by m o ≡ true → (e : Entry) × (entry_at s.entries n ≡ Some e) × (is_document e.body ≡ true)) [
+      | None ↦ (λ found there. absurd cc)
+      | Some e ↦ (λ found there. (e, found, (and_parts (is_document e.body) (e.parent == m) there).0))
+    ] refl there
+
+-- a test that a document's body passes is passed by its number
+pub document-tests : (s : State) (m n : ℕ) (test : Body → Bool) → ((b : Body) → is_document b ≡ true → test b ≡ false) → is_document_of s m n ≡ true → option_map_or test (body_at s.entries n) false ≡ false
+document-tests s m n test fails there =
+    let found = document-entry s m n there in
+    ap (λ (o : Option Entry). option_map_or test (option_map (λ (e : Entry). e.body) o) false) found.1 ∙ fails found.0.body found.2
