@@ -47,6 +47,7 @@ pub mod StayLemmas
 pub mod AskLemmas
 pub mod MountAskLemmas
 pub mod MountEdgeLemmas
+pub mod MountFactLemmas
 pub mod AcyclicLemmas
 pub mod AlikeLemmas
 pub mod ViewLemmas

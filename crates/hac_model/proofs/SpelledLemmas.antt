@@ -37,7 +37,7 @@ use Rattle.hac_model.proofs.ChangeLemmas.{all-weaker}
 use Rattle.hac_model.proofs.LimitLemmas.{IsWithinLimits, limits-within}
 use Rattle.hac_model.proofs.TreeLemmas.{Lives, directory-lives, entry_at-below}
 use Rattle.hac_model.proofs.ValidLemmas.{accepted-parts, free-parts, mark-parts, move-parts, rmdir-parts, setq-parts, smkdir-parts}
-use Rattle.hac_model.proofs.KeptLemmas.{keeps-stays}
+use Rattle.hac_model.proofs.KeepingLemmas.{keeps-stays}
 
 module _ (s : State) (h : IsValid s) where
   -- the numbers of a valid state have four bytes
@@ -228,6 +228,7 @@ module _ (s : State) where
   clear-stored (Mark mark) kept clear = marking-stored mark.dir mark.item mark.kind ∙ clear
   clear-stored (Mv entry dir name) kept clear = ap (λ (o : Option ℕ). is_none o) (moving-stored entry dir (query_at s entry)) ∙ clear
   clear-stored (Rmdir dir) kept clear = and_from (is_unreferenced s dir) true (and_parts (is_unreferenced s dir) (not (is_busy s.sessions dir)) clear).0 refl
+  clear-stored (Sumount mount) kept clear = and_from (is_unreferenced s mount) true (and_parts (is_unreferenced s mount) (not (is_busy s.sessions mount)) clear).0 refl
   clear-stored (Cd session dir) kept clear = absurd cc
   clear-stored other kept clear = refl
 
