@@ -33,6 +33,7 @@ pub mod JoinLemmas
 pub mod StandLemmas
 pub mod EventLemmas
 pub mod SessionLemmas
+pub mod SpellableLemmas
 pub mod SpelledLemmas
 pub mod PlayLemmas
 pub mod PlainLemmas
