@@ -177,12 +177,12 @@ pub such-entries : (test : ℕ → Bool) (es : List Entry) → map (edited bare_
 such-entries test [] = refl
 such-entries test (e ∷ es) = λ i. record e { body = such-bare test e.body i } ∷ such-entries test es i
 
-keeping-bare : (answers : List Answer) (body : Body) → bare_body (keeping answers body) ≡ bare_body body
+pub keeping-bare : (answers : List Answer) (body : Body) → bare_body (keeping answers body) ≡ bare_body body
 keeping-bare answers (Mount space kept) = refl
 keeping-bare answers other = refl
 
 -- a test that what is bare passes as before
-abbrev PassesBare : (Entry → Bool) → Type 0
+abbrev pub PassesBare : (Entry → Bool) → Type 0
 PassesBare test = (e : Entry) → test (edited bare_body e) ≡ test e
 
 without-bare : (test : Entry → Bool) (es : List Entry) → PassesBare test →
@@ -191,7 +191,7 @@ without-bare test [] same = refl
 without-bare test (e ∷ es) same =
     let rest = without-bare test es same in
     elim (test e) as (λ b. map (edited bare_body) (if not b then e ∷ filter (λ e. not (test e)) es else filter (λ e. not (test e)) es)
-        ≡ map (edited bare_body) (if not b then edited bare_body e ∷ filter (λ e. not (test e)) (map (edited bare_body) es) else filter (λ e. not (test e)) (map (edited bare_body) es))) [
+    ≡ map (edited bare_body) (if not b then edited bare_body e ∷ filter (λ e. not (test e)) (map (edited bare_body) es) else filter (λ e. not (test e)) (map (edited bare_body) es))) [
       | true ↦ rest
       | false ↦ (λ i. record e { body = sym (bare-again e.body) i } ∷ rest i)
     ] ∙ ap (λ (b : Bool). map (edited bare_body) (if not b then edited bare_body e ∷ filter (λ e. not (test e)) (map (edited bare_body) es) else filter (λ e. not (test e)) (map (edited bare_body) es))) (sym (same e))
@@ -201,14 +201,14 @@ document-bare (Semantic query permanent prohibited) = refl
 document-bare (Mount space answers) = refl
 document-bare other = refl
 
-gone-bare : (mount : ℕ) (names : List (List ℕ)) → PassesBare (is_gone mount names)
+pub gone-bare : (mount : ℕ) (names : List (List ℕ)) → PassesBare (is_gone mount names)
 gone-bare mount names e = ap (λ (b : Bool). b && (e.parent == mount && not (is_among names e.name))) (document-bare e.body)
 
 fresh-bare : (es : List Entry) (mount : ℕ) (names : List (List ℕ)) → filter (λ name. is_none (child (map (edited bare_body) es) mount name)) names ≡ filter (λ name. is_none (child es mount name)) names
 fresh-bare es mount [] = refl
 fresh-bare es mount (name ∷ names) = λ i. if is_none (child-mapped bare_body es mount name i) then name ∷ fresh-bare es mount names i else fresh-bare es mount names i
 
-mounted-bare : (s : State) (dir : ℕ) (name space : List ℕ) (answers others : List Answer) (documents : List (List ℕ)) → bare (mounted s dir name space answers documents) ≡ bare (mounted (bare s) dir name space others documents)
+pub mounted-bare : (s : State) (dir : ℕ) (name space : List ℕ) (answers others : List Answer) (documents : List (List ℕ)) → bare (mounted s dir name space answers documents) ≡ bare (mounted (bare s) dir name space others documents)
 mounted-bare s dir name space answers others documents =
     alike (s.next + 1 + length documents) ((s.entries ++ one answers ∷ []) ++ behind) ((map (edited bare_body) s.entries ++ one others ∷ []) ++ behind) s (bare s) (
     map-append (edited bare_body) (s.entries ++ one answers ∷ []) behind

@@ -6,22 +6,27 @@ use Rattle.std.proofs.lemmas.Bool.{eqb-true}
 use Rattle.hac_model.specs.Tree.Bare.{bare}
 use Rattle.hac_model.specs.Tree.Depends.{depends, named_in}
 use Rattle.hac_model.specs.Tree.Events.{apply, asking, changed_at, edited, forgetting, indexed, is_possible, marked, next_dirty, plain_body, reseated, rewritten}
-use Rattle.hac_model.specs.Tree.Facts.{Facts, edges_to, facts_after, facts_at, facts_in, facts_of, no_facts, put_at, with_mark, without_item}
+use Rattle.hac_model.specs.Tree.Facts.{Facts, edges_to, facts_after, facts_at, facts_in, facts_of, facts_without, no_facts, put_at, with_mark, without_item}
+use Rattle.hac_model.specs.Tree.Mounting.{answers_to}
+use Rattle.hac_model.specs.Tree.Mounts.{terms_to_ask}
 use Rattle.hac_model.specs.Query.Formula.{Formula}
 use Rattle.hac_model.specs.Tree.{entry_at, is_directory, is_leaf, query_in, is_mount}
-use Rattle.hac_model.specs.Tree.Valid.{NumbersRise}
+use Rattle.hac_model.specs.Tree.Valid.{IsLayout}
 use Rattle.hac_model.specs.declared.events.Event.{Event}
-use Rattle.hac_model.specs.declared.events.Event.TheVariants.{Mkdir, NewFile, Rewrite, Ln, Smkdir, Setq, Unq, Mark, Mv, Rm, Rmdir, Step}
+use Rattle.hac_model.specs.declared.events.Event.TheVariants.{Mkdir, NewFile, Rewrite, Ln, Smkdir, Setq, Unq, Mark, Mv, Rm, Rmdir, Smount, Ssync, Sumount, Step}
 use Rattle.hac_model.specs.declared.marks.Kind.{Kind}
 use Rattle.hac_model.specs.declared.marks.Kind.TheVariants.{Transient, Permanent, Prohibited, Unlinked}
 use Rattle.hac_model.specs.declared.states.Body.{Body}
 use Rattle.hac_model.specs.declared.states.Body.TheVariants.{File, Dir, Symlink, Semantic, Mount, Document}
 use Rattle.hac_model.specs.declared.states.Entry.{Entry}
 use Rattle.hac_model.specs.declared.states.State.{State}
+use Rattle.hac_model.specs.declared.terms.Term.{Term}
 use Rattle.hac_model.proofs.AlikeLemmas.{parent_of-bare, query_at-bare}
 use Rattle.hac_model.proofs.ChangeLemmas.{is_kept}
 use Rattle.hac_model.proofs.CycleLemmas.{depends-is, edges_in}
+use Rattle.hac_model.proofs.LayoutLemmas.{ssync-parts, sumount-parts}
 use Rattle.hac_model.proofs.MapLemmas.{entry_at-mapped}
+use Rattle.hac_model.proofs.MountFactLemmas.{gone_at-bare, mounted-facts, of_mount_at-bare, synced-facts, terms-bare, unmounted-facts}
 use Rattle.hac_model.proofs.ValidLemmas.{setq-parts, mark-parts}
 use Rattle.hac_model.proofs.ViewLemmas.{seen-added, seen-changed, seen-kept, seen-plain, seen-removed}
 
@@ -141,31 +146,38 @@ stepped-facts s None n = refl
 stepped-facts s (Some file) n = seen-kept facts_at s.entries file (edited indexed) (λ e. refl) (λ e. indexed-facts e.parent e.body) n
 
 -- what an event does to the facts, by the facts and the tree alone
-pub facts-law : (s : State) (event : Event) → NumbersRise 0 s.entries s.next → is_possible s event ≡ true → (n : ℕ) → facts_of (apply s event) n ≡ facts_after event s (facts_of s) n
-facts-law s (Mkdir dir name) rise ok n = seen-plain facts_at s.entries (record { number = s.next; parent = dir; name = name; body = Dir }) rise refl n
-facts-law s (NewFile dir name text) rise ok n = seen-plain facts_at s.entries (record { number = s.next; parent = dir; name = name; body = File text true None }) rise refl n
-facts-law s (Rewrite file text) rise ok n = seen-kept facts_at s.entries file (edited (rewritten text)) (λ e. refl) (λ e. rewritten-facts text e.parent e.body) n
-facts-law s (Ln dir name target) rise ok n = seen-plain facts_at s.entries (record { number = s.next; parent = dir; name = name; body = Symlink target }) rise refl n
-facts-law s (Smkdir dir name query told) rise ok n = seen-added facts_at s.entries (record { number = s.next; parent = dir; name = name; body = Semantic query [] [] }) rise n
-facts-law s (Setq dir query told) rise ok n =
+pub facts-law : (s : State) (event : Event) → IsLayout s → is_possible s event ≡ true → (n : ℕ) → facts_of (apply s event) n ≡ facts_after event s (facts_of s) n
+facts-law s (Mkdir dir name) h ok n = seen-plain facts_at s.entries (record { number = s.next; parent = dir; name = name; body = Dir }) h.numbers refl n
+facts-law s (NewFile dir name text) h ok n = seen-plain facts_at s.entries (record { number = s.next; parent = dir; name = name; body = File text true None }) h.numbers refl n
+facts-law s (Rewrite file text) h ok n = seen-kept facts_at s.entries file (edited (rewritten text)) (λ e. refl) (λ e. rewritten-facts text e.parent e.body) n
+facts-law s (Ln dir name target) h ok n = seen-plain facts_at s.entries (record { number = s.next; parent = dir; name = name; body = Symlink target }) h.numbers refl n
+facts-law s (Smkdir dir name query told) h ok n = seen-added facts_at s.entries (record { number = s.next; parent = dir; name = name; body = Semantic query [] [] }) h.numbers n
+facts-law s (Setq dir query told) h ok n =
     seen-changed facts_at s.entries dir (edited (asking query)) (λ e. refl) n
     ∙ ap (λ (new : Facts). put_at (facts_of s) dir new n) (asking-facts query (entry_at s.entries dir) (setq-parts s dir query told ok).0 (setq-parts s dir query told ok).5)
-facts-law s (Unq dir) rise ok n =
+facts-law s (Unq dir) h ok n =
     seen-changed facts_at s.entries dir (edited plain_body) (λ e. refl) n
     ∙ ap (λ (new : Facts). put_at (facts_of s) dir new n) (plain-facts (entry_at s.entries dir) ok)
-facts-law s (Mark mark) rise ok n =
+facts-law s (Mark mark) h ok n =
     seen-changed facts_at s.entries mark.dir (edited (marked mark.item mark.kind)) (λ e. refl) n
     ∙ ap (λ (new : Facts). put_at (facts_of s) mark.dir new n) (marked-facts mark.item mark.kind (entry_at s.entries mark.dir) (mark-parts s mark.dir mark.item mark.kind ok).1)
-facts-law s (Mv entry dir name) rise ok n =
+facts-law s (Mv entry dir name) h ok n =
     seen-changed facts_at s.entries entry (reseated dir name) (λ e. refl) n
     ∙ ap (λ (new : Facts). put_at (facts_of s) entry new n) (reseated-facts dir name (entry_at s.entries entry))
-facts-law s (Rm item) rise ok n = removed-facts s item ok n
-facts-law s (Rmdir dir) rise ok n = seen-removed facts_at s.entries dir n
-facts-law s Step rise ok n = stepped-facts s (next_dirty s.entries) n
-facts-law s other rise ok n = refl
+facts-law s (Rm item) h ok n = removed-facts s item ok n
+facts-law s (Rmdir dir) h ok n = seen-removed facts_at s.entries dir n
+facts-law s (Smount dir name space documents told) h ok n = mounted-facts s dir name space (answers_to (terms_to_ask s.entries) told) documents h.numbers n
+facts-law s (Ssync mount documents told) h ok n = synced-facts s mount (answers_to (terms_to_ask s.entries) told) documents h (ssync-parts s mount documents told ok).0 n
+facts-law s (Sumount mount) h ok n = unmounted-facts s mount h (sumount-parts s mount ok).0 n
+facts-law s Step h ok n = stepped-facts s (next_dirty s.entries) n
+facts-law s other h ok n = refl
 
 -- the bare tree is asked as well
 pub facts-bare : (event : Event) (s : State) (facts : ℕ → Facts) (n : ℕ) → facts_after event (bare s) facts n ≡ facts_after event s facts n
 facts-bare (Setq dir query told) s facts n = ap (λ (parent : ℕ). put_at facts dir (record (facts dir) { edges = parent ∷ named_in query }) n) (parent_of-bare s dir)
 facts-bare (Mv entry dir name) s facts n = ap (λ (asked : Option (Formula ℕ)). put_at facts entry (record (facts entry) { edges = edges_to dir asked }) n) (query_at-bare s entry)
+facts-bare (Smount dir name space documents told) s facts n = ap (λ (terms : List Term). put_at facts s.next (record no_facts { answers = answers_to terms told }) n) (terms-bare s)
+facts-bare (Ssync mount documents told) s facts n = λ i.
+    put_at (facts_without (λ item. gone_at-bare mount documents s item i) facts) mount (record no_facts { answers = answers_to (terms-bare s i) told }) n
+facts-bare (Sumount mount) s facts n = λ i. put_at (facts_without (λ item. of_mount_at-bare mount s item i) facts) mount no_facts n
 facts-bare other s facts n = refl

@@ -1,21 +1,24 @@
 -- A state is its bare tree joined with its facts and its sessions.
-use Rattle.std.proofs.Common.{◌≡◌, ℕ, List, [], ◌∷◌, map, refl, ap, sym, ◌∙◌}
+use Rattle.std.proofs.Common.{◌≡◌, ℕ, ◌+◌, List, [], ◌∷◌, ◌++◌, length, map, refl, ap, sym, ◌∙◌}
 use Rattle.std.specs.Prelude.{Some, filter}
 use Rattle.std.specs.List.{AllByRecursion}
+use Rattle.std.proofs.lemmas.List.{map-append}
 use Rattle.hac_model.specs.Tree.Bare.{bare, bare_body}
 use Rattle.hac_model.specs.Tree.Events.{apply, edited, marked}
 use Rattle.hac_model.specs.Tree.Facts.{Facts, bare_after, facts_at, facts_in, facts_of, filled, filled_entry, joined}
+use Rattle.hac_model.specs.Tree.Mounting.{answers_to, cleared, documents_from, fresh, is_gone, is_of_mount, is_such_at, keeping, redocumented, synced, without_such}
+use Rattle.hac_model.specs.Tree.Mounts.{terms_to_ask}
 use Rattle.hac_model.specs.Tree.{entry_at}
 use Rattle.hac_model.specs.Tree.Valid.{NumbersRise}
 use Rattle.hac_model.specs.declared.events.Event.{Event}
-use Rattle.hac_model.specs.declared.events.Event.TheVariants.{Mark, Rm, Step, Cd}
+use Rattle.hac_model.specs.declared.events.Event.TheVariants.{Mark, Rm, Smount, Ssync, Sumount, Step, Cd}
 use Rattle.hac_model.specs.declared.states.Body.{Body}
 use Rattle.hac_model.specs.declared.states.Body.TheVariants.{File, Dir, Symlink, Semantic, Mount, Document}
 use Rattle.hac_model.specs.declared.states.Entry.{Entry}
 use Rattle.hac_model.specs.declared.states.Session.{Session}
 use Rattle.hac_model.specs.declared.states.State.{State}
 use Rattle.hac_model.proofs.SessionLemmas.{sessions-follow}
-use Rattle.hac_model.proofs.BareLemmas.{changed-kept, forgotten-entries, marked-bare}
+use Rattle.hac_model.proofs.BareLemmas.{changed-kept, forgotten-entries, keeping-bare, marked-bare, mounted-bare, such-entries}
 use Rattle.hac_model.proofs.ChangeLemmas.{is_kept}
 use Rattle.hac_model.proofs.TreeLemmas.{all-entries}
 
@@ -81,6 +84,23 @@ same-state s t rise grow sessions bares facts = sym (rejoined s rise) ∙ (λ i.
 pub tree-law : (e : Event) (t : State) → bare (bare_after e t) ≡ bare (apply t e)
 tree-law (Mark mark) t = λ i. record { next = t.next; entries = sym (changed-kept mark.dir (marked mark.item mark.kind) t.entries (marked-bare mark.item mark.kind)) i; sessions = [] }
 tree-law (Rm entry) t = λ i. record { next = t.next; entries = sym (forgotten-entries entry (filter (is_kept entry) t.entries)) i; sessions = [] }
+tree-law (Smount dir name space documents told) t =
+    mounted-bare t dir name space [] [] documents ∙ sym (mounted-bare t dir name space (answers_to (terms_to_ask t.entries) told) [] documents)
+tree-law (Ssync mount documents told) t = λ i. record { next = t.next + length (fresh t mount documents); entries = entries i; sessions = [] }
+  where
+    left : List Entry
+    left = (without_such (is_gone mount documents) t).entries
+
+    come : List Entry
+    come = documents_from t.next mount (fresh t mount documents)
+
+    entries : map (edited bare_body) (left ++ come) ≡ map (edited bare_body) (synced t mount (answers_to (terms_to_ask t.entries) told) documents).entries
+    entries =
+        map-append (edited bare_body) left come
+        ∙ ap (λ (es : List Entry). es ++ map (edited bare_body) come) (sym (such-entries (is_such_at (is_gone mount documents) t.entries) left))
+        ∙ sym (map-append (edited bare_body) (cleared (is_gone mount documents) t).entries come)
+        ∙ sym (changed-kept mount (keeping (answers_to (terms_to_ask t.entries) told)) (redocumented t mount documents).entries (keeping-bare (answers_to (terms_to_ask t.entries) told)))
+tree-law (Sumount mount) t = λ i. record { next = t.next; entries = sym (such-entries (is_such_at (is_of_mount mount) t.entries) (without_such (is_of_mount mount) t).entries) i; sessions = [] }
 tree-law other t = refl
 
 pub tree-sessions : (e : Event) (t : State) → (bare_after e t).sessions ≡ t.sessions

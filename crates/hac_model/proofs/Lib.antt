@@ -33,6 +33,7 @@ pub mod JoinLemmas
 pub mod StandLemmas
 pub mod EventLemmas
 pub mod SessionLemmas
+pub mod SpellableLemmas
 pub mod SpelledLemmas
 pub mod PlayLemmas
 pub mod PlainLemmas
@@ -47,6 +48,7 @@ pub mod StayLemmas
 pub mod AskLemmas
 pub mod MountAskLemmas
 pub mod MountEdgeLemmas
+pub mod MountFactLemmas
 pub mod AcyclicLemmas
 pub mod AlikeLemmas
 pub mod ViewLemmas

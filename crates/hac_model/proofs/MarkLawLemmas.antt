@@ -44,7 +44,7 @@ module _ (s : State) (e : Event) (h : IsValid s) (ok : IsTrue (accepted s e)) (d
 
   law : facts_of (apply s e) dir ≡ new
   unfolding new
-  law = facts-law s e h.layout.numbers (accepted-parts (is_possible s e) (passed_limit (apply s e)) ok).0 dir
+  law = facts-law s e h.layout (accepted-parts (is_possible s e) (passed_limit (apply s e)) ok).0 dir
 
   permanent-after : is_permanent (apply s e) dir item ≡ has new.marks.permanent item
   permanent-after = sym (marks-told (apply s e) dir item).0 ∙ ap (λ (facts : Facts). has facts.marks.permanent item) law

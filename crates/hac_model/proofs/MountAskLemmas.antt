@@ -46,7 +46,7 @@ entry_at-joined [] new n found h = absurd cc
 entry_at-joined (x ∷ es) new n found h = elim (x.number == n) as (λ b. cond b (Some x) (entry_at es n) ≡ Some found → cond b (Some x) (entry_at (es ++ new) n) ≡ Some found) [ true ↦ (λ h. h) | false ↦ (λ h. entry_at-joined es new n found h) ] h
 
 -- a test that the entry of a number passes is passed once others came
-test-joined : (test : Body → Bool) (es new : List Entry) (n : ℕ) → option_map_or test (body_at es n) false ≡ true → option_map_or test (body_at (es ++ new) n) false ≡ true
+pub test-joined : (test : Body → Bool) (es new : List Entry) (n : ℕ) → option_map_or test (body_at es n) false ≡ true → option_map_or test (body_at (es ++ new) n) false ≡ true
 test-joined test es new n h = elim (entry_at es n) as (λ o. entry_at es n ≡ o → option_map_or test (option_map (λ (e : Entry). e.body) o) false ≡ true → option_map_or test (body_at (es ++ new) n) false ≡ true) [
   | None ↦ (λ found h. absurd cc)
   | Some there ↦ (λ found h. ap (λ (o : Option Entry). option_map_or test (option_map (λ (e : Entry). e.body) o) false) (entry_at-joined es new n there found) ∙ h)

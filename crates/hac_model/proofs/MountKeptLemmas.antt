@@ -110,7 +110,7 @@ keeps-old s t e space answers h found is documents fewer terms =
 
 -- A mount that keeps what was told.
 
-rise-told : (bound : ℕ) (numbers : List ℕ) → do_rise_from bound numbers ≡ true → RiseFrom bound numbers
+pub rise-told : (bound : ℕ) (numbers : List ℕ) → do_rise_from bound numbers ≡ true → RiseFrom bound numbers
 rise-told bound [] h = tt
 rise-told bound (number ∷ numbers) h =
     let parts = and_parts (nat_le bound number) (do_rise_from (number + 1) numbers) h in

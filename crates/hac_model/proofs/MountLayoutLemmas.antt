@@ -113,7 +113,7 @@ documents-differ next mount [] rise = tt
 documents-differ next mount (name ∷ names) rise =
     let parts = and_parts (list_all (is_before name) names) (do_names_rise names) rise in (
       child-documents (next + 1) mount names mount name (all-weaker (λ other. is_before name other ≡ true) (λ other. (mount == mount && bytes_eq other name) ≡ false) names
-      (λ other before. and-no (mount == mount) (bytes_eq other name) (nat_list_eq_equiv.symm other name ∙ before-differs name other before)) (all-tested (is_before name) names parts.0)),
+          (λ other before. and-no (mount == mount) (bytes_eq other name) (nat_list_eq_equiv.symm other name ∙ before-differs name other before)) (all-tested (is_before name) names parts.0)),
       documents-differ (next + 1) mount names parts.1,
     )
 
@@ -132,9 +132,9 @@ free-places : (es : List Entry) (next mount : ℕ) (names : List (List ℕ)) →
 free-places [] next mount names free = tt
 free-places (e ∷ es) next mount names free = (
   child-documents next mount names e.parent e.name (all-weaker (λ name. child (e ∷ es) mount name ≡ None) (λ name. (mount == e.parent && bytes_eq name e.name) ≡ false) names
-  (λ name none. apart e.parent mount e.name name (first_apart (e.parent == mount && bytes_eq e.name name) e.number (child es mount name) none).0) free),
+      (λ name none. apart e.parent mount e.name name (first_apart (e.parent == mount && bytes_eq e.name name) e.number (child es mount name) none).0) free),
   free-places es next mount names (all-weaker (λ name. child (e ∷ es) mount name ≡ None) (λ name. child es mount name ≡ None) names
-  (λ name none. (first_apart (e.parent == mount && bytes_eq e.name name) e.number (child es mount name) none).1) free),
+      (λ name none. (first_apart (e.parent == mount && bytes_eq e.name name) e.number (child es mount name) none).1) free),
 )
 
 -- an entry that passes a test has a lower number than the next one

@@ -1,5 +1,5 @@
--- Each event that can happen to a valid state, and is stored, has a spelling: its numbers have four bytes, and its names, texts and
--- queries are no longer than such may be.
+-- Each event that can happen to a valid state, and is stored, has a spelling: its numbers have four bytes, its names, texts and
+-- queries are no longer than such may be, and what it tells of a space's documents is no more than four bytes can count.
 use Rattle.std.proofs.Common.{inl, inr, ◌≡◌, ℕ, zero, suc, ◌<◌, ◌≤◌, Bool, true, false, List, [], ◌∷◌, ◌++◌, length, refl, ap, sym, ◌∙◌, arith}
 use Rattle.std.specs.Prelude.{codes, not, option_and_then, ◌&&◌, ◌||◌, ◌==◌, if◌then◌else◌, nat_le, Option, Some, None, IsTrue, is_some, is_none}
 use Rattle.std.proofs.lemmas.Bool.{and_from, and_parts, eqb-true}
@@ -16,17 +16,18 @@ use Rattle.hac_model.specs.Query.Formula as formula
 use Rattle.hac_model.specs.Tree.Limits.{is_text, passed_limit, semantic_count}
 use Rattle.hac_model.specs.Tree.Links.{has, is_permanent, is_semantic, links, parent_of, query_at, round, rounds}
 use Rattle.hac_model.specs.Script.PathWords.{is_target}
-use Rattle.hac_model.specs.Tree.Names.{is_name, is_name_byte}
-use Rattle.hac_model.specs.Payload.Payloads.{is_spellable, mark_field, name_field, target_field, text_field, told_field}
+use Rattle.hac_model.specs.Tree.Mounting.{answers_to}
+use Rattle.hac_model.specs.Tree.Mounts.{terms_to_ask}
+use Rattle.hac_model.specs.Payload.Payloads.{docs_field, is_spellable, mark_field, name_field, space_field, target_field, text_field, told_field}
 use Rattle.hac_model.specs.Query.Queries.{is_query}
 use Rattle.hac_model.specs.Payload.QueryFields.{are_nums, query_field}
 use Rattle.hac_model.specs.Tree.Sessions.{is_busy, is_stored, stored}
-use Rattle.hac_model.specs.Tree.{body_at, entry_at, is_directory, is_directory_at, is_file, is_file_at, is_leaf, path_of, query_in, is_linkable}
-use Rattle.hac_model.specs.Tree.Valid.{AsksWell, IsValid, KeepsWell}
+use Rattle.hac_model.specs.Tree.{body_at, entry_at, is_directory, is_directory_at, is_file, is_file_at, is_leaf, path_of, query_in, is_linkable, is_mount}
+use Rattle.hac_model.specs.Tree.Valid.{AsksWell, IsLayout, IsValid, KeepsWell}
 use Rattle.hac_model.specs.declared.events.Event.{Event}
 use Rattle.hac_model.specs.declared.events.Event.TheVariants.{Mkdir, NewFile, Rewrite, Ln, Mv, Rm, Rmdir, Smkdir, Setq, Unq, Mark, Smount, Ssync, Sumount, Step, Cd}
 use Rattle.hac_model.specs.declared.limits.LimitWord.{LimitWord}
-use Rattle.hac_model.specs.declared.limits.TheConstants.{NAME_LIMIT, NUMBERS_LIMIT, TEXT_LIMIT}
+use Rattle.hac_model.specs.declared.limits.TheConstants.{NUMBERS_LIMIT, TEXT_LIMIT}
 use Rattle.hac_model.specs.declared.marks.Kind.{Kind}
 use Rattle.hac_model.specs.declared.marks.Kind.TheVariants.{Transient, Permanent, Prohibited, Unlinked}
 use Rattle.hac_model.specs.declared.states.Body.{Body}
@@ -34,21 +35,20 @@ use Rattle.hac_model.specs.declared.states.Entry.{Entry}
 use Rattle.hac_model.specs.declared.states.State.{State}
 use Rattle.hac_model.proofs.StayLemmas.{asks-stays}
 use Rattle.hac_model.proofs.ChangeLemmas.{all-weaker}
-use Rattle.hac_model.proofs.LimitLemmas.{IsWithinLimits, limits-within}
+use Rattle.hac_model.proofs.LayoutLemmas.{smount-parts, ssync-parts, sumount-parts}
+use Rattle.hac_model.proofs.MountLayoutLemmas.{mounted-layout, synced-layout}
+use Rattle.hac_model.proofs.SpellableLemmas.{docs-fit, name-fits, small-fits, space-fits, told-fit}
 use Rattle.hac_model.proofs.TreeLemmas.{Lives, directory-lives, entry_at-below}
 use Rattle.hac_model.proofs.ValidLemmas.{accepted-parts, free-parts, mark-parts, move-parts, rmdir-parts, setq-parts, smkdir-parts}
-use Rattle.hac_model.proofs.KeptLemmas.{keeps-stays}
+use Rattle.hac_model.proofs.KeepingLemmas.{keeps-stays}
 
 module _ (s : State) (h : IsValid s) where
   -- the numbers of a valid state have four bytes
   pub number-fits : (n : ℕ) → Lives s.entries n → num.fits n ≡ true
   number-fits n (inl root) = ap (λ (m : ℕ). num.fits m) root
   number-fits n (inr found) =
-      let within : IsWithinLimits s = limits-within s h.layout.limits in
       let below : n < s.next = entry_at-below 0 s.entries s.next n found.0 h.layout.numbers found.1 in
-      let few : s.next ≤ NUMBERS_LIMIT = grind (arith, nat_tests, within.numbers) in
-      let small : n < 4294967296 = omega (arith, below, few) in
-      grind (arith, nat_tests, small)
+      small-fits s h.layout n (omega (arith, below))
 
   directory-fits : (d : ℕ) → is_directory_at s.entries d ≡ true → num.fits d ≡ true
   directory-fits d is = number-fits d (directory-lives s.entries d is)
@@ -79,14 +79,6 @@ module _ (s : State) (h : IsValid s) where
       nums-fit (formula.Not q) named = nums-fit q named
       nums-fit (formula.And left right) named = both-fit left right (nums-fit left) (nums-fit right) named
       nums-fit (formula.Or left right) named = both-fit left right (nums-fit left) (nums-fit right) named
-
-  pub name-fits : (name : List ℕ) → is_name name ≡ true → name_field.fits name ≡ true
-  name-fits name is =
-      let one = and_parts (nat_le 1 (length name) && nat_le (length name) NAME_LIMIT && list_all is_name_byte name && not (bytes_eq name (codes "."))) (not (bytes_eq name (codes ".."))) is in
-      let two = and_parts (nat_le 1 (length name) && nat_le (length name) NAME_LIMIT && list_all is_name_byte name) (not (bytes_eq name (codes "."))) one.0 in
-      let three = and_parts (nat_le 1 (length name) && nat_le (length name) NAME_LIMIT) (list_all is_name_byte name) two.0 in
-      let four = and_parts (nat_le 1 (length name)) (nat_le (length name) NAME_LIMIT) three.0 in
-      and_from (nat_le (length name) NAME_LIMIT) (is_name name) four.1 is
 
   pub text-fits : (text : List ℕ) → is_text text ≡ true → text_field.fits text ≡ true
   text-fits text is = and_from (nat_le (length text) TEXT_LIMIT) true is refl
@@ -122,45 +114,59 @@ module _ (s : State) (h : IsValid s) where
       query_of : Option Entry → Option (Formula ℕ)
       query_of o = option_and_then query_in (option_map (λ (e : Entry). e.body) o)
 
-  possible-spelled : (e : Event) → is_stored e ≡ true → is_possible s e ≡ true → is_spellable e ≡ true
+  possible-spelled : (e : Event) → is_stored e ≡ true → is_possible s e ≡ true → passed_limit (apply s e) ≡ None → is_spellable e ≡ true
   unfolding is_spellable
-  possible-spelled (Mkdir dir name) kept is = let place = place-fits dir name is in and_from (num.fits dir) (name_field.fits name) place.0 place.1
-  possible-spelled (NewFile dir name text) kept is =
+  possible-spelled (Mkdir dir name) kept is limits = let place = place-fits dir name is in and_from (num.fits dir) (name_field.fits name) place.0 place.1
+  possible-spelled (NewFile dir name text) kept is limits =
       let parts = and_parts (is_free s dir name) (is_text text) is in
       let place = place-fits dir name parts.0 in
       and_from (num.fits dir) _ place.0 (and_from (name_field.fits name) (text_field.fits text) place.1 (text-fits text parts.1))
-  possible-spelled (Ln dir name target) kept is =
+  possible-spelled (Ln dir name target) kept is limits =
       let parts = and_parts (is_free s dir name) (is_target target) is in
       let place = place-fits dir name parts.0 in
       and_from (num.fits dir) _ place.0 (and_from (name_field.fits name) (target_field.fits target) place.1 parts.1)
-  possible-spelled (Rewrite file text) kept is =
+  possible-spelled (Rewrite file text) kept is limits =
       let parts = and_parts (is_file_at s.entries file) (is_text text) is in
       and_from (num.fits file) (text_field.fits text) (tested-fits file is_file parts.0) (text-fits text parts.1)
-  possible-spelled (Smkdir dir name query told) kept is =
+  possible-spelled (Smkdir dir name query told) kept is limits =
       let parts = smkdir-parts s dir name query told is in
       let place = place-fits dir name parts.0 in
       and_from (num.fits dir) _ place.0 (and_from (name_field.fits name) _ place.1 (and_from (query_field.fits query) (told_field.fits told) (query-fits query parts.1) (told-fits told parts.2)))
-  possible-spelled (Setq dir query told) kept is =
+  possible-spelled (Setq dir query told) kept is limits =
       let parts = setq-parts s dir query told is in
       and_from (num.fits dir) _ (tested-fits dir is_directory parts.0) (and_from (query_field.fits query) (told_field.fits told) (query-fits query parts.1) (told-fits told parts.3))
-  possible-spelled (Unq dir) kept is = semantic-fits dir is
-  possible-spelled (Mark set) kept is =
+  possible-spelled (Unq dir) kept is limits = semantic-fits dir is
+  possible-spelled (Mark set) kept is limits =
       let parts = mark-parts s set.dir set.item set.kind is in
       and_from (num.fits set.dir) _ (semantic-fits set.dir parts.1) (and_from (num.fits set.item) (mark_field.fits set.kind) (tested-fits set.item is_linkable parts.0) (mark-fits set.dir set.item set.kind parts.2))
-  possible-spelled (Mv entry dir name) kept is =
+  possible-spelled (Mv entry dir name) kept is limits =
       let parts = move-parts s entry dir name is in
       let place = place-fits dir name parts.1 in
       and_from (num.fits entry) _ (there-fits entry parts.0) (and_from (num.fits dir) (name_field.fits name) place.0 place.1)
-  possible-spelled (Rm entry) kept is = tested-fits entry is_leaf is
-  possible-spelled (Rmdir dir) kept is = tested-fits dir is_directory (rmdir-parts s dir is).0
-  possible-spelled Step kept is = refl
-  possible-spelled (Smount dir name space docs told) kept is = absurd cc
-  possible-spelled (Ssync mount docs told) kept is = absurd cc
-  possible-spelled (Sumount mount) kept is = absurd cc
-  possible-spelled (Cd session dir) kept is = absurd cc
+  possible-spelled (Rm entry) kept is limits = tested-fits entry is_leaf is
+  possible-spelled (Rmdir dir) kept is limits = tested-fits dir is_directory (rmdir-parts s dir is).0
+  possible-spelled Step kept is limits = refl
+  possible-spelled (Smount dir name space docs told) kept is limits =
+      let parts = smount-parts s dir name space docs told is in
+      let place = place-fits dir name parts.0 in
+      let t : State = apply s (Smount dir name space docs told) in
+      let tree : IsLayout t = mounted-layout s dir name space (answers_to (terms_to_ask s.entries) told) docs h.layout parts.0 parts.1 parts.2 limits in
+      and_from (num.fits dir) _ place.0
+      (and_from (name_field.fits name) _ place.1
+      (and_from (space_field.fits space) _ (space-fits space parts.1) (and_from (docs_field.fits docs) (told_field.fits told) (docs-fit docs parts.2) (told-fit s t s.next told h tree parts.3))))
+  possible-spelled (Ssync mount docs told) kept is limits =
+      let parts = ssync-parts s mount docs told is in
+      let t : State = apply s (Ssync mount docs told) in
+      let tree : IsLayout t = synced-layout s mount (answers_to (terms_to_ask s.entries) told) docs h.layout parts.0 parts.1 limits in
+      and_from (num.fits mount) _ (tested-fits mount is_mount parts.0)
+      (and_from (docs_field.fits docs) (told_field.fits told) (docs-fit docs parts.1) (told-fit s t mount told h tree parts.2))
+  possible-spelled (Sumount mount) kept is limits = tested-fits mount is_mount (sumount-parts s mount is).0
+  possible-spelled (Cd session dir) kept is limits = absurd cc
 
 pub accepted-spelled : (s : State) (e : Event) → IsValid s → IsTrue (is_stored e) → IsTrue (accepted s e) → IsTrue (is_spellable e)
-accepted-spelled s e h kept is = possible-spelled s h e kept (accepted-parts (is_possible s e) (passed_limit (apply s e)) is).0
+accepted-spelled s e h kept is =
+    let parts = accepted-parts (is_possible s e) (passed_limit (apply s e)) is in
+    possible-spelled s h e kept parts.0 parts.1
 
 -- Where sessions stand plays no part in what is stored.
 
@@ -228,6 +234,7 @@ module _ (s : State) where
   clear-stored (Mark mark) kept clear = marking-stored mark.dir mark.item mark.kind ∙ clear
   clear-stored (Mv entry dir name) kept clear = ap (λ (o : Option ℕ). is_none o) (moving-stored entry dir (query_at s entry)) ∙ clear
   clear-stored (Rmdir dir) kept clear = and_from (is_unreferenced s dir) true (and_parts (is_unreferenced s dir) (not (is_busy s.sessions dir)) clear).0 refl
+  clear-stored (Sumount mount) kept clear = and_from (is_unreferenced s mount) true (and_parts (is_unreferenced s mount) (not (is_busy s.sessions mount)) clear).0 refl
   clear-stored (Cd session dir) kept clear = absurd cc
   clear-stored other kept clear = refl
 

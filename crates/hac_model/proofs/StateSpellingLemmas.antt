@@ -40,7 +40,9 @@ use Rattle.hac_model.specs.declared.terms.Term.{Term}
 use Rattle.hac_model.specs.declared.terms.Term.TheVariants.{Word, Prefix}
 use Rattle.hac_model.proofs.ChangeLemmas.{all-filter, all-weaker}
 use Rattle.hac_model.proofs.LimitLemmas.{IsWithinLimits, limits-within}
-use Rattle.hac_model.proofs.SpelledLemmas.{name-fits, number-fits, query-fits, text-fits}
+use Rattle.hac_model.proofs.MountLayoutLemmas.{tested-below}
+use Rattle.hac_model.proofs.SpellableLemmas.{documents-below, name-fits, nums-fit, small-fits, space-fits}
+use Rattle.hac_model.proofs.SpelledLemmas.{number-fits, query-fits, text-fits}
 use Rattle.hac_model.proofs.TreeLemmas.{all-entries, directory-lives, entry_at-all, entry_at-below, place-directory}
 
 -- ---- names in order
@@ -169,11 +171,6 @@ entries-few : (above : ℕ) (es : List Entry) (next : ℕ) → NumbersRise above
 entries-few above [] next rise = omega (arith, rise)
 entries-few above (e ∷ es) next rise = omega (arith, rise.0, entries-few e.number es next rise.1)
 
--- and so are numbers that rise and are below it
-marks-few : (bound : ℕ) (ns : List ℕ) (next : ℕ) → RiseFrom bound ns → AllByRecursion (λ n. n < next) ns → length ns ≤ next - bound
-marks-few bound [] next rise below = omega arith
-marks-few bound (n ∷ ns) next rise below = omega (arith, rise.0, below.0, marks-few (n + 1) ns next rise.1 below.1)
-
 -- what is kept of a list is no longer
 filter-few : (p : Entry → Bool) (es : List Entry) → length (filter p es) ≤ length es
 filter-few p [] = omega arith
@@ -205,12 +202,6 @@ term-fits : (term : Term) → is_askable term ≡ true → term_field.fits term 
 term-fits (Word letters) is = let parts = and_parts (is_term (Word letters)) (nat_le (length letters) QUERY_LIMIT) is in and_from (nat_le (length letters) QUERY_LIMIT) (is_term (Word letters)) parts.1 parts.0
 term-fits (Prefix letters) is = let parts = and_parts (is_term (Prefix letters)) (nat_le (length letters) QUERY_LIMIT) is in and_from (nat_le (length letters) QUERY_LIMIT) (is_term (Prefix letters)) parts.1 parts.0
 
-space-fits : (space : List ℕ) → is_space_name space ≡ true → space_field.fits space ≡ true
-unfolding is_space_name
-space-fits space is =
-    let front = and_parts (nat_le 1 (length space) && nat_le (length space) 32) (list_all is_space_byte space) is in
-    and_from (nat_le (length space) 32) (is_space_name space) (and_parts (nat_le 1 (length space)) (nat_le (length space) 32) front.0).1 is
-
 -- the number and the name of an entry have their bytes
 abbrev IsListable : Entry → Type 0
 IsListable e = (num.fits e.number ≡ true) × (name_field.fits e.name ≡ true)
@@ -230,41 +221,11 @@ all-first (e ∷ es) = (refl, all-first es)
 module _ (s : State) (h : IsValid s) where
   -- ---- numbers and marks
 
-  next-few : s.next < 4294967296
-  next-few =
-      let within : IsWithinLimits s = limits-within s h.layout.limits in
-      grind (arith, nat_tests, within.numbers)
-
-  small-fits : (n : ℕ) → n ≤ s.next → num.fits n ≡ true
-  small-fits n below = let small : n < 4294967296 = omega (arith, below, next-few) in grind (arith, nat_tests, small)
-
-  -- a number at which a test of its entry passes
-  tested-below : (n : ℕ) (p : Body → Bool) → option_map_or p (body_at s.entries n) false ≡ true → n < s.next
-  tested-below n p passes =
-      elim (entry_at s.entries n) as (λ o. entry_at s.entries n ≡ o → option_map_or p (option_map (λ (e : Entry). e.body) o) false ≡ true → n < s.next) [
-        | None ↦ (λ found passes. absurd cc)
-        | Some e ↦ (λ found passes. entry_at-below 0 s.entries s.next n e h.layout.numbers found)
-      ] refl passes
-
   items-below : (ns : List ℕ) → AllByRecursion (λ n. IsTrue (is_item s n)) ns → AllByRecursion (λ n. n < s.next) ns
-  items-below ns are = all-weaker (λ n. IsTrue (is_item s n)) (λ n. n < s.next) ns (λ n is. tested-below n is_linkable is) are
-
-  -- numbers fit behind one that is below them all
-  rising-fit : (bound : ℕ) (last : Option ℕ) (ns : List ℕ) → ((n : ℕ) → bound ≤ n → rises nat_lt last n ≡ true) → RiseFrom bound ns → AllByRecursion (λ n. n < s.next) ns
-      → items_fit (λ last. checked num (rises nat_lt last)) last ns ≡ true
-  rising-fit bound last [] before rise below = refl
-  rising-fit bound last (n ∷ ns) before rise below =
-      and_from (num.fits n && rises nat_lt last n) _
-      (and_from (num.fits n) (rises nat_lt last n) (small-fits n (omega (arith, below.0))) (before n rise.0))
-      (rising-fit (n + 1) (Some n) ns (λ m le. grind (arith, nat_tests, le)) rise.1 below.1)
-
-  nums-fit : (ns : List ℕ) → RiseFrom 0 ns → AllByRecursion (λ n. n < s.next) ns → nums.fits ns ≡ true
-  nums-fit ns rise below =
-      let few = marks-few 0 ns s.next rise below in
-      and_from (num.fits (length ns)) _ (small-fits (length ns) (omega (arith, few))) (rising-fit 0 None ns (λ n le. refl) rise below)
+  items-below ns are = all-weaker (λ n. IsTrue (is_item s n)) (λ n. n < s.next) ns (λ n is. tested-below s is_linkable n h.layout.numbers is) are
 
   marks-fit : (ns : List ℕ) → AreMarks s ns → nums.fits ns ≡ true
-  marks-fit ns are = nums-fit ns are.rise (items-below ns are.items)
+  marks-fit ns are = nums-fit s h.layout ns are.rise (items-below ns are.items)
 
   -- ---- answers
 
@@ -272,10 +233,9 @@ module _ (s : State) (h : IsValid s) where
       → items_fit answer_field last answers ≡ true
   answers-fit mount last [] rise are = refl
   answers-fit mount last (a ∷ answers) rise are =
-      let below = all-weaker (λ n. IsTrue (is_document_of s mount n)) (λ n. n < s.next) a.documents (λ n is. tested-below n is_document (and_parts (is_document_at s.entries n) (parent_of s n == mount) is).0) are.0.documents in
       and_from _ _
       (and_from (term_field.fits a.term && rises is_term_before (option_map (λ (a : Answer). a.term) last) a.term) (nums.fits a.documents)
-      (and_from (term_field.fits a.term) _ (term-fits a.term are.0.fits) rise.0) (nums-fit a.documents are.0.rise below))
+      (and_from (term_field.fits a.term) _ (term-fits a.term are.0.fits) rise.0) (nums-fit s h.layout a.documents are.0.rise (documents-below s h.layout mount a.documents are.0.documents)))
       (answers-fit mount (Some a) answers rise.1 are.1)
 
   -- ---- documents
@@ -298,7 +258,7 @@ module _ (s : State) (h : IsValid s) where
       ] refl
 
   entry-listable : (e : Entry) → entry_at s.entries e.number ≡ Some e → IsListable e
-  entry-listable e found = (number-fits s h e.number (inr (e, found)), name-fits s h e.name (entry_at-all (λ e. IsTrue (is_name e.name)) s.entries e.number e h.layout.names found))
+  entry-listable e found = (number-fits s h e.number (inr (e, found)), name-fits e.name (entry_at-all (λ e. IsTrue (is_name e.name)) s.entries e.number e h.layout.names found))
 
   -- the documents that are listed with an entry
   abbrev documents_at : ℕ → List Entry
@@ -395,8 +355,8 @@ module _ (s : State) (h : IsValid s) where
         let few = entries-few 0 s.entries s.next h.layout.numbers in
         let fewer = filter-few (λ (e : Entry). not (is_document e.body)) s.entries in
         let count : length (map (stored_entry s) kept) ≡ length kept = length-map kept (stored_entry s) in
-        and_from (num.fits s.next) _ (small-fits s.next (omega arith))
-        (and_from (num.fits (length (map (stored_entry s) kept))) _ (small-fits (length (map (stored_entry s) kept)) (omega (arith, few, fewer, count))) (entries-fit 0 None s.entries (λ n lt. refl) h.layout.numbers found-all))
+        and_from (num.fits s.next) _ (small-fits s h.layout s.next (omega arith))
+        (and_from (num.fits (length (map (stored_entry s) kept))) _ (small-fits s h.layout (length (map (stored_entry s) kept)) (omega (arith, few, fewer, count))) (entries-fit 0 None s.entries (λ n lt. refl) h.layout.numbers found-all))
 
 pub valid-states-spelled : (s : State) → IsValid s → IsTrue (are_mounts_small s.entries) → IsTrue (is_spellable_snapshot (snapshot_of s))
 valid-states-spelled s h small = valid-spelled s h small
