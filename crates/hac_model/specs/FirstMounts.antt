@@ -1,6 +1,8 @@
 -- A small state with a mount, proved to be valid, and a run from it: what a directory that queries a mount lists, what
 -- may be done in a mount, and what has to ask its space. No space is attached.
-use Rattle.std.specs.Prelude.{◌≡◌, true, [], ◌∷◌, codes}
+use Rattle.std.specs.Prelude.{◌≡◌, true, false, [], ◌∷◌, codes}
+use Rattle.hac_model.specs.Tree.Events.{accepted, apply}
+use Rattle.hac_model.specs.declared.events.Event.TheVariants.{Smount, Ssync, Sumount}
 use Rattle.hac_model.specs.Laws.{lines_text}
 use Rattle.hac_model.specs.Query.Formula as query
 use Rattle.hac_model.specs.Run.Play.{new_setting, nothing_given, play, turns_text}
@@ -22,6 +24,66 @@ small_library = record {
       ∷ [];
   sessions = [];
 }
+
+-- the same before the space was mounted
+abbrev pub without_library : State
+without_library = record {
+  next = 2;
+  entries = record { number = 1; parent = 0; name = codes "s"; body = Semantic (query.Term (Word (codes "apple"))) [] [] } ∷ [];
+  sessions = [];
+}
+
+-- and with a mark on each of its first two documents
+abbrev pub marked_library : State
+marked_library = record small_library {
+  entries =
+      record { number = 1; parent = 0; name = codes "s"; body = Semantic (query.Term (Word (codes "apple"))) (4 ∷ []) (3 ∷ []) }
+      ∷ record { number = 2; parent = 0; name = codes "lib"; body = Mount (codes "space") (record { term = Word (codes "apple"); documents = 3 ∷ 5 ∷ [] } ∷ []) }
+      ∷ record { number = 3; parent = 2; name = codes "one"; body = Document }
+      ∷ record { number = 4; parent = 2; name = codes "three"; body = Document }
+      ∷ record { number = 5; parent = 2; name = codes "two"; body = Document }
+      ∷ [];
+}
+
+-- the space has lost one of them and got another
+abbrev pub synced_library : State
+synced_library = record {
+  next = 7;
+  entries =
+      record { number = 1; parent = 0; name = codes "s"; body = Semantic (query.Term (Word (codes "apple"))) [] (3 ∷ []) }
+      ∷ record { number = 2; parent = 0; name = codes "lib"; body = Mount (codes "space") (record { term = Word (codes "apple"); documents = 5 ∷ 6 ∷ [] } ∷ []) }
+      ∷ record { number = 3; parent = 2; name = codes "one"; body = Document }
+      ∷ record { number = 5; parent = 2; name = codes "two"; body = Document }
+      ∷ record { number = 6; parent = 2; name = codes "four"; body = Document }
+      ∷ [];
+  sessions = [];
+}
+
+-- the documents of a new mount take the numbers behind its own, and it keeps what was told of the term in use
+abbrev pub MountsCome : Type 0
+MountsCome =
+    (accepted without_library (Smount 0 (codes "lib") (codes "space") (codes "one" ∷ codes "three" ∷ codes "two" ∷ []) ((3 ∷ 5 ∷ []) ∷ [])) ≡ true)
+    × (apply without_library (Smount 0 (codes "lib") (codes "space") (codes "one" ∷ codes "three" ∷ codes "two" ∷ []) ((3 ∷ 5 ∷ []) ∷ [])) ≡ small_library)
+
+-- documents whose names are still there keep their numbers and marks, and what was told before is gone
+abbrev pub SyncsKeepNumbers : Type 0
+SyncsKeepNumbers =
+    (accepted marked_library (Ssync 2 (codes "four" ∷ codes "one" ∷ codes "two" ∷ []) ((5 ∷ 6 ∷ []) ∷ [])) ≡ true)
+    × (apply marked_library (Ssync 2 (codes "four" ∷ codes "one" ∷ codes "two" ∷ []) ((5 ∷ 6 ∷ []) ∷ [])) ≡ synced_library)
+
+-- a mount goes with its documents and all marks on them, and their numbers stay used
+abbrev pub MountsGo : Type 0
+MountsGo =
+    (accepted marked_library (Sumount 2) ≡ true)
+    × (apply marked_library (Sumount 2) ≡ record without_library { next = 6 })
+
+-- nothing else may be told: too few lists, a number that no document has, names out of order
+abbrev pub FalseIsNotTold : Type 0
+FalseIsNotTold =
+    (accepted without_library (Smount 0 (codes "lib") (codes "space") (codes "one" ∷ []) []) ≡ false)
+    × (accepted without_library (Smount 0 (codes "lib") (codes "space") (codes "one" ∷ []) ((2 ∷ []) ∷ [])) ≡ false)
+    × (accepted without_library (Smount 0 (codes "lib") (codes "space") (codes "two" ∷ codes "one" ∷ []) ([] ∷ [])) ≡ false)
+    × (accepted marked_library (Ssync 2 (codes "four" ∷ codes "one" ∷ []) ((5 ∷ []) ∷ [])) ≡ false)
 
 abbrev pub LibraryIsValid : Type 0
 LibraryIsValid = is_valid small_library ≡ true

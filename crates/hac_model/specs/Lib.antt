@@ -6,3 +6,4 @@ pub mod FirstMounts
 pub mod Query
 pub mod Payload
 pub mod Run
+pub mod Spaces

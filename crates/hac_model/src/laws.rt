@@ -12,7 +12,8 @@ ghost use Rattle.hac_model.specs.Laws.{FirstCommandLines, NoCommandLines, LinksS
 ghost use Rattle.hac_model.specs.Laws.{ValidIsAcyclic, PlainTellsState, LooksFind, LooksFollow, LooksTell};
 ghost use Rattle.hac_model.specs.Laws.{MovesRename, PrintedTextIsRead, PrintedTextIsOneLine};
 ghost use Rattle.hac_model.specs.Laws.{QuotedWordIsRead, QuotesAreOneSpelling, FirstListings};
-ghost use Rattle.hac_model.specs.FirstMounts.{FirstMounts, LibraryIsValid, MountsRefuse};
+ghost use Rattle.hac_model.specs.FirstMounts.{FalseIsNotTold, FirstMounts, LibraryIsValid};
+ghost use Rattle.hac_model.specs.FirstMounts.{MountsCome, MountsGo, MountsRefuse, SyncsKeepNumbers};
 ghost use Rattle.hac_model.specs.Laws.{MovedListings, FirstLinks, FirstSteps, ValidityIsTested};
 
 /// Two joined scripts are played one after the other, where the first one consists of whole lines,
@@ -181,6 +182,10 @@ pub fn first_mounts()
     ensures valid { LibraryIsValid }
     ensures run { FirstMounts }
     ensures refuse { MountsRefuse }
+    ensures come { MountsCome }
+    ensures sync { SyncsKeepNumbers }
+    ensures go { MountsGo }
+    ensures told { FalseIsNotTold }
 {}
 
 /// A run with an index step behind each command.

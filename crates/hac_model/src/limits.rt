@@ -71,6 +71,9 @@ pub const NUMBERS_LIMIT: u64 = 4_294_967_295;
 /// The most bytes of a store, up to the closed gate behind its log.
 pub const STORE_LIMIT: u64 = 4_294_967_296;
 
+/// The most bytes of a catalogue.
+pub const CATALOGUE_LIMIT: usize = 67_108_864;
+
 /// What a limit counts. A command that would exceed a limit is refused with its word. Some of them
 /// no command of today can exceed.
 #[derive(Clone, Copy, Debug, PartialEq, Eq)]

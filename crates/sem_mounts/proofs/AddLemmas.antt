@@ -7,8 +7,8 @@ use Rattle.std.specs.Map.{lookup}
 use Rattle.std.specs.Ordering.{nat_cmp}
 use Rattle.std.specs.Str.{bytes_eq}
 use Rattle.std.proofs.lemmas.Map.Text.{is_eq-slice_cmp}
-use Rattle.sem_mounts.specs.Answering.{text_at}
-use Rattle.sem_mounts.specs.Catalogue.{Document, has_name, with_document}
+use Rattle.hac_model.specs.Spaces.Answering.{text_at}
+use Rattle.hac_model.specs.Spaces.Catalogue.{Document, has_name, with_document}
 use Rattle.sem_mounts.specs.Reading.{Adds}
 
 -- a document has the name where the map has a value at it

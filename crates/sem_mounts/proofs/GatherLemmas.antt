@@ -13,8 +13,8 @@ use Rattle.std.proofs.lemmas.List.Sums.{take_while-cons}
 use Rattle.std.proofs.lemmas.Map.Made.{is_some-lookup}
 use Rattle.hac_model.specs.declared.spaces.Asks.{Asks}
 use Rattle.hac_model.specs.declared.spaces.Search.{Search}
-use Rattle.sem_mounts.specs.Answering.{AreRisingNames}
-use Rattle.sem_mounts.specs.Catalogue.{Document}
+use Rattle.hac_model.specs.Spaces.Answering.{AreRisingNames}
+use Rattle.hac_model.specs.Spaces.Catalogue.{Document}
 use Rattle.sem_mounts.specs.Gathering.{AreGathered, Ends, asked_spaces, documents_in, first_absent}
 use Rattle.sem_mounts.specs.Gathering.{is_space_fault}
 use Rattle.sem_mounts.specs.Seen.{Contents, CountsFault, IsSaid, SpacesSeen, is_attached}

@@ -4,7 +4,7 @@ use Rattle.std.proofs.Common.{take, drop, refl, sym, ap, ◌∙◌, arith, rules
 use Rattle.std.specs.Prelude.{◌==◌, if◌then◌else◌, cond}
 use Rattle.std.specs.List.{onto_first}
 use Rattle.bstr.specs.Text.{line_len, lines_from, lines_of}
-use Rattle.sem_mounts.specs.Catalogue.{lines}
+use Rattle.hac_model.specs.Spaces.Catalogue.{lines}
 
 -- the first line, and the lines of what follows it
 lines-first : (b : ℕ) (bytes : List ℕ) → lines (b ∷ bytes) ≡ take (line_len (b ∷ bytes)) (b ∷ bytes)

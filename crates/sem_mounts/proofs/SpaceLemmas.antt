@@ -9,7 +9,7 @@ use Rattle.std.specs.Str.{bytes_eq}
 use Rattle.std.proofs.lemmas.Bool.{false≢true}
 use Rattle.std.proofs.lemmas.Map.Made.{is_some-lookup}
 use Rattle.hac_outside.specs.Calls.{next_number}
-use Rattle.sem_mounts.specs.Catalogue.{Document, catalogue}
+use Rattle.hac_model.specs.Spaces.Catalogue.{Document, catalogue}
 use Rattle.sem_mounts.specs.Memory.{is_out_of_memory}
 use Rattle.sem_mounts.specs.Reading.{attach_fault}
 use Rattle.sem_mounts.specs.Seen.{CountsFault, is_attach_failed}

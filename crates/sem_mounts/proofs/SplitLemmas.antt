@@ -5,7 +5,7 @@ use Rattle.std.specs.List.{position_or_len}
 use Rattle.std.proofs.lemmas.List.Sums.{position_or_len_is}
 use Rattle.std.proofs.lemmas.List.{take_rest}
 use Rattle.memchr.specs.Find.{Nowhere, NoneBefore, Passes}
-use Rattle.sem_mounts.specs.Catalogue.{split_once}
+use Rattle.hac_model.specs.Spaces.Catalogue.{split_once}
 
 -- what isn't true is false
 not_true : (b : Bool) → ¬ (b ≡ true) → b ≡ false

@@ -4,7 +4,7 @@ use Rattle.std.proofs.Common.{Some, Ok, Err, refl, rules, nat_lt}
 use Rattle.std.specs.Option.{ok_or}
 use Rattle.bstr.specs.Text.{lines_of}
 use Rattle.hac_model.specs.Run.Answers.{◌>>=◌}
-use Rattle.sem_mounts.specs.Catalogue.{Document, catalogue, content, with_line, with_lines}
+use Rattle.hac_model.specs.Spaces.Catalogue.{Document, catalogue, content, with_line, with_lines}
 use Rattle.sem_mounts.proofs.LineLemmas.{lines_of-lines}
 
 -- at the start there are no documents, and all lines are left

@@ -15,8 +15,8 @@ use Rattle.hac_model.specs.Query.Words.{has_term, is_asked, rising_words}
 use Rattle.hac_model.specs.declared.terms.Term.{Term}
 use Rattle.hac_words.proofs.RisingLemmas.{words_apart}
 use Rattle.hac_words.proofs.WordLemmas.{has_term-rising_words}
-use Rattle.sem_mounts.specs.Answering.{names_with}
-use Rattle.sem_mounts.specs.Catalogue.{Document, names}
+use Rattle.hac_model.specs.Spaces.Answering.{names_with}
+use Rattle.hac_model.specs.Spaces.Catalogue.{Document, names}
 use Rattle.sem_mounts.specs.WordLists.{AreListed, AreMarked, Lists, has_from, is_listed, is_marked}
 use Rattle.sem_mounts.specs.WordLists.{marked}
 

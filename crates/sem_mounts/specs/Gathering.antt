@@ -7,8 +7,8 @@ use Rattle.std.specs.Option.{option_and_then, option_map, option_to_list, unwrap
 use Rattle.std.specs.Str.{bytes_eq}
 use Rattle.hac_model.specs.declared.spaces.Answers.{Answers}
 use Rattle.hac_model.specs.declared.spaces.Asks.{Asks}
-use Rattle.sem_mounts.specs.Answering.{AreRisingNames, names_with, text_at}
-use Rattle.sem_mounts.specs.Catalogue.{Document, names}
+use Rattle.hac_model.specs.Spaces.Answering.{AreRisingNames, names_with, text_at}
+use Rattle.hac_model.specs.Spaces.Catalogue.{Document, names}
 use Rattle.sem_mounts.specs.Seen.{Contents, CountsFault, SpacesSeen, is_attached}
 use Rattle.sem_mounts.specs.declared.faults.SpaceFault.{SpaceFault}
 use Rattle.sem_mounts.specs.declared.faults.SpaceFault.TheVariants as space

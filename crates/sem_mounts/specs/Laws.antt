@@ -1,6 +1,6 @@
 -- Small catalogues, proved as the contract of a function of the module `laws`.
 use Rattle.std.specs.Prelude.{◌≡◌, [], ◌∷◌, codes, Ok, Err}
-use Rattle.sem_mounts.specs.Catalogue.{catalogue}
+use Rattle.hac_model.specs.Spaces.Catalogue.{catalogue}
 
 -- documents stand in the order of their names, a blank line has none, a tab of a text is a byte of
 -- it, and the last line

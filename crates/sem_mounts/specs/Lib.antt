@@ -1,5 +1,3 @@
-pub mod Answering
-pub mod Catalogue
 pub mod Gathering
 pub mod Laws
 pub mod Reading

@@ -2,7 +2,7 @@
 use Rattle.std.specs.Prelude.{◌≡◌, ⊤, ℕ, Bool, if◌then◌else◌, List, Option, Some, None, Result, Err}
 use Rattle.std.specs.Option.{option_and_then}
 use Rattle.hac_model.specs.Run.Answers.{Gives}
-use Rattle.sem_mounts.specs.Catalogue.{Document, document_named, with_document}
+use Rattle.hac_model.specs.Spaces.Catalogue.{Document, document_named, with_document}
 use Rattle.sem_mounts.specs.declared.catalogues.CatalogueFault.{CatalogueFault}
 use Rattle.sem_mounts.specs.declared.catalogues.CatalogueFault.TheVariants.{Bad, Memory}
 use Rattle.sem_mounts.specs.declared.faults.AttachFault.{AttachFault}

@@ -7,7 +7,7 @@ use Rattle.std.specs.Option.{option_and_then, option_map}
 use Rattle.std.specs.Str.{bytes_eq}
 use Rattle.hac_outside.specs.Calls.{next_number}
 use Rattle.hac_outside.specs.Causes.{ReportsFault}
-use Rattle.sem_mounts.specs.Catalogue.{Document, catalogue}
+use Rattle.hac_model.specs.Spaces.Catalogue.{Document, catalogue}
 use Rattle.sem_mounts.specs.declared.faults.AttachFault.{AttachFault}
 use Rattle.sem_mounts.specs.declared.faults.AttachFault.TheVariants as attach
 use Rattle.sem_mounts.specs.declared.faults.SpaceFault.{SpaceFault}

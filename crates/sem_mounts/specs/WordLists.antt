@@ -5,7 +5,7 @@ use Rattle.std.specs.Prelude.{if◌then◌else◌, List, [], ◌∷◌, length}
 use Rattle.std.specs.List.{list_any}
 use Rattle.hac_model.specs.Query.Words.{has_term, is_asked}
 use Rattle.hac_model.specs.declared.terms.Term.{Term}
-use Rattle.sem_mounts.specs.Catalogue.{Document}
+use Rattle.hac_model.specs.Spaces.Catalogue.{Document}
 
 -- words, each with the numbers of the documents that have it
 abbrev pub Lists : Type 0

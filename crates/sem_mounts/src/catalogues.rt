@@ -2,15 +2,14 @@
 ghost use Rattle.std.specs.Prelude.{◌≡◌, IfOk};
 ghost use Rattle.std.specs.List.{list_all};
 ghost use Rattle.hac_model.specs.Bytes.{is_space};
-ghost use Rattle.sem_mounts.specs.Catalogue.{catalogue, content, with_line};
+ghost use Rattle.hac_model.specs.Spaces.Catalogue.{catalogue, content, with_line};
 ghost use Rattle.sem_mounts.specs.Reading.{Adds, ReadsCatalogue, with_spelled};
 
 use crate::documents::Docs;
-use crate::limits::CATALOGUE_LIMIT;
 use crate::splitting::split_once;
 use crate::texts::Texts;
 use bstr::ByteSlice;
-use hac_model::{Memory, Name, TEXT_LIMIT, Text};
+use hac_model::{CATALOGUE_LIMIT, Memory, Name, TEXT_LIMIT, Text};
 use hac_names::{is_name, parse_text};
 use std::alloc::Global;
 use thiserror::Error;

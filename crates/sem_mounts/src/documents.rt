@@ -1,8 +1,8 @@
 //! The documents of a space, with their words.
 ghost use Rattle.std.specs.Prelude.{◌≡◌, IfOk};
 ghost use Rattle.std.specs.Option.{option_map};
-ghost use Rattle.sem_mounts.specs.Answering.{AreRisingNames, names_with, text_at};
-ghost use Rattle.sem_mounts.specs.Catalogue.{names};
+ghost use Rattle.hac_model.specs.Spaces.Answering.{AreRisingNames, names_with, text_at};
+ghost use Rattle.hac_model.specs.Spaces.Catalogue.{names};
 
 use crate::texts::Texts;
 use crate::word_lists::{Numbers, marks_of};
@@ -22,7 +22,7 @@ pub struct Docs {
 
 impl Model for Docs {
     ghost use Rattle.std.specs.Prelude.{List};
-    ghost use Rattle.sem_mounts.specs.Catalogue.{Document};
+    ghost use Rattle.hac_model.specs.Spaces.Catalogue.{Document};
     ghost use Rattle.sem_mounts.specs.WordLists.{AreListed};
 
     ghost Value = { List Document };

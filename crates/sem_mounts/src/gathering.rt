@@ -1,8 +1,8 @@
 //! The questions of one command, asked of spaces in their order.
 ghost use Rattle.std.specs.Prelude.{◌≡◌, ◌∷◌, [], IfNone, IfOk, IfSome, None, length, map};
 ghost use Rattle.std.specs.Option.{option_and_then, option_map, option_to_list, unwrap_or};
-ghost use Rattle.sem_mounts.specs.Answering.{AreRisingNames, names_with, text_at};
-ghost use Rattle.sem_mounts.specs.Catalogue.{names};
+ghost use Rattle.hac_model.specs.Spaces.Answering.{AreRisingNames, names_with, text_at};
+ghost use Rattle.hac_model.specs.Spaces.Catalogue.{names};
 ghost use Rattle.sem_mounts.specs.Gathering.{AreAnswers, AreGathered, asked_spaces, documents_in};
 ghost use Rattle.sem_mounts.specs.Gathering.{gather_fault};
 

@@ -3,8 +3,8 @@ ghost use Rattle.std.specs.Prelude.{◌≡◌, ◌++◌, ◌∷◌, [], IfOk, If
 ghost use Rattle.std.specs.Prelude.{map};
 ghost use Rattle.std.specs.Option.{option_map};
 ghost use Rattle.hac_outside.specs.Known.{Known};
-ghost use Rattle.sem_mounts.specs.Answering.{AreRisingNames, names_with, text_at};
-ghost use Rattle.sem_mounts.specs.Catalogue.{names};
+ghost use Rattle.hac_model.specs.Spaces.Answering.{AreRisingNames, names_with, text_at};
+ghost use Rattle.hac_model.specs.Spaces.Catalogue.{names};
 ghost use Rattle.sem_mounts.specs.Seen.{AreAsked, Attaches, CountsFault, IsSaid, SpacesSeen};
 ghost use Rattle.sem_mounts.specs.Seen.{is_attach_failed, is_attached};
 

@@ -1,7 +1,7 @@
 //! Bytes in two parts, at a byte.
 ghost use Rattle.std.specs.Prelude.{◌≡◌, ◌==◌};
 ghost use Rattle.std.specs.Option.{option_map};
-ghost use Rattle.sem_mounts.specs.Catalogue.{split_once};
+ghost use Rattle.hac_model.specs.Spaces.Catalogue.{split_once};
 
 use bstr::ByteSlice;
 

@@ -2,8 +2,8 @@
 ghost use Rattle.std.specs.Prelude.{◌≡◌, [], IfOk, IsTrue, length};
 ghost use Rattle.std.specs.Option.{option_map};
 ghost use Rattle.hac_model.specs.Tree.Names.{is_name};
-ghost use Rattle.sem_mounts.specs.Answering.{AreRisingNames, text_at};
-ghost use Rattle.sem_mounts.specs.Catalogue.{names, with_document};
+ghost use Rattle.hac_model.specs.Spaces.Answering.{AreRisingNames, text_at};
+ghost use Rattle.hac_model.specs.Spaces.Catalogue.{names, with_document};
 ghost use Rattle.sem_mounts.specs.Reading.{Adds};
 ghost use Rattle.sem_mounts.specs.WordLists.{AreListed, marked};
 
@@ -24,7 +24,7 @@ impl Model for Texts {
     ghost use Rattle.std.specs.Prelude.{All, IsTrue, List};
     ghost use Rattle.std.specs.Map.{keys_of};
     ghost use Rattle.hac_model.specs.Tree.Names.{is_name};
-    ghost use Rattle.sem_mounts.specs.Catalogue.{Document};
+    ghost use Rattle.hac_model.specs.Spaces.Catalogue.{Document};
 
     ghost Value = { List Document };
 

@@ -28,3 +28,19 @@ returns-clause-run c = refl
 pub returns-clause-refuse : goal.returns-clause-refuse
 unfolding find_of ln_of after_run alone digits escaped_byte event_text first_passed found_by has_term first_reaching is_lower_word_byte is_path_short is_word reaches is_word_byte kind kind_of lineage links look destination next_path maybe_path of_two_paths one_path passed_limit path_and_query path_of quoted read_on read_query script text_of word_of words write_of
 returns-clause-refuse c = refl
+
+pub returns-clause-come : goal.returns-clause-come
+unfolding first_passed is_path_short lineage passed_limit is_space_name is_space_byte reaches links is_word is_lower_word_byte is_word_byte
+returns-clause-come c = (refl, refl)
+
+pub returns-clause-sync : goal.returns-clause-sync
+unfolding first_passed is_path_short lineage passed_limit is_space_name is_space_byte reaches links is_word is_lower_word_byte is_word_byte
+returns-clause-sync c = (refl, refl)
+
+pub returns-clause-go : goal.returns-clause-go
+unfolding first_passed is_path_short lineage passed_limit is_space_name is_space_byte reaches links is_word is_lower_word_byte is_word_byte
+returns-clause-go c = (refl, refl)
+
+pub returns-clause-told : goal.returns-clause-told
+unfolding first_passed is_path_short lineage passed_limit is_space_name is_space_byte reaches links is_word is_lower_word_byte is_word_byte
+returns-clause-told c = (refl, refl, refl, refl)

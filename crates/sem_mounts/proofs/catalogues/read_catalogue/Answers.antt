@@ -1,6 +1,6 @@
 -- The lines that bstr gives are those of the catalogue, and each leads on to the next.
 use Rattle.std.proofs.Common.{◌≡◌, Ok, Some, ◌∙◌, ap, arith, refl, sym}
-use Rattle.sem_mounts.specs.Catalogue.{content, with_line}
+use Rattle.hac_model.specs.Spaces.Catalogue.{content, with_line}
 use Rattle.sem_mounts.proofs.TurnLemmas.{with_lines-bad, with_lines-end, with_lines-long}
 use Rattle.sem_mounts.proofs.TurnLemmas.{with_lines-next, with_lines-start}
 use Rattle.sem_mounts.proofs.catalogues.read_catalogue.Goals.{then-line-room-via-then-line-room}

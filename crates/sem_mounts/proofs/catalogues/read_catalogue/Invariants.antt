@@ -1,5 +1,5 @@
 use Rattle.std.proofs.Common.{◌≡◌, ◌+◌, ◌≤◌, length}
-use Rattle.sem_mounts.specs.Catalogue.{catalogue, with_lines}
+use Rattle.hac_model.specs.Spaces.Catalogue.{catalogue, with_lines}
 use Rattle.sem_mounts.proofs.catalogues.read_catalogue.Given as goal
 
 -- the lines that are left, among the documents so far, give what all lines give; and there are no

@@ -1,6 +1,6 @@
 -- The space is attached, so its documents are told where contents are.
 use Rattle.std.specs.Option.{option_map}
-use Rattle.sem_mounts.specs.Answering.{text_at}
+use Rattle.hac_model.specs.Spaces.Answering.{text_at}
 use Rattle.sem_mounts.proofs.GatherLemmas.{told}
 use Rattle.sem_mounts.proofs.gathering.fetch_one.Goals as goal
 

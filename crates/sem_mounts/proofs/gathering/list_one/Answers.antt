@@ -1,5 +1,5 @@
 -- The space is attached, so its documents are told where contents are.
-use Rattle.sem_mounts.specs.Catalogue.{names}
+use Rattle.hac_model.specs.Spaces.Catalogue.{names}
 use Rattle.sem_mounts.proofs.GatherLemmas.{told}
 use Rattle.sem_mounts.proofs.gathering.list_one.Goals as goal
 

@@ -1,7 +1,7 @@
 -- Each question leads on to the next, or stops all.
 use Rattle.std.proofs.Common.{◌≡◌, ℕ, ◌+◌, Err, ◌∙◌, ap, length, rules}
 use Rattle.std.proofs.lemmas.List.{length_push}
-use Rattle.sem_mounts.specs.Answering.{names_with}
+use Rattle.hac_model.specs.Spaces.Answering.{names_with}
 use Rattle.sem_mounts.specs.Gathering.{documents_in}
 use Rattle.sem_mounts.proofs.GatherLemmas.{next-asked, next-said, next-stops}
 use Rattle.sem_mounts.proofs.gathering.search_all.Goals as goal

@@ -1,6 +1,6 @@
 use Rattle.std.proofs.Common.{◌≡◌, length, map, take, Ok}
 use Rattle.std.specs.Prelude.{IfSome}
-use Rattle.sem_mounts.specs.Answering.{names_with}
+use Rattle.hac_model.specs.Spaces.Answering.{names_with}
 use Rattle.sem_mounts.specs.Gathering.{AreGathered, documents_in}
 use Rattle.sem_mounts.proofs.gathering.search_all.Given as goal
 

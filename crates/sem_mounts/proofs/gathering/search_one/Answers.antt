@@ -1,5 +1,5 @@
 -- The space is attached, so its documents are told where contents are.
-use Rattle.sem_mounts.specs.Answering.{names_with}
+use Rattle.hac_model.specs.Spaces.Answering.{names_with}
 use Rattle.sem_mounts.proofs.GatherLemmas.{told}
 use Rattle.sem_mounts.proofs.gathering.search_one.Goals as goal
 

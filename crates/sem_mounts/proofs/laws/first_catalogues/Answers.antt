@@ -1,6 +1,6 @@
 use Rattle.std.proofs.Common.{refl}
 use Rattle.hac_model.specs.Script.Texts.{text_of}
-use Rattle.sem_mounts.specs.Catalogue.{catalogue, lines, with_line, with_lines}
+use Rattle.hac_model.specs.Spaces.Catalogue.{catalogue, lines, with_line, with_lines}
 use Rattle.sem_mounts.proofs.laws.first_catalogues.Goals as goal
 
 pub returns-clause-good : goal.returns-clause-good

@@ -1,8 +1,8 @@
 -- The lists tell which documents have the term.
 use Rattle.std.proofs.Common.{◌≡◌, ◌∙◌}
 use Rattle.std.proofs.lemmas.Result.{IfOk-weaker}
-use Rattle.sem_mounts.specs.Answering.{names_with}
-use Rattle.sem_mounts.specs.Catalogue.{names}
+use Rattle.hac_model.specs.Spaces.Answering.{names_with}
+use Rattle.hac_model.specs.Spaces.Catalogue.{names}
 use Rattle.sem_mounts.specs.WordLists.{marked}
 use Rattle.sem_mounts.proofs.WordListLemmas.{marked-names}
 use Rattle.sem_mounts.proofs.documents.Docs.names_with.Goals as goal

@@ -1,6 +1,4 @@
--- What a catalogue says: bytes with one document on a line, its name, a tab and its text. This file
--- moves to hac_model
--- once the state has documents.
+-- What a catalogue says: bytes with one document on a line, its name, a tab and its text.
 use Rattle.std.specs.Prelude.{ℕ, ◌+◌, ◌-◌, ◌==◌, Bool, if◌then◌else◌, nat_lt, List, [], ◌∷◌, length}
 use Rattle.std.specs.Prelude.{map, Option, Some, None, Result, Ok, Err}
 use Rattle.std.specs.BTreeMap.{insert_entry}
@@ -15,7 +13,7 @@ use Rattle.hac_model.specs.Run.Answers.{◌>>=◌}
 use Rattle.hac_model.specs.Script.Texts.{text_of}
 use Rattle.hac_model.specs.Tree.Limits.{is_text}
 use Rattle.hac_model.specs.Tree.Names.{is_name}
-use Rattle.sem_mounts.specs.declared.limits.TheConstants.{CATALOGUE_LIMIT}
+use Rattle.hac_model.specs.declared.limits.TheConstants.{CATALOGUE_LIMIT}
 
 -- a document: its name and its text
 abbrev pub Document : Type 0

@@ -1,5 +1,4 @@
--- What a space answers, given its documents. This file moves to hac_model once the state has
--- documents.
+-- What a space answers, given its documents.
 use Rattle.std.specs.Prelude.{ℕ, All, IsTrue, List, filter, Option}
 use Rattle.std.specs.Cmp.Lexicographic.{slice_cmp}
 use Rattle.std.specs.List.Sorted.{IsStrictlySortedBy}
@@ -9,7 +8,7 @@ use Rattle.std.specs.Str.{bytes_eq}
 use Rattle.hac_model.specs.Query.Words.{has_term}
 use Rattle.hac_model.specs.Tree.Names.{is_name}
 use Rattle.hac_model.specs.declared.terms.Term.{Term}
-use Rattle.sem_mounts.specs.Catalogue.{Document, names}
+use Rattle.hac_model.specs.Spaces.Catalogue.{Document, names}
 
 -- the names of the documents whose text has the term
 abbrev pub names_with : List Document → Term → List (List ℕ)

@@ -1,0 +1,3 @@
+-- Spaces: their documents, and what these answer.
+pub mod Answering
+pub mod Catalogue
