@@ -1,15 +1,15 @@
 -- Mounts come, are synced and go: what is known of each number.
-use Rattle.std.proofs.Common.{◌≡◌, ℕ, ◌+◌, Bool, true, false, cond, List, [], ◌∷◌, ◌++◌, length, map, refl, ap, sym, ◌∙◌}
-use Rattle.std.specs.Prelude.{◌==◌, ◌&&◌, ◌||◌, not, if◌then◌else◌, flat_map, Option, Some, None, IsTrue, option_and_then}
+use Rattle.std.proofs.Common.{◌≡◌, ℕ, ◌+◌, Bool, true, false, cond, List, [], ◌∷◌, ◌++◌, map, refl, ap, sym, ◌∙◌}
+use Rattle.std.specs.Prelude.{◌==◌, ◌&&◌, ◌||◌, not, if◌then◌else◌, Option, Some, None, IsTrue, option_and_then}
 use Rattle.std.specs.Option.{option_map, option_map_or}
 use Rattle.std.proofs.lemmas.Bool.{and_parts, eq-eqb, eqb-false, eqb-true, ne_eqb, not-true}
 use Rattle.hac_model.specs.Query.Formula.{Formula}
 use Rattle.hac_model.specs.Query.Queries.{terms_of}
 use Rattle.hac_model.specs.Tree.Bare.{bare, bare_body}
-use Rattle.hac_model.specs.Tree.Changes.{changed_at, edited}
+use Rattle.hac_model.specs.Tree.Changes.{edited}
 use Rattle.hac_model.specs.Tree.Facts.{Facts, facts_at, facts_in, facts_of, facts_without, marks_without, no_facts, put_at}
 use Rattle.hac_model.specs.Tree.Mounting.{cleared, documents_from, forgetting_such, fresh, is_among, is_gone, is_of_mount, is_such_at, keeping, mounted, redocumented, synced, unmounted, without_such}
-use Rattle.hac_model.specs.Tree.Mounts.{in_order, terms_in, terms_in_use, terms_to_ask}
+use Rattle.hac_model.specs.Tree.Mounts.{in_order, terms_in_use, terms_to_ask}
 use Rattle.hac_model.specs.Tree.{entry_at, is_directory_at, is_document, is_holder_at, is_mount, is_mount_at}
 use Rattle.hac_model.specs.Tree.Valid.{IsLayout, NumbersRise, is_in_place}
 use Rattle.hac_model.specs.declared.states.Answer.{Answer}
@@ -17,7 +17,6 @@ use Rattle.hac_model.specs.declared.states.Body.{Body}
 use Rattle.hac_model.specs.declared.states.Body.TheVariants.{File, Dir, Symlink, Semantic, Mount, Document}
 use Rattle.hac_model.specs.declared.states.Entry.{Entry}
 use Rattle.hac_model.specs.declared.states.State.{State}
-use Rattle.hac_model.specs.declared.terms.Term.{Term}
 use Rattle.hac_model.proofs.AlikeLemmas.{bare-query, entry_at-bare}
 use Rattle.hac_model.proofs.BareLemmas.{PassesBare, gone-bare}
 use Rattle.hac_model.proofs.FittingLemmas.{layout-fits}

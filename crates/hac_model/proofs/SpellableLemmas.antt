@@ -1,6 +1,6 @@
 -- Which names, numbers and lists have a spelling: numbers of a tree have four bytes, so numbers that rise are no more than
 -- four bytes can count, and no more terms are in use than that.
-use Rattle.std.proofs.Common.{◌≡◌, ℕ, suc, ◌+◌, ◌*◌, ◌-◌, ◌<◌, ◌≤◌, Bool, true, false, List, [], ◌∷◌, length, refl, ap, sym, ◌∙◌, arith}
+use Rattle.std.proofs.Common.{◌≡◌, ℕ, suc, ◌+◌, ◌*◌, ◌-◌, ◌<◌, ◌≤◌, true, false, List, [], ◌∷◌, length, refl, arith}
 use Rattle.std.specs.Prelude.{codes, not, ◌&&◌, ◌==◌, if◌then◌else◌, nat_lt, nat_le, Option, Some, None}
 use Rattle.std.specs.List.{AllByRecursion, list_all}
 use Rattle.std.specs.Str.{bytes_eq}
@@ -31,7 +31,7 @@ use Rattle.hac_model.specs.declared.states.Entry.{Entry}
 use Rattle.hac_model.specs.declared.states.State.{State}
 use Rattle.hac_model.specs.declared.terms.Term.{Term}
 use Rattle.hac_model.proofs.ChangeLemmas.{all-weaker}
-use Rattle.hac_model.proofs.CountLemmas.{is_queried, measured, measured-cons, one_if}
+use Rattle.hac_model.proofs.CountLemmas.{is_queried, measured-cons, one_if}
 use Rattle.hac_model.proofs.LimitLemmas.{IsWithinLimits, limits-within}
 use Rattle.hac_model.proofs.MountKeptLemmas.{rise-told}
 use Rattle.hac_model.proofs.MountLayoutLemmas.{all-tested, documents-parts, tested-below}

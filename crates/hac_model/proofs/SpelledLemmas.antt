@@ -1,13 +1,10 @@
 -- Each event that can happen to a valid state, and is stored, has a spelling: its numbers have four bytes, its names, texts and
 -- queries are no longer than such may be, and what it tells of a space's documents is no more than four bytes can count.
-use Rattle.std.proofs.Common.{inl, inr, ◌≡◌, ℕ, zero, suc, ◌<◌, ◌≤◌, Bool, true, false, List, [], ◌∷◌, ◌++◌, length, refl, ap, sym, ◌∙◌, arith}
-use Rattle.std.specs.Prelude.{codes, not, option_and_then, ◌&&◌, ◌||◌, ◌==◌, if◌then◌else◌, nat_le, Option, Some, None, IsTrue, is_some, is_none}
+use Rattle.std.proofs.Common.{inl, inr, ◌≡◌, ℕ, zero, suc, ◌<◌, Bool, true, false, List, [], ◌∷◌, ◌++◌, length, refl, ap, sym, ◌∙◌, arith}
+use Rattle.std.specs.Prelude.{not, option_and_then, ◌&&◌, ◌||◌, ◌==◌, if◌then◌else◌, nat_le, Option, Some, None, IsTrue, is_some, is_none}
 use Rattle.std.proofs.lemmas.Bool.{and_from, and_parts, eqb-true}
-use Rattle.std.proofs.lemmas.Bool.Decides.{nat_tests}
 use Rattle.std.proofs.lemmas.List.Folds.{list_all-append}
-use Rattle.std.specs.List.{list_all}
 use Rattle.std.specs.Option.{option_map, option_map_or}
-use Rattle.std.specs.Str.{bytes_eq}
 use Rattle.hac_model.specs.Tree.Depends.{cycle_over, first_reaching, named_in, reaches}
 use Rattle.hac_model.specs.Tree.Events.{accepted, apply, are_directories, changed_at, edited, indexed, is_clear, is_free, is_placed, is_possible, is_unreferenced, may_ask, may_mark, next_dirty}
 use Rattle.hac_model.specs.Payload.Fields.{num}
@@ -27,7 +24,7 @@ use Rattle.hac_model.specs.Tree.Valid.{AsksWell, IsLayout, IsValid, KeepsWell}
 use Rattle.hac_model.specs.declared.events.Event.{Event}
 use Rattle.hac_model.specs.declared.events.Event.TheVariants.{Mkdir, NewFile, Rewrite, Ln, Mv, Rm, Rmdir, Smkdir, Setq, Unq, Mark, Smount, Ssync, Sumount, Step, Cd}
 use Rattle.hac_model.specs.declared.limits.LimitWord.{LimitWord}
-use Rattle.hac_model.specs.declared.limits.TheConstants.{NUMBERS_LIMIT, TEXT_LIMIT}
+use Rattle.hac_model.specs.declared.limits.TheConstants.{TEXT_LIMIT}
 use Rattle.hac_model.specs.declared.marks.Kind.{Kind}
 use Rattle.hac_model.specs.declared.marks.Kind.TheVariants.{Transient, Permanent, Prohibited, Unlinked}
 use Rattle.hac_model.specs.declared.states.Body.{Body}

@@ -1,7 +1,7 @@
 -- What is stored of a valid state has a spelling, where no mount is too large: its numbers have four bytes, so its entries
 -- and marks are no more than four bytes can count; its names, texts, queries and terms are no longer than such may be; and
 -- the names of a mount's documents rise.
-use Rattle.std.proofs.Common.{inr, ◌≡◌, ℕ, suc, ◌+◌, ◌-◌, ◌<◌, ◌≤◌, Bool, true, false, cond, List, [], ◌∷◌, length, subst, refl, ap, sym, ◌∙◌, arith}
+use Rattle.std.proofs.Common.{inr, ◌≡◌, ℕ, suc, ◌+◌, ◌<◌, ◌≤◌, Bool, true, false, cond, List, [], ◌∷◌, length, subst, refl, ap, sym, ◌∙◌, arith}
 use Rattle.std.specs.Prelude.{not, ◌&&◌, ◌==◌, if◌then◌else◌, nat_lt, nat_le, map, filter, Option, Some, None, IsTrue}
 use Rattle.std.specs.Cmp.Lexicographic.{slice_cmp, nat_list_cmp_total, nat_list_eq_equiv, texts_ties}
 use Rattle.std.specs.List.{AllByRecursion, list_all}
@@ -14,20 +14,19 @@ use Rattle.std.proofs.lemmas.Bool.{and_from, and_parts, eqb-true, leb-true}
 use Rattle.std.proofs.lemmas.Bool.Decides.{nat_tests}
 use Rattle.std.proofs.lemmas.List.{length-map}
 use Rattle.std.proofs.lemmas.List.Sums.{length-filter}
-use Rattle.hac_model.specs.Payload.Fields.{checked, items_fit, num}
+use Rattle.hac_model.specs.Payload.Fields.{items_fit, num}
 use Rattle.hac_model.specs.Payload.Payloads.{name_field, nums, rises, space_field, text_field}
 use Rattle.hac_model.specs.Payload.QueryFields.{query_field}
 use Rattle.hac_model.specs.Payload.States.{answer_field, document_field, documents_field, entry_field, is_spellable_snapshot, listed_document, no_documents, shown_field, shown_part, snapshot_of, stored_entry, stored_field, term_field}
 use Rattle.hac_model.specs.Query.Queries.{is_askable, is_term}
 use Rattle.hac_model.specs.Query.Terms.{is_term_before}
-use Rattle.hac_model.specs.Script.SpaceNames.{is_space_byte, is_space_name}
 use Rattle.hac_model.specs.Tree.Limits.{is_text}
-use Rattle.hac_model.specs.Tree.Links.{is_item, parent_of}
+use Rattle.hac_model.specs.Tree.Links.{is_item}
 use Rattle.hac_model.specs.Tree.Listing.{children, in_order, is_before, put_in_order}
 use Rattle.hac_model.specs.Payload.States.{are_mounts_small, document_count}
 use Rattle.hac_model.specs.Tree.Names.{is_name}
-use Rattle.hac_model.specs.Tree.{answers_in, body_at, child, entry_at, is_document, is_document_at, is_holder_at, is_linkable, is_mount, is_mount_at}
-use Rattle.hac_model.specs.Tree.Valid.{AreMarks, AsksWell, IsAnswer, IsSound, IsValid, KeepsWell, NamesDiffer, NumbersRise, RiseFrom, TermsRise, is_document_of, is_in_place}
+use Rattle.hac_model.specs.Tree.{answers_in, child, entry_at, is_document, is_holder_at, is_linkable, is_mount, is_mount_at}
+use Rattle.hac_model.specs.Tree.Valid.{AreMarks, AsksWell, IsAnswer, IsSound, IsValid, KeepsWell, NamesDiffer, NumbersRise, TermsRise, is_in_place}
 use Rattle.hac_model.specs.declared.limits.TheConstants.{DOCS_LIMIT, QUERY_LIMIT}
 use Rattle.hac_model.specs.declared.snapshots.Document as listed
 use Rattle.hac_model.specs.declared.snapshots.StoredEntry.{StoredEntry}
@@ -39,11 +38,10 @@ use Rattle.hac_model.specs.declared.states.State.{State}
 use Rattle.hac_model.specs.declared.terms.Term.{Term}
 use Rattle.hac_model.specs.declared.terms.Term.TheVariants.{Word, Prefix}
 use Rattle.hac_model.proofs.ChangeLemmas.{all-filter, all-weaker}
-use Rattle.hac_model.proofs.LimitLemmas.{IsWithinLimits, limits-within}
 use Rattle.hac_model.proofs.MountLayoutLemmas.{tested-below}
 use Rattle.hac_model.proofs.SpellableLemmas.{documents-below, name-fits, nums-fit, small-fits, space-fits}
 use Rattle.hac_model.proofs.SpelledLemmas.{number-fits, query-fits, text-fits}
-use Rattle.hac_model.proofs.TreeLemmas.{all-entries, directory-lives, entry_at-all, entry_at-below, place-directory}
+use Rattle.hac_model.proofs.TreeLemmas.{all-entries, directory-lives, entry_at-all, place-directory}
 
 -- ---- names in order
 
