@@ -1,6 +1,5 @@
 -- Events keep a state valid: no directory comes to depend on itself.
 use Rattle.hac_model.specs.declared.events.Event.TheVariants.{Smount, Ssync, Sumount}
-use Rattle.hac_model.specs.Tree.Events.{may_mount, may_sync}
 use Rattle.hac_model.specs.Tree.Mounting.{answers_to}
 use Rattle.hac_model.specs.Tree.Mounts.{terms_to_ask}
 use Rattle.hac_model.proofs.MountEdgeLemmas.{mounted-acyclic, synced-acyclic, unmounted-acyclic}

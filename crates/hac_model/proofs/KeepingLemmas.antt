@@ -1,33 +1,21 @@
 -- What mounts keep: their documents, and an answer for each term in use.
-use Rattle.std.proofs.Common.{◌≡◌, ℕ, ◌≤◌, inl, inr, Bool, true, false, List, [], ◌∷◌, ◌++◌, length, map, refl, ap, sym, ◌∙◌, arith, subst}
-use Rattle.std.specs.Prelude.{◌⊎◌, ◌==◌, ◌&&◌, ◌||◌, not, if◌then◌else◌, filter, nat_le, Option, Some, None, IsTrue}
+use Rattle.std.proofs.Common.{◌≡◌, ℕ, ◌≤◌, Bool, true, false, List, [], ◌∷◌, ◌++◌, length, map, refl, ap, sym, ◌∙◌, arith, subst}
+use Rattle.std.specs.Prelude.{◌==◌, ◌&&◌, if◌then◌else◌, filter, nat_le, Option, Some, None, IsTrue}
 use Rattle.std.specs.Option.{option_map, option_map_or}
-use Rattle.std.specs.List.{AllByRecursion, list_all}
-use Rattle.std.proofs.lemmas.Bool.{and_parts, eqb-true, leb-true, le-leb, ne_eqb, not-true}
-use Rattle.hac_model.specs.Query.Formula.{Formula}
-use Rattle.hac_model.specs.Query.Queries.{terms_of}
-use Rattle.hac_model.specs.Tree.Events.{is_free, accepted, added, apply, asking, changed_at, changed_in, edited, first_asked_in, forgetting, forgotten, indexed, is_possible, knows_all, marked, next_dirty, plain_body, removed, reseated, rewritten}
-use Rattle.hac_model.specs.Tree.Limits.{is_text, passed_limit}
-use Rattle.hac_model.specs.Script.PathWords.{is_target}
-use Rattle.hac_model.specs.Tree.Links.{parent_of}
+use Rattle.std.specs.List.{AllByRecursion}
+use Rattle.std.proofs.lemmas.Bool.{and_parts, leb-true, le-leb}
+use Rattle.hac_model.specs.Tree.Events.{changed_in, edited}
 use Rattle.hac_model.specs.Tree.Mounts.{is_kept, terms_in, terms_in_use}
-use Rattle.hac_model.specs.Tree.{answers_in, body_at, entry_at, is_directory, is_directory_at, is_document, is_document_at, is_leaf, is_leaf_at, is_made_directory, is_mount, is_mount_at, query_in, space_in}
-use Rattle.hac_model.specs.Tree.Valid.{IsAnswer, IsValid, KeepsWell, has_few, is_document_of}
-use Rattle.hac_model.specs.declared.events.Event.{Event}
-use Rattle.hac_model.specs.declared.events.Event.TheVariants.{Mkdir, NewFile, Rewrite, Ln, Mark, Mv, Rm, Rmdir, Setq, Smkdir, Step, Unq, Cd}
+use Rattle.hac_model.specs.Tree.{body_at, entry_at, is_document}
+use Rattle.hac_model.specs.Tree.Valid.{IsAnswer, KeepsWell, has_few, is_document_of}
 use Rattle.hac_model.specs.declared.limits.TheConstants.{DOCS_LIMIT}
-use Rattle.hac_model.specs.declared.marks.Kind.{Kind}
-use Rattle.hac_model.specs.declared.marks.Kind.TheVariants.{Transient, Permanent, Prohibited, Unlinked}
 use Rattle.hac_model.specs.declared.states.Answer.{Answer}
 use Rattle.hac_model.specs.declared.states.Body.{Body}
-use Rattle.hac_model.specs.declared.states.Body.TheVariants.{File, Dir, Symlink, Semantic, Mount, Document}
+use Rattle.hac_model.specs.declared.states.Body.TheVariants.{Mount}
 use Rattle.hac_model.specs.declared.states.Entry.{Entry}
 use Rattle.hac_model.specs.declared.states.State.{State}
 use Rattle.hac_model.specs.declared.terms.Term.{Term}
-use Rattle.hac_model.proofs.ChangeLemmas.{all-append, all-changed, all-filter, all-joined, all-weaker, entry_at-append, entry_at-changed, entry_at-kept, is_kept as is_left, touched}
-use Rattle.hac_model.proofs.MapLemmas.{all-map, entry_at-mapped}
-use Rattle.hac_model.proofs.TreeLemmas.{entry_at-number}
-use Rattle.hac_model.proofs.ValidLemmas.{accepted-parts, found-all, free-holder, move-parts, rmdir-parts, setq-parts, smkdir-parts}
+use Rattle.hac_model.proofs.ChangeLemmas.{all-joined, all-weaker, is_kept as is_left}
 
 -- What a mount keeps stays sound from one state to another, where its documents stay, it gets no more, and its answers
 -- are those for all terms in use.

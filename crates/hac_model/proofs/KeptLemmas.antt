@@ -1,16 +1,14 @@
 -- Events keep what mounts keep sound: their documents stay theirs, and each term in use has an answer.
 use Rattle.hac_model.specs.declared.events.Event.TheVariants.{Smount, Ssync, Sumount}
 use Rattle.hac_model.specs.Tree.Events.{may_mount, may_sync}
-use Rattle.hac_model.specs.Tree.Mounting.{answers_to}
-use Rattle.hac_model.specs.Tree.Mounts.{terms_to_ask}
 use Rattle.hac_model.proofs.LayoutLemmas.{apply-layout, smount-parts, ssync-parts, sumount-parts}
 use Rattle.hac_model.proofs.MountKeptLemmas.{mounted-keeps, synced-keeps, unmounted-keeps}
 use Rattle.hac_model.proofs.MountLayoutLemmas.{documents-parts}
-use Rattle.std.proofs.Common.{◌≡◌, ℕ, ◌≤◌, inl, inr, Bool, true, false, List, [], ◌∷◌, ◌++◌, length, map, refl, ap, sym, ◌∙◌, arith, subst}
+use Rattle.std.proofs.Common.{◌≡◌, ℕ, inl, inr, Bool, true, false, List, [], ◌∷◌, length, refl, ap, sym, ◌∙◌, subst}
 use Rattle.std.specs.Prelude.{◌⊎◌, ◌==◌, ◌&&◌, ◌||◌, not, if◌then◌else◌, filter, nat_le, Option, Some, None, IsTrue}
 use Rattle.std.specs.Option.{option_map, option_map_or}
 use Rattle.std.specs.List.{AllByRecursion, list_all}
-use Rattle.std.proofs.lemmas.Bool.{and_parts, eqb-true, leb-true, le-leb, ne_eqb, not-true}
+use Rattle.std.proofs.lemmas.Bool.{and_parts, eqb-true, ne_eqb, not-true}
 use Rattle.hac_model.specs.Query.Formula.{Formula}
 use Rattle.hac_model.specs.Query.Queries.{terms_of}
 use Rattle.hac_model.specs.Tree.Events.{is_free, accepted, added, apply, asking, changed_at, changed_in, edited, first_asked_in, forgetting, forgotten, indexed, is_possible, knows_all, marked, next_dirty, plain_body, removed, reseated, rewritten}
@@ -18,8 +16,8 @@ use Rattle.hac_model.specs.Tree.Limits.{is_text, passed_limit}
 use Rattle.hac_model.specs.Script.PathWords.{is_target}
 use Rattle.hac_model.specs.Tree.Links.{parent_of}
 use Rattle.hac_model.specs.Tree.Mounts.{is_kept, terms_in, terms_in_use}
-use Rattle.hac_model.specs.Tree.{answers_in, body_at, entry_at, is_directory, is_directory_at, is_document, is_document_at, is_leaf, is_leaf_at, is_made_directory, is_mount, is_mount_at, query_in, space_in}
-use Rattle.hac_model.specs.Tree.Valid.{IsAnswer, IsValid, KeepsWell, has_few, is_document_of}
+use Rattle.hac_model.specs.Tree.{answers_in, entry_at, is_directory, is_directory_at, is_document, is_document_at, is_leaf, is_leaf_at, is_made_directory, is_mount, is_mount_at, query_in, space_in}
+use Rattle.hac_model.specs.Tree.Valid.{IsAnswer, IsValid, KeepsWell, has_few}
 use Rattle.hac_model.specs.declared.events.Event.{Event}
 use Rattle.hac_model.specs.declared.events.Event.TheVariants.{Mkdir, NewFile, Rewrite, Ln, Mark, Mv, Rm, Rmdir, Setq, Smkdir, Step, Unq, Cd}
 use Rattle.hac_model.specs.declared.limits.TheConstants.{DOCS_LIMIT}
@@ -31,8 +29,8 @@ use Rattle.hac_model.specs.declared.states.Body.TheVariants.{File, Dir, Symlink,
 use Rattle.hac_model.specs.declared.states.Entry.{Entry}
 use Rattle.hac_model.specs.declared.states.State.{State}
 use Rattle.hac_model.specs.declared.terms.Term.{Term}
-use Rattle.hac_model.proofs.ChangeLemmas.{all-append, all-changed, all-filter, all-joined, all-weaker, entry_at-append, entry_at-changed, entry_at-kept, is_kept as is_left, touched}
-use Rattle.hac_model.proofs.KeepingLemmas.{AreKept, DocumentsStay, EachKept, FewStay, TermsStay, all-kept, all-parted, answer-stays, document-entry, document-tests, document_by, each-kept, fewer, inside, inside-added, inside-changed, inside-left, inside-mapped, keeps-stays, same-document}
+use Rattle.hac_model.proofs.ChangeLemmas.{all-append, all-changed, all-filter, all-weaker, entry_at-append, entry_at-changed, entry_at-kept, is_kept as is_left, touched}
+use Rattle.hac_model.proofs.KeepingLemmas.{AreKept, DocumentsStay, TermsStay, all-kept, answer-stays, document-entry, document_by, each-kept, fewer, inside, inside-added, inside-changed, inside-left, inside-mapped, keeps-stays, same-document}
 use Rattle.hac_model.proofs.MapLemmas.{all-map, entry_at-mapped}
 use Rattle.hac_model.proofs.TreeLemmas.{entry_at-number}
 use Rattle.hac_model.proofs.ValidLemmas.{accepted-parts, found-all, free-holder, move-parts, rmdir-parts, setq-parts, smkdir-parts}

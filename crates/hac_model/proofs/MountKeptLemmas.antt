@@ -1,20 +1,18 @@
 -- What mounts keep stays sound where mounts come, are synced and go.
-use Rattle.std.proofs.Common.{◌≡◌, ℕ, suc, ◌+◌, ◌<◌, ◌≤◌, Bool, true, false, List, [], ◌∷◌, ◌++◌, length, map, subst, refl, ap, sym, ◌∙◌, arith, inl, inr}
+use Rattle.std.proofs.Common.{◌≡◌, ℕ, suc, ◌+◌, ◌<◌, ◌≤◌, Bool, true, false, List, [], ◌∷◌, ◌++◌, length, subst, refl, ap, sym, ◌∙◌, arith, inl, inr}
 use Rattle.std.specs.Prelude.{◌⊎◌, ◌&&◌, ◌||◌, ◌==◌, not, filter, if◌then◌else◌, nat_le, Option, Some, None, IsTrue, is_none, option_and_then}
 use Rattle.std.specs.Option.{option_map, option_map_or}
 use Rattle.std.specs.Cmp.Lexicographic.{nat_list_eq_equiv}
-use Rattle.std.specs.List.{AllByRecursion, list_all, list_any}
+use Rattle.std.specs.List.{AllByRecursion, list_all}
 use Rattle.std.specs.Str.{bytes_eq}
-use Rattle.std.proofs.lemmas.Bool.{and_from, and_parts, eq-eqb, eqb-true, le-leb, leb-true, ne_eqb, not-true}
+use Rattle.std.proofs.lemmas.Bool.{and_parts, eq-eqb, eqb-true, le-leb, leb-true, ne_eqb, not-true}
 use Rattle.std.proofs.lemmas.Slice.Eq.{bytes_eq-Decides}
 use Rattle.hac_model.specs.Query.Queries.{is_askable}
-use Rattle.hac_model.specs.Script.SpaceNames.{is_space_name}
-use Rattle.hac_model.specs.Tree.Events.{added, changed_at, changed_in, edited, is_free}
-use Rattle.hac_model.specs.Tree.Links.{parent_of}
-use Rattle.hac_model.specs.Tree.Mounting.{answers_to, are_documents, are_told, cleared, do_rise_from, documents_from, forgetting_such, fresh, is_among, is_document_of, is_gone, is_of_mount, is_such_at, is_told, keeping, mounted, redocumented, synced, unmounted, with_documents, without_such}
-use Rattle.hac_model.specs.Tree.Mounts.{is_kept, terms_in, terms_in_use, terms_to_ask}
-use Rattle.hac_model.specs.Tree.{body_at, child, entry_at, is_directory, is_directory_at, is_document, is_document_at, is_holder_at, is_mount, is_mount_at}
-use Rattle.hac_model.specs.Tree.Valid.{IsAnswer, IsLayout, IsSoundMount, IsValid, KeepsWell, NamesDiffer, NumbersRise, RiseFrom, TermsRise, has_few, is_in_place}
+use Rattle.hac_model.specs.Tree.Events.{changed_in, edited, is_free}
+use Rattle.hac_model.specs.Tree.Mounting.{answers_to, are_told, cleared, do_rise_from, documents_from, forgetting_such, fresh, is_among, is_document_of, is_gone, is_of_mount, is_such_at, is_told, keeping, mounted, redocumented, synced, unmounted, without_such}
+use Rattle.hac_model.specs.Tree.Mounts.{terms_in, terms_in_use, terms_to_ask}
+use Rattle.hac_model.specs.Tree.{child, entry_at, is_directory_at, is_document, is_holder_at, is_mount, is_mount_at}
+use Rattle.hac_model.specs.Tree.Valid.{IsAnswer, IsSoundMount, IsValid, KeepsWell, NamesDiffer, NumbersRise, RiseFrom, is_in_place}
 use Rattle.hac_model.specs.declared.limits.TheConstants.{DOCS_LIMIT}
 use Rattle.hac_model.specs.declared.states.Answer.{Answer}
 use Rattle.hac_model.specs.declared.states.Body.{Body}
@@ -23,13 +21,13 @@ use Rattle.hac_model.specs.declared.states.Entry.{Entry}
 use Rattle.hac_model.specs.declared.states.State.{State}
 use Rattle.hac_model.specs.declared.terms.Term.{Term}
 use Rattle.hac_model.proofs.ChangeLemmas.{all-append, all-changed, all-filter, all-weaker, entry_at-append, entry_at-changed, first_apart, touched}
-use Rattle.hac_model.proofs.FittingLemmas.{all-both, all-joined, all-passed}
+use Rattle.hac_model.proofs.FittingLemmas.{all-joined, all-passed}
 use Rattle.hac_model.proofs.KeepingLemmas.{AreKept, EachKept, all-kept, document-entry, document_by, each-kept, inside, inside-mapped, same-document}
 use Rattle.hac_model.proofs.MapLemmas.{all-map, entry_at-mapped}
 use Rattle.hac_model.proofs.MountAskLemmas.{entry_at-filter, passing}
-use Rattle.hac_model.proofs.MountLayoutLemmas.{all-documents, all-tested, documents-parts, entry_at-documents, gone-directory}
-use Rattle.hac_model.proofs.TermLemmas.{TermsChain, all-order, answers-rise, asked-kept, in_use-askable, order-chain}
-use Rattle.hac_model.proofs.TreeLemmas.{all-entries, directory-lives, entry_at-all, entry_at-below, entry_at-number, place-directory}
+use Rattle.hac_model.proofs.MountLayoutLemmas.{all-documents, all-tested, entry_at-documents}
+use Rattle.hac_model.proofs.TermLemmas.{all-order, answers-rise, asked-kept, in_use-askable, order-chain}
+use Rattle.hac_model.proofs.TreeLemmas.{all-entries, entry_at-all, entry_at-below, entry_at-number, place-directory}
 use Rattle.hac_model.proofs.ValidLemmas.{directory-below, free-parts}
 
 -- What is found where entries come.

@@ -1,15 +1,15 @@
 -- The tree stays one where mounts come, are synced and go.
-use Rattle.std.proofs.Common.{◌≡◌, ℕ, ◌+◌, ◌<◌, ◌≤◌, Bool, true, false, List, [], ◌∷◌, ◌++◌, length, subst, refl, ap, sym, ◌∙◌, arith, eq-eqb, inl, inr, Ordering, Less, Equal, Greater}
+use Rattle.std.proofs.Common.{◌≡◌, ℕ, ◌+◌, ◌<◌, Bool, true, false, List, [], ◌∷◌, ◌++◌, length, subst, refl, ap, sym, ◌∙◌, arith, eq-eqb, inl, inr, Ordering, Less, Equal, Greater}
 use Rattle.std.specs.Prelude.{◌&&◌, ◌||◌, ◌==◌, not, filter, if◌then◌else◌, nat_le, Option, Some, None, IsTrue, is_none}
 use Rattle.std.specs.Option.{option_map, option_map_or}
 use Rattle.std.specs.Ordering.{is_eq, is_lt, nat_cmp}
 use Rattle.std.specs.Cmp.Lexicographic.{nat_list_eq_equiv, slice_cmp}
 use Rattle.std.specs.List.{AllByRecursion, list_all}
 use Rattle.std.specs.Str.{bytes_eq}
-use Rattle.std.proofs.lemmas.Bool.{and_from, and_parts, eqb-true, ne_eqb, not-true}
+use Rattle.std.proofs.lemmas.Bool.{and_from, and_parts, eqb-true, ne_eqb}
 use Rattle.std.proofs.lemmas.Map.Text.{is_eq-slice_cmp}
 use Rattle.hac_model.specs.Script.SpaceNames.{is_space_name}
-use Rattle.hac_model.specs.Tree.Events.{added, changed_at, edited, is_free}
+use Rattle.hac_model.specs.Tree.Events.{added, is_free}
 use Rattle.hac_model.specs.Tree.Limits.{passed_limit}
 use Rattle.hac_model.specs.Tree.Listing.{is_before}
 use Rattle.hac_model.specs.Tree.Mounting.{are_documents, cleared, do_names_rise, documents_from, forgetting_such, fresh, is_among, is_gone, is_of_mount, is_such_at, keeping, mounted, redocumented, synced, unmounted, with_documents, without_such}
@@ -25,7 +25,7 @@ use Rattle.hac_model.specs.declared.states.State.{State}
 use Rattle.hac_model.proofs.ChangeLemmas.{all-filter, all-weaker, apart, child-filter, entry_at-filter, entry_at-new, first_apart}
 use Rattle.hac_model.proofs.FittingLemmas.{IsFitting, LeavesDirectories, all-joined, fitting-layout, layout-fits, mapped-fits, without-fits}
 use Rattle.hac_model.proofs.MapLemmas.{child-mapped, test-mapped}
-use Rattle.hac_model.proofs.TreeLemmas.{Lives, directory-lives, entry_at-all, entry_at-below, entry_at-next, entry_at-number, entry_of, place-directory, place-same}
+use Rattle.hac_model.proofs.TreeLemmas.{Lives, directory-lives, entry_at-all, entry_at-below, entry_at-next, entry_at-number, place-directory, place-same}
 use Rattle.hac_model.proofs.ValidLemmas.{KeepsPlaces, added-fits, edited-fits, free-parts, none_from}
 
 -- Names of documents.

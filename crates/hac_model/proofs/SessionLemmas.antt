@@ -1,6 +1,5 @@
 -- Sessions stay sound, and what an event does to them.
 use Rattle.hac_model.specs.declared.events.Event.TheVariants.{Smount, Ssync, Sumount}
-use Rattle.hac_model.specs.Tree.Events.{may_mount, may_sync}
 use Rattle.hac_model.specs.Tree.Mounting.{answers_to}
 use Rattle.hac_model.specs.Tree.Mounts.{terms_to_ask}
 use Rattle.hac_model.proofs.LayoutLemmas.{sumount-parts}

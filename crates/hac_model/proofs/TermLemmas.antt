@@ -1,18 +1,17 @@
 -- Terms in order, and what was told of them.
-use Rattle.std.proofs.Common.{◌≡◌, ℕ, ◌≤◌, ◌+◌, Bool, true, false, List, [], ◌∷◌, ◌++◌, length, subst, refl, ap, sym, ◌∙◌, arith, inl, inr, Ordering, Less, Equal, Greater}
+use Rattle.std.proofs.Common.{◌≡◌, ℕ, ◌≤◌, Bool, true, false, List, [], ◌∷◌, length, refl, ap, sym, ◌∙◌, arith, inl, inr, Ordering, Less, Equal, Greater}
 use Rattle.std.specs.Prelude.{◌⊎◌, ◌&&◌, ◌||◌, if◌then◌else◌, nat_le, Option, Some, None, IsTrue, is_some}
 use Rattle.std.specs.Option.{option_map_or}
 use Rattle.std.specs.Ordering.{is_eq, is_le, is_lt, nat_cmp, ordering_reverse}
 use Rattle.std.specs.Cmp.Lexicographic.{slice_cmp}
 use Rattle.std.specs.List.{AllByRecursion, list_any}
-use Rattle.std.specs.Str.{bytes_eq}
 use Rattle.std.proofs.lemmas.Bool.{and_from, and_parts, leb-true, le-leb}
 use Rattle.std.proofs.lemmas.Cmp.{nat_list_cmp_total}
 use Rattle.std.proofs.lemmas.Map.Text.{is_eq-slice_cmp}
 use Rattle.std.proofs.lemmas.Slice.Eq.{bytes_eq-Decides}
 use Rattle.hac_model.specs.Query.Formula.{Formula}
 use Rattle.hac_model.specs.Query.Formula as query
-use Rattle.hac_model.specs.Query.Queries.{all_leaves, are_terms, is_askable, is_query, is_term, letter_count, not_count, term_count, term_size, terms_of}
+use Rattle.hac_model.specs.Query.Queries.{are_terms, is_askable, is_query, is_term, letter_count, not_count, term_count, term_size, terms_of}
 use Rattle.hac_model.specs.Query.Terms.{is_same_term, is_term_before}
 use Rattle.hac_model.specs.Tree.Events.{are_directories, may_ask}
 use Rattle.hac_model.specs.Tree.Depends.{named_in}
@@ -20,7 +19,6 @@ use Rattle.hac_model.specs.Tree.Mounting.{answers_to}
 use Rattle.hac_model.specs.Tree.Mounts.{in_order, is_kept, kept_for, put_term, terms_in, terms_in_use, terms_to_ask}
 use Rattle.hac_model.specs.Tree.Valid.{AsksWell, TermsRise}
 use Rattle.hac_model.specs.declared.limits.TheConstants.{NESTING_LIMIT, QUERY_LIMIT, TERMS_LIMIT}
-use Rattle.hac_model.specs.declared.states.Answer.{Answer}
 use Rattle.hac_model.specs.declared.states.Body.{Body}
 use Rattle.hac_model.specs.declared.states.Body.TheVariants.{File, Dir, Symlink, Semantic, Mount, Document}
 use Rattle.hac_model.specs.declared.states.Entry.{Entry}

@@ -4,29 +4,27 @@ use Rattle.std.specs.Prelude.{◌&&◌, ◌==◌, if◌then◌else◌, not, Opti
 use Rattle.std.specs.Option.{option_map, option_map_or}
 use Rattle.std.specs.List.{AllByRecursion}
 use Rattle.std.proofs.lemmas.Bool.{and_from, and_parts, eqb-false, eqb-true, not-true}
-use Rattle.hac_model.specs.Tree.Events.{accepted, added, apply, asking, changed_in, changed_at, edited, first_asked, forgetting, forgotten, indexed, is_bare, is_free, is_inside, is_made_holder, is_possible, is_unreferenced, marked, may_ask, may_mark, next_dirty, plain_body, removed, reseated, rewritten, is_placed, is_vacant}
+use Rattle.hac_model.specs.Tree.Events.{added, asking, changed_in, changed_at, edited, first_asked, forgetting, forgotten, indexed, is_bare, is_free, is_inside, is_made_holder, is_possible, is_unreferenced, marked, may_ask, may_mark, plain_body, removed, reseated, rewritten, is_placed, is_vacant}
 use Rattle.hac_model.specs.Tree.Depends.{cycle_of_move, cycle_over}
 use Rattle.hac_model.specs.Query.Formula.{Formula}
 use Rattle.hac_model.specs.Tree.Limits.{first_passed, is_text, passed_limit, file_bytes}
 use Rattle.hac_model.specs.Tree.Links.{is_item, is_semantic, parent_of}
-use Rattle.hac_model.specs.Script.PathWords.{is_target}
 use Rattle.hac_model.specs.Tree.Names.{is_name}
 use Rattle.hac_model.specs.Tree.Sessions.{is_busy}
-use Rattle.hac_model.specs.Tree.{child, empty, entry_at, is_directory, is_directory_at, is_document, is_document_at, is_file, is_file_at, is_holder_at, is_leaf_at, is_made_directory, is_mount, is_mount_at, is_symlink, query_in}
-use Rattle.hac_model.specs.Tree.Valid.{IsLayout, IsSound, IsSoundFile, NumbersRise, is_in_place}
-use Rattle.hac_model.specs.declared.events.Event.{Event}
-use Rattle.hac_model.specs.declared.events.Event.TheVariants.{Mkdir, NewFile, Rewrite, Ln, Mark, Mv, Rm, Rmdir, Setq, Smkdir, Step, Unq, Cd}
+use Rattle.hac_model.specs.Tree.{child, empty, entry_at, is_directory, is_directory_at, is_document, is_document_at, is_file, is_holder_at, is_leaf_at, is_made_directory, is_mount, is_mount_at, is_symlink, query_in}
+use Rattle.hac_model.specs.Tree.Valid.{IsLayout, IsSound, NumbersRise, is_in_place}
+use Rattle.hac_model.specs.declared.events.Event.TheVariants.{Mark, Mv, Rmdir, Setq, Smkdir}
 use Rattle.hac_model.specs.declared.limits.LimitWord.{LimitWord}
 use Rattle.hac_model.specs.declared.marks.Kind.{Kind}
 use Rattle.hac_model.specs.declared.marks.Kind.TheVariants.{Transient, Permanent, Prohibited, Unlinked}
 use Rattle.hac_model.specs.declared.states.Body.{Body}
-use Rattle.hac_model.specs.declared.states.Body.TheVariants.{File, Dir, Symlink, Semantic}
+use Rattle.hac_model.specs.declared.states.Body.TheVariants.{File, Dir, Semantic}
 use Rattle.hac_model.specs.declared.states.Entry.{Entry}
 use Rattle.hac_model.specs.declared.states.State.{State}
 use Rattle.hac_model.proofs.ChangeLemmas.{all-append, all-changed, all-filter, all-weaker, differ-append, differ-edited, differ-kept, differ-reseated, directory-changed, entry_at-kept, entry_at-other, is_kept, numbers-append, numbers-changed, numbers-kept, test-changed}
 use Rattle.hac_model.proofs.CountLemmas.{indexed-keeps, rewritten-keeps}
 use Rattle.hac_model.proofs.FittingLemmas.{IsFitting, fitting-layout, layout-fits}
-use Rattle.hac_model.proofs.MapLemmas.{KeepsMeasures, mapped-layout, measures-passed}
+use Rattle.hac_model.proofs.MapLemmas.{KeepsMeasures, measures-passed}
 use Rattle.hac_model.proofs.PathLemmas.{root-none}
 use Rattle.hac_model.proofs.TreeLemmas.{Lives, directory-lives, directory-no_leaf, entry_at-behind, entry_at-below, entry_at-first, place-directory, place-same, rise-below}
 

@@ -1,5 +1,5 @@
 -- How a state changes: entries come, change and go.
-use Rattle.std.specs.Prelude.{ℕ, Bool, true, false, ◌+◌, ◌==◌, not, if◌then◌else◌, List, [], ◌∷◌, ◌++◌, filter, map, nat_lt, Some}
+use Rattle.std.specs.Prelude.{ℕ, true, false, ◌+◌, ◌==◌, not, if◌then◌else◌, List, [], ◌∷◌, ◌++◌, filter, map, nat_lt, Some}
 use Rattle.hac_model.specs.Query.Formula.{Formula}
 use Rattle.hac_model.specs.declared.marks.Kind.{Kind}
 use Rattle.hac_model.specs.declared.marks.Kind.TheVariants.{Permanent, Prohibited}

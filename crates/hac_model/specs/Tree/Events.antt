@@ -1,5 +1,5 @@
 -- Which events happen, and what they do.
-use Rattle.std.specs.Prelude.{ℕ, Bool, true, false, ◌+◌, ◌==◌, ◌&&◌, ◌||◌, not, if◌then◌else◌, List, [], ◌∷◌, ◌++◌, length, drop, filter, map, nat_lt, Option, Some, None, is_some, is_none}
+use Rattle.std.specs.Prelude.{ℕ, Bool, true, false, ◌==◌, ◌&&◌, ◌||◌, not, if◌then◌else◌, List, [], ◌∷◌, ◌++◌, length, drop, Option, Some, None, is_some, is_none}
 use Rattle.std.specs.List.{list_all}
 use Rattle.std.specs.Option.{option_map_or}
 pub use Rattle.hac_model.specs.Tree.Changes.{added, asking, changed_at, changed_in, edited, forgetting, forgotten, indexed, marked, marking, plain_body, put_in, removed, reseated, rewritten, without}

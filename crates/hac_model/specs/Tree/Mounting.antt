@@ -6,7 +6,6 @@ use Rattle.std.specs.Str.{bytes_eq}
 use Rattle.hac_model.specs.Tree.Changes.{added, changed_at, edited}
 use Rattle.hac_model.specs.Tree.Links.{parent_of}
 use Rattle.hac_model.specs.Tree.Listing.{is_before}
-use Rattle.hac_model.specs.Tree.Mounts.{terms_to_ask}
 use Rattle.hac_model.specs.Tree.Names.{is_name}
 use Rattle.hac_model.specs.Tree.{child, entry_at, is_document, is_document_at}
 use Rattle.hac_model.specs.declared.limits.TheConstants.{DOCS_LIMIT}
