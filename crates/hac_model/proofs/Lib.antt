@@ -17,6 +17,7 @@ pub mod LayoutLemmas
 pub mod FittingLemmas
 pub mod MountLayoutLemmas
 pub mod TermLemmas
+pub mod ToldLemmas
 pub mod KeepingLemmas
 pub mod MountKeptLemmas
 pub mod StateSpellingLemmas

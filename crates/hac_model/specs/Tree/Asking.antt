@@ -1,0 +1,61 @@
+-- What mounts have to be asked for a query, and what they keep then. No event asks them so far: a query is accepted only
+-- where none has to be asked.
+use Rattle.std.specs.Prelude.{ℕ, Bool, ◌==◌, ◌&&◌, not, if◌then◌else◌, List, [], ◌∷◌, drop, filter, length, map, take}
+use Rattle.hac_model.specs.Query.Formula.{Formula}
+use Rattle.hac_model.specs.Query.Queries.{terms_of}
+use Rattle.hac_model.specs.Query.Terms.{is_term_before}
+use Rattle.hac_model.specs.Tree.Changes.{edited}
+use Rattle.hac_model.specs.Tree.Mounting.{answers_to, are_told}
+use Rattle.hac_model.specs.Tree.Mounts.{in_order, is_kept}
+use Rattle.hac_model.specs.declared.states.Answer.{Answer}
+use Rattle.hac_model.specs.declared.states.Body.{Body}
+use Rattle.hac_model.specs.declared.states.Body.TheVariants.{Mount}
+use Rattle.hac_model.specs.declared.states.Entry.{Entry}
+use Rattle.hac_model.specs.declared.states.State.{State}
+use Rattle.hac_model.specs.declared.terms.Term.{Term}
+
+-- the terms of a query for which no answer is among these, in order
+abbrev pub unanswered : Formula ℕ → List Answer → List Term
+unanswered query answers = filter (λ term. not (is_kept answers term)) (in_order (terms_of query))
+
+-- what an entry has to be asked for a query: a mount the terms for which it keeps no answer, and any other nothing
+abbrev pub asked_of : Formula ℕ → Body → List Term
+asked_of query (Mount space answers) = unanswered query answers
+asked_of query other = []
+
+-- an answer put into its place among answers whose terms rise
+abbrev pub put_answer : Answer → List Answer → List Answer
+put_answer new [] = new ∷ []
+put_answer new (answer ∷ answers) =
+    if is_term_before new.term answer.term then new ∷ answer ∷ answers else answer ∷ put_answer new answers
+
+-- answers with more of them
+abbrev pub with_answers : List Answer → List Answer → List Answer
+with_answers [] answers = answers
+with_answers (new ∷ more) answers = put_answer new (with_answers more answers)
+
+-- a mount keeps these answers too
+abbrev pub gaining : List Answer → Body → Body
+gaining more (Mount space answers) = Mount space (with_answers more answers)
+gaining more other = other
+
+-- What the mount of a number gains. The mounts were told in order of number: each one list for each term that it has to
+-- be asked for, in order.
+abbrev pub gained : Formula ℕ → List (List ℕ) → List Entry → ℕ → List Answer
+gained query told [] number = []
+gained query told (entry ∷ entries) number =
+    if entry.number == number then answers_to (asked_of query entry.body) told
+    else gained query (drop (length (asked_of query entry.body)) told) entries number
+
+-- the state in which each mount keeps what it was told for a query
+abbrev pub with_told : Formula ℕ → List (List ℕ) → State → State
+with_told query told s = record s {
+  entries = map (λ entry. edited (gaining (gained query told s.entries entry.number)) entry) s.entries;
+}
+
+-- each mount was told all that it has to be asked for the query, of its own documents, and nothing else was told
+abbrev pub are_all_told : State → Formula ℕ → List (List ℕ) → List Entry → Bool
+are_all_told s query told [] = length told == 0
+are_all_told s query told (entry ∷ entries) =
+    are_told s entry.number (asked_of query entry.body) (take (length (asked_of query entry.body)) told)
+    && are_all_told s query (drop (length (asked_of query entry.body)) told) entries
