@@ -56,6 +56,74 @@ pub same-own : (term : Term) → is_same_term term term ≡ true
 same-own (Word x) = (bytes_eq-Decides x x).1 refl
 same-own (Prefix x) = (bytes_eq-Decides x x).1 refl
 
+pub same-even : (a b : Term) → is_same_term a b ≡ true → a ≡ b
+same-even (Word x) (Word y) h = ap (λ (z : List ℕ). Word z) ((bytes_eq-Decides x y).0 h)
+same-even (Prefix x) (Prefix y) h = ap (λ (z : List ℕ). Prefix z) ((bytes_eq-Decides x y).0 h)
+same-even (Word x) (Prefix y) h = absurd cc
+same-even (Prefix x) (Word y) h = absurd cc
+
+-- no term comes before itself
+letters-irreflexive : (x : List ℕ) → is_lt (slice_cmp nat_cmp x x) ≡ false
+letters-irreflexive x = even (slice_cmp nat_cmp x x) (is_eq-slice_cmp x x ∙ (bytes_eq-Decides x x).1 refl)
+  where
+    even : (o : Ordering) → is_eq o ≡ true → is_lt o ≡ false
+    even Less h = absurd cc
+    even Equal h = refl
+    even Greater h = refl
+
+pub term-irreflexive : (a : Term) → is_term_before a a ≡ false
+term-irreflexive (Word x) = letters-irreflexive x
+term-irreflexive (Prefix x) = letters-irreflexive x
+
+less-from : (o : Ordering) → is_lt o ≡ true → o ≡ Less
+less-from Less h = refl
+less-from Equal h = absurd cc
+less-from Greater h = absurd cc
+
+letters-trans : (x y z : List ℕ) → is_lt (slice_cmp nat_cmp x y) ≡ true → is_lt (slice_cmp nat_cmp y z) ≡ true → is_lt (slice_cmp nat_cmp x z) ≡ true
+letters-trans x y z h k = ap is_lt (nat_list_cmp_total.trans x y z (less-from (slice_cmp nat_cmp x y) h) (less-from (slice_cmp nat_cmp y z) k))
+
+-- letters that don't come behind others are before them, or the same
+letters-cases : (x y : List ℕ) → is_le (slice_cmp nat_cmp x y) ≡ true → (is_lt (slice_cmp nat_cmp x y) ≡ true) ⊎ (x ≡ y)
+letters-cases x y h = cases (slice_cmp nat_cmp x y) (λ same. (bytes_eq-Decides x y).0 (sym (is_eq-slice_cmp x y) ∙ same)) h
+  where
+    cases : (o : Ordering) → (is_eq o ≡ true → x ≡ y) → is_le o ≡ true → (is_lt o ≡ true) ⊎ (x ≡ y)
+    cases Less even h = inl refl
+    cases Equal even h = inr (even refl)
+    cases Greater even h = absurd cc
+
+letters-le : (x y : List ℕ) → is_lt (slice_cmp nat_cmp x y) ≡ true → is_le (slice_cmp nat_cmp x y) ≡ true
+letters-le x y h = le (slice_cmp nat_cmp x y) h
+  where
+    le : (o : Ordering) → is_lt o ≡ true → is_le o ≡ true
+    le Less h = refl
+    le Equal h = absurd cc
+    le Greater h = absurd cc
+
+le-then : (x y z : List ℕ) → is_le (slice_cmp nat_cmp x y) ≡ true → is_lt (slice_cmp nat_cmp y z) ≡ true → is_lt (slice_cmp nat_cmp x z) ≡ true
+le-then x y z h k = by (letters-cases x y h)
+  where
+    by : (is_lt (slice_cmp nat_cmp x y) ≡ true) ⊎ (x ≡ y) → is_lt (slice_cmp nat_cmp x z) ≡ true
+    by (inl less) = letters-trans x y z less k
+    by (inr even) = ap (λ (w : List ℕ). is_lt (slice_cmp nat_cmp w z)) even ∙ k
+
+then-le : (x y z : List ℕ) → is_lt (slice_cmp nat_cmp x y) ≡ true → is_le (slice_cmp nat_cmp y z) ≡ true → is_lt (slice_cmp nat_cmp x z) ≡ true
+then-le x y z h k = by (letters-cases y z k)
+  where
+    by : (is_lt (slice_cmp nat_cmp y z) ≡ true) ⊎ (y ≡ z) → is_lt (slice_cmp nat_cmp x z) ≡ true
+    by (inl less) = letters-trans x y z h less
+    by (inr even) = ap (λ (w : List ℕ). is_lt (slice_cmp nat_cmp x w)) (sym even) ∙ h
+
+pub term-trans : (a b c : Term) → is_term_before a b ≡ true → is_term_before b c ≡ true → is_term_before a c ≡ true
+term-trans (Word x) (Word y) (Word z) h k = letters-trans x y z h k
+term-trans (Word x) (Word y) (Prefix z) h k = letters-le x z (then-le x y z h k)
+term-trans (Word x) (Prefix y) (Word z) h k = le-then x y z h k
+term-trans (Word x) (Prefix y) (Prefix z) h k = letters-le x z (le-then x y z h k)
+term-trans (Prefix x) (Word y) (Word z) h k = letters-trans x y z h k
+term-trans (Prefix x) (Word y) (Prefix z) h k = then-le x y z h k
+term-trans (Prefix x) (Prefix y) (Word z) h k = letters-trans x y z h k
+term-trans (Prefix x) (Prefix y) (Prefix z) h k = letters-trans x y z h k
+
 -- terms that rise, each coming after this one if there is one
 abbrev pub TermsChain : Option Term → List Term → Type 0
 TermsChain last [] = Unit {0}

@@ -1,26 +1,21 @@
 -- A state stays valid where its mounts keep what they were told for a query, and each then keeps an answer for each of
 -- the query's terms.
-use Rattle.std.proofs.Common.{◌≡◌, ℕ, ◌≤◌, Bool, true, false, List, [], ◌∷◌, length, map, subst, refl, ap, sym, ◌∙◌, arith, inl, inr}
-use Rattle.std.specs.Prelude.{◌⊎◌, ◌&&◌, ◌||◌, ◌==◌, not, drop, filter, take, if◌then◌else◌, Option, Some, None, IsTrue, is_some}
-use Rattle.std.specs.Option.{option_map, option_map_or}
-use Rattle.std.specs.List.{AllByRecursion, list_all, list_any}
-use Rattle.std.proofs.lemmas.Bool.{and_parts, eqb-true, ne_eqb, not-true}
+use Rattle.std.proofs.Common.{◌≡◌, ℕ, Bool, true, false, List, [], ◌∷◌, length, refl, ap, sym, ◌∙◌, inl, inr}
+use Rattle.std.specs.Prelude.{◌⊎◌, ◌||◌, not, filter, if◌then◌else◌, Option, Some, None, is_some}
+use Rattle.std.specs.Option.{option_map_or}
+use Rattle.std.specs.List.{AllByRecursion}
+use Rattle.std.proofs.lemmas.Bool.{not-true}
 use Rattle.hac_model.specs.Query.Formula.{Formula}
-use Rattle.hac_model.specs.Query.Queries.{is_askable, terms_of}
+use Rattle.hac_model.specs.Query.Queries.{terms_of}
 use Rattle.hac_model.specs.Query.Terms.{is_same_term, is_term_before}
-use Rattle.hac_model.specs.Tree.Asking.{are_all_told, asked_of, gained, gaining, put_answer, unanswered, with_answers, with_told}
-use Rattle.hac_model.specs.Tree.Events.{edited, may_ask}
-use Rattle.hac_model.specs.Tree.Mounting.{answers_to, are_told, is_document_of, is_told}
-use Rattle.hac_model.specs.Tree.Mounts.{in_order, is_kept, kept_for, terms_in, terms_in_use}
-use Rattle.hac_model.specs.Tree.Valid.{IsAnswer, IsSoundMount, IsValid, KeepsWell, TermsRise}
+use Rattle.hac_model.specs.Tree.Asking.{put_answer, unanswered, with_answers}
+use Rattle.hac_model.specs.Tree.Mounting.{answers_to}
+use Rattle.hac_model.specs.Tree.Mounts.{in_order, is_kept, kept_for}
+use Rattle.hac_model.specs.Tree.Valid.{TermsRise}
 use Rattle.hac_model.specs.declared.states.Answer.{Answer}
-use Rattle.hac_model.specs.declared.states.Body.{Body}
-use Rattle.hac_model.specs.declared.states.Body.TheVariants.{File, Dir, Symlink, Semantic, Mount, Document}
-use Rattle.hac_model.specs.declared.states.Entry.{Entry}
-use Rattle.hac_model.specs.declared.states.State.{State}
 use Rattle.hac_model.specs.declared.terms.Term.{Term}
 use Rattle.hac_model.proofs.ChangeLemmas.{all-weaker}
-use Rattle.hac_model.proofs.TermLemmas.{TermsChain, all-order, is_of, order-chain, order-of, query-askable, same-own, terms-even}
+use Rattle.hac_model.proofs.TermLemmas.{TermsChain, answers-kept, is_of, order-chain, order-of, same-even, same-own, term-irreflexive, term-trans, terms-even}
 
 -- An answer is put among others.
 
@@ -80,3 +75,157 @@ put-none new (first ∷ answers) term other none =
         | false ↦ (λ none. put-none new answers term other none)
       ] none
     ]
+
+-- Several answers are put among others.
+
+with-kept : (more answers : List Answer) (term : Term) → (is_kept more term || is_kept answers term) ≡ true → is_kept (with_answers more answers) term ≡ true
+with-kept [] answers term h = h
+with-kept (new ∷ more) answers term h =
+    put-kept new (with_answers more answers) term (either (with-kept more answers term))
+  where
+    either : ((is_kept more term || is_kept answers term) ≡ true → is_kept (with_answers more answers) term ≡ true) → (is_same_term new.term term || is_kept (with_answers more answers) term) ≡ true
+    either rest = elim (is_same_term new.term term) as (λ b. (is_some (if b then Some new.documents else kept_for more term) || is_kept answers term) ≡ true → (b || is_kept (with_answers more answers) term) ≡ true) [
+      | true ↦ (λ _. refl)
+      | false ↦ (λ h. rest h)
+    ] h
+
+with-all : (P : Answer → Type 0) (more answers : List Answer) → AllByRecursion P more → AllByRecursion P answers → AllByRecursion P (with_answers more answers)
+with-all P [] answers h k = k
+with-all P (new ∷ more) answers h k = put-all P new (with_answers more answers) h.0 (with-all P more answers h.1 k)
+
+with-none : (more answers : List Answer) (term : Term) → is_kept more term ≡ false → is_kept answers term ≡ false → is_kept (with_answers more answers) term ≡ false
+with-none [] answers term h k = k
+with-none (new ∷ more) answers term h k =
+    elim (is_same_term new.term term) as (λ b. is_same_term new.term term ≡ b → is_some (if b then Some new.documents else kept_for more term) ≡ false → is_kept (put_answer new (with_answers more answers)) term ≡ false) [
+      | true ↦ (λ _ h. absurd cc)
+      | false ↦ (λ other h. put-none new (with_answers more answers) term other (with-none more answers term h k))
+    ] refl h
+
+-- answers of which each has a term that those behind it don't have
+abbrev pub AnswersDiffer : List Answer → Type 0
+AnswersDiffer [] = Unit {0}
+AnswersDiffer (answer ∷ answers) = (is_kept answers answer.term ≡ false) × AnswersDiffer answers
+
+with-rise : (more answers : List Answer) → AnswersDiffer more → AllByRecursion (λ answer. is_kept answers answer.term ≡ false) more → TermsRise None answers → TermsRise None (with_answers more answers)
+with-rise [] answers differ none h = h
+with-rise (new ∷ more) answers differ none h =
+    put-rise None new (with_answers more answers) refl (with-none more answers new.term differ.0 none.0) (with-rise more answers differ.1 none.1 h)
+
+-- Terms of a query that aren't answered yet.
+
+-- terms of which none is among those behind it
+abbrev TermsDiffer : List Term → Type 0
+TermsDiffer [] = Unit {0}
+TermsDiffer (term ∷ terms) = (is_of terms term ≡ false) × TermsDiffer terms
+
+of-filter : (p : Term → Bool) (ts : List Term) (term : Term) → is_of ts term ≡ false → is_of (filter p ts) term ≡ false
+of-filter p [] term h = refl
+of-filter p (t ∷ ts) term h =
+    elim (is_same_term t term) as (λ b. is_same_term t term ≡ b → (b || is_of ts term) ≡ false → is_of (if p t then t ∷ filter p ts else filter p ts) term ≡ false) [
+      | true ↦ (λ _ h. absurd cc)
+      | false ↦ (λ other h. elim (p t) as (λ b. is_of (if b then t ∷ filter p ts else filter p ts) term ≡ false) [
+        | true ↦ ap (λ (b : Bool). b || is_of (filter p ts) term) other ∙ of-filter p ts term h
+        | false ↦ of-filter p ts term h
+      ])
+    ] refl h
+
+filter-differ : (p : Term → Bool) (ts : List Term) → TermsDiffer ts → TermsDiffer (filter p ts)
+filter-differ p [] h = tt
+filter-differ p (t ∷ ts) h = elim (p t) as (λ b. TermsDiffer (if b then t ∷ filter p ts else filter p ts)) [
+  | true ↦ (of-filter p ts t h.0, filter-differ p ts h.1)
+  | false ↦ filter-differ p ts h.1
+]
+
+-- a term that comes after this one, which rising terms come after, is none of them
+chain-none : (a : Term) (ts : List Term) (term : Term) → (is_term_before term a ≡ true) ⊎ (term ≡ a) → TermsChain (Some a) ts → is_of ts term ≡ false
+chain-none a [] term low h = refl
+chain-none a (t ∷ ts) term low h =
+    let less : is_term_before term t ≡ true = before low in
+    ap (λ (b : Bool). b || is_of ts term) (apart less) ∙ chain-none t ts term (inl less) h.1
+  where
+    before : (is_term_before term a ≡ true) ⊎ (term ≡ a) → is_term_before term t ≡ true
+    before (inl under) = term-trans term a t under h.0
+    before (inr even) = ap (λ (x : Term). is_term_before x t) even ∙ h.0
+
+    apart : is_term_before term t ≡ true → is_same_term t term ≡ false
+    apart less = elim (is_same_term t term) as (λ b. is_same_term t term ≡ b → b ≡ false) [
+      | false ↦ (λ _. refl)
+      | true ↦ (λ same. let even = same-even t term same in let never : true ≡ false = sym less ∙ ap (λ (x : Term). is_term_before x t) (sym even) ∙ term-irreflexive t in absurd cc)
+    ] refl
+
+chain-differ : (last : Option Term) (ts : List Term) → TermsChain last ts → TermsDiffer ts
+chain-differ last [] h = tt
+chain-differ last (t ∷ ts) h = (chain-none t ts t (inr refl) h.1, chain-differ (Some t) ts h.1)
+
+answers-none : (ts : List Term) (told : List (List ℕ)) (term : Term) → is_of ts term ≡ false → is_kept (answers_to ts told) term ≡ false
+answers-none [] told term h = refl
+answers-none (t ∷ ts) [] term h = refl
+answers-none (t ∷ ts) (numbers ∷ told) term h =
+    elim (is_same_term t term) as (λ b. (b || is_of ts term) ≡ false → is_some (if b then Some numbers else kept_for (answers_to ts told) term) ≡ false) [
+      | true ↦ (λ h. absurd cc)
+      | false ↦ (λ h. answers-none ts told term h)
+    ] h
+
+answers-differ : (ts : List Term) (told : List (List ℕ)) → TermsDiffer ts → AnswersDiffer (answers_to ts told)
+answers-differ [] told h = tt
+answers-differ (t ∷ ts) [] h = tt
+answers-differ (t ∷ ts) (numbers ∷ told) h = (answers-none ts told t h.0, answers-differ ts told h.1)
+
+-- each term that isn't answered yet isn't kept
+unanswered-none : (p : Term → Bool) (ts : List Term) → AllByRecursion (λ t. not (p t) ≡ true) (filter (λ t. not (p t)) ts)
+unanswered-none p [] = tt
+unanswered-none p (t ∷ ts) = elim (p t) as (λ b. p t ≡ b → AllByRecursion (λ t. not (p t) ≡ true) (if not b then t ∷ filter (λ t. not (p t)) ts else filter (λ t. not (p t)) ts)) [
+  | true ↦ (λ _. unanswered-none p ts)
+  | false ↦ (λ is. (ap not is, unanswered-none p ts))
+] refl
+
+told-none : (kept : List Answer) (ts : List Term) (told : List (List ℕ)) → AllByRecursion (λ t. not (is_kept kept t) ≡ true) ts → AllByRecursion (λ answer. is_kept kept answer.term ≡ false) (answers_to ts told)
+told-none kept [] told h = tt
+told-none kept (t ∷ ts) [] h = tt
+told-none kept (t ∷ ts) (numbers ∷ told) h = (not-true (is_kept kept t) h.0, told-none kept ts told h.1)
+
+-- the answers of a mount that was told what a query asks rise
+pub told-rise : (query : Formula ℕ) (answers : List Answer) (told : List (List ℕ)) → TermsRise None answers → TermsRise None (with_answers (answers_to (unanswered query answers) told) answers)
+told-rise query answers told h =
+    with-rise (answers_to (unanswered query answers) told) answers
+    (answers-differ (unanswered query answers) told (filter-differ (λ t. not (is_kept answers t)) (in_order (terms_of query)) (chain-differ None (in_order (terms_of query)) (order-chain (terms_of query)))))
+    (told-none answers (unanswered query answers) told (unanswered-none (is_kept answers) (in_order (terms_of query)))) h
+
+-- and are sound, and those that were kept stay
+pub told-sound : (P : Answer → Type 0) (query : Formula ℕ) (answers : List Answer) (told : List (List ℕ)) → AllByRecursion P (answers_to (unanswered query answers) told) → AllByRecursion P answers → AllByRecursion P (with_answers (answers_to (unanswered query answers) told) answers)
+told-sound P query answers told h k = with-all P (answers_to (unanswered query answers) told) answers h k
+
+or-right : (a b : Bool) → b ≡ true → (a || b) ≡ true
+or-right true b h = refl
+or-right false b h = h
+
+or-left : (a b : Bool) → a ≡ true → (a || b) ≡ true
+or-left true b h = refl
+or-left false b h = absurd cc
+
+pub told-still : (query : Formula ℕ) (answers : List Answer) (told : List (List ℕ)) (term : Term) → is_kept answers term ≡ true → is_kept (with_answers (answers_to (unanswered query answers) told) answers) term ≡ true
+told-still query answers told term h = with-kept (answers_to (unanswered query answers) told) answers term (or-right (is_kept (answers_to (unanswered query answers) told) term) (is_kept answers term) h)
+
+-- each term of the query has an answer then
+pub told-kept : (query : Formula ℕ) (answers : List Answer) (told : List (List ℕ)) → length told ≡ length (unanswered query answers) → AllByRecursion (λ term. is_kept (with_answers (answers_to (unanswered query answers) told) answers) term ≡ true) (terms_of query)
+told-kept query answers told even = all-weaker (λ term. is_of (in_order (terms_of query)) term ≡ true) (λ term. is_kept (with_answers (answers_to (unanswered query answers) told) answers) term ≡ true) (terms_of query) each (order-of (terms_of query))
+  where
+    left-of : (ts : List Term) (term : Term) → is_kept answers term ≡ false → is_of ts term ≡ true → is_of (filter (λ t. not (is_kept answers t)) ts) term ≡ true
+    left-of [] term none h = absurd cc
+    left-of (t ∷ ts) term none h =
+        elim (is_same_term t term) as (λ b. is_same_term t term ≡ b → (b || is_of ts term) ≡ true → is_of (if not (is_kept answers t) then t ∷ filter (λ t. not (is_kept answers t)) ts else filter (λ t. not (is_kept answers t)) ts) term ≡ true) [
+          | true ↦ (λ same _.
+              let even : t ≡ term = same-even t term same in
+              ap (λ (b : Bool). is_of (if not b then t ∷ filter (λ t. not (is_kept answers t)) ts else filter (λ t. not (is_kept answers t)) ts) term) (ap (is_kept answers) even ∙ none)
+              ∙ or-left (is_same_term t term) (is_of (filter (λ t. not (is_kept answers t)) ts) term) same)
+          | false ↦ (λ other h. elim (is_kept answers t) as (λ b. is_of (if not b then t ∷ filter (λ t. not (is_kept answers t)) ts else filter (λ t. not (is_kept answers t)) ts) term ≡ true) [
+            | true ↦ left-of ts term none h
+            | false ↦ or-right (is_same_term t term) (is_of (filter (λ t. not (is_kept answers t)) ts) term) (left-of ts term none h)
+          ])
+        ] refl h
+
+    each : (term : Term) → is_of (in_order (terms_of query)) term ≡ true → is_kept (with_answers (answers_to (unanswered query answers) told) answers) term ≡ true
+    each term inside = elim (is_kept answers term) as (λ b. is_kept answers term ≡ b → is_kept (with_answers (answers_to (unanswered query answers) told) answers) term ≡ true) [
+      | true ↦ (λ kept. told-still query answers told term kept)
+      | false ↦ (λ none. with-kept (answers_to (unanswered query answers) told) answers term (or-left (is_kept (answers_to (unanswered query answers) told) term) (is_kept answers term) (answers-kept (unanswered query answers) told term even (left-of (in_order (terms_of query)) term none inside))))
+    ] refl
