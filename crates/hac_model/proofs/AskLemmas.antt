@@ -5,7 +5,7 @@ use Rattle.hac_model.specs.Tree.Mounts.{terms_to_ask}
 use Rattle.hac_model.proofs.LayoutLemmas.{sumount-parts}
 use Rattle.hac_model.proofs.MountAskLemmas.{mounted-queries, synced-queries, unmounted-queries}
 use Rattle.std.proofs.Common.{◌≡◌, ℕ, Bool, true, false, List, [], ◌∷◌, ◌++◌, refl, ap, sym, ◌∙◌}
-use Rattle.std.specs.Prelude.{◌==◌, ◌||◌, not, filter, Option, Some, None, IsTrue}
+use Rattle.std.specs.Prelude.{◌==◌, not, filter, Option, Some, None, IsTrue}
 use Rattle.std.specs.Option.{option_map, option_map_or}
 use Rattle.std.specs.List.{AllByRecursion, list_all}
 use Rattle.std.proofs.lemmas.Bool.{and_parts, eqb-false, not-true}
@@ -24,10 +24,10 @@ use Rattle.hac_model.specs.declared.states.Body.{Body}
 use Rattle.hac_model.specs.declared.states.Body.TheVariants.{File, Dir, Symlink, Semantic}
 use Rattle.hac_model.specs.declared.states.Entry.{Entry}
 use Rattle.hac_model.specs.declared.states.State.{State}
-use Rattle.hac_model.proofs.ChangeLemmas.{all-append, all-changed, all-filter, all-weaker, directory-append, directory-changed, directory-kept, entry_at-append, entry_at-kept, is_kept, test-changed}
+use Rattle.hac_model.proofs.ChangeLemmas.{all-append, all-both, all-changed, all-filter, all-weaker, directory-append, directory-changed, directory-kept, entry_at-append, entry_at-kept, is_kept, or-right, test-changed}
 use Rattle.hac_model.proofs.CountLemmas.{indexed-keeps, keeps-linkable, rewritten-keeps}
 use Rattle.hac_model.proofs.MapLemmas.{all-map, directory-mapped, test-mapped}
-use Rattle.hac_model.proofs.MarkLemmas.{all-both, all-passes, forgetting-asks, marked-asks}
+use Rattle.hac_model.proofs.MarkLemmas.{all-passes, forgetting-asks, marked-asks}
 use Rattle.hac_model.proofs.PathLemmas.{root-none}
 use Rattle.hac_model.proofs.StayLemmas.{DirectoriesStay, ItemsStay, all-stay, ask-stays, marks-stay}
 use Rattle.hac_model.proofs.TreeLemmas.{directory-no_item, directory-no_leaf, file-leaf}
@@ -155,10 +155,6 @@ unreferenced-asks s dir e h made apart asks = body e.body (not-true (names_direc
   where
     there : is_directory_at s.entries dir ≡ true
     there = or-right (dir == 0) (is_made_directory s.entries dir) made
-      where
-        or-right : (a b : Bool) → b ≡ true → (a || b) ≡ true
-        or-right true b h = refl
-        or-right false b h = h
 
     item : ItemsStay s (removed s dir)
     item n linked = ap (λ (o : Option Entry). option_map_or is_linkable (option_map (λ (e : Entry). e.body) o) false) (entry_at-kept dir s.entries n (λ same. item-no_directory s n dir h linked there (sym same))) ∙ linked

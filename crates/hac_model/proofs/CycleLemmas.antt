@@ -1,6 +1,6 @@
 -- Which directories reach which, and how a state stays without one that depends on itself.
 use Rattle.std.proofs.Common.{◌≡◌, ℕ, zero, suc, ◌≤◌, Bool, true, false, cond, List, [], ◌∷◌, length, subst, refl, ap, sym, ◌∙◌, arith, eq-eqb, inl, inr}
-use Rattle.std.specs.Prelude.{◌⊎◌, ◌==◌, ◌||◌, Option, Some, None, option_and_then}
+use Rattle.std.specs.Prelude.{◌⊎◌, ◌==◌, Option, Some, None, option_and_then}
 use Rattle.std.specs.List.{list_any}
 use Rattle.std.specs.Option.{option_map, option_map_or}
 use Rattle.std.proofs.lemmas.Bool.{cases_eq, eqb-true}
@@ -10,18 +10,7 @@ use Rattle.hac_model.specs.Tree.{entry_at, query_in}
 use Rattle.hac_model.specs.declared.states.Entry.{Entry}
 use Rattle.hac_model.specs.declared.states.State.{State}
 use Rattle.hac_model.proofs.LinkLemmas.{Among-without, edge-among, length-without, semantic-length, semantic_numbers, without}
-
-or-left : (a b : Bool) → a ≡ true → (a || b) ≡ true
-or-left true b h = refl
-or-left false b h = absurd cc
-
-or-right : (a b : Bool) → b ≡ true → (a || b) ≡ true
-or-right true b h = refl
-or-right false b h = h
-
-or-cases : (a b : Bool) → (a || b) ≡ true → (a ≡ true) ⊎ (b ≡ true)
-or-cases true b h = inl refl
-or-cases false b h = inr h
+use Rattle.hac_model.proofs.ChangeLemmas.{or-cases, or-left, or-right}
 
 -- a test that a member passes is passed by some member
 pub any-among : (test : ℕ → Bool) (xs : List ℕ) (n : ℕ) → Among xs n → test n ≡ true → list_any test xs ≡ true

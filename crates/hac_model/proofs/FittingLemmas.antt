@@ -1,5 +1,5 @@
 -- Entries that fit one another, limits aside: what holds on the way from one tree to another.
-use Rattle.std.proofs.Common.{◌≡◌, ℕ, Bool, true, false, List, [], ◌∷◌, ◌++◌, refl, ap, sym, ◌∙◌, inl, inr, arith}
+use Rattle.std.proofs.Common.{◌≡◌, ℕ, Bool, true, false, List, [], ◌∷◌, refl, ap, sym, ◌∙◌, inl, inr, arith}
 use Rattle.std.specs.Prelude.{◌||◌, not, filter, map, if◌then◌else◌, Option, Some, None, IsTrue}
 use Rattle.std.specs.Option.{option_map, option_map_or}
 use Rattle.std.specs.List.{AllByRecursion}
@@ -13,7 +13,7 @@ use Rattle.hac_model.specs.Tree.Valid.{IsLayout, IsSound, NamesDiffer, NumbersRi
 use Rattle.hac_model.specs.declared.states.Body.{Body}
 use Rattle.hac_model.specs.declared.states.Entry.{Entry}
 use Rattle.hac_model.specs.declared.states.State.{State}
-use Rattle.hac_model.proofs.ChangeLemmas.{all-weaker, differ-filter, entry_at-filter, entry_at-none, numbers-filter}
+use Rattle.hac_model.proofs.ChangeLemmas.{all-both, all-weaker, differ-filter, entry_at-filter, entry_at-none, numbers-filter}
 use Rattle.hac_model.proofs.MapLemmas.{all-map, differ-mapped, mapped, numbers-mapped, place-mapped}
 use Rattle.hac_model.proofs.TreeLemmas.{Lives, all-entries, directory-lives, entry_at-low, place-directory, place-same}
 
@@ -37,14 +37,6 @@ all-passed P p (x ∷ xs) h = elim (p x) as (λ b. p x ≡ b → AllByRecursion 
   | true ↦ (λ passes. (h.0 passes, all-passed P p xs h.1))
   | false ↦ (λ _. all-passed P p xs h.1)
 ] refl
-
-pub all-both : {X : Type 0} (P Q R : X → Type 0) (xs : List X) → ((x : X) → P x → Q x → R x) → AllByRecursion P xs → AllByRecursion Q xs → AllByRecursion R xs
-all-both P Q R [] f h k = tt
-all-both P Q R (x ∷ xs) f h k = (f x h.0 k.0, all-both P Q R xs f h.1 k.1)
-
-pub all-joined : {X : Type 0} (P : X → Type 0) (xs ys : List X) → AllByRecursion P xs → AllByRecursion P ys → AllByRecursion P (xs ++ ys)
-all-joined P [] ys h k = k
-all-joined P (x ∷ xs) ys h k = (h.0, all-joined P xs ys h.1 k)
 
 -- Bodies are edited.
 

@@ -15,6 +15,7 @@ pub mod CountLemmas
 pub mod ValidLemmas
 pub mod LayoutLemmas
 pub mod FittingLemmas
+pub mod SuchLemmas
 pub mod MountLayoutLemmas
 pub mod TermLemmas
 pub mod ToldLemmas

@@ -13,6 +13,7 @@ use Rattle.hac_model.specs.declared.states.State.{State}
 use Rattle.hac_model.proofs.LinkLemmas.{links-fixed}
 use Rattle.hac_model.proofs.MarkLemmas.{has-filter}
 use Rattle.hac_model.proofs.TreeLemmas.{entry_at-next}
+use Rattle.hac_model.proofs.ChangeLemmas.{or-right}
 
 -- conditions that agree on the members keep the same
 pub filter-agree : (p q : ℕ → Bool) (xs : List ℕ) → ((x : ℕ) → has xs x ≡ true → p x ≡ q x) → filter p xs ≡ filter q xs
@@ -21,10 +22,6 @@ filter-agree p q (y ∷ xs) same =
     let here : p y ≡ q y = same y (ap (λ (b : Bool). b || has xs y) (eq-eqb y y refl)) in
     let rest : filter p xs ≡ filter q xs = filter-agree p q xs (λ x inside. same x (or-right (y == x) (has xs x) inside)) in
     ap (λ (b : Bool). cond b (y ∷ filter p xs) (filter p xs)) here ∙ ap (λ (zs : List ℕ). cond (q y) (y ∷ zs) zs) rest
-  where
-    or-right : (a b : Bool) → b ≡ true → (a || b) ≡ true
-    or-right true b h = refl
-    or-right false b h = h
 
 filter-kept : (q : ℕ → Bool) (xs : List ℕ) → filter (λ x. has (filter q xs) x) xs ≡ filter q xs
 filter-kept q xs = filter-agree (λ x. has (filter q xs) x) q xs (λ x inside. has-filter q xs x ∙ ap (λ (b : Bool). q x && b) inside ∙ and-true (q x))
@@ -71,10 +68,6 @@ has-range a (suc n) x low high =
       | inl same ↦ ap (λ (b : Bool). b || has (range_with_len (a + 1) n) x) (eq-eqb a x same)
       | inr other ↦ or-right (a == x) (has (range_with_len (a + 1) n) x) (has-range (a + 1) n x (omega arith) (omega arith))
     ]
-  where
-    or-right : (p q : Bool) → q ≡ true → (p || q) ≡ true
-    or-right true q h = refl
-    or-right false q h = h
 
 -- an item is among them
 pub item-listed : (s : State) (item : ℕ) → IsLayout s → is_item s item ≡ true → has (items s) item ≡ true

@@ -11,7 +11,7 @@ use Rattle.hac_model.specs.declared.marks.Kind.TheVariants.{Transient, Permanent
 use Rattle.hac_model.specs.declared.states.Body.{Body}
 use Rattle.hac_model.specs.declared.states.Body.TheVariants.{Semantic}
 use Rattle.hac_model.specs.declared.states.State.{State}
-use Rattle.hac_model.proofs.ChangeLemmas.{all-filter, all-weaker}
+use Rattle.hac_model.proofs.ChangeLemmas.{all-both, all-filter, all-weaker}
 
 -- what is kept was there and passes
 pub has-filter : (p : ℕ → Bool) (xs : List ℕ) (x : ℕ) → has (filter p xs) x ≡ (p x && has xs x)
@@ -70,10 +70,6 @@ all-passes p (x ∷ xs) = elim (p x) as (λ b. p x ≡ b → AllByRecursion (λ 
 ] refl
 
 -- what holds of all in two ways holds in both
-pub all-both : {X : Type 0} (P Q R : X → Type 0) (xs : List X) → ((x : X) → P x → Q x → R x) → AllByRecursion P xs → AllByRecursion Q xs → AllByRecursion R xs
-all-both P Q R [] f h k = tt
-all-both P Q R (x ∷ xs) f h k = (f x h.0 k.0, all-both P Q R xs f h.1 k.1)
-
 rise-lower : (low bound : ℕ) (xs : List ℕ) → low ≤ bound → RiseFrom bound xs → RiseFrom low xs
 rise-lower low bound [] less h = tt
 rise-lower low bound (x ∷ xs) less h = let first : bound ≤ x = h.0 in (omega arith, h.1)

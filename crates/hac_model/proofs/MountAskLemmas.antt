@@ -18,12 +18,13 @@ use Rattle.hac_model.specs.declared.states.Body.TheVariants.{Semantic, Mount}
 use Rattle.hac_model.specs.declared.states.Entry.{Entry}
 use Rattle.hac_model.specs.declared.states.Session.{Session}
 use Rattle.hac_model.specs.declared.states.State.{State}
-use Rattle.hac_model.proofs.ChangeLemmas.{all-changed, all-filter, all-joined, all-weaker, directory-changed, test-changed}
+use Rattle.hac_model.proofs.ChangeLemmas.{all-both, all-changed, all-filter, all-joined, all-weaker, directory-changed, test-changed}
 use Rattle.hac_model.proofs.MapLemmas.{all-map, test-mapped}
-use Rattle.hac_model.proofs.MarkLemmas.{all-both, all-passes, has-filter, rise-filter}
+use Rattle.hac_model.proofs.MarkLemmas.{all-passes, has-filter, rise-filter}
 use Rattle.hac_model.proofs.PathLemmas.{root-none}
 use Rattle.hac_model.proofs.StayLemmas.{DirectoriesStay, ItemsStay, all-stay, ask-stays, sessions-stay, sessions-there}
 use Rattle.hac_model.proofs.TreeLemmas.{directory-no_item, entry_at-all, entry_at-cases, entry_at-low, entry_at-number}
+use Rattle.hac_model.proofs.SuchLemmas.{such-directory, such-item}
 
 -- Entries come that ask nothing.
 
@@ -115,14 +116,6 @@ entry_at-stays test s n h other =
     ] other)
 
 -- a body keeps its kind where marks go
-such-directory : (gone : ℕ → Bool) (body : Body) → is_directory (forgetting_such gone body) ≡ is_directory body
-such-directory gone (Semantic query permanent prohibited) = refl
-such-directory gone other = refl
-
-such-item : (gone : ℕ → Bool) (body : Body) → is_linkable (forgetting_such gone body) ≡ is_linkable body
-such-item gone (Semantic query permanent prohibited) = refl
-such-item gone other = refl
-
 -- the query of a body names no directory that goes
 abbrev pub NamesLeft : (Entry → Bool) → State → Body → Type 0
 NamesLeft test s body = (d : ℕ) → option_map_or (λ query. has (named_in query) d) (query_in body) false ≡ true → is_directory_at s.entries d ≡ true → is_such_at test s.entries d ≡ false

@@ -20,8 +20,8 @@ use Rattle.hac_model.specs.declared.states.Body.TheVariants.{File, Dir, Symlink,
 use Rattle.hac_model.specs.declared.states.Entry.{Entry}
 use Rattle.hac_model.specs.declared.states.State.{State}
 use Rattle.hac_model.specs.declared.terms.Term.{Term}
-use Rattle.hac_model.proofs.ChangeLemmas.{all-append, all-changed, all-filter, all-weaker, entry_at-append, entry_at-changed, first_apart, touched}
-use Rattle.hac_model.proofs.FittingLemmas.{all-joined, all-passed}
+use Rattle.hac_model.proofs.ChangeLemmas.{all-append, all-changed, all-filter, all-joined, all-weaker, entry_at-append, entry_at-changed, first_apart, or-right, touched}
+use Rattle.hac_model.proofs.FittingLemmas.{all-passed}
 use Rattle.hac_model.proofs.KeepingLemmas.{AreKept, EachKept, all-kept, document-entry, document_by, each-kept, inside, inside-mapped, same-document}
 use Rattle.hac_model.proofs.MapLemmas.{all-map, entry_at-mapped}
 use Rattle.hac_model.proofs.MountAskLemmas.{entry_at-filter, passing}
@@ -29,6 +29,7 @@ use Rattle.hac_model.proofs.MountLayoutLemmas.{all-documents, all-tested, entry_
 use Rattle.hac_model.proofs.TermLemmas.{all-order, answers-rise, asked-kept, in_use-askable, order-chain}
 use Rattle.hac_model.proofs.TreeLemmas.{all-entries, entry_at-all, entry_at-below, entry_at-number, place-directory}
 use Rattle.hac_model.proofs.ValidLemmas.{directory-below, free-parts}
+use Rattle.hac_model.proofs.SuchLemmas.{such-document, such-terms}
 
 -- What is found where entries come.
 
@@ -293,20 +294,8 @@ all-self (name ∷ names) = (
   ap (λ (b : Bool). b || is_among names name) ((bytes_eq-Decides name name).1 refl),
   all-weaker (λ other. is_among names other ≡ true) (λ other. is_among (name ∷ names) other ≡ true) names (λ other inside. or-right (bytes_eq other name) (is_among names other) inside) (all-self names),
 )
-  where
-    or-right : (a b : Bool) → b ≡ true → (a || b) ≡ true
-    or-right true b h = refl
-    or-right false b h = h
 
 -- Entries go.
-
-such-terms : (test : ℕ → Bool) (body : Body) → terms_in (forgetting_such test body) ≡ terms_in body
-such-terms test (Semantic query permanent prohibited) = refl
-such-terms test other = refl
-
-such-kind : (test : ℕ → Bool) (body : Body) → is_document (forgetting_such test body) ≡ is_document body
-such-kind test (Semantic query permanent prohibited) = refl
-such-kind test other = refl
 
 -- what keeps answers kept them before
 such-mounts : (test : ℕ → Bool) (body : Body) (space : List ℕ) (answers : List Answer) → forgetting_such test body ≡ Mount space answers → body ≡ Mount space answers
@@ -369,7 +358,7 @@ module _ (s : State) (mount : ℕ) (h : IsValid s) (there : is_mount_at s.entrie
   unmounted-documents : (m k : ℕ) → (m == mount) ≡ false → is_document_of s m k ≡ true → is_document_of (unmounted s mount) m k ≡ true
   unmounted-documents m k other is =
       ap (document_by m) (cleared-found (is_of_mount mount) s h k d found.1 (ap (λ (b : Bool). b || d.parent == mount) apart-number ∙ apart-parent))
-      ∙ ap (λ (b : Bool). b && (d.parent == m)) (such-kind (is_such_at (is_of_mount mount) s.entries) d.body)
+      ∙ ap (λ (b : Bool). b && (d.parent == m)) (such-document (is_such_at (is_of_mount mount) s.entries) d.body)
       ∙ sym (ap (document_by m) found.1) ∙ is
     where
       found : (e : Entry) × (entry_at s.entries k ≡ Some e) × (is_document e.body ≡ true)
@@ -460,7 +449,7 @@ module _ (s : State) (mount : ℕ) (told : List (List ℕ)) (documents : List (L
   synced-documents m k other is =
       ap (document_by m) (synced-at k ∙ ap (option_map (touched mount (edited (keeping synced-answers)))) (entry_at-documents (cleared gone s).entries s.next mount k (fresh s mount documents) low ∙ cleared-found gone s h k d found.1 stays))
       ∙ touched-document (edited forget d)
-      ∙ ap (λ (b : Bool). b && (d.parent == m)) (such-kind (is_such_at gone s.entries) d.body)
+      ∙ ap (λ (b : Bool). b && (d.parent == m)) (such-document (is_such_at gone s.entries) d.body)
       ∙ sym (ap (document_by m) found.1) ∙ is
     where
       found : (e : Entry) × (entry_at s.entries k ≡ Some e) × (is_document e.body ≡ true)

@@ -22,11 +22,12 @@ use Rattle.hac_model.specs.declared.states.Body.{Body}
 use Rattle.hac_model.specs.declared.states.Body.TheVariants.{File, Dir, Symlink, Semantic, Mount, Document}
 use Rattle.hac_model.specs.declared.states.Entry.{Entry}
 use Rattle.hac_model.specs.declared.states.State.{State}
-use Rattle.hac_model.proofs.ChangeLemmas.{all-filter, all-weaker, apart, child-filter, entry_at-filter, entry_at-new, first_apart}
-use Rattle.hac_model.proofs.FittingLemmas.{IsFitting, LeavesDirectories, all-joined, fitting-layout, layout-fits, mapped-fits, without-fits}
+use Rattle.hac_model.proofs.ChangeLemmas.{all-filter, all-joined, all-weaker, apart, child-filter, entry_at-filter, entry_at-new, first_apart, or-right}
+use Rattle.hac_model.proofs.FittingLemmas.{IsFitting, LeavesDirectories, fitting-layout, layout-fits, mapped-fits, without-fits}
 use Rattle.hac_model.proofs.MapLemmas.{child-mapped, test-mapped}
 use Rattle.hac_model.proofs.TreeLemmas.{Lives, directory-lives, entry_at-all, entry_at-below, entry_at-next, entry_at-number, place-directory, place-same}
 use Rattle.hac_model.proofs.ValidLemmas.{KeepsPlaces, added-fits, edited-fits, free-parts, none_from}
+use Rattle.hac_model.proofs.SuchLemmas.{such-directory, such-document, such-mount, such-sound}
 
 -- Names of documents.
 
@@ -179,22 +180,6 @@ with_documents-fits s mount names h there named rise free = record {
 
 -- Edits of bodies.
 
-pub such-directory : (test : ℕ → Bool) (body : Body) → is_directory (forgetting_such test body) ≡ is_directory body
-such-directory test (Semantic query permanent prohibited) = refl
-such-directory test other = refl
-
-pub such-mount : (test : ℕ → Bool) (body : Body) → is_mount (forgetting_such test body) ≡ is_mount body
-such-mount test (Semantic query permanent prohibited) = refl
-such-mount test other = refl
-
-pub such-document : (test : ℕ → Bool) (body : Body) → is_document (forgetting_such test body) ≡ is_document body
-such-document test (Semantic query permanent prohibited) = refl
-such-document test other = refl
-
-such-sound : (test : ℕ → Bool) (body : Body) → IsSound body → IsSound (forgetting_such test body)
-such-sound test (Semantic query permanent prohibited) h = tt
-such-sound test other h = h
-
 pub keeping-places : (answers : List Answer) → KeepsPlaces (keeping answers)
 keeping-places answers = record { directories = directories; mounts = mounts; documents = documents }
   where
@@ -250,10 +235,6 @@ of_mount-stays s mount h there e x found left is kind = elim (x.number == mount)
   ] refl)
 ] refl
   where
-    or-right : (a b : Bool) → b ≡ true → (a || b) ≡ true
-    or-right true b h = refl
-    or-right false b h = h
-
     -- what is a directory stands in a holder
     holder : x.parent ≡ mount → not (is_mount_at s.entries mount) ≡ true
     holder inside =

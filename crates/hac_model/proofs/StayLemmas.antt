@@ -16,7 +16,7 @@ use Rattle.hac_model.specs.declared.states.Body.{Body}
 use Rattle.hac_model.specs.declared.states.Body.TheVariants.{Semantic}
 use Rattle.hac_model.specs.declared.states.Session.{Session}
 use Rattle.hac_model.specs.declared.states.State.{State}
-use Rattle.hac_model.proofs.ChangeLemmas.{all-weaker}
+use Rattle.hac_model.proofs.ChangeLemmas.{all-weaker, or-right}
 
 -- the directories of one state are directories of another
 abbrev pub DirectoriesStay : State → State → Type 0
@@ -33,10 +33,6 @@ directories-stay s t (d ∷ ds) stay h =
     and_from (is_directory_at t.entries d) (are_directories t ds)
     (stay d (ap (λ (b : Bool). b || has ds d) (eq-eqb d d refl)) parts.0)
     (directories-stay s t ds (λ e inside. stay e (or-right (d == e) (has ds e) inside)) parts.1)
-  where
-    or-right : (a b : Bool) → b ≡ true → (a || b) ≡ true
-    or-right true b h = refl
-    or-right false b h = h
 
 -- a query may be asked where the directories that it names stay
 pub ask-stays : (s t : State) (query : Formula ℕ) → ((d : ℕ) → has (named_in query) d ≡ true → is_directory_at s.entries d ≡ true → is_directory_at t.entries d ≡ true) → may_ask s query ≡ true → may_ask t query ≡ true

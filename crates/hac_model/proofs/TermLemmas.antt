@@ -25,7 +25,7 @@ use Rattle.hac_model.specs.declared.states.Entry.{Entry}
 use Rattle.hac_model.specs.declared.states.State.{State}
 use Rattle.hac_model.specs.declared.terms.Term.{Term}
 use Rattle.hac_model.specs.declared.terms.Term.TheVariants.{Word, Prefix}
-use Rattle.hac_model.proofs.FittingLemmas.{all-joined}
+use Rattle.hac_model.proofs.ChangeLemmas.{all-joined, or-cases, or-left, or-right}
 
 -- The order of terms.
 
@@ -162,18 +162,6 @@ all-order P (t ∷ ts) h = all-put P t (in_order ts) h.0 (all-order P ts h.1)
 -- the term is one of these
 abbrev pub is_of : List Term → Term → Bool
 is_of terms term = list_any (λ other. is_same_term other term) terms
-
-or-left : (a b : Bool) → a ≡ true → (a || b) ≡ true
-or-left true b h = refl
-or-left false b h = absurd cc
-
-or-right : (a b : Bool) → b ≡ true → (a || b) ≡ true
-or-right true b h = refl
-or-right false b h = h
-
-or-cases : (a b : Bool) → (a || b) ≡ true → (a ≡ true) ⊎ (b ≡ true)
-or-cases true b h = inl refl
-or-cases false b h = inr h
 
 -- what is put is among the terms, and so is what was among them
 put-of : (a : Term) (ts : List Term) (term : Term) → (is_same_term a term || is_of ts term) ≡ true → is_of (put_term a ts) term ≡ true

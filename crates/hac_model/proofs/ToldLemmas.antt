@@ -14,7 +14,7 @@ use Rattle.hac_model.specs.Tree.Mounts.{in_order, is_kept, kept_for}
 use Rattle.hac_model.specs.Tree.Valid.{TermsRise}
 use Rattle.hac_model.specs.declared.states.Answer.{Answer}
 use Rattle.hac_model.specs.declared.terms.Term.{Term}
-use Rattle.hac_model.proofs.ChangeLemmas.{all-weaker}
+use Rattle.hac_model.proofs.ChangeLemmas.{all-weaker, or-left, or-right}
 use Rattle.hac_model.proofs.TermLemmas.{TermsChain, answers-kept, is_of, order-chain, order-of, same-even, same-own, term-irreflexive, term-trans, terms-even}
 
 -- An answer is put among others.
@@ -194,14 +194,6 @@ told-rise query answers told h =
 -- and are sound, and those that were kept stay
 pub told-sound : (P : Answer → Type 0) (query : Formula ℕ) (answers : List Answer) (told : List (List ℕ)) → AllByRecursion P (answers_to (unanswered query answers) told) → AllByRecursion P answers → AllByRecursion P (with_answers (answers_to (unanswered query answers) told) answers)
 told-sound P query answers told h k = with-all P (answers_to (unanswered query answers) told) answers h k
-
-or-right : (a b : Bool) → b ≡ true → (a || b) ≡ true
-or-right true b h = refl
-or-right false b h = h
-
-or-left : (a b : Bool) → a ≡ true → (a || b) ≡ true
-or-left true b h = refl
-or-left false b h = absurd cc
 
 pub told-still : (query : Formula ℕ) (answers : List Answer) (told : List (List ℕ)) (term : Term) → is_kept answers term ≡ true → is_kept (with_answers (answers_to (unanswered query answers) told) answers) term ≡ true
 told-still query answers told term h = with-kept (answers_to (unanswered query answers) told) answers term (or-right (is_kept (answers_to (unanswered query answers) told) term) (is_kept answers term) h)

@@ -11,6 +11,7 @@ use Rattle.hac_model.specs.Tree.Valid.{NamesDiffer, NumbersRise, is_in_place}
 use Rattle.hac_model.specs.declared.states.Body.{Body}
 use Rattle.hac_model.specs.declared.states.Body.TheVariants.{File, Dir, Symlink, Semantic, Mount, Document}
 use Rattle.hac_model.specs.declared.states.Entry.{Entry}
+use Rattle.hac_model.proofs.ChangeLemmas.{or-right}
 
 -- the root, or an entry
 abbrev pub Lives : List Entry → ℕ → Type 0
@@ -223,10 +224,6 @@ mount-directory es d h = or-right (d == 0) (is_made_directory es d) (elim (entry
   | Some e ↦ (λ h. body e.body h)
 ] h)
   where
-    or-right : (a b : Bool) → b ≡ true → (a || b) ≡ true
-    or-right true b h = refl
-    or-right false b h = h
-
     body : (b : Body) → is_mount b ≡ true → is_directory b ≡ true
     body (Mount space answers) h = refl
     body (File text dirty shown) h = absurd cc
