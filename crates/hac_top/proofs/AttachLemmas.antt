@@ -1,6 +1,6 @@
 -- Spaces attached one after the other.
-use Rattle.std.proofs.Common.{◌≡◌, ◌∙◌, ⊥, ℕ, ◌+◌, ◌<◌, ◌≤◌, Bool, true, false, List, [], ◌∷◌, ◌++◌, length, map, take, drop, get_or, Option, None, Some, Ok, Err, refl, sym, ap, ap₂, subst, append_assoc, append-nil, arith}
-use Rattle.std.specs.Prelude.{◌||◌, ◌&&◌, not, if◌then◌else◌, is_ok, nat_le, Result, Unit}
+use Rattle.std.proofs.Common.{◌≡◌, ◌∙◌, ℕ, ◌+◌, ◌<◌, ◌≤◌, Bool, true, false, List, [], ◌∷◌, ◌++◌, length, map, take, drop, get_or, Option, None, Some, Ok, Err, refl, sym, ap, ap₂, subst, append_assoc, append-nil, arith}
+use Rattle.std.specs.Prelude.{◌||◌, ◌&&◌, not, if◌then◌else◌, is_ok, nat_le, Result}
 use Rattle.std.specs.List.{AllByRecursion, list_any}
 use Rattle.std.specs.Map.{lookup}
 use Rattle.std.specs.Option.{option_and_then, option_map}
@@ -15,7 +15,7 @@ use Rattle.sem_mounts.specs.Seen.{Attaches, Contents, CountsFault, Refuses, Spac
 use Rattle.sem_mounts.specs.declared.faults.AttachFault.{AttachFault}
 use Rattle.sem_mounts.specs.declared.faults.AttachFault.TheVariants as attach
 use Rattle.hac_top.specs.Ends.{is_bad_space}
-use Rattle.hac_top.specs.Spaces.{AttachesAll, AttachesUpTo, CanAttach, HasAttached, IsCatalogue, StopsAttaching, attach_status, names_of}
+use Rattle.hac_top.specs.Spaces.{AttachesAll, AttachesUpTo, CanAttach, HasAttached, IsCatalogue, StopsAttaching, attach_status, names_of, said_by_documents, said_by_file}
 use Rattle.hac_top.specs.Words.{space_asked, spaces_asked}
 use Rattle.hac_top.specs.declared.status.Status.{Status}
 use Rattle.hac_top.specs.declared.words.SpaceFile.{SpaceFile}
@@ -42,21 +42,26 @@ attached-none spaces = record {
 says-same : (old now : Contents) (file : List ℕ) → now.files ≡ old.files → file_says now file ≡ file_says old file
 says-same old now file same = ap (λ (files : List (List ℕ × List ℕ)). option_map catalogue (lookup (bytes_eq file) files)) same
 
+abbrev Said : Type 0
+Said = List ℕ × Option (Result (List Document) ℕ)
+
+abbrev one_said : List ℕ → Option (Result (List Document) ℕ) → List Said
+one_said name said = (name, said) ∷ []
+
 -- one space more
 all-grown : (front : List Space) (name file : List ℕ) (old now new : Contents) → AttachesAll front old now → Attaches {A = Unit {0}} name file (Ok tt) now new → AttachesAll (front ++ (name, file) ∷ []) old new
 all-grown front name file old now new all one = record {
   added = all.added ++ (name, one.0) ∷ [];
   catalogues =
-      map-append (λ (space : Space). (space.0, file_says old space.1)) front ((name, file) ∷ [])
-      ∙ ap₂ (λ (xs ys : List (List ℕ × Option (Result (List Document) ℕ))). xs ++ ys) all.catalogues
-      (ap (λ (said : Option (Result (List Document) ℕ)). (name, said) ∷ []) (sym (says-same old now file all.files_are) ∙ one.1.0))
-      ∙ sym (map-append (λ (space : List ℕ × List Document). (space.0, Some (Ok space.1))) all.added ((name, one.0) ∷ []));
-  files_are = ap (λ (c : Contents). c.files) one.1.1 ∙ all.files_are;
+      map-append (said_by_file old) front ((name, file) ∷ [])
+      ∙ ap₂ (λ (xs ys : List Said). xs ++ ys) all.catalogues (ap (λ (said : Option (Result (List Document) ℕ)). one_said name said) (sym (says-same old now file all.files_are) ∙ one.1))
+      ∙ sym (map-append said_by_documents all.added ((name, one.0) ∷ []));
+  files_are = ap (λ (c : Contents). c.files) one.2 ∙ all.files_are;
   spaces_are =
-      ap (λ (c : Contents). c.spaces) one.1.1 ∙ ap (λ (xs : List (List ℕ × List Document)). xs ++ (name, one.0) ∷ []) all.spaces_are
+      ap (λ (c : Contents). c.spaces) one.2 ∙ ap (λ (xs : List (List ℕ × List Document)). xs ++ (name, one.0) ∷ []) all.spaces_are
       ∙ append_assoc old.spaces all.added ((name, one.0) ∷ []);
   calls_are =
-      ap (λ (c : Contents). c.calls) one.1.1 ∙ ap (λ (xs : List Space). xs ++ (name, file) ∷ []) all.calls_are
+      ap (λ (c : Contents). c.calls) one.2 ∙ ap (λ (xs : List Space). xs ++ (name, file) ∷ []) all.calls_are
       ∙ append_assoc old.calls front ((name, file) ∷ []);
 }
 
@@ -154,7 +159,7 @@ known-stopped : (front : List Space) (space : Space) (fault : AttachFault) (old 
 known-stopped front space fault None now new all one = tt
 known-stopped front space fault (Some old) None new all one = absurd all
 known-stopped front space fault (Some old) (Some now) None all one = absurd one
-known-stopped front space fault (Some old) (Some now) (Some new) all one = (now, (all, one))
+known-stopped front space fault (Some old) (Some now) (Some new) all one = (now, all, one)
 
 -- it couldn't be
 pub attach-stops : (files : List SpaceFile) (i : ℕ) (file : SpaceFile) → i < length files → file ≡ get_or files i file → (old now new : SpacesSeen) → HasAttached (spaces_asked (take i files)) old now →
@@ -218,7 +223,7 @@ no-bad-line : (front : List Space) (space : Space) (line : ℕ) (old new : Optio
 no-bad-line front space line None new known documents is = cc
 no-bad-line front space line (Some old) None known documents is = known
 no-bad-line front space line (Some old) (Some new) known documents is =
-    let says : file_says old space.1 ≡ Some (Err line) = sym (says-same old known.0 space.1 known.1.0.files_are) ∙ known.1.1.0 in
+    let says : file_says old space.1 ≡ Some (Err line) = sym (says-same old known.0 space.1 known.1.files_are) ∙ known.2.0 in
     let never : Some (Ok documents) ≡ Some (Err line) = sym is ∙ says in
     cc
 

@@ -1,6 +1,6 @@
 -- How a run ends that comes to no store, as a space can't be attached; and what it leaves where it comes to one.
-use Rattle.std.proofs.Common.{◌≡◌, ◌⊎◌, ⊥, ℕ, ◌≤◌, ◌+◌, Bool, true, false, List, length, Option, None, Some, Ok, Err, refl, sym, ap, subst, ◌∙◌, inl, inr, arith, rules}
-use Rattle.std.specs.Prelude.{Result, IfOk, IfErr}
+use Rattle.std.proofs.Common.{◌≡◌, ◌⊎◌, ℕ, ◌≤◌, ◌+◌, Bool, true, false, List, length, Option, None, Some, Ok, Err, refl, sym, ap, subst, ◌∙◌, inl, inr, arith, rules}
+use Rattle.std.specs.Prelude.{⊤, Result, IfOk, IfErr}
 use Rattle.std.specs.Option.{IfSome}
 use Rattle.hac_disk.specs.Images.{IsQuiet, LeavesOnly}
 use Rattle.hac_disk.specs.Contents.{IsSettled}
@@ -41,7 +41,7 @@ opened-attached Memory old asked new opened attaches = inr attaches
 opened-attached other old asked new opened attaches = attaches
 
 pub unopened-attached : (status : Status) (old : Option (List (List ℕ × Bool))) (asked : Options) (new : Option (List (List ℕ × Bool))) → StopsOpening status → MayAttach old asked new →
-    ((Err {T = Status} status ≡ Err DiskFault → ⊥) → AttachesStore old asked new) → LeavesAttached status old asked new
+    ((status ≡ DiskFault → ⊥) → AttachesStore old asked new) → LeavesAttached status old asked new
 unopened-attached (BadSpace which line) old asked new stops may attaches = absurd stops
 unopened-attached DiskFault old asked new stops may attaches = may
 unopened-attached Memory old asked new stops may attaches = may
@@ -84,6 +84,14 @@ within-same : (left : Option (List ℕ)) → TakesWithin left left
 within-same None = tt
 within-same (Some bytes) = omega arith
 
+pub unattached-usage : (status : Status) → IsUnattached status → status ≡ Usage → ⊥
+unattached-usage status un is = subst IsUnattached is un
+
+-- nor does a run that refuses its words
+pub told-good : (status : Status) → (status ≡ Usage) ⊎ (status ≡ WriteFault) → is_bad_space status ≡ true → ⊥
+told-good status (inl is) bad = let never : false ≡ true = ap is_bad_space (sym is) ∙ bad in cc
+told-good status (inr is) bad = let never : false ≡ true = ap is_bad_space (sym is) ∙ bad in cc
+
 -- it did nothing else
 pub unattached-ends : (status : Status) (before : Outside) → IsUnattached status → Ends status before before
 unattached-ends (BadSpace which line) before un = record { reads = refl; writes = refl; within = within-same before.source.left; passed = λ _ none. none }
@@ -100,33 +108,28 @@ unattached-names (BadSpace which line) names asked un = refl
 unattached-names Memory names asked un = inl refl
 unattached-names other names asked un = absurd un
 
-pub unattached-file : (status : Status) → IsUnattached status → IsOfFile status → ⊥
-unattached-file (BadSpace which line) un is = is
-unattached-file Memory un is = is
-unattached-file other un is = absurd un
+of-no-file : (status : Status) → IsUnattached status → IsOfFile status → ⊥
+of-no-file (BadSpace which line) un is = is
+of-no-file Memory un is = is
+of-no-file other un is = absurd un
+
+pub unattached-file : (status : Status) → IsUnattached status → (fresh : Bool) (told : Option (List ℕ)) → IfSome told (λ file. IsOfFile status → opening_outcome fresh (held file) ≡ Err status)
+unattached-file status un fresh None = search rules
+unattached-file status un fresh (Some file) = λ is. absurd (of-no-file status un is)
 
 ends-so : (wanted status : Status) → IsUnattached status → EndsSo wanted status
 ends-so wanted (BadSpace which line) un = inr (inl refl)
 ends-so wanted Memory un = inr (inr (inr refl))
 ends-so wanted other un = absurd un
 
--- a fact of any value is one of that which there is
-pub of-some : {A : Type 0} (o : Option A) (P : A → Type 0) → ((a : A) → P a) → IfSome o P
-of-some None P fact = search rules
-of-some (Some a) P fact = fact a
-
-pub of-err : {T E : Type 0} (r : Result T E) (P : E → Type 0) → ((e : E) → P e) → IfErr r P
-of-err (Ok x) P fact = search rules
-of-err (Err e) P fact = fact e
-
 -- what holds of a run that goes on from a store, given another premise
-pub ran-given : {fresh : Bool} {tick : ℕ} {status : Status} {before after : Outside} {settled : Type 0} {image : List ℕ → Type 0} {leaves : (List ℕ → Type 0) → Type 0} (less more : Type 0) → (more → less) →
+pub ran-given : (fresh : Bool) (tick : ℕ) (status : Status) (before after : Outside) (settled : Type 0) (image : List ℕ → Type 0) (leaves : (List ℕ → Type 0) → Type 0) (less more : Type 0) → (more → less) →
     (seen left : Option (List ℕ)) →
     IfSome seen (λ file. IfSome left (λ script. IfOk (opening_outcome fresh (held file)) (λ setting. Ran fresh tick status setting script before after settled image leaves less))) →
     IfSome seen (λ file. IfSome left (λ script. IfOk (opening_outcome fresh (held file)) (λ setting. Ran fresh tick status setting script before after settled image leaves more)))
-ran-given less more leads None left ran = search rules
-ran-given less more leads (Some file) None ran = search rules
-ran-given {fresh} {tick} {status} {before} {after} {settled} {image} {leaves} less more leads (Some file) (Some script) ran = by (opening_outcome fresh (held file)) ran
+ran-given fresh tick status before after settled image leaves less more leads None left ran = search rules
+ran-given fresh tick status before after settled image leaves less more leads (Some file) None ran = search rules
+ran-given fresh tick status before after settled image leaves less more leads (Some file) (Some script) ran = by (opening_outcome fresh (held file)) ran
   where
     by : (outcome : Result Setting Status) → IfOk outcome (λ setting. Ran fresh tick status setting script before after settled image leaves less) →
         IfOk outcome (λ setting. Ran fresh tick status setting script before after settled image leaves more)
@@ -138,10 +141,14 @@ module _ {D : Type 0} (seen : D → Option (List ℕ)) (image : D → List ℕ �
   pub untouched : (disk : D) → IsQuiet seen image moment image_since disk disk
   untouched disk = record { same = refl; images = λ c left. left; later = omega arith; past = λ t c within left. left; keeps = λ t c within left. left }
 
-  pub unattached-quiet : {I O : Type 0} (status : Status) → IsUnattached status → (asked : Options) (disk : D) (input : I) (output : O) →
-      IfSome (seen disk) (λ file. IfErr (opening_outcome asked.fresh (held file)) (λ wanted. EndsSo wanted status × (IsQuiet seen image moment image_since disk disk × ((input ≡ input) × (output ≡ output)))))
-  unattached-quiet status un asked disk input output =
-      of-some (seen disk) _ (λ file. of-err (opening_outcome asked.fresh (held file)) _ (λ wanted. (ends-so wanted status un, (untouched disk, (refl, refl)))))
+  pub unattached-quiet : {I O : Type 0} (status : Status) → IsUnattached status → (fresh : Bool) (disk : D) (input : I) (output : O) (told : Option (List ℕ)) →
+      IfSome told (λ file. IfErr (opening_outcome fresh (held file)) (λ wanted. EndsSo wanted status × IsQuiet seen image moment image_since disk disk × (input ≡ input) × (output ≡ output)))
+  unattached-quiet status un fresh disk input output None = search rules
+  unattached-quiet {I} {O} status un fresh disk input output (Some file) = by (opening_outcome fresh (held file))
+    where
+      by : (outcome : Result Setting Status) → IfErr outcome (λ wanted. EndsSo wanted status × IsQuiet seen image moment image_since disk disk × (input ≡ input) × (output ≡ output))
+      by (Ok setting) = search rules
+      by (Err wanted) = (ends-so wanted status un, untouched disk, refl, refl)
 
   -- it answers nothing of the script, and a crash leaves what it would have gone on from
   pub ran-unattached : (faultless : Type 0) (status : Status) → IsUnattached status → (faultless → is_bad_space status ≡ true → ⊥) → (asked : Options) (disk : D) (before : Outside) →
@@ -179,3 +186,23 @@ module _ {D : Type 0} (seen : D → Option (List ℕ)) (image : D → List ℕ �
           IfSome file (λ f. IfSome before.source.left (λ script. IfOk (opening_outcome asked.fresh (held f)) (λ setting. says setting script)))
       of-file None opening = search rules
       of-file (Some f) opening = of-left f before.source.left refl opening
+
+  -- memory ran out before any space was attached
+  pub memory-quiet : {I O : Type 0} (asked : Option Options) (disk : D) (input : I) (output : O) →
+      IfSome asked (λ asked. IfSome (seen disk) (λ file. IfErr (opening_outcome asked.fresh (held file)) (λ wanted. EndsSo wanted Memory × IsQuiet seen image moment image_since disk disk × (input ≡ input) × (output ≡ output))))
+  memory-quiet None disk input output = search rules
+  memory-quiet (Some asked) disk input output = unattached-quiet Memory tt asked.fresh disk input output (seen disk)
+
+  pub memory-ran : (faultless : Options → Type 0) (asked : Option Options) (disk : D) (before : Outside) →
+      IfOpens asked (seen disk) before.source.left (λ asked setting script. Ran asked.fresh asked.tick Memory setting script before before
+      (IsSettled (seen disk) (image disk)) (image disk) (LeavesOnly moment image_since disk disk) (faultless asked))
+  memory-ran faultless None disk before = search rules
+  memory-ran faultless (Some asked) disk before = ran-unattached (faultless asked) Memory tt (λ _ never. cc) asked disk before
+
+pub memory-spaces : (asked : Option Options) (spaces : SpacesSeen) → IfSome asked (λ asked. LeavesSpaces Memory asked.spaces spaces spaces)
+memory-spaces None spaces = search rules
+memory-spaces (Some asked) spaces = inl refl
+
+pub memory-attached : (asked : Option Options) (names : Option (List (List ℕ × Bool))) → IfSome asked (λ asked. LeavesAttached Memory names asked names)
+memory-attached None names = search rules
+memory-attached (Some asked) names = inl refl

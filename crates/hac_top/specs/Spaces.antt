@@ -1,5 +1,5 @@
 -- What a run makes of the spaces that its words name.
-use Rattle.std.specs.Prelude.{◌≡◌, ◌⊎◌, ⊤, ℕ, ◌+◌, Bool, List, ◌∷◌, ◌++◌, length, map, Option, None, Some, Result, Ok, Err, Unit}
+use Rattle.std.specs.Prelude.{◌≡◌, ◌⊎◌, ⊤, ℕ, ◌+◌, Bool, List, ◌∷◌, ◌++◌, length, map, Option, None, Some, Result, Ok, Err}
 use Rattle.std.specs.List.{AllByRecursion}
 use Rattle.std.specs.Option.{option_and_then}
 use Rattle.hac_model.specs.Script.CommandLine.{Space}
@@ -16,10 +16,17 @@ use Rattle.hac_top.specs.declared.status.Status.TheVariants.{BadSpace, Memory}
 abbrev pub names_of : List Space → List (List ℕ)
 names_of = map (λ space. space.0)
 
--- each file is a catalogue, and says which documents the space of its name has
+-- the name of a space with what its file says
+abbrev pub said_by_file : Contents → Space → List ℕ × Option (Result (List Document) ℕ)
+said_by_file contents space = (space.0, file_says contents space.1)
+
+-- the name of a space with what a catalogue of its documents says
+abbrev pub said_by_documents : List ℕ × List Document → List ℕ × Option (Result (List Document) ℕ)
+said_by_documents space = (space.0, Some (Ok space.1))
+
+-- each file is a catalogue, of the documents that the space of its name has
 abbrev pub AreCatalogues : Contents → List Space → List (List ℕ × List Document) → Type 0
-AreCatalogues contents files spaces =
-    map (λ file. (file.0, file_says contents file.1)) files ≡ map (λ space. (space.0, Some (Ok space.1))) spaces
+AreCatalogues contents files spaces = map (said_by_file contents) files ≡ map said_by_documents spaces
 
 -- Each file was attached under its name: each is a catalogue, the spaces are those of before and then these, each with
 -- the documents of its file, and `attach` was called with each name and file, in their order.

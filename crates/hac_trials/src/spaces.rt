@@ -28,10 +28,25 @@ const NO_TAB: &[u8] = b"oak\thigh\n\nfir green\n";
 fn spaces_of_the_words_are_attached(rt: HostRuntime) -> Result<(), Fail> {
     let mut spaces = unattached(rt.alloc(), TREES, &[])?;
     let mut disk = failing_disk(rt.alloc(), &[])?;
-    expect(&rt, rt.alloc(), &mut spaces, &mut disk, Status::Done, b"ok\n")?;
+    expect(
+        &rt,
+        rt.alloc(),
+        &mut spaces,
+        &mut disk,
+        Status::Done,
+        b"ok\n",
+    )?;
     expect_space(&rt, rt.alloc(), &mut spaces, b"fruit", Some(b"apple pear "))?;
     expect_space(&rt, rt.alloc(), &mut spaces, b"trees", Some(b"fir oak "))?;
-    expect_run(&rt, rt.alloc(), &OLD, b"ls\n", &mut disk, Status::Done, b"ok\n")
+    expect_run(
+        &rt,
+        rt.alloc(),
+        &OLD,
+        b"ls\n",
+        &mut disk,
+        Status::Done,
+        b"ok\n",
+    )
 }
 
 #[test]
