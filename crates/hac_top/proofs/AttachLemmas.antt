@@ -9,6 +9,7 @@ use Rattle.std.proofs.lemmas.List.{length-map, length-take-le, map-append, map_m
 use Rattle.std.proofs.lemmas.Slice.Eq.{bytes_eq-Decides}
 use Rattle.hac_model.specs.Script.CommandLine.{Options, Parsed, Space, asked_by, each_space, fresh_of, given_by, may_stand, names_differ, options, spaces_of, store_of, tick_of}
 use Rattle.hac_model.specs.declared.limits.TheConstants.{SPACES_LIMIT}
+use Rattle.hac_outside.specs.Causes.{Rose}
 use Rattle.hac_outside.specs.Known.{Known}
 use Rattle.sem_mounts.specs.Catalogue.{Document, catalogue}
 use Rattle.sem_mounts.specs.Seen.{Attaches, Contents, CountsFault, Refuses, SpacesSeen, file_says, is_attach_failed, is_attached}
@@ -231,11 +232,13 @@ no-bad-line front space line (Some old) (Some new) known documents is =
 pub not-bad : (files : List Space) (old new : SpacesSeen) (status : Status) → StopsAttaching files old new status → CanAttach files old new → is_bad_space status ≡ true → ⊥
 not-bad files old new status stops can bad = by stops.fault stops.status_is stops.contents stops.cause
   where
-    catalogue_is : IsCatalogue old stops.space.1
-    catalogue_is = at-middle (λ file. IsCatalogue old file.1) stops.front stops.behind stops.space (subst (AllByRecursion (λ file. IsCatalogue old file.1)) stops.files_are can.catalogues)
+    could : IsCatalogue old stops.space.1 × (Rose old.faults new.faults → ⊥)
+    could =
+        at-middle (λ file. IsCatalogue old file.1 × (Rose old.faults new.faults → ⊥)) stops.front stops.behind stops.space
+        (subst (AllByRecursion (λ file. IsCatalogue old file.1 × (Rose old.faults new.faults → ⊥))) stops.files_are can)
 
     by : (fault : AttachFault) → status ≡ attach_status (length stops.front + 1) fault → Known (AttachesUpTo stops.front stops.space fault) old.contents new.contents →
         CountsFault (is_attach_failed {A = Unit {0}} (Err fault)) old.faults new.faults → ⊥
-    by attach.Failed status_is contents cause = can.faultless cause.0.1
-    by (attach.BadCatalogue line) status_is contents cause = no-bad-line stops.front stops.space line old.contents new.contents contents catalogue_is.0 catalogue_is.1
+    by attach.Failed status_is contents cause = could.1 cause.0.1
+    by (attach.BadCatalogue line) status_is contents cause = no-bad-line stops.front stops.space line old.contents new.contents contents could.0.0 could.0.1
     by attach.Memory status_is contents cause = let never : false ≡ true = ap is_bad_space (sym status_is) ∙ bad in cc

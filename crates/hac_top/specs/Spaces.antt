@@ -79,7 +79,6 @@ abbrev pub IsCatalogue : SpacesSeen → List ℕ → Type 0
 IsCatalogue spaces file =
     (documents : List Document) × (option_and_then (λ contents. file_says contents file) spaces.contents ≡ Some (Ok documents))
 
--- each file is a catalogue, and no call of the spaces failed
-pub record CanAttach (files : List Space) (old new : SpacesSeen) : Type 0 where
-  pub catalogues : AllByRecursion (λ file. IsCatalogue old file.1) files
-  pub faultless : Rose old.faults new.faults → ⊥
+-- each file is a catalogue, and no call of the spaces failed; where there is no file, nothing is asked of them
+abbrev pub CanAttach : List Space → SpacesSeen → SpacesSeen → Type 0
+CanAttach files old new = AllByRecursion (λ file. IsCatalogue old file.1 × (Rose old.faults new.faults → ⊥)) files
