@@ -1,5 +1,5 @@
-//! The program: it hands its words, its standard input and output, and a disk over a real file to
-//! the run, and ends with the number of the run's status.
+//! The program: it hands its words, its standard input and output, and a disk and spaces over real
+//! files to the run, and ends with the number of the run's status.
 #![tactic(auto)]
 
 mod streams;
@@ -7,6 +7,7 @@ mod streams;
 use hac_disk::FileDisk;
 use hac_outside::{StdSink, StdSource};
 use hac_top::{Status, run};
+use sem_mounts::CatalogueSpaces;
 use std::env;
 use std::io::{self, ErrorKind};
 use std::process::ExitCode;
@@ -25,6 +26,7 @@ fn run_program(rt: &HostRuntime) -> Status {
     let mut input = StdSource::new(rt.stdin());
     let mut output = StdSink::new(rt.stdout());
     let mut disk = FileDisk::new(rt);
+    let mut spaces = CatalogueSpaces::new(rt);
     match program_words(rt) {
         Ok(words) => run(
             rt.alloc(),
@@ -32,10 +34,18 @@ fn run_program(rt: &HostRuntime) -> Status {
             &mut input,
             &mut output,
             &mut disk,
+            &mut spaces,
         ),
         Err(error) if error.kind() == ErrorKind::OutOfMemory => Status::Memory,
         // Words that are no text are answered as no words are: by the usage.
-        Err(_) => run(rt.alloc(), &[], &mut input, &mut output, &mut disk),
+        Err(_) => run(
+            rt.alloc(),
+            &[],
+            &mut input,
+            &mut output,
+            &mut disk,
+            &mut spaces,
+        ),
     }
 }
 
@@ -57,6 +67,11 @@ fn tell_fault(rt: &impl Eprint, status: Status) {
         Status::DiskFault => eprintln!(rt; "hac: disk fault"),
         Status::NotStore { at } => eprintln!(rt; "hac: not a store at byte {at}"),
         Status::Memory => eprintln!(rt; "hac: out of memory"),
+        Status::BadSpace { which, line: None } => eprintln!(rt; "hac: space {which} failed"),
+        Status::BadSpace {
+            which,
+            line: Some(line),
+        } => eprintln!(rt; "hac: space {which} bad at line {line}"),
         Status::TooLong => eprintln!(rt; "hac: script too long"),
         Status::AlreadyStore => eprintln!(rt; "hac: already a store"),
     };

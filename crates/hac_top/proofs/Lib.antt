@@ -9,6 +9,8 @@ pub mod GoesOn
 pub mod RunLemmas
 pub mod LineLemmas
 pub mod OpenedLemmas
+pub mod AttachLemmas
+pub mod UnattachedLemmas
 pub mod WordSpaces
 pub mod WordLooks
 pub mod WordLemmas

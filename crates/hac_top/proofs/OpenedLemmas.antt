@@ -160,9 +160,9 @@ module _ {D : Type 0} (seen : D → Option (List ℕ)) (image : D → List ℕ �
 
   -- no store was opened: the run does nothing, and a crash leaves what it would have gone on from
   module _ (counts_now : (disk : D) (t : ℕ) (c : List ℕ) → t ≤ moment disk → image disk c → image_since disk t c) (fresh : Bool) (tick : ℕ) (settled : Type 0) (old new : D) (before : Outside) where
-    ran-none : (ends : Status) (setting : Setting) (script : List ℕ) → Some script ≡ before.source.left → Opening fresh settled old new setting → ((done : ℕ) → AnswersBy tick ends setting script done (Some script)) → (IsFinished ends → ⊥) →
-        (IsFaultless before before (faults old) (faults new) → Completes ends script) → Ran fresh tick ends setting script before before settled (image new) (LeavesOnly moment image_since old new) (IsFaultless before before (faults old) (faults new))
-    ran-none ends setting script left_is opening answers unfinished complete =
+    pub ran-none : (faultless : Type 0) (ends : Status) (setting : Setting) (script : List ℕ) → Some script ≡ before.source.left → Opening fresh settled old new setting → ((done : ℕ) → AnswersBy tick ends setting script done (Some script)) →
+        (IsFinished ends → ⊥) → (faultless → Completes ends script) → Ran fresh tick ends setting script before before settled (image new) (LeavesOnly moment image_since old new) faultless
+    ran-none faultless ends setting script left_is opening answers unfinished complete =
         let goes = goes-first tick setting script false before.sink refl in
         let done = turns_of tick setting goes.played goes.last in
         let all_is = turns-are tick setting script script false setting false before.sink before.sink goes in
@@ -191,8 +191,8 @@ module _ {D : Type 0} (seen : D → Option (List ℕ)) (image : D → List ℕ �
       where
         by : (ends : Status) → StopsOpening ends → ReportsFault (is_disk_fault ends) (faults old) (faults new) → (setting : Setting) (script : List ℕ) → Some script ≡ before.source.left → (IsOfFile ends → Ok setting ≡ Err ends) → Opening fresh settled old new setting →
             Ran fresh tick ends setting script before before settled (image new) (LeavesOnly moment image_since old new) (IsFaultless before before (faults old) (faults new))
-        by DiskFault why told setting script left_is tells opening = ran-none DiskFault setting script left_is opening (λ done. tt) (λ never. never) (λ none. absurd (none.2 told.1))
-        by Memory why told setting script left_is tells opening = ran-none Memory setting script left_is opening (λ done. tt) (λ never. never) (λ _. record { within = λ _. inr refl; past = λ _. inr refl })
+        by DiskFault why told setting script left_is tells opening = ran-none (IsFaultless before before (faults old) (faults new)) DiskFault setting script left_is opening (λ done. tt) (λ never. never) (λ none. absurd (none.2 told.1))
+        by Memory why told setting script left_is tells opening = ran-none (IsFaultless before before (faults old) (faults new)) Memory setting script left_is opening (λ done. tt) (λ never. never) (λ _. record { within = λ _. inr refl; past = λ _. inr refl })
         by (NotStore at) why told setting script left_is tells opening = absurd (let never : Ok setting ≡ Err (NotStore at) = tells tt in cc)
         by AlreadyStore why told setting script left_is tells opening = absurd (let never : Ok setting ≡ Err AlreadyStore = tells tt in cc)
         by other why told setting script left_is tells opening = absurd why

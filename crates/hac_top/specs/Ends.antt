@@ -5,7 +5,7 @@ use Rattle.hac_store.specs.declared.fault.StoreFault.TheVariants as store
 use Rattle.shell_lang.specs.declared.reading.LineFault.{LineFault}
 use Rattle.shell_lang.specs.declared.reading.LineFault.TheVariants as line
 use Rattle.hac_top.specs.declared.status.Status.{Status}
-use Rattle.hac_top.specs.declared.status.Status.TheVariants.{Done, SomeRefused, Usage, ReadFault, WriteFault, DiskFault, NotStore, Memory, TooLong, AlreadyStore}
+use Rattle.hac_top.specs.declared.status.Status.TheVariants.{Done, SomeRefused, Usage, ReadFault, WriteFault, DiskFault, NotStore, Memory, BadSpace, TooLong, AlreadyStore}
 
 abbrev pub status_number : Status → ℕ
 status_number Done = 0
@@ -16,6 +16,7 @@ status_number WriteFault = 4
 status_number DiskFault = 5
 status_number (NotStore at) = 6
 status_number Memory = 7
+status_number (BadSpace which line) = 8
 status_number TooLong = 9
 status_number AlreadyStore = 10
 
@@ -53,7 +54,14 @@ abbrev pub IsOpenStatus : Status → Type 0
 IsOpenStatus Usage = ⊥
 IsOpenStatus (NotStore at) = ⊥
 IsOpenStatus AlreadyStore = ⊥
+IsOpenStatus (BadSpace which line) = ⊥
 IsOpenStatus other = ⊤
+
+-- the run came to its store: it isn't one that ends at its words or at a space
+abbrev pub IsStoreStatus : Status → Type 0
+IsStoreStatus Usage = ⊥
+IsStoreStatus (BadSpace which line) = ⊥
+IsStoreStatus other = ⊤
 
 -- the run reports a read that failed
 abbrev pub is_read_fault : Status → Bool
@@ -70,7 +78,12 @@ abbrev pub is_disk_fault : Status → Bool
 is_disk_fault DiskFault = true
 is_disk_fault other = false
 
--- the answer is a status that reports one
+-- the run reports a space that can't be attached
+abbrev pub is_bad_space : Status → Bool
+is_bad_space (BadSpace which line) = true
+is_bad_space other = false
+
+-- the answer is a status that reports a call of the disk that failed
 abbrev pub reports_disk : {T : Type 0} → Result T Status → Bool
 reports_disk (Ok value) = false
 reports_disk (Err status) = is_disk_fault status

@@ -5,6 +5,7 @@ pub mod Ends
 pub mod TakenLines
 pub mod Replies
 pub mod Run
+pub mod Spaces
 pub mod Storing
 pub mod Ticking
 pub mod Words

@@ -1,5 +1,5 @@
 -- What a run promises. Most of it depends on the script, which its source may tell.
-use Rattle.std.specs.Prelude.{◌≡◌, ◌⊎◌, ℕ, ◌+◌, ◌<◌, ◌≤◌, ⊤, Bool, false, List, [], ◌++◌, length, take, drop, codes, Option, Some, IfOk}
+use Rattle.std.specs.Prelude.{◌≡◌, ◌⊎◌, ℕ, ◌+◌, ◌<◌, ◌≤◌, ⊤, Bool, true, false, List, [], ◌++◌, length, take, drop, codes, Option, Some, IfOk}
 use Rattle.std.specs.Option.{IfSome}
 use Rattle.std.specs.Io.KnownBytes.{Appends}
 use Rattle.hac_outside.specs.Causes.{Rose, ReportsFault}
@@ -16,7 +16,7 @@ use Rattle.hac_model.specs.declared.states.State.{State}
 use Rattle.hac_store.specs.Held.{held}
 use Rattle.hac_store.specs.Stores.{IsHeldAs, Stands}
 use Rattle.hac_top.specs.Crashes.{Holds, IsTreeAfter, IsTreeOfAnswered, Reopens, opening_outcome}
-use Rattle.hac_top.specs.Ends.{IsFinished, IsOpenStatus, finished_status, is_disk_fault, is_read_fault, is_write_fault}
+use Rattle.hac_top.specs.Ends.{IsFinished, IsOpenStatus, finished_status, is_bad_space, is_disk_fault, is_read_fault, is_write_fault}
 use Rattle.hac_top.specs.Replies.{WritesReplies}
 use Rattle.hac_top.specs.Ticking.{ticking}
 use Rattle.hac_top.specs.declared.status.Status.{Status}
@@ -186,6 +186,8 @@ IsFaultless before after was now =
     (Rose before.source.faults after.source.faults → ⊥) ×
     (Rose before.sink.faults after.sink.faults → ⊥) × (Rose was now → ⊥)
 
--- a run that no store is open for ends so, unless a call of the disk fails or memory runs out before
+-- a run that no store is open for ends so, unless a space can't be attached, a call of the disk fails or memory runs
+-- out before
 abbrev pub EndsSo : Status → Status → Type 0
-EndsSo wanted status = (status ≡ wanted) ⊎ ((status ≡ DiskFault) ⊎ (status ≡ Memory))
+EndsSo wanted status =
+    (status ≡ wanted) ⊎ ((is_bad_space status ≡ true) ⊎ ((status ≡ DiskFault) ⊎ (status ≡ Memory)))

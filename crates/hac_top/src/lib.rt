@@ -1,8 +1,10 @@
-//! The whole of the program but its last edge: it takes words, a script and a store, and gives
-//! replies and a status. It knows its source, its sink and its disk by their contracts alone.
+//! The whole of the program but its last edge: it takes words, a script, a store and spaces, and
+//! gives replies and a status. It knows its source, its sink, its disk and its spaces by their
+//! contracts alone.
 #![tactic(auto)]
 
 mod answering;
+mod attaching;
 mod deciding;
 mod opening;
 mod running;

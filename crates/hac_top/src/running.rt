@@ -1,6 +1,7 @@
-//! The run: the store is opened, the script is taken line by line, and each line is answered before
-//! the next is taken.
-ghost use Rattle.std.specs.Prelude.{◌≡◌, ◌⊎◌, false, IfErr, IfSome, None, map, string_bytes};
+//! The run: the spaces are attached, the store is opened, the script is taken line by line, and each
+//! line is answered before the next is taken.
+ghost use Rattle.std.specs.Prelude.{◌≡◌, ◌⊎◌, [], true, false, IfErr, IfSome, None, Some, map};
+ghost use Rattle.std.specs.Prelude.{string_bytes};
 ghost use Rattle.std.specs.Io.KnownBytes.{Appends};
 ghost use Rattle.hac_disk.specs.Images.{IsQuiet, LeavesOnly};
 ghost use Rattle.hac_disk.specs.Contents.{IsSettled};
@@ -8,46 +9,61 @@ ghost use Rattle.hac_model.specs.Script.CommandLine.{options};
 ghost use Rattle.hac_outside.specs.Causes.{ReportsFault};
 ghost use Rattle.hac_store.specs.Held.{held};
 ghost use Rattle.hac_store.specs.Stores.{Bears};
-ghost use Rattle.hac_top.specs.Attaching.{AttachesStore, MayAttach};
+ghost use Rattle.hac_top.specs.Attaching.{LeavesAttached};
 ghost use Rattle.hac_top.specs.Crashes.{IsOfFile, opening_outcome};
-ghost use Rattle.hac_top.specs.Ends.{end_status, is_disk_fault, is_write_fault};
+ghost use Rattle.hac_top.specs.Ends.{IsStoreStatus, end_status, is_bad_space, is_disk_fault};
+ghost use Rattle.hac_top.specs.Ends.{is_write_fault};
 ghost use Rattle.hac_top.specs.Run.{AppendsSome, Ends, EndsSo, IfOpens, IsFaultless, PlaysStore};
 ghost use Rattle.hac_top.specs.Run.{Ran, RefusesWords, outside, usage_line};
+ghost use Rattle.hac_top.specs.Spaces.{CanAttach, LeavesSpaces};
+ghost use Rattle.hac_top.specs.Words.{asked_of};
 
 use crate::answering::{Player, write_now};
+use crate::attaching::attach_spaces;
 use crate::opening::open_store;
 use crate::status::Status;
 use crate::taking::take_line;
-use crate::words::{WordsFault, read_words};
+use crate::words::{Options, WordsFault, read_words};
 use hac_disk::Disk;
 use hac_outside::{Sink, Source};
 use hac_store::Store;
+use sem_mounts::Spaces;
 use shell_lang::Reader;
 use std::alloc::Global;
 
-/// Opens the store that the words name, plays the script that the source gives, and writes the
-/// reply to each command to the sink.
+/// Attaches the spaces that the words name, opens the store, plays the script that the source gives,
+/// and writes the reply to each command to the sink.
 ///
 /// `words` are those of the program behind its own name: `[--new] [--tick N] STORE [NAME=FILE]...`.
-/// The disk is bound to the file STORE, which is made where it is missing and `--new` is given. The
-/// spaces are read from the words, and no FILE is attached yet. The source is read in pieces, and
+/// Each FILE is read first, as the catalogue of the space NAME. Then the disk is bound to the file
+/// STORE, which is made where it is missing and `--new` is given. The source is read in pieces, and
 /// no line is carried out before the reply to the line before it was written and flushed; what a
 /// line changes is stored before its reply is written. Behind each reply up to N index steps
-/// follow. A `put` is carried out with the bytes that follow its line.
-pub fn run<S: Source, K: Sink, D: Disk>(
+/// follow. A `put` is carried out with the bytes that follow its line. No command uses a space yet.
+pub fn run<S: Source, K: Sink, D: Disk, P: Spaces>(
     alloc: Global,
     words: &[String],
     input: &mut S,
     output: &mut K,
     disk: &mut D,
+    spaces: &mut P,
 ) -> Status
-    requires { (S.seen input.old).ended ≡ false }
+    requires unended { (S.seen input.old).ended ≡ false }
+    requires unattached { (P.seen spaces.old).attached ≡ [] }
 
     // Faulty command lines are refused.
     ensures usage { result ≡ Status.Usage → options (map string_bytes words.now) ≡ None }
     ensures words { options (map string_bytes words.now) ≡ None →
         RefusesWords result (outside (S.seen input.old) (K.seen output.old))
-        (outside (S.seen input.new) (K.seen output.new)) × (disk.new ≡ disk.old) }
+        (outside (S.seen input.new) (K.seen output.new)) × (disk.new ≡ disk.old) ×
+        (spaces.new ≡ spaces.old) }
+
+    // Each space that the words name is attached, with the documents of its file. Where one can't
+    // be, it says which and why, and does nothing else.
+    ensures spaces { IfSome (options (map string_bytes words.now))
+        (λ asked. LeavesSpaces result asked.spaces (P.seen spaces.old) (P.seen spaces.new)) }
+    ensures bad_space { is_bad_space result ≡ true →
+        (input.new ≡ input.old) × (output.new ≡ output.old) × (disk.new ≡ disk.old) }
 
     // The replies are those of the tree that the store held, a crash at any moment leaves that tree
     // after some of the events, at the end those of what was answered, and without a fault the
@@ -59,7 +75,8 @@ pub fn run<S: Source, K: Sink, D: Disk>(
         (outside (S.seen input.new) (K.seen output.new))
         (IsSettled (D.seen disk.old) (D.image disk.old)) (D.image disk.new)
         (LeavesOnly D.moment D.image_since disk.old disk.new)
-        (IsFaultless (outside (S.seen input.old) (K.seen output.old))
+        (CanAttach asked.spaces (P.seen spaces.old) (P.seen spaces.new) ×
+        IsFaultless (outside (S.seen input.old) (K.seen output.old))
         (outside (S.seen input.new) (K.seen output.new))
         (D.faults disk.old) (D.faults disk.new))) }
 
@@ -74,11 +91,9 @@ pub fn run<S: Source, K: Sink, D: Disk>(
         (λ asked. IfSome (D.seen disk.old) (λ file. IsOfFile result → opening_outcome asked.fresh
         (held file) ≡ Err result)) }
 
-    // The disk is attached once, by the name that the words give, unless memory runs out before.
+    // The disk is attached once, by the name that the words give, unless the run ends before.
     ensures attached { IfSome (options (map string_bytes words.now))
-        (λ asked. MayAttach (D.attached disk.old) asked (D.attached disk.new)
-        × ((result ≡ Status.DiskFault → ⊥) → (result ≡ Status.Memory → ⊥) →
-        AttachesStore (D.attached disk.old) asked (D.attached disk.new))) }
+        (λ asked. LeavesAttached result (D.attached disk.old) asked (D.attached disk.new)) }
 
     // Each fault is reported, and nothing is left unflushed in the sink.
     ensures ends { Ends result (outside (S.seen input.old) (K.seen output.old))
@@ -91,7 +106,47 @@ pub fn run<S: Source, K: Sink, D: Disk>(
         Err(WordsFault::Usage) => return write_usage(output),
         Err(WordsFault::Memory) => return Status::Memory,
     };
-    match open_store(alloc, &options, disk) {
+    match attach_spaces(spaces, &options.spaces) {
+        Ok(()) => run_store(alloc, &options, input, output, disk),
+        Err(status) => status,
+    }
+}
+
+// Opens the store, and plays the script on it.
+fn run_store<S: Source, K: Sink, D: Disk>(
+    alloc: Global,
+    options: &Options<'_>,
+    input: &mut S,
+    output: &mut K,
+    disk: &mut D,
+) -> Status
+    requires { (S.seen input.old).ended ≡ false }
+    ensures own { IsStoreStatus result }
+    ensures ran { IfOpens (Some (asked_of options.now)) (D.seen disk.old)
+        (S.seen input.old).left
+        (λ asked setting script. Ran asked.fresh asked.tick result setting script
+        (outside (S.seen input.old) (K.seen output.old))
+        (outside (S.seen input.new) (K.seen output.new))
+        (IsSettled (D.seen disk.old) (D.image disk.old)) (D.image disk.new)
+        (LeavesOnly D.moment D.image_since disk.old disk.new)
+        (IsFaultless (outside (S.seen input.old) (K.seen output.old))
+        (outside (S.seen input.new) (K.seen output.new))
+        (D.faults disk.old) (D.faults disk.new))) }
+    ensures unopened { IfSome (D.seen disk.old) (λ file. IfErr
+        (opening_outcome options.now.fresh (held file))
+        (λ wanted.
+        EndsSo wanted result × IsQuiet D.seen D.image D.moment D.image_since disk.old disk.new ×
+        (input.new ≡ input.old) × (output.new ≡ output.old))) }
+    ensures file { IfSome (D.seen disk.old) (λ file. IsOfFile result → opening_outcome
+        options.now.fresh (held file) ≡ Err result) }
+    ensures attached { LeavesAttached result (D.attached disk.old) (asked_of options.now)
+        (D.attached disk.new) }
+    ensures ends { Ends result (outside (S.seen input.old) (K.seen output.old))
+        (outside (S.seen input.new) (K.seen output.new)) }
+    ensures disk_faults { ReportsFault (is_disk_fault result) (D.faults disk.old)
+        (D.faults disk.new) }
+{
+    match open_store(alloc, options, disk) {
         Ok(store) => play_store(alloc, store, options.tick, input, output, disk),
         Err(status) => status,
     }

@@ -28,6 +28,13 @@ pub enum Status {
     },
     /// Memory ran out.
     Memory,
+    /// A space can't be attached.
+    BadSpace {
+        /// Which of the words that name a space it is, from 1.
+        which: u64,
+        /// The first bad line of its file, from 1. None where the file can't be read.
+        line: Option<u64>,
+    },
     /// The script is longer than a script may be.
     TooLong,
     /// A new store was asked for, and the file holds one already.
@@ -48,6 +55,7 @@ impl Status {
             Status::DiskFault => 5,
             Status::NotStore { .. } => 6,
             Status::Memory => 7,
+            Status::BadSpace { .. } => 8,
             Status::TooLong => 9,
             Status::AlreadyStore => 10,
         }

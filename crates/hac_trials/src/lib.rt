@@ -1,5 +1,5 @@
-//! Trials of what no transcript can say: devices that fail, scripts that come in pieces, and which
-//! events fit the machine. The trials of the crates below it have a crate of their own. There is
+//! Trials of what no transcript can say: devices and spaces that fail, scripts that come in
+//! pieces, and which events fit the machine. The trials of the crates below it have a crate of their own. There is
 //! nothing here for other crates.
 #![tactic(auto)]
 
@@ -9,5 +9,7 @@ mod devices;
 mod machines;
 #[cfg(test)]
 mod runs;
+#[cfg(test)]
+mod spaces;
 #[cfg(test)]
 mod stores;

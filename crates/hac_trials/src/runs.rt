@@ -1,9 +1,11 @@
 //! Runs of the program over devices in memory.
-ghost use Rattle.std.specs.Prelude.{◌≡◌, false};
+ghost use Rattle.std.specs.Prelude.{◌≡◌, [], false};
 
 use hac_disk::{Disk, MemoryDisk};
+use hac_model::Memory;
 use hac_outside::{MemorySink, MemorySource, Sink, Source};
 use hac_top::{Status, run};
+use sem_mounts::{MemorySpaces, Spaces};
 use std::alloc::{AllocError, Global};
 use std::process::Abort;
 use std::test::Fail;
@@ -20,21 +22,37 @@ pub const NEW: [&str; 2] = ["--new", "S"];
 
 pub const OLD: [&str; 1] = ["S"];
 
-/// Runs the program with these words on these devices.
+/// Runs the program with these words on these devices. There is no file for a space.
 pub fn run_with<S: Source, K: Sink, D: Disk>(
     alloc: Global,
     words: &[&str],
     input: &mut S,
     output: &mut K,
     disk: &mut D,
-) -> Result<Status, AllocError>
+) -> Result<Status, Memory>
     requires { (S.seen input.old).ended ≡ false }
+{
+    let mut spaces = MemorySpaces::new(alloc, &[], &[])?;
+    run_on(alloc, words, input, output, disk, &mut spaces)
+}
+
+/// The same with these spaces.
+pub fn run_on<S: Source, K: Sink, D: Disk, P: Spaces>(
+    alloc: Global,
+    words: &[&str],
+    input: &mut S,
+    output: &mut K,
+    disk: &mut D,
+    spaces: &mut P,
+) -> Result<Status, Memory>
+    requires unended { (S.seen input.old).ended ≡ false }
+    requires unattached { (P.seen spaces.old).attached ≡ [] }
 {
     let mut owned = Vec::new(alloc);
     for word in words {
         owned.push(String::from_str(alloc, word)?)?;
     }
-    Ok(run(alloc, &owned, input, output, disk))
+    Ok(run(alloc, &owned, input, output, disk, spaces))
 }
 
 /// A disk with an empty file, of whose calls those with these numbers fail.
@@ -48,7 +66,7 @@ pub fn reply<D: Disk>(
     words: &[&str],
     script: &[u8],
     disk: &mut D,
-) -> Result<(Status, Vec<u8>), AllocError> {
+) -> Result<(Status, Vec<u8>), Memory> {
     let mut input = MemorySource::new(alloc, script, &[], &[])?;
     let mut output = MemorySink::new(alloc, ROOM, ROOM, &[])?;
     let status = run_with(alloc, words, &mut input, &mut output, disk)?;
@@ -101,7 +119,7 @@ impl<'a> Trial<'a> {
 }
 
 /// How the run on a new store ends, and what was written.
-pub fn play(alloc: Global, trial: &Trial<'_>) -> Result<(Status, Vec<u8>), AllocError> {
+pub fn play(alloc: Global, trial: &Trial<'_>) -> Result<(Status, Vec<u8>), Memory> {
     let mut disk = failing_disk(alloc, &[])?;
     play_on(alloc, trial, &mut disk)
 }
@@ -111,7 +129,7 @@ pub fn play_on(
     alloc: Global,
     trial: &Trial<'_>,
     disk: &mut MemoryDisk,
-) -> Result<(Status, Vec<u8>), AllocError> {
+) -> Result<(Status, Vec<u8>), Memory> {
     let mut input = MemorySource::new(alloc, trial.script, trial.pieces, trial.failing_reads)?;
     let mut output = MemorySink::new(alloc, trial.room, ROOM, trial.failing_writes)?;
     let status = run_with(alloc, &NEW, &mut input, &mut output, disk)?;

@@ -3,8 +3,9 @@ ghost use Rattle.std.specs.Prelude.{◌≤◌, IfOk};
 
 use crate::runs::{NEW, OLD, Trial, expect_run, failing_disk, play_on, reply, trial_of};
 use hac_disk::FuseDisk;
+use hac_model::Memory;
 use hac_top::Status;
-use std::alloc::{AllocError, Global};
+use std::alloc::Global;
 use std::process::Abort;
 use std::test::Fail;
 
@@ -36,7 +37,7 @@ fn second_run_finds_what_the_first_made(rt: HostRuntime) -> Result<(), Fail> {
 }
 
 /// How many calls of the disk make a new store: a disk that passes fewer isn't enough.
-fn calls_of_a_new_store(alloc: Global) -> Result<u64, AllocError>
+fn calls_of_a_new_store(alloc: Global) -> Result<u64, Memory>
     ensures { IfOk result (λ calls. calls ≤ 64) }
 {
     for calls in 0..64 {

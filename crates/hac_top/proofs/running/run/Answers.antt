@@ -1,52 +1,140 @@
-use Rattle.std.proofs.Common.{◌≤◌, ℕ, Bool, List, Option, Some, None, Err, refl, arith, rules, map, string_bytes}
+use Rattle.std.proofs.Common.{◌≡◌, Option, Some, None, inl, inr, refl, rules, subst, map, string_bytes}
 use Rattle.std.specs.Option.{IfSome}
 use Rattle.hac_disk.specs.Contents.{IsSettled}
-use Rattle.hac_disk.specs.Images.{IsQuiet, LeavesOnly}
-use Rattle.hac_model.specs.Script.CommandLine.{Options, options}
-use Rattle.hac_store.specs.Held.{held}
-use Rattle.hac_top.specs.Crashes.{IsOpened, opening_outcome}
-use Rattle.hac_top.specs.Run.{IfOpens, IsFaultless, Outside, Ran, outside}
+use Rattle.hac_disk.specs.Images.{LeavesOnly}
+use Rattle.hac_model.specs.Script.CommandLine.{Options, Space, options}
+use Rattle.hac_top.specs.Ends.{IsStoreStatus, is_bad_space}
+use Rattle.hac_top.specs.Run.{IsFaultless, outside}
+use Rattle.hac_top.specs.Spaces.{CanAttach, HasAttached, LeavesSpaces, StopsAttaching}
+use Rattle.hac_top.specs.Words.{asked_of, spaces_asked}
 use Rattle.hac_top.specs.declared.status.Status.TheVariants.{Memory}
-use Rattle.hac_top.proofs.OpenedLemmas.{opens-quiet, ran-opened, ran-unopened}
+use Rattle.hac_top.proofs.AttachLemmas.{asked-differ, not-bad}
+use Rattle.hac_top.proofs.UnattachedLemmas.{is-unattached, memory-attached, memory-quiet, memory-ran, memory-spaces, own-good, own-spaces, ran-given, ran-unattached, stopped-spaces, told-good, unattached-disk, unattached-ends, unattached-file, unattached-names, unattached-quiet, unattached-usage}
 use Rattle.hac_top.proofs.running.run.Goals as goal
 
-pub returns-in-Ok-open_store-clause-ran : goal.returns-in-Ok-open_store-clause-ran
-returns-in-Ok-open_store-clause-ran g c =
-    let disk = g.D.Disk in
-    let old = c.args.disk.now in
-    let before = outside (g.S.Source.seen c.args.input.now) (g.K.Sink.seen c.args.output.now) in
-    let after = outside (g.S.Source.seen c.play_store.new.input) (g.K.Sink.seen c.play_store.new.output) in
-    rw c.in-Ok.ensures.read
-    (ran-opened disk.seen disk.image disk.moment disk.image_since disk.attached disk.faults g.met.D.Disk.counts_now c.in-Ok.options.fresh c.in-Ok.options.tick (IsSettled (disk.seen old) (disk.image old)) old c.open_store.new.disk c.play_store.new.disk c.in-Ok-open_store.store.setting before after
-    c.play_store.result c.play_store.ensures c.in-Ok-open_store.ensures.faults (disk.seen old) c.in-Ok-open_store.ensures.opened c.in-Ok-open_store.ensures.stands c.in-Ok-open_store.ensures.any_moment)
+pub attach_spaces-requires-clause-differ : goal.attach_spaces-requires-clause-differ
+attach_spaces-requires-clause-differ g c = rw c.deref.ensures.value (asked-differ (map string_bytes c.args.words.now) (asked_of c.in-Ok.options) c.in-Ok.ensures.read)
 
-pub returns-clause-ran : goal.returns-clause-ran
-returns-clause-ran g c =
-    let disk = g.D.Disk in
-    let old = c.args.disk.now in
-    let before = outside (g.S.Source.seen c.args.input.now) (g.K.Sink.seen c.args.output.now) in
-    rw c.in-Ok.ensures.read
-    (ran-unopened disk.seen disk.image disk.moment disk.image_since disk.attached disk.faults g.met.D.Disk.counts_now c.in-Ok.options.fresh c.in-Ok.options.tick (IsSettled (disk.seen old) (disk.image old)) old c.open_store.new.disk before c.in-Err.status
-    c.in-Err.ensures.stops c.in-Err.ensures.faults (disk.seen old) c.in-Err.ensures.opened c.in-Err.ensures.any_moment)
+-- the words are refused
+pub returns-in-Err-Usage-clause-bad_space : goal.returns-in-Err-Usage-clause-bad_space
+returns-in-Err-Usage-clause-bad_space g c = λ bad. absurd (told-good c.write_usage.result c.write_usage.ensures.status bad)
 
--- nothing was told of the file
-untold : (fresh : Bool) (told : Option (List ℕ)) → IfSome told (λ file. IsOpened (Err Memory) (opening_outcome fresh (held file)))
-untold fresh None = search rules
-untold fresh (Some file) = λ never. absurd never
-
--- memory ran out before the disk was touched
-untouched : {D : Type 0} (seen : D → Option (List ℕ)) (image : D → List ℕ → Type 0) (moment : D → ℕ) (image_since : D → ℕ → List ℕ → Type 0) (attached : D → Option (List (List ℕ × Bool))) (faults : D → ℕ)
-    → ((disk : D) (c : List ℕ) → image_since disk (moment disk) c → image disk c) → ((disk : D) (t : ℕ) (c : List ℕ) → t ≤ moment disk → image disk c → image_since disk t c)
-    → (asked : Option Options) (disk : D) (before : Outside) → IfOpens asked (seen disk) before.source.left (λ asked setting script. Ran asked.fresh asked.tick Memory setting script before before
-    (IsSettled (seen disk) (image disk)) (image disk) (LeavesOnly moment image_since disk disk) (IsFaultless before before (faults disk) (faults disk)))
-untouched seen image moment image_since attached faults only_now counts_now None disk before = search rules
-untouched seen image moment image_since attached faults only_now counts_now (Some asked) disk before =
-    let quiet : IsQuiet seen image moment image_since disk disk = record { same = refl; images = λ c left. left; later = omega arith; past = λ t c within left. left; keeps = λ t c within left. left } in
-    ran-unopened seen image moment image_since attached faults counts_now asked.fresh asked.tick (IsSettled (seen disk) (image disk)) disk disk before Memory tt refl (seen disk) (untold asked.fresh (seen disk))
-    (opens-quiet seen image moment image_since only_now asked.fresh (seen disk) disk disk quiet)
+-- memory ran out before any space was attached
+pub returns-in-Err-Memory-clause-spaces : goal.returns-in-Err-Memory-clause-spaces
+returns-in-Err-Memory-clause-spaces g c = memory-spaces (options (map string_bytes c.args.words.now)) (g.P.Spaces.seen c.args.spaces.now)
 
 pub returns-in-Err-Memory-clause-ran : goal.returns-in-Err-Memory-clause-ran
 returns-in-Err-Memory-clause-ran g c =
     let disk = g.D.Disk in
-    untouched disk.seen disk.image disk.moment disk.image_since disk.attached disk.faults g.met.D.Disk.only_now g.met.D.Disk.counts_now (options (map string_bytes c.args.words.now)) c.args.disk.now
-    (outside (g.S.Source.seen c.args.input.now) (g.K.Sink.seen c.args.output.now))
+    let before = outside (g.S.Source.seen c.args.input.now) (g.K.Sink.seen c.args.output.now) in
+    let faults = disk.faults c.args.disk.now in
+    let spaces = g.P.Spaces.seen c.args.spaces.now in
+    memory-ran disk.seen disk.image disk.moment disk.image_since disk.attached disk.faults g.met.D.Disk.only_now g.met.D.Disk.counts_now
+    (λ asked. CanAttach asked.spaces spaces spaces × IsFaultless before before faults faults) (options (map string_bytes c.args.words.now)) c.args.disk.now before
+
+pub returns-in-Err-Memory-clause-unopened : goal.returns-in-Err-Memory-clause-unopened
+returns-in-Err-Memory-clause-unopened g c =
+    let disk = g.D.Disk in
+    memory-quiet disk.seen disk.image disk.moment disk.image_since disk.attached disk.faults g.met.D.Disk.only_now g.met.D.Disk.counts_now
+    (options (map string_bytes c.args.words.now)) c.args.disk.now c.args.input.now c.args.output.now
+
+pub returns-in-Err-Memory-clause-attached : goal.returns-in-Err-Memory-clause-attached
+returns-in-Err-Memory-clause-attached g c = memory-attached (options (map string_bytes c.args.words.now)) (g.D.Disk.attached c.args.disk.now)
+
+-- each space was attached, and the run went on to its store
+pub returns-in-Ok-attach_spaces-clause-usage : goal.returns-in-Ok-attach_spaces-clause-usage
+returns-in-Ok-attach_spaces-clause-usage g c = λ is. absurd (subst IsStoreStatus is c.run_store.ensures.own)
+
+pub returns-in-Ok-attach_spaces-clause-spaces : goal.returns-in-Ok-attach_spaces-clause-spaces
+returns-in-Ok-attach_spaces-clause-spaces g c =
+    let seen = g.P.Spaces.seen in
+    let old = seen c.args.spaces.now in
+    let new = seen c.attach_spaces.new.spaces in
+    let files = spaces_asked c.in-Ok.options.spaces.items in
+    let has : HasAttached files old new = rw c.deref.ensures.value at c.in-Ok-attach_spaces.ensures.ok in
+    rw c.in-Ok.ensures.read (own-spaces c.run_store.result files old new c.run_store.ensures.own has)
+
+pub returns-in-Ok-attach_spaces-clause-bad_space : goal.returns-in-Ok-attach_spaces-clause-bad_space
+returns-in-Ok-attach_spaces-clause-bad_space g c = λ bad. absurd (own-good c.run_store.result c.run_store.ensures.own bad)
+
+pub returns-in-Ok-attach_spaces-clause-ran : goal.returns-in-Ok-attach_spaces-clause-ran
+returns-in-Ok-attach_spaces-clause-ran g c =
+    let disk = g.D.Disk in
+    let seen = g.P.Spaces.seen in
+    let before = outside (g.S.Source.seen c.args.input.now) (g.K.Sink.seen c.args.output.now) in
+    let after = outside (g.S.Source.seen c.run_store.new.input) (g.K.Sink.seen c.run_store.new.output) in
+    let faultless = IsFaultless before after (disk.faults c.args.disk.now) (disk.faults c.run_store.new.disk) in
+    let can = CanAttach (spaces_asked c.in-Ok.options.spaces.items) (seen c.args.spaces.now) (seen c.attach_spaces.new.spaces) in
+    let old = c.args.disk.now in
+    let new = c.run_store.new.disk in
+    rw c.in-Ok.ensures.read
+    (ran-given c.in-Ok.options.fresh c.in-Ok.options.tick c.run_store.result before after (IsSettled (disk.seen old) (disk.image old)) (disk.image new) (LeavesOnly disk.moment disk.image_since old new) faultless (can × faultless) (λ given. given.1)
+    (disk.seen old) before.source.left c.run_store.ensures.ran)
+
+pub returns-in-Ok-attach_spaces-clause-unopened : goal.returns-in-Ok-attach_spaces-clause-unopened
+returns-in-Ok-attach_spaces-clause-unopened g c = rw c.in-Ok.ensures.read c.run_store.ensures.unopened
+
+pub returns-in-Ok-attach_spaces-clause-file : goal.returns-in-Ok-attach_spaces-clause-file
+returns-in-Ok-attach_spaces-clause-file g c = rw c.in-Ok.ensures.read c.run_store.ensures.file
+
+pub returns-in-Ok-attach_spaces-clause-attached : goal.returns-in-Ok-attach_spaces-clause-attached
+returns-in-Ok-attach_spaces-clause-attached g c = rw c.in-Ok.ensures.read c.run_store.ensures.attached
+
+-- a space couldn't be attached, and nothing else was done
+pub returns-clause-usage : goal.returns-clause-usage
+returns-clause-usage g c =
+    let seen = g.P.Spaces.seen in
+    λ is. absurd (unattached-usage c.in-Err.status (is-unattached _ (seen c.args.spaces.now) (seen c.attach_spaces.new.spaces) c.in-Err.status c.in-Err.ensures.err) is)
+
+pub returns-clause-spaces : goal.returns-clause-spaces
+returns-clause-spaces g c =
+    let seen = g.P.Spaces.seen in
+    let old = seen c.args.spaces.now in
+    let new = seen c.attach_spaces.new.spaces in
+    let files = spaces_asked c.in-Ok.options.spaces.items in
+    let stops : StopsAttaching files old new c.in-Err.status = rw c.deref.ensures.value at c.in-Err.ensures.err in
+    rw c.in-Ok.ensures.read (stopped-spaces c.in-Err.status files old new stops)
+
+pub returns-clause-ran : goal.returns-clause-ran
+returns-clause-ran g c =
+    let disk = g.D.Disk in
+    let seen = g.P.Spaces.seen in
+    let old = seen c.args.spaces.now in
+    let new = seen c.attach_spaces.new.spaces in
+    let files = spaces_asked c.in-Ok.options.spaces.items in
+    let before = outside (g.S.Source.seen c.args.input.now) (g.K.Sink.seen c.args.output.now) in
+    let faults = disk.faults c.args.disk.now in
+    let stops : StopsAttaching files old new c.in-Err.status = rw c.deref.ensures.value at c.in-Err.ensures.err in
+    rw c.in-Ok.ensures.read
+    (ran-unattached disk.seen disk.image disk.moment disk.image_since disk.attached disk.faults g.met.D.Disk.only_now g.met.D.Disk.counts_now (CanAttach files old new × IsFaultless before before faults faults)
+    c.in-Err.status (is-unattached files old new c.in-Err.status stops) (λ given bad. not-bad files old new c.in-Err.status stops given.0 bad) (asked_of c.in-Ok.options) c.args.disk.now before)
+
+pub returns-clause-unopened : goal.returns-clause-unopened
+returns-clause-unopened g c =
+    let disk = g.D.Disk in
+    let seen = g.P.Spaces.seen in
+    rw c.in-Ok.ensures.read
+    (unattached-quiet disk.seen disk.image disk.moment disk.image_since disk.attached disk.faults g.met.D.Disk.only_now g.met.D.Disk.counts_now c.in-Err.status
+    (is-unattached _ (seen c.args.spaces.now) (seen c.attach_spaces.new.spaces) c.in-Err.status c.in-Err.ensures.err) c.in-Ok.options.fresh c.args.disk.now c.args.input.now c.args.output.now (disk.seen c.args.disk.now))
+
+pub returns-clause-file : goal.returns-clause-file
+returns-clause-file g c =
+    let seen = g.P.Spaces.seen in
+    rw c.in-Ok.ensures.read
+    (unattached-file c.in-Err.status (is-unattached _ (seen c.args.spaces.now) (seen c.attach_spaces.new.spaces) c.in-Err.status c.in-Err.ensures.err) c.in-Ok.options.fresh (g.D.Disk.seen c.args.disk.now))
+
+pub returns-clause-attached : goal.returns-clause-attached
+returns-clause-attached g c =
+    let seen = g.P.Spaces.seen in
+    rw c.in-Ok.ensures.read
+    (unattached-names c.in-Err.status (g.D.Disk.attached c.args.disk.now) (asked_of c.in-Ok.options) (is-unattached _ (seen c.args.spaces.now) (seen c.attach_spaces.new.spaces) c.in-Err.status c.in-Err.ensures.err))
+
+pub returns-clause-ends : goal.returns-clause-ends
+returns-clause-ends g c =
+    let seen = g.P.Spaces.seen in
+    unattached-ends c.in-Err.status (outside (g.S.Source.seen c.args.input.now) (g.K.Sink.seen c.args.output.now)) (is-unattached _ (seen c.args.spaces.now) (seen c.attach_spaces.new.spaces) c.in-Err.status c.in-Err.ensures.err)
+
+pub returns-clause-disk_faults : goal.returns-clause-disk_faults
+returns-clause-disk_faults g c =
+    let seen = g.P.Spaces.seen in
+    unattached-disk c.in-Err.status (g.D.Disk.faults c.args.disk.now) (is-unattached _ (seen c.args.spaces.now) (seen c.attach_spaces.new.spaces) c.in-Err.status c.in-Err.ensures.err)

@@ -1,0 +1,208 @@
+-- How a run ends that comes to no store, as a space can't be attached; and what it leaves where it comes to one.
+use Rattle.std.proofs.Common.{◌≡◌, ◌⊎◌, ℕ, ◌≤◌, ◌+◌, Bool, true, false, List, length, Option, None, Some, Ok, Err, refl, sym, ap, subst, ◌∙◌, inl, inr, arith, rules}
+use Rattle.std.specs.Prelude.{⊤, Result, IfOk, IfErr}
+use Rattle.std.specs.Option.{IfSome}
+use Rattle.hac_disk.specs.Images.{IsQuiet, LeavesOnly}
+use Rattle.hac_disk.specs.Contents.{IsSettled}
+use Rattle.hac_model.specs.Run.Play.{Setting}
+use Rattle.hac_model.specs.Script.CommandLine.{Options, Space}
+use Rattle.hac_outside.specs.Causes.{ReportsFault}
+use Rattle.hac_outside.specs.Known.{Known}
+use Rattle.hac_store.specs.Held.{held}
+use Rattle.sem_mounts.specs.Seen.{SpacesSeen}
+use Rattle.sem_mounts.specs.declared.faults.AttachFault.{AttachFault}
+use Rattle.sem_mounts.specs.declared.faults.AttachFault.TheVariants as attach
+use Rattle.hac_top.specs.Attaching.{AttachesStore, LeavesAttached, MayAttach}
+use Rattle.hac_top.specs.Crashes.{IsOfFile, StopsOpening, opening_outcome}
+use Rattle.hac_top.specs.Ends.{IsFinished, IsOpenStatus, IsStoreStatus, is_bad_space, is_disk_fault}
+use Rattle.hac_top.specs.Run.{AnswersBy, Completes, Ends, EndsSo, IfOpens, IsFaultless, Outside, Ran, TakesWithin}
+use Rattle.hac_top.specs.Spaces.{CanAttach, HasAttached, LeavesSpaces, StopsAttaching, attach_status}
+use Rattle.hac_top.specs.declared.status.Status.{Status}
+use Rattle.hac_top.specs.declared.status.Status.TheVariants.{Done, SomeRefused, Usage, ReadFault, WriteFault, DiskFault, NotStore, Memory, BadSpace, TooLong, AlreadyStore}
+use Rattle.hac_top.proofs.AttachLemmas.{not-bad}
+use Rattle.hac_top.proofs.OpenedLemmas.{Opening, opens-quiet, ran-none}
+
+-- a run that comes to its store ends otherwise than at its words or at a space
+pub opened-own : (status : Status) → IsOpenStatus status → IsStoreStatus status
+opened-own Usage opened = absurd opened
+opened-own (BadSpace which line) opened = absurd opened
+opened-own other opened = search rules
+
+pub unopened-own : (status : Status) → StopsOpening status → IsStoreStatus status
+unopened-own Usage stops = absurd stops
+unopened-own (BadSpace which line) stops = absurd stops
+unopened-own other stops = search rules
+
+-- a run on a store leaves its file attached
+pub opened-attached : (status : Status) (old : Option (List (List ℕ × Bool))) (asked : Options) (new : Option (List (List ℕ × Bool))) → IsOpenStatus status → AttachesStore old asked new → LeavesAttached status old asked new
+opened-attached (BadSpace which line) old asked new opened attaches = absurd opened
+opened-attached DiskFault old asked new opened attaches = inr attaches
+opened-attached Memory old asked new opened attaches = inr attaches
+opened-attached other old asked new opened attaches = attaches
+
+pub unopened-attached : (status : Status) (old : Option (List (List ℕ × Bool))) (asked : Options) (new : Option (List (List ℕ × Bool))) → StopsOpening status → MayAttach old asked new →
+    ((status ≡ DiskFault → ⊥) → AttachesStore old asked new) → LeavesAttached status old asked new
+unopened-attached (BadSpace which line) old asked new stops may attaches = absurd stops
+unopened-attached DiskFault old asked new stops may attaches = may
+unopened-attached Memory old asked new stops may attaches = may
+unopened-attached other old asked new stops may attaches = attaches (λ never. cc)
+
+-- once all are attached a run doesn't end at a space
+pub own-spaces : (status : Status) (files : List Space) (old new : SpacesSeen) → IsStoreStatus status → HasAttached files old new → LeavesSpaces status files old new
+own-spaces (BadSpace which line) files old new own has = absurd own
+own-spaces Memory files old new own has = inr (inr has)
+own-spaces other files old new own has = has
+
+pub own-good : (status : Status) → IsStoreStatus status → is_bad_space status ≡ true → ⊥
+own-good (BadSpace which line) own bad = own
+own-good other own bad = cc
+
+-- a run that can't attach one says so, or memory ran out
+pub stopped-spaces : (status : Status) (files : List Space) (old new : SpacesSeen) → StopsAttaching files old new status → LeavesSpaces status files old new
+stopped-spaces status files old new stops = by stops.fault stops.status_is
+  where
+    by : (fault : AttachFault) → status ≡ attach_status (length stops.front + 1) fault → LeavesSpaces status files old new
+    by attach.Failed is = rw is (subst (StopsAttaching files old new) is stops)
+    by (attach.BadCatalogue line) is = rw is (subst (StopsAttaching files old new) is stops)
+    by attach.Memory is = rw is (inr (inl (subst (StopsAttaching files old new) is stops)))
+
+-- such a status
+abbrev pub IsUnattached : Status → Type 0
+IsUnattached (BadSpace which line) = ⊤
+IsUnattached Memory = ⊤
+IsUnattached other = ⊥
+
+pub is-unattached : (files : List Space) (old new : SpacesSeen) (status : Status) → StopsAttaching files old new status → IsUnattached status
+is-unattached files old new status stops = by stops.fault stops.status_is
+  where
+    by : (fault : AttachFault) → status ≡ attach_status (length stops.front + 1) fault → IsUnattached status
+    by attach.Failed is = rw is tt
+    by (attach.BadCatalogue line) is = rw is tt
+    by attach.Memory is = rw is tt
+
+within-same : (left : Option (List ℕ)) → TakesWithin left left
+within-same None = tt
+within-same (Some bytes) = omega arith
+
+pub unattached-usage : (status : Status) → IsUnattached status → status ≡ Usage → ⊥
+unattached-usage status un is = subst IsUnattached is un
+
+-- nor does a run that refuses its words
+pub told-good : (status : Status) → (status ≡ Usage) ⊎ (status ≡ WriteFault) → is_bad_space status ≡ true → ⊥
+told-good status (inl is) bad = let never : false ≡ true = ap is_bad_space (sym is) ∙ bad in cc
+told-good status (inr is) bad = let never : false ≡ true = ap is_bad_space (sym is) ∙ bad in cc
+
+-- it did nothing else
+pub unattached-ends : (status : Status) (before : Outside) → IsUnattached status → Ends status before before
+unattached-ends (BadSpace which line) before un = record { reads = refl; writes = refl; within = within-same before.source.left; passed = λ _ none. none }
+unattached-ends Memory before un = record { reads = refl; writes = refl; within = within-same before.source.left; passed = λ _ none. none }
+unattached-ends other before un = absurd un
+
+pub unattached-disk : (status : Status) (faults : ℕ) → IsUnattached status → ReportsFault (is_disk_fault status) faults faults
+unattached-disk (BadSpace which line) faults un = refl
+unattached-disk Memory faults un = refl
+unattached-disk other faults un = absurd un
+
+pub unattached-names : (status : Status) (names : Option (List (List ℕ × Bool))) (asked : Options) → IsUnattached status → LeavesAttached status names asked names
+unattached-names (BadSpace which line) names asked un = refl
+unattached-names Memory names asked un = inl refl
+unattached-names other names asked un = absurd un
+
+of-no-file : (status : Status) → IsUnattached status → IsOfFile status → ⊥
+of-no-file (BadSpace which line) un is = is
+of-no-file Memory un is = is
+of-no-file other un is = absurd un
+
+pub unattached-file : (status : Status) → IsUnattached status → (fresh : Bool) (told : Option (List ℕ)) → IfSome told (λ file. IsOfFile status → opening_outcome fresh (held file) ≡ Err status)
+unattached-file status un fresh None = search rules
+unattached-file status un fresh (Some file) = λ is. absurd (of-no-file status un is)
+
+ends-so : (wanted status : Status) → IsUnattached status → EndsSo wanted status
+ends-so wanted (BadSpace which line) un = inr (inl refl)
+ends-so wanted Memory un = inr (inr (inr refl))
+ends-so wanted other un = absurd un
+
+-- what holds of a run that goes on from a store, given another premise
+pub ran-given : (fresh : Bool) (tick : ℕ) (status : Status) (before after : Outside) (settled : Type 0) (image : List ℕ → Type 0) (leaves : (List ℕ → Type 0) → Type 0) (less more : Type 0) → (more → less) →
+    (seen left : Option (List ℕ)) →
+    IfSome seen (λ file. IfSome left (λ script. IfOk (opening_outcome fresh (held file)) (λ setting. Ran fresh tick status setting script before after settled image leaves less))) →
+    IfSome seen (λ file. IfSome left (λ script. IfOk (opening_outcome fresh (held file)) (λ setting. Ran fresh tick status setting script before after settled image leaves more)))
+ran-given fresh tick status before after settled image leaves less more leads None left ran = search rules
+ran-given fresh tick status before after settled image leaves less more leads (Some file) None ran = search rules
+ran-given fresh tick status before after settled image leaves less more leads (Some file) (Some script) ran = by (opening_outcome fresh (held file)) ran
+  where
+    by : (outcome : Result Setting Status) → IfOk outcome (λ setting. Ran fresh tick status setting script before after settled image leaves less) →
+        IfOk outcome (λ setting. Ran fresh tick status setting script before after settled image leaves more)
+    by (Err wanted) ran = search rules
+    by (Ok setting) ran = record { played = ran.played; moments = ran.moments; begun = ran.begun; complete = λ given. ran.complete (leads given) }
+
+module _ {D : Type 0} (seen : D → Option (List ℕ)) (image : D → List ℕ → Type 0) (moment : D → ℕ) (image_since : D → ℕ → List ℕ → Type 0) (attached : D → Option (List (List ℕ × Bool))) (faults : D → ℕ)
+    (only_now : (disk : D) (c : List ℕ) → image_since disk (moment disk) c → image disk c) (counts_now : (disk : D) (t : ℕ) (c : List ℕ) → t ≤ moment disk → image disk c → image_since disk t c) where
+  pub untouched : (disk : D) → IsQuiet seen image moment image_since disk disk
+  untouched disk = record { same = refl; images = λ c left. left; later = omega arith; past = λ t c within left. left; keeps = λ t c within left. left }
+
+  pub unattached-quiet : {I O : Type 0} (status : Status) → IsUnattached status → (fresh : Bool) (disk : D) (input : I) (output : O) (told : Option (List ℕ)) →
+      IfSome told (λ file. IfErr (opening_outcome fresh (held file)) (λ wanted. EndsSo wanted status × IsQuiet seen image moment image_since disk disk × (input ≡ input) × (output ≡ output)))
+  unattached-quiet status un fresh disk input output None = search rules
+  unattached-quiet {I} {O} status un fresh disk input output (Some file) = by (opening_outcome fresh (held file))
+    where
+      by : (outcome : Result Setting Status) → IfErr outcome (λ wanted. EndsSo wanted status × IsQuiet seen image moment image_since disk disk × (input ≡ input) × (output ≡ output))
+      by (Ok setting) = search rules
+      by (Err wanted) = (ends-so wanted status un, untouched disk, refl, refl)
+
+  -- it answers nothing of the script, and a crash leaves what it would have gone on from
+  pub ran-unattached : (faultless : Type 0) (status : Status) → IsUnattached status → (faultless → is_bad_space status ≡ true → ⊥) → (asked : Options) (disk : D) (before : Outside) →
+      IfOpens (Some asked) (seen disk) before.source.left (λ asked setting script. Ran asked.fresh asked.tick status setting script before before
+      (IsSettled (seen disk) (image disk)) (image disk) (LeavesOnly moment image_since disk disk) faultless)
+  ran-unattached faultless status un good asked disk before = of-file (seen disk) (opens-quiet seen image moment image_since only_now asked.fresh (seen disk) disk disk (untouched disk))
+    where
+      settled : Type 0
+      settled = IsSettled (seen disk) (image disk)
+
+      says : Setting → List ℕ → Type 0
+      says setting script = Ran asked.fresh asked.tick status setting script before before settled (image disk) (LeavesOnly moment image_since disk disk) faultless
+
+      one : (status : Status) → IsUnattached status → (faultless → is_bad_space status ≡ true → ⊥) → (setting : Setting) (script : List ℕ) → Some script ≡ before.source.left →
+          Opening seen image moment image_since attached faults asked.fresh settled disk disk setting →
+          Ran asked.fresh asked.tick status setting script before before settled (image disk) (LeavesOnly moment image_since disk disk) faultless
+      one (BadSpace which line) un good setting script left_is opening =
+          ran-none seen image moment image_since attached faults counts_now asked.fresh asked.tick settled disk disk before faultless (BadSpace which line) setting script left_is opening (λ done. tt) (λ never. never)
+          (λ none. absurd (good none refl))
+      one Memory un good setting script left_is opening =
+          ran-none seen image moment image_since attached faults counts_now asked.fresh asked.tick settled disk disk before faultless Memory setting script left_is opening (λ done. tt) (λ never. never)
+          (λ _. record { within = λ _. inr refl; past = λ _. inr refl })
+      one other un good setting script left_is opening = absurd un
+
+      at : (outcome : Result Setting Status) (script : List ℕ) → Some script ≡ before.source.left → IfOk outcome (Opening seen image moment image_since attached faults asked.fresh settled disk disk) → IfOk outcome (λ setting. says setting script)
+      at (Err wanted) script left_is opening = search rules
+      at (Ok setting) script left_is opening = one status un good setting script left_is opening
+
+      of-left : (file : List ℕ) (left : Option (List ℕ)) → left ≡ before.source.left → IfOk (opening_outcome asked.fresh (held file)) (Opening seen image moment image_since attached faults asked.fresh settled disk disk) →
+          IfSome left (λ script. IfOk (opening_outcome asked.fresh (held file)) (λ setting. says setting script))
+      of-left file None left_is opening = search rules
+      of-left file (Some script) left_is opening = at (opening_outcome asked.fresh (held file)) script left_is opening
+
+      of-file : (file : Option (List ℕ)) → IfSome file (λ f. IfOk (opening_outcome asked.fresh (held f)) (Opening seen image moment image_since attached faults asked.fresh settled disk disk)) →
+          IfSome file (λ f. IfSome before.source.left (λ script. IfOk (opening_outcome asked.fresh (held f)) (λ setting. says setting script)))
+      of-file None opening = search rules
+      of-file (Some f) opening = of-left f before.source.left refl opening
+
+  -- memory ran out before any space was attached
+  pub memory-quiet : {I O : Type 0} (asked : Option Options) (disk : D) (input : I) (output : O) →
+      IfSome asked (λ asked. IfSome (seen disk) (λ file. IfErr (opening_outcome asked.fresh (held file)) (λ wanted. EndsSo wanted Memory × IsQuiet seen image moment image_since disk disk × (input ≡ input) × (output ≡ output))))
+  memory-quiet None disk input output = search rules
+  memory-quiet (Some asked) disk input output = unattached-quiet Memory tt asked.fresh disk input output (seen disk)
+
+  pub memory-ran : (faultless : Options → Type 0) (asked : Option Options) (disk : D) (before : Outside) →
+      IfOpens asked (seen disk) before.source.left (λ asked setting script. Ran asked.fresh asked.tick Memory setting script before before
+      (IsSettled (seen disk) (image disk)) (image disk) (LeavesOnly moment image_since disk disk) (faultless asked))
+  memory-ran faultless None disk before = search rules
+  memory-ran faultless (Some asked) disk before = ran-unattached (faultless asked) Memory tt (λ _ never. cc) asked disk before
+
+pub memory-spaces : (asked : Option Options) (spaces : SpacesSeen) → IfSome asked (λ asked. LeavesSpaces Memory asked.spaces spaces spaces)
+memory-spaces None spaces = search rules
+memory-spaces (Some asked) spaces = inl refl
+
+pub memory-attached : (asked : Option Options) (names : Option (List (List ℕ × Bool))) → IfSome asked (λ asked. LeavesAttached Memory names asked names)
+memory-attached None names = search rules
+memory-attached (Some asked) names = inl refl
