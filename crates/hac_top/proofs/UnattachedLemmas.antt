@@ -7,19 +7,17 @@ use Rattle.hac_disk.specs.Contents.{IsSettled}
 use Rattle.hac_model.specs.Run.Play.{Setting}
 use Rattle.hac_model.specs.Script.CommandLine.{Options, Space}
 use Rattle.hac_outside.specs.Causes.{ReportsFault}
-use Rattle.hac_outside.specs.Known.{Known}
 use Rattle.hac_store.specs.Held.{held}
 use Rattle.sem_mounts.specs.Seen.{SpacesSeen}
 use Rattle.sem_mounts.specs.declared.faults.AttachFault.{AttachFault}
 use Rattle.sem_mounts.specs.declared.faults.AttachFault.TheVariants as attach
 use Rattle.hac_top.specs.Attaching.{AttachesStore, LeavesAttached, MayAttach}
 use Rattle.hac_top.specs.Crashes.{IsOfFile, StopsOpening, opening_outcome}
-use Rattle.hac_top.specs.Ends.{IsFinished, IsOpenStatus, IsStoreStatus, is_bad_space, is_disk_fault}
-use Rattle.hac_top.specs.Run.{AnswersBy, Completes, Ends, EndsSo, IfOpens, IsFaultless, Outside, Ran, TakesWithin}
-use Rattle.hac_top.specs.Spaces.{CanAttach, HasAttached, LeavesSpaces, StopsAttaching, attach_status}
+use Rattle.hac_top.specs.Ends.{IsOpenStatus, IsStoreStatus, is_bad_space, is_disk_fault}
+use Rattle.hac_top.specs.Run.{Ends, EndsSo, IfOpens, Outside, Ran, TakesWithin}
+use Rattle.hac_top.specs.Spaces.{HasAttached, LeavesSpaces, StopsAttaching, attach_status}
 use Rattle.hac_top.specs.declared.status.Status.{Status}
-use Rattle.hac_top.specs.declared.status.Status.TheVariants.{Done, SomeRefused, Usage, ReadFault, WriteFault, DiskFault, NotStore, Memory, BadSpace, TooLong, AlreadyStore}
-use Rattle.hac_top.proofs.AttachLemmas.{not-bad}
+use Rattle.hac_top.specs.declared.status.Status.TheVariants.{Usage, WriteFault, DiskFault, Memory, BadSpace}
 use Rattle.hac_top.proofs.OpenedLemmas.{Opening, opens-quiet, ran-none}
 
 -- a run that comes to its store ends otherwise than at its words or at a space

@@ -1,13 +1,11 @@
-use Rattle.std.proofs.Common.{◌≡◌, Option, Some, None, inl, inr, refl, rules, subst, map, string_bytes}
-use Rattle.std.specs.Option.{IfSome}
+use Rattle.std.proofs.Common.{subst, map, string_bytes}
 use Rattle.hac_disk.specs.Contents.{IsSettled}
 use Rattle.hac_disk.specs.Images.{LeavesOnly}
-use Rattle.hac_model.specs.Script.CommandLine.{Options, Space, options}
-use Rattle.hac_top.specs.Ends.{IsStoreStatus, is_bad_space}
+use Rattle.hac_model.specs.Script.CommandLine.{options}
+use Rattle.hac_top.specs.Ends.{IsStoreStatus}
 use Rattle.hac_top.specs.Run.{IsFaultless, outside}
-use Rattle.hac_top.specs.Spaces.{CanAttach, HasAttached, LeavesSpaces, StopsAttaching}
+use Rattle.hac_top.specs.Spaces.{CanAttach, HasAttached, StopsAttaching}
 use Rattle.hac_top.specs.Words.{asked_of, spaces_asked}
-use Rattle.hac_top.specs.declared.status.Status.TheVariants.{Memory}
 use Rattle.hac_top.proofs.AttachLemmas.{asked-differ, not-bad}
 use Rattle.hac_top.proofs.UnattachedLemmas.{is-unattached, memory-attached, memory-quiet, memory-ran, memory-spaces, own-good, own-spaces, ran-given, ran-unattached, stopped-spaces, told-good, unattached-disk, unattached-ends, unattached-file, unattached-names, unattached-quiet, unattached-usage}
 use Rattle.hac_top.proofs.running.run.Goals as goal
