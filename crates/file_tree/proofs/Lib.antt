@@ -17,3 +17,8 @@ pub mod ShallowLemmas
 pub mod PlacedLemmas
 pub mod TraceLemmas
 pub mod WalkedLemmas
+pub mod OverLemmas
+pub mod FoundLemmas
+pub mod NumberLemmas
+pub mod NestLemmas
+pub mod MountLemmas

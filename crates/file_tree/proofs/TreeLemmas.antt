@@ -1,5 +1,5 @@
 -- What a tree keeps beside its nodes, after a change.
-use Rattle.std.proofs.Common.{◌≡◌, ℕ, true, false, List, [], ◌∷◌, ◌++◌, subst, refl, ap, sym, arith, ◌∙◌}
+use Rattle.std.proofs.Common.{◌≡◌, ◌<◌, ℕ, true, false, List, [], ◌∷◌, ◌++◌, subst, refl, ap, sym, arith, ◌∙◌}
 use Rattle.std.specs.Prelude.{◌||◌, nat_eq}
 use Rattle.std.specs.BTreeSet.{contains}
 use Rattle.std.specs.Ordering.{nat_cmp}
@@ -16,7 +16,7 @@ use Rattle.file_tree.specs.Answers.{is_dirty_at}
 use Rattle.file_tree.specs.Nodes.{entry_of, has_node, kids_of, name_of}
 use Rattle.file_tree.specs.Ready.{is_awaited}
 use Rattle.file_tree.specs.Seen.{Seen}
-use Rattle.file_tree.specs.Shape.{HasNew, HasSpare, IsShaped, IsTree, seen_of, state_of}
+use Rattle.file_tree.specs.Shape.{HasDocuments, HasNew, HasSpare, IsShaped, IsTree, seen_of, state_of}
 use Rattle.file_tree.specs.declared.nodes.Node.{Node}
 use Rattle.file_tree.specs.declared.ready.Ready.{Ready}
 use Rattle.file_tree.specs.declared.ready.Ready.TheVariants.{Nothing}
@@ -29,6 +29,7 @@ became u after seen shaped told dirty = record {
   shaped = shaped;
   counts_are = told ∙ ap (λ (x : Seen). counts x.state) (sym seen);
   dirty_are = λ n. dirty n ∙ sym (or-false (is_dirty_at after.entries n)) ∙ ap (λ (x : Seen). is_dirty_at x.state.entries n || is_awaited u.next x.ready n) (sym seen);
+  documents_are = subst (λ (r : Ready). HasDocuments r u.next u.documents.items) (sym (ap (λ (x : Seen). x.ready) seen)) tt;
 }
 
 -- where nothing is awaited, the set has just what is dirty
@@ -36,16 +37,24 @@ pub set-clean : (t : Inside) → IsTree t → t.ready ≡ Nothing → (n : ℕ) 
 set-clean t h none n = h.dirty_are n ∙ ap (λ r. is_dirty_at (state_of t).entries n || is_awaited t.next r n) none ∙ or-false (is_dirty_at (state_of t).entries n)
 
 -- a tree with other nodes that are no entries, ready for another change
-pub tree-prepared : (t : Inside) → IsTree t → (u : Inside) → u.next ≡ t.next → ((n : ℕ) → entry_of u.nodes n ≡ entry_of t.nodes n) → ((n : ℕ) → nat_eq t.next n ≡ false → name_of u.nodes n ≡ name_of t.nodes n) → ((dir : ℕ) → kids_of u.nodes dir ≡ kids_of t.nodes dir) →
-    ((n : ℕ) → nat_eq t.next n ≡ false → has_node u.nodes n ≡ has_node t.nodes n) → HasSpare u.ready u.nodes u.next u.spare.items → u.counts ≡ t.counts →
-    ((n : ℕ) → contains nat_cmp u.to_index n ≡ (is_dirty_at (state_of t).entries n || is_awaited t.next u.ready n)) → IsTree u
-tree-prepared t h u next told names kids numbers spare same set =
+pub tree-readied : (t : Inside) → IsTree t → (u : Inside) → u.next ≡ t.next → ((n : ℕ) → entry_of u.nodes n ≡ entry_of t.nodes n) → ((n : ℕ) → n < t.next → name_of u.nodes n ≡ name_of t.nodes n) → ((dir : ℕ) → kids_of u.nodes dir ≡ kids_of t.nodes dir) →
+    ((n : ℕ) → n < t.next → has_node u.nodes n ≡ has_node t.nodes n) → HasSpare u.ready u.nodes u.next u.spare.items → u.counts ≡ t.counts →
+    ((n : ℕ) → contains nat_cmp u.to_index n ≡ (is_dirty_at (state_of t).entries n || is_awaited t.next u.ready n)) → HasDocuments u.ready u.next u.documents.items → IsTree u
+tree-readied t h u next told names kids numbers spare same set documents =
     let state : state_of u ≡ state_of t = state-same t (seen_of t) refl h.shaped u next told in
     record {
       shaped = shaped-prepared t (seen_of t) refl h.shaped u next told names kids numbers spare;
       counts_are = same ∙ h.counts_are ∙ sym (ap counts state);
       dirty_are = λ n. set n ∙ (λ i. is_dirty_at (sym state i).entries n || is_awaited (sym next i) u.ready n);
+      documents_are = documents;
     }
+
+-- the same where only the next number has another node
+pub tree-prepared : (t : Inside) → IsTree t → (u : Inside) → u.next ≡ t.next → ((n : ℕ) → entry_of u.nodes n ≡ entry_of t.nodes n) → ((n : ℕ) → nat_eq t.next n ≡ false → name_of u.nodes n ≡ name_of t.nodes n) → ((dir : ℕ) → kids_of u.nodes dir ≡ kids_of t.nodes dir) →
+    ((n : ℕ) → nat_eq t.next n ≡ false → has_node u.nodes n ≡ has_node t.nodes n) → HasSpare u.ready u.nodes u.next u.spare.items → u.counts ≡ t.counts →
+    ((n : ℕ) → contains nat_cmp u.to_index n ≡ (is_dirty_at (state_of t).entries n || is_awaited t.next u.ready n)) → HasDocuments u.ready u.next u.documents.items → IsTree u
+tree-prepared t h u next told names kids numbers spare same set documents =
+    tree-readied t h u next told (λ n low. names n (ne_eqb t.next n (λ is. omega arith))) kids (λ n low. numbers n (ne_eqb t.next n (λ is. omega arith))) spare same set documents
 
 -- A tree that is ready for nothing.
 
