@@ -22,3 +22,4 @@ pub mod FoundLemmas
 pub mod NumberLemmas
 pub mod NestLemmas
 pub mod MountLemmas
+pub mod SyncLemmas

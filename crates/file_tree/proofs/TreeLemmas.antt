@@ -1,10 +1,13 @@
 -- What a tree keeps beside its nodes, after a change.
-use Rattle.std.proofs.Common.{◌≡◌, ◌<◌, ℕ, true, false, List, [], ◌∷◌, ◌++◌, subst, refl, ap, sym, arith, ◌∙◌}
-use Rattle.std.specs.Prelude.{◌||◌, nat_eq}
+use Rattle.std.proofs.Common.{◌≡◌, ◌<◌, ◌≤◌, ℕ, true, false, List, [], ◌∷◌, ◌++◌, subst, refl, ap, sym, arith, ◌∙◌}
+use Rattle.std.specs.Prelude.{◌||◌, nat_eq, nat_lt}
 use Rattle.std.specs.BTreeSet.{contains}
 use Rattle.std.specs.Ordering.{nat_cmp}
 use Rattle.std.proofs.Math.Bool.{or-false}
 use Rattle.std.proofs.lemmas.Bool.{ne_eqb}
+use Rattle.std.proofs.lemmas.Bool.Decides.{nat_tests}
+use Rattle.hac_model.specs.declared.limits.TheConstants.{NUMBERS_LIMIT}
+use Rattle.hac_model.proofs.LimitLemmas.{limits-within}
 use Rattle.indexmap.specs.IndexMap.{IndexMap}
 use Rattle.hac_model.specs.Tree.Events.{changed_at, edited}
 use Rattle.hac_model.specs.Tree.Limits.{counts}
@@ -56,6 +59,10 @@ pub tree-prepared : (t : Inside) → IsTree t → (u : Inside) → u.next ≡ t.
 tree-prepared t h u next told names kids numbers spare same set documents =
     tree-readied t h u next told (λ n low. names n (ne_eqb t.next n (λ is. omega arith))) kids (λ n low. numbers n (ne_eqb t.next n (λ is. omega arith))) spare same set documents
 
+-- numbers stay small
+pub next-small : (t : Inside) → IsTree t → t.next ≤ NUMBERS_LIMIT
+next-small t h = let low : nat_lt NUMBERS_LIMIT t.next ≡ false = (limits-within (state_of t) h.shaped.layout.limits).numbers in grind (arith, nat_tests, low)
+
 -- A tree that is ready for nothing.
 
 module _ (t : Inside) (state : State) (view : seen_of t ≡ record { state = state; ready = Nothing }) where
@@ -66,12 +73,17 @@ module _ (t : Inside) (state : State) (view : seen_of t ≡ record { state = sta
   pub spare-nothing : {S : Type 0} (nodes : IndexMap ℕ Node S) (next : ℕ) (spare : List ℕ) → HasSpare t.ready nodes next spare
   spare-nothing nodes next spare = subst (λ (r : Ready). HasSpare r nodes next spare) (sym ready-nothing) tt
 
-  -- a new entry is prepared in one of its directories
+  -- a new entry is prepared in one of its directories, beside others
+  pub new-readied : {S : Type 0} (nodes : IndexMap ℕ Node S) (dir : ℕ) (spare : List ℕ) → IsTree t → is_directory_at state.entries dir ≡ true → ((n : ℕ) → n < t.next → has_node nodes n ≡ has_node t.nodes n) → has_node nodes t.next ≡ true →
+      spare ≡ kids_of nodes dir ++ t.next ∷ [] → HasNew dir nodes t.next spare
+  new-readied nodes dir spare h is others new listed =
+      let there = directory-there t (record { state = state; ready = Nothing }) view h.shaped t dir is in
+      (listed, new, others dir there.1 ∙ there.0, there.1)
+
+  -- the same where only the next number has another node
   pub new-prepared : {S : Type 0} (nodes : IndexMap ℕ Node S) (dir : ℕ) (spare : List ℕ) → IsTree t → is_directory_at state.entries dir ≡ true → ((n : ℕ) → nat_eq t.next n ≡ false → has_node nodes n ≡ has_node t.nodes n) → has_node nodes t.next ≡ true →
       spare ≡ kids_of nodes dir ++ t.next ∷ [] → HasNew dir nodes t.next spare
-  new-prepared nodes dir spare h is others new listed =
-      let there = directory-there t (record { state = state; ready = Nothing }) view h.shaped t dir is in
-      (listed, new, others dir (ne_eqb t.next dir (λ same. omega (arith, there.1))) ∙ there.0, there.1)
+  new-prepared nodes dir spare h is others new listed = new-readied nodes dir spare h is (λ n low. others n (ne_eqb t.next n (λ same. omega arith))) new listed
 
 -- it is seen as this state, and keeps all
 abbrev pub Became : Inside → State → Type 0
