@@ -23,3 +23,5 @@ pub mod NumberLemmas
 pub mod NestLemmas
 pub mod MountLemmas
 pub mod SyncLemmas
+pub mod DroppedLemmas
+pub mod UnmountLemmas

@@ -45,7 +45,7 @@ document-clean (Symlink target) is = absurd cc
 document-clean (Semantic query permanent prohibited) is = absurd cc
 document-clean (Mount space answers) is = absurd cc
 
-mount-clean : (b : Body) → is_mount b ≡ true → dirty_in (Some (record { number = 0; parent = 0; name = []; body = b })) ≡ false
+pub mount-clean : (b : Body) → is_mount b ≡ true → dirty_in (Some (record { number = 0; parent = 0; name = []; body = b })) ≡ false
 mount-clean (Mount space answers) is = refl
 mount-clean (File text dirty shown) is = absurd cc
 mount-clean Dir is = absurd cc
@@ -152,7 +152,7 @@ module _ (t : Inside) (h : IsShaped t) (mount : ℕ) (is : is_mount_at (state_of
       ∙ ap (λ (d : ℕ). child (state_of t).entries d own.0.name) (sym own.2)
       ∙ child-own (state_of t).entries q own.0 h.layout.differ (seen-entry t h q ∙ own.1)
 
-  mount-low : mount < t.next
+  pub mount-low : mount < t.next
   mount-low = elim (cases_lt mount t.next) [
     | inl low ↦ low
     | inr high ↦
@@ -162,7 +162,7 @@ module _ (t : Inside) (h : IsShaped t) (mount : ℕ) (is : is_mount_at (state_of
   ]
 
   -- a document isn't dirty
-  dropped-clean : (q : ℕ) → has (kids_of t.nodes mount) q ≡ true → dirty_in (entry_of t.nodes q) ≡ false
+  pub dropped-clean : (q : ℕ) → has (kids_of t.nodes mount) q ≡ true → dirty_in (entry_of t.nodes q) ≡ false
   dropped-clean q in_it =
       let own = member q (has-among (kids_of t.nodes mount) q in_it) in
       ap dirty_in own.1 ∙ document-clean own.0.body (child-document q own.0 own.1 own.2)
@@ -177,10 +177,10 @@ module _ (t : Inside) (h : IsShaped t) (mount : ℕ) (is : is_mount_at (state_of
     abbrev pub documents : List Entry
     documents = documents_from t.next mount more
 
-    stays-by : (q : ℕ) → has (kids_of t.nodes mount) q ≡ false → leaves q ≡ false
+    pub stays-by : (q : ℕ) → has (kids_of t.nodes mount) q ≡ false → leaves q ≡ false
     stays-by q out = ap (λ (b : Bool). b && not (is_among xs (name_of t.nodes q))) out
 
-    leaves-in : (q : ℕ) → leaves q ≡ true → has (kids_of t.nodes mount) q ≡ true
+    pub leaves-in : (q : ℕ) → leaves q ≡ true → has (kids_of t.nodes mount) q ≡ true
     leaves-in q gone = (and_parts (has (kids_of t.nodes mount) q) (not (is_among xs (name_of t.nodes q))) gone).0
 
     -- the test of an entry says the same
