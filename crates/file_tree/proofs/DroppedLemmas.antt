@@ -4,16 +4,21 @@ use Rattle.std.specs.Prelude.{◌&&◌, not, is_none, Option, Some, None}
 use Rattle.std.proofs.lemmas.Bool.{cases_lt}
 use Rattle.hac_model.specs.Tree.Depends.{Among}
 use Rattle.hac_model.specs.Tree.Links.{has}
-use Rattle.hac_model.specs.Tree.Mounting.{do_names_rise, is_among}
+use Rattle.hac_model.specs.Tree.Mounting.{do_names_rise, documents_from, is_among}
 use Rattle.hac_model.specs.Tree.{is_mount_at}
-use Rattle.file_tree.specs.Documents.{is_dropped, numbers_from, with_names}
-use Rattle.file_tree.specs.Nodes.{entry_of, kids_of, name_of}
+use Rattle.hac_model.specs.declared.states.Entry.{Entry}
+use Rattle.file_tree.specs.Documents.{is_dropped, numbers_for, numbers_from, unknown, with_entries, with_names}
+use Rattle.file_tree.specs.Nodes.{entry_of, has_node, kids_of, name_of}
 use Rattle.file_tree.specs.Search.{first_named}
-use Rattle.file_tree.specs.Shape.{IsShaped, NamesRise, state_of}
+use Rattle.file_tree.specs.Seen.{Seen}
+use Rattle.file_tree.specs.Shape.{HasSpare, IsShaped, NamesRise, seen_of, state_of}
+use Rattle.file_tree.specs.declared.ready.Ready.{Ready}
+use Rattle.file_tree.specs.declared.ready.Ready.TheVariants.{Sync}
 use Rattle.file_tree.specs.declared.tree.Tree.TheInside.{Inside}
-use Rattle.file_tree.proofs.FoundLemmas.{has-among}
+use Rattle.file_tree.proofs.ChildLemmas.{child-named}
+use Rattle.file_tree.proofs.FoundLemmas.{found-same, has-among}
 use Rattle.file_tree.proofs.NumberLemmas.{found-map, names-rise, number-names}
-use Rattle.file_tree.proofs.OverLemmas.{NamesFollow, named-follow, named-low, names-same}
+use Rattle.file_tree.proofs.OverLemmas.{named-follow, named-low, named-same, names-same, over-same}
 use Rattle.file_tree.proofs.SyncLemmas.{documents, find, find-member, high-outside, leaves, member, more}
 
 module _ (t : Inside) (h : IsShaped t) (mount : ℕ) (is : is_mount_at (state_of t).entries mount ≡ true) where
@@ -29,7 +34,7 @@ module _ (t : Inside) (h : IsShaped t) (mount : ℕ) (is : is_mount_at (state_of
   ]
 
   module _ (xs : List (List ℕ)) (g : ℕ → List ℕ) (same : (q : ℕ) → g q ≡ with_names (documents t h mount is xs) (name_of t.nodes) q) where
-    low-name : (q : ℕ) → q < t.next → g q ≡ name_of t.nodes q
+    pub low-name : (q : ℕ) → q < t.next → g q ≡ name_of t.nodes q
     low-name q low = same q ∙ named-low (more t h mount is xs) t.next mount q (name_of t.nodes) low
 
     -- the new list has these names
@@ -49,3 +54,36 @@ module _ (t : Inside) (h : IsShaped t) (mount : ℕ) (is : is_mount_at (state_of
           ∙ ap (λ (x : List ℕ). not (is_among xs x)) (low-name q (member-low q (has-among (kids_of t.nodes mount) q in_it))))
       | false ↦ (λ out. refl)
     ] refl
+
+  -- what is under each number once they are put, where the same is found
+  module _ (xs : List (List ℕ)) (f : List ℕ → Option ℕ) (same : f ≡ find t h mount is) where
+    pub entries-put : (at old : ℕ → Option Entry) → ((q : ℕ) → old q ≡ entry_of t.nodes q) → ((q : ℕ) → at q ≡ with_entries (documents_from t.next mount (unknown f xs)) old q) → (q : ℕ) → at q ≡ with_entries (documents t h mount is xs) (entry_of t.nodes) q
+    entries-put at old before told q =
+        told q ∙ (λ i. with_entries (documents_from t.next mount (unknown (same i) xs)) old q)
+        ∙ over-same (documents t h mount is xs) (entry_of t.nodes) old before q
+
+    pub names-put : (g old : ℕ → List ℕ) → ((q : ℕ) → old q ≡ name_of t.nodes q) → ((q : ℕ) → g q ≡ with_names (documents_from t.next mount (unknown f xs)) old q) → (q : ℕ) → g q ≡ with_names (documents t h mount is xs) (name_of t.nodes) q
+    names-put g old before told q =
+        told q ∙ (λ i. with_names (documents_from t.next mount (unknown (same i) xs)) old q)
+        ∙ named-same (documents t h mount is xs) (name_of t.nodes) old before q
+
+-- What is seen of a mount.
+
+module _ (t : Inside) (s : Seen) (view : seen_of t ≡ s) (mount : ℕ) where
+  pub mount-inside : is_mount_at s.state.entries mount ≡ true → is_mount_at (state_of t).entries mount ≡ true
+  mount-inside is = subst (λ (x : Seen). is_mount_at x.state.entries mount ≡ true) (sym view) is
+
+  module _ (h : IsShaped t) (is : is_mount_at (state_of t).entries mount ≡ true) where
+    -- what is found among its children is what it has
+    pub finds : (g : ℕ → List ℕ) (known : List ℕ) → ((q : ℕ) → g q ≡ name_of t.nodes q) → known ≡ kids_of t.nodes mount → first_named g known ≡ find t h mount is
+    finds g known same told = λ i x. (
+      found-same (name_of t.nodes) g known x (λ n among. same n)
+      ∙ ap (λ (ns : List ℕ). first_named (name_of t.nodes) ns x) told
+      ∙ sym (child-named t h mount x)) i
+
+    -- the numbers that were prepared
+    pub ready-inside : (xs : List (List ℕ)) → s.ready ≡ Sync mount (numbers_for s.state mount xs) → t.ready ≡ Sync mount (numbers_from (find t h mount is) t.next xs)
+    ready-inside xs ready = ap (λ (x : Seen). x.ready) view ∙ ready ∙ ap (λ (x : Seen). Sync mount (numbers_for x.state mount xs)) (sym view)
+
+    pub spare-inside : (xs : List (List ℕ)) → s.ready ≡ Sync mount (numbers_for s.state mount xs) → (q : ℕ) → Among (numbers_from (find t h mount is) t.next xs) q → has_node t.nodes q ≡ true
+    spare-inside xs ready = subst (λ (r : Ready). HasSpare r t.nodes t.next t.spare.items) (ready-inside xs ready) h.spare
