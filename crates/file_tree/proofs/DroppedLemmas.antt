@@ -77,9 +77,9 @@ module _ (t : Inside) (s : Seen) (view : seen_of t ≡ s) (mount : ℕ) where
     -- what is found among its children is what it has
     pub finds : (g : ℕ → List ℕ) (known : List ℕ) → ((q : ℕ) → g q ≡ name_of t.nodes q) → known ≡ kids_of t.nodes mount → first_named g known ≡ find t h mount is
     finds g known same told = λ i x. (
-      found-same (name_of t.nodes) g known x (λ n among. same n)
-      ∙ ap (λ (ns : List ℕ). first_named (name_of t.nodes) ns x) told
-      ∙ sym (child-named t h mount x)) i
+        found-same (name_of t.nodes) g known x (λ n among. same n)
+        ∙ ap (λ (ns : List ℕ). first_named (name_of t.nodes) ns x) told
+        ∙ sym (child-named t h mount x)) i
 
     -- the numbers that were prepared
     pub ready-inside : (xs : List (List ℕ)) → s.ready ≡ Sync mount (numbers_for s.state mount xs) → t.ready ≡ Sync mount (numbers_from (find t h mount is) t.next xs)

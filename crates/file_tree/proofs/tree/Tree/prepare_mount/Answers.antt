@@ -43,8 +43,7 @@ invariant_of-self-2 c =
     let view = c.self.view_is ∙ c.forget.ensures in
     tree-readied c.self.inside c.self.invariant _ refl c.prepare_nodes.ensures.entries
     (λ n low. c.prepare_nodes.ensures.names n (omega (arith, c.get.ensures))) c.prepare_nodes.ensures.kids
-    (λ n low. c.prepare_nodes.ensures.others n (omega (arith, c.get.ensures)))
-    (
+    (λ n low. c.prepare_nodes.ensures.others n (omega (arith, c.get.ensures))) (
       new-readied c.self.inside c.args.self.now.state view c.prepare_nodes.new.nodes c.args.dir c.in_ok-self-inside.field-0.items c.self.invariant c.requires.dir
           (λ n low. c.prepare_nodes.ensures.others n (omega (arith, c.get.ensures)))
           (c.in_ok-prepare_nodes.ensures.there c.self.inside.next (omega (arith, c.get.ensures)) (omega (arith, c.get-first.ensures))) c.in_ok-self-inside.ensures,
