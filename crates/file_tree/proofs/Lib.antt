@@ -13,6 +13,8 @@ pub mod OrderLemmas
 pub mod DirtyLemmas
 pub mod TreeLemmas
 pub mod CountingLemmas
+pub mod TallyLemmas
+pub mod DeepLemmas
 pub mod ShallowLemmas
 pub mod PlacedLemmas
 pub mod TraceLemmas
