@@ -31,25 +31,25 @@ use Rattle.file_tree.proofs.TallyLemmas.{all-documents, documents-each, document
 
 -- The entry of a number among two lists.
 
-front-found : (es fs : List Entry) (n : ℕ) (e : Entry) → entry_at es n ≡ Some e → entry_at (es ++ fs) n ≡ Some e
+pub front-found : (es fs : List Entry) (n : ℕ) (e : Entry) → entry_at es n ≡ Some e → entry_at (es ++ fs) n ≡ Some e
 front-found [] fs n e found = absurd cc
 front-found (x ∷ es) fs n e found = elim (x.number == n) as (λ b. cond b (Some x) (entry_at es n) ≡ Some e → cond b (Some x) (entry_at (es ++ fs) n) ≡ Some e) [
   | true ↦ (λ found. found)
   | false ↦ (λ found. front-found es fs n e found)
 ] found
 
-behind-found : (es fs : List Entry) (n : ℕ) → entry_at es n ≡ None → entry_at (es ++ fs) n ≡ entry_at fs n
+pub behind-found : (es fs : List Entry) (n : ℕ) → entry_at es n ≡ None → entry_at (es ++ fs) n ≡ entry_at fs n
 behind-found [] fs n none = refl
 behind-found (x ∷ es) fs n none = elim (x.number == n) as (λ b. cond b (Some x) (entry_at es n) ≡ None → cond b (Some x) (entry_at (es ++ fs) n) ≡ entry_at fs n) [
   | true ↦ (λ none. absurd cc)
   | false ↦ (λ none. behind-found es fs n none)
 ] none
 
-documents-low : (k m : ℕ) (xs : List (List ℕ)) (n : ℕ) → n < k → entry_at (documents_from k m xs) n ≡ None
+pub documents-low : (k m : ℕ) (xs : List (List ℕ)) (n : ℕ) → n < k → entry_at (documents_from k m xs) n ≡ None
 documents-low k m [] n low = refl
 documents-low k m (x ∷ xs) n low = ap (λ (b : Bool). cond b (Some (document k m x)) (entry_at (documents_from (k + 1) m xs) n)) (ne_eqb k n (λ same. omega arith)) ∙ documents-low (k + 1) m xs n (omega arith)
 
-documents-found : (k m : ℕ) (xs : List (List ℕ)) (n : ℕ) → k ≤ n → n < k + length xs → (e : Entry) × (entry_at (documents_from k m xs) n ≡ Some e) × (e.parent ≡ m)
+pub documents-found : (k m : ℕ) (xs : List (List ℕ)) (n : ℕ) → k ≤ n → n < k + length xs → (e : Entry) × (entry_at (documents_from k m xs) n ≡ Some e) × (e.parent ≡ m)
 documents-found k m [] n high low = absurd (omega arith)
 documents-found k m (x ∷ xs) n high low = elim (same-or-not k n) [
   | inl same ↦ (document k m x, ap (λ (b : Bool). cond b (Some (document k m x)) (entry_at (documents_from (k + 1) m xs) n)) (eq-eqb k n same), refl)
@@ -58,7 +58,7 @@ documents-found k m (x ∷ xs) n high low = elim (same-or-not k n) [
       (rest.0, ap (λ (b : Bool). cond b (Some (document k m x)) (entry_at (documents_from (k + 1) m xs) n)) (ne_eqb k n other) ∙ rest.1, rest.2))
 ]
 
-documents-pass : (test : ℕ → Bool) (deep : Bool) (k m : ℕ) (xs : List (List ℕ)) → ((n : ℕ) → k ≤ n → n < k + length xs → test n ≡ deep) → list_all (λ (e : Entry). test e.number) (documents_from k m xs) ≡ cond (length xs == 0) true deep
+pub documents-pass : (test : ℕ → Bool) (deep : Bool) (k m : ℕ) (xs : List (List ℕ)) → ((n : ℕ) → k ≤ n → n < k + length xs → test n ≡ deep) → list_all (λ (e : Entry). test e.number) (documents_from k m xs) ≡ cond (length xs == 0) true deep
 documents-pass test deep k m [] each = refl
 documents-pass test deep k m (x ∷ xs) each =
     let some : (length (x ∷ xs) == 0) ≡ false = ne_eqb (length (x ∷ xs)) 0 (λ same. omega arith) in
@@ -76,11 +76,11 @@ limit-more : (l : ℕ) × (limit ≡ suc l)
 unfolding limit
 limit-more = (63, refl)
 
-limit-is : limit ≡ PATH_LIMIT
+pub limit-is : limit ≡ PATH_LIMIT
 unfolding limit
 limit-is = refl
 
-all_pass : (test : Entry → Bool) (es : List Entry) → AllByRecursion (λ e. test e ≡ true) es → list_all test es ≡ true
+pub all_pass : (test : Entry → Bool) (es : List Entry) → AllByRecursion (λ e. test e ≡ true) es → list_all test es ≡ true
 all_pass test [] all = refl
 all_pass test (e ∷ es) all = and_from (test e) (list_all test es) all.0 (all_pass test es all.1)
 

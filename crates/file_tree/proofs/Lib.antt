@@ -15,6 +15,8 @@ pub mod TreeLemmas
 pub mod CountingLemmas
 pub mod TallyLemmas
 pub mod DeepLemmas
+pub mod SwapLemmas
+pub mod LongLemmas
 pub mod ShallowLemmas
 pub mod PlacedLemmas
 pub mod TraceLemmas

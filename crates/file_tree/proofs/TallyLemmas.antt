@@ -70,7 +70,7 @@ pub all-documents : (k m : ℕ) (xs : List (List ℕ)) → AllByRecursion (λ (e
 all-documents k m [] = tt
 all-documents k m (x ∷ xs) = (refl, all-documents (k + 1) m xs)
 
-all-in : (P Q : Entry → Type 0) (test : Entry → Bool) (es : List Entry) → ((e : Entry) → P e → test e ≡ true → Q e) → AllByRecursion P es → AllByRecursion Q (filter test es)
+pub all-in : (P Q : Entry → Type 0) (test : Entry → Bool) (es : List Entry) → ((e : Entry) → P e → test e ≡ true → Q e) → AllByRecursion P es → AllByRecursion Q (filter test es)
 all-in P Q test [] each all = tt
 all-in P Q test (e ∷ es) each all = elim (test e) as (λ b. test e ≡ b → AllByRecursion Q (cond b (e ∷ filter test es) (filter test es))) [
   | true ↦ (λ is. (each e all.0 is, all-in P Q test es each all.1))

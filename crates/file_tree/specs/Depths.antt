@@ -16,6 +16,10 @@ is_shallow (suc names) s dir = list_all (is_shallow names s) (map (λ child. chi
 abbrev pub is_deep : ℕ → ℕ → Bool
 is_deep names count = if count == 0 then nat_le PATH_LIMIT names else nat_le PATH_LIMIT (names + 1)
 
+-- a path is too long where this many entries come to a directory whose path has this many names
+abbrev pub is_deep_in : ℕ → ℕ → Bool
+is_deep_in names count = if count == 0 then false else nat_le PATH_LIMIT names
+
 -- an entry may go to a directory
 pub record GoesTo (s : State) (entry dir : ℕ) : Type 0 where
   pub there : IsTrue (is_some (entry_at s.entries entry))

@@ -1,5 +1,5 @@
 //! What entries count for, and sums of counts.
-ghost use Rattle.std.specs.Prelude.{◌≡◌, ◌+◌, ◌<◌, ◌≤◌, ◌^◌, ℕ, List, IsTrue};
+ghost use Rattle.std.specs.Prelude.{◌≡◌, ◌+◌, ◌-◌, ◌<◌, ◌≤◌, ◌^◌, ℕ, List, IsTrue};
 ghost use Rattle.hac_model.specs.Tree.Limits.{counts, file_bytes};
 ghost use Rattle.hac_model.specs.Tree.{empty, is_dirty, is_file};
 ghost use Rattle.hac_model.specs.Query.Formula.{Formula};
@@ -138,6 +138,26 @@ pub(crate) fn as_new(share: Counts, is_long: bool) -> Counts
         long_paths: u64::from(is_long),
         next: 1,
         ..share
+    }
+}
+
+/// The counts once a mount has `new` documents in place of `old` ones. So many of them take
+/// numbers, and their paths may be too long.
+pub(crate) fn synced(counts: Counts, old: u64, new: u64, fresh: u64, is_long: bool) -> Counts
+    requires small { AreSmall counts }
+    requires new_few { new ≤ DOCS_LIMIT }
+    requires fresh_few { fresh ≤ new }
+    requires there { old ≤ counts.items }
+    ensures { result ≡ record counts {
+      items = counts.items - old + new;
+      long_paths = one_if is_long;
+      next = counts.next + fresh;
+    } }
+{
+    Counts {
+        items: counts.items - old + new,
+        next: counts.next + fresh,
+        ..with_long_paths(counts, is_long)
     }
 }
 
