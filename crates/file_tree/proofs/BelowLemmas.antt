@@ -54,7 +54,7 @@ below-all k at n numbered above = elim (cases_lt n k) [
 ]
 
 -- what is made of the entries part by part is made of them all
-below-made : (make : List Entry → List Entry) → make [] ≡ [] → ((xs ys : List Entry) → make (xs ++ ys) ≡ make xs ++ make ys) → (k : ℕ) (at other : ℕ → Option Entry) → ((n : ℕ) → n < k → option_to_list (other n) ≡ make (option_to_list (at n))) → entries_below k other ≡ make (entries_below k at)
+pub below-made : (make : List Entry → List Entry) → make [] ≡ [] → ((xs ys : List Entry) → make (xs ++ ys) ≡ make xs ++ make ys) → (k : ℕ) (at other : ℕ → Option Entry) → ((n : ℕ) → n < k → option_to_list (other n) ≡ make (option_to_list (at n))) → entries_below k other ≡ make (entries_below k at)
 below-made make nothing parts zero at other told = sym nothing
 below-made make nothing parts (suc k) at other told =
     ap (λ (es : List Entry). es ++ option_to_list (other k)) (below-made make nothing parts k at other (λ n low. told n (omega arith)))

@@ -18,7 +18,7 @@ use Rattle.file_tree.specs.declared.tree.Tree.TheInside.{Inside}
 use Rattle.file_tree.proofs.ReadLemmas.{seen-entry}
 
 -- what has the name is among the numbers
-named-member : (names : ℕ → List ℕ) (ns : List ℕ) (name : List ℕ) (n : ℕ) → first_named names ns name ≡ Some n → Among ns n × (bytes_eq (names n) name ≡ true)
+pub named-member : (names : ℕ → List ℕ) (ns : List ℕ) (name : List ℕ) (n : ℕ) → first_named names ns name ≡ Some n → Among ns n × (bytes_eq (names n) name ≡ true)
 named-member names [] name n found = absurd cc
 named-member names (m ∷ ns) name n found =
     elim (bytes_eq (names m) name) as (λ b. bytes_eq (names m) name ≡ b → cond b (Some m) (first_named names ns name) ≡ Some n → Among (m ∷ ns) n × (bytes_eq (names n) name ≡ true)) [

@@ -25,7 +25,7 @@ use Rattle.file_tree.proofs.ListLemmas.{none-among, rank-inside}
 use Rattle.file_tree.proofs.ReadLemmas.{entry_of-number, none-there, seen-at, seen-entry}
 use Rattle.file_tree.proofs.ShapeLemmas.{none-standing, same-or-not, told_at, told-here, told-there, tree-linked, tree-same, tree-unlinked}
 
-abbrev state_with : ℕ → List Entry → State
+abbrev pub state_with : ℕ → List Entry → State
 state_with next entries = record { next = next; entries = entries; sessions = [] }
 
 -- what is there after a change of one entry
@@ -70,16 +70,16 @@ module _ (t : Inside) (s : Seen) (view : seen_of t ≡ s) (h : IsShaped t) (u : 
       ∙ ap (λ (x : State). added x dir name body) seen-state
 
   -- the root has its node still
-  root-there : ((n : ℕ) → (t.next ≡ n → ⊥) → has_node u.nodes n ≡ has_node t.nodes n) → has_node u.nodes 0 ≡ true
-  root-there numbers = let positive : 0 < t.next = rise-below 0 (state_of t).entries t.next h.layout.numbers in numbers 0 (λ same. omega arith) ∙ h.root
+  root-there : ((n : ℕ) → n < t.next → has_node u.nodes n ≡ has_node t.nodes n) → has_node u.nodes 0 ≡ true
+  root-there numbers = numbers 0 (rise-below 0 (state_of t).entries t.next h.layout.numbers) ∙ h.root
 
-  -- no number got a node and no entry, but for the next one
-  none-other : u.next ≡ t.next → ((n : ℕ) → (t.next ≡ n → ⊥) → has_node u.nodes n ≡ has_node t.nodes n) → ((n : ℕ) → entry_of u.nodes n ≡ None → entry_of t.nodes n ≡ None) → HasNoOther u.nodes u.next
-  none-other next numbers none n root ahead gone = numbers n (λ same. ahead (sym (next ∙ same))) ∙ h.others n root (λ same. ahead (same ∙ sym next)) (none n gone)
+  -- no number that was taken got a node and no entry
+  none-other : u.next ≡ t.next → ((n : ℕ) → n < t.next → has_node u.nodes n ≡ has_node t.nodes n) → ((n : ℕ) → entry_of u.nodes n ≡ None → entry_of t.nodes n ≡ None) → HasNoOther u.nodes u.next
+  none-other next numbers none n root low gone = let below : n < t.next = subst (λ (k : ℕ). n < k) next low in numbers n below ∙ h.others n root below (none n gone)
 
   -- the tree keeps what it kept where neither parents nor children changed
   pub shaped-same : u.next ≡ t.next → ((n : ℕ) → parent_in (entry_of u.nodes n) ≡ parent_in (entry_of t.nodes n)) → ((dir n : ℕ) → parent_in (entry_of t.nodes n) ≡ Some dir → name_of u.nodes n ≡ name_of t.nodes n) → ((dir : ℕ) → kids_of u.nodes dir ≡ kids_of t.nodes dir) →
-      ((n : ℕ) → (t.next ≡ n → ⊥) → has_node u.nodes n ≡ has_node t.nodes n) → IsLayout (state_of u) → HasSpare u.ready u.nodes u.next u.spare.items → IsShaped u
+      ((n : ℕ) → n < t.next → has_node u.nodes n ≡ has_node t.nodes n) → IsLayout (state_of u) → HasSpare u.ready u.nodes u.next u.spare.items → IsShaped u
   shaped-same next parents names kids numbers layout spare = record {
     lists = subst (λ (k : ℕ). AreNested k (entry_of u.nodes) (name_of u.nodes) (kids_of u.nodes)) (sym next)
         (tree-same t.next (entry_of t.nodes) (entry_of u.nodes) (name_of t.nodes) (name_of u.nodes) (kids_of t.nodes) (kids_of u.nodes) h.lists parents names kids);
@@ -97,19 +97,18 @@ module _ (t : Inside) (s : Seen) (view : seen_of t ≡ s) (h : IsShaped t) (u : 
       (subst IsLayout (sym (state-changed m (edited edit) next told)) layout) spare
 
   -- a number that has an entry is below the next one
-  entry-low : (n : ℕ) (e : Entry) → entry_of t.nodes n ≡ Some e → n < t.next
+  pub entry-low : (n : ℕ) (e : Entry) → entry_of t.nodes n ≡ Some e → n < t.next
   entry-low n e found = entry_at-below 0 (state_of t).entries t.next n e h.layout.numbers (seen-entry t h n ∙ found)
 
-  -- a node that is no entry is under the next number
-  pub shaped-prepared : u.next ≡ t.next → ((n : ℕ) → entry_of u.nodes n ≡ entry_of t.nodes n) → ((n : ℕ) → nat_eq t.next n ≡ false → name_of u.nodes n ≡ name_of t.nodes n) → ((dir : ℕ) → kids_of u.nodes dir ≡ kids_of t.nodes dir) →
-      ((n : ℕ) → nat_eq t.next n ≡ false → has_node u.nodes n ≡ has_node t.nodes n) → HasSpare u.ready u.nodes u.next u.spare.items → IsShaped u
+  -- nodes that are no entries are under numbers that weren't taken
+  pub shaped-prepared : u.next ≡ t.next → ((n : ℕ) → entry_of u.nodes n ≡ entry_of t.nodes n) → ((n : ℕ) → n < t.next → name_of u.nodes n ≡ name_of t.nodes n) → ((dir : ℕ) → kids_of u.nodes dir ≡ kids_of t.nodes dir) →
+      ((n : ℕ) → n < t.next → has_node u.nodes n ≡ has_node t.nodes n) → HasSpare u.ready u.nodes u.next u.spare.items → IsShaped u
   shaped-prepared next told names kids numbers spare =
       shaped-same next (λ n. ap parent_in (told n))
       (λ dir n stands.
       let found = parent-told (entry_of t.nodes n) dir stands in
-      let low : n < t.next = entry-low n found.0 found.1 in
-      names n (ne_eqb t.next n (λ same. omega arith)))
-      kids (λ n other. numbers n (ne_eqb t.next n other)) (subst IsLayout (sym (state-same next told)) (subst (λ (x : Seen). IsLayout x.state) view h.layout)) spare
+      names n (entry-low n found.0 found.1))
+      kids numbers (subst IsLayout (sym (state-same next told)) (subst (λ (x : Seen). IsLayout x.state) view h.layout)) spare
 
   -- a directory has a node, and its number is below the next one
   pub directory-there : (dir : ℕ) → is_directory_at s.state.entries dir ≡ true → (has_node t.nodes dir ≡ true) × (dir < t.next)
@@ -125,7 +124,7 @@ module _ (t : Inside) (s : Seen) (view : seen_of t ≡ s) (h : IsShaped t) (u : 
           (entry-node t.nodes dir found.0 there, entry-low dir found.0 there)
 
 -- two entries of a sound layout in one directory under one name are one
-apart : (u : Inside) → IsLayout (state_of u) → ((n : ℕ) → u.next ≤ n → entry_of u.nodes n ≡ None) → (m n : ℕ) (e f : Entry) → entry_of u.nodes m ≡ Some e → entry_of u.nodes n ≡ Some f → e.parent ≡ f.parent → e.name ≡ f.name → m ≡ n
+pub apart : (u : Inside) → IsLayout (state_of u) → ((n : ℕ) → u.next ≤ n → entry_of u.nodes n ≡ None) → (m n : ℕ) (e f : Entry) → entry_of u.nodes m ≡ Some e → entry_of u.nodes n ≡ Some f → e.parent ≡ f.parent → e.name ≡ f.name → m ≡ n
 apart u layout above m n e f found other parents names =
     let both : Some m ≡ Some n =
     sym (child-own (state_of u).entries m e layout.differ (below-all u.next (entry_of u.nodes) m (entry_of-number u.nodes) above ∙ found))
@@ -134,7 +133,7 @@ apart u layout above m n e f found other parents names =
     ∙ child-own (state_of u).entries n f layout.differ (below-all u.next (entry_of u.nodes) n (entry_of-number u.nodes) above ∙ other) in
     cc
 
-true-or-false : (b : Bool) → (b ≡ true) ⊎ (b ≡ false)
+pub true-or-false : (b : Bool) → (b ≡ true) ⊎ (b ≡ false)
 true-or-false true = inl refl
 true-or-false false = inr refl
 
@@ -150,7 +149,7 @@ module _ (t : Inside) (s : Seen) (view : seen_of t ≡ s) (h : IsShaped t) (u : 
     layout = sound;
     root = numbers 0 ∙ h.root;
     spare = spare;
-    others = λ n root ahead gone. numbers n ∙ h.others n root (new-there n gone) (sym (told-there t.next (Some new) (entry_of t.nodes) n (λ same. new-there n gone (sym same))) ∙ sym (told n) ∙ gone);
+    others = λ n root ahead gone. numbers n ∙ h.others n root (before n (subst (λ (k : ℕ). n < k) next ahead) (new-there n gone)) (sym (told-there t.next (Some new) (entry_of t.nodes) n (λ same. new-there n gone (sym same))) ∙ sym (told n) ∙ gone);
   }
     where
       new : Entry
@@ -164,6 +163,9 @@ module _ (t : Inside) (s : Seen) (view : seen_of t ≡ s) (h : IsShaped t) (u : 
 
       new-there : (n : ℕ) → entry_of u.nodes n ≡ None → n ≡ t.next → ⊥
       new-there n gone same = let none : Some new ≡ None = sym here ∙ ap (λ (k : ℕ). entry_of u.nodes k) (sym same) ∙ gone in cc
+
+      before : (n : ℕ) → n < t.next + 1 → (n ≡ t.next → ⊥) → n < t.next
+      before n low other = omega arith
 
       above : (n : ℕ) → u.next ≤ n → entry_of u.nodes n ≡ None
       above n high = let more : t.next + 1 ≤ n = subst (λ (k : ℕ). k ≤ n) next high in told n ∙ told-there t.next (Some new) (entry_of t.nodes) n (λ same. omega arith) ∙ h.lists.above n (omega arith)
@@ -198,7 +200,7 @@ module _ (t : Inside) (s : Seen) (view : seen_of t ≡ s) (h : IsShaped t) (u : 
     spare = spare;
     others = λ q root ahead gone. numbers q ∙ (elim (same-or-not n q) [
       | inl same ↦ ap (λ (k : ℕ). told_at n false (has_node t.nodes) k) (sym same) ∙ told-here n false (has_node t.nodes)
-      | inr other ↦ told-there n false (has_node t.nodes) q other ∙ h.others q root (λ same. ahead (same ∙ sym next)) (sym (told-there n None (entry_of t.nodes) q other) ∙ sym (told q) ∙ gone)
+      | inr other ↦ told-there n false (has_node t.nodes) q other ∙ h.others q root (subst (λ (k : ℕ). q < k) next ahead) (sym (told-there n None (entry_of t.nodes) q other) ∙ sym (told q) ∙ gone)
     ]);
   }
     where

@@ -1,10 +1,13 @@
 -- What a tree keeps beside its nodes, after a change.
-use Rattle.std.proofs.Common.{◌≡◌, ℕ, true, false, List, [], ◌∷◌, ◌++◌, subst, refl, ap, sym, arith, ◌∙◌}
-use Rattle.std.specs.Prelude.{◌||◌, nat_eq}
+use Rattle.std.proofs.Common.{◌≡◌, ◌<◌, ◌≤◌, ℕ, true, false, List, [], ◌∷◌, ◌++◌, subst, refl, ap, sym, arith, ◌∙◌}
+use Rattle.std.specs.Prelude.{◌||◌, nat_eq, nat_lt}
 use Rattle.std.specs.BTreeSet.{contains}
 use Rattle.std.specs.Ordering.{nat_cmp}
 use Rattle.std.proofs.Math.Bool.{or-false}
 use Rattle.std.proofs.lemmas.Bool.{ne_eqb}
+use Rattle.std.proofs.lemmas.Bool.Decides.{nat_tests}
+use Rattle.hac_model.specs.declared.limits.TheConstants.{NUMBERS_LIMIT}
+use Rattle.hac_model.proofs.LimitLemmas.{limits-within}
 use Rattle.indexmap.specs.IndexMap.{IndexMap}
 use Rattle.hac_model.specs.Tree.Events.{changed_at, edited}
 use Rattle.hac_model.specs.Tree.Limits.{counts}
@@ -16,7 +19,7 @@ use Rattle.file_tree.specs.Answers.{is_dirty_at}
 use Rattle.file_tree.specs.Nodes.{entry_of, has_node, kids_of, name_of}
 use Rattle.file_tree.specs.Ready.{is_awaited}
 use Rattle.file_tree.specs.Seen.{Seen}
-use Rattle.file_tree.specs.Shape.{HasNew, HasSpare, IsShaped, IsTree, seen_of, state_of}
+use Rattle.file_tree.specs.Shape.{HasDocuments, HasNew, HasSpare, IsShaped, IsTree, seen_of, state_of}
 use Rattle.file_tree.specs.declared.nodes.Node.{Node}
 use Rattle.file_tree.specs.declared.ready.Ready.{Ready}
 use Rattle.file_tree.specs.declared.ready.Ready.TheVariants.{Nothing}
@@ -29,6 +32,7 @@ became u after seen shaped told dirty = record {
   shaped = shaped;
   counts_are = told ∙ ap (λ (x : Seen). counts x.state) (sym seen);
   dirty_are = λ n. dirty n ∙ sym (or-false (is_dirty_at after.entries n)) ∙ ap (λ (x : Seen). is_dirty_at x.state.entries n || is_awaited u.next x.ready n) (sym seen);
+  documents_are = subst (λ (r : Ready). HasDocuments r u.next u.documents.items) (sym (ap (λ (x : Seen). x.ready) seen)) tt;
 }
 
 -- where nothing is awaited, the set has just what is dirty
@@ -36,16 +40,28 @@ pub set-clean : (t : Inside) → IsTree t → t.ready ≡ Nothing → (n : ℕ) 
 set-clean t h none n = h.dirty_are n ∙ ap (λ r. is_dirty_at (state_of t).entries n || is_awaited t.next r n) none ∙ or-false (is_dirty_at (state_of t).entries n)
 
 -- a tree with other nodes that are no entries, ready for another change
-pub tree-prepared : (t : Inside) → IsTree t → (u : Inside) → u.next ≡ t.next → ((n : ℕ) → entry_of u.nodes n ≡ entry_of t.nodes n) → ((n : ℕ) → nat_eq t.next n ≡ false → name_of u.nodes n ≡ name_of t.nodes n) → ((dir : ℕ) → kids_of u.nodes dir ≡ kids_of t.nodes dir) →
-    ((n : ℕ) → nat_eq t.next n ≡ false → has_node u.nodes n ≡ has_node t.nodes n) → HasSpare u.ready u.nodes u.next u.spare.items → u.counts ≡ t.counts →
-    ((n : ℕ) → contains nat_cmp u.to_index n ≡ (is_dirty_at (state_of t).entries n || is_awaited t.next u.ready n)) → IsTree u
-tree-prepared t h u next told names kids numbers spare same set =
+pub tree-readied : (t : Inside) → IsTree t → (u : Inside) → u.next ≡ t.next → ((n : ℕ) → entry_of u.nodes n ≡ entry_of t.nodes n) → ((n : ℕ) → n < t.next → name_of u.nodes n ≡ name_of t.nodes n) → ((dir : ℕ) → kids_of u.nodes dir ≡ kids_of t.nodes dir) →
+    ((n : ℕ) → n < t.next → has_node u.nodes n ≡ has_node t.nodes n) → HasSpare u.ready u.nodes u.next u.spare.items → u.counts ≡ t.counts →
+    ((n : ℕ) → contains nat_cmp u.to_index n ≡ (is_dirty_at (state_of t).entries n || is_awaited t.next u.ready n)) → HasDocuments u.ready u.next u.documents.items → IsTree u
+tree-readied t h u next told names kids numbers spare same set documents =
     let state : state_of u ≡ state_of t = state-same t (seen_of t) refl h.shaped u next told in
     record {
       shaped = shaped-prepared t (seen_of t) refl h.shaped u next told names kids numbers spare;
       counts_are = same ∙ h.counts_are ∙ sym (ap counts state);
       dirty_are = λ n. set n ∙ (λ i. is_dirty_at (sym state i).entries n || is_awaited (sym next i) u.ready n);
+      documents_are = documents;
     }
+
+-- the same where only the next number has another node
+pub tree-prepared : (t : Inside) → IsTree t → (u : Inside) → u.next ≡ t.next → ((n : ℕ) → entry_of u.nodes n ≡ entry_of t.nodes n) → ((n : ℕ) → nat_eq t.next n ≡ false → name_of u.nodes n ≡ name_of t.nodes n) → ((dir : ℕ) → kids_of u.nodes dir ≡ kids_of t.nodes dir) →
+    ((n : ℕ) → nat_eq t.next n ≡ false → has_node u.nodes n ≡ has_node t.nodes n) → HasSpare u.ready u.nodes u.next u.spare.items → u.counts ≡ t.counts →
+    ((n : ℕ) → contains nat_cmp u.to_index n ≡ (is_dirty_at (state_of t).entries n || is_awaited t.next u.ready n)) → HasDocuments u.ready u.next u.documents.items → IsTree u
+tree-prepared t h u next told names kids numbers spare same set documents =
+    tree-readied t h u next told (λ n low. names n (ne_eqb t.next n (λ is. omega arith))) kids (λ n low. numbers n (ne_eqb t.next n (λ is. omega arith))) spare same set documents
+
+-- numbers stay small
+pub next-small : (t : Inside) → IsTree t → t.next ≤ NUMBERS_LIMIT
+next-small t h = let low : nat_lt NUMBERS_LIMIT t.next ≡ false = (limits-within (state_of t) h.shaped.layout.limits).numbers in grind (arith, nat_tests, low)
 
 -- A tree that is ready for nothing.
 
@@ -57,12 +73,17 @@ module _ (t : Inside) (state : State) (view : seen_of t ≡ record { state = sta
   pub spare-nothing : {S : Type 0} (nodes : IndexMap ℕ Node S) (next : ℕ) (spare : List ℕ) → HasSpare t.ready nodes next spare
   spare-nothing nodes next spare = subst (λ (r : Ready). HasSpare r nodes next spare) (sym ready-nothing) tt
 
-  -- a new entry is prepared in one of its directories
+  -- a new entry is prepared in one of its directories, beside others
+  pub new-readied : {S : Type 0} (nodes : IndexMap ℕ Node S) (dir : ℕ) (spare : List ℕ) → IsTree t → is_directory_at state.entries dir ≡ true → ((n : ℕ) → n < t.next → has_node nodes n ≡ has_node t.nodes n) → has_node nodes t.next ≡ true →
+      spare ≡ kids_of nodes dir ++ t.next ∷ [] → HasNew dir nodes t.next spare
+  new-readied nodes dir spare h is others new listed =
+      let there = directory-there t (record { state = state; ready = Nothing }) view h.shaped t dir is in
+      (listed, new, others dir there.1 ∙ there.0, there.1)
+
+  -- the same where only the next number has another node
   pub new-prepared : {S : Type 0} (nodes : IndexMap ℕ Node S) (dir : ℕ) (spare : List ℕ) → IsTree t → is_directory_at state.entries dir ≡ true → ((n : ℕ) → nat_eq t.next n ≡ false → has_node nodes n ≡ has_node t.nodes n) → has_node nodes t.next ≡ true →
       spare ≡ kids_of nodes dir ++ t.next ∷ [] → HasNew dir nodes t.next spare
-  new-prepared nodes dir spare h is others new listed =
-      let there = directory-there t (record { state = state; ready = Nothing }) view h.shaped t dir is in
-      (listed, new, others dir (ne_eqb t.next dir (λ same. omega (arith, there.1))) ∙ there.0, there.1)
+  new-prepared nodes dir spare h is others new listed = new-readied nodes dir spare h is (λ n low. others n (ne_eqb t.next n (λ same. omega arith))) new listed
 
 -- it is seen as this state, and keeps all
 abbrev pub Became : Inside → State → Type 0

@@ -1,6 +1,7 @@
 pub mod Ready
 pub mod Nodes
 pub mod Search
+pub mod Documents
 pub mod Seen
 pub mod Shape
 pub mod Answers

@@ -1,5 +1,5 @@
 -- How a tree keeps a state.
-use Rattle.std.specs.Prelude.{◌≡◌, ℕ, ◌<◌, ◌≤◌, false, List, [], ◌∷◌, ◌++◌, Option, Some, None, IsTrue}
+use Rattle.std.specs.Prelude.{◌≡◌, ℕ, ◌+◌, ◌<◌, ◌≤◌, false, List, [], ◌∷◌, ◌++◌, Option, Some, None, IsTrue}
 use Rattle.std.specs.List.{AllByRecursion}
 use Rattle.std.specs.BTreeSet.{contains}
 use Rattle.std.specs.Option.{option_map}
@@ -11,12 +11,13 @@ use Rattle.hac_model.specs.Tree.Listing.{is_before}
 use Rattle.hac_model.specs.Tree.Valid.{IsLayout}
 use Rattle.hac_model.specs.declared.states.Entry.{Entry}
 use Rattle.hac_model.specs.declared.states.State.{State}
+use Rattle.file_tree.specs.Documents.{numbers_up}
 use Rattle.file_tree.specs.Nodes.{entries_below, entry_of, has_node, kids_of, name_of}
 use Rattle.file_tree.specs.Ready.{is_to_index}
 use Rattle.file_tree.specs.Seen.{Seen}
 use Rattle.file_tree.specs.declared.nodes.Node.{Node}
 use Rattle.file_tree.specs.declared.ready.Ready.{Ready}
-use Rattle.file_tree.specs.declared.ready.Ready.TheVariants.{Nothing, Add, Link, Move, Text}
+use Rattle.file_tree.specs.declared.ready.Ready.TheVariants.{Nothing, Add, Link, Move, Text, Mount, Sync}
 use Rattle.file_tree.specs.declared.tree.Tree.TheInside.{Inside}
 
 abbrev pub state_of : Inside → State
@@ -48,6 +49,10 @@ module _ {S : Type 0} where
   abbrev pub HasNew : ℕ → IndexMap ℕ Node S → ℕ → List ℕ → Type 0
   HasNew dir nodes next spare = (spare ≡ kids_of nodes dir ++ next ∷ []) × IsTrue (has_node nodes next) × IsTrue (has_node nodes dir) × (dir < next)
 
+  -- the numbers from one on, and below another, have nodes
+  abbrev pub HasNodes : IndexMap ℕ Node S → ℕ → ℕ → Type 0
+  HasNodes nodes from to = (number : ℕ) → from ≤ number → number < to → IsTrue (has_node nodes number)
+
   -- what was prepared is in the tree
   abbrev pub HasSpare : Ready → IndexMap ℕ Node S → ℕ → List ℕ → Type 0
   HasSpare Nothing nodes next spare = Unit {0}
@@ -55,10 +60,18 @@ module _ {S : Type 0} where
   HasSpare (Link dir word) nodes next spare = HasNew dir nodes next spare
   HasSpare (Move dir) nodes next spare = (spare ≡ kids_of nodes dir ++ 0 ∷ []) × IsTrue (has_node nodes dir) × (dir < next)
   HasSpare (Text file) nodes next spare = Unit {0}
+  HasSpare (Mount dir count) nodes next spare = HasNew dir nodes next spare × HasNodes nodes next (next + 1 + count)
+  HasSpare (Sync mount numbers) nodes next spare = (number : ℕ) → Among numbers number → IsTrue (has_node nodes number)
 
-  -- only the entries, the root, and what may be ready under the next number have nodes
+  -- of the numbers that were taken, only those of the entries and of the root have nodes. Others may have what was
+  -- prepared.
   abbrev pub HasNoOther : IndexMap ℕ Node S → ℕ → Type 0
-  HasNoOther nodes next = (number : ℕ) → (number ≡ 0 → ⊥) → (number ≡ next → ⊥) → entry_of nodes number ≡ None → has_node nodes number ≡ false
+  HasNoOther nodes next = (number : ℕ) → (number ≡ 0 → ⊥) → number < next → entry_of nodes number ≡ None → has_node nodes number ≡ false
+
+-- the list of the documents of a mount was prepared
+abbrev pub HasDocuments : Ready → ℕ → List ℕ → Type 0
+HasDocuments (Mount dir count) next documents = documents ≡ numbers_up (next + 1) count
+HasDocuments other next documents = Unit {0}
 
 -- the nodes are those of a state that fits together
 pub record IsShaped (tree : Inside) : Type 0 where
@@ -74,3 +87,4 @@ pub record IsTree (tree : Inside) : Type 0 where
   pub shaped : IsShaped tree
   pub counts_are : tree.counts ≡ counts (state_of tree)
   pub dirty_are : (number : ℕ) → contains nat_cmp tree.to_index number ≡ is_to_index (state_of tree) tree.ready number
+  pub documents_are : HasDocuments tree.ready tree.next tree.documents.items

@@ -82,7 +82,7 @@ impl Tree {
     }
 
     /// Drops what was prepared.
-    fn forget(&mut self)
+    pub(crate) fn forget(&mut self)
         ensures { GotReady Ready.Nothing self.old self.new }
     {
         let stale = self.stale();
@@ -227,7 +227,7 @@ fn drop_number(numbers: &mut BTreeSet<u64>, number: Option<Number>)
 }
 
 /// The entries of a directory, and one number more.
-fn children_and(
+pub(crate) fn children_and(
     alloc: Global,
     nodes: &Nodes,
     dir: Number,
@@ -243,7 +243,7 @@ fn children_and(
 }
 
 /// The directory of an entry.
-fn parent_at(nodes: &Nodes, entry: Number) -> Number
+pub(crate) fn parent_at(nodes: &Nodes, entry: Number) -> Number
     requires { IsSome (entry_of nodes.now entry) }
     ensures { parent_in (entry_of nodes.now entry) ≡ Some result }
 {
@@ -254,7 +254,7 @@ fn parent_at(nodes: &Nodes, entry: Number) -> Number
 }
 
 /// The place of an entry in the list of its directory.
-fn place_at(nodes: &Nodes, dir: Number, entry: Number) -> usize
+pub(crate) fn place_at(nodes: &Nodes, dir: Number, entry: Number) -> usize
     ensures { NamesRise (name_of nodes.now) (kids_of nodes.now dir) →
         result ≡ rank_in (name_of nodes.now) (name_of nodes.now entry) (kids_of nodes.now dir) }
 {

@@ -1,25 +1,28 @@
 //! How much a state would hold after an event, before anything changes.
-ghost use Rattle.std.specs.Prelude.{◌≡◌, ◌<◌, ◌^◌, ℕ, List, length, max, IsTrue, IsSome};
+ghost use Rattle.std.specs.Prelude.{◌≡◌, ◌+◌, ◌<◌, ◌≤◌, ◌^◌, ℕ, List, length, max, IsTrue, IsSome};
 ghost use Rattle.std.specs.Option.{option_copied, option_map_or};
 ghost use Rattle.hac_model.specs.Tree.Events.{added, apply, changed_at, edited, indexed, removed};
 ghost use Rattle.hac_model.specs.Tree.Events.{reseated, rewritten};
 ghost use Rattle.hac_model.specs.Tree.Limits.{counts, long_paths};
-ghost use Rattle.hac_model.specs.Tree.{entry_at, is_directory_at, is_file_at};
+ghost use Rattle.hac_model.specs.Tree.Mounting.{are_documents, fresh, is_gone};
+ghost use Rattle.hac_model.specs.Tree.Mounting.{is_of_mount, mounted, with_documents, without_such};
+ghost use Rattle.hac_model.specs.Tree.{entry_at, is_directory_at, is_file_at, is_mount_at};
 ghost use Rattle.hac_model.specs.Tree.Valid.{IsLayout};
+ghost use Rattle.hac_model.specs.declared.states.Answer.{Answer};
 ghost use Rattle.hac_model.specs.declared.states.Body.{Body};
 ghost use Rattle.file_tree.specs.Answers.{is_dirty_at};
 ghost use Rattle.file_tree.specs.Counting.{AreSmall, IsShare, share_of};
-ghost use Rattle.file_tree.specs.Depths.{GoesTo};
+ghost use Rattle.file_tree.specs.Depths.{GoesTo, is_deep, is_deep_in};
 ghost use Rattle.file_tree.specs.Nodes.{body_of};
 ghost use Rattle.hac_model.specs.Tree.Events.{is_placed};
 
 use crate::nodes::Content;
 use crate::shares::{
-    NOTHING, as_new, minus, of_directory, of_document, of_file, of_mount, of_semantic, of_symlink,
-    plus, replaced, with_long_paths,
+    NOTHING, as_new, minus, of_directory, of_document, of_file, of_mount, of_mount_with,
+    of_semantic, of_symlink, plus, replaced, synced, with_long_paths,
 };
 use crate::tree::Tree;
-use hac_model::{Counts, Event, Number, PATH_LIMIT, Text};
+use hac_model::{Counts, DOCS_LIMIT, Event, Name, Number, PATH_LIMIT, Seq, Text};
 
 impl Tree {
     /// How much the state would hold after an event. What it refers to is in the tree; it may
@@ -116,6 +119,63 @@ impl Tree {
         minus(self.small_counts(), self.share(entry))
     }
 
+    /// How much the state would hold with a mount in a directory that has `count` documents. It may
+    /// exceed limits.
+    pub fn counts_mounted(&self, dir: Number, count: u64) -> Counts
+        requires dir { IsTrue (is_directory_at self.now.state.entries dir) }
+        requires few { count ≤ DOCS_LIMIT }
+        ensures { (name space : List ℕ) (answers : List Answer) (documents : List (List ℕ)) →
+            length documents ≡ count →
+            result ≡ counts (mounted self.now.state dir name space answers documents) }
+    {
+        let is_long = is_deep(self.depth(dir), count);
+        plus(self.small_counts(), of_mount_with(count, is_long))
+    }
+
+    /// How much the state would hold once a mount has documents of these names, and no others. It
+    /// may exceed limits.
+    pub fn counts_synced(&self, mount: Number, documents: &Seq<Name>) -> Counts
+        requires mount { IsTrue (is_mount_at self.now.state.entries mount) }
+        requires documents { IsTrue (are_documents documents.now) }
+        ensures { result ≡ counts (with_documents (without_such (is_gone mount documents.now)
+            self.now.state) mount (fresh self.now.state mount documents.now)) }
+    {
+        let names = documents.as_slice();
+        let fresh = self.count_fresh(mount, names);
+        let is_long = is_deep_in(self.depth(mount), fresh);
+        let old = self.children(mount).len() as u64;
+        synced(self.small_counts(), old, names.len() as u64, fresh, is_long)
+    }
+
+    /// How many of the names a directory doesn't have.
+    fn count_fresh(&self, dir: Number, names: &[Name]) -> u64
+        ensures count { result ≡ length (fresh self.now.state dir names.now) }
+        ensures few { result ≤ length names.now }
+    {
+        let mut count = 0;
+        for name in names {
+            if self.child(dir, name).is_none() {
+                count += 1;
+            }
+        }
+        count
+    }
+
+    /// How much the state would hold without a mount and its documents.
+    pub fn counts_unmounted(&self, mount: Number) -> Counts
+        requires { IsTrue (is_mount_at self.now.state.entries mount) }
+        ensures { result ≡ counts (without_such (is_of_mount mount) self.now.state) }
+    {
+        let items = self.children(mount).len() as u64;
+        minus(
+            self.small_counts(),
+            Counts {
+                items,
+                ..of_mount()
+            },
+        )
+    }
+
     /// The counts, which can be added to.
     fn small_counts(&self) -> Counts
         ensures counts { result ≡ counts self.now.state }
@@ -160,6 +220,29 @@ fn longer(bytes: u64, shown: Option<&[u8]>) -> u64
     match shown {
         Some(text) => bytes.max(text.len() as u64),
         None => bytes,
+    }
+}
+
+/// Whether a path is too long where a mount comes to a directory whose path has this many names.
+fn is_deep(names: u64, count: u64) -> bool
+    requires { names ≤ PATH_LIMIT + 1 }
+    ensures { result ≡ is_deep names count }
+{
+    if count == 0 {
+        names >= PATH_LIMIT
+    } else {
+        names + 1 >= PATH_LIMIT
+    }
+}
+
+/// Whether a path is too long where entries come to a directory whose path has this many names.
+fn is_deep_in(names: u64, count: u64) -> bool
+    ensures { result ≡ is_deep_in names count }
+{
+    if count == 0 {
+        false
+    } else {
+        names >= PATH_LIMIT
     }
 }
 

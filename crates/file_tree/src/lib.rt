@@ -5,6 +5,8 @@
 mod changing;
 mod counting;
 mod depths;
+mod documents;
+mod mounting;
 mod nodes;
 mod paths;
 mod placing;

@@ -332,7 +332,7 @@ pub(crate) fn take_out(nodes: &mut Nodes, number: Number)
     nodes.swap_remove(&number.get());
 }
 
-/// Gives a directory the list of its entries.
+/// Gives a directory the list of its entries, in place of its old one, which is given back.
 pub(crate) fn put_children(nodes: &mut Nodes, dir: Number, children: &mut Vec<Number>)
     requires { IsTrue (has_node nodes.old dir) }
     ensures numbers { (q : ℕ) → has_node nodes.new q ≡ has_node nodes.old q }
@@ -340,6 +340,7 @@ pub(crate) fn put_children(nodes: &mut Nodes, dir: Number, children: &mut Vec<Nu
     ensures names { (q : ℕ) → name_of nodes.new q ≡ name_of nodes.old q }
     ensures kids { (q : ℕ) → kids_of nodes.new q ≡ if nat_eq dir q then children.old.items else
         kids_of nodes.old q }
+    ensures given { children.new.items ≡ kids_of nodes.old dir }
 {
     if let Some(node) = nodes.get_mut(&dir.get()) {
         mem::swap(&mut node.children, children);

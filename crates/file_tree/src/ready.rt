@@ -1,10 +1,11 @@
 //! What a tree is ready for. A change that may want memory is prepared first, and then made without
 //! any.
 ghost use Rattle.std.specs.Prelude.{◌≡◌};
-ghost use Rattle.file_tree.specs.Ready.{awaited, word_in};
+ghost use Rattle.file_tree.specs.Ready.{awaited, numbers_in, word_in};
 
 use crate::tree::EntryKind;
-use hac_model::{Number, PathWord};
+use hac_model::{Number, PathWord, Seq};
+use std::alloc::Global;
 
 /// The change that was prepared last.
 #[derive(Debug, Drop)]
@@ -35,6 +36,20 @@ pub enum Ready {
         /// The file.
         file: Number,
     },
+    /// A mount is to be created.
+    Mount {
+        /// The directory that it will be in.
+        dir: Number,
+        /// How many documents it will have.
+        count: u64,
+    },
+    /// A mount is to be synced.
+    Sync {
+        /// The mount.
+        mount: Number,
+        /// The documents that it will have, in byte order of names.
+        numbers: Seq<Number>,
+    },
 }
 
 /// The file that the prepared change will make dirty, given the number of a new entry.
@@ -58,5 +73,15 @@ pub(crate) fn word_in(ready: Ready) -> Option<PathWord>
     match ready {
         Ready::Link { word, .. } => Some(word),
         _ => None,
+    }
+}
+
+/// The list of the mount that is to be synced.
+pub(crate) fn numbers_in(alloc: Global, ready: Ready) -> Vec<Number>
+    ensures { result.items ≡ numbers_in ready }
+{
+    match ready {
+        Ready::Sync { numbers, .. } => numbers.into_vec(),
+        _ => Vec::new(alloc),
     }
 }

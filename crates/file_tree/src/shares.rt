@@ -1,5 +1,5 @@
 //! What entries count for, and sums of counts.
-ghost use Rattle.std.specs.Prelude.{◌≡◌, ◌<◌, ◌^◌, ℕ, List, IsTrue};
+ghost use Rattle.std.specs.Prelude.{◌≡◌, ◌+◌, ◌-◌, ◌<◌, ◌≤◌, ◌^◌, ℕ, List, IsTrue};
 ghost use Rattle.hac_model.specs.Tree.Limits.{counts, file_bytes};
 ghost use Rattle.hac_model.specs.Tree.{empty, is_dirty, is_file};
 ghost use Rattle.hac_model.specs.Query.Formula.{Formula};
@@ -7,7 +7,7 @@ ghost use Rattle.hac_model.specs.declared.states.Answer.{Answer};
 ghost use Rattle.hac_model.specs.declared.states.Body.{Body};
 ghost use Rattle.file_tree.specs.Counting.{AreSmall, one_if, plus, share_of};
 
-use hac_model::Counts;
+use hac_model::{Counts, DOCS_LIMIT};
 
 /// What counts for nothing.
 pub(crate) const NOTHING: Counts = Counts {
@@ -71,6 +71,25 @@ pub(crate) fn of_mount() -> Counts
     }
 }
 
+/// What a new mount and its documents count for, which take numbers, and whose paths may be too
+/// long.
+pub(crate) fn of_mount_with(count: u64, is_long: bool) -> Counts
+    requires { count ≤ DOCS_LIMIT }
+    ensures counts { (space : List ℕ) (answers : List Answer) →
+        result ≡ record (share_of (Body.Mount space answers)) {
+          items = count;
+          long_paths = one_if is_long;
+          next = 1 + count;
+        } }
+    ensures small { AreSmall result }
+{
+    Counts {
+        items: count,
+        next: 1 + count,
+        ..as_new(of_mount(), is_long)
+    }
+}
+
 /// What a document counts for.
 pub(crate) fn of_document() -> Counts
     ensures share { result ≡ share_of Body.Document }
@@ -119,6 +138,26 @@ pub(crate) fn as_new(share: Counts, is_long: bool) -> Counts
         long_paths: u64::from(is_long),
         next: 1,
         ..share
+    }
+}
+
+/// The counts once a mount has `new` documents in place of `old` ones. So many of them take
+/// numbers, and their paths may be too long.
+pub(crate) fn synced(counts: Counts, old: u64, new: u64, fresh: u64, is_long: bool) -> Counts
+    requires small { AreSmall counts }
+    requires new_few { new ≤ DOCS_LIMIT }
+    requires fresh_few { fresh ≤ new }
+    requires there { old ≤ counts.items }
+    ensures { result ≡ record counts {
+      items = counts.items - old + new;
+      long_paths = one_if is_long;
+      next = counts.next + fresh;
+    } }
+{
+    Counts {
+        items: counts.items - old + new,
+        next: counts.next + fresh,
+        ..with_long_paths(counts, is_long)
     }
 }
 

@@ -33,6 +33,8 @@ pub struct Tree {
     pub(crate) nodes: Nodes,
     // The list of children that was prepared.
     pub(crate) spare: Vec<Number>,
+    // The list of the documents of a mount that was prepared.
+    pub(crate) documents: Vec<Number>,
     pub(crate) ready: Ready,
     // How much the state holds.
     pub(crate) counts: Counts,
@@ -83,6 +85,7 @@ impl Tree {
             next: Number::new(1),
             nodes,
             spare: Vec::new(alloc),
+            documents: Vec::new(alloc),
             ready: Ready::Nothing,
             counts: of_root(),
             to_index: BTreeSet::new(alloc),

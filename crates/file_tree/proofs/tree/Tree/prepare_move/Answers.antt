@@ -14,4 +14,4 @@ invariant_of-self c =
     let view = c.self.view_is ∙ c.forget.ensures in
     let there = directory-there c.self.inside s view c.self.invariant.shaped c.self.inside c.args.dir c.requires in
     tree-prepared c.self.inside c.self.invariant _ refl (λ n. refl) (λ n other. refl) (λ dir. refl) (λ n other. refl) (c.in_ok-self-inside.ensures, there.0, there.1) refl
-    (λ n. set-clean c.self.inside c.self.invariant (ap (λ (x : Seen). x.ready) view) n ∙ sym (or-false (is_dirty_at (state_of c.self.inside).entries n)))
+    (λ n. set-clean c.self.inside c.self.invariant (ap (λ (x : Seen). x.ready) view) n ∙ sym (or-false (is_dirty_at (state_of c.self.inside).entries n))) tt
