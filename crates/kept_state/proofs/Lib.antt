@@ -2,6 +2,8 @@ pub mod KeptLemmas
 pub mod ReadyLemmas
 pub mod PutLemmas
 pub mod StateLemmas
-pub mod AskedLemmas
+pub mod AnswerLemmas
+pub mod OrderLemmas
+pub mod NumberLemmas
 pub mod ReachLemmas
 pub mod ReaderLemmas

@@ -1,8 +1,10 @@
-//! A tree with the marks of its semantic directories, what depends on what, and its sessions.
+//! A tree with the marks of its semantic directories, the answers of its mounts, what depends on
+//! what, and its sessions.
 ghost use Rattle.std.specs.Prelude.{◌≡◌, IfOk};
 ghost use Rattle.hac_model.specs.Tree.{empty};
 ghost use Rattle.kept_state.specs.Parts.{AreEdges, AreMovedEdges, IsLinked, KeepsTree, state_of};
 
+use crate::answers::Answers;
 use crate::edges::edges_of;
 use dep_graph::{Graph, NewEdges};
 use file_tree::Tree;
@@ -10,14 +12,16 @@ use hac_model::{Memory, Number, Query, Seq, Session};
 use link_kinds::Links;
 use std::alloc::Global;
 
-/// A tree, its marks, its graph and its sessions. That they fit one another is said by `IsLinked`
-/// of the specs.
+/// A tree, its marks, its answers, its graph and its sessions. That they fit one another is said by
+/// `IsLinked` of the specs.
 #[derive(Drop)]
 pub struct Parts {
-    /// The tree, without marks.
+    /// The tree, without marks and answers.
     pub tree: Tree,
     /// The items that users added to semantic directories, or removed there.
     pub marks: Links,
+    /// What spaces answered, as their mounts keep it.
+    pub answers: Answers,
     /// What each semantic directory depends on: its own directory, then those that its query names.
     pub graph: Graph,
     /// The sessions that stand in a directory other than the root.
@@ -35,6 +39,7 @@ impl Parts {
         Ok(Parts {
             tree,
             marks,
+            answers: Answers::new(alloc),
             graph: Graph::new(alloc),
             sessions: Seq::new(Vec::new(alloc)),
         })
