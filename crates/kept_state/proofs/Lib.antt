@@ -3,7 +3,9 @@ pub mod ReadyLemmas
 pub mod PutLemmas
 pub mod StateLemmas
 pub mod AnswerLemmas
+pub mod ListLemmas
 pub mod OrderLemmas
 pub mod NumberLemmas
+pub mod UseLemmas
 pub mod ReachLemmas
 pub mod ReaderLemmas

@@ -3,7 +3,6 @@ use Rattle.std.proofs.Common.{◌≡◌, ℕ, zero, suc, ◌+◌, ◌<◌, ◌�
 use Rattle.std.specs.Prelude.{◌⊎◌, ◌||◌, ◌==◌, if◌then◌else◌, Option, Some, None, IsTrue, slice_get, unwrap_or}
 use Rattle.std.specs.Cmp.Lexicographic.{nat_list_cmp_total, slice_cmp, texts_ties}
 use Rattle.std.specs.List.{AllByRecursion, list_any, prefix_len}
-use Rattle.std.specs.List.Sorted.{IsPartitionPoint, IsPartitionedBy}
 use Rattle.std.specs.Option.{option_map_or}
 use Rattle.std.specs.Ordering.{is_eq, is_le, is_lt, nat_cmp, ordering_reverse}
 use Rattle.std.specs.Str.{bytes_eq}
@@ -16,35 +15,8 @@ use Rattle.hac_model.specs.Tree.Valid.{RiseFrom, TermsRise}
 use Rattle.hac_model.specs.declared.states.Answer.{Answer}
 use Rattle.hac_model.specs.declared.terms.Term.{Term}
 use Rattle.hac_model.specs.declared.terms.Term.TheVariants.{Word, Prefix}
-use Rattle.std.proofs.lemmas.Map.Text.{is_eq-slice_cmp}
-
--- TEMPORARY
-letters-even : (x y : List ℕ) → is_lt (slice_cmp nat_cmp x y) ≡ false → is_lt (slice_cmp nat_cmp y x) ≡ false → x ≡ y
-letters-even x y h k = (bytes_eq-Decides x y).0 (sym (is_eq-slice_cmp x y) ∙ even (slice_cmp nat_cmp x y) h (ap is_lt (sym (nat_list_cmp_total.antisymm y x)) ∙ k))
-  where
-    even : (o : Ordering) → is_lt o ≡ false → is_lt (ordering_reverse o) ≡ false → is_eq o ≡ true
-    even Less h k = absurd cc
-    even Equal h k = refl
-    even Greater h k = absurd cc
-
-mixed-never : (x y : List ℕ) → is_le (slice_cmp nat_cmp x y) ≡ false → is_lt (slice_cmp nat_cmp y x) ≡ false → ⊥
-mixed-never x y h k = never (slice_cmp nat_cmp x y) h (ap is_lt (sym (nat_list_cmp_total.antisymm y x)) ∙ k)
-  where
-    never : (o : Ordering) → is_le o ≡ false → is_lt (ordering_reverse o) ≡ false → ⊥
-    never Less h k = absurd cc
-    never Equal h k = absurd cc
-    never Greater h k = absurd cc
-
-pub terms-even : (a b : Term) → is_term_before a b ≡ false → is_term_before b a ≡ false → a ≡ b
-terms-even (Word x) (Word y) h k = ap (λ (z : List ℕ). Word z) (letters-even x y h k)
-terms-even (Word x) (Prefix y) h k = absurd (mixed-never x y h k)
-terms-even (Prefix x) (Word y) h k = absurd (mixed-never y x k h)
-terms-even (Prefix x) (Prefix y) h k = ap (λ (z : List ℕ). Prefix z) (letters-even x y h k)
-
-pub same-own : (term : Term) → is_same_term term term ≡ true
-same-own (Word x) = (bytes_eq-Decides x x).1 refl
-same-own (Prefix x) = (bytes_eq-Decides x x).1 refl
--- END
+use Rattle.hac_model.proofs.TermLemmas.{same-own, terms-even}
+use Rattle.kept_state.proofs.ListLemmas.{Falls, all-weaker, get-inside, get-outside}
 
 -- Letters.
 
@@ -119,37 +91,21 @@ behind-differs (Prefix x) (Prefix y) h = gt-differs x y h
 
 -- Answers.
 
--- all that come behind a term do
+-- what comes behind a term does behind an earlier one
+further : (x y : Term) (list : List Answer) → is_term_before x y ≡ true → AllByRecursion (λ a. is_term_before y a.term ≡ true) list → AllByRecursion (λ a. is_term_before x a.term ≡ true) list
+further x y list before h = all-weaker (λ (a : Answer). is_term_before y a.term ≡ true) (λ (a : Answer). is_term_before x a.term ≡ true) list (λ a behind. term-trans x y a.term before behind) h
+
 behind-all : (x : Term) (list : List Answer) → TermsRise (Some x) list → AllByRecursion (λ a. is_term_before x a.term ≡ true) list
 behind-all x [] h = tt
-behind-all x (a ∷ list) h = (h.0, further list (behind-all a.term list h.1))
-  where
-    further : (bs : List Answer) → AllByRecursion (λ b. is_term_before a.term b.term ≡ true) bs → AllByRecursion (λ b. is_term_before x b.term ≡ true) bs
-    further [] k = tt
-    further (b ∷ bs) k = (term-trans x a.term b.term h.0 k.0, further bs k.1)
-
-all-index : (P : Answer → Type 0) (list : List Answer) (i : ℕ) (d : Answer) → AllByRecursion P list → i < length list → P (get_or list i d)
-all-index P [] i d h inside = absurd (omega arith)
-all-index P (a ∷ list) zero d h inside = h.0
-all-index P (a ∷ list) (suc i) d h inside = all-index P list i d h.1 (omega arith)
-
--- the first `n` answers pass the test, and no others do: then `n` is how many first ones pass it
-pub prefix-point : (p : Answer → Bool) (list : List Answer) (i : ℕ) → i ≤ length list → IsPartitionPoint (λ a. p a ≡ true) (λ a. p a ≡ false) list i → i ≡ prefix_len p list
-prefix-point p [] i inside h = omega arith
-prefix-point p (a ∷ list) zero inside h = let first : p a ≡ false = h.1 0 a (omega arith) (omega arith) in rw first refl
-prefix-point p (a ∷ list) (suc i) inside h =
-    let first : p a ≡ true = h.0 0 a (omega arith) (omega arith) in
-    let rest : i ≡ prefix_len p list = prefix-point p list i (omega arith) ((λ k d low high. h.0 (suc k) d (omega arith) (omega arith)), (λ k d low high. h.1 (suc k) d (omega arith) (omega arith))) in
-    rw first (omega arith)
+behind-all x (a ∷ list) h = (h.0, further x a.term list h.0 (behind-all a.term list h.1))
 
 -- the answers for terms before a term come first
-pub rank-partition : (term : Term) (last : Option Term) (list : List Answer) → TermsRise last list → IsPartitionedBy (λ a. is_term_before a.term term) list
-rank-partition term last [] h i j d le inside passes = absurd (omega arith)
-rank-partition term last (a ∷ list) h zero zero d le inside passes = passes
-rank-partition term last (a ∷ list) h zero (suc j) d le inside passes =
-    term-trans a.term (get_or list j d).term term (all-index (λ b. is_term_before a.term b.term ≡ true) list j d (behind-all a.term list h.1) (omega arith)) passes
-rank-partition term last (a ∷ list) h (suc i) zero d le inside passes = absurd (omega arith)
-rank-partition term last (a ∷ list) h (suc i) (suc j) d le inside passes = rank-partition term (Some a.term) list h.1 i j d (omega arith) (omega arith) passes
+pub rank-falls : (term : Term) (last : Option Term) (list : List Answer) → TermsRise last list → Falls (λ a. is_term_before a.term term) list
+rank-falls term last [] h = tt
+rank-falls term last (a ∷ list) h = (
+  all-weaker (λ (b : Answer). is_term_before a.term b.term ≡ true) (λ (b : Answer). is_term_before b.term term ≡ true → is_term_before a.term term ≡ true) list (λ b behind before. term-trans a.term b.term term behind before) (behind-all a.term list h.1),
+  rank-falls term (Some a.term) list h.1,
+)
 
 module _ (term : Term) where
   -- what is kept for the term, where this is the first answer whose term isn't before it
@@ -177,25 +133,11 @@ module _ (term : Term) where
       here : is_term_before a.term term ≡ false → kept_for (a ∷ list) term ≡ cond (is_term_before term a.term) None (Some a.documents)
       here apart =
           elim (is_term_before term a.term) as (λ b. is_term_before term a.term ≡ b → kept_for (a ∷ list) term ≡ cond b None (Some a.documents)) [
-            | true ↦ (λ before. none-behind (a ∷ list) (before, further list (behind-all a.term list h.1) before))
+            | true ↦ (λ before. none-behind (a ∷ list) (before, further term a.term list before (behind-all a.term list h.1)))
             | false ↦ (λ also.
                 let same : a.term ≡ term = terms-even a.term term apart also in
                 ap (λ (b : Bool). if b then Some a.documents else kept_for list term) (subst (λ (t : Term). is_same_term a.term t ≡ true) same (same-own a.term)))
           ] refl
-        where
-          further : (bs : List Answer) → AllByRecursion (λ b. is_term_before a.term b.term ≡ true) bs → is_term_before term a.term ≡ true → AllByRecursion (λ b. is_term_before term b.term ≡ true) bs
-          further [] k before = tt
-          further (b ∷ bs) k before = (term-trans term a.term b.term before k.0, further bs k.1 before)
-
-get-inside : (list : List Answer) (i : ℕ) (d : Answer) → i < length list → slice_get list i ≡ Some (get_or list i d)
-get-inside [] i d inside = absurd (omega arith)
-get-inside (a ∷ list) zero d inside = refl
-get-inside (a ∷ list) (suc i) d inside = get-inside list i d (omega arith)
-
-get-outside : (list : List Answer) (i : ℕ) → length list ≤ i → slice_get list i ≡ None
-get-outside [] i outside = refl
-get-outside (a ∷ list) zero outside = absurd (omega arith)
-get-outside (a ∷ list) (suc i) outside = get-outside list i (omega arith)
 
 module _ (term : Term) (list : List Answer) (rise : TermsRise None list) (i : ℕ) (rank : i ≡ prefix_len (λ a. is_term_before a.term term) list) where
   pub found-end : length list ≤ i → kept_for list term ≡ None

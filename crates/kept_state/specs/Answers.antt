@@ -1,9 +1,12 @@
 -- The answers that mounts keep.
-use Rattle.std.specs.Prelude.{◌≡◌, ℕ, ◌==◌, if◌then◌else◌, List, [], Option, None, nat_eq, unwrap_or}
+use Rattle.std.specs.Prelude.{◌≡◌, ℕ, ◌==◌, if◌then◌else◌, true, List, [], ◌∷◌, Option, Some, None, IsTrue, nat_eq, unwrap_or}
 use Rattle.std.specs.List.{AllByRecursion}
 use Rattle.std.specs.Map.{lookup}
+use Rattle.std.specs.Option.{option_map_or}
+use Rattle.hac_model.specs.Query.Terms.{is_term_before}
 use Rattle.hac_model.specs.Tree.Valid.{RiseFrom, TermsRise}
 use Rattle.hac_model.specs.declared.states.Answer.{Answer}
+use Rattle.hac_model.specs.declared.terms.Term.{Term}
 use Rattle.kept_state.specs.declared.answers.NewAnswers.{NewAnswers}
 
 -- the answers by the numbers of their mounts, and those that one of these is ready for
@@ -22,6 +25,11 @@ SameAnswers old new = (mount : ℕ) → answers_kept new mount ≡ answers_kept 
 -- one mount keeps these answers, and the others keep theirs
 abbrev pub Replaces : Answered → Answered → ℕ → List Answer → Type 0
 Replaces old new number answers = (mount : ℕ) → answers_kept new mount ≡ (if mount == number then answers else answers_kept old mount)
+
+-- the terms rise, each coming after this one if there is one
+abbrev pub AreTermsInOrder : Option Term → List Term → Type 0
+AreTermsInOrder last [] = Unit {0}
+AreTermsInOrder last (term ∷ terms) = IsTrue (option_map_or (λ before. is_term_before before term) last true) × AreTermsInOrder (Some term) terms
 
 -- the terms rise, and so do the documents that had each
 pub record AreInOrder (answers : List Answer) : Type 0 where

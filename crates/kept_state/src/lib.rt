@@ -10,6 +10,7 @@ mod kept;
 mod parts;
 mod ready;
 mod sessions;
+mod terms;
 
 pub use edges::push_named;
 pub use kept::KeptState;
