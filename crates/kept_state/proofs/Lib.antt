@@ -7,5 +7,7 @@ pub mod ListLemmas
 pub mod OrderLemmas
 pub mod NumberLemmas
 pub mod UseLemmas
+pub mod NameLemmas
+pub mod ForgetLemmas
 pub mod ReachLemmas
 pub mod ReaderLemmas

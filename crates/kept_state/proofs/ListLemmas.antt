@@ -1,5 +1,5 @@
 -- Lists of anything, and the first elements that pass a test.
-use Rattle.std.proofs.Common.{◌≡◌, ℕ, zero, suc, ◌+◌, ◌<◌, ◌≤◌, Bool, true, false, List, [], ◌∷◌, length, get_or, refl, arith}
+use Rattle.std.proofs.Common.{◌≡◌, ℕ, zero, suc, ◌+◌, ◌<◌, ◌≤◌, Bool, true, false, List, [], ◌∷◌, add-one, drop, drop-cons, length, get_or, refl, ap, sym, ◌∙◌, arith}
 use Rattle.std.specs.Prelude.{Some, None, slice_get}
 use Rattle.std.specs.List.{AllByRecursion, prefix_len}
 use Rattle.std.specs.List.Sorted.{IsPartitionPoint, IsPartitionedBy}
@@ -43,3 +43,13 @@ prefix-point p (x ∷ xs) (suc i) inside h =
     let first : p x ≡ true = h.0 0 x (omega arith) (omega arith) in
     let rest : i ≡ prefix_len p xs = prefix-point p xs i (omega arith) ((λ k d low high. h.0 (suc k) d (omega arith) (omega arith)), (λ k d low high. h.1 (suc k) d (omega arith) (omega arith))) in
     rw first (omega arith)
+
+pub drop-next : {X : Type 0} (xs : List X) (i : ℕ) (x : X) → i < length xs → x ≡ get_or xs i x → drop i xs ≡ x ∷ drop (i + 1) xs
+drop-next xs i x inside is =
+    drop-cons xs i x inside ∙ ap (λ y. y ∷ drop (suc i) xs) (sym is) ∙ ap (λ (k : ℕ). x ∷ drop k xs) (sym (add-one i))
+
+pub drop-end : {X : Type 0} (xs : List X) (i : ℕ) → length xs ≤ i → drop i xs ≡ []
+drop-end [] zero outside = refl
+drop-end [] (suc i) outside = refl
+drop-end (x ∷ xs) zero outside = absurd (omega arith)
+drop-end (x ∷ xs) (suc i) outside = drop-end xs i (omega arith)

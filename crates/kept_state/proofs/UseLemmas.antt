@@ -18,6 +18,7 @@ use Rattle.hac_model.specs.declared.states.Entry.{Entry}
 use Rattle.hac_model.specs.declared.states.State.{State}
 use Rattle.hac_model.specs.declared.terms.Term.{Term}
 use Rattle.hac_model.proofs.TermLemmas.{TermsChain, order-chain, same-own}
+use Rattle.hac_model.proofs.TreeLemmas.{entry_at-low}
 use Rattle.kept_state.specs.Answers.{AreTermsInOrder}
 use Rattle.kept_state.proofs.ListLemmas.{Falls, all-weaker, get-inside, get-outside}
 use Rattle.kept_state.proofs.OrderLemmas.{before-differs, term-trans}
@@ -127,11 +128,6 @@ rest-none above next (e ∷ es) h =
     end above [] h = h
     end above (e ∷ es) h = omega (arith, h.0, end e.number es h.1)
 
-none-below : (above next n : ℕ) (es : List Entry) → NumbersRise above es next → n ≤ above → entry_at es n ≡ None
-none-below above next n [] h low = refl
-none-below above next n (e ∷ es) h low =
-    let other = ne_eqb e.number n (λ same. omega (arith, h.0, low, same)) in rw other (none-below e.number next n es h.1 (omega (arith, h.0, low)))
-
 abbrev terms_there : Option Entry → List Term
 terms_there o = option_map_or terms_of (option_and_then query_in (option_map (λ (e : Entry). e.body) o)) []
 
@@ -150,7 +146,7 @@ rest-next i above next (e ∷ es) h =
           let le = le-leb i e.number (omega (arith, less)) in
           let also = le-leb (i + 1) e.number (omega (arith, less)) in
           let other = ne_eqb e.number i (λ same. omega (arith, less, same)) in
-          let none = none-below e.number next i es h.1 (omega (arith, less)) in
+          let none = entry_at-low e.number es next i h.1 (omega (arith, less)) in
           rw le (rw other (rw none (rw also refl))))
       | inr (inr more) ↦ (
           let past = gt-leb i e.number more in

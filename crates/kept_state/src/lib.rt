@@ -6,6 +6,7 @@
 
 mod answers;
 mod edges;
+mod forgetting;
 mod kept;
 mod parts;
 mod ready;
