@@ -1,6 +1,7 @@
 pub mod KeptLemmas
 pub mod ReadyLemmas
 pub mod PutLemmas
+pub mod MountPutLemmas
 pub mod StateLemmas
 pub mod AnswerLemmas
 pub mod ListLemmas

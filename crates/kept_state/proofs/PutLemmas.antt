@@ -75,6 +75,12 @@ module _ (kept : Parts) where
   pub directory-there : (dir : ℕ) → IsTrue (accepted s (event.Rmdir dir)) → is_some (entry_at kept.tree.state.entries dir) ≡ true
   directory-there dir ok = tested-there kept.tree.state dir is_directory (sym (same-made s kept.tree.state (kept-bares kept) dir) ∙ (rmdir-parts s dir (possible-of s (event.Rmdir dir) ok)).0)
 
+-- nothing is kept of the next number yet
+pub next-none : (kept : Parts) → IsLinked kept → no_facts ≡ facts_kept kept kept.tree.state.next
+next-none kept h =
+    let s = state_of kept in
+    sym (ap facts_at (entry_at-next 0 s.entries s.next s.next h.valid.layout.numbers (omega arith))) ∙ h.own kept.tree.state.next
+
 -- A semantic directory comes.
 
 module _ (kept : Parts) (h : IsLinked kept) (dir : ℕ) (name : List ℕ) (asked : Formula ℕ) (ok : IsTrue (accepted (state_of kept) (event.Smkdir dir name asked []))) (edges : NewEdges) (are : AreEdges kept.graph kept.tree.state.next dir asked edges) where
@@ -82,9 +88,9 @@ module _ (kept : Parts) (h : IsLinked kept) (dir : ℕ) (name : List ℕ) (asked
       IsCommitted (event.Smkdir dir name asked []) kept (record kept { tree = tree; graph = edges_now })
   semantic-put tree edges_now is each =
       put kept (record kept { tree = tree; graph = edges_now }) (event.Smkdir dir name asked []) h ok is
-      (λ n. lists-still kept h t.next new n (ap (λ (facts : Facts). facts.marks) none))
+      (λ n. lists-still kept h t.next new n (ap (λ (facts : Facts). facts.marks) (next-none kept h)))
       (λ n. each n ∙ (λ i. replaced (edges_of kept.graph) (are.dir_is i) (are.edges_are i) n) ∙ edges-put (n == t.next) new (facts_kept kept n))
-      (λ n. answers-still kept h t.next new n (ap (λ (facts : Facts). facts.answers) none))
+      (λ n. answers-still kept h t.next new n (ap (λ (facts : Facts). facts.answers) (next-none kept h)))
       (λ n has. some-edges (n == t.next) new (facts_kept kept n) refl (sets-edges kept h n has))
       refl
     where
@@ -93,10 +99,6 @@ module _ (kept : Parts) (h : IsLinked kept) (dir : ℕ) (name : List ℕ) (asked
 
       new : Facts
       new = record no_facts { edges = dir ∷ named_in asked }
-
-      -- nothing is kept of the next number yet
-      none : no_facts ≡ facts_kept kept t.next
-      none = let s = state_of kept in sym (ap facts_at (entry_at-next 0 s.entries s.next s.next h.valid.layout.numbers (omega arith))) ∙ h.own t.next
 
 -- A directory gets a query.
 
