@@ -5,6 +5,7 @@ use Rattle.std.specs.Option.{option_map, option_map_or}
 use Rattle.std.proofs.lemmas.Bool.{and_parts, not-true}
 use Rattle.hac_model.specs.Query.Formula.{Formula}
 use Rattle.hac_model.specs.Tree.Bare.{bare, bare_body}
+use Rattle.hac_model.specs.Tree.Facts.{bare_after}
 use Rattle.hac_model.specs.Tree.Events.{apply, asking, changed_in, changed_at, edited, forgotten, is_bare, is_made_holder, marked, removed}
 use Rattle.hac_model.specs.Tree.Limits.{counts, long_paths, file_bytes}
 use Rattle.hac_model.specs.Tree.{entry_at, is_directory, is_dirty, is_file, is_file_at, is_leaf_at, is_made_directory, is_mount, is_mount_at}
@@ -20,6 +21,7 @@ use Rattle.hac_model.specs.declared.states.Entry.{Entry}
 use Rattle.hac_model.specs.declared.states.State.{State}
 use Rattle.hac_model.proofs.AlikeLemmas.{counts-bare}
 use Rattle.hac_model.proofs.BareLemmas.{forgotten-entries, marked-bare}
+use Rattle.hac_model.proofs.FillLemmas.{tree-law}
 use Rattle.hac_model.proofs.PassedLemmas.{bare-passes, removed-passes}
 use Rattle.hac_model.proofs.ValidLemmas.{leaf-bare}
 use Rattle.file_tree.specs.Answers.{is_dirty_at}
@@ -55,6 +57,10 @@ marked-counts s dir item kind = same-counts s (changed_at s dir (edited (marked 
 
 pub mark-counts : (s : State) (e : Event) (mark : Mark) → e ≡ event.Mark mark → counts s ≡ counts (apply s e)
 mark-counts s e mark is = marked-counts s mark.dir mark.item mark.kind ∙ ap (λ (e : Event). counts (apply s e)) (sym is)
+
+-- so what an event does to the tree is what counts
+pub after-counts : (s : State) (e : Event) → counts (bare_after e s) ≡ counts (apply s e)
+after-counts s e = same-counts (bare_after e s) (apply s e) (tree-law e s)
 
 -- What the entry of an edited body counts for.
 

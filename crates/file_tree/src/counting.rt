@@ -44,9 +44,14 @@ impl Tree {
             Event::Rmdir { dir } => self.without(*dir),
             Event::Step => self.with_step(),
             Event::Ln { dir, .. } => self.with_entry(*dir, of_symlink()),
+            Event::Smount { dir, docs, .. } => {
+                let count = docs.as_slice().len() as u64;
+                self.counts_mounted(*dir, count)
+            }
+            Event::Ssync { mount, docs, .. } => self.counts_synced(*mount, docs),
+            Event::Sumount { mount } => self.counts_unmounted(*mount),
             Event::Mark(_) => self.counts(),
-            Event::Smount { .. } | Event::Ssync { .. } | Event::Sumount { .. } | Event::Cd { .. } =>
-                self.counts(),
+            Event::Cd { .. } => self.counts(),
         }
     }
 

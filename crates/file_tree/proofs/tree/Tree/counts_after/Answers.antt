@@ -1,12 +1,21 @@
-use Rattle.std.proofs.Common.{◌∙◌, [], None, ap, subst, sym, true}
-use Rattle.std.specs.Prelude.{IsTrue}
+use Rattle.std.proofs.Common.{◌≤◌, ◌∙◌, List, ℕ, [], None, ap, length, subst, sym, true, arith}
+use Rattle.std.specs.Prelude.{◌&&◌, not, nat_le, is_none, IsTrue}
+use Rattle.std.specs.List.{list_all}
 use Rattle.std.proofs.lemmas.Bool.{and_parts}
-use Rattle.hac_model.specs.Tree.Events.{apply, asking, is_bare, is_made_holder, removed}
+use Rattle.std.proofs.lemmas.Bool.Decides.{nat_tests}
+use Rattle.hac_model.specs.Script.SpaceNames.{is_space_name}
+use Rattle.hac_model.specs.Tree.{child, is_directory_at, is_mount_at}
+use Rattle.hac_model.specs.Tree.Mounting.{answers_to, are_documents, do_names_rise}
+use Rattle.hac_model.specs.Tree.Mounts.{terms_to_ask}
+use Rattle.hac_model.specs.Tree.Names.{is_name}
+use Rattle.hac_model.specs.declared.limits.TheConstants.{DOCS_LIMIT}
+use Rattle.hac_model.specs.Tree.Events.{apply, asking, is_bare, is_free, is_made_holder, is_vacant, removed}
 use Rattle.hac_model.specs.Tree.Limits.{counts}
 use Rattle.hac_model.specs.declared.events.Event.{Event}
+use Rattle.hac_model.specs.declared.events.Event.TheVariants as event
 use Rattle.hac_model.specs.declared.states.Body.TheVariants as body
 use Rattle.hac_model.specs.Tree.Events.{is_placed}
-use Rattle.file_tree.proofs.PlacedLemmas.{asking-share, bare-short, leaf-short, forgotten-counts, mark-counts, new-file}
+use Rattle.file_tree.proofs.PlacedLemmas.{after-counts, asking-share, bare-short, leaf-short, forgotten-counts, mark-counts, new-file}
 use Rattle.file_tree.proofs.tree.Tree.counts_after.Goals as goal
 
 pub without-requires-clause-short : goal.without-requires-clause-short
@@ -52,3 +61,39 @@ returns-in-Rewrite c = c.with_text.ensures c.in-Rewrite.text (sym c.len-in-Rewri
 
 pub returns-in-Mv : goal.returns-in-Mv
 returns-in-Mv c = c.with_moved.ensures c.in-Mv.name ∙ ap (λ (e : Event). counts (apply c.args.self.now.state e)) (sym c.in-Mv.is)
+
+pub counts_mounted-requires : goal.counts_mounted-requires
+counts_mounted-requires c =
+    let s = c.args.self.now.state in
+    let dir = c.in-Smount.dir in
+    let name = c.in-Smount.name in
+    let docs = c.in-Smount.docs in
+    let placed = subst (λ (e : Event). IsTrue (is_placed s e)) c.in-Smount.is c.requires in
+    let told = and_parts (is_free s dir name && is_space_name c.in-Smount.space && are_documents docs) _ placed in
+    let space = and_parts (is_free s dir name && is_space_name c.in-Smount.space) (are_documents docs) told.0 in
+    let free = and_parts (is_free s dir name) (is_space_name c.in-Smount.space) space.0 in
+    let vacant = and_parts (is_vacant s dir name) (not (is_mount_at s.entries dir)) free.0 in
+    let named = and_parts (is_directory_at s.entries dir && is_name name) (is_none (child s.entries dir name)) vacant.0 in
+    let directory = and_parts (is_directory_at s.entries dir) (is_name name) named.0 in
+    let rise = and_parts (list_all is_name docs) (do_names_rise docs && nat_le (length docs) DOCS_LIMIT) space.1 in
+    let few = and_parts (do_names_rise docs) (nat_le (length docs) DOCS_LIMIT) rise.1 in
+    let small : length docs ≤ DOCS_LIMIT = grind (arith, nat_tests, few.1) in
+    record { dir = directory.0; few = subst (λ (xs : List (List ℕ)). length xs ≤ DOCS_LIMIT) (sym c.as_slice.ensures) small }
+
+pub returns-in-Smount : goal.returns-in-Smount
+returns-in-Smount c =
+    let s = c.args.self.now.state in
+    c.counts_mounted.ensures c.in-Smount.name c.in-Smount.space (answers_to (terms_to_ask s.entries) c.in-Smount.told) c.in-Smount.docs (ap length (sym c.as_slice.ensures))
+    ∙ ap (λ (e : Event). counts (apply s e)) (sym c.in-Smount.is)
+
+pub returns-in-Ssync : goal.returns-in-Ssync
+returns-in-Ssync c =
+    let s = c.args.self.now.state in
+    c.counts_synced.ensures ∙ after-counts s (event.Ssync c.in-Ssync.mount c.in-Ssync.docs c.in-Ssync.told)
+    ∙ ap (λ (e : Event). counts (apply s e)) (sym c.in-Ssync.is)
+
+pub returns-in-Sumount : goal.returns-in-Sumount
+returns-in-Sumount c =
+    let s = c.args.self.now.state in
+    c.counts_unmounted.ensures ∙ after-counts s (event.Sumount c.in-Sumount.mount)
+    ∙ ap (λ (e : Event). counts (apply s e)) (sym c.in-Sumount.is)
