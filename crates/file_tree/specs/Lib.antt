@@ -10,3 +10,4 @@ pub mod Depths
 pub mod Changes
 pub mod Traces
 pub mod Walked
+pub mod Seated

@@ -14,7 +14,7 @@ ghost use Rattle.file_tree.specs.Answers.{is_dirty_at};
 ghost use Rattle.file_tree.specs.Counting.{AreSmall, IsShare, share_of};
 ghost use Rattle.file_tree.specs.Depths.{GoesTo, is_deep, is_deep_in};
 ghost use Rattle.file_tree.specs.Nodes.{body_of};
-ghost use Rattle.hac_model.specs.Tree.Events.{is_placed};
+ghost use Rattle.file_tree.specs.Seated.{is_seated};
 
 use crate::nodes::Content;
 use crate::shares::{
@@ -28,7 +28,7 @@ impl Tree {
     /// How much the state would hold after an event. What it refers to is in the tree; it may
     /// exceed limits.
     pub fn counts_after(&self, event: &Event) -> Counts
-        requires { IsTrue (is_placed self.now.state event.now) }
+        requires { IsTrue (is_seated self.now.state event.now) }
         ensures { result ≡ counts (apply self.now.state event.now) }
     {
         self.know_layout();

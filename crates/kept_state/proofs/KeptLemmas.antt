@@ -1,4 +1,4 @@
--- The tree, the marks and the graph go on to be those of one valid state.
+-- The tree, the marks, the answers and the graph go on to be those of one valid state.
 use Rattle.std.proofs.Common.{◌≡◌, ℕ, Bool, true, false, cond, List, [], ◌∷◌, subst, refl, ap, sym, ◌∙◌}
 use Rattle.std.specs.Prelude.{◌==◌, ◌||◌, Option, Some, None, is_some, IsTrue}
 use Rattle.std.specs.Option.{option_map_or}
@@ -23,13 +23,13 @@ use Rattle.dep_graph.specs.Graphs.{edges_of}
 use Rattle.dep_graph.specs.declared.graph.NewEdges.{NewEdges}
 use Rattle.link_kinds.specs.Kinds.{Lists}
 use Rattle.link_kinds.specs.Seen.{has_sets, lists_in, permanent_in, prohibited_in}
+use Rattle.kept_state.specs.Answers.{answers_kept}
 use Rattle.kept_state.specs.Kept.{IsKept}
-use Rattle.kept_state.specs.Parts.{AreAlike, IsLinked, KeepsNoAnswers, facts_kept, state_of}
+use Rattle.kept_state.specs.Parts.{AreAlike, IsLinked, facts_kept, state_of}
 use Rattle.kept_state.specs.Ready.{IsCommitted, IsReady, CanCommit, IsPreparedFor, ready_events}
 use Rattle.kept_state.specs.declared.parts.Parts.{Parts}
 use Rattle.kept_state.specs.declared.ready.Ready.{Ready}
 use Rattle.kept_state.specs.declared.ready.Ready.TheVariants.{Change}
-use Rattle.kept_state.proofs.AskedLemmas.{after-none}
 use Rattle.kept_state.proofs.StateLemmas.{kept-bares, same-counts, same-next-bare, same-semantic}
 
 -- lists of these marks, in which no link was found
@@ -48,6 +48,14 @@ module _ (kept : Parts) (h : IsLinked kept) where
       at true is = kept-lists n ∙ ap (λ (k : ℕ). unfound (facts_kept kept k).marks) (eqb-true n k is) ∙ ap unfound (sym same)
       at false is = kept-lists n
 
+  -- the same of answers
+  pub answers-still : (k : ℕ) (new : Facts) (n : ℕ) → new.answers ≡ (facts_kept kept k).answers → answers_kept kept.answers n ≡ (cond (n == k) new (facts_kept kept n)).answers
+  answers-still k new n same = at (n == k) refl
+    where
+      at : (b : Bool) → (n == k) ≡ b → answers_kept kept.answers n ≡ (cond b new (facts_kept kept n)).answers
+      at true is = ap (answers_kept kept.answers) (eqb-true n k is) ∙ sym same
+      at false is = refl
+
   -- the graph has what depends on what
   pub kept-edges : (n : ℕ) → edges_of kept.graph n ≡ depends (state_of kept) n
   kept-edges n = sym (edges-told (state_of kept) n ∙ ap (λ (facts : Facts). facts.edges) (h.own n))
@@ -55,7 +63,7 @@ module _ (kept : Parts) (h : IsLinked kept) where
 -- where only what each part is ready for changed, all else is as before
 module _ (old new : Parts) (same : AreAlike old new) where
   alike-facts : (n : ℕ) → facts_kept new n ≡ facts_kept old n
-  alike-facts n = λ i. record { marks = record { permanent = (same.kinds n i).permanent; prohibited = (same.kinds n i).prohibited }; answers = []; edges = same.edges n i }
+  alike-facts n = λ i. record { marks = record { permanent = (same.kinds n i).permanent; prohibited = (same.kinds n i).prohibited }; answers = same.answers n i; edges = same.edges n i }
 
   pub alike-state : state_of new ≡ state_of old
   alike-state = λ i. joined (λ n. alike-facts n i) (same.sessions i) (same.state i)
@@ -67,7 +75,6 @@ module _ (old new : Parts) (same : AreAlike old new) where
     found = λ d. ap (λ (lists : Lists). lists.transient) (same.kinds d) ∙ h.found d;
     sets = λ d has. ap (λ (s : State). is_semantic s d) alike-state ∙ either (has_sets old.marks d) d refl (same.sets d has);
     alone = ap (λ (s : State). s.sessions) same.state ∙ h.alone;
-    untold = subst KeepsNoAnswers (sym same.state) h.untold;
   }
     where
       either : (b : Bool) (d : ℕ) → has_sets old.marks d ≡ b → (b || is_semantic old.tree.state d) ≡ true → is_semantic (state_of old) d ≡ true
@@ -132,9 +139,9 @@ module _ (kept new : Parts) (event : Event) (h : IsLinked kept) (ok : IsTrue (ac
   abbrev now : ℕ → Facts
   now = facts_after event kept.tree.state (facts_kept kept)
 
-  -- it is put by what it does to the tree, the marks and the graph
+  -- it is put by what it does to the tree, the marks, the answers and the graph
   pub put : new.tree.state ≡ bare_after event kept.tree.state → ((n : ℕ) → lists_in new.marks n ≡ unfound (now n).marks) → ((n : ℕ) → edges_of new.graph n ≡ (now n).edges) →
-      ((n : ℕ) → [] ≡ (now n).answers) → ((n : ℕ) → IsTrue (has_sets new.marks n) → IsTrue (has_edges (now n).edges)) → new.sessions ≡ sessions_after event kept.sessions → IsCommitted event kept new
+      ((n : ℕ) → answers_kept new.answers n ≡ (now n).answers) → ((n : ℕ) → IsTrue (has_sets new.marks n) → IsTrue (has_edges (now n).edges)) → new.sessions ≡ sessions_after event kept.sessions → IsCommitted event kept new
   put tree marks edges answers sets sessions = record {
     state = led;
     linked = record {
@@ -143,7 +150,6 @@ module _ (kept new : Parts) (event : Event) (h : IsLinked kept) (ok : IsTrue (ac
       sets = λ n has. semantic-edges (state_of new) n (now n) (own n ∙ facts n) ∙ sets n has;
       found = λ d. ap (λ (lists : Lists). lists.transient) (marks d);
       alone = ap (λ (s : State). s.sessions) tree ∙ tree-sessions event kept.tree.state ∙ h.alone;
-      untold = subst KeepsNoAnswers (sym tree) (after-none event kept.tree.state h.untold);
     };
   }
     where
@@ -157,11 +163,11 @@ module _ (kept new : Parts) (event : Event) (h : IsLinked kept) (ok : IsTrue (ac
       led = next-state kept.tree.state (facts_kept kept) kept.sessions event h.valid ok h.own new.tree.state tree (facts_kept new) facts new.sessions sessions
 
   -- an event that tells no facts
-  pub put-still : now ≡ facts_kept kept → new.tree.state ≡ bare_after event kept.tree.state → new.marks ≡ kept.marks → new.graph ≡ kept.graph → new.sessions ≡ sessions_after event kept.sessions → IsCommitted event kept new
-  put-still still tree marks graph sessions =
+  pub put-still : now ≡ facts_kept kept → new.tree.state ≡ bare_after event kept.tree.state → new.marks ≡ kept.marks → new.answers ≡ kept.answers → new.graph ≡ kept.graph → new.sessions ≡ sessions_after event kept.sessions → IsCommitted event kept new
+  put-still still tree marks answers graph sessions =
       put tree
       (λ n. ap (λ m. lists_in m n) marks ∙ kept-lists kept h n ∙ ap (λ (facts : ℕ → Facts). unfound (facts n).marks) (sym still))
       (λ n. ap (λ g. edges_of g n) graph ∙ ap (λ (facts : ℕ → Facts). (facts n).edges) (sym still))
-      (λ n. ap (λ (facts : ℕ → Facts). (facts n).answers) (sym still))
+      (λ n. ap (λ a. answers_kept a n) answers ∙ ap (λ (facts : ℕ → Facts). (facts n).answers) (sym still))
       (λ n has. ap (λ (facts : ℕ → Facts). has_edges (facts n).edges) still ∙ sets-edges kept h n (ap (λ m. has_sets m n) (sym marks) ∙ has))
       sessions

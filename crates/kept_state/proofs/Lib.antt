@@ -1,7 +1,14 @@
 pub mod KeptLemmas
 pub mod ReadyLemmas
 pub mod PutLemmas
+pub mod MountPutLemmas
 pub mod StateLemmas
-pub mod AskedLemmas
+pub mod AnswerLemmas
+pub mod ListLemmas
+pub mod OrderLemmas
+pub mod NumberLemmas
+pub mod UseLemmas
+pub mod NameLemmas
+pub mod ForgetLemmas
 pub mod ReachLemmas
 pub mod ReaderLemmas

@@ -1,4 +1,4 @@
--- What was prepared is made so: each event by what it does to the tree, to the marks and to the graph.
+-- What was prepared is made so: each event by what it does to the tree, the marks, the answers and the graph.
 use Rattle.std.proofs.Common.{◌≡◌, ℕ, Bool, true, false, cond, List, [], ◌∷◌, subst, refl, ap, sym, ◌∙◌, arith}
 use Rattle.std.specs.Prelude.{◌==◌, ◌&&◌, not, Option, Some, None, is_some, IsTrue}
 use Rattle.std.specs.Option.{option_map, option_map_or}
@@ -31,10 +31,12 @@ use Rattle.set_pool.specs.Rising as items
 use Rattle.link_kinds.specs.Kinds.{no_lists, with_kind}
 use Rattle.link_kinds.specs.Seen.{ChangesDir, DropsItem, Known, LinkListsRise, SameLinks, has_sets, lists_in, permanent_in, prohibited_in, transient_in}
 use Rattle.link_kinds.proofs.PutLemmas.{inserted-put, removed-without}
+use Rattle.kept_state.specs.Answers.{answers_kept}
 use Rattle.kept_state.specs.Parts.{AreEdges, AreMovedEdges, IsLinked, facts_kept, state_of}
 use Rattle.kept_state.specs.Ready.{IsCommitted}
 use Rattle.kept_state.specs.declared.parts.Parts.{Parts}
-use Rattle.kept_state.proofs.KeptLemmas.{has_edges, kept-edges, kept-lists, lists-still, put, sets-edges, unfound}
+use Rattle.kept_state.proofs.AnswerLemmas.{asking-keeps_none, kept-answers, mountless}
+use Rattle.kept_state.proofs.KeptLemmas.{answers-still, has_edges, kept-edges, kept-lists, lists-still, put, sets-edges, unfound}
 use Rattle.kept_state.proofs.ReadyLemmas.{possible-of}
 use Rattle.kept_state.proofs.StateLemmas.{kept-bares, same-depends, same-file, same-leaf, same-made, same-some}
 
@@ -50,10 +52,6 @@ tested-there t n p h = elim (entry_at t.entries n) as (λ (o : Option Entry). op
 edges-put : (b : Bool) (new old : Facts) → cond b new.edges old.edges ≡ (cond b new old).edges
 edges-put true new old = refl
 edges-put false new old = refl
-
-answers-put : (b : Bool) (new old : Facts) → new.answers ≡ [] → old.answers ≡ [] → [] ≡ (cond b new old).answers
-answers-put true new old none also = sym none
-answers-put false new old none also = sym also
 
 some-edges : (b : Bool) (new old : Facts) → IsTrue (has_edges new.edges) → IsTrue (has_edges old.edges) → IsTrue (has_edges (cond b new old).edges)
 some-edges true new old some also = some
@@ -77,16 +75,22 @@ module _ (kept : Parts) where
   pub directory-there : (dir : ℕ) → IsTrue (accepted s (event.Rmdir dir)) → is_some (entry_at kept.tree.state.entries dir) ≡ true
   directory-there dir ok = tested-there kept.tree.state dir is_directory (sym (same-made s kept.tree.state (kept-bares kept) dir) ∙ (rmdir-parts s dir (possible-of s (event.Rmdir dir) ok)).0)
 
+-- nothing is kept of the next number yet
+pub next-none : (kept : Parts) → IsLinked kept → no_facts ≡ facts_kept kept kept.tree.state.next
+next-none kept h =
+    let s = state_of kept in
+    sym (ap facts_at (entry_at-next 0 s.entries s.next s.next h.valid.layout.numbers (omega arith))) ∙ h.own kept.tree.state.next
+
 -- A semantic directory comes.
 
 module _ (kept : Parts) (h : IsLinked kept) (dir : ℕ) (name : List ℕ) (asked : Formula ℕ) (ok : IsTrue (accepted (state_of kept) (event.Smkdir dir name asked []))) (edges : NewEdges) (are : AreEdges kept.graph kept.tree.state.next dir asked edges) where
   pub semantic-put : (tree : tree.Seen) (edges_now : graph.Seen) → tree.state ≡ added kept.tree.state dir name (Semantic asked [] []) → ((q : ℕ) → edges_of edges_now q ≡ replaced (edges_of kept.graph) edges.dir edges.edges.items q) →
-      IsCommitted (event.Smkdir dir name asked []) kept (record { tree = tree; marks = kept.marks; graph = edges_now; sessions = kept.sessions })
+      IsCommitted (event.Smkdir dir name asked []) kept (record kept { tree = tree; graph = edges_now })
   semantic-put tree edges_now is each =
-      put kept (record { tree = tree; marks = kept.marks; graph = edges_now; sessions = kept.sessions }) (event.Smkdir dir name asked []) h ok is
-      (λ n. lists-still kept h t.next new n none)
+      put kept (record kept { tree = tree; graph = edges_now }) (event.Smkdir dir name asked []) h ok is
+      (λ n. lists-still kept h t.next new n (ap (λ (facts : Facts). facts.marks) (next-none kept h)))
       (λ n. each n ∙ (λ i. replaced (edges_of kept.graph) (are.dir_is i) (are.edges_are i) n) ∙ edges-put (n == t.next) new (facts_kept kept n))
-      (λ n. answers-put (n == t.next) new (facts_kept kept n) refl refl)
+      (λ n. answers-still kept h t.next new n (ap (λ (facts : Facts). facts.answers) (next-none kept h)))
       (λ n has. some-edges (n == t.next) new (facts_kept kept n) refl (sets-edges kept h n has))
       refl
     where
@@ -96,23 +100,16 @@ module _ (kept : Parts) (h : IsLinked kept) (dir : ℕ) (name : List ℕ) (asked
       new : Facts
       new = record no_facts { edges = dir ∷ named_in asked }
 
-      -- the next number has no marks yet
-      none : new.marks ≡ (facts_kept kept t.next).marks
-      none =
-          let s = state_of kept in
-          sym (ap (λ (o : Option Entry). (facts_at o).marks) (entry_at-next 0 s.entries s.next s.next h.valid.layout.numbers (omega arith)))
-          ∙ ap (λ (facts : Facts). facts.marks) (h.own t.next)
-
 -- A directory gets a query.
 
 module _ (kept : Parts) (h : IsLinked kept) (dir : ℕ) (asked : Formula ℕ) (ok : IsTrue (accepted (state_of kept) (event.Setq dir asked []))) (edges : NewEdges) (are : AreEdges kept.graph dir (parent_of kept.tree.state dir) asked edges) where
   pub query-put : (tree : tree.Seen) (edges_now : graph.Seen) → tree.state ≡ changed_at kept.tree.state dir (edited (asking asked)) →
-      ((q : ℕ) → edges_of edges_now q ≡ replaced (edges_of kept.graph) edges.dir edges.edges.items q) → IsCommitted (event.Setq dir asked []) kept (record { tree = tree; marks = kept.marks; graph = edges_now; sessions = kept.sessions })
+      ((q : ℕ) → edges_of edges_now q ≡ replaced (edges_of kept.graph) edges.dir edges.edges.items q) → IsCommitted (event.Setq dir asked []) kept (record kept { tree = tree; graph = edges_now })
   query-put tree edges_now is each =
-      put kept (record { tree = tree; marks = kept.marks; graph = edges_now; sessions = kept.sessions }) (event.Setq dir asked []) h ok is
+      put kept (record kept { tree = tree; graph = edges_now }) (event.Setq dir asked []) h ok is
       (λ n. lists-still kept h dir new n refl)
       (λ n. each n ∙ (λ i. replaced (edges_of kept.graph) (are.dir_is i) (are.edges_are i) n) ∙ edges-put (n == dir) new (facts_kept kept n))
-      (λ n. answers-put (n == dir) new (facts_kept kept n) refl refl)
+      (λ n. answers-still kept h dir new n refl)
       (λ n has. some-edges (n == dir) new (facts_kept kept n) refl (sets-edges kept h n has))
       refl
     where
@@ -121,13 +118,20 @@ module _ (kept : Parts) (h : IsLinked kept) (dir : ℕ) (asked : Formula ℕ) (o
 
 -- A directory loses its marks and its edges.
 
-pub dir-gone : (kept : Parts) (e : Event) (dir : ℕ) → IsLinked kept → IsTrue (accepted (state_of kept) e) → ((n : ℕ) → facts_after e kept.tree.state (facts_kept kept) n ≡ cond (n == dir) no_facts (facts_kept kept n)) → kept.sessions ≡ sessions_after e kept.sessions → (tree : tree.Seen) (marks : Known) (edges_now : graph.Seen) →
-    tree.state ≡ bare_after e kept.tree.state → ((q : ℕ) → edges_of edges_now q ≡ replaced (edges_of kept.graph) dir [] q) → ChangesDir kept.marks marks dir no_lists → ((n : ℕ) → has_sets marks n ≡ (has_sets kept.marks n && not (n == dir))) → IsCommitted e kept (record { tree = tree; marks = marks; graph = edges_now; sessions = kept.sessions })
-dir-gone kept e dir h ok gone still tree marks edges_now is each drops sets =
-    put kept (record { tree = tree; marks = marks; graph = edges_now; sessions = kept.sessions }) e h ok is
+module _ (kept : Parts) (h : IsLinked kept) (dir : ℕ) where
+  pub asked-none : IsTrue (accepted (state_of kept) (event.Unq dir)) → answers_kept kept.answers dir ≡ []
+  asked-none ok = kept-answers kept h dir ∙ asking-keeps_none (state_of kept) dir (possible-of (state_of kept) (event.Unq dir) ok)
+
+  pub made-none : IsTrue (accepted (state_of kept) (event.Rmdir dir)) → answers_kept kept.answers dir ≡ []
+  made-none ok = kept-answers kept h dir ∙ mountless (state_of kept) dir (rmdir-parts (state_of kept) dir (possible-of (state_of kept) (event.Rmdir dir) ok)).4
+
+pub dir-gone : (kept : Parts) (e : Event) (dir : ℕ) → IsLinked kept → IsTrue (accepted (state_of kept) e) → ((n : ℕ) → facts_after e kept.tree.state (facts_kept kept) n ≡ cond (n == dir) no_facts (facts_kept kept n)) → kept.sessions ≡ sessions_after e kept.sessions → answers_kept kept.answers dir ≡ [] → (tree : tree.Seen) (marks : Known) (edges_now : graph.Seen) →
+    tree.state ≡ bare_after e kept.tree.state → ((q : ℕ) → edges_of edges_now q ≡ replaced (edges_of kept.graph) dir [] q) → ChangesDir kept.marks marks dir no_lists → ((n : ℕ) → has_sets marks n ≡ (has_sets kept.marks n && not (n == dir))) → IsCommitted e kept (record kept { tree = tree; marks = marks; graph = edges_now })
+dir-gone kept e dir h ok gone still none tree marks edges_now is each drops sets =
+    put kept (record kept { tree = tree; marks = marks; graph = edges_now }) e h ok is
     (λ n. drops n ∙ at (n == dir) n ∙ ap (λ (facts : Facts). unfound facts.marks) (sym (gone n)))
     (λ n. each n ∙ edges-put (n == dir) no_facts (facts_kept kept n) ∙ ap (λ (facts : Facts). facts.edges) (sym (gone n)))
-    (λ n. answers-put (n == dir) no_facts (facts_kept kept n) refl refl ∙ ap (λ (facts : Facts). facts.answers) (sym (gone n)))
+    (λ n. answers-still kept h dir no_facts n (sym none) ∙ ap (λ (facts : Facts). facts.answers) (sym (gone n)))
     (λ n has. ap (λ (facts : Facts). has_edges facts.edges) (gone n) ∙ left (n == dir) n (sym (sets n) ∙ has))
     still
   where
@@ -147,12 +151,12 @@ module _ (kept : Parts) (h : IsLinked kept) (mark : Mark) (ok : IsTrue (accepted
       let s = state_of kept in
       (mark-parts s mark.dir mark.item mark.kind (possible-of s (event.Mark mark) ok)).2
 
-  pub mark-put : (marks : Known) → LinkListsRise kept.marks → ChangesDir kept.marks marks mark.dir (with_kind mark.kind mark.item (lists_in kept.marks mark.dir)) → SameLinks kept.marks marks → IsCommitted (event.Mark mark) kept (record { tree = kept.tree; marks = marks; graph = kept.graph; sessions = kept.sessions })
+  pub mark-put : (marks : Known) → LinkListsRise kept.marks → ChangesDir kept.marks marks mark.dir (with_kind mark.kind mark.item (lists_in kept.marks mark.dir)) → SameLinks kept.marks marks → IsCommitted (event.Mark mark) kept (record kept { marks = marks })
   mark-put marks rise change sets =
-      put kept (record { tree = kept.tree; marks = marks; graph = kept.graph; sessions = kept.sessions }) (event.Mark mark) h ok refl
+      put kept (record kept { marks = marks }) (event.Mark mark) h ok refl
       (λ n. change n ∙ at (n == mark.dir) n)
       (λ n. edges-still n (n == mark.dir) refl)
-      (λ n. answers-put (n == mark.dir) new (facts_kept kept n) refl refl)
+      (λ n. answers-still kept h mark.dir new n refl)
       (λ n has. ap has_edges (sym (edges-still n (n == mark.dir) refl)) ∙ sets-edges kept h n (sym (sets n) ∙ has))
       refl
     where
@@ -187,10 +191,10 @@ module _ (kept : Parts) (h : IsLinked kept) (entry dir : ℕ) (name : List ℕ) 
     abbrev new-facts : Facts
     new-facts = record (facts_kept kept entry) { edges = edges_to dir (query_at kept.tree.state entry) }
 
-    moved : (edges_now : graph.Seen) → ((n : ℕ) → edges_of edges_now n ≡ (cond (n == entry) new-facts (facts_kept kept n)).edges) → IsCommitted (event.Mv entry dir name) kept (record { tree = tree; marks = kept.marks; graph = edges_now; sessions = kept.sessions })
+    moved : (edges_now : graph.Seen) → ((n : ℕ) → edges_of edges_now n ≡ (cond (n == entry) new-facts (facts_kept kept n)).edges) → IsCommitted (event.Mv entry dir name) kept (record kept { tree = tree; graph = edges_now })
     moved edges_now each =
-        put kept (record { tree = tree; marks = kept.marks; graph = edges_now; sessions = kept.sessions }) (event.Mv entry dir name) h ok is
-        (λ n. lists-still kept h entry new-facts n refl) each (λ n. answers-put (n == entry) new-facts (facts_kept kept n) refl refl)
+        put kept (record kept { tree = tree; graph = edges_now }) (event.Mv entry dir name) h ok is
+        (λ n. lists-still kept h entry new-facts n refl) each (λ n. answers-still kept h entry new-facts n refl)
         (λ n has. asks n (n == entry) refl (sets-edges kept h n has))
         refl
       where
@@ -206,7 +210,7 @@ module _ (kept : Parts) (h : IsLinked kept) (entry dir : ℕ) (name : List ℕ) 
             ∙ ap (λ (k : ℕ). has_edges (edges_of kept.graph k)) (sym (eqb-true n entry here)) ∙ has
         asks n false here has = has
 
-    pub plain-moved : edges ≡ None → IsCommitted (event.Mv entry dir name) kept (record { tree = tree; marks = kept.marks; graph = kept.graph; sessions = kept.sessions })
+    pub plain-moved : edges ≡ None → IsCommitted (event.Mv entry dir name) kept (record kept { tree = tree })
     plain-moved none = moved kept.graph (λ n. at n (n == entry) refl)
       where
         asks : query_at kept.tree.state entry ≡ None
@@ -223,7 +227,7 @@ module _ (kept : Parts) (h : IsLinked kept) (entry dir : ℕ) (name : List ℕ) 
         at n false here = refl
 
     pub semantic-moved : (new : NewEdges) (edges_now : graph.Seen) → edges ≡ Some new → ((q : ℕ) → edges_of edges_now q ≡ replaced (edges_of kept.graph) new.dir new.edges.items q) →
-        IsCommitted (event.Mv entry dir name) kept (record { tree = tree; marks = kept.marks; graph = edges_now; sessions = kept.sessions })
+        IsCommitted (event.Mv entry dir name) kept (record kept { tree = tree; graph = edges_now })
     semantic-moved new edges_now some each =
         moved edges_now (λ n.
         each n ∙ (λ i. replaced (edges_of kept.graph) (fits.2.dir_is i) ((fits.2.edges_are ∙ sym (ap (edges_to dir) fits.1)) i) n)
@@ -234,8 +238,8 @@ module _ (kept : Parts) (h : IsLinked kept) (entry dir : ℕ) (name : List ℕ) 
 
 -- A file or a link goes.
 
-pub removed-put : (kept : Parts) (entry : ℕ) → IsLinked kept → IsTrue (accepted (state_of kept) (event.Rm entry)) → (tree : tree.Seen) (marks : Known) → tree.state ≡ removed kept.tree.state entry → DropsItem kept.marks marks entry → SameLinks kept.marks marks → IsCommitted (event.Rm entry) kept (record { tree = tree; marks = marks; graph = kept.graph; sessions = kept.sessions })
+pub removed-put : (kept : Parts) (entry : ℕ) → IsLinked kept → IsTrue (accepted (state_of kept) (event.Rm entry)) → (tree : tree.Seen) (marks : Known) → tree.state ≡ removed kept.tree.state entry → DropsItem kept.marks marks entry → SameLinks kept.marks marks → IsCommitted (event.Rm entry) kept (record kept { tree = tree; marks = marks })
 removed-put kept entry h ok tree marks is drops sets =
-    put kept (record { tree = tree; marks = marks; graph = kept.graph; sessions = kept.sessions }) (event.Rm entry) h ok is
+    put kept (record kept { tree = tree; marks = marks }) (event.Rm entry) h ok is
     (λ n. drops n ∙ ap (with_kind Unlinked entry) (kept-lists kept h n) ∙ (λ i. record { transient = []; permanent = removed-without entry (permanent_in kept.marks n) i; prohibited = removed-without entry (prohibited_in kept.marks n) i }))
     (λ n. refl) (λ n. refl) (λ n has. sets-edges kept h n (sym (sets n) ∙ has)) refl

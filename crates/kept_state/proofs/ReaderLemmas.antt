@@ -16,7 +16,6 @@ use Rattle.link_kinds.proofs.HasLemmas.{has-among}
 use Rattle.kept_state.specs.Parts.{IsLinked, facts_kept, state_of}
 use Rattle.kept_state.specs.Readers.{AreMarksOf, IsTreeOf, mark_at}
 use Rattle.kept_state.specs.declared.parts.Parts.{Parts}
-use Rattle.kept_state.proofs.AskedLemmas.{same-asked}
 use Rattle.kept_state.proofs.StateLemmas.{tree-layout}
 
 -- The marks of a state are in its facts.
@@ -29,7 +28,7 @@ prohibited-fact s n = elim (entry_at s.entries n) as (λ (o : Option Entry). opt
 
 module _ (kept : Parts) (h : IsLinked kept) where
   pub tree-of : IsTreeOf (state_of kept) kept.tree.state
-  tree-of = record { bares = bare-joined (facts_kept kept) kept.sessions kept.tree.state; layout = tree-layout kept h; sessions = h.alone; asked = same-asked kept h }
+  tree-of = record { bares = bare-joined (facts_kept kept) kept.sessions kept.tree.state; layout = tree-layout kept h; sessions = h.alone }
 
   pub marks-of : AreMarksOf (state_of kept) kept.marks
   marks-of = record {

@@ -1,12 +1,14 @@
 -- What a linked tree says of its state: all but marks is in the tree alone.
-use Rattle.std.proofs.Common.{◌≡◌, ℕ, false, List, map, refl, ap, subst, sym, ◌∙◌}
-use Rattle.std.specs.Prelude.{◌==◌, ◌&&◌, ◌||◌, not, length, nat_lt, Option, Some, None, is_none, is_some, option_and_then}
+use Rattle.std.proofs.Common.{◌≡◌, ℕ, false, List, map, refl, ap, true, subst, sym, ◌∙◌}
+use Rattle.std.specs.Prelude.{◌==◌, ◌&&◌, ◌||◌, not, nat_lt, Option, Some, None, is_some, option_and_then}
 use Rattle.std.specs.Option.{option_map, option_map_or}
 use Rattle.hac_model.specs.Tree.Bare.{bare, bare_body}
 use Rattle.hac_model.specs.Tree.Depends.{depends, referrers}
-use Rattle.hac_model.specs.Tree.Events.{apply, dirty, edited, first_asked, is_bare, is_free, is_inside, is_made_holder, may_ask}
+use Rattle.hac_model.specs.Tree.Events.{apply, dirty, edited, is_bare, is_free, is_inside, is_made_holder, may_ask}
 use Rattle.hac_model.specs.Query.Formula.{Formula}
 use Rattle.hac_model.specs.Tree.Limits.{counts, is_text}
+use Rattle.hac_model.specs.Tree.Mounting.{are_documents}
+use Rattle.hac_model.specs.Tree.Mounts.{terms_to_ask}
 use Rattle.hac_model.specs.Tree.Links.{is_item, is_semantic, parent_of, query_at, shown_of}
 use Rattle.hac_model.specs.Run.Resolving.{resolved_for}
 use Rattle.hac_model.specs.Script.PathWords.{is_target}
@@ -15,7 +17,7 @@ use Rattle.hac_model.specs.Tree.{body_at, entry_at, is_directory, is_directory_a
 use Rattle.hac_model.specs.Tree.Valid.{IsLayout}
 use Rattle.hac_model.specs.declared.commands.Command.{Command}
 use Rattle.hac_model.specs.declared.events.Event.{Event}
-use Rattle.hac_model.specs.declared.events.Event.TheVariants.{Mkdir, NewFile, Rewrite, Ln, Smkdir, Setq, Unq, Mark, Mv, Rm, Rmdir, Step, Cd}
+use Rattle.hac_model.specs.declared.events.Event.TheVariants.{Mkdir, NewFile, Rewrite, Ln, Smkdir, Setq, Unq, Mark, Mv, Rm, Rmdir, Smount, Ssync, Sumount, Step, Cd}
 use Rattle.hac_model.specs.declared.states.Body.{Body}
 use Rattle.hac_model.specs.declared.states.Body.TheVariants.{File, Dir, Symlink, Semantic, Mount, Document}
 use Rattle.hac_model.specs.declared.states.Entry.{Entry}
@@ -24,8 +26,12 @@ use Rattle.hac_model.proofs.AlikeLemmas.{bare-kind, counts-bare, depends-bare, d
 use Rattle.hac_model.proofs.BareLemmas.{bare-commutes}
 use Rattle.hac_model.proofs.EventLemmas.{due}
 use Rattle.hac_model.proofs.FillLemmas.{bare-joined}
+use Rattle.hac_model.proofs.LayoutLemmas.{smount-parts, ssync-parts}
 use Rattle.hac_model.proofs.MapLemmas.{test-mapped}
+use Rattle.hac_model.proofs.MountFactLemmas.{terms-bare}
+use Rattle.std.proofs.lemmas.Bool.{and_from, and_parts}
 use Rattle.hac_model.specs.Tree.Events.{is_placed}
+use Rattle.file_tree.specs.Seated.{is_seated}
 use Rattle.kept_state.specs.Parts.{IsLinked, facts_kept, state_of}
 use Rattle.kept_state.specs.declared.parts.Parts.{Parts}
 
@@ -139,25 +145,35 @@ module _ (s t : State) (bares : bare s ≡ bare t) where
   same-free dir name = alike (λ s. is_free s dir name) (λ s. is_free-bare s dir name)
 
   -- a directory that was made isn't a mount
-  same-holder : (n : ℕ) → is_made_holder s n ≡ is_made_holder t n
+  pub same-holder : (n : ℕ) → is_made_holder s n ≡ is_made_holder t n
   same-holder n = λ i. same-made n i && not (same-mount n i)
 
-  -- and what is placed, where both want the same space to be asked for a query
-  pub same-placed : ((q : Formula ℕ) → first_asked s q ≡ first_asked t q) → (e : Event) → is_placed s e ≡ is_placed t e
-  same-placed asked (Mkdir dir name) = same-free dir name
-  same-placed asked (NewFile dir name text) = λ i. same-free dir name i && is_text text
-  same-placed asked (Rewrite file text) = λ i. same-file file i && is_text text
-  same-placed asked (Ln dir name target) = λ i. same-free dir name i && is_target target
-  same-placed asked (Smkdir dir name query told) = λ i. same-free dir name i && (same-asks query i && (is_none (asked query i) && length told == 0))
-  same-placed asked (Setq dir query told) = λ i. same-holder dir i && (same-asks query i && (is_none (asked query i) && length told == 0))
-  same-placed asked (Unq dir) = same-semantic dir
-  same-placed asked (Mark mark) = λ i. same-item mark.item i && same-semantic mark.dir i
-  same-placed asked (Mv entry dir name) = λ i. same-some entry i && not (same-document entry i) && same-free dir name i && not (same-inside dir entry i)
-  same-placed asked (Rm entry) = same-leaf entry
-  same-placed asked (Rmdir dir) = λ i. same-holder dir i && same-bare dir i
-  same-placed asked Step = due s.entries ∙ ap (λ (k : ℕ). nat_lt 0 k) (same-dirty) ∙ sym (due t.entries)
-  same-placed asked (Cd session dir) = λ i. is_space_name session && same-directory dir i
-  same-placed asked other = refl
+  -- what is placed in the one is in the other, what spaces are asked or have told aside
+  pub same-seated : (e : Event) → is_placed s e ≡ true → is_seated t e ≡ true
+  same-seated (Mkdir dir name) h = sym (same-free dir name) ∙ h
+  same-seated (NewFile dir name text) h = sym (λ i. same-free dir name i && is_text text) ∙ h
+  same-seated (Rewrite file text) h = sym (λ i. same-file file i && is_text text) ∙ h
+  same-seated (Ln dir name target) h = sym (λ i. same-free dir name i && is_target target) ∙ h
+  same-seated (Smkdir dir name query told) h = sym (same-free dir name) ∙ (and_parts (is_free s dir name) _ h).0
+  same-seated (Setq dir query told) h = sym (same-holder dir) ∙ (and_parts (is_made_holder s dir) _ h).0
+  same-seated (Unq dir) h = sym (same-semantic dir) ∙ h
+  same-seated (Mark mark) h = sym (λ i. same-item mark.item i && same-semantic mark.dir i) ∙ h
+  same-seated (Mv entry dir name) h = sym (λ i. same-some entry i && not (same-document entry i) && same-free dir name i && not (same-inside dir entry i)) ∙ h
+  same-seated (Rm entry) h = sym (same-leaf entry) ∙ h
+  same-seated (Rmdir dir) h = sym (λ i. same-holder dir i && same-bare dir i) ∙ h
+  same-seated (Smount dir name space documents told) h =
+      let parts = smount-parts s dir name space documents told h in
+      and_from (is_free t dir name) (are_documents documents) (sym (same-free dir name) ∙ parts.0) parts.2
+  same-seated (Ssync mount documents told) h =
+      let parts = ssync-parts s mount documents told h in
+      and_from (is_mount_at t.entries mount) (are_documents documents) (sym (same-mount mount) ∙ parts.0) parts.1
+  same-seated (Sumount mount) h = sym (same-mount mount) ∙ h
+  same-seated Step h = sym (due s.entries ∙ ap (λ (k : ℕ). nat_lt 0 k) (same-dirty) ∙ sym (due t.entries)) ∙ h
+  same-seated (Cd session dir) h = sym (λ i. is_space_name session && same-directory dir i) ∙ h
+
+  -- both ask spaces for the same terms
+  pub same-terms : terms_to_ask s.entries ≡ terms_to_ask t.entries
+  same-terms = alike (λ s. terms_to_ask s.entries) terms-bare
 
   -- the outcome of a command
   pub same-resolved : (session : List ℕ) (base : ℕ) (c : Command) → resolved_for s session base c ≡ resolved_for t session base c

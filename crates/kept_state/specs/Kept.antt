@@ -8,7 +8,7 @@ use Rattle.kept_state.specs.declared.kept.KeptState.TheInside.{Inside}
 abbrev pub seen_of : Inside → Seen
 seen_of kept = record { state = state_of kept.parts; ready = ready_events kept.ready }
 
--- the tree, the marks and the graph fit, and what is ready can happen
+-- the parts fit, and what is ready can happen
 pub record IsKept (kept : Inside) : Type 0 where
   pub linked : IsLinked kept.parts
   pub ready : IsReady kept.ready kept.parts

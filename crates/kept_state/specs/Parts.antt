@@ -1,36 +1,35 @@
--- A tree with the marks of its semantic directories, with what depends on what, and with its sessions.
-use Rattle.std.specs.Prelude.{◌≡◌, ℕ, ◌||◌, [], ◌∷◌, Option, Some, None, IsTrue}
-use Rattle.std.specs.List.{AllByRecursion}
+-- A tree with the marks of its semantic directories, the answers of its mounts, what depends on what, and its sessions.
+use Rattle.std.specs.Prelude.{◌≡◌, ℕ, ◌||◌, ◌∷◌, [], Option, Some, None, IsTrue}
 use Rattle.hac_model.specs.Tree.Depends.{named_in}
 use Rattle.hac_model.specs.Tree.Facts.{Facts, Marks, facts_of, joined}
 use Rattle.hac_model.specs.Query.Formula.{Formula}
 use Rattle.hac_model.specs.Tree.Links.{is_semantic, query_at}
 use Rattle.hac_model.specs.Tree.Valid.{IsValid}
-use Rattle.hac_model.specs.Tree.{answers_in}
 use Rattle.hac_model.specs.declared.states.State.{State}
 use Rattle.dep_graph.specs.Graphs.{edges_of}
 use Rattle.dep_graph.specs.Graphs as graph
 use Rattle.dep_graph.specs.declared.graph.NewEdges.{NewEdges}
 use Rattle.link_kinds.specs.Seen.{Known, SameKinds, has_sets, permanent_in, prohibited_in, transient_in}
+use Rattle.kept_state.specs.Answers.{SameAnswers, answers_kept}
 use Rattle.kept_state.specs.declared.parts.Parts.{Parts}
 
 -- the marks of a directory
 abbrev pub marks_kept : Known → ℕ → Marks
 marks_kept links dir = record { permanent = permanent_in links dir; prohibited = prohibited_in links dir }
 
--- what is kept of each number beside the tree. No space answers anything yet.
+-- what is kept of each number beside the tree
 abbrev pub facts_kept : Parts → ℕ → Facts
-facts_kept kept number = record { marks = marks_kept kept.marks number; answers = []; edges = edges_of kept.graph number }
+facts_kept kept number = record {
+  marks = marks_kept kept.marks number;
+  answers = answers_kept kept.answers number;
+  edges = edges_of kept.graph number;
+}
 
--- the state: the tree, in which each semantic directory has its marks, and the sessions
+-- the state: the tree, in which each semantic directory has its marks and each mount its answers, and the sessions
 abbrev pub state_of : Parts → State
 state_of kept = joined (facts_kept kept) kept.sessions kept.tree.state
 
--- no mount of the state keeps answers
-abbrev pub KeepsNoAnswers : State → Type 0
-KeepsNoAnswers s = AllByRecursion (λ entry. answers_in entry.body ≡ []) s.entries
-
--- the tree, the marks, the graph and the sessions are those of one valid state
+-- the tree, the marks, the answers, the graph and the sessions are those of one valid state
 pub record IsLinked (kept : Parts) : Type 0 where
   pub valid : IsValid (state_of kept)
   -- nothing else is kept of any number
@@ -39,9 +38,8 @@ pub record IsLinked (kept : Parts) : Type 0 where
   pub found : (dir : ℕ) → transient_in kept.marks dir ≡ []
   -- only semantic directories have sets of marks
   pub sets : (dir : ℕ) → IsTrue (has_sets kept.marks dir) → IsTrue (is_semantic (state_of kept) dir)
-  -- and the tree keeps no sessions and no answers
+  -- and the tree keeps no sessions
   pub alone : kept.tree.state.sessions ≡ []
-  pub untold : KeepsNoAnswers kept.tree.state
 
 -- the one has what the other has, and may be ready for something else, as a semantic directory for marks
 pub record AreAlike (old new : Parts) : Type 0 where
@@ -49,12 +47,14 @@ pub record AreAlike (old new : Parts) : Type 0 where
   pub kinds : SameKinds old.marks new.marks
   pub sets : (dir : ℕ) → IsTrue (has_sets new.marks dir) → IsTrue (has_sets old.marks dir || is_semantic old.tree.state dir)
   pub edges : (dir : ℕ) → edges_of new.graph dir ≡ edges_of old.graph dir
+  pub answers : SameAnswers old.answers new.answers
   pub sessions : new.sessions ≡ old.sessions
 
--- the same, and the tree and the marks are ready for what they were ready for
+-- the same, and the tree, the marks and the answers are ready for what they were ready for
 pub record KeepsTree (old new : Parts) : Type 0 where
   pub tree : new.tree ≡ old.tree
   pub marks : new.marks ≡ old.marks
+  pub answers : new.answers ≡ old.answers
   pub edges : (dir : ℕ) → edges_of new.graph dir ≡ edges_of old.graph dir
   pub sessions : new.sessions ≡ old.sessions
 

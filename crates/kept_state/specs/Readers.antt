@@ -1,9 +1,7 @@
 -- What the parts of a kept state tell of it.
 use Rattle.std.specs.Prelude.{◌≡◌, ℕ, [], if◌then◌else◌}
 use Rattle.hac_model.specs.Tree.Bare.{bare}
-use Rattle.hac_model.specs.Query.Formula.{Formula}
 use Rattle.hac_model.specs.Tree.Depends.{depends}
-use Rattle.hac_model.specs.Tree.Events.{first_asked}
 use Rattle.hac_model.specs.Tree.Links.{is_permanent, is_prohibited, permanent_at, prohibited_at}
 use Rattle.hac_model.specs.Tree.Valid.{IsLayout}
 use Rattle.hac_model.specs.declared.marks.Kind.{Kind}
@@ -13,12 +11,11 @@ use Rattle.dep_graph.specs.Graphs.{edges_of}
 use Rattle.dep_graph.specs.Graphs as graph
 use Rattle.link_kinds.specs.Seen.{Known, permanent_in, prohibited_in, transient_in}
 
--- it is the tree of the state, without marks. Both want the same space to be asked for a query.
+-- it is the tree of the state, without marks, answers and sessions
 pub record IsTreeOf (s tree : State) : Type 0 where
   pub bares : bare s ≡ bare tree
   pub layout : IsLayout tree
   pub sessions : tree.sessions ≡ []
-  pub asked : (query : Formula ℕ) → first_asked s query ≡ first_asked tree query
 
 -- the marks are those of the state. No link that was found is among them.
 pub record AreMarksOf (s : State) (marks : Known) : Type 0 where

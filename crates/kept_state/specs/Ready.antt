@@ -1,16 +1,19 @@
--- What a state is ready for: parts of it lie in the tree, the marks and the graph.
-use Rattle.std.specs.Prelude.{◌≡◌, ⊤, ◌<◌, List, [], ◌∷◌, Option, replicate, IsTrue}
+-- What a state is ready for: parts of it lie in the tree, the marks, the answers and the graph.
+use Rattle.std.specs.Prelude.{◌≡◌, ⊤, ℕ, ◌<◌, List, [], ◌∷◌, Option, Some, length, replicate, IsTrue}
 use Rattle.hac_model.specs.Script.PathWords.{untested_word}
 use Rattle.hac_model.specs.Tree.Events.{accepted, apply}
 use Rattle.hac_model.specs.Tree.Facts.{bare_after}
 use Rattle.hac_model.specs.Tree.Limits as limits
 use Rattle.hac_model.specs.Tree.Links.{parent_of}
+use Rattle.hac_model.specs.Tree.Mounting.{answers_to}
+use Rattle.hac_model.specs.Tree.Mounts.{terms_to_ask}
 use Rattle.hac_model.specs.Tree.Sessions.{is_stored, sessions_with}
 use Rattle.hac_model.specs.declared.counts.Counts.{Counts}
 use Rattle.hac_model.specs.declared.events.Event.{Event}
-use Rattle.hac_model.specs.declared.events.Event.TheVariants.{Mkdir, NewFile, Rewrite, Ln, Smkdir, Setq, Mark, Mv, Step, Cd}
+use Rattle.hac_model.specs.declared.events.Event.TheVariants.{Mkdir, NewFile, Rewrite, Ln, Smkdir, Setq, Mark, Mv, Smount, Ssync, Step, Cd}
 use Rattle.dep_graph.specs.declared.graph.NewEdges.{NewEdges}
 use Rattle.file_tree.specs.Changes.{MayBecome}
+use Rattle.file_tree.specs.Documents.{numbers_for}
 use Rattle.file_tree.specs.declared.ready.Ready.TheVariants as tree
 use Rattle.file_tree.specs.declared.tree.EntryKind.TheVariants as kind
 use Rattle.link_kinds.specs.Seen.{has_sets}
@@ -19,7 +22,11 @@ use Rattle.kept_state.specs.declared.parts.Parts.{Parts}
 use Rattle.kept_state.specs.declared.ready.Ready.{Ready}
 use Rattle.kept_state.specs.declared.ready.Ready.TheVariants.{Nothing, Change, Session, Steps}
 
--- the tree, the marks and the graph are ready for an event, with these edges
+-- a mount is ready for what its space told of the terms in use
+abbrev pub AnswersReady : Parts → ℕ → List (List ℕ) → Type 0
+AnswersReady kept mount told = kept.answers.ready ≡ Some (record { mount = mount; answers = answers_to (terms_to_ask kept.tree.state.entries) told })
+
+-- the tree, the marks, the answers and the graph are ready for an event, with these edges
 abbrev pub IsPreparedFor : Event → Option NewEdges → Parts → Type 0
 IsPreparedFor (Mkdir dir name) edges kept = kept.tree.ready ≡ tree.Add dir kind.Dir
 IsPreparedFor (NewFile dir name text) edges kept = kept.tree.ready ≡ tree.Add dir kind.File
@@ -29,6 +36,10 @@ IsPreparedFor (Smkdir dir name query told) edges kept = (kept.tree.ready ≡ tre
 IsPreparedFor (Setq dir query told) edges kept = HasEdges kept.graph dir (parent_of kept.tree.state dir) query edges
 IsPreparedFor (Mark mark) edges kept = IsTrue (has_sets kept.marks mark.dir) × (0 < kept.marks.spare)
 IsPreparedFor (Mv entry dir name) edges kept = (kept.tree.ready ≡ tree.Move dir) × AreMovedEdges kept.tree.state kept.graph entry dir edges
+IsPreparedFor (Smount dir name space documents told) edges kept =
+    (kept.tree.ready ≡ tree.Mount dir (length documents)) × AnswersReady kept kept.tree.state.next told
+IsPreparedFor (Ssync mount documents told) edges kept =
+    (kept.tree.ready ≡ tree.Sync mount (numbers_for kept.tree.state mount documents)) × AnswersReady kept mount told
 IsPreparedFor other edges kept = ⊤
 
 -- the events that were prepared

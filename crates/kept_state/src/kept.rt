@@ -1,11 +1,12 @@
 //! The state as it is kept, and the events that it is ready for.
-ghost use Rattle.std.specs.Prelude.{◌≡◌, ◌∷◌, [], ℕ, IfOk, IsTrue, OnOk, OnErr, replicate};
+ghost use Rattle.std.specs.Prelude.{◌≡◌, ◌∷◌, [], IfOk, IsTrue, OnOk, OnErr, replicate};
 ghost use Rattle.hac_model.specs.Tree.Depends.{cycle_of_move, cycle_over};
 ghost use Rattle.hac_model.specs.Tree.Events.{accepted, apply, apply_all};
 ghost use Rattle.hac_model.specs.Laws.{AllHappen};
 ghost use Rattle.hac_model.specs.Tree.Limits as limits;
 ghost use Rattle.hac_model.specs.Tree.Limits.{counts};
-ghost use Rattle.hac_model.specs.Tree.Links.{answers_at, parent_of};
+ghost use Rattle.hac_model.specs.Tree.Links.{answers_at, has, kept_at, parent_of};
+ghost use Rattle.hac_model.specs.Tree.Mounts.{is_kept};
 ghost use Rattle.hac_model.specs.Tree.{empty, path_of};
 ghost use Rattle.hac_model.specs.Tree.Sessions.{are_few, is_busy, is_stored, least_name};
 ghost use Rattle.hac_model.specs.Tree.Sessions.{sessions_with, stands_in, visitors};
@@ -18,7 +19,7 @@ use crate::ready::{Ready, prepare, put};
 use crate::{edges, sessions};
 use dep_graph::Graph;
 use file_tree::Tree;
-use hac_model::{Counts, Event, Kind, Memory, Name, Number, Path, Query, Seq};
+use hac_model::{Counts, Event, Kind, Memory, Name, Number, Path, Query, Seq, Term};
 use link_kinds::Links;
 use std::alloc::Global;
 use std::marker::Model;
@@ -56,7 +57,7 @@ impl KeptState {
         })
     }
 
-    /// The tree, without marks.
+    /// The tree, without marks and answers.
     pub fn tree(&self) -> &Tree
         ensures tree { IsTreeOf self.now.state result.now.state }
         ensures valid { IsValid self.now.state }
@@ -78,11 +79,18 @@ impl KeptState {
         let _parts = &self.parts;
     }
 
-    /// No mount keeps an answer yet. This does nothing: it is called where a proof has to know so.
-    pub fn know_no_answers(&self)
-        ensures { (number : ℕ) → answers_at self.now.state number ≡ [] }
+    /// Whether a mount keeps an answer for a term.
+    pub fn keeps(&self, mount: Number, term: &Term) -> bool
+        ensures { result ≡ is_kept (answers_at self.now.state mount) term.now }
     {
-        let _parts = &self.parts;
+        self.parts.answers.keeps(mount, term)
+    }
+
+    /// Whether a document of a mount had a term when the mount's space was asked for it.
+    pub fn has_answer(&self, mount: Number, term: &Term, document: Number) -> bool
+        ensures { result ≡ has (kept_at self.now.state mount term.now) document }
+    {
+        self.parts.answers.has(mount, term, document)
     }
 
     /// How much the state holds.

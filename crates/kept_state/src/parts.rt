@@ -1,23 +1,31 @@
-//! A tree with the marks of its semantic directories, what depends on what, and its sessions.
-ghost use Rattle.std.specs.Prelude.{◌≡◌, IfOk};
+//! A tree with the marks of its semantic directories, the answers of its mounts, what depends on
+//! what, and its sessions.
+ghost use Rattle.std.specs.Prelude.{◌≡◌, IfOk, OnOk, length};
 ghost use Rattle.hac_model.specs.Tree.{empty};
-ghost use Rattle.kept_state.specs.Parts.{AreEdges, AreMovedEdges, IsLinked, KeepsTree, state_of};
+ghost use Rattle.hac_model.specs.Tree.Mounts.{terms_to_ask};
+ghost use Rattle.kept_state.specs.Parts.{AreAlike, AreEdges, AreMovedEdges, IsLinked, KeepsTree};
+ghost use Rattle.kept_state.specs.Parts.{state_of};
+ghost use Rattle.kept_state.specs.Ready.{AnswersReady};
 
+use crate::answers::Answers;
 use crate::edges::edges_of;
+use crate::terms::{answers_to, terms_to_ask};
 use dep_graph::{Graph, NewEdges};
 use file_tree::Tree;
 use hac_model::{Memory, Number, Query, Seq, Session};
 use link_kinds::Links;
 use std::alloc::Global;
 
-/// A tree, its marks, its graph and its sessions. That they fit one another is said by `IsLinked`
-/// of the specs.
+/// A tree, its marks, its answers, its graph and its sessions. That they fit one another is said by
+/// `IsLinked` of the specs.
 #[derive(Drop)]
 pub struct Parts {
-    /// The tree, without marks.
+    /// The tree, without marks and answers.
     pub tree: Tree,
     /// The items that users added to semantic directories, or removed there.
     pub marks: Links,
+    /// What spaces answered, as their mounts keep it.
+    pub answers: Answers,
     /// What each semantic directory depends on: its own directory, then those that its query names.
     pub graph: Graph,
     /// The sessions that stand in a directory other than the root.
@@ -35,6 +43,7 @@ impl Parts {
         Ok(Parts {
             tree,
             marks,
+            answers: Answers::new(alloc),
             graph: Graph::new(alloc),
             sessions: Seq::new(Vec::new(alloc)),
         })
@@ -70,5 +79,22 @@ impl Parts {
         };
         let edges = edges_of(alloc, dir, query)?;
         Ok(Some(self.graph.prepare_edges(entry, edges)?))
+    }
+
+    /// Prepares what a mount is to keep: what its space told of each term in use, in order.
+    pub fn prepare_answers(
+        &mut self,
+        alloc: Global,
+        mount: Number,
+        told: &[Seq<Number>],
+    ) -> Result<(), Memory>
+        requires { length told.now ≡ length (terms_to_ask self.old.tree.state.entries) }
+        ensures alike { AreAlike self.old self.new }
+        ensures tree { self.new.tree ≡ self.old.tree }
+        ensures ready { OnOk result (AnswersReady self.new mount told.now) }
+    {
+        let terms = terms_to_ask(alloc, &self.tree)?;
+        let answers = answers_to(alloc, terms.as_slice(), told)?;
+        self.answers.prepare(mount, Seq::new(answers))
     }
 }

@@ -1,21 +1,27 @@
 //! What a machine is ready for: memory is taken first, and the change then made without any.
-ghost use Rattle.std.specs.Prelude.{◌≡◌, ◌<◌, [], IfOk, IsTrue, None, replicate};
+ghost use Rattle.std.specs.Prelude.{◌≡◌, ◌<◌, ◌≤◌, [], IfOk, IsTrue, None, length, replicate};
 ghost use Rattle.hac_model.specs.Laws.{AllHappen};
 ghost use Rattle.hac_model.specs.Script.PathWords.{is_target, untested_word};
 ghost use Rattle.hac_model.specs.Tree.Events.{accepted, apply_all};
 ghost use Rattle.hac_model.specs.Tree.Links.{is_semantic, parent_of};
+ghost use Rattle.hac_model.specs.Tree.Mounting.{are_documents};
+ghost use Rattle.hac_model.specs.Tree.Mounts.{terms_to_ask};
 ghost use Rattle.hac_model.specs.Tree.Sessions.{is_stored, sessions_with};
-ghost use Rattle.hac_model.specs.Tree.{is_directory_at};
+ghost use Rattle.hac_model.specs.Tree.{is_directory_at, is_mount_at};
+ghost use Rattle.file_tree.specs.Documents.{numbers_for};
 ghost use Rattle.file_tree.specs.declared.ready.Ready.TheVariants as tree;
 ghost use Rattle.link_kinds.specs.Seen.{LinkListsRise, has_sets};
 ghost use Rattle.kept_state.specs.Parts.{AreAlike, AreMovedEdges, HasEdges, IsLinked, state_of};
-ghost use Rattle.kept_state.specs.Ready.{IsCommitted, IsReady, CanCommit, IsPreparedFor};
-ghost use Rattle.kept_state.specs.Ready.{ready_events};
+ghost use Rattle.kept_state.specs.Ready.{AnswersReady, IsCommitted, IsReady, CanCommit};
+ghost use Rattle.kept_state.specs.Ready.{IsPreparedFor, ready_events};
 
+use crate::forgetting::{forget_gone, forget_mount};
 use crate::parts::Parts;
 use dep_graph::NewEdges;
 use file_tree::{EntryKind, NewBody};
-use hac_model::{Counts, Event, Mark, Memory, Name, Number, Query, Seq, Session, Text};
+use hac_model::{
+    Counts, DOCS_LIMIT, Event, Mark, Memory, Name, Number, Query, Seq, Session, Text,
+};
 use link_kinds::Links;
 use std::alloc::Global;
 use std::mem;
@@ -74,6 +80,13 @@ pub fn prepare(alloc: Global, kept: &mut Parts, event: &Event) -> Result<Option<
         Event::Mark(mark) => prepare_mark(kept, mark.dir),
         Event::Rewrite { file, .. } => prepare_text(kept, *file),
         Event::Mv { entry, dir, .. } => prepare_move(alloc, kept, *entry, *dir),
+        Event::Smount {
+            dir,
+            docs,
+            told,
+            ..
+        } => prepare_mount(alloc, kept, *dir, docs, told),
+        Event::Ssync { mount, docs, told } => prepare_sync(alloc, kept, *mount, docs, told),
         _ => Ok(None),
     }
 }
@@ -171,6 +184,50 @@ fn prepare_move(
     Ok(edges)
 }
 
+/// Prepares a mount of a space with these documents, and what it is to keep of what the space told.
+fn prepare_mount(
+    alloc: Global,
+    kept: &mut Parts,
+    dir: Number,
+    documents: &Seq<Name>,
+    told: &Seq<Seq<Number>>,
+) -> Result<Option<NewEdges>, Memory>
+    requires dir { IsTrue (is_directory_at kept.old.tree.state.entries dir) }
+    requires few { length documents.now ≤ DOCS_LIMIT }
+    requires even { length told.now ≡ length (terms_to_ask kept.old.tree.state.entries) }
+    ensures alike { AreAlike kept.old kept.new }
+    ensures ready { IfOk result (λ edges. kept.new.tree.ready
+        ≡ tree.Mount dir (length documents.now)) }
+    ensures answers { IfOk result (λ edges. AnswersReady kept.new kept.new.tree.state.next
+        told.now) }
+{
+    let mount = kept.tree.next_number();
+    kept.prepare_answers(alloc, mount, told.as_slice())?;
+    kept.tree.prepare_mount(dir, documents.as_slice().len() as u64)?;
+    Ok(None)
+}
+
+/// Prepares that a mount has these documents, and what it is to keep of what its space told.
+fn prepare_sync(
+    alloc: Global,
+    kept: &mut Parts,
+    mount: Number,
+    documents: &Seq<Name>,
+    told: &Seq<Seq<Number>>,
+) -> Result<Option<NewEdges>, Memory>
+    requires mount { IsTrue (is_mount_at kept.old.tree.state.entries mount) }
+    requires documents { IsTrue (are_documents documents.now) }
+    requires even { length told.now ≡ length (terms_to_ask kept.old.tree.state.entries) }
+    ensures alike { AreAlike kept.old kept.new }
+    ensures ready { IfOk result (λ edges. kept.new.tree.ready
+        ≡ tree.Sync mount (numbers_for kept.new.tree.state mount documents.now)) }
+    ensures answers { IfOk result (λ edges. AnswersReady kept.new mount told.now) }
+{
+    kept.prepare_answers(alloc, mount, told.as_slice())?;
+    kept.tree.prepare_sync(mount, documents)?;
+    Ok(None)
+}
+
 /// Makes the prepared change.
 pub fn put(kept: &mut Parts, ready: Ready)
     requires linked { IsLinked kept.old }
@@ -219,6 +276,15 @@ fn apply(kept: &mut Parts, event: Event, edges: Option<NewEdges>, counts: Counts
         Event::Mv { entry, dir, name } => put_moved(kept, entry, dir, name, edges, counts),
         Event::Rm { entry } => drop_leaf(kept, entry, counts),
         Event::Rmdir { dir } => drop_directory(kept, dir, counts),
+        Event::Smount {
+            dir,
+            name,
+            space,
+            docs,
+            told,
+        } => put_mount(kept, dir, name, space, docs, told, counts),
+        Event::Ssync { mount, docs, told } => put_synced(kept, mount, docs, told, counts),
+        Event::Sumount { mount } => drop_mount(kept, mount, counts),
         Event::Step => put_step(kept),
         _ => unreachable!(),
     }
@@ -359,6 +425,54 @@ fn drop_directory(kept: &mut Parts, dir: Number, counts: Counts)
     kept.tree.remove(dir, counts);
     kept.graph.drop_node(dir);
     kept.marks.drop_dir(dir);
+}
+
+/// Adds the mount that was prepared, with its documents and answers.
+fn put_mount(
+    kept: &mut Parts,
+    dir: Number,
+    name: Name,
+    space: Name,
+    documents: Seq<Name>,
+    told: Seq<Seq<Number>>,
+    counts: Counts,
+)
+    requires may { CanCommit (Event.Smount dir name space documents told) counts kept.old }
+    requires suits { IsPreparedFor (Event.Smount dir name space documents told) None kept.old }
+    ensures { IsCommitted (Event.Smount dir name space documents told) kept.old kept.new }
+{
+    drop(told);
+    kept.tree.mount(dir, name, space, documents, counts);
+    kept.answers.put();
+}
+
+/// Lets a mount take over the documents and answers that were prepared. All marks go on documents
+/// that it has no more.
+fn put_synced(
+    kept: &mut Parts,
+    mount: Number,
+    documents: Seq<Name>,
+    told: Seq<Seq<Number>>,
+    counts: Counts,
+)
+    requires may { CanCommit (Event.Ssync mount documents told) counts kept.old }
+    requires suits { IsPreparedFor (Event.Ssync mount documents told) None kept.old }
+    ensures { IsCommitted (Event.Ssync mount documents told) kept.old kept.new }
+{
+    drop(told);
+    forget_gone(&mut kept.marks, &kept.tree, mount, documents.as_slice());
+    kept.tree.sync(mount, documents, counts);
+    kept.answers.put();
+}
+
+/// Removes a mount with its documents, all marks on these and its answers.
+fn drop_mount(kept: &mut Parts, mount: Number, counts: Counts)
+    requires { CanCommit (Event.Sumount mount) counts kept.old }
+    ensures { IsCommitted (Event.Sumount mount) kept.old kept.new }
+{
+    forget_mount(&mut kept.marks, &kept.tree, mount);
+    kept.tree.unmount(mount, counts);
+    kept.answers.drop_mount(mount);
 }
 
 /// Lets a session stand in another directory.

@@ -1,4 +1,10 @@
-use Rattle.kept_state.specs.Parts.{facts_kept}
+use Rattle.std.proofs.Common.{subst}
+use Rattle.std.specs.Prelude.{IsTrue}
+use Rattle.hac_model.specs.Tree.Events.{accepted}
+use Rattle.hac_model.specs.declared.events.Event.{Event}
+use Rattle.hac_model.specs.declared.events.Event.TheVariants.{Smount, Ssync}
+use Rattle.kept_state.specs.Parts.{facts_kept, state_of}
+use Rattle.kept_state.proofs.MountPutLemmas.{mount-directory, mount-even, mount-few, sync-documents, sync-even, sync-mount}
 use Rattle.kept_state.proofs.ReadyLemmas.{file-directory, link-parts, mark-directory, mkdir-directory, move-directory, smkdir-directory}
 use Rattle.kept_state.proofs.ready.prepare.Goals as goal
 
@@ -22,3 +28,21 @@ prepare_move-requires c = move-directory (facts_kept c.args.kept.now) c.args.kep
 
 pub prepare_mark-requires : goal.prepare_mark-requires
 prepare_mark-requires c = mark-directory (facts_kept c.args.kept.now) c.args.kept.now.sessions c.args.kept.now.tree.state c.args.event.now c.requires.accepted c.in-Mark.mark c.in-Mark.is
+
+pub prepare_mount-requires-clause-dir : goal.prepare_mount-requires-clause-dir
+prepare_mount-requires-clause-dir c = mount-directory c.args.kept.now c.in-Smount.dir c.in-Smount.name c.in-Smount.space c.in-Smount.docs c.in-Smount.told (subst (λ (e : Event). IsTrue (accepted (state_of c.args.kept.now) e)) c.in-Smount.is c.requires.accepted)
+
+pub prepare_mount-requires-clause-few : goal.prepare_mount-requires-clause-few
+prepare_mount-requires-clause-few c = mount-few c.args.kept.now c.in-Smount.dir c.in-Smount.name c.in-Smount.space c.in-Smount.docs c.in-Smount.told (subst (λ (e : Event). IsTrue (accepted (state_of c.args.kept.now) e)) c.in-Smount.is c.requires.accepted)
+
+pub prepare_mount-requires-clause-even : goal.prepare_mount-requires-clause-even
+prepare_mount-requires-clause-even c = mount-even c.args.kept.now c.in-Smount.dir c.in-Smount.name c.in-Smount.space c.in-Smount.docs c.in-Smount.told (subst (λ (e : Event). IsTrue (accepted (state_of c.args.kept.now) e)) c.in-Smount.is c.requires.accepted)
+
+pub prepare_sync-requires-clause-mount : goal.prepare_sync-requires-clause-mount
+prepare_sync-requires-clause-mount c = sync-mount c.args.kept.now c.in-Ssync.mount c.in-Ssync.docs c.in-Ssync.told (subst (λ (e : Event). IsTrue (accepted (state_of c.args.kept.now) e)) c.in-Ssync.is c.requires.accepted)
+
+pub prepare_sync-requires-clause-documents : goal.prepare_sync-requires-clause-documents
+prepare_sync-requires-clause-documents c = sync-documents c.args.kept.now c.in-Ssync.mount c.in-Ssync.docs c.in-Ssync.told (subst (λ (e : Event). IsTrue (accepted (state_of c.args.kept.now) e)) c.in-Ssync.is c.requires.accepted)
+
+pub prepare_sync-requires-clause-even : goal.prepare_sync-requires-clause-even
+prepare_sync-requires-clause-even c = sync-even c.args.kept.now c.in-Ssync.mount c.in-Ssync.docs c.in-Ssync.told (subst (λ (e : Event). IsTrue (accepted (state_of c.args.kept.now) e)) c.in-Ssync.is c.requires.accepted)

@@ -1,30 +1,28 @@
-use Rattle.std.proofs.Common.{◌≤◌, ◌∙◌, List, ℕ, [], None, ap, length, subst, sym, true, arith}
-use Rattle.std.specs.Prelude.{◌&&◌, not, nat_le, is_none, IsTrue}
-use Rattle.std.specs.List.{list_all}
-use Rattle.std.proofs.lemmas.Bool.{and_parts}
-use Rattle.std.proofs.lemmas.Bool.Decides.{nat_tests}
-use Rattle.hac_model.specs.Script.SpaceNames.{is_space_name}
-use Rattle.hac_model.specs.Tree.{child, is_directory_at, is_mount_at}
-use Rattle.hac_model.specs.Tree.Mounting.{answers_to, are_documents, do_names_rise}
-use Rattle.hac_model.specs.Tree.Mounts.{terms_to_ask}
-use Rattle.hac_model.specs.Tree.Names.{is_name}
-use Rattle.hac_model.specs.declared.limits.TheConstants.{DOCS_LIMIT}
-use Rattle.hac_model.specs.Tree.Events.{apply, asking, is_bare, is_free, is_made_holder, is_vacant, removed}
+use Rattle.std.proofs.Common.{◌≤◌, ℕ, List, length, ◌∙◌, [], None, ap, subst, sym, true}
+use Rattle.std.specs.Prelude.{IsTrue}
+use Rattle.std.proofs.lemmas.Bool.{and_parts, leb-true}
+use Rattle.hac_model.specs.Tree.Events.{apply, asking, is_bare, is_free, is_made_holder, removed}
 use Rattle.hac_model.specs.Tree.Limits.{counts}
 use Rattle.hac_model.specs.declared.events.Event.{Event}
-use Rattle.hac_model.specs.declared.events.Event.TheVariants as event
 use Rattle.hac_model.specs.declared.states.Body.TheVariants as body
-use Rattle.hac_model.specs.Tree.Events.{is_placed}
+use Rattle.hac_model.specs.Tree.Mounting.{answers_to, are_documents}
+use Rattle.hac_model.specs.Tree.Mounts.{terms_to_ask}
+use Rattle.hac_model.specs.Tree.{is_mount_at}
+use Rattle.hac_model.specs.declared.events.Event.TheVariants.{Ssync, Sumount}
+use Rattle.hac_model.specs.declared.limits.TheConstants.{DOCS_LIMIT}
+use Rattle.hac_model.proofs.MountLayoutLemmas.{documents-parts}
+use Rattle.hac_model.proofs.ValidLemmas.{free-parts}
+use Rattle.file_tree.specs.Seated.{is_seated}
 use Rattle.file_tree.proofs.PlacedLemmas.{after-counts, asking-share, bare-short, leaf-short, forgotten-counts, mark-counts, new-file}
 use Rattle.file_tree.proofs.tree.Tree.counts_after.Goals as goal
 
 pub without-requires-clause-short : goal.without-requires-clause-short
-without-requires-clause-short c = leaf-short c.args.self.now.state c.in-Rm.entry c.know_layout.ensures.layout (subst (λ (e : Event). IsTrue (is_placed c.args.self.now.state e)) c.in-Rm.is c.requires)
+without-requires-clause-short c = leaf-short c.args.self.now.state c.in-Rm.entry c.know_layout.ensures.layout (subst (λ (e : Event). IsTrue (is_seated c.args.self.now.state e)) c.in-Rm.is c.requires)
 
 pub without-requires-in-Rmdir-clause-short : goal.without-requires-in-Rmdir-clause-short
 without-requires-in-Rmdir-clause-short c =
     let s = c.args.self.now.state in
-    bare-short s c.in-Rmdir.dir c.know_layout.ensures.layout (and_parts (is_made_holder s c.in-Rmdir.dir) (is_bare s.entries c.in-Rmdir.dir) (subst (λ (e : Event). IsTrue (is_placed s e)) c.in-Rmdir.is c.requires)).1
+    bare-short s c.in-Rmdir.dir c.know_layout.ensures.layout (and_parts (is_made_holder s c.in-Rmdir.dir) (is_bare s.entries c.in-Rmdir.dir) (subst (λ (e : Event). IsTrue (is_seated s e)) c.in-Rmdir.is c.requires)).1
 
 pub returns-in-NewFile : goal.returns-in-NewFile
 returns-in-NewFile c =
@@ -44,8 +42,8 @@ returns-in-Smkdir c =
 pub returns-in-Setq : goal.returns-in-Setq
 returns-in-Setq c =
     let s = c.args.self.now.state in
-    let placed = subst (λ (e : Event). IsTrue (is_placed s e)) c.in-Setq.is c.requires in
-    c.with_share.ensures (asking c.in-Setq.query) (asking-share s c.in-Setq.dir c.in-Setq.query c.of_semantic-in-Setq.result (and_parts (is_made_holder s c.in-Setq.dir) _ placed).0 c.of_semantic-in-Setq.ensures.share)
+    let placed = subst (λ (e : Event). IsTrue (is_seated s e)) c.in-Setq.is c.requires in
+    c.with_share.ensures (asking c.in-Setq.query) (asking-share s c.in-Setq.dir c.in-Setq.query c.of_semantic-in-Setq.result placed c.of_semantic-in-Setq.ensures.share)
     ∙ ap (λ (e : Event). counts (apply s e)) (sym c.in-Setq.is)
 
 pub returns-in-Rm : goal.returns-in-Rm
@@ -62,38 +60,37 @@ returns-in-Rewrite c = c.with_text.ensures c.in-Rewrite.text (sym c.len-in-Rewri
 pub returns-in-Mv : goal.returns-in-Mv
 returns-in-Mv c = c.with_moved.ensures c.in-Mv.name ∙ ap (λ (e : Event). counts (apply c.args.self.now.state e)) (sym c.in-Mv.is)
 
-pub counts_mounted-requires : goal.counts_mounted-requires
-counts_mounted-requires c =
+pub counts_mounted-requires-clause-dir : goal.counts_mounted-requires-clause-dir
+counts_mounted-requires-clause-dir c =
     let s = c.args.self.now.state in
-    let dir = c.in-Smount.dir in
-    let name = c.in-Smount.name in
-    let docs = c.in-Smount.docs in
-    let placed = subst (λ (e : Event). IsTrue (is_placed s e)) c.in-Smount.is c.requires in
-    let told = and_parts (is_free s dir name && is_space_name c.in-Smount.space && are_documents docs) _ placed in
-    let space = and_parts (is_free s dir name && is_space_name c.in-Smount.space) (are_documents docs) told.0 in
-    let free = and_parts (is_free s dir name) (is_space_name c.in-Smount.space) space.0 in
-    let vacant = and_parts (is_vacant s dir name) (not (is_mount_at s.entries dir)) free.0 in
-    let named = and_parts (is_directory_at s.entries dir && is_name name) (is_none (child s.entries dir name)) vacant.0 in
-    let directory = and_parts (is_directory_at s.entries dir) (is_name name) named.0 in
-    let rise = and_parts (list_all is_name docs) (do_names_rise docs && nat_le (length docs) DOCS_LIMIT) space.1 in
-    let few = and_parts (do_names_rise docs) (nat_le (length docs) DOCS_LIMIT) rise.1 in
-    let small : length docs ≤ DOCS_LIMIT = grind (arith, nat_tests, few.1) in
-    record { dir = directory.0; few = subst (λ (xs : List (List ℕ)). length xs ≤ DOCS_LIMIT) (sym c.as_slice.ensures) small }
+    let seated = and_parts (is_free s c.in-Smount.dir c.in-Smount.name) (are_documents c.in-Smount.docs) (subst (λ (e : Event). IsTrue (is_seated s e)) c.in-Smount.is c.requires) in
+    (free-parts s c.in-Smount.dir c.in-Smount.name seated.0).0
+
+pub counts_mounted-requires-clause-few : goal.counts_mounted-requires-clause-few
+counts_mounted-requires-clause-few c =
+    let s = c.args.self.now.state in
+    let seated = and_parts (is_free s c.in-Smount.dir c.in-Smount.name) (are_documents c.in-Smount.docs) (subst (λ (e : Event). IsTrue (is_seated s e)) c.in-Smount.is c.requires) in
+    let few : length c.in-Smount.docs ≤ DOCS_LIMIT = leb-true (length c.in-Smount.docs) DOCS_LIMIT (documents-parts c.in-Smount.docs seated.1).2 in
+    subst (λ (names : List (List ℕ)). length names ≤ DOCS_LIMIT) (sym c.as_slice.ensures) few
+
+pub counts_synced-requires-clause-mount : goal.counts_synced-requires-clause-mount
+counts_synced-requires-clause-mount c =
+    let s = c.args.self.now.state in
+    (and_parts (is_mount_at s.entries c.in-Ssync.mount) (are_documents c.in-Ssync.docs) (subst (λ (e : Event). IsTrue (is_seated s e)) c.in-Ssync.is c.requires)).0
+
+pub counts_synced-requires-clause-documents : goal.counts_synced-requires-clause-documents
+counts_synced-requires-clause-documents c =
+    let s = c.args.self.now.state in
+    (and_parts (is_mount_at s.entries c.in-Ssync.mount) (are_documents c.in-Ssync.docs) (subst (λ (e : Event). IsTrue (is_seated s e)) c.in-Ssync.is c.requires)).1
 
 pub returns-in-Smount : goal.returns-in-Smount
 returns-in-Smount c =
     let s = c.args.self.now.state in
-    c.counts_mounted.ensures c.in-Smount.name c.in-Smount.space (answers_to (terms_to_ask s.entries) c.in-Smount.told) c.in-Smount.docs (ap length (sym c.as_slice.ensures))
+    c.counts_mounted.ensures c.in-Smount.name c.in-Smount.space (answers_to (terms_to_ask s.entries) c.in-Smount.told) c.in-Smount.docs (ap (λ (names : List (List ℕ)). length names) (sym c.as_slice.ensures))
     ∙ ap (λ (e : Event). counts (apply s e)) (sym c.in-Smount.is)
 
 pub returns-in-Ssync : goal.returns-in-Ssync
-returns-in-Ssync c =
-    let s = c.args.self.now.state in
-    c.counts_synced.ensures ∙ after-counts s (event.Ssync c.in-Ssync.mount c.in-Ssync.docs c.in-Ssync.told)
-    ∙ ap (λ (e : Event). counts (apply s e)) (sym c.in-Ssync.is)
+returns-in-Ssync c = c.counts_synced.ensures ∙ after-counts c.args.self.now.state (Ssync c.in-Ssync.mount c.in-Ssync.docs c.in-Ssync.told) ∙ ap (λ (e : Event). counts (apply c.args.self.now.state e)) (sym c.in-Ssync.is)
 
 pub returns-in-Sumount : goal.returns-in-Sumount
-returns-in-Sumount c =
-    let s = c.args.self.now.state in
-    c.counts_unmounted.ensures ∙ after-counts s (event.Sumount c.in-Sumount.mount)
-    ∙ ap (λ (e : Event). counts (apply s e)) (sym c.in-Sumount.is)
+returns-in-Sumount c = c.counts_unmounted.ensures ∙ after-counts c.args.self.now.state (Sumount c.in-Sumount.mount) ∙ ap (λ (e : Event). counts (apply c.args.self.now.state e)) (sym c.in-Sumount.is)

@@ -5,14 +5,13 @@ use Rattle.hac_model.specs.Tree.Limits.{counts}
 use Rattle.hac_model.specs.Tree.Events.{is_placed}
 use Rattle.kept_state.specs.Parts.{state_of}
 use Rattle.kept_state.specs.Seen.{Seen}
-use Rattle.kept_state.proofs.AskedLemmas.{same-asked}
-use Rattle.kept_state.proofs.StateLemmas.{kept-bares, same-counts, same-next-bare, same-placed}
+use Rattle.kept_state.proofs.StateLemmas.{kept-bares, same-counts, same-next-bare, same-seated}
 use Rattle.kept_state.proofs.kept.KeptState.counts_after.Goals as goal
 
 pub counts_after-requires : goal.counts_after-requires
 counts_after-requires c =
     let parts = c.self.inside.parts in
-    sym (same-placed (state_of parts) parts.tree.state (kept-bares parts) (same-asked parts c.self.invariant.linked) c.args.event.now) ∙ subst (λ (x : Seen). IsTrue (is_placed x.state c.args.event.now)) (sym c.self.view_is) c.requires
+    same-seated (state_of parts) parts.tree.state (kept-bares parts) c.args.event.now (subst (λ (x : Seen). IsTrue (is_placed x.state c.args.event.now)) (sym c.self.view_is) c.requires)
 
 pub returns : goal.returns
 returns c =

@@ -1,0 +1,161 @@
+-- Terms in order, and answers in the order of their terms.
+use Rattle.std.proofs.Common.{◌≡◌, ℕ, zero, suc, ◌+◌, ◌<◌, ◌≤◌, Bool, true, false, cond, List, [], ◌∷◌, length, get_or, refl, ap, subst, sym, ◌∙◌, arith, inl, inr}
+use Rattle.std.specs.Prelude.{◌⊎◌, ◌||◌, ◌==◌, if◌then◌else◌, Option, Some, None, IsTrue, slice_get, unwrap_or}
+use Rattle.std.specs.Cmp.Lexicographic.{nat_list_cmp_total, slice_cmp, texts_ties}
+use Rattle.std.specs.List.{AllByRecursion, list_any, prefix_len}
+use Rattle.std.specs.Option.{option_map_or}
+use Rattle.std.specs.Ordering.{is_eq, is_le, is_lt, nat_cmp, ordering_reverse}
+use Rattle.std.specs.Str.{bytes_eq}
+use Rattle.std.specs.declared.cmp.Ordering.{Ordering}
+use Rattle.std.specs.declared.cmp.Ordering.TheVariants.{Less, Equal, Greater}
+use Rattle.std.proofs.lemmas.Slice.Eq.{bytes_eq-Decides}
+use Rattle.hac_model.specs.Query.Terms.{is_same_term, is_term_before}
+use Rattle.hac_model.specs.Tree.Mounts.{kept_for}
+use Rattle.hac_model.specs.Tree.Valid.{RiseFrom, TermsRise}
+use Rattle.hac_model.specs.declared.states.Answer.{Answer}
+use Rattle.hac_model.specs.declared.terms.Term.{Term}
+use Rattle.hac_model.specs.declared.terms.Term.TheVariants.{Word, Prefix}
+use Rattle.hac_model.proofs.TermLemmas.{same-own, terms-even}
+use Rattle.kept_state.proofs.ListLemmas.{Falls, all-weaker, get-inside, get-outside}
+
+-- Letters.
+
+lt-less : (o : Ordering) → is_lt o ≡ true → o ≡ Less
+lt-less Less h = refl
+lt-less Equal h = absurd cc
+lt-less Greater h = absurd cc
+
+lt-trans : (x y z : List ℕ) → is_lt (slice_cmp nat_cmp x y) ≡ true → is_lt (slice_cmp nat_cmp y z) ≡ true → is_lt (slice_cmp nat_cmp x z) ≡ true
+lt-trans x y z h k = ap is_lt (nat_list_cmp_total.trans x y z (lt-less (slice_cmp nat_cmp x y) h) (lt-less (slice_cmp nat_cmp y z) k))
+
+lt-le : (o : Ordering) → is_lt o ≡ true → is_le o ≡ true
+lt-le Less h = refl
+lt-le Equal h = absurd cc
+lt-le Greater h = absurd cc
+
+le-cases : (x y : List ℕ) → is_le (slice_cmp nat_cmp x y) ≡ true → (is_lt (slice_cmp nat_cmp x y) ≡ true) ⊎ (x ≡ y)
+le-cases x y h = of (slice_cmp nat_cmp x y) h (λ even. (bytes_eq-Decides x y).0 (texts_ties x y ∙ even))
+  where
+    of : (o : Ordering) → is_le o ≡ true → (is_eq o ≡ true → x ≡ y) → (is_lt o ≡ true) ⊎ (x ≡ y)
+    of Less h same = inl refl
+    of Equal h same = inr (same refl)
+    of Greater h same = absurd cc
+
+lt-le-trans : (x y z : List ℕ) → is_lt (slice_cmp nat_cmp x y) ≡ true → is_le (slice_cmp nat_cmp y z) ≡ true → is_lt (slice_cmp nat_cmp x z) ≡ true
+lt-le-trans x y z h k = elim (le-cases y z k) [
+  | inl less ↦ lt-trans x y z h less
+  | inr same ↦ subst (λ (w : List ℕ). is_lt (slice_cmp nat_cmp x w) ≡ true) same h
+]
+
+le-lt-trans : (x y z : List ℕ) → is_le (slice_cmp nat_cmp x y) ≡ true → is_lt (slice_cmp nat_cmp y z) ≡ true → is_lt (slice_cmp nat_cmp x z) ≡ true
+le-lt-trans x y z h k = elim (le-cases x y h) [
+  | inl less ↦ lt-trans x y z less k
+  | inr same ↦ subst (λ (w : List ℕ). is_lt (slice_cmp nat_cmp w z) ≡ true) (sym same) k
+]
+
+-- Terms.
+
+pub term-trans : (a b c : Term) → is_term_before a b ≡ true → is_term_before b c ≡ true → is_term_before a c ≡ true
+term-trans (Word x) (Word y) (Word z) h k = lt-trans x y z h k
+term-trans (Word x) (Word y) (Prefix z) h k = lt-le (slice_cmp nat_cmp x z) (lt-le-trans x y z h k)
+term-trans (Word x) (Prefix y) (Word z) h k = le-lt-trans x y z h k
+term-trans (Word x) (Prefix y) (Prefix z) h k = lt-le (slice_cmp nat_cmp x z) (le-lt-trans x y z h k)
+term-trans (Prefix x) (Word y) (Word z) h k = lt-trans x y z h k
+term-trans (Prefix x) (Word y) (Prefix z) h k = lt-le-trans x y z h k
+term-trans (Prefix x) (Prefix y) (Word z) h k = lt-trans x y z h k
+term-trans (Prefix x) (Prefix y) (Prefix z) h k = lt-trans x y z h k
+
+lt-differs : (x y : List ℕ) → is_lt (slice_cmp nat_cmp x y) ≡ true → bytes_eq x y ≡ false
+lt-differs x y h = texts_ties x y ∙ ap is_eq (lt-less (slice_cmp nat_cmp x y) h)
+
+gt-differs : (x y : List ℕ) → is_lt (slice_cmp nat_cmp y x) ≡ true → bytes_eq x y ≡ false
+gt-differs x y h = texts_ties x y ∙ turned (slice_cmp nat_cmp x y) (ap is_lt (sym (nat_list_cmp_total.antisymm y x)) ∙ h)
+  where
+    turned : (o : Ordering) → is_lt (ordering_reverse o) ≡ true → is_eq o ≡ false
+    turned Less h = refl
+    turned Equal h = absurd cc
+    turned Greater h = refl
+
+-- of terms in order the two aren't one
+pub before-differs : (a b : Term) → is_term_before a b ≡ true → is_same_term a b ≡ false
+before-differs (Word x) (Word y) h = lt-differs x y h
+before-differs (Word x) (Prefix y) h = refl
+before-differs (Prefix x) (Word y) h = refl
+before-differs (Prefix x) (Prefix y) h = lt-differs x y h
+
+pub behind-differs : (a b : Term) → is_term_before b a ≡ true → is_same_term a b ≡ false
+behind-differs (Word x) (Word y) h = gt-differs x y h
+behind-differs (Word x) (Prefix y) h = refl
+behind-differs (Prefix x) (Word y) h = refl
+behind-differs (Prefix x) (Prefix y) h = gt-differs x y h
+
+-- Answers.
+
+-- what comes behind a term does behind an earlier one
+further : (x y : Term) (list : List Answer) → is_term_before x y ≡ true → AllByRecursion (λ a. is_term_before y a.term ≡ true) list → AllByRecursion (λ a. is_term_before x a.term ≡ true) list
+further x y list before h = all-weaker (λ (a : Answer). is_term_before y a.term ≡ true) (λ (a : Answer). is_term_before x a.term ≡ true) list (λ a behind. term-trans x y a.term before behind) h
+
+behind-all : (x : Term) (list : List Answer) → TermsRise (Some x) list → AllByRecursion (λ a. is_term_before x a.term ≡ true) list
+behind-all x [] h = tt
+behind-all x (a ∷ list) h = (h.0, further x a.term list h.0 (behind-all a.term list h.1))
+
+-- the answers for terms before a term come first
+pub rank-falls : (term : Term) (last : Option Term) (list : List Answer) → TermsRise last list → Falls (λ a. is_term_before a.term term) list
+rank-falls term last [] h = tt
+rank-falls term last (a ∷ list) h = (
+  all-weaker (λ (b : Answer). is_term_before a.term b.term ≡ true) (λ (b : Answer). is_term_before b.term term ≡ true → is_term_before a.term term ≡ true) list (λ b behind before. term-trans a.term b.term term behind before) (behind-all a.term list h.1),
+  rank-falls term (Some a.term) list h.1,
+)
+
+module _ (term : Term) where
+  -- what is kept for the term, where this is the first answer whose term isn't before it
+  abbrev pub if_found : Option Answer → Option (List ℕ)
+  if_found None = None
+  if_found (Some a) = cond (is_term_before term a.term) None (Some a.documents)
+
+  none-behind : (list : List Answer) → AllByRecursion (λ a. is_term_before term a.term ≡ true) list → kept_for list term ≡ None
+  none-behind [] h = refl
+  none-behind (a ∷ list) h = ap (λ (b : Bool). if b then Some a.documents else kept_for list term) (behind-differs a.term term h.0) ∙ none-behind list h.1
+
+  -- the answer for a term is where those for terms before it end
+  pub kept-rank : (last : Option Term) (list : List Answer) → TermsRise last list → kept_for list term ≡ if_found (slice_get list (prefix_len (λ a. is_term_before a.term term) list))
+  kept-rank last [] h = refl
+  kept-rank last (a ∷ list) h =
+      elim (is_term_before a.term term) as (λ b. is_term_before a.term term ≡ b → kept_for (a ∷ list) term ≡ if_found (slice_get (a ∷ list) (cond b (1 + prefix_len (λ a. is_term_before a.term term) list) 0))) [
+        | true ↦ (λ before.
+            let more : 1 + prefix_len (λ a. is_term_before a.term term) list ≡ suc (prefix_len (λ a. is_term_before a.term term) list) = omega arith in
+            ap (λ (b : Bool). if b then Some a.documents else kept_for list term) (before-differs a.term term before)
+            ∙ kept-rank (Some a.term) list h.1
+            ∙ ap (λ (i : ℕ). if_found (slice_get (a ∷ list) i)) (sym more))
+        | false ↦ (λ apart. here apart)
+      ] refl
+    where
+      here : is_term_before a.term term ≡ false → kept_for (a ∷ list) term ≡ cond (is_term_before term a.term) None (Some a.documents)
+      here apart =
+          elim (is_term_before term a.term) as (λ b. is_term_before term a.term ≡ b → kept_for (a ∷ list) term ≡ cond b None (Some a.documents)) [
+            | true ↦ (λ before. none-behind (a ∷ list) (before, further term a.term list before (behind-all a.term list h.1)))
+            | false ↦ (λ also.
+                let same : a.term ≡ term = terms-even a.term term apart also in
+                ap (λ (b : Bool). if b then Some a.documents else kept_for list term) (subst (λ (t : Term). is_same_term a.term t ≡ true) same (same-own a.term)))
+          ] refl
+
+module _ (term : Term) (list : List Answer) (rise : TermsRise None list) (i : ℕ) (rank : i ≡ prefix_len (λ a. is_term_before a.term term) list) where
+  pub found-end : length list ≤ i → kept_for list term ≡ None
+  found-end outside =
+      kept-rank term None list rise ∙ ap (λ (k : ℕ). if_found term (slice_get list k)) (sym rank)
+      ∙ ap (λ (o : Option Answer). if_found term o) (get-outside list i outside)
+
+  pub found-at : (a : Answer) → i < length list → a ≡ get_or list i a → kept_for list term ≡ cond (is_term_before term a.term) None (Some a.documents)
+  found-at a inside is =
+      kept-rank term None list rise ∙ ap (λ (k : ℕ). if_found term (slice_get list k)) (sym rank)
+      ∙ ap (λ (o : Option Answer). if_found term o) (get-inside list i a inside)
+      ∙ ap (λ (b : Answer). if_found term (Some b)) (sym is)
+
+-- the documents that are kept for a term rise, where all do
+pub found-rise : (list : List Answer) (term : Term) (documents : List ℕ) → AllByRecursion (λ a. RiseFrom 0 a.documents) list → kept_for list term ≡ Some documents → RiseFrom 0 documents
+found-rise [] term documents h is = absurd cc
+found-rise (a ∷ list) term documents h is =
+    elim (is_same_term a.term term) as (λ b. (if b then Some a.documents else kept_for list term) ≡ Some documents → RiseFrom 0 documents) [
+      | true ↦ (λ is. subst (λ (o : Option (List ℕ)). RiseFrom 0 (unwrap_or o [])) is h.0)
+      | false ↦ (λ is. found-rise list term documents h.1 is)
+    ] is

@@ -1,0 +1,208 @@
+//! The answers of spaces, by the mounts that keep them. It knows no tree and no query.
+ghost use Rattle.std.specs.Prelude.{◌≡◌, ◌==◌, ◌≤◌, ℕ, [], None, Some, IfSome, IsSome, IsTrue};
+ghost use Rattle.std.specs.Prelude.{OnOk, if◌then◌else◌, length, unwrap_or};
+ghost use Rattle.std.specs.List.{prefix_len};
+ghost use Rattle.std.specs.Option.{option_copied};
+ghost use Rattle.hac_model.specs.Query.Terms.{is_term_before};
+ghost use Rattle.hac_model.specs.Tree.Links.{has};
+ghost use Rattle.hac_model.specs.Tree.Mounts.{is_kept, kept_for};
+ghost use Rattle.hac_model.specs.Tree.Valid.{RiseFrom, TermsRise};
+ghost use Rattle.kept_state.specs.Answers.{AreInOrder, Replaces, SameAnswers, answers_kept};
+ghost use Rattle.kept_state.specs.AnswersKept.{has_list, list_at};
+
+use hac_model::{Answer, Memory, Number, Seq, Term};
+use indexmap::IndexMap;
+use std::alloc::Global;
+use std::marker::Model;
+
+/// The answers by the numbers of their mounts.
+type Lists = IndexMap<u64, Seq<Answer>>;
+
+/// The answers that each mount keeps, and those that one of them is to keep, once it is ready for
+/// them. A mount that isn't there keeps none.
+#[derive(Drop)]
+pub struct Answers {
+    alloc: Global,
+    lists: Lists,
+    ready: Option<NewAnswers>,
+}
+
+/// The answers that a mount is to keep.
+#[derive(Debug, Drop)]
+pub struct NewAnswers {
+    /// The mount.
+    pub mount: Number,
+    /// Its answers.
+    pub answers: Seq<Answer>,
+}
+
+impl Model for Answers {
+    ghost use Rattle.kept_state.specs.Answers.{Answered};
+
+    ghost Value = { Answered };
+
+    ghost use Rattle.kept_state.specs.AnswersKept.{answered_of, HasPlace};
+
+    ghost view = { answered_of };
+
+    ghost invariant = { HasPlace };
+}
+
+impl Answers {
+    /// No mount keeps any.
+    pub fn new(alloc: Global) -> Answers
+        ensures { result ≡ record { mounts = []; ready = None } }
+    {
+        Answers {
+            alloc,
+            lists: IndexMap::new(alloc),
+            ready: None,
+        }
+    }
+
+    /// Whether a mount keeps an answer for a term.
+    pub fn keeps(&self, mount: Number, term: &Term) -> bool
+        requires { AreInOrder (answers_kept self.now mount) }
+        ensures { result ≡ is_kept (answers_kept self.now mount) term.now }
+    {
+        documents_for(self.kept_by(mount), term).is_some()
+    }
+
+    /// Whether a document of a mount had a term, by the answer that is kept for it.
+    pub fn has(&self, mount: Number, term: &Term, document: Number) -> bool
+        requires { AreInOrder (answers_kept self.now mount) }
+        ensures { result ≡
+            has (unwrap_or (kept_for (answers_kept self.now mount) term.now) []) document }
+    {
+        match documents_for(self.kept_by(mount), term) {
+            Some(documents) => is_among(documents, document),
+            None => false,
+        }
+    }
+
+    /// The answers that a mount keeps.
+    fn kept_by(&self, mount: Number) -> &[Answer]
+        ensures { result.now ≡ answers_kept self.now mount }
+    {
+        list_of(&self.lists, mount)
+    }
+
+    /// Prepares answers that a mount is to keep in place of those that it keeps. No answers change,
+    /// whatever the answer.
+    pub fn prepare(&mut self, mount: Number, answers: Seq<Answer>) -> Result<(), Memory>
+        ensures ok { OnOk result (self.new.ready ≡ Some (record { mount = mount; answers = answers })) }
+        ensures same { SameAnswers self.old self.new }
+    {
+        self.forget();
+        make_place(self.alloc, &mut self.lists, mount)?;
+        self.ready = Some(NewAnswers { mount, answers });
+        Ok(())
+    }
+
+    /// The mount that is ready keeps the answers that were prepared, and no others.
+    pub fn put(&mut self)
+        requires { IsSome self.old.ready }
+        ensures { IfSome self.old.ready (λ new. Replaces self.old self.new new.mount new.answers) }
+    {
+        let Some(new) = self.ready.take() else {
+            unreachable!()
+        };
+        replace(&mut self.lists, new.mount, new.answers);
+    }
+
+    /// The mount keeps no answers any more.
+    pub fn drop_mount(&mut self, mount: Number)
+        ensures { Replaces self.old self.new mount [] }
+    {
+        self.forget();
+        take_out(&mut self.lists, mount);
+    }
+
+    /// Forgets what was prepared.
+    fn forget(&mut self)
+        ensures ready { self.new.ready ≡ None }
+        ensures same { SameAnswers self.old self.new }
+    {
+        if let Some(new) = self.ready.take() {
+            take_out_bare(&mut self.lists, new.mount);
+        }
+    }
+}
+
+/// The documents that had a term, if an answer for it is kept.
+fn documents_for<'a>(answers: &'a [Answer], term: &Term) -> Option<&'a [Number]>
+    ensures { TermsRise None answers.now →
+        option_copied result ≡ kept_for answers.now term.now }
+{
+    let answer = answers.get(rank(answers, term))?;
+    if term.is_before(&answer.term) {
+        None
+    } else {
+        Some(answer.documents.as_slice())
+    }
+}
+
+/// How many of the answers are for terms before this one.
+fn rank(answers: &[Answer], term: &Term) -> usize
+    ensures within { result ≤ length answers.now }
+    ensures rank { TermsRise None answers.now → result ≡
+        prefix_len (λ answer. is_term_before answer.term term.now) answers.now }
+{
+    answers.partition_point(|answer| answer.term.is_before(term))
+}
+
+/// Whether a number is one of those that rise.
+fn is_among(numbers: &[Number], number: Number) -> bool
+    ensures { RiseFrom 0 numbers.now → result ≡ has numbers.now number }
+{
+    numbers.binary_search(&number).is_ok()
+}
+
+/// The answers under a number.
+fn list_of(lists: &Lists, mount: Number) -> &[Answer]
+    ensures { result.now ≡ list_at lists.now mount }
+{
+    match lists.get(&mount.get()) {
+        Some(answers) => answers.as_slice(),
+        None => &[],
+    }
+}
+
+/// Puts an empty list under a number that has none.
+fn make_place(alloc: Global, lists: &mut Lists, mount: Number) -> Result<(), Memory>
+    ensures there { OnOk result (IsTrue (has_list lists.new mount)) }
+    ensures same { (number : ℕ) → list_at lists.new number ≡ list_at lists.old number }
+{
+    if !lists.contains_key(&mount.get()) {
+        lists.insert(mount.get(), Seq::new(Vec::new(alloc)))?;
+    }
+    Ok(())
+}
+
+/// Puts other answers under a number.
+fn replace(lists: &mut Lists, mount: Number, answers: Seq<Answer>)
+    requires { IsTrue (has_list lists.old mount) }
+    ensures { (number : ℕ) → list_at lists.new number ≡
+        (if number == mount then answers else list_at lists.old number) }
+{
+    if let Some(place) = lists.get_mut(&mount.get()) {
+        *place = answers;
+    }
+}
+
+/// Takes the list from a number, whatever it holds.
+fn take_out(lists: &mut Lists, mount: Number)
+    ensures { (number : ℕ) → list_at lists.new number ≡
+        (if number == mount then [] else list_at lists.old number) }
+{
+    lists.swap_remove(&mount.get());
+}
+
+/// Takes the list from a number, if it is empty.
+fn take_out_bare(lists: &mut Lists, mount: Number)
+    ensures { (number : ℕ) → list_at lists.new number ≡ list_at lists.old number }
+{
+    if list_of(lists, mount).is_empty() {
+        take_out(lists, mount);
+    }
+}
