@@ -1,6 +1,6 @@
 -- Which paths are long once a mount comes with its documents.
-use Rattle.std.proofs.Common.{◌≡◌, ℕ, zero, suc, ◌+◌, ◌<◌, ◌≤◌, Bool, true, false, cond, List, [], ◌∷◌, ◌++◌, length, take, subst, refl, ap, sym, ◌∙◌, arith, inl, inr, eq-eqb}
-use Rattle.std.specs.Prelude.{◌⊎◌, ◌==◌, ◌&&◌, min, nat_eq, nat_le, nat_lt, Option, Some, None}
+use Rattle.std.proofs.Common.{◌≡◌, ℕ, zero, suc, ◌+◌, ◌<◌, ◌≤◌, Bool, true, false, cond, List, [], ◌∷◌, ◌++◌, length, take, refl, ap, sym, ◌∙◌, arith, inl, inr, eq-eqb}
+use Rattle.std.specs.Prelude.{◌==◌, ◌&&◌, min, nat_le, Some, None}
 use Rattle.std.specs.List.{AllByRecursion, list_all}
 use Rattle.std.proofs.lemmas.Bool.{and_from, cases_lt, ne_eqb}
 use Rattle.std.proofs.lemmas.Bool.Decides.{nat_tests}
@@ -12,14 +12,13 @@ use Rattle.hac_model.specs.Tree.Mounting.{documents_from, mounted}
 use Rattle.hac_model.specs.Tree.{ancestors, entry_at, is_directory, is_dirty, is_file, is_linkable, is_mount, is_path_short, is_symlink, lineage, path_of}
 use Rattle.hac_model.specs.Tree.Valid.{IsLayout}
 use Rattle.hac_model.specs.declared.limits.TheConstants.{PATH_LIMIT}
-use Rattle.hac_model.specs.declared.counts.Counts.{Counts}
 use Rattle.hac_model.specs.declared.states.Answer.{Answer}
 use Rattle.hac_model.specs.declared.states.Body.{Body}
-use Rattle.hac_model.specs.declared.states.Body.TheVariants.{Mount, Document}
+use Rattle.hac_model.specs.declared.states.Body.TheVariants.{Mount}
 use Rattle.hac_model.specs.declared.states.Entry.{Entry}
 use Rattle.hac_model.specs.declared.states.State.{State}
 use Rattle.hac_model.proofs.CountLemmas.{is_queried, measured, measured-added, one_if}
-use Rattle.hac_model.proofs.PathLemmas.{ancestors-step, ancestors-taken, ancestors_by, few-ancestors, length-path, limit, lineage-is, lineage-take, parent-lives, path-short, short-is}
+use Rattle.hac_model.proofs.PathLemmas.{ancestors-step, ancestors-taken, ancestors_by, length-path, limit, lineage-is, lineage-take, parent-lives, path-short, short-is}
 use Rattle.hac_model.proofs.TreeLemmas.{Lives, all-entries, entry_at-below, entry_at-next, rise-below}
 use Rattle.file_tree.specs.Counting as counting
 use Rattle.file_tree.specs.Counting.{plus, share_of}

@@ -1,5 +1,5 @@
 -- Which documents go in a sync: those whose names nothing has that is in the new list.
-use Rattle.std.proofs.Common.{◌≡◌, ℕ, ◌+◌, ◌<◌, ◌≤◌, Bool, true, false, List, [], map, subst, refl, ap, sym, ◌∙◌, inl, inr, arith}
+use Rattle.std.proofs.Common.{◌≡◌, ℕ, ◌<◌, true, false, List, map, subst, refl, ap, sym, ◌∙◌, inl, inr}
 use Rattle.std.specs.Prelude.{◌&&◌, not, is_none, Option, Some, None}
 use Rattle.std.proofs.lemmas.Bool.{cases_lt}
 use Rattle.hac_model.specs.Tree.Depends.{Among}
@@ -19,7 +19,7 @@ use Rattle.file_tree.proofs.ChildLemmas.{child-named}
 use Rattle.file_tree.proofs.FoundLemmas.{found-same, has-among}
 use Rattle.file_tree.proofs.NumberLemmas.{found-map, names-rise, number-names}
 use Rattle.file_tree.proofs.OverLemmas.{named-follow, named-low, named-same, names-same, over-same}
-use Rattle.file_tree.proofs.SyncLemmas.{documents, find, find-member, high-outside, leaves, member, more}
+use Rattle.file_tree.proofs.SyncLemmas.{documents, find, find-member, leaves, member, more}
 
 module _ (t : Inside) (h : IsShaped t) (mount : ℕ) (is : is_mount_at (state_of t).entries mount ≡ true) where
   -- what is in the mount has a number that was taken

@@ -1,9 +1,8 @@
 -- What is found under names among numbers, and which numbers go.
-use Rattle.std.proofs.Common.{◌≡◌, ℕ, zero, suc, ◌+◌, ◌<◌, ◌≤◌, Bool, true, false, cond, List, [], ◌∷◌, ◌++◌, length, take, get_or, refl, ap, sym, subst, ◌∙◌, arith, inl, inr, eq-eqb, add-one}
-use Rattle.std.specs.Prelude.{◌⊎◌, ◌&&◌, ◌||◌, ◌==◌, nat_eq, is_none, Option, Some, None}
-use Rattle.std.specs.List.{list_any}
+use Rattle.std.proofs.Common.{◌≡◌, ℕ, zero, suc, ◌+◌, ◌<◌, Bool, true, false, cond, List, [], ◌∷◌, ◌++◌, length, take, get_or, refl, ap, sym, subst, ◌∙◌, arith, inl, inr, eq-eqb, add-one}
+use Rattle.std.specs.Prelude.{◌⊎◌, ◌&&◌, ◌||◌, ◌==◌, nat_eq, is_none, Option, Some}
 use Rattle.std.specs.Str.{bytes_eq}
-use Rattle.std.proofs.Math.Bool.{and-false, and-true, or-false}
+use Rattle.std.proofs.Math.Bool.{or-false}
 use Rattle.std.proofs.Math.Seq.{take-suc}
 use Rattle.std.proofs.lemmas.Bool.{eqb-true, ne_eqb}
 use Rattle.std.proofs.lemmas.List.Folds.{list_any-append}
@@ -17,7 +16,7 @@ use Rattle.file_tree.specs.Documents.{is_dropped}
 use Rattle.file_tree.specs.Search.{first_named}
 use Rattle.file_tree.specs.Shape.{NamesRise}
 use Rattle.file_tree.proofs.ListLemmas.{before-itself}
-use Rattle.file_tree.proofs.ShapeLemmas.{same-or-not, told_at}
+use Rattle.file_tree.proofs.ShapeLemmas.{same-or-not}
 
 -- equal names are found alike
 pub found-same : (names other : ℕ → List ℕ) (ns : List ℕ) (x : List ℕ) → ((n : ℕ) → Among ns n → other n ≡ names n) → first_named other ns x ≡ first_named names ns x

@@ -1,5 +1,5 @@
 -- What a state counts for once a mount has other documents.
-use Rattle.std.proofs.Common.{◌≡◌, ℕ, zero, suc, ◌+◌, ◌-◌, ◌<◌, ◌≤◌, Bool, true, false, cond, List, [], ◌∷◌, ◌++◌, length, map, subst, refl, ap, sym, ◌∙◌, arith, inl, inr}
+use Rattle.std.proofs.Common.{◌≡◌, ℕ, zero, suc, ◌+◌, ◌-◌, ◌<◌, ◌≤◌, Bool, true, false, cond, List, ◌∷◌, ◌++◌, length, subst, refl, ap, sym, ◌∙◌, arith, inl, inr}
 use Rattle.std.specs.Prelude.{◌⊎◌, ◌==◌, ◌&&◌, ◌||◌, not, filter, nat_le, if◌then◌else◌, IsTrue, Option, Some, None}
 use Rattle.std.specs.List.{AllByRecursion, list_all}
 use Rattle.std.specs.Option.{option_map, option_map_or}
@@ -11,14 +11,13 @@ use Rattle.hac_model.specs.Tree.Limits.{are_paths_short, counts, file_bytes, lon
 use Rattle.hac_model.specs.Tree.Mounting.{do_names_rise, documents_from, fresh, is_among, is_gone, with_documents, without_such}
 use Rattle.hac_model.specs.Tree.{ancestors, entry_at, is_directory, is_directory_at, is_dirty, is_document, is_file, is_holder_at, is_linkable, is_mount, is_mount_at, is_path_short, is_symlink, lineage, path_of}
 use Rattle.hac_model.specs.Tree.Valid.{IsLayout, is_in_place}
-use Rattle.hac_model.specs.declared.counts.Counts.{Counts}
 use Rattle.hac_model.specs.declared.states.Body.{Body}
 use Rattle.hac_model.specs.declared.states.Body.TheVariants.{Document}
 use Rattle.hac_model.specs.declared.states.Entry.{Entry}
 use Rattle.hac_model.specs.declared.states.State.{State}
 use Rattle.hac_model.proofs.ChangeLemmas.{all-filter, all-weaker}
 use Rattle.hac_model.proofs.CountLemmas.{is_queried, measured, one_if}
-use Rattle.hac_model.proofs.PathLemmas.{ancestors-none, ancestors-step, ancestors_by, length-path, limit, lineage-is, lineage-take, parent-directory, parent-lives, path-short, root-none, short-is}
+use Rattle.hac_model.proofs.PathLemmas.{ancestors-step, ancestors_by, length-path, limit, lineage-is, lineage-take, parent-directory, parent-lives, path-short, root-none, short-is}
 use Rattle.hac_model.proofs.TreeLemmas.{Lives, all-entries, directory-lives, directory-no_item, entry_at-below, entry_at-next, mount-directory, rise-below}
 use Rattle.file_tree.specs.Counting as counting
 use Rattle.file_tree.specs.Depths.{is_deep_in}

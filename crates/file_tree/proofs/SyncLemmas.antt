@@ -1,26 +1,23 @@
 -- What a tree keeps when a mount gets other documents, or goes, given what is under each number before and after.
-use Rattle.std.proofs.Common.{◌≡◌, ℕ, ◌+◌, ◌<◌, ◌≤◌, Bool, true, false, cond, List, [], ◌∷◌, ◌++◌, length, map, subst, refl, ap, sym, ◌∙◌, arith, inl, inr, eq-eqb}
-use Rattle.std.specs.Prelude.{◌==◌, ◌&&◌, not, filter, remove, if◌then◌else◌, nat_eq, IsTrue, Option, Some, None}
+use Rattle.std.proofs.Common.{◌≡◌, ℕ, ◌+◌, ◌<◌, ◌≤◌, Bool, true, false, cond, List, [], ◌∷◌, ◌++◌, length, subst, refl, ap, sym, ◌∙◌, arith, inl, inr, eq-eqb}
+use Rattle.std.specs.Prelude.{◌==◌, ◌&&◌, not, filter, if◌then◌else◌, IsTrue, Option, Some, None}
 use Rattle.std.specs.Option.{option_map, option_map_or, option_to_list}
-use Rattle.std.specs.Str.{bytes_eq}
 use Rattle.std.proofs.lemmas.Slice.Eq.{bytes_eq-Decides}
 use Rattle.std.proofs.lemmas.Bool.{and_parts, cases_lt, ne_eqb}
 use Rattle.std.proofs.lemmas.List.Elements.{filter-append}
 use Rattle.std.proofs.Math.Bool.{and-false}
 use Rattle.hac_model.specs.Tree.Depends.{Among}
 use Rattle.hac_model.specs.Tree.Links.{has}
-use Rattle.hac_model.specs.Tree.Mounting.{do_names_rise, documents_from, is_among, is_gone, is_of_mount, with_documents, without_such}
-use Rattle.hac_model.specs.Tree.{child, entry_at, is_directory_at, is_document, is_file, is_holder_at, is_linkable, is_mount, is_mount_at}
+use Rattle.hac_model.specs.Tree.Mounting.{do_names_rise, documents_from, is_among, is_gone, with_documents, without_such}
+use Rattle.hac_model.specs.Tree.{child, entry_at, is_directory_at, is_document, is_holder_at, is_linkable, is_mount, is_mount_at}
 use Rattle.hac_model.specs.Tree.Valid.{IsLayout, is_in_place}
 use Rattle.hac_model.specs.declared.states.Body.{Body}
 use Rattle.hac_model.specs.declared.states.Body.TheVariants.{File, Dir, Symlink, Semantic, Mount, Document}
 use Rattle.hac_model.specs.declared.states.Entry.{Entry}
-use Rattle.hac_model.specs.declared.states.State.{State}
 use Rattle.hac_model.proofs.PathLemmas.{parent-directory}
 use Rattle.hac_model.proofs.TreeLemmas.{child-own, directory-no_item, entry_at-all}
 use Rattle.file_tree.specs.Documents.{numbers_from, unknown, with_entries, with_names}
 use Rattle.file_tree.specs.Nodes.{entries_below, entry_of, has_node, kids_of, name_of}
-use Rattle.file_tree.specs.Search.{rank_in}
 use Rattle.file_tree.specs.Shape.{AreNested, HasNoOther, HasSpare, IsShaped, parent_in, state_of}
 use Rattle.file_tree.specs.declared.tree.Tree.TheInside.{Inside}
 use Rattle.file_tree.proofs.BelowLemmas.{below-made}
@@ -28,9 +25,9 @@ use Rattle.file_tree.proofs.ChildLemmas.{child-named, name-told, named-member, p
 use Rattle.file_tree.proofs.FoundLemmas.{among-has, has-among, has-not}
 use Rattle.file_tree.proofs.ListLemmas.{none-among}
 use Rattle.file_tree.proofs.NestLemmas.{IsSynced, goes, tree-synced}
-use Rattle.file_tree.proofs.OverLemmas.{NamesFollow, below-more, dirty_in, follow-same, long, named-follow, named-low, names-same, over-clean, over-follow, over-high, over-inside, over-low}
+use Rattle.file_tree.proofs.OverLemmas.{below-more, dirty_in, follow-same, long, named-follow, named-low, names-same, over-clean, over-follow, over-high, over-inside, over-low}
 use Rattle.file_tree.proofs.ReadLemmas.{seen-entry}
-use Rattle.file_tree.proofs.ShapeLemmas.{same-or-not, told_at, told-here, told-there, tree-same, tree-unlinked}
+use Rattle.file_tree.proofs.ShapeLemmas.{same-or-not, told_at, told-here, told-there, tree-same}
 use Rattle.file_tree.proofs.StateLemmas.{state_with}
 
 mount-in : (o : Option Entry) → option_map_or is_mount (option_map (λ (e : Entry). e.body) o) false ≡ true → (e : Entry) × (o ≡ Some e) × (is_mount e.body ≡ true)

@@ -1,17 +1,16 @@
 -- What a state counts for when entries come and go by the many.
-use Rattle.std.proofs.Common.{◌≡◌, ℕ, zero, suc, ◌+◌, ◌<◌, ◌≤◌, Bool, true, false, cond, List, [], ◌∷◌, ◌++◌, length, map, subst, refl, ap, sym, ◌∙◌, arith, inl, inr}
-use Rattle.std.specs.Prelude.{◌⊎◌, ◌==◌, ◌&&◌, ◌||◌, not, filter, nat_le, if◌then◌else◌, IsTrue, Option, Some, None}
+use Rattle.std.proofs.Common.{◌≡◌, ℕ, zero, suc, ◌+◌, ◌<◌, ◌≤◌, Bool, true, false, cond, List, [], ◌∷◌, ◌++◌, length, subst, refl, ap, sym, ◌∙◌, arith, inl, inr}
+use Rattle.std.specs.Prelude.{◌⊎◌, ◌==◌, ◌||◌, not, filter, nat_le, if◌then◌else◌, IsTrue, Option, Some, None}
 use Rattle.std.specs.List.{AllByRecursion, list_all}
 use Rattle.std.specs.Option.{option_map, option_map_or}
 use Rattle.std.proofs.lemmas.Bool.{and_from, and_parts, eqb-true, ne_eqb}
 use Rattle.std.proofs.lemmas.List.Sums.{sum_by-append}
 use Rattle.std.proofs.lemmas.Bool.Decides.{nat_tests}
 use Rattle.hac_model.specs.Tree.Limits.{are_paths_short, counts, file_bytes, long_paths}
-use Rattle.hac_model.specs.Tree.Listing.{children, in_order, is_before, put_in_order}
+use Rattle.hac_model.specs.Tree.Listing.{in_order, is_before, put_in_order}
 use Rattle.hac_model.specs.Tree.Mounting.{documents_from, is_of_mount, without_such}
 use Rattle.hac_model.specs.Tree.{ancestors, entry_at, is_directory, is_directory_at, is_dirty, is_document, is_file, is_holder_at, is_linkable, is_mount, is_mount_at, is_path_short, is_symlink, lineage, path_of}
 use Rattle.hac_model.specs.Tree.Valid.{IsLayout, NumbersRise, is_in_place}
-use Rattle.hac_model.specs.declared.counts.Counts.{Counts}
 use Rattle.hac_model.specs.declared.states.Answer.{Answer}
 use Rattle.hac_model.specs.declared.states.Body.{Body}
 use Rattle.hac_model.specs.declared.states.Body.TheVariants.{File, Dir, Symlink, Semantic, Mount, Document}

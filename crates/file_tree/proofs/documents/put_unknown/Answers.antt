@@ -1,9 +1,8 @@
-use Rattle.std.proofs.Common.{◌≡◌, ◌+◌, ◌<◌, ◌≤◌, ◌∷◌, [], ℕ, List, length, None, Option, ap, sym, subst, ◌∙◌, arith}
+use Rattle.std.proofs.Common.{◌≡◌, ◌+◌, ◌∷◌, [], ℕ, List, length, None, Option, ap, sym, ◌∙◌, arith}
 use Rattle.std.specs.Vec.Iter.{into_iter_items}
 use Rattle.hac_model.specs.Tree.Mounting.{documents_from}
-use Rattle.hac_model.specs.declared.states.Entry.{Entry}
 use Rattle.file_tree.specs.Documents.{unknown, with_entries, with_names}
-use Rattle.file_tree.specs.Nodes.{entry_of, has_node, name_of}
+use Rattle.file_tree.specs.Nodes.{entry_of, name_of}
 use Rattle.file_tree.specs.Search.{first_named}
 use Rattle.file_tree.proofs.FoundLemmas.{found-same}
 use Rattle.file_tree.proofs.ListLemmas.{rises-same}

@@ -1,4 +1,4 @@
-use Rattle.std.proofs.Common.{◌≡◌, ◌<◌, ℕ, List, [], Bool, false, None, Option, cond, take, get_or, length, ap, sym, subst, ◌∙◌, arith}
+use Rattle.std.proofs.Common.{◌≡◌, ◌<◌, ℕ, List, [], Bool, false, None, Option, cond, take, get_or, length, ap, ◌∙◌}
 use Rattle.std.specs.Prelude.{◌&&◌, is_none, nat_eq}
 use Rattle.std.proofs.Math.Bool.{and-false}
 use Rattle.hac_model.specs.Tree.Depends.{Among}

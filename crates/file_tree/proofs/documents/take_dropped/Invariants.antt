@@ -1,4 +1,4 @@
-use Rattle.std.proofs.Common.{◌≡◌, ℕ, List, [], false, None, take, cond}
+use Rattle.std.proofs.Common.{◌≡◌, ℕ, [], false, None, take, cond}
 use Rattle.file_tree.specs.Documents.{is_dropped}
 use Rattle.file_tree.specs.Nodes.{entry_of, has_node, kids_of, name_of}
 use Rattle.file_tree.proofs.documents.take_dropped.Given as goal

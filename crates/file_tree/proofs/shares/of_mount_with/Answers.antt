@@ -1,4 +1,4 @@
-use Rattle.std.proofs.Common.{ℕ, ◌+◌, ap, ◌∙◌}
+use Rattle.std.proofs.Common.{◌+◌, ap, ◌∙◌}
 use Rattle.hac_model.specs.declared.counts.Counts.{Counts}
 use Rattle.file_tree.specs.Counting.{one_if}
 use Rattle.file_tree.proofs.shares.of_mount_with.Goals as goal

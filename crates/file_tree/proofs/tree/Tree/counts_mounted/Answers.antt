@@ -1,6 +1,5 @@
 use Rattle.std.proofs.Common.{◌≡◌, ◌+◌, Bool, ℕ, length, ap, sym, ◌∙◌}
 use Rattle.hac_model.specs.Tree.{path_of}
-use Rattle.hac_model.specs.declared.counts.Counts.{Counts}
 use Rattle.hac_model.specs.declared.states.Body.TheVariants.{Mount}
 use Rattle.hac_model.proofs.TreeLemmas.{directory-lives}
 use Rattle.file_tree.specs.Counting.{one_if, plus, share_of}

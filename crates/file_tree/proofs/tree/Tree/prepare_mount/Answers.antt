@@ -4,7 +4,6 @@ use Rattle.hac_model.specs.declared.limits.TheConstants.{NUMBERS_LIMIT}
 use Rattle.file_tree.specs.Answers.{is_dirty_at}
 use Rattle.file_tree.specs.Documents.{numbers_up}
 use Rattle.file_tree.specs.Shape.{state_of}
-use Rattle.file_tree.proofs.SyncLemmas.{below-left}
 use Rattle.file_tree.proofs.TreeLemmas.{new-readied, next-small, ready-nothing, set-clean, spare-nothing, tree-readied}
 use Rattle.file_tree.proofs.tree.Tree.prepare_mount.Goals as goal
 

@@ -1,4 +1,4 @@
-use Rattle.std.proofs.Common.{◌≡◌, true, ◌≤◌, ◌<◌, ◌+◌, ◌++◌, ℕ, List, [], Option, ap, refl, sym, subst, ◌∙◌, arith, inl, inr, length}
+use Rattle.std.proofs.Common.{◌≡◌, true, ◌≤◌, ◌<◌, ◌+◌, ◌++◌, ℕ, List, ap, refl, sym, subst, ◌∙◌, arith, inl, inr, length}
 use Rattle.std.specs.Prelude.{◌&&◌, nat_le}
 use Rattle.std.specs.List.{list_all}
 use Rattle.std.proofs.Math.Bool.{or-false}
@@ -9,10 +9,9 @@ use Rattle.hac_model.specs.Tree.Mounting.{do_names_rise}
 use Rattle.hac_model.specs.Tree.Names.{is_name}
 use Rattle.hac_model.specs.Tree.{is_mount_at}
 use Rattle.hac_model.specs.declared.limits.TheConstants.{DOCS_LIMIT, NUMBERS_LIMIT}
-use Rattle.hac_model.specs.declared.states.State.{State}
 use Rattle.file_tree.specs.Answers.{is_dirty_at}
 use Rattle.file_tree.specs.Documents.{numbers_for, numbers_from, unknown}
-use Rattle.file_tree.specs.Nodes.{has_node, kids_of, name_of}
+use Rattle.file_tree.specs.Nodes.{name_of}
 use Rattle.file_tree.specs.Search.{first_named}
 use Rattle.file_tree.specs.Seen.{Seen}
 use Rattle.file_tree.specs.Shape.{seen_of, state_of}

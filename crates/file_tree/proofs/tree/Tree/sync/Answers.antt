@@ -1,34 +1,29 @@
-use Rattle.std.proofs.Common.{◌≡◌, ◌≤◌, ◌<◌, ◌+◌, ℕ, List, [], Bool, true, false, length, cond, ap, subst, sym, refl, ◌∙◌, arith}
+use Rattle.std.proofs.Common.{◌≡◌, ◌≤◌, ◌<◌, ◌+◌, ℕ, List, [], Bool, true, false, length, cond, ap, subst, sym, ◌∙◌, arith}
 use Rattle.std.specs.Prelude.{◌&&◌, ◌||◌, nat_eq, nat_lt, is_none, Option, None}
 use Rattle.std.proofs.lemmas.Bool.Decides.{nat_tests}
 use Rattle.std.proofs.Math.Bool.{or-false}
 use Rattle.hac_model.specs.Tree.Depends.{Among}
-use Rattle.hac_model.specs.Tree.Mounting.{documents_from, fresh, is_gone, with_documents, without_such}
-use Rattle.hac_model.specs.Tree.{child, is_mount_at}
+use Rattle.hac_model.specs.Tree.Mounting.{fresh, is_gone, with_documents, without_such}
+use Rattle.hac_model.specs.Tree.{is_mount_at}
 use Rattle.hac_model.specs.Tree.Valid.{IsLayout}
 use Rattle.hac_model.specs.declared.states.Entry.{Entry}
-use Rattle.hac_model.specs.declared.states.State.{State}
 use Rattle.hac_model.specs.declared.limits.TheConstants.{NUMBERS_LIMIT}
 use Rattle.hac_model.proofs.LimitLemmas.{limits-within}
 use Rattle.file_tree.specs.Answers.{is_dirty_at}
-use Rattle.file_tree.specs.Documents.{is_dropped, numbers_for, numbers_from, unknown, with_entries, with_names}
+use Rattle.file_tree.specs.Documents.{is_dropped, numbers_from, unknown, with_entries, with_names}
 use Rattle.file_tree.specs.Nodes.{entry_of, has_node, kids_of, name_of}
 use Rattle.file_tree.specs.Ready.{is_awaited, numbers_in}
 use Rattle.file_tree.specs.Search.{first_named}
 use Rattle.file_tree.specs.Seen.{Seen}
 use Rattle.file_tree.specs.Shape.{HasSpare, NamesRise, state_of}
 use Rattle.file_tree.specs.declared.ready.Ready.{Ready}
-use Rattle.file_tree.specs.declared.ready.Ready.TheVariants.{Nothing, Sync}
 use Rattle.file_tree.specs.declared.tree.Tree.TheInside.{Inside}
-use Rattle.file_tree.proofs.ChildLemmas.{child-named, entry-node}
+use Rattle.file_tree.proofs.ChildLemmas.{entry-node}
 use Rattle.file_tree.proofs.DroppedLemmas.{dropped-told, entries-put, finds, low-name, member-low, mount-inside, names-put, ready-inside, rise-redone, spare-inside}
-use Rattle.file_tree.proofs.FoundLemmas.{found-same}
 use Rattle.file_tree.proofs.ListLemmas.{rises-same}
 use Rattle.file_tree.proofs.MountLemmas.{dirty-same}
 use Rattle.file_tree.proofs.NumberLemmas.{number-new}
-use Rattle.file_tree.proofs.OverLemmas.{named-low, named-same, over-same}
-use Rattle.file_tree.proofs.ShapeLemmas.{told_at}
-use Rattle.file_tree.proofs.SyncLemmas.{IsRedone, clean-redone, documents, find, leaves, more, mount-entry, mount-outside, shaped-redone, state-redone, stays-by}
+use Rattle.file_tree.proofs.SyncLemmas.{IsRedone, clean-redone, documents, find, leaves, mount-entry, mount-outside, shaped-redone, state-redone}
 use Rattle.file_tree.proofs.TreeLemmas.{became, set-has}
 use Rattle.file_tree.proofs.tree.Tree.sync.Goals as goal
 

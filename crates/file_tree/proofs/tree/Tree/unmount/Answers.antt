@@ -1,13 +1,11 @@
 use Rattle.std.proofs.Common.{◌≡◌, ◌<◌, ℕ, List, [], Bool, true, false, length, cond, ap, subst, sym, refl, ◌∙◌}
-use Rattle.std.specs.Prelude.{◌||◌, nat_eq, remove, Option, None, IsSome}
+use Rattle.std.specs.Prelude.{nat_eq, remove, Option, None, IsSome}
 use Rattle.hac_model.specs.Tree.Mounting.{is_of_mount, without_such}
 use Rattle.hac_model.specs.Tree.{is_mount_at}
 use Rattle.hac_model.specs.Tree.Valid.{IsLayout}
 use Rattle.hac_model.specs.declared.states.Entry.{Entry}
-use Rattle.hac_model.specs.declared.states.State.{State}
 use Rattle.file_tree.specs.Documents.{is_dropped}
 use Rattle.file_tree.specs.Nodes.{entry_of, has_node, kids_of, name_of}
-use Rattle.file_tree.specs.Search.{rank_in}
 use Rattle.file_tree.specs.Seen.{Seen}
 use Rattle.file_tree.specs.Shape.{HasSpare, NamesRise, seen_of, state_of}
 use Rattle.file_tree.specs.declared.ready.Ready.{Ready}
