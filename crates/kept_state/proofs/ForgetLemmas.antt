@@ -22,7 +22,6 @@ use Rattle.link_kinds.proofs.HasLemmas.{eqb-turned}
 use Rattle.link_kinds.proofs.PutLemmas.{removed-without}
 use Rattle.file_tree.proofs.OrderLemmas.{children-found}
 use Rattle.kept_state.specs.Forgetting.{ForgetsSuch, lists_without}
-use Rattle.kept_state.proofs.ListLemmas.{all-weaker}
 
 -- Numbers are left out.
 

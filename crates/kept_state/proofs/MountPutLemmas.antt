@@ -1,10 +1,10 @@
 -- Mounts are put: what they need, and what each of their events does to the tree, the marks and the answers.
-use Rattle.std.proofs.Common.{◌≡◌, ℕ, ◌≤◌, Bool, true, false, cond, List, [], ◌∷◌, length, subst, refl, ap, sym, ◌∙◌, arith}
-use Rattle.std.specs.Prelude.{◌==◌, ◌&&◌, nat_le, Option, Some, None, IfSome, IsSome, IsTrue}
+use Rattle.std.proofs.Common.{◌≡◌, ℕ, ◌≤◌, Bool, true, false, cond, List, [], length, subst, refl, ap, sym, ◌∙◌}
+use Rattle.std.specs.Prelude.{◌==◌, Option, Some, None, IfSome, IsSome, IsTrue}
 use Rattle.std.specs.List.{list_all}
 use Rattle.std.specs.Option.{option_map, option_map_or}
 use Rattle.std.proofs.lemmas.Bool.{and_parts, eqb-true, leb-true}
-use Rattle.hac_model.specs.Tree.Events.{accepted, may_mount, may_sync}
+use Rattle.hac_model.specs.Tree.Events.{accepted}
 use Rattle.hac_model.specs.Tree.Facts.{Facts, Marks, bare_after, facts_after, facts_at, facts_in, facts_of, facts_without, no_facts, no_marks}
 use Rattle.hac_model.specs.Tree.Mounting.{answers_to, are_documents, are_told, do_names_rise, is_gone, is_of_mount, is_such_at, is_told, mounted, synced}
 use Rattle.hac_model.specs.Tree.Mounts.{terms_to_ask}
@@ -24,8 +24,7 @@ use Rattle.hac_model.proofs.MountLayoutLemmas.{documents-parts}
 use Rattle.hac_model.proofs.ValidLemmas.{free-parts}
 use Rattle.dep_graph.specs.Graphs.{edges_of}
 use Rattle.file_tree.specs.Seen as tree
-use Rattle.link_kinds.specs.Kinds.{Lists}
-use Rattle.link_kinds.specs.Seen.{Known, SameLinks, has_sets, lists_in}
+use Rattle.link_kinds.specs.Seen.{Known, SameLinks, lists_in}
 use Rattle.kept_state.specs.Answers.{Answered, Replaces, answers_kept}
 use Rattle.kept_state.specs.Forgetting.{ForgetsSuch, lists_without}
 use Rattle.kept_state.specs.Parts.{IsLinked, facts_kept, state_of}

@@ -1,19 +1,17 @@
 -- The terms in use: they are taken from the queries one after the other, and put in order.
-use Rattle.std.proofs.Common.{◌≡◌, ℕ, zero, suc, ◌+◌, ◌<◌, ◌≤◌, Bool, true, false, cond, List, [], ◌∷◌, ◌++◌, add-one, append_assoc, drop, drop-cons, length, get_or, refl, ap, subst, sym, ◌∙◌, arith, inl, inr}
-use Rattle.std.specs.Prelude.{◌==◌, if◌then◌else◌, nat_le, Option, Some, None, IsTrue, option_and_then, slice_get}
+use Rattle.std.proofs.Common.{◌≡◌, ℕ, suc, ◌+◌, ◌<◌, ◌≤◌, Bool, true, false, cond, List, [], ◌∷◌, ◌++◌, add-one, append_assoc, drop, drop-cons, length, get_or, refl, ap, sym, ◌∙◌, arith, inl, inr}
+use Rattle.std.specs.Prelude.{if◌then◌else◌, nat_le, Option, Some, None, option_and_then, slice_get}
 use Rattle.std.specs.List.{AllByRecursion, insert, prefix_len}
 use Rattle.std.specs.Option.{option_map, option_map_or}
-use Rattle.std.proofs.lemmas.Bool.{cases_order, eq-eqb, eqb-true, le-leb, leb-true, ne_eqb}
-use Rattle.hac_model.specs.Query.Formula.{Formula}
+use Rattle.std.proofs.lemmas.Bool.{cases_order, eq-eqb, le-leb, leb-true, ne_eqb}
 use Rattle.hac_model.specs.Query.Queries.{terms_of}
-use Rattle.hac_model.specs.Query.Terms.{is_same_term, is_term_before}
+use Rattle.hac_model.specs.Query.Terms.{is_term_before}
 use Rattle.hac_model.specs.Tree.Links.{query_at}
 use Rattle.hac_model.specs.Tree.Mounting.{answers_to}
-use Rattle.hac_model.specs.Tree.Mounts.{in_order, put_term, terms_in, terms_in_use}
+use Rattle.hac_model.specs.Tree.Mounts.{in_order, put_term, terms_in_use}
 use Rattle.hac_model.specs.Tree.Valid.{NumbersRise}
 use Rattle.hac_model.specs.Tree.{entry_at, query_in}
 use Rattle.hac_model.specs.declared.states.Answer.{Answer}
-use Rattle.hac_model.specs.declared.states.Body.{Body}
 use Rattle.hac_model.specs.declared.states.Entry.{Entry}
 use Rattle.hac_model.specs.declared.states.State.{State}
 use Rattle.hac_model.specs.declared.terms.Term.{Term}
@@ -177,9 +175,9 @@ pub told-next : (terms : List Term) (told : List (List ℕ)) (i : ℕ) (old new 
 told-next terms told i old new term numbers inside also is are so_far put =
     let answer : Answer = record { term = term; documents = numbers } in
     let one : answers_to (drop i terms) (drop i told) ≡ answer ∷ answers_to (drop (i + 1) terms) (drop (i + 1) told) =
-        (λ k. answers_to (drop-cons terms i term inside k) (drop-cons told i numbers also k))
-        ∙ ap (λ (a : Answer). a ∷ answers_to (drop (suc i) terms) (drop (suc i) told)) (sym (λ k. record { term = is k; documents = are k }))
-        ∙ ap (λ (k : ℕ). answer ∷ answers_to (drop k terms) (drop k told)) (sym (add-one i)) in
+    (λ k. answers_to (drop-cons terms i term inside k) (drop-cons told i numbers also k))
+    ∙ ap (λ (a : Answer). a ∷ answers_to (drop (suc i) terms) (drop (suc i) told)) (sym (λ k. record { term = is k; documents = are k }))
+    ∙ ap (λ (k : ℕ). answer ∷ answers_to (drop k terms) (drop k told)) (sym (add-one i)) in
     ap (λ (as_put : List Answer). as_put ++ answers_to (drop (i + 1) terms) (drop (i + 1) told)) put
     ∙ append_assoc old (answer ∷ []) (answers_to (drop (i + 1) terms) (drop (i + 1) told))
     ∙ ap (λ (rest : List Answer). old ++ rest) (sym one)

@@ -19,9 +19,7 @@ use crate::forgetting::{forget_gone, forget_mount};
 use crate::parts::Parts;
 use dep_graph::NewEdges;
 use file_tree::{EntryKind, NewBody};
-use hac_model::{
-    Counts, DOCS_LIMIT, Event, Mark, Memory, Name, Number, Query, Seq, Session, Text,
-};
+use hac_model::{Counts, DOCS_LIMIT, Event, Mark, Memory, Name, Number, Query, Seq, Session, Text};
 use link_kinds::Links;
 use std::alloc::Global;
 use std::mem;
@@ -203,7 +201,8 @@ fn prepare_mount(
 {
     let mount = kept.tree.next_number();
     kept.prepare_answers(alloc, mount, told.as_slice())?;
-    kept.tree.prepare_mount(dir, documents.as_slice().len() as u64)?;
+    kept.tree
+        .prepare_mount(dir, documents.as_slice().len() as u64)?;
     Ok(None)
 }
 

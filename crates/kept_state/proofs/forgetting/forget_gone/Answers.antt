@@ -21,10 +21,10 @@ documents-preserved c =
     let number = c.document-item.result in
     let rest = drop (c.documents.document-index + 1) c.children-documents.result.now in
     let before : IsForgetting s mount test (number ∷ rest) c.args.marks.now c.documents.marks =
-        subst (λ (ns : List ℕ). IsForgetting s mount test ns c.args.marks.now c.documents.marks) (drop-next c.children-documents.result.now c.documents.document-index number c.documents-test.true c.document-item.is) c.documents.invariant in
+    subst (λ (ns : List ℕ). IsForgetting s mount test ns c.args.marks.now c.documents.marks) (drop-next c.children-documents.result.now c.documents.document-index number c.documents-test.true c.document-item.is) c.documents.invariant in
     let told : test number ≡ not c.is_among.result =
-        gone-told s mount names c.know_layout.ensures c.requires.mount number c.name_of.result.now before.there.0 c.name_of.ensures
-        ∙ ap not (sym (c.is_among.ensures ∙ ap (is_among names) c.as_bytes.ensures)) in
+    gone-told s mount names c.know_layout.ensures c.requires.mount number c.name_of.result.now before.there.0 c.name_of.ensures
+    ∙ ap not (sym (c.is_among.ensures ∙ ap (is_among names) c.as_bytes.ensures)) in
     elim c.if-not-is_among.branch [
       | then-not-is_among w ↦
           subst (λ (marks : Known). IsForgetting s mount test rest c.args.marks.now marks) (sym w.marks-is)

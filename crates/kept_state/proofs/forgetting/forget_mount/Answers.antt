@@ -1,4 +1,4 @@
-use Rattle.std.proofs.Common.{◌≡◌, ◌+◌, ◌∷◌, ◌∙◌, ℕ, Bool, List, drop, subst}
+use Rattle.std.proofs.Common.{◌+◌, ◌∷◌, ℕ, Bool, List, drop, subst}
 use Rattle.hac_model.specs.Tree.Mounting.{is_of_mount, is_such_at}
 use Rattle.kept_state.proofs.ForgetLemmas.{IsForgetting, forgets-next, forgetting-begun, forgetting-ends, of_mount-in, of_mount-own, of_mount-within}
 use Rattle.kept_state.proofs.ListLemmas.{drop-end, drop-next}
@@ -19,7 +19,7 @@ documents-preserved c =
     let number = c.document-item.result in
     let rest = drop (c.documents.document-index + 1) c.children-documents.result.now in
     let before : IsForgetting s mount test (number ∷ rest) c.args.marks.now c.documents.marks =
-        subst (λ (ns : List ℕ). IsForgetting s mount test ns c.args.marks.now c.documents.marks) (drop-next c.children-documents.result.now c.documents.document-index number c.documents-test.true c.document-item.is) c.documents.invariant in
+    subst (λ (ns : List ℕ). IsForgetting s mount test ns c.args.marks.now c.documents.marks) (drop-next c.children-documents.result.now c.documents.document-index number c.documents-test.true c.document-item.is) c.documents.invariant in
     forgets-next s mount test number rest c.args.marks.now c.documents.marks before (of_mount-in s mount number before.there.0) c.drop_item-in-documents.new.self c.drop_item-in-documents.ensures.lists c.drop_item-in-documents.ensures.sets
 
 pub returns-clause-lists : goal.returns-clause-lists

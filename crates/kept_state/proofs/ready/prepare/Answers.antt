@@ -2,7 +2,6 @@ use Rattle.std.proofs.Common.{subst}
 use Rattle.std.specs.Prelude.{IsTrue}
 use Rattle.hac_model.specs.Tree.Events.{accepted}
 use Rattle.hac_model.specs.declared.events.Event.{Event}
-use Rattle.hac_model.specs.declared.events.Event.TheVariants.{Smount, Ssync}
 use Rattle.kept_state.specs.Parts.{facts_kept, state_of}
 use Rattle.kept_state.proofs.MountPutLemmas.{mount-directory, mount-even, mount-few, sync-documents, sync-even, sync-mount}
 use Rattle.kept_state.proofs.ReadyLemmas.{file-directory, link-parts, mark-directory, mkdir-directory, move-directory, smkdir-directory}

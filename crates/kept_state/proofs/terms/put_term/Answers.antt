@@ -1,4 +1,4 @@
-use Rattle.std.proofs.Common.{◌≡◌, ◌<◌, ◌∙◌, ℕ, Bool, List, None, ap, cond, length, subst, sym, arith}
+use Rattle.std.proofs.Common.{◌≡◌, ◌∙◌, ℕ, Bool, List, None, ap, cond, length, subst, sym, arith}
 use Rattle.std.specs.List.{insert}
 use Rattle.hac_model.specs.declared.terms.Term.{Term}
 use Rattle.kept_state.specs.Answers.{AreTermsInOrder}
