@@ -2,5 +2,9 @@ mod BlockingLemmas
 mod CountedLemmas
 mod DraftLemmas
 mod FittingLemmas
+mod LoopLemmas
+mod MountedLemmas
+mod NamesLemmas
+mod PlacedLemmas
 mod SpaceLemmas
 mod StandsLemmas

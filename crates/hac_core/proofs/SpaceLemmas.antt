@@ -1,83 +1,29 @@
--- Which space has to be asked first, where no answers are kept.
-use Rattle.std.proofs.Common.{◌≡◌, ℕ, ◌+◌, ◌<◌, Bool, true, false, cond, List, [], ◌∷◌, ◌++◌, map, refl, ap, sym, ◌∙◌, arith, inl, inr}
-use Rattle.std.specs.Prelude.{◌==◌, ◌&&◌, ◌||◌, not, Option, Some, None, is_some, option_and_then}
-use Rattle.std.specs.List.{AllByRecursion, list_all}
+-- Which space has to be asked first.
+use Rattle.std.proofs.Common.{◌≡◌, ℕ, ◌+◌, ◌<◌, Bool, true, false, cond, List, [], ◌∷◌, refl, ap, sym, ◌∙◌, arith, inl, inr}
+use Rattle.std.specs.Prelude.{◌==◌, ◌&&◌, ◌||◌, not, if◌then◌else◌, Option, Some, None, option_and_then}
+use Rattle.std.specs.List.{list_all}
 use Rattle.std.specs.Option.{option_map, option_map_or}
 use Rattle.std.proofs.lemmas.Bool.{cases_lt}
-use Rattle.std.proofs.lemmas.List.Folds.{list_all-append}
 use Rattle.hac_model.specs.Query.Formula.{Formula}
-use Rattle.hac_model.specs.Query.Formula as query
 use Rattle.hac_model.specs.Query.Queries.{terms_of}
-use Rattle.hac_model.specs.Run.Refusals.{space_cause, unattached}
+use Rattle.hac_model.specs.Run.Refusals.{text_cause, unattached}
 use Rattle.hac_model.specs.Tree.Bare.{bare, bare_body}
 use Rattle.hac_model.specs.Tree.Events.{edited, first_asked, first_asked_in, knows_all}
 use Rattle.hac_model.specs.Tree.Limits.{mount_count}
 use Rattle.hac_model.specs.Tree.Links.{answers_at, parent_of, space_at}
 use Rattle.hac_model.specs.Tree.Mounts.{is_kept}
-use Rattle.hac_model.specs.Tree.Valid.{IsLayout, NumbersRise}
+use Rattle.hac_model.specs.Tree.Valid.{NumbersRise}
 use Rattle.hac_model.specs.Tree.{answers_in, body_at, entry_at, is_document_at, is_mount, space_in}
-use Rattle.hac_model.specs.declared.events.Event.{Event}
-use Rattle.hac_model.specs.declared.events.Event.TheVariants as event
 use Rattle.hac_model.specs.declared.replies.Refusal.{Refusal}
-use Rattle.hac_model.specs.declared.resolved.Resolved.{Resolved}
-use Rattle.hac_model.specs.declared.resolved.Resolved.TheVariants.{Cat, Smkdir, Setq, Find}
-use Rattle.hac_model.specs.declared.states.Answer.{Answer}
 use Rattle.hac_model.specs.declared.states.Body.{Body}
 use Rattle.hac_model.specs.declared.states.Body.TheVariants.{File, Dir, Symlink, Semantic, Mount, Document}
 use Rattle.hac_model.specs.declared.states.Entry.{Entry}
 use Rattle.hac_model.specs.declared.states.State.{State}
-use Rattle.hac_model.specs.declared.terms.Term.{Term}
 use Rattle.hac_model.proofs.AlikeLemmas.{entry_at-bare}
 use Rattle.hac_model.proofs.CountLemmas.{measured-cons, one_if}
 use Rattle.hac_model.proofs.TreeLemmas.{entry_at-behind, entry_at-first, entry_at-low, rise-below}
 use Rattle.kept_state.proofs.StateLemmas.{alike, same-document, same-parent}
-use Rattle.hac_core.specs.Drafts.{space_against}
-use Rattle.hac_core.specs.Spaces.{AsksFirst, first_space, has_terms}
-
--- where nothing is kept, no answer is there for a term, if there is one
-none-kept : (q : Formula ℕ) → list_all (is_kept []) (terms_of q) ≡ not (has_terms q)
-none-kept (query.Term term) = refl
-none-kept (query.Dir dir) = refl
-none-kept (query.Not q) = none-kept q
-none-kept (query.And p q) = list_all-append (is_kept []) (terms_of p) (terms_of q) ∙ (λ i. none-kept p i && none-kept q i) ∙ neither (has_terms p) (has_terms q)
-  where
-    neither : (a b : Bool) → (not a && not b) ≡ not (a || b)
-    neither true b = refl
-    neither false b = refl
-none-kept (query.Or p q) = list_all-append (is_kept []) (terms_of p) (terms_of q) ∙ (λ i. none-kept p i && none-kept q i) ∙ neither (has_terms p) (has_terms q)
-  where
-    neither : (a b : Bool) → (not a && not b) ≡ not (a || b)
-    neither true b = refl
-    neither false b = refl
-
-knows-none : (q : Formula ℕ) (body : Body) → answers_in body ≡ [] → knows_all q body ≡ (not (is_mount body) || not (has_terms q))
-knows-none q body none = ap (λ (answers : List Answer). not (is_mount body) || list_all (is_kept answers) (terms_of q)) none ∙ ap (λ (b : Bool). not (is_mount body) || b) (none-kept q)
-
--- a query with no terms asks no mount, and any other the first one
-asked-in : (q : Formula ℕ) (es : List Entry) → AllByRecursion (λ entry. answers_in entry.body ≡ []) es → first_asked_in q es ≡ cond (has_terms q) (first_space es) None
-asked-in q [] none = elim (has_terms q) as (λ b. None ≡ cond b (first_space []) None) [ true ↦ refl | false ↦ refl ]
-asked-in q (e ∷ es) none =
-    ap (λ (b : Bool). cond b (first_asked_in q es) (space_in e.body)) (knows-none q e.body none.0)
-    ∙ ap (λ (o : Option (List ℕ)). cond (not (is_mount e.body) || not (has_terms q)) o (space_in e.body)) (asked-in q es none.1)
-    ∙ at (is_mount e.body) (has_terms q)
-  where
-    at : (m t : Bool) → cond (not m || not t) (cond t (first_space es) None) (space_in e.body) ≡ cond t (cond m (space_in e.body) (first_space es)) None
-    at true true = refl
-    at true false = refl
-    at false true = refl
-    at false false = refl
-
--- no entry keeps an answer where none has any by its number
-untold : (above : ℕ) (es : List Entry) (next : ℕ) → NumbersRise above es next → ((n : ℕ) → option_map_or answers_in (body_at es n) [] ≡ []) → AllByRecursion (λ entry. answers_in entry.body ≡ []) es
-untold above [] next h none = tt
-untold above (e ∷ es) next h none =
-    (sym (ap (λ (o : Option Entry). option_map_or answers_in (option_map (λ (e : Entry). e.body) o) []) (entry_at-first e es)) ∙ none e.number, untold e.number es next h.1 (λ n. rest n))
-  where
-    rest : (n : ℕ) → option_map_or answers_in (body_at es n) [] ≡ []
-    rest n = elim (cases_lt e.number n) [
-      | inl less ↦ ap (λ (o : Option Entry). option_map_or answers_in (option_map (λ (e : Entry). e.body) o) []) (sym (entry_at-behind e es n (λ same. omega arith))) ∙ none n
-      | inr more ↦ ap (λ (o : Option Entry). option_map_or answers_in (option_map (λ (e : Entry). e.body) o) []) (entry_at-low e.number es next n h.1 (omega arith))
-    ]
+use Rattle.hac_core.specs.Spaces.{asked_at}
 
 -- without mounts there is none to be asked
 unmounted : (q : Formula ℕ) (es : List Entry) → mount_count es ≡ 0 → first_asked_in q es ≡ None
@@ -95,69 +41,94 @@ unmounted q (e ∷ es) none = at (is_mount e.body) refl (λ rest. unmounted q es
 pub asks-unmounted : (s : State) (q : Formula ℕ) → mount_count s.entries ≡ 0 → first_asked s q ≡ None
 asks-unmounted s q none = unmounted q s.entries none
 
--- The first mount, by number.
+-- The first mount that has to be asked, by number.
 
-abbrev space_of : List Entry → ℕ → Option (List ℕ)
-space_of es n = option_and_then space_in (body_at es n)
+abbrev asks : Formula ℕ → Body → Option (List ℕ)
+asks q body = if knows_all q body then None else space_in body
 
--- what shows a space is a mount
-shows : (body : Body) (space : List ℕ) → space_in body ≡ Some space → is_mount body ≡ true
-shows (Mount own answers) space is = refl
-shows other space is = absurd cc
+abbrev pub asked_of : Formula ℕ → List Entry → ℕ → Option (List ℕ)
+asked_of q es n = option_and_then (asks q) (body_at es n)
 
--- what shows none isn't
-hides : (body : Body) → space_in body ≡ None → is_mount body ≡ false
-hides (Mount own answers) is = absurd cc
-hides other is = refl
+-- what a mount has to be asked for is not among its answers
+not-asked : (q : Formula ℕ) (body : Body) → asks q body ≡ None → knows_all q body ≡ true
+not-asked q (Mount space answers) none = elim (list_all (is_kept answers) (terms_of q)) as (λ b. (if b then None else Some space) ≡ None → b ≡ true) [ true ↦ (λ _. refl) | false ↦ (λ none. absurd cc) ] none
+not-asked q other none = refl
 
-first-of : (e : Entry) (es : List Entry) → space_of (e ∷ es) e.number ≡ space_in e.body
-first-of e es = ap (λ (o : Option Entry). option_and_then space_in (option_map (λ (e : Entry). e.body) o)) (entry_at-first e es)
+asked : (q : Formula ℕ) (body : Body) (space : List ℕ) → asks q body ≡ Some space → (knows_all q body ≡ false) × (space_in body ≡ Some space)
+asked q body space is = elim (knows_all q body) as (λ b. (if b then None else space_in body) ≡ Some space → (b ≡ false) × (space_in body ≡ Some space)) [ true ↦ (λ is. absurd cc) | false ↦ (λ is. (refl, is)) ] is
 
-behind : (e : Entry) (es : List Entry) (n : ℕ) → (e.number ≡ n → ⊥) → space_of es n ≡ space_of (e ∷ es) n
-behind e es n other = ap (λ (o : Option Entry). option_and_then space_in (option_map (λ (e : Entry). e.body) o)) (sym (entry_at-behind e es n other))
+first-of : (q : Formula ℕ) (e : Entry) (es : List Entry) → asked_of q (e ∷ es) e.number ≡ asks q e.body
+first-of q e es = ap (λ (o : Option Entry). option_and_then (asks q) (option_map (λ (e : Entry). e.body) o)) (entry_at-first e es)
 
-skips : (e : Entry) (es : List Entry) → space_in e.body ≡ None → first_space (e ∷ es) ≡ first_space es
-skips e es is = ap (λ (b : Bool). cond b (space_in e.body) (first_space es)) (hides e.body is)
+behind : (q : Formula ℕ) (e : Entry) (es : List Entry) (n : ℕ) → (e.number ≡ n → ⊥) → asked_of q es n ≡ asked_of q (e ∷ es) n
+behind q e es n other = ap (λ (o : Option Entry). option_and_then (asks q) (option_map (λ (e : Entry). e.body) o)) (sym (entry_at-behind e es n other))
 
-pub no-space : (above : ℕ) (es : List Entry) (next : ℕ) → NumbersRise above es next → ((m : ℕ) → m < next → space_of es m ≡ None) → first_space es ≡ None
-no-space above [] next h none = refl
-no-space above (e ∷ es) next h none =
-    let low : e.number < next = rise-below e.number es next h.1 in
-    let here : space_in e.body ≡ None = sym (first-of e es) ∙ none e.number low in
-    skips e es here ∙ no-space e.number es next h.1 (λ m below. rest m below)
+low : (q : Formula ℕ) (above : ℕ) (es : List Entry) (next n : ℕ) → NumbersRise above es next → n < above + 1 → asked_of q es n ≡ None
+low q above es next n h under = ap (λ (o : Option Entry). option_and_then (asks q) (option_map (λ (e : Entry). e.body) o)) (entry_at-low above es next n h (omega arith))
+
+skips : (q : Formula ℕ) (e : Entry) (es : List Entry) → asks q e.body ≡ None → first_asked_in q (e ∷ es) ≡ first_asked_in q es
+skips q e es is = ap (λ (b : Bool). cond b (first_asked_in q es) (space_in e.body)) (not-asked q e.body is)
+
+pub none-asked : (q : Formula ℕ) (above : ℕ) (es : List Entry) (next : ℕ) → NumbersRise above es next → ((m : ℕ) → m < next → asked_of q es m ≡ None) → first_asked_in q es ≡ None
+none-asked q above [] next h none = refl
+none-asked q above (e ∷ es) next h none =
+    let under : e.number < next = rise-below e.number es next h.1 in
+    let here : asks q e.body ≡ None = sym (first-of q e es) ∙ none e.number under in
+    skips q e es here ∙ none-asked q e.number es next h.1 (λ m below. rest m below)
   where
-    rest : (m : ℕ) → m < next → space_of es m ≡ None
+    rest : (m : ℕ) → m < next → asked_of q es m ≡ None
     rest m below = elim (cases_lt e.number m) [
-      | inl less ↦ behind e es m (λ same. omega arith) ∙ none m below
-      | inr more ↦ ap (λ (o : Option Entry). option_and_then space_in (option_map (λ (e : Entry). e.body) o)) (entry_at-low e.number es next m h.1 (omega arith))
+      | inl less ↦ behind q e es m (λ same. omega arith) ∙ none m below
+      | inr more ↦ low q e.number es next m h.1 (omega arith)
     ]
 
--- a space that some entry shows, where none before it shows one
-pub first-space : (above : ℕ) (es : List Entry) (next n : ℕ) (space : List ℕ) → NumbersRise above es next → ((m : ℕ) → m < n → space_of es m ≡ None) → space_of es n ≡ Some space → first_space es ≡ Some space
-first-space above [] next n space h none is = absurd cc
-first-space above (e ∷ es) next n space h none is = elim (cases_lt e.number n) [
+-- a space that has to be asked, where none before it has to be
+pub first-one : (q : Formula ℕ) (above : ℕ) (es : List Entry) (next n : ℕ) (space : List ℕ) → NumbersRise above es next → ((m : ℕ) → m < n → asked_of q es m ≡ None) → asked_of q es n ≡ Some space → first_asked_in q es ≡ Some space
+first-one q above [] next n space h none is = absurd cc
+first-one q above (e ∷ es) next n space h none is = elim (cases_lt e.number n) [
   | inl less ↦
-      (let here : space_in e.body ≡ None = sym (first-of e es) ∙ none e.number less in
-      skips e es here ∙ first-space e.number es next n space h.1 (λ m below. before m below) (behind e es n (λ same. omega arith) ∙ is))
+      (let here : asks q e.body ≡ None = sym (first-of q e es) ∙ none e.number less in
+      skips q e es here ∙ first-one q e.number es next n space h.1 (λ m below. before m below) (behind q e es n (λ same. omega arith) ∙ is))
   | inr more ↦ elim (cases_lt n e.number) [
     | inl below ↦
-        (let nothing : space_of es n ≡ None = ap (λ (o : Option Entry). option_and_then space_in (option_map (λ (e : Entry). e.body) o)) (entry_at-low e.number es next n h.1 (omega arith)) in
-        let shown : space_of es n ≡ Some space = behind e es n (λ same. omega arith) ∙ is in
+        (let nothing : asked_of q es n ≡ None = low q e.number es next n h.1 (omega arith) in
+        let shown : asked_of q es n ≡ Some space = behind q e es n (λ same. omega arith) ∙ is in
         absurd cc)
     | inr least ↦
         (let same : n ≡ e.number = omega arith in
-        let shown : space_in e.body ≡ Some space = sym (first-of e es) ∙ sym (ap (space_of (e ∷ es)) same) ∙ is in
-        ap (λ (b : Bool). cond b (space_in e.body) (first_space es)) (shows e.body space shown) ∙ shown)
+        let told = asked q e.body space (sym (first-of q e es) ∙ sym (ap (asked_of q (e ∷ es)) same) ∙ is) in
+        ap (λ (b : Bool). cond b (first_asked_in q es) (space_in e.body)) told.0 ∙ told.1)
   ]
 ]
   where
-    before : (m : ℕ) → m < n → space_of es m ≡ None
+    before : (m : ℕ) → m < n → asked_of q es m ≡ None
     before m below = elim (cases_lt e.number m) [
-      | inl less ↦ behind e es m (λ same. omega arith) ∙ none m below
-      | inr more ↦ ap (λ (o : Option Entry). option_and_then space_in (option_map (λ (e : Entry). e.body) o)) (entry_at-low e.number es next m h.1 (omega arith))
+      | inl less ↦ behind q e es m (λ same. omega arith) ∙ none m below
+      | inr more ↦ low q e.number es next m h.1 (omega arith)
     ]
 
--- Two states whose trees are one, and which want the same space to be asked.
+never : (b : Bool) (o : Option (List ℕ)) → o ≡ None → (if b then None else o) ≡ None
+never true o none = refl
+never false o none = none
+
+-- whether a mount has to be asked is told by its number
+pub asked-told : (s : State) (q : Formula ℕ) (n : ℕ) → asked_at s q n ≡ asked_of q s.entries n
+asked-told s q n = at (body_at s.entries n)
+  where
+    at : (o : Option Body) → (if list_all (is_kept (option_map_or answers_in o [])) (terms_of q) then None else option_and_then space_in o) ≡ option_and_then (asks q) o
+    at None = never (list_all (is_kept []) (terms_of q)) None refl
+    at (Some (Mount space answers)) = refl
+    at (Some (File text dirty shown)) = never (list_all (is_kept []) (terms_of q)) None refl
+    at (Some Dir) = never (list_all (is_kept []) (terms_of q)) None refl
+    at (Some (Symlink target)) = never (list_all (is_kept []) (terms_of q)) None refl
+    at (Some (Semantic query permanent prohibited)) = never (list_all (is_kept []) (terms_of q)) None refl
+    at (Some Document) = never (list_all (is_kept []) (terms_of q)) None refl
+
+-- what shows no space has none to be asked
+pub none-at : (s : State) (q : Formula ℕ) (n : ℕ) → space_at s n ≡ None → asked_at s q n ≡ None
+none-at s q n none = never (list_all (is_kept (answers_at s n)) (terms_of q)) (space_at s n) none
+
+-- Two states whose trees are one.
 
 space-bare : (s : State) (n : ℕ) → space_at (bare s) n ≡ space_at s n
 space-bare s n = ap (λ (o : Option Entry). option_and_then space_in (option_map (λ (e : Entry). e.body) o)) (entry_at-bare s n) ∙ at (entry_at s.entries n)
@@ -171,38 +142,12 @@ space-bare s n = ap (λ (o : Option Entry). option_and_then space_in (option_map
     at None = refl
     at (Some e) = body e.body
 
-first-bare : (es : List Entry) → first_space (map (edited bare_body) es) ≡ first_space es
-first-bare [] = refl
-first-bare (e ∷ es) = at e.body (first_space (map (edited bare_body) es)) (first_space es) (first-bare es)
-  where
-    at : (body : Body) (one other : Option (List ℕ)) → one ≡ other → cond (is_mount (bare_body body)) (space_in (bare_body body)) one ≡ cond (is_mount body) (space_in body) other
-    at (Mount space answers) one other same = refl
-    at (File text dirty shown) one other same = same
-    at Dir one other same = same
-    at (Symlink target) one other same = same
-    at (Semantic query permanent prohibited) one other same = same
-    at Document one other same = same
-
-module _ (s t : State) (bares : bare s ≡ bare t) (asked : (q : Formula ℕ) → first_asked s q ≡ first_asked t q) where
-  same-space : (n : ℕ) → space_at s n ≡ space_at t n
+module _ (s t : State) (bares : bare s ≡ bare t) where
+  pub same-space : (n : ℕ) → space_at s n ≡ space_at t n
   same-space n = alike s t bares (λ s. space_at s n) (λ s. space-bare s n)
 
-  pub same-spaces : (r : Resolved) → space_cause s r ≡ space_cause t r
-  same-spaces (Cat entry) =
+  -- the space of a document's mount has its text
+  pub same-text : (entry : ℕ) → text_cause s entry ≡ text_cause t entry
+  same-text entry =
       (λ i. cond (same-document s t bares entry i) (unattached (same-space (parent_of s entry) i)) None)
       ∙ ap (λ (n : ℕ). cond (is_document_at t.entries entry) (unattached (space_at t n)) None) (same-parent s t bares entry)
-  same-spaces (Smkdir place query) = ap unattached (asked query)
-  same-spaces (Setq dir query) = ap unattached (asked query)
-  same-spaces (Find query) = ap unattached (asked query)
-  same-spaces other = refl
-
-  pub same-answered : (e : Event) → space_against s e ≡ space_against t e
-  same-answered (event.Smkdir dir name query told) = ap unattached (asked query)
-  same-answered (event.Setq dir query told) = ap unattached (asked query)
-  same-answered other = refl
-
-  -- so the tree has to ask the first mount where the state keeps no answer
-  pub tree-asks : IsLayout s → ((n : ℕ) → answers_at s n ≡ []) → AsksFirst t
-  tree-asks h none q =
-      sym (asked q) ∙ asked-in q s.entries (untold 0 s.entries s.next h.numbers none)
-      ∙ ap (λ (o : Option (List ℕ)). cond (has_terms q) o None) (alike s t bares (λ s. first_space s.entries) (λ s. first-bare s.entries))

@@ -1,15 +1,24 @@
 -- Whether an event that no command made can happen.
-use Rattle.std.specs.Prelude.{◌≡◌, Bool, ◌&&◌, false, is_none, IsTrue, Option, None, Some}
+use Rattle.std.specs.Prelude.{◌≡◌, Bool, ◌&&◌, true, false, is_none, IsTrue, Option, None, Some}
 use Rattle.hac_model.specs.Tree.Events.{accepted, apply}
 use Rattle.hac_model.specs.Tree.Limits.{answer_limits, counts, first_passed, layout_limits}
 use Rattle.hac_model.specs.declared.counts.Counts.{Counts}
 use Rattle.hac_model.specs.declared.events.Event.{Event}
+use Rattle.hac_model.specs.declared.events.Event.TheVariants.{Smkdir, Setq, Smount, Ssync}
 use Rattle.hac_model.specs.declared.states.State.{State}
 use Rattle.hac_core.specs.declared.drafts.Change.{Change}
 
 -- the counts exceed no limit
 abbrev pub passes_none : Counts → Bool
 passes_none counts = is_none (first_passed (layout_limits counts)) && is_none (first_passed (answer_limits counts))
+
+-- the event asks spaces, or has what one told
+abbrev pub asks_spaces : Event → Bool
+asks_spaces (Smkdir dir name query told) = true
+asks_spaces (Setq dir query told) = true
+asks_spaces (Smount dir name space documents told) = true
+asks_spaces (Ssync mount documents told) = true
+asks_spaces other = false
 
 -- the event can happen, and the state then holds so much; or it can't
 abbrev pub IsWithin : State → Event → Option Counts → Type 0

@@ -1,17 +1,17 @@
 //! Whether an event can happen to the state, wherever it comes from. Commands make only such
 //! events; a log may hold any.
-ghost use Rattle.std.specs.Prelude.{◌≡◌, ◌==◌, ◌&&◌, length, IfOk, IsTrue, is_none};
+ghost use Rattle.std.specs.Prelude.{◌≡◌, ◌==◌, ◌&&◌, false, length, IfOk, IsTrue, is_none};
 ghost use Rattle.hac_model.specs.Script.PathWords.{is_target};
 ghost use Rattle.hac_model.specs.Tree.{is_leaf_at};
 ghost use Rattle.hac_model.specs.Tree.Events.{first_asked, is_clear, is_free, is_made_holder};
 ghost use Rattle.hac_model.specs.Tree.Events.{is_placed, may_ask};
 ghost use Rattle.hac_model.specs.Tree.Limits.{is_text};
-ghost use Rattle.hac_core.specs.Fitting.{FitsAs, IsWithin, passes_none};
-ghost use Rattle.hac_core.specs.Spaces.{AsksFirst};
+ghost use Rattle.hac_core.specs.Fitting.{FitsAs, IsWithin, asks_spaces, passes_none};
 
 use crate::asking::may_ask;
 use crate::blocking::is_inside;
 use crate::drafts::Change;
+use crate::mounting::{may_mount, may_sync};
 use crate::spaces::first_asked;
 use file_tree::Tree;
 use hac_model::{
@@ -43,7 +43,7 @@ pub fn fits(alloc: Global, kept: &KeptState, event: Event) -> Result<Option<Chan
 fn within(alloc: Global, kept: &KeptState, event: &Event) -> Result<Option<Counts>, Memory>
     ensures { IfOk result (IsWithin kept.now.state event.now) }
 {
-    if !is_placed(kept, event) {
+    if !is_placed(alloc, kept, event)? {
         return Ok(None);
     }
     let counts = kept.counts_after(event);
@@ -57,17 +57,35 @@ fn within(alloc: Global, kept: &KeptState, event: &Event) -> Result<Option<Count
     }
 }
 
-/// Whether what an event refers to is in the tree. What no command makes yet is nowhere.
-fn is_placed(kept: &KeptState, event: &Event) -> bool
-    ensures { result ≡ is_placed kept.now.state event.now }
+/// Whether what an event refers to is in the tree.
+fn is_placed(alloc: Global, kept: &KeptState, event: &Event) -> Result<bool, Memory>
+    ensures { IfOk result (λ is. is ≡ is_placed kept.now.state event.now) }
 {
-    kept.know_no_answers();
-    is_placed_in(kept.tree(), event)
+    match event {
+        Event::Smkdir {
+            dir,
+            name,
+            query,
+            told,
+        } => Ok(has_room(kept, *dir, name) && may_be_asked(kept, query, told)),
+        Event::Setq { dir, query, told } => {
+            Ok(is_holder(kept, *dir) && may_be_asked(kept, query, told))
+        }
+        Event::Smount {
+            dir,
+            name,
+            space,
+            docs,
+            told,
+        } => may_mount(alloc, kept, *dir, name, space, docs, told),
+        Event::Ssync { mount, docs, told } => may_sync(alloc, kept, *mount, docs, told),
+        _ => Ok(is_placed_in(kept.tree(), event)),
+    }
 }
 
-/// The same by the tree alone.
+/// The same by the tree alone, where the event neither asks a space nor has what one told.
 fn is_placed_in(tree: &Tree, event: &Event) -> bool
-    requires { AsksFirst tree.now.state }
+    requires { asks_spaces event.now ≡ false }
     ensures { result ≡ is_placed tree.now.state event.now }
 {
     match event {
@@ -75,15 +93,6 @@ fn is_placed_in(tree: &Tree, event: &Event) -> bool
         Event::NewFile { dir, name, text } => is_free(tree, *dir, name) && is_text(text),
         Event::Rewrite { file, text } => tree.is_file(*file) && is_text(text),
         Event::Ln { dir, name, target } => is_free(tree, *dir, name) && is_target(target),
-        Event::Smkdir {
-            dir,
-            name,
-            query,
-            told,
-        } => is_free(tree, *dir, name) && may_be_asked(tree, query, told),
-        Event::Setq { dir, query, told } => {
-            is_made_holder(tree, *dir) && may_be_asked(tree, query, told)
-        }
         Event::Unq { dir } => tree.query(*dir).is_some(),
         Event::Mark(mark) => tree.is_item(mark.item) && tree.query(mark.dir).is_some(),
         Event::Mv { entry, dir, name } => may_go(tree, *entry, *dir, name),
@@ -93,7 +102,10 @@ fn is_placed_in(tree: &Tree, event: &Event) -> bool
         Event::Cd { session, dir } => {
             is_space_name(session.as_bytes()) && tree.is_directory(*dir)
         }
-        Event::Smount { .. } | Event::Ssync { .. } | Event::Sumount { .. } => false,
+        Event::Sumount { mount } => tree.is_mount(*mount),
+        Event::Smkdir { .. } | Event::Setq { .. } | Event::Smount { .. } | Event::Ssync { .. } => {
+            unreachable!()
+        }
     }
 }
 
@@ -111,7 +123,9 @@ fn is_clear(alloc: Global, kept: &KeptState, event: &Event) -> Result<bool, Memo
             let way = kept.cycle_of_move(alloc, *entry, *dir)?;
             Ok(way.is_none())
         }
-        Event::Rmdir { dir } => Ok(is_unreferenced(kept, *dir)? && !kept.is_busy(*dir)),
+        Event::Rmdir { dir } | Event::Sumount { mount: dir } => {
+            Ok(is_unreferenced(kept, *dir)? && !kept.is_busy(*dir))
+        }
         Event::Cd { session, dir } => Ok(kept.has_place_for(session, *dir)),
         Event::Mark(mark) => may_mark(alloc, kept, *mark),
         _ => Ok(true),
@@ -127,7 +141,7 @@ fn passes_none(counts: Counts) -> bool
 }
 
 /// Whether an entry of a name can be put into a directory, which isn't a mount.
-fn is_free(tree: &Tree, dir: Number, name: &Name) -> bool
+pub fn is_free(tree: &Tree, dir: Number, name: &Name) -> bool
     ensures { result ≡ is_free tree.now.state dir name.now }
 {
     tree.is_directory(dir)
@@ -172,12 +186,34 @@ fn is_leaf(tree: &Tree, number: Number) -> bool
 }
 
 /// Whether a query may be asked without asking a space, and none answered anything.
-fn may_be_asked(tree: &Tree, query: &Query<Number>, told: &Seq<Seq<Number>>) -> bool
-    requires { AsksFirst tree.now.state }
-    ensures { result ≡ may_ask tree.now.state query.now
-        && (is_none (first_asked tree.now.state query.now) && length told.now == 0) }
+fn may_be_asked(kept: &KeptState, query: &Query<Number>, told: &Seq<Seq<Number>>) -> bool
+    ensures { result ≡ may_ask kept.now.state query.now
+        && (is_none (first_asked kept.now.state query.now) && length told.now == 0) }
 {
-    may_ask(tree, query) && first_asked(tree, query).is_none() && told.as_slice().is_empty()
+    names_directories(kept, query)
+        && first_asked(kept, query).is_none()
+        && told.as_slice().is_empty()
+}
+
+/// `is_free` of the tree of a state.
+fn has_room(kept: &KeptState, dir: Number, name: &Name) -> bool
+    ensures { result ≡ is_free kept.now.state dir name.now }
+{
+    is_free(kept.tree(), dir, name)
+}
+
+/// `is_made_holder` of the tree of a state.
+fn is_holder(kept: &KeptState, dir: Number) -> bool
+    ensures { result ≡ is_made_holder kept.now.state dir }
+{
+    is_made_holder(kept.tree(), dir)
+}
+
+/// `may_ask` of the tree of a state.
+fn names_directories(kept: &KeptState, query: &Query<Number>) -> bool
+    ensures { result ≡ may_ask kept.now.state query.now }
+{
+    may_ask(kept.tree(), query)
 }
 
 /// Whether an entry may go to a directory under a name, limits and queries left out.

@@ -13,9 +13,11 @@ mod events;
 mod fitting;
 mod machine;
 mod marking;
+mod mounting;
 mod resolving;
 mod sessions;
 mod spaces;
+mod telling;
 
 pub use drafts::{Change, Draft, Settled};
 pub use machine::Machine;

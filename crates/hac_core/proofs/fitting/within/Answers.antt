@@ -2,8 +2,8 @@ use Rattle.std.proofs.Common.{sym, ◌∙◌}
 use Rattle.hac_core.proofs.FittingLemmas.{accepts, not-placed, not-within}
 use Rattle.hac_core.proofs.fitting.within.Goals as goal
 
-pub returns-then-not-is_placed : goal.returns-then-not-is_placed
-returns-then-not-is_placed c = not-placed c.args.kept.now.state c.args.event.now (sym c.is_placed.ensures ∙ c.if-not-is_placed.true)
+pub returns-then-not-branch : goal.returns-then-not-branch
+returns-then-not-branch c = not-placed c.args.kept.now.state c.args.event.now (sym c.in_ok-is_placed.ensures ∙ c.if-not-branch.true)
 
 pub returns-then-not-passes_none : goal.returns-then-not-passes_none
 returns-then-not-passes_none c =
@@ -11,7 +11,7 @@ returns-then-not-passes_none c =
 
 pub returns-then-branch : goal.returns-then-branch
 returns-then-branch c =
-    let placed = sym c.is_placed.ensures ∙ c.if-not-is_placed.false in
+    let placed = sym c.in_ok-is_placed.ensures ∙ c.if-not-branch.false in
     let within = sym c.passes_none.ensures ∙ c.if-not-passes_none.false in
     let clear = sym c.in_ok-is_clear.ensures ∙ c.if-branch.true in
     (accepts c.args.kept.now.state c.args.event.now c.counts_after-counts.result placed c.counts_after-counts.ensures within clear, c.counts_after-counts.ensures)
