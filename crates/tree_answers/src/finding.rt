@@ -1,10 +1,9 @@
 //! The links that queries give to directories, found anew where a command asks for them.
-ghost use Rattle.std.specs.Prelude.{◌≡◌, ◌≤◌, ℕ, false, IfOk, IsTrue, OnOk};
+ghost use Rattle.std.specs.Prelude.{◌≡◌, ◌≤◌, false, IfOk, IsTrue, OnOk};
 ghost use Rattle.std.specs.Option.{option_map_or};
 ghost use Rattle.hac_model.specs.Query.Words.{has_term};
 ghost use Rattle.hac_model.specs.Tree.Links.{atom, column, has, holds, is_item, is_unmarked, kept_at};
 ghost use Rattle.hac_model.specs.Tree.Links.{links, parent_of, provide, satisfies, shown_of};
-ghost use Rattle.hac_model.specs.declared.terms.Term.{Term};
 ghost use Rattle.link_kinds.specs.Seen.{LinkListsRise, transient_in};
 ghost use Rattle.tree_answers.specs.Finding.{AreFound, GetsFound, GetsOne, finds};
 
@@ -32,20 +31,19 @@ impl<'a> Atoms for Sight<'a> {
 
     fn has(&self, term: &Term, item: Number) -> bool {
         if is_document(self.kept, item) {
-            document_has(self.kept)
+            document_has(self.kept, term, item)
         } else {
             text_has(self.kept, term, item)
         }
     }
 }
 
-/// Whether a document has a term, by what its mount keeps. No answers are kept yet, so it has none.
-fn document_has(kept: &KeptState) -> bool
-    ensures { (mount : ℕ) (term : Term) (item : ℕ) →
-        result ≡ has (kept_at kept.now.state mount term) item }
+/// Whether a document has a term, by what its mount keeps.
+fn document_has(kept: &KeptState, term: &Term, item: Number) -> bool
+    ensures { result
+        ≡ has (kept_at kept.now.state (parent_of kept.now.state item) term.now) item }
 {
-    kept.know_no_answers();
-    false
+    kept.has_answer(parent_of(kept, item), term, item)
 }
 
 /// Whether the text of an item, as it was last indexed, has a term.
