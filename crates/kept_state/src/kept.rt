@@ -6,7 +6,7 @@ ghost use Rattle.hac_model.specs.Laws.{AllHappen};
 ghost use Rattle.hac_model.specs.Tree.Limits as limits;
 ghost use Rattle.hac_model.specs.Tree.Limits.{counts};
 ghost use Rattle.hac_model.specs.Tree.Links.{answers_at, has, kept_at, parent_of};
-ghost use Rattle.hac_model.specs.Tree.Mounts.{is_kept};
+ghost use Rattle.hac_model.specs.Tree.Mounts.{is_kept, terms_to_ask};
 ghost use Rattle.hac_model.specs.Tree.{empty, path_of};
 ghost use Rattle.hac_model.specs.Tree.Sessions.{are_few, is_busy, is_stored, least_name};
 ghost use Rattle.hac_model.specs.Tree.Sessions.{sessions_with, stands_in, visitors};
@@ -16,6 +16,7 @@ ghost use Rattle.kept_state.specs.Readers.{AreEdgesOf, AreMarksOf, IsTreeOf, mar
 
 use crate::parts::Parts;
 use crate::ready::{Ready, prepare, put};
+use crate::terms::terms_to_ask;
 use crate::{edges, sessions};
 use dep_graph::Graph;
 use file_tree::Tree;
@@ -91,6 +92,15 @@ impl KeptState {
         ensures { result ≡ has (kept_at self.now.state mount term.now) document }
     {
         self.parts.answers.has(mount, term, document)
+    }
+
+    /// The terms that a space is asked for as it is mounted, and as its mount is synced: those in
+    /// use, in order.
+    pub fn terms_to_ask(&self, alloc: Global) -> Result<Seq<Term>, Memory>
+        ensures { IfOk result (λ terms. terms ≡ terms_to_ask self.now.state.entries) }
+    {
+        let terms = terms_to_ask(alloc, self.tree())?;
+        Ok(Seq::new(terms))
     }
 
     /// How much the state holds.
