@@ -1,11 +1,11 @@
 -- A query counts for nothing, so what a state holds after an event doesn't depend on it.
 use Rattle.std.proofs.Common.{◌≡◌, ℕ, ◌+◌, Bool, true, false, cond, List, [], ◌∷◌, ◌++◌, map, refl, ap, sym, ◌∙◌, arith}
-use Rattle.std.specs.Prelude.{◌==◌, ◌&&◌, ◌||◌, not, is_none, Some, None}
+use Rattle.std.specs.Prelude.{◌==◌, ◌||◌, not, None}
 use Rattle.hac_model.specs.Query.Formula.{Formula}
 use Rattle.hac_model.specs.Query.Formula as query
-use Rattle.hac_model.specs.Tree.Events.{added, apply, asking, changed_at, changed_in, edited, first_asked, first_asked_in}
+use Rattle.hac_model.specs.Tree.Events.{added, apply, asking, changed_at, changed_in, edited, first_asked_in}
 use Rattle.hac_model.specs.Tree.Limits.{counts, file_bytes}
-use Rattle.hac_model.specs.Tree.{is_directory, is_dirty, is_document, is_file, is_linkable, is_mount, is_symlink, space_in}
+use Rattle.hac_model.specs.Tree.{is_directory, is_dirty, is_file, is_linkable, is_mount, is_symlink, space_in}
 use Rattle.hac_model.specs.declared.events.Event.{Event}
 use Rattle.hac_model.specs.declared.events.Event.TheVariants.{Smkdir, Setq}
 use Rattle.hac_model.specs.declared.states.Body.{Body}

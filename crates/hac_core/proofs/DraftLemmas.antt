@@ -5,7 +5,7 @@ use Rattle.std.specs.Option.{option_map, option_map_or}
 use Rattle.hac_model.specs.Laws.{AllHappen}
 use Rattle.hac_model.specs.Run.Answers.{Passes, Refuses, first_cause}
 use Rattle.hac_model.specs.Run.Given.{no_answers}
-use Rattle.hac_model.specs.Run.Refusals.{answer_cause, blocking_cause, cause, cycle_against, cycle_cause, early_cause, event_of, events_of, layout_cause, led_to, space_cause, unattached}
+use Rattle.hac_model.specs.Run.Refusals.{answer_cause, blocking_cause, cause, cycle_against, cycle_cause, early_cause, event_of, events_of, led_to, space_cause, unattached}
 use Rattle.hac_model.specs.Run.Standing.{AllStand}
 use Rattle.hac_model.specs.Query.Formula as query
 use Rattle.hac_model.specs.Tree.Events.{apply_all, dirty, first_asked, is_placed}

@@ -1,17 +1,16 @@
 -- Which documents a mount has where it comes or is synced.
-use Rattle.std.proofs.Common.{◌≡◌, ℕ, ◌+◌, ◌<◌, ◌≤◌, Bool, true, false, List, [], ◌∷◌, ◌++◌, length, refl, ap, sym, ◌∙◌, arith, eq-eqb, inl, inr}
-use Rattle.std.specs.Prelude.{◌&&◌, ◌||◌, ◌==◌, not, if◌then◌else◌, nat_le, nat_lt, Option, Some, None, option_and_then}
+use Rattle.std.proofs.Common.{◌≡◌, ℕ, ◌+◌, ◌<◌, Bool, true, false, List, [], ◌∷◌, ◌++◌, length, refl, ap, sym, ◌∙◌, arith, eq-eqb, inl, inr}
+use Rattle.std.specs.Prelude.{◌&&◌, ◌||◌, ◌==◌, not, if◌then◌else◌, Option, Some, None, option_and_then}
 use Rattle.std.specs.Option.{option_map, option_map_or}
-use Rattle.std.specs.List.{AllByRecursion, list_all}
 use Rattle.std.proofs.lemmas.Bool.{cases_lt, eqb-true, ne_eqb}
 use Rattle.std.proofs.lemmas.Bool.Decides.{nat_tests}
-use Rattle.hac_model.specs.Tree.Events.{added, changed_at, edited, is_free}
-use Rattle.hac_model.specs.Tree.Mounting.{are_told, cleared, do_rise_from, documents_from, forgetting_such, fresh, is_among, is_document_of, is_gone, is_such_at, keeping, mounted, redocumented, synced, with_documents, without_such}
+use Rattle.hac_model.specs.Tree.Events.{added, edited}
+use Rattle.hac_model.specs.Tree.Mounting.{are_told, cleared, documents_from, forgetting_such, fresh, is_among, is_document_of, is_gone, is_such_at, keeping, mounted, redocumented, synced, with_documents, without_such}
 use Rattle.hac_model.specs.Tree.Valid.{IsLayout, NumbersRise, is_in_place}
 use Rattle.hac_model.specs.Tree.{entry_at, is_document}
 use Rattle.hac_model.specs.declared.states.Answer.{Answer}
 use Rattle.hac_model.specs.declared.states.Body.{Body}
-use Rattle.hac_model.specs.declared.states.Body.TheVariants.{File, Dir, Symlink, Semantic, Mount, Document}
+use Rattle.hac_model.specs.declared.states.Body.TheVariants.{Mount, Document}
 use Rattle.hac_model.specs.declared.states.Entry.{Entry}
 use Rattle.hac_model.specs.declared.states.State.{State}
 use Rattle.hac_model.specs.declared.terms.Term.{Term}
@@ -22,7 +21,7 @@ use Rattle.hac_model.proofs.MapLemmas.{entry_at-mapped}
 use Rattle.hac_model.proofs.MountAskLemmas.{entry_at-filter, passing}
 use Rattle.hac_model.proofs.MountLayoutLemmas.{cleared-fits, entry_at-documents, gone-stays, such-document}
 use Rattle.hac_model.proofs.TreeLemmas.{entry_at-all, entry_at-next, place-directory}
-use Rattle.hac_model.proofs.ValidLemmas.{directory-below, free-parts}
+use Rattle.hac_model.proofs.ValidLemmas.{directory-below}
 use Rattle.hac_core.specs.Mounting.{are_told_by, is_kept_document, is_one_of, name_at, will_have}
 
 -- Documents come.

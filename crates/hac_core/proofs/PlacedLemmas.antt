@@ -1,5 +1,5 @@
 -- What an event refers to is in a tree just where it is in the state whose tree it is.
-use Rattle.std.proofs.Common.{◌≡◌, ℕ, ◌+◌, ◌^◌, ◌<◌, Bool, true, false, cond, List, [], ◌∷◌, length, map, refl, ap, sym, ◌∙◌, arith}
+use Rattle.std.proofs.Common.{◌≡◌, ℕ, ◌+◌, ◌^◌, ◌<◌, Bool, true, false, List, [], length, refl, ap, sym, ◌∙◌, arith}
 use Rattle.std.specs.Prelude.{◌==◌, ◌&&◌, ◌||◌, not, filter, nat_lt, Option, Some, None, is_none}
 use Rattle.std.specs.Option.{option_map, option_map_or}
 use Rattle.std.proofs.lemmas.Bool.Decides.{nat_tests}
@@ -15,7 +15,6 @@ use Rattle.hac_model.specs.Tree.Valid.{IsLayout}
 use Rattle.hac_model.specs.Tree.{child, entry_at, is_mount_at}
 use Rattle.hac_model.specs.declared.events.Event.{Event}
 use Rattle.hac_model.specs.declared.events.Event.TheVariants.{Mkdir, NewFile, Rewrite, Ln, Smkdir, Setq, Unq, Mark, Mv, Rm, Rmdir, Smount, Ssync, Sumount, Step, Cd}
-use Rattle.hac_model.specs.declared.limits.TheConstants.{NUMBERS_LIMIT}
 use Rattle.hac_model.specs.declared.states.Entry.{Entry}
 use Rattle.hac_model.specs.declared.states.State.{State}
 use Rattle.hac_model.proofs.AlikeLemmas.{entry_at-bare}
@@ -100,10 +99,10 @@ module _ (s t : State) (bares : bare s ≡ bare t) where
     pub mount-told : IsLayout s → come ≡ true → (coming : Coming) (count : ℕ) → coming.mount ≡ t.next → coming.first ≡ t.next + 1 → coming.count ≡ length documents → count ≡ length (terms_to_ask s.entries) →
         are_told_by (will_have t documents coming) count told ≡ may_mount s dir name space documents told
     mount-told h fits coming count at first many terms = sym (
-      ap (λ (b : Bool). b && are_told (mounted s dir name space (answers_to (terms_to_ask s.entries) told) documents) s.next (terms_to_ask s.entries) told) (same-come ∙ fits)
-      ∙ told-by (mounted s dir name space (answers_to (terms_to_ask s.entries) told) documents) s.next (terms_to_ask s.entries) told (will_have t documents coming)
-      (λ n. mounted-documents s dir name space (answers_to (terms_to_ask s.entries) told) documents h n ∙ ap (λ (coming : Coming). will_have s documents coming n) (sym is) ∙ same-have documents coming n)
-      ∙ ap (λ (count : ℕ). are_told_by (will_have t documents coming) count told) (sym terms))
+        ap (λ (b : Bool). b && are_told (mounted s dir name space (answers_to (terms_to_ask s.entries) told) documents) s.next (terms_to_ask s.entries) told) (same-come ∙ fits)
+        ∙ told-by (mounted s dir name space (answers_to (terms_to_ask s.entries) told) documents) s.next (terms_to_ask s.entries) told (will_have t documents coming)
+        (λ n. mounted-documents s dir name space (answers_to (terms_to_ask s.entries) told) documents h n ∙ ap (λ (coming : Coming). will_have s documents coming n) (sym is) ∙ same-have documents coming n)
+        ∙ ap (λ (count : ℕ). are_told_by (will_have t documents coming) count told) (sym terms))
       where
         is : coming ≡ record { mount = s.next; first = s.next + 1; count = length documents }
         is = λ i. record { mount = (at ∙ sym (same-next s t bares)) i; first = (first ∙ ap (λ (n : ℕ). n + 1) (sym (same-next s t bares))) i; count = many i }
@@ -123,10 +122,10 @@ module _ (s t : State) (bares : bare s ≡ bare t) where
     pub sync-told : IsLayout s → change ≡ true → (coming : Coming) (count : ℕ) → coming.mount ≡ mount → coming.first ≡ t.next → coming.count ≡ length (fresh t mount documents) → count ≡ length (terms_to_ask s.entries) →
         are_told_by (will_have t documents coming) count told ≡ may_sync s mount documents told
     sync-told h fits coming count at first many terms = sym (
-      ap (λ (b : Bool). b && are_told (synced s mount (answers_to (terms_to_ask s.entries) told) documents) mount (terms_to_ask s.entries) told) (same-change ∙ fits)
-      ∙ told-by (synced s mount (answers_to (terms_to_ask s.entries) told) documents) mount (terms_to_ask s.entries) told (will_have t documents coming)
-      (λ n. synced-documents s mount (answers_to (terms_to_ask s.entries) told) documents h n ∙ ap (λ (coming : Coming). will_have s documents coming n) (sym is) ∙ same-have documents coming n)
-      ∙ ap (λ (count : ℕ). are_told_by (will_have t documents coming) count told) (sym terms))
+        ap (λ (b : Bool). b && are_told (synced s mount (answers_to (terms_to_ask s.entries) told) documents) mount (terms_to_ask s.entries) told) (same-change ∙ fits)
+        ∙ told-by (synced s mount (answers_to (terms_to_ask s.entries) told) documents) mount (terms_to_ask s.entries) told (will_have t documents coming)
+        (λ n. synced-documents s mount (answers_to (terms_to_ask s.entries) told) documents h n ∙ ap (λ (coming : Coming). will_have s documents coming n) (sym is) ∙ same-have documents coming n)
+        ∙ ap (λ (count : ℕ). are_told_by (will_have t documents coming) count told) (sym terms))
       where
         is : coming ≡ record { mount = mount; first = s.next; count = length (fresh s mount documents) }
         is = λ i. record { mount = at i; first = (first ∙ sym (same-next s t bares)) i; count = (many ∙ ap (λ (names : List (List ℕ)). length names) (sym (same-fresh mount documents))) i }

@@ -7,7 +7,7 @@ use Rattle.std.proofs.lemmas.Bool.{cases_lt}
 use Rattle.std.proofs.lemmas.List.FromFn.{length-range_with_len}
 use Rattle.std.proofs.lemmas.List.Sums.{count_by-le-length, length-filter}
 use Rattle.hac_model.specs.Tree.Depends.{Among, depends}
-use Rattle.hac_model.specs.Tree.Limits.{counts, plain_count}
+use Rattle.hac_model.specs.Tree.Limits.{counts}
 use Rattle.hac_model.specs.Tree.Links.{column, is_item, is_semantic, items, links, over_directories, permanent_at, permanent_count, prohibited_at, prohibited_count, transient_count}
 use Rattle.hac_model.specs.Run.Play.{counts_line}
 use Rattle.hac_model.specs.Tree.{entry_at, permanent_in, prohibited_in, query_in}

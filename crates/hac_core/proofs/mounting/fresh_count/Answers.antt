@@ -1,4 +1,4 @@
-use Rattle.std.proofs.Common.{◌≡◌, ◌+◌, ◌≤◌, ℕ, List, Bool, true, false, drop, length, ap, sym, subst, ◌∙◌, arith}
+use Rattle.std.proofs.Common.{◌≡◌, ◌+◌, ℕ, List, Bool, true, false, drop, length, ap, sym, subst, ◌∙◌, arith}
 use Rattle.std.specs.Prelude.{filter, is_none, is_some, not, Option, None, Some, refl}
 use Rattle.hac_model.specs.Tree.{child}
 use Rattle.hac_core.proofs.LoopLemmas.{counts-done, counts-less, counts-more}

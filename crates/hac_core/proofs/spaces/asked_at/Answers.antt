@@ -1,5 +1,5 @@
-use Rattle.std.proofs.Common.{◌≡◌, ap, cond, refl, sym, ◌∙◌, Bool, true, false, List, ℕ}
-use Rattle.std.specs.Prelude.{if◌then◌else◌, Option, None}
+use Rattle.std.proofs.Common.{ap, sym, ◌∙◌, Bool}
+use Rattle.std.specs.Prelude.{if◌then◌else◌, None}
 use Rattle.std.specs.Option.{option_copied}
 use Rattle.hac_model.specs.Tree.Links.{space_at}
 use Rattle.hac_core.proofs.SpaceLemmas.{none-at, same-space}

@@ -1,5 +1,5 @@
-use Rattle.std.proofs.Common.{ap, cond, sym, ◌∙◌, Bool, List, ℕ}
-use Rattle.std.specs.Prelude.{Option, None}
+use Rattle.std.proofs.Common.{ap, cond, sym, ◌∙◌, Bool}
+use Rattle.std.specs.Prelude.{None}
 use Rattle.hac_model.specs.Run.Refusals.{unattached}
 use Rattle.hac_model.specs.Tree.Links.{parent_of, space_at}
 use Rattle.hac_core.proofs.SpaceLemmas.{same-text}

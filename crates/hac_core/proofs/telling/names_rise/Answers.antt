@@ -1,5 +1,4 @@
 use Rattle.std.proofs.Common.{sym, ◌∙◌, arith}
-use Rattle.hac_core.proofs.MountedLemmas.{mounted-documents}
 use Rattle.hac_core.proofs.NamesLemmas.{chain-breaks, chain-more, rises-chain}
 use Rattle.hac_core.proofs.telling.names_rise.Goals as goal
 
