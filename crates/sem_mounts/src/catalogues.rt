@@ -76,7 +76,7 @@ fn is_blank(line: &[u8]) -> bool
 
 /// Adds the document of a line, where the line isn't blank. Where the line is bad it doesn't, and
 /// says so.
-#[tactic(auto, unfolding(crate::specs::Catalogue::with_line))]
+#[tactic(auto, unfolding(hac_model::specs::Spaces::Catalogue::with_line))]
 fn take_line(alloc: Global, documents: &mut Texts, line: &[u8]) -> Result<bool, Memory>
     ensures { IfOk result (Adds (with_line documents.old line.now) documents.new) }
 {
