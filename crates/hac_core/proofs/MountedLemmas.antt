@@ -19,7 +19,8 @@ use Rattle.hac_model.proofs.FittingLemmas.{layout-fits}
 use Rattle.hac_model.proofs.KeepingLemmas.{document_by}
 use Rattle.hac_model.proofs.MapLemmas.{entry_at-mapped}
 use Rattle.hac_model.proofs.MountAskLemmas.{entry_at-filter, passing}
-use Rattle.hac_model.proofs.MountLayoutLemmas.{cleared-fits, entry_at-documents, gone-stays, such-document}
+use Rattle.hac_model.proofs.MountLayoutLemmas.{cleared-fits, entry_at-documents, gone-stays}
+use Rattle.hac_model.proofs.SuchLemmas.{such-document}
 use Rattle.hac_model.proofs.TreeLemmas.{entry_at-all, entry_at-next, place-directory}
 use Rattle.hac_model.proofs.ValidLemmas.{directory-below}
 use Rattle.hac_core.specs.Mounting.{are_told_by, is_kept_document, is_one_of, name_at, will_have}
