@@ -2,6 +2,8 @@
 use Rattle.hac_model.specs.declared.events.Event.TheVariants.{Smount, Ssync, Sumount}
 use Rattle.hac_model.specs.Tree.Mounting.{answers_to}
 use Rattle.hac_model.specs.Tree.Mounts.{terms_to_ask}
+use Rattle.hac_model.specs.Tree.Asking.{with_told}
+use Rattle.hac_model.proofs.GainLemmas.{cycle-told, directory-told, told-valid}
 use Rattle.hac_model.proofs.MountEdgeLemmas.{mounted-acyclic, synced-acyclic, unmounted-acyclic}
 use Rattle.std.proofs.Common.{◌≡◌, ℕ, zero, suc, Bool, true, false, cond, List, [], ◌∷◌, subst, refl, ap, sym, ◌∙◌, arith, inl, inr}
 use Rattle.std.specs.Prelude.{◌⊎◌, ◌==◌, ◌||◌, filter, Option, Some, None, IsTrue, option_and_then}
@@ -225,17 +227,19 @@ apply-acyclic s (NewFile dir name text) h ok = added-acyclic s dir name (File te
 apply-acyclic s (Rewrite file text) h ok = edited-acyclic s file (rewritten text) (rewritten-edges text) h.acyclic
 apply-acyclic s (Ln dir name target) h ok = added-acyclic s dir name (Symlink target) h (λ e inside. absurd inside)
 apply-acyclic s (Smkdir dir name query told) h ok =
-    let parts = accepted-parts (is_possible s (Smkdir dir name query told)) (passed_limit (added s dir name (Semantic query [] []))) ok in
+    let parts = accepted-parts (is_possible s (Smkdir dir name query told)) (passed_limit (apply s (Smkdir dir name query told))) ok in
     let fits = smkdir-parts s dir name query told parts.0 in
+    let t : State = with_told query told s in
     let named = and_parts (is_query query) (are_directories s (named_in query)) fits.1 in
     let parent = (free-parts s dir name fits.0).0 in
-    added-acyclic s dir name (Semantic query [] []) h (λ e inside. elim inside [
+    added-acyclic t dir name (Semantic query [] []) (told-valid s query told h fits.1 fits.2) (λ e inside. directory-told s query told e ∙ (elim inside [
       | inl same ↦ subst (λ (n : ℕ). is_directory_at s.entries n ≡ true) same parent
       | inr more ↦ among-directory s (named_in query) e named.1 more
-    ])
+    ]))
 apply-acyclic s (Setq dir query told) h ok =
-    let parts = accepted-parts (is_possible s (Setq dir query told)) (passed_limit (changed_at s dir (edited (asking query)))) ok in
-    setq-acyclic s dir query h.acyclic (setq-parts s dir query told parts.0).2
+    let parts = accepted-parts (is_possible s (Setq dir query told)) (passed_limit (apply s (Setq dir query told))) ok in
+    let fits = setq-parts s dir query told parts.0 in
+    setq-acyclic (with_told query told s) dir query (told-valid s query told h fits.1 fits.3).acyclic (cycle-told s query told dir query ∙ fits.2)
 apply-acyclic s (Unq dir) h ok = edited-acyclic s dir plain_body plain-edges h.acyclic
 apply-acyclic s (Mark mark) h ok = edited-acyclic s mark.dir (marked mark.item mark.kind) (marked-edges mark.item mark.kind) h.acyclic
 apply-acyclic s (Mv entry dir name) h ok =

@@ -53,7 +53,7 @@ bare-symlink (Semantic query permanent prohibited) = refl
 bare-symlink (Mount space answers) = refl
 bare-symlink other = refl
 
-bare-mount : (body : Body) → is_mount (bare_body body) ≡ is_mount body
+pub bare-mount : (body : Body) → is_mount (bare_body body) ≡ is_mount body
 bare-mount (Semantic query permanent prohibited) = refl
 bare-mount (Mount space answers) = refl
 bare-mount other = refl
@@ -310,6 +310,9 @@ module _ (s : State) (base : ℕ) where
   resolved-bare (command.Srm item dir) = item_and_dir-bare done.Srm item dir
   resolved-bare (command.Sforget item dir) = item_and_dir-bare done.Sforget item dir
   resolved-bare (command.Find raw) = ap (and_then (λ asked. Ok (done.Find asked))) (numbered-bare raw)
+  resolved-bare (command.Smount path space) = ap (and_then (λ found. Ok (done.Smount found space))) (slot-bare true path)
+  resolved-bare (command.Ssync path) = ap (and_then (λ dir. Ok (done.Ssync dir))) (directory-leads path)
+  resolved-bare (command.Sumount path) = ap (and_then (λ dir. Ok (done.Sumount dir))) (directory-leads path)
   resolved-bare other = refl
 
   pub for-bare : (session : List ℕ) (c : Command) → resolved_for (bare s) session base c ≡ resolved_for s session base c

@@ -29,6 +29,8 @@ use Rattle.hac_model.proofs.CountLemmas.{indexed-keeps, keeps-linkable, rewritte
 use Rattle.hac_model.proofs.MapLemmas.{all-map, directory-mapped, test-mapped}
 use Rattle.hac_model.proofs.MarkLemmas.{all-passes, forgetting-asks, marked-asks}
 use Rattle.hac_model.proofs.PathLemmas.{root-none}
+use Rattle.hac_model.proofs.GainLemmas.{ask-told, told-valid}
+use Rattle.hac_model.specs.Tree.Asking.{with_told}
 use Rattle.hac_model.proofs.StayLemmas.{DirectoriesStay, ItemsStay, all-stay, ask-stays, marks-stay}
 use Rattle.hac_model.proofs.TreeLemmas.{directory-no_item, directory-no_leaf, file-leaf}
 use Rattle.hac_model.proofs.ValidLemmas.{accepted-parts, asking-kind, forgetting-measures, mark-parts, marked-kind, plain-kind, rmdir-parts, setq-parts, smkdir-parts}
@@ -181,15 +183,19 @@ apply-queries s (NewFile dir name text) h ok = added-asks s dir name (File text 
 apply-queries s (Rewrite file text) h ok = changed-asks s file (edited (rewritten text)) (λ e. refl) (λ e. (rewritten-keeps text).directories e.body) (λ e. keeps-linkable (rewritten text) (rewritten-keeps text).files (rewritten-keeps text).documents e.body) (λ e there. rewritten-asks (apply s (Rewrite file text)) text e.body there) h
 apply-queries s (Ln dir name target) h ok = added-asks s dir name (Symlink target) h tt
 apply-queries s (Smkdir dir name query told) h ok =
-    let parts = accepted-parts (is_possible s (Smkdir dir name query told)) (passed_limit (added s dir name (Semantic query [] []))) ok in
-    let fits = (smkdir-parts s dir name query told parts.0).1 in
-    let t : State = added s dir name (Semantic query [] []) in
-    added-asks s dir name (Semantic query [] []) h (record { fits = ask-stays s t query (λ d inside there. added-directories s dir name (Semantic query [] []) d there) fits; added = record { rise = tt; items = tt }; removed = record { rise = tt; items = tt }; apart = tt })
+    let parts = accepted-parts (is_possible s (Smkdir dir name query told)) (passed_limit (apply s (Smkdir dir name query told))) ok in
+    let asks = smkdir-parts s dir name query told parts.0 in
+    let old : State = with_told query told s in
+    let fits = ask-told s query told query ∙ asks.1 in
+    let t : State = added old dir name (Semantic query [] []) in
+    added-asks old dir name (Semantic query [] []) (told-valid s query told h asks.1 asks.2) (record { fits = ask-stays old t query (λ d inside there. added-directories old dir name (Semantic query [] []) d there) fits; added = record { rise = tt; items = tt }; removed = record { rise = tt; items = tt }; apart = tt })
 apply-queries s (Setq dir query told) h ok =
-    let parts = accepted-parts (is_possible s (Setq dir query told)) (passed_limit (changed_at s dir (edited (asking query)))) ok in
-    let t : State = changed_at s dir (edited (asking query)) in
-    let fits = ask-stays s t query (λ d inside there. edited-directories s dir (asking query) (asking-kind query) d there) (setq-parts s dir query told parts.0).1 in
-    changed-asks s dir (edited (asking query)) (λ e. refl) (λ e. asking-kind query e.body) (λ e. asking-items query e.body) (λ e there. asking-asks t query e.body fits there) h
+    let parts = accepted-parts (is_possible s (Setq dir query told)) (passed_limit (apply s (Setq dir query told))) ok in
+    let asks = setq-parts s dir query told parts.0 in
+    let old : State = with_told query told s in
+    let t : State = changed_at old dir (edited (asking query)) in
+    let fits = ask-stays old t query (λ d inside there. edited-directories old dir (asking query) (asking-kind query) d there) (ask-told s query told query ∙ asks.1) in
+    changed-asks old dir (edited (asking query)) (λ e. refl) (λ e. asking-kind query e.body) (λ e. asking-items query e.body) (λ e there. asking-asks t query e.body fits there) (told-valid s query told h asks.1 asks.3)
 apply-queries s (Unq dir) h ok = changed-asks s dir (edited plain_body) (λ e. refl) (λ e. plain-kind e.body) (λ e. plain-items e.body) (λ e there. plain-asks (apply s (Unq dir)) e.body there) h
 apply-queries s (Mark mark) h ok =
     let edit : Body → Body = marked mark.item mark.kind in

@@ -19,6 +19,8 @@ use Rattle.hac_model.specs.declared.states.Body.TheVariants.{File, Dir, Symlink,
 use Rattle.hac_model.specs.declared.states.Entry.{Entry}
 use Rattle.hac_model.specs.declared.states.State.{State}
 use Rattle.hac_model.proofs.ChangeLemmas.{is_kept, touched}
+use Rattle.hac_model.specs.Tree.Asking.{with_told}
+use Rattle.hac_model.proofs.GainLemmas.{bare-told}
 use Rattle.hac_model.proofs.MapLemmas.{child-mapped}
 
 -- what is bare stays so
@@ -91,7 +93,7 @@ indexed-passes e = ap (λ (body : Body). record e { body = body }) (same e.body)
     same (Mount space answers) = refl
     same Document = refl
 
-asking-passes : (query : Formula ℕ) → Passes (edited (asking query))
+pub asking-passes : (query : Formula ℕ) → Passes (edited (asking query))
 asking-passes query e = ap (λ (body : Body). record e { body = body }) (same e.body)
   where
     same : (body : Body) → bare_body (asking query body) ≡ bare_body (asking query (bare_body body))
@@ -143,7 +145,7 @@ reseated-passes dir name e = ap (λ (body : Body). record (reseated dir name e) 
 alike : (next : ℕ) (es fs : List Entry) (s t : State) → map (edited bare_body) es ≡ map (edited bare_body) fs → bare (record { next = next; entries = es; sessions = s.sessions }) ≡ bare (record { next = next; entries = fs; sessions = t.sessions })
 alike next es fs s t same = λ i. record { next = next; entries = same i; sessions = [] }
 
-added-bare : (s : State) (dir : ℕ) (name : List ℕ) (body : Body) → bare (added s dir name body) ≡ bare (added (bare s) dir name body)
+pub added-bare : (s : State) (dir : ℕ) (name : List ℕ) (body : Body) → bare (added s dir name body) ≡ bare (added (bare s) dir name body)
 added-bare s dir name body = alike (s.next + 1) (s.entries ++ new ∷ []) (map (edited bare_body) s.entries ++ new ∷ []) s (bare s) (
     map-append (edited bare_body) s.entries (new ∷ [])
     ∙ ap (λ (es : List Entry). es ++ edited bare_body new ∷ []) (sym (entries-again s.entries))
@@ -152,7 +154,7 @@ added-bare s dir name body = alike (s.next + 1) (s.entries ++ new ∷ []) (map (
     new : Entry
     new = record { number = s.next; parent = dir; name = name; body = body }
 
-changed_at-bare : (s : State) (n : ℕ) (change : Entry → Entry) → Passes change → bare (changed_at s n change) ≡ bare (changed_at (bare s) n change)
+pub changed_at-bare : (s : State) (n : ℕ) (change : Entry → Entry) → Passes change → bare (changed_at s n change) ≡ bare (changed_at (bare s) n change)
 changed_at-bare s n change passes = alike s.next (changed_in n change s.entries) (changed_in n change (map (edited bare_body) s.entries)) s (bare s) (changed-bare n change s.entries passes)
 
 removed-bare : (s : State) (n : ℕ) → bare (removed s n) ≡ bare (removed (bare s) n)
@@ -230,7 +232,7 @@ cleared-bare s test same =
     ∙ without-bare test s.entries same
     ∙ sym (such-entries (is_such_at test (bare s).entries) (without_such test (bare s)).entries)
 
-synced-bare : (s : State) (mount : ℕ) (answers others : List Answer) (documents : List (List ℕ)) → bare (synced s mount answers documents) ≡ bare (synced (bare s) mount others documents)
+pub synced-bare : (s : State) (mount : ℕ) (answers others : List Answer) (documents : List (List ℕ)) → bare (synced s mount answers documents) ≡ bare (synced (bare s) mount others documents)
 synced-bare s mount answers others documents =
     (λ i. record { next = s.next + length (names i); entries = entries i; sessions = [] })
   where
@@ -260,14 +262,23 @@ synced-bare s mount answers others documents =
 unmounted-bare : (s : State) (mount : ℕ) → bare (unmounted s mount) ≡ bare (unmounted (bare s) mount)
 unmounted-bare s mount = alike s.next (unmounted s mount).entries (unmounted (bare s) mount).entries s (bare s) (cleared-bare s (is_of_mount mount) (λ e. refl))
 
+bare-twice : (s : State) → bare (bare s) ≡ bare s
+bare-twice s = λ i. record { next = s.next; entries = entries-again s.entries i; sessions = [] }
+
 pub bare-commutes : (s : State) (event : Event) → bare (apply s event) ≡ bare (apply (bare s) event)
 bare-commutes s (Mkdir dir name) = added-bare s dir name Dir
 bare-commutes s (NewFile dir name text) = added-bare s dir name (File text true None)
 bare-commutes s (Rewrite file text) = changed_at-bare s file (edited (rewritten text)) (rewritten-passes text)
 bare-commutes s (Ln dir name target) = added-bare s dir name (Symlink target)
-bare-commutes s (Smkdir dir name query told) = added-bare s dir name (Semantic query [] [])
+bare-commutes s (Smkdir dir name query told) =
+    added-bare (with_told query told s) dir name (Semantic query [] [])
+    ∙ ap (λ (x : State). bare (added x dir name (Semantic query [] []))) (bare-told s query told ∙ sym (bare-told (bare s) query told ∙ bare-twice s))
+    ∙ sym (added-bare (with_told query told (bare s)) dir name (Semantic query [] []))
 bare-commutes s (Mv entry dir name) = changed_at-bare s entry (reseated dir name) (reseated-passes dir name)
-bare-commutes s (Setq dir query told) = changed_at-bare s dir (edited (asking query)) (asking-passes query)
+bare-commutes s (Setq dir query told) =
+    changed_at-bare (with_told query told s) dir (edited (asking query)) (asking-passes query)
+    ∙ ap (λ (x : State). bare (changed_at x dir (edited (asking query)))) (bare-told s query told ∙ sym (bare-told (bare s) query told ∙ bare-twice s))
+    ∙ sym (changed_at-bare (with_told query told (bare s)) dir (edited (asking query)) (asking-passes query))
 bare-commutes s (Unq dir) = changed_at-bare s dir (edited plain_body) plain-passes
 bare-commutes s (Mark mark) = changed_at-bare s mark.dir (edited (marked mark.item mark.kind)) (marked-passes mark.item mark.kind)
 bare-commutes s (Rm entry) = forgotten-bare s entry

@@ -1,21 +1,30 @@
 -- The events of a command that isn't refused can happen, and steps leave fewer files dirty.
 use Rattle.std.proofs.Common.{◌≡◌, ℕ, zero, suc, ◌+◌, ◌<◌, ◌≤◌, Bool, true, false, cond, List, [], ◌∷◌, length, subst, refl, ap, sym, ◌∙◌, arith, zero-add}
-use Rattle.std.specs.Prelude.{if◌then◌else◌, ◌==◌, ◌&&◌, ◌||◌, filter, map, min, not, nat_lt, replicate, Option, Some, None, Ok, IfSome, IsTrue, is_some, is_none}
+use Rattle.std.specs.Prelude.{if◌then◌else◌, ◌==◌, ◌&&◌, ◌||◌, filter, map, min, not, nat_le, nat_lt, replicate, Option, Some, None, Ok, IfSome, IsTrue, is_some, is_none}
 use Rattle.std.specs.List.{list_all}
 use Rattle.std.specs.Option.{option_map, option_map_or}
 use Rattle.std.proofs.lemmas.Bool.{and_from, and_parts, not-true, not_from_false}
 use Rattle.std.proofs.lemmas.Bool.Decides.{nat_tests}
 use Rattle.hac_model.specs.Run.Answers.{first_cause}
-use Rattle.hac_model.specs.Tree.Events.{accepted, apply, apply_all, changed_at, dirty, edited, indexed, is_bare, is_free, is_clear, is_inside, is_placed, is_possible, is_unreferenced, may_ask, next_dirty, first_asked, is_made_holder, is_vacant}
+use Rattle.hac_model.specs.Tree.Events.{accepted, apply, apply_all, changed_at, dirty, edited, indexed, is_bare, is_free, is_clear, is_inside, is_placed, is_possible, is_unreferenced, may_ask, next_dirty, is_made_holder, is_vacant}
 use Rattle.hac_model.specs.Tree.Depends.{cycle_of_move, cycle_over, names_directory, referrers}
 use Rattle.hac_model.specs.Laws.{AllHappen}
-use Rattle.hac_model.specs.Tree.Limits.{answer_limits, counts, dirty_count, first_passed, is_text, layout_limits, passed_limit}
+use Rattle.hac_model.specs.Tree.Limits.{dirty_count, is_text, passed_limit}
 use Rattle.hac_model.specs.Script.Lines.{is_spelled_line}
 use Rattle.hac_model.specs.Script.PathWords.{is_target}
 use Rattle.hac_model.specs.Script.SpaceNames.{is_space_name}
 use Rattle.hac_model.specs.Tree.Links.{has, is_item, is_permanent, is_prohibited, is_semantic, links, parent_of}
-use Rattle.hac_model.specs.Run.Given.{no_answers}
-use Rattle.hac_model.specs.Run.Refusals.{already_cause, answer_cause, blocking_cause, busy_cause, cause, cycle_by, cycle_cause, directory_cause, early_cause, event_of, events_of, filled_cause, layout_cause, least_path, led_to, plain_cause, referenced_cause, root_cause, taken_cause, under_cause, unlinked_cause, unmarked_cause, query_cause, space_cause, unattached}
+use Rattle.hac_model.specs.Run.Asks.{asks, documents_named, mount_asks, query_asks, space_of, told_for}
+use Rattle.hac_model.specs.Spaces.Answering.{AreAnswersTo, AreRisingNames}
+use Rattle.hac_model.specs.Tree.Asking.{are_all_told}
+use Rattle.hac_model.specs.Tree.Mounting.{answers_to, are_documents, are_told, do_names_rise, mounted, synced}
+use Rattle.hac_model.specs.Tree.Mounts.{terms_to_ask}
+use Rattle.hac_model.specs.Tree.Names.{is_name}
+use Rattle.hac_model.specs.declared.limits.TheConstants.{DOCS_LIMIT}
+use Rattle.hac_model.specs.declared.spaces.Answers.{Answers}
+use Rattle.hac_model.specs.declared.spaces.Search.{Search}
+use Rattle.hac_model.specs.declared.terms.Term.{Term}
+use Rattle.hac_model.specs.Run.Refusals.{already_cause, answer_cause, docs_cause, gone_cause, late_cause, not_mount_cause, blocking_cause, busy_cause, cause, cycle_by, cycle_cause, directory_cause, early_cause, event_of, events_of, filled_cause, layout_cause, least_path, led_to, plain_cause, referenced_cause, root_cause, taken_cause, under_cause, unlinked_cause, unmarked_cause}
 use Rattle.hac_model.specs.Run.Resolving.{resolve}
 use Rattle.hac_model.specs.Run.Standing.{AllStand, is_there, IsSlot, is_own}
 use Rattle.hac_model.specs.Tree.Sessions.{are_few, is_busy, least_name, sessions_with, visitors}
@@ -25,13 +34,13 @@ use Rattle.hac_model.specs.declared.commands.Line.{Line}
 use Rattle.hac_model.specs.declared.events.Event.{Event}
 use Rattle.hac_model.specs.declared.events.Event.TheVariants.{Step}
 use Rattle.hac_model.specs.declared.limits.LimitWord.{LimitWord}
-use Rattle.hac_model.specs.declared.limits.LimitWord.TheVariants.{Sessions}
+use Rattle.hac_model.specs.declared.limits.LimitWord.TheVariants.{Docs, Sessions}
 use Rattle.hac_model.specs.declared.places.Place.TheVariants.{There, Free}
 use Rattle.hac_model.specs.declared.replies.Refusal.{Refusal}
 use Rattle.hac_model.specs.declared.replies.Refusal.TheVariants as refusal
 use Rattle.hac_model.specs.declared.replies.Refusal.TheVariants.{NoPath, NotDir}
 use Rattle.hac_model.specs.declared.resolved.Resolved.{Resolved}
-use Rattle.hac_model.specs.declared.resolved.Resolved.TheVariants.{Mkdir, Rmdir, Write, Cd, Mv, Rm, Ln, Smkdir, Setq, Unq, Sln, Srm, Sforget, Index, Tick}
+use Rattle.hac_model.specs.declared.resolved.Resolved.TheVariants.{Mkdir, Rmdir, Write, Cd, Mv, Rm, Ln, Smkdir, Setq, Unq, Sln, Srm, Sforget, Smount, Ssync, Sumount, Index, Tick}
 use Rattle.hac_model.specs.declared.states.Body.{Body}
 use Rattle.hac_model.specs.declared.states.Body.TheVariants.{File}
 use Rattle.hac_model.specs.declared.states.Entry.{Entry}
@@ -39,7 +48,8 @@ use Rattle.hac_model.specs.declared.states.Session.{Session}
 use Rattle.hac_model.specs.declared.states.State.{State}
 use Rattle.hac_model.proofs.AcyclicLemmas.{apply-valid}
 use Rattle.hac_model.proofs.CountLemmas.{dirty_count-is, measured-changed, measured-cons, one_if}
-use Rattle.hac_model.proofs.LimitLemmas.{passed-both}
+use Rattle.hac_model.proofs.FoundLemmas.{mounted-told, names-rise, query-told, synced-told}
+use Rattle.std.proofs.lemmas.List.{length-map}
 use Rattle.hac_model.proofs.LookLemmas.{leaf-file, leaf-or_directory, item-or_directory}
 use Rattle.hac_model.proofs.StandLemmas.{line-stands}
 use Rattle.hac_model.proofs.PassedLemmas.{step-passes}
@@ -66,21 +76,17 @@ no_limit None h = refl
 no_limit (Some word) h = absurd cc
 
 -- nothing blocks the event, no directory would depend on itself, and the next state exceeds no limit
-pub cause-parts : (s : State) (r : Resolved) → cause no_answers s r ≡ None → (blocking_cause s r ≡ None) × (cycle_cause s r ≡ None) × (passed_limit (led_to no_answers s r) ≡ None) × (space_cause s r ≡ None)
-cause-parts s r h =
-    let both = no_cause (early_cause s r) (answer_cause no_answers s r ∷ []) h in
-    let early = no_cause (blocking_cause s r) (layout_cause s r ∷ cycle_cause s r ∷ space_cause s r ∷ []) both.0 in
-    let layout = no_cause (layout_cause s r) (cycle_cause s r ∷ space_cause s r ∷ []) early.1 in
-    let cycle = no_cause (cycle_cause s r) (space_cause s r ∷ []) layout.1 in
-    let space = no_cause (space_cause s r) [] cycle.1 in
-    let answers = no_cause (answer_cause no_answers s r) [] both.1 in (
-      early.0,
-      cycle.0,
-      passed-both (led_to no_answers s r)
-          (no_limit (first_passed (layout_limits (counts (led_to no_answers s r)))) layout.0)
-          (no_limit (first_passed (answer_limits (counts (led_to no_answers s r)))) answers.0),
-      space.0,
-    )
+pub cause-parts : (answers : Answers) (s : State) (r : Resolved) → cause answers s r ≡ None → (blocking_cause s r ≡ None) × (cycle_cause s r ≡ None) × (passed_limit (led_to answers s r) ≡ None) × (docs_cause answers ≡ None)
+cause-parts answers s r h =
+    let both = no_cause (early_cause s r) (late_cause answers s r ∷ []) h in
+    let early = no_cause (blocking_cause s r) (layout_cause s r ∷ cycle_cause s r ∷ []) both.0 in
+    let layout = no_cause (layout_cause s r) (cycle_cause s r ∷ []) early.1 in
+    let cycle = no_cause (cycle_cause s r) [] layout.1 in
+    let late = no_cause (late_cause answers s r) [] both.1 in
+    let gone = no_cause (gone_cause answers s r) (docs_cause answers ∷ answer_cause answers s r ∷ []) late.0 in
+    let docs = no_cause (docs_cause answers) (answer_cause answers s r ∷ []) gone.1 in
+    let limits = no_cause (answer_cause answers s r) [] docs.1 in
+    (early.0, cycle.0, no_limit (passed_limit (led_to answers s r)) limits.0, docs.0)
 
 lives-some : (s : State) (n : ℕ) → is_live s.entries n ≡ true → (n == 0) ≡ false → is_some (entry_at s.entries n) ≡ true
 lives-some s n lives other = ap (λ (b : Bool). b || is_some (entry_at s.entries n)) (sym other) ∙ lives
@@ -230,7 +236,7 @@ module _ (s : State) (h : IsLayout s) where
       unmounted false none = refl
 
   -- a vacant slot is free
-  slot-free : (follow : Bool) (dir : ℕ) (name : List ℕ) → IsSlot s follow (Free dir name) → is_free s dir name ≡ true
+  pub slot-free : (follow : Bool) (dir : ℕ) (name : List ℕ) → IsSlot s follow (Free dir name) → is_free s dir name ≡ true
   slot-free follow dir name slot = and_from (is_vacant s dir name) (not (is_mount_at s.entries dir)) slot.0 (ap not (unmounted (is_mount_at s.entries dir) slot.1))
     where
       unmounted : (b : Bool) → (if b then Some dir else None) ≡ None → b ≡ false
@@ -238,18 +244,10 @@ module _ (s : State) (h : IsLayout s) where
       unmounted false none = refl
 
   -- a holder that isn't the root was made
-  made-holder : (dir : ℕ) → is_holder_at s.entries dir ≡ true → (dir == 0) ≡ false → is_made_holder s dir ≡ true
+  pub made-holder : (dir : ℕ) → is_holder_at s.entries dir ≡ true → (dir == 0) ≡ false → is_made_holder s dir ≡ true
   made-holder dir there other =
       let parts = and_parts (is_directory_at s.entries dir) (not (is_mount_at s.entries dir)) there in
       and_from (is_made_directory s.entries dir) (not (is_mount_at s.entries dir)) (made s dir parts.0 other) parts.1
-
-  -- no mount has to be asked
-  known-query : (query : Formula ℕ) → query_cause s query ≡ None → is_none (first_asked s query) ≡ true
-  known-query query free = none (first_asked s query) free
-    where
-      none : (o : Option (List ℕ)) → unattached o ≡ None → is_none o ≡ true
-      none None free = refl
-      none (Some space) free = absurd cc
 
   -- an item and a semantic directory, of which a mark speaks
   mark-placed : (item dir : ℕ) (more : List (Option Refusal)) → is_there s true item ≡ true → first_cause (directory_cause s item ∷ plain_cause s dir ∷ more) ≡ None → ((is_item s item && is_semantic s dir) ≡ true) × (first_cause more ≡ None)
@@ -259,22 +257,36 @@ module _ (s : State) (h : IsLayout s) where
       let semantic : is_semantic s dir ≡ true = no_other (is_semantic s dir) (refusal.NotSemantic (path_of s dir)) plain.0 in
       (and_from (is_item s item) (is_semantic s dir) (item-there item there file.0) semantic, plain.1)
 
-  may-be-asked : (query : Formula ℕ) → may_ask s query ≡ true → query_cause s query ≡ None → (may_ask s query && (is_none (first_asked s query) && length {A = List ℕ} [] == 0)) ≡ true
-  may-be-asked query may free =
-      and_from (may_ask s query) (is_none (first_asked s query) && length {A = List ℕ} [] == 0) may (and_from (is_none (first_asked s query)) (length {A = List ℕ} [] == 0) (known-query query free) refl)
+  -- what spaces answer to questions for a query may be told
+  may-be-asked : (query : Formula ℕ) (found : List (List (List ℕ))) → may_ask s query ≡ true → length found ≡ length (query_asks s query).searches → (may_ask s query && are_all_told s query (told_for s query found) s.entries) ≡ true
+  may-be-asked query found may even = and_from (may_ask s query) (are_all_told s query (told_for s query found) s.entries) may (query-told s query h.numbers found even)
 
-  pub unblocked-placed : (r : Resolved) → AllStand s r → blocking_cause s r ≡ None → space_cause s r ≡ None → IfSome (event_of r) (λ e. IsTrue (is_placed s e))
-  unblocked-placed (Mkdir (There number)) there free known = tt
-  unblocked-placed (Mkdir (Free dir name)) there free known = slot-free true dir name there
-  unblocked-placed (Rmdir dir) there free known =
+  -- documents that are not too many
+  pub are-documents : (answers : Answers) → AreRisingNames answers.list → docs_cause answers ≡ None → are_documents answers.list ≡ true
+  are-documents answers rising few =
+      let parts = and_parts (list_all is_name answers.list) (do_names_rise answers.list) (names-rise answers.list rising) in
+      and_from (list_all is_name answers.list) (do_names_rise answers.list && nat_le (length answers.list) DOCS_LIMIT) parts.0
+      (and_from (do_names_rise answers.list) (nat_le (length answers.list) DOCS_LIMIT) parts.1 (no_other (nat_le (length answers.list) DOCS_LIMIT) (refusal.Limit Docs) few))
+
+  -- each term in use is asked for
+  terms-even : (space : List ℕ) (found : List (List (List ℕ))) → length found ≡ length (mount_asks s space).searches → length found ≡ length (terms_to_ask s.entries)
+  terms-even space found even = even ∙ length-map (terms_to_ask s.entries) question
+    where
+      question : Term → Search
+      question term = record { space = space; term = term }
+
+  pub unblocked-placed : (answers : Answers) (r : Resolved) → AllStand s r → blocking_cause s r ≡ None → AreAnswersTo (asks s r) answers → docs_cause answers ≡ None → IfSome (event_of answers s r) (λ e. IsTrue (is_placed s e))
+  unblocked-placed answers (Mkdir (There number)) there free told few = tt
+  unblocked-placed answers (Mkdir (Free dir name)) there free told few = slot-free true dir name there
+  unblocked-placed answers (Rmdir dir) there free told few =
       let root = free-root s dir (filled_cause s dir ∷ referenced_cause s dir ∷ busy_cause s dir ∷ []) free in
       let full = no_cause (filled_cause s dir) (referenced_cause s dir ∷ busy_cause s dir ∷ []) root.1 in
       and_from (is_made_holder s dir) (is_bare s.entries dir) (made-holder dir there root.0) (no_other (is_bare s.entries dir) (refusal.NotEmpty (path_of s dir)) full.0)
-  unblocked-placed (Write (There number) text) there free known = and_from (is_file_at s.entries number) (is_text text) (file-there number (slot-own number there.0) free) there.1
-  unblocked-placed (Write (Free dir name) text) there free known = and_from (is_free s dir name) (is_text text) (slot-free true dir name there.0) there.1
-  unblocked-placed (Cd session dir) there free known = and_from (is_space_name session) (is_directory_at s.entries dir) there.0 there.1
-  unblocked-placed (Mv entry (There number)) there free known = tt
-  unblocked-placed (Mv entry (Free dir name)) there free known =
+  unblocked-placed answers (Write (There number) text) there free told few = and_from (is_file_at s.entries number) (is_text text) (file-there number (slot-own number there.0) free) there.1
+  unblocked-placed answers (Write (Free dir name) text) there free told few = and_from (is_free s dir name) (is_text text) (slot-free true dir name there.0) there.1
+  unblocked-placed answers (Cd session dir) there free told few = and_from (is_space_name session) (is_directory_at s.entries dir) there.0 there.1
+  unblocked-placed answers (Mv entry (There number)) there free told few = tt
+  unblocked-placed answers (Mv entry (Free dir name)) there free told few =
       let root = free-root s entry (taken_cause s (Free dir name) ∷ under_cause s entry (Free dir name) ∷ []) free in
       let under = no_cause (under_cause s entry (Free dir name)) [] root.1 in
       let outside : is_inside s dir entry ≡ false = no_refusal (is_inside s dir entry) (refusal.Under (path_of s entry)) under.0 in
@@ -282,53 +294,77 @@ module _ (s : State) (h : IsLayout s) where
       let lives = and_from (is_some (entry_at s.entries entry)) (not (is_document_at s.entries entry)) (lives-some s entry (and_parts (is_live s.entries entry) true own.0).0 root.0) own.1 in
       let fits = and_from (is_some (entry_at s.entries entry) && not (is_document_at s.entries entry)) (is_free s dir name) lives (slot-free false dir name there.1) in
       and_from (is_some (entry_at s.entries entry) && not (is_document_at s.entries entry) && is_free s dir name) (not (is_inside s dir entry)) fits (not_from_false (is_inside s dir entry) outside)
-  unblocked-placed (Rm entry) there free known =
+  unblocked-placed answers (Rm entry) there free told few =
       let root = free-root s entry (directory_cause s entry ∷ []) free in
       leaf-there false entry there (no_cause (directory_cause s entry) [] root.1).0
-  unblocked-placed (Ln (There number) target) there free known = tt
-  unblocked-placed (Ln (Free dir name) target) there free known = and_from (is_free s dir name) (is_target target) (slot-free false dir name there.0) there.1
-  unblocked-placed (Smkdir (There number) query) there free known = tt
-  unblocked-placed (Smkdir (Free dir name) query) there free known =
-      and_from (is_free s dir name) (may_ask s query && (is_none (first_asked s query) && length {A = List ℕ} [] == 0)) (slot-free true dir name there.0) (may-be-asked query there.1 known)
-  unblocked-placed (Setq dir query) there free known =
-      and_from (is_made_holder s dir) (may_ask s query && (is_none (first_asked s query) && length {A = List ℕ} [] == 0)) (made-holder dir there.0 (no_refusal (dir == 0) refusal.Root free)) (may-be-asked query there.1 known)
-  unblocked-placed (Unq dir) there free known = no_other (is_semantic s dir) (refusal.NotSemantic (path_of s dir)) free
-  unblocked-placed (Sln item dir) there free known = (mark-placed item dir (already_cause s item dir ∷ []) there.0 free).0
-  unblocked-placed (Srm item dir) there free known = (mark-placed item dir (unlinked_cause s item dir ∷ []) there.0 free).0
-  unblocked-placed (Sforget item dir) there free known = (mark-placed item dir (unmarked_cause s item dir ∷ []) there.0 free).0
-  unblocked-placed other there free known = tt
+  unblocked-placed answers (Ln (There number) target) there free told few = tt
+  unblocked-placed answers (Ln (Free dir name) target) there free told few = and_from (is_free s dir name) (is_target target) (slot-free false dir name there.0) there.1
+  unblocked-placed answers (Smkdir (There number) query) there free told few = tt
+  unblocked-placed answers (Smkdir (Free dir name) query) there free told few =
+      and_from (is_free s dir name) (may_ask s query && are_all_told s query (told_for s query answers.found) s.entries) (slot-free true dir name there.0) (may-be-asked query answers.found there.1 told.found)
+  unblocked-placed answers (Setq dir query) there free told few =
+      and_from (is_made_holder s dir) (may_ask s query && are_all_told s query (told_for s query answers.found) s.entries) (made-holder dir there.0 (no_refusal (dir == 0) refusal.Root free)) (may-be-asked query answers.found there.1 told.found)
+  unblocked-placed answers (Unq dir) there free told few = no_other (is_semantic s dir) (refusal.NotSemantic (path_of s dir)) free
+  unblocked-placed answers (Sln item dir) there free told few = (mark-placed item dir (already_cause s item dir ∷ []) there.0 free).0
+  unblocked-placed answers (Srm item dir) there free told few = (mark-placed item dir (unlinked_cause s item dir ∷ []) there.0 free).0
+  unblocked-placed answers (Sforget item dir) there free told few = (mark-placed item dir (unmarked_cause s item dir ∷ []) there.0 free).0
+  unblocked-placed answers (Smount (There number) space) there free told few = tt
+  unblocked-placed answers (Smount (Free dir name) space) there free told few =
+      let told-numbers : List (List ℕ) = map (documents_named (mounted s dir name space [] answers.list) s.next) answers.found in
+      let free-name = and_from (is_free s dir name) (is_space_name space) (slot-free true dir name there.0) there.1 in
+      let documents = and_from (is_free s dir name && is_space_name space) (are_documents answers.list) free-name (are-documents answers told.rising few) in
+      and_from (is_free s dir name && is_space_name space && are_documents answers.list)
+      (are_told (mounted s dir name space (answers_to (terms_to_ask s.entries) told-numbers) answers.list) s.next (terms_to_ask s.entries) told-numbers) documents
+      (mounted-told s h.numbers (terms_to_ask s.entries) answers.found (terms-even space answers.found told.found) dir name space (answers_to (terms_to_ask s.entries) told-numbers) answers.list)
+  unblocked-placed answers (Ssync mount) there free told few =
+      let told-numbers : List (List ℕ) = map (documents_named (synced s mount [] answers.list) mount) answers.found in
+      let is = no_other (is_mount_at s.entries mount) (refusal.NotMount (path_of s mount)) free in
+      let documents = and_from (is_mount_at s.entries mount) (are_documents answers.list) is (are-documents answers told.rising few) in
+      and_from (is_mount_at s.entries mount && are_documents answers.list)
+      (are_told (synced s mount (answers_to (terms_to_ask s.entries) told-numbers) answers.list) mount (terms_to_ask s.entries) told-numbers) documents
+      (synced-told s h.numbers (terms_to_ask s.entries) answers.found (terms-even (space_of s mount) answers.found told.found) mount (answers_to (terms_to_ask s.entries) told-numbers) answers.list)
+  unblocked-placed answers (Sumount mount) there free told few =
+      no_other (is_mount_at s.entries mount) (refusal.NotMount (path_of s mount)) (no_cause (not_mount_cause s mount) (referenced_cause s mount ∷ busy_cause s mount ∷ []) free).0
+  unblocked-placed answers other there free told few = tt
 
   -- and against which nothing stands
-  unblocked-clear : (r : Resolved) → AllStand s r → blocking_cause s r ≡ None → cycle_cause s r ≡ None → IfSome (event_of r) (λ e. IsTrue (is_clear s e))
-  unblocked-clear (Mkdir (There number)) there free acyclic = tt
-  unblocked-clear (Mkdir (Free dir name)) there free acyclic = refl
-  unblocked-clear (Rmdir dir) there free acyclic =
+  unblocked-clear : (answers : Answers) (r : Resolved) → AllStand s r → blocking_cause s r ≡ None → cycle_cause s r ≡ None → IfSome (event_of answers s r) (λ e. IsTrue (is_clear s e))
+  unblocked-clear answers (Mkdir (There number)) there free acyclic = tt
+  unblocked-clear answers (Mkdir (Free dir name)) there free acyclic = refl
+  unblocked-clear answers (Rmdir dir) there free acyclic =
       let root = free-root s dir (filled_cause s dir ∷ referenced_cause s dir ∷ busy_cause s dir ∷ []) free in
       let full = no_cause (filled_cause s dir) (referenced_cause s dir ∷ busy_cause s dir ∷ []) root.1 in
       let named = no_cause (referenced_cause s dir) (busy_cause s dir ∷ []) full.1 in
       and_from (is_unreferenced s dir) (not (is_busy s.sessions dir)) (unreferenced s dir named.0) (idle s dir (no_cause (busy_cause s dir) [] named.1).0)
-  unblocked-clear (Write (There number) text) there free acyclic = refl
-  unblocked-clear (Write (Free dir name) text) there free acyclic = refl
-  unblocked-clear (Cd session dir) there free acyclic = no_other (are_few (sessions_with session dir s.sessions)) (refusal.Limit Sessions) free
-  unblocked-clear (Mv entry (There number)) there free acyclic = tt
-  unblocked-clear (Mv entry (Free dir name)) there free acyclic = ap (λ (o : Option ℕ). is_none o) (no-cycle s (cycle_of_move s entry dir) acyclic)
-  unblocked-clear (Rm entry) there free acyclic = refl
-  unblocked-clear (Ln (There number) target) there free acyclic = tt
-  unblocked-clear (Ln (Free dir name) target) there free acyclic = refl
-  unblocked-clear (Smkdir (There number) query) there free acyclic = tt
-  unblocked-clear (Smkdir (Free dir name) query) there free acyclic = refl
-  unblocked-clear (Setq dir query) there free acyclic = ap (λ (o : Option ℕ). is_none o) (no-cycle s (cycle_over s dir (parent_of s dir) query) acyclic)
-  unblocked-clear (Unq dir) there free acyclic = refl
-  unblocked-clear (Sln item dir) there free acyclic =
+  unblocked-clear answers (Write (There number) text) there free acyclic = refl
+  unblocked-clear answers (Write (Free dir name) text) there free acyclic = refl
+  unblocked-clear answers (Cd session dir) there free acyclic = no_other (are_few (sessions_with session dir s.sessions)) (refusal.Limit Sessions) free
+  unblocked-clear answers (Mv entry (There number)) there free acyclic = tt
+  unblocked-clear answers (Mv entry (Free dir name)) there free acyclic = ap (λ (o : Option ℕ). is_none o) (no-cycle s (cycle_of_move s entry dir) acyclic)
+  unblocked-clear answers (Rm entry) there free acyclic = refl
+  unblocked-clear answers (Ln (There number) target) there free acyclic = tt
+  unblocked-clear answers (Ln (Free dir name) target) there free acyclic = refl
+  unblocked-clear answers (Smkdir (There number) query) there free acyclic = tt
+  unblocked-clear answers (Smkdir (Free dir name) query) there free acyclic = refl
+  unblocked-clear answers (Setq dir query) there free acyclic = ap (λ (o : Option ℕ). is_none o) (no-cycle s (cycle_over s dir (parent_of s dir) query) acyclic)
+  unblocked-clear answers (Unq dir) there free acyclic = refl
+  unblocked-clear answers (Sln item dir) there free acyclic =
       let more = (mark-placed item dir (already_cause s item dir ∷ []) there.0 free).1 in
       not_from_false (is_permanent s dir item) (no_refusal (is_permanent s dir item) (refusal.Already (path_of s item)) (no_cause (already_cause s item dir) [] more).0)
-  unblocked-clear (Srm item dir) there free acyclic =
+  unblocked-clear answers (Srm item dir) there free acyclic =
       let more = (mark-placed item dir (unlinked_cause s item dir ∷ []) there.0 free).1 in
       no_other (is_permanent s dir item || has (links s dir) item) (refusal.NotLinked (path_of s item)) (no_cause (unlinked_cause s item dir) [] more).0
-  unblocked-clear (Sforget item dir) there free acyclic =
+  unblocked-clear answers (Sforget item dir) there free acyclic =
       let more = (mark-placed item dir (unmarked_cause s item dir ∷ []) there.0 free).1 in
       no_other (is_permanent s dir item || is_prohibited s dir item) (refusal.NoMark (path_of s item)) (no_cause (unmarked_cause s item dir) [] more).0
-  unblocked-clear other there free acyclic = tt
+  unblocked-clear answers (Smount (There number) space) there free acyclic = tt
+  unblocked-clear answers (Smount (Free dir name) space) there free acyclic = refl
+  unblocked-clear answers (Ssync mount) there free acyclic = refl
+  unblocked-clear answers (Sumount mount) there free acyclic =
+      let is = no_cause (not_mount_cause s mount) (referenced_cause s mount ∷ busy_cause s mount ∷ []) free in
+      let named = no_cause (referenced_cause s mount) (busy_cause s mount ∷ []) is.1 in
+      and_from (is_unreferenced s mount) (not (is_busy s.sessions mount)) (unreferenced s mount named.0) (idle s mount (no_cause (busy_cause s mount) [] named.1).0)
+  unblocked-clear answers other there free acyclic = tt
 
 -- one event, or none, happens
 made-happens : (s : State) (o : Option Event) → IfSome o (λ e. IsTrue (is_placed s e)) → IfSome o (λ e. IsTrue (is_clear s e)) → passed_limit (apply_all s (option_map_or (λ e. e ∷ []) o [])) ≡ None → AllHappen s (option_map_or (λ e. e ∷ []) o [])
@@ -337,13 +373,13 @@ made-happens s (Some e) placed clear limits =
     let possible = and_from (is_clear s e) (is_placed s e) clear placed in
     (and_from (is_possible s e) (is_none (passed_limit (apply s e))) possible (ap (λ (o : Option LimitWord). is_none o) limits), tt)
 
-pub unblocked-happen : (s : State) (r : Resolved) → IsValid s → AllStand s r → blocking_cause s r ≡ None → cycle_cause s r ≡ None → passed_limit (led_to no_answers s r) ≡ None → space_cause s r ≡ None → AllHappen s (events_of no_answers s r)
-unblocked-happen s Index h there free acyclic limits known = steps-happen (dirty s) s h (omega arith)
-unblocked-happen s (Tick steps) h there free acyclic limits known = steps-happen (min steps (dirty s)) s h (omega arith)
-unblocked-happen s r h there free acyclic limits known =
-    made-happens s (event_of r) (unblocked-placed s h.layout r there free known) (unblocked-clear s h.layout r there free acyclic) limits
+pub unblocked-happen : (answers : Answers) (s : State) (r : Resolved) → IsValid s → AllStand s r → blocking_cause s r ≡ None → cycle_cause s r ≡ None → AreAnswersTo (asks s r) answers → docs_cause answers ≡ None → passed_limit (led_to answers s r) ≡ None → AllHappen s (events_of answers s r)
+unblocked-happen answers s Index h there free acyclic told few limits = steps-happen (dirty s) s h (omega arith)
+unblocked-happen answers s (Tick steps) h there free acyclic told few limits = steps-happen (min steps (dirty s)) s h (omega arith)
+unblocked-happen answers s r h there free acyclic told few limits =
+    made-happens s (event_of answers s r) (unblocked-placed s h.layout answers r there free told few) (unblocked-clear s h.layout answers r there free acyclic) limits
 
-pub commands-happen : (s : State) (line : Line) (r : Resolved) → IsValid s → IsTrue (is_spelled_line line) → resolve s line ≡ Ok r → cause no_answers s r ≡ None → AllHappen s (events_of no_answers s r)
-commands-happen s line r h spelled leads free =
-    let parts = cause-parts s r free in
-    unblocked-happen s r h (line-stands s line r h spelled leads) parts.0 parts.1 parts.2 parts.3
+pub commands-happen : (s : State) (line : Line) (r : Resolved) (answers : Answers) → IsValid s → IsTrue (is_spelled_line line) → resolve s line ≡ Ok r → AreAnswersTo (asks s r) answers → cause answers s r ≡ None → AllHappen s (events_of answers s r)
+commands-happen s line r answers h spelled leads told free =
+    let parts = cause-parts answers s r free in
+    unblocked-happen answers s r h (line-stands s line r h spelled leads) parts.0 parts.1 told parts.3 parts.2

@@ -1,16 +1,18 @@
 -- What an event does to the facts of each number.
-use Rattle.std.proofs.Common.{◌≡◌, ℕ, Bool, true, false, cond, List, [], ◌∷◌, refl, ap, sym, ◌∙◌}
-use Rattle.std.specs.Prelude.{◌==◌, filter, Option, Some, None, is_some, option_and_then}
+use Rattle.std.proofs.Common.{◌≡◌, ℕ, Bool, true, false, cond, List, [], ◌∷◌, length, map, refl, ap, sym, ◌∙◌}
+use Rattle.std.specs.Prelude.{◌==◌, drop, filter, if◌then◌else◌, Option, Some, None, is_some, option_and_then}
 use Rattle.std.specs.Option.{option_map, option_map_or}
 use Rattle.std.proofs.lemmas.Bool.{eqb-true}
-use Rattle.hac_model.specs.Tree.Bare.{bare}
+use Rattle.hac_model.specs.Tree.Bare.{bare, bare_body}
 use Rattle.hac_model.specs.Tree.Depends.{depends, named_in}
 use Rattle.hac_model.specs.Tree.Events.{apply, asking, changed_at, edited, forgetting, indexed, is_possible, marked, next_dirty, plain_body, reseated, rewritten}
-use Rattle.hac_model.specs.Tree.Facts.{Facts, edges_to, facts_after, facts_at, facts_in, facts_of, facts_without, no_facts, put_at, with_mark, without_item}
+use Rattle.hac_model.specs.Tree.Facts.{Facts, edges_to, facts_after, facts_at, facts_in, facts_of, facts_told, facts_without, no_facts, put_at, with_mark, without_item}
 use Rattle.hac_model.specs.Tree.Mounting.{answers_to}
 use Rattle.hac_model.specs.Tree.Mounts.{terms_to_ask}
 use Rattle.hac_model.specs.Query.Formula.{Formula}
-use Rattle.hac_model.specs.Tree.{entry_at, is_directory, is_leaf, query_in, is_mount}
+use Rattle.hac_model.specs.Tree.{answers_in, body_at, entry_at, is_directory, is_leaf, is_mount_at, query_in, is_mount}
+use Rattle.hac_model.specs.Tree.Links.{answers_at}
+use Rattle.hac_model.specs.declared.states.Answer.{Answer}
 use Rattle.hac_model.specs.Tree.Valid.{IsLayout}
 use Rattle.hac_model.specs.declared.events.Event.{Event}
 use Rattle.hac_model.specs.declared.events.Event.TheVariants.{Mkdir, NewFile, Rewrite, Ln, Smkdir, Setq, Unq, Mark, Mv, Rm, Rmdir, Smount, Ssync, Sumount, Step}
@@ -21,8 +23,11 @@ use Rattle.hac_model.specs.declared.states.Body.TheVariants.{File, Dir, Symlink,
 use Rattle.hac_model.specs.declared.states.Entry.{Entry}
 use Rattle.hac_model.specs.declared.states.State.{State}
 use Rattle.hac_model.specs.declared.terms.Term.{Term}
-use Rattle.hac_model.proofs.AlikeLemmas.{parent_of-bare, query_at-bare}
+use Rattle.hac_model.proofs.AlikeLemmas.{bare-mount, parent_of-bare, query_at-bare}
 use Rattle.hac_model.proofs.ChangeLemmas.{is_kept}
+use Rattle.hac_model.proofs.GainLemmas.{entry_at-gains, layout-told, made-told, mount-told, parent-told}
+use Rattle.hac_model.proofs.TreeLemmas.{entry_at-number}
+use Rattle.hac_model.specs.Tree.Asking.{asked_by, gained, gaining, unanswered, with_answers, with_told}
 use Rattle.hac_model.proofs.CycleLemmas.{depends-is, edges_in}
 use Rattle.hac_model.proofs.LayoutLemmas.{ssync-parts, sumount-parts}
 use Rattle.hac_model.proofs.MapLemmas.{entry_at-mapped}
@@ -145,16 +150,85 @@ stepped-facts : (s : State) (o : Option ℕ) (n : ℕ) → facts_of (option_map_
 stepped-facts s None n = refl
 stepped-facts s (Some file) n = seen-kept facts_at s.entries file (edited indexed) (λ e. refl) (λ e. indexed-facts e.parent e.body) n
 
+-- What mounts are told for a query.
+
+-- an entry that is no mount gains nothing
+gained-plain : (kept : ℕ → List Answer) (query : Formula ℕ) (told : List (List ℕ)) (es : List Entry) (n : ℕ) → option_map_or is_mount (body_at es n) false ≡ false → gained kept query told es n ≡ []
+gained-plain kept query told [] n h = refl
+gained-plain kept query told (x ∷ es) n h =
+    elim (x.number == n) as (λ b. option_map_or is_mount (option_map (λ (e : Entry). e.body) (if b then Some x else entry_at es n)) false ≡ false → (if b then answers_to (asked_by kept query x) told else gained kept query (drop (length (asked_by kept query x)) told) es n) ≡ []) [
+      | true ↦ (λ plain. ap (λ (b : Bool). answers_to (if b then unanswered query (kept x.number) else []) told) plain)
+      | false ↦ (λ plain. gained-plain kept query (drop (length (asked_by kept query x)) told) es n plain)
+    ] h
+
+-- what is kept is told by facts
+answers-facts : (s : State) → answers_at s ≡ (λ n. (facts_of s n).answers)
+answers-facts s = λ i n. at (entry_at s.entries n) i
+  where
+    at : (o : Option Entry) → option_map_or answers_in (option_map (λ (e : Entry). e.body) o) [] ≡ (facts_at o).answers
+    at None = refl
+    at (Some e) = refl
+
+told-facts : (s : State) (query : Formula ℕ) (told : List (List ℕ)) (n : ℕ) → facts_of (with_told query told s) n ≡ facts_told query told s (facts_of s) n
+told-facts s query told n = ap facts_at (entry_at-gains (gained (answers_at s) query told s.entries) s.entries n) ∙ at (entry_at s.entries n) refl
+  where
+    gain : ℕ → List Answer
+    gain = gained (answers_at s) query told s.entries
+
+    new : List Answer
+    new = gained (λ m. (facts_of s m).answers) query told s.entries n
+
+    same : gain n ≡ new
+    same = ap (λ (kept : ℕ → List Answer). gained kept query told s.entries n) (answers-facts s)
+
+    none : option_map_or is_mount (body_at s.entries n) false ≡ false → new ≡ []
+    none plain = sym same ∙ gained-plain (answers_at s) query told s.entries n plain
+
+    body : (e : Entry) → entry_at s.entries n ≡ Some e → (b : Body) → e.body ≡ b → facts_in e.parent (gaining (gain e.number) b) ≡ record (facts_in e.parent b) { answers = with_answers new (facts_in e.parent b).answers }
+    body e found (Mount space answers) is = ap (λ (more : List Answer). record (facts_in e.parent (Mount space answers)) { answers = with_answers more answers }) (ap gain (entry_at-number s.entries n e found) ∙ same)
+    body e found (File text dirty shown) is = sym (ap (λ (more : List Answer). record (facts_in e.parent (File text dirty shown)) { answers = with_answers more [] }) (none (ap (λ (o : Option Entry). option_map_or is_mount (option_map (λ (e : Entry). e.body) o) false) found ∙ ap is_mount is)))
+    body e found Dir is = sym (ap (λ (more : List Answer). record (facts_in e.parent Dir) { answers = with_answers more [] }) (none (ap (λ (o : Option Entry). option_map_or is_mount (option_map (λ (e : Entry). e.body) o) false) found ∙ ap is_mount is)))
+    body e found (Symlink target) is = sym (ap (λ (more : List Answer). record (facts_in e.parent (Symlink target)) { answers = with_answers more [] }) (none (ap (λ (o : Option Entry). option_map_or is_mount (option_map (λ (e : Entry). e.body) o) false) found ∙ ap is_mount is)))
+    body e found (Semantic asked permanent prohibited) is = sym (ap (λ (more : List Answer). record (facts_in e.parent (Semantic asked permanent prohibited)) { answers = with_answers more [] }) (none (ap (λ (o : Option Entry). option_map_or is_mount (option_map (λ (e : Entry). e.body) o) false) found ∙ ap is_mount is)))
+    body e found Document is = sym (ap (λ (more : List Answer). record (facts_in e.parent Document) { answers = with_answers more [] }) (none (ap (λ (o : Option Entry). option_map_or is_mount (option_map (λ (e : Entry). e.body) o) false) found ∙ ap is_mount is)))
+
+    at : (o : Option Entry) → entry_at s.entries n ≡ o → facts_at (option_map (λ e. edited (gaining (gain e.number)) e) o) ≡ record (facts_at o) { answers = with_answers new (facts_at o).answers }
+    at None found = sym (ap (λ (more : List Answer). record no_facts { answers = with_answers more [] }) (none (ap (λ (o : Option Entry). option_map_or is_mount (option_map (λ (e : Entry). e.body) o) false) found)))
+    at (Some e) found = body e found e.body refl
+
+-- of what is no mount nothing is told
+plain-told : (s : State) (query : Formula ℕ) (told : List (List ℕ)) (n : ℕ) → is_mount_at s.entries n ≡ false → facts_told query told s (facts_of s) n ≡ facts_of s n
+plain-told s query told n plain = ap (λ (more : List Answer). record (facts_of s n) { answers = with_answers more (facts_of s n).answers })
+    (ap (λ (kept : ℕ → List Answer). gained kept query told s.entries n) (sym (answers-facts s)) ∙ gained-plain (answers_at s) query told s.entries n plain)
+
+-- of two trees that are bare alike the same mounts are told
+gained-bare : (kept : ℕ → List Answer) (query : Formula ℕ) (told : List (List ℕ)) (es : List Entry) (n : ℕ) → gained kept query told (map (edited bare_body) es) n ≡ gained kept query told es n
+gained-bare kept query told [] n = refl
+gained-bare kept query told (x ∷ es) n = λ i.
+    if x.number == n then answers_to (asked i) told
+    else (ap (λ (terms : List Term). gained kept query (drop (length terms) told) (map (edited bare_body) es) n) asked ∙ gained-bare kept query (drop (length (asked_by kept query x)) told) es n) i
+  where
+    asked : asked_by kept query (edited bare_body x) ≡ asked_by kept query x
+    asked = ap (λ (b : Bool). if b then unanswered query (kept x.number) else []) (bare-mount x.body)
+
+told-bare : (s : State) (query : Formula ℕ) (told : List (List ℕ)) (facts : ℕ → Facts) (n : ℕ) → facts_told query told (bare s) facts n ≡ facts_told query told s facts n
+told-bare s query told facts n = ap (λ (more : List Answer). record (facts n) { answers = with_answers more (facts n).answers }) (gained-bare (λ m. (facts m).answers) query told s.entries n)
+
 -- what an event does to the facts, by the facts and the tree alone
 pub facts-law : (s : State) (event : Event) → IsLayout s → is_possible s event ≡ true → (n : ℕ) → facts_of (apply s event) n ≡ facts_after event s (facts_of s) n
 facts-law s (Mkdir dir name) h ok n = seen-plain facts_at s.entries (record { number = s.next; parent = dir; name = name; body = Dir }) h.numbers refl n
 facts-law s (NewFile dir name text) h ok n = seen-plain facts_at s.entries (record { number = s.next; parent = dir; name = name; body = File text true None }) h.numbers refl n
 facts-law s (Rewrite file text) h ok n = seen-kept facts_at s.entries file (edited (rewritten text)) (λ e. refl) (λ e. rewritten-facts text e.parent e.body) n
 facts-law s (Ln dir name target) h ok n = seen-plain facts_at s.entries (record { number = s.next; parent = dir; name = name; body = Symlink target }) h.numbers refl n
-facts-law s (Smkdir dir name query told) h ok n = seen-added facts_at s.entries (record { number = s.next; parent = dir; name = name; body = Semantic query [] [] }) h.numbers n
+facts-law s (Smkdir dir name query told) h ok n =
+    seen-added facts_at (with_told query told s).entries (record { number = s.next; parent = dir; name = name; body = Semantic query [] [] }) (layout-told s query told h).numbers n
+    ∙ (λ i. put_at (λ m. told-facts s query told m i) s.next (record no_facts { edges = dir ∷ named_in query }) n)
 facts-law s (Setq dir query told) h ok n =
-    seen-changed facts_at s.entries dir (edited (asking query)) (λ e. refl) n
-    ∙ ap (λ (new : Facts). put_at (facts_of s) dir new n) (asking-facts query (entry_at s.entries dir) (setq-parts s dir query told ok).0 (setq-parts s dir query told ok).5)
+    let parts = setq-parts s dir query told ok in
+    let t : State = with_told query told s in
+    seen-changed facts_at t.entries dir (edited (asking query)) (λ e. refl) n
+    ∙ ap (λ (new : Facts). put_at (facts_of t) dir new n) (asking-facts query (entry_at t.entries dir) (made-told s query told dir ∙ parts.0) (mount-told s query told dir ∙ parts.4))
+    ∙ (λ i. put_at (λ m. told-facts s query told m i) dir (record ((told-facts s query told dir ∙ plain-told s query told dir parts.4) i) { edges = parent-told s query told dir i ∷ named_in query }) n)
 facts-law s (Unq dir) h ok n =
     seen-changed facts_at s.entries dir (edited plain_body) (λ e. refl) n
     ∙ ap (λ (new : Facts). put_at (facts_of s) dir new n) (plain-facts (entry_at s.entries dir) ok)
@@ -174,7 +248,8 @@ facts-law s other h ok n = refl
 
 -- the bare tree is asked as well
 pub facts-bare : (event : Event) (s : State) (facts : ℕ → Facts) (n : ℕ) → facts_after event (bare s) facts n ≡ facts_after event s facts n
-facts-bare (Setq dir query told) s facts n = ap (λ (parent : ℕ). put_at facts dir (record (facts dir) { edges = parent ∷ named_in query }) n) (parent_of-bare s dir)
+facts-bare (Smkdir dir name query told) s facts n = λ i. put_at (λ m. told-bare s query told facts m i) s.next (record no_facts { edges = dir ∷ named_in query }) n
+facts-bare (Setq dir query told) s facts n = λ i. put_at (λ m. told-bare s query told facts m i) dir (record (facts dir) { edges = parent_of-bare s dir i ∷ named_in query }) n
 facts-bare (Mv entry dir name) s facts n = ap (λ (asked : Option (Formula ℕ)). put_at facts entry (record (facts entry) { edges = edges_to dir asked }) n) (query_at-bare s entry)
 facts-bare (Smount dir name space documents told) s facts n = ap (λ (terms : List Term). put_at facts s.next (record no_facts { answers = answers_to terms told }) n) (terms-bare s)
 facts-bare (Ssync mount documents told) s facts n = λ i.

@@ -4,22 +4,24 @@ use Rattle.std.specs.Prelude.{Some, filter}
 use Rattle.std.specs.List.{AllByRecursion}
 use Rattle.std.proofs.lemmas.List.{map-append}
 use Rattle.hac_model.specs.Tree.Bare.{bare, bare_body}
-use Rattle.hac_model.specs.Tree.Events.{apply, edited, marked}
+use Rattle.hac_model.specs.Tree.Events.{added, apply, asking, changed_at, edited, marked}
 use Rattle.hac_model.specs.Tree.Facts.{Facts, bare_after, facts_at, facts_in, facts_of, filled, filled_entry, joined}
 use Rattle.hac_model.specs.Tree.Mounting.{answers_to, cleared, documents_from, fresh, is_gone, is_of_mount, is_such_at, keeping, redocumented, synced, without_such}
 use Rattle.hac_model.specs.Tree.Mounts.{terms_to_ask}
 use Rattle.hac_model.specs.Tree.{entry_at}
 use Rattle.hac_model.specs.Tree.Valid.{NumbersRise}
 use Rattle.hac_model.specs.declared.events.Event.{Event}
-use Rattle.hac_model.specs.declared.events.Event.TheVariants.{Mark, Rm, Smount, Ssync, Sumount, Step, Cd}
+use Rattle.hac_model.specs.declared.events.Event.TheVariants.{Mark, Rm, Setq, Smkdir, Smount, Ssync, Sumount, Step, Cd}
 use Rattle.hac_model.specs.declared.states.Body.{Body}
 use Rattle.hac_model.specs.declared.states.Body.TheVariants.{File, Dir, Symlink, Semantic, Mount, Document}
 use Rattle.hac_model.specs.declared.states.Entry.{Entry}
 use Rattle.hac_model.specs.declared.states.Session.{Session}
 use Rattle.hac_model.specs.declared.states.State.{State}
 use Rattle.hac_model.proofs.SessionLemmas.{sessions-follow}
-use Rattle.hac_model.proofs.BareLemmas.{changed-kept, forgotten-entries, keeping-bare, marked-bare, mounted-bare, such-entries}
+use Rattle.hac_model.proofs.BareLemmas.{added-bare, asking-passes, changed-kept, changed_at-bare, forgotten-entries, keeping-bare, marked-bare, mounted-bare, such-entries}
 use Rattle.hac_model.proofs.ChangeLemmas.{is_kept}
+use Rattle.hac_model.proofs.GainLemmas.{bare-told}
+use Rattle.hac_model.specs.Tree.Asking.{with_told}
 use Rattle.hac_model.proofs.TreeLemmas.{all-entries}
 
 -- what was taken from a body is in its facts
@@ -84,6 +86,14 @@ same-state s t rise grow sessions bares facts = sym (rejoined s rise) ∙ (λ i.
 pub tree-law : (e : Event) (t : State) → bare (bare_after e t) ≡ bare (apply t e)
 tree-law (Mark mark) t = λ i. record { next = t.next; entries = sym (changed-kept mark.dir (marked mark.item mark.kind) t.entries (marked-bare mark.item mark.kind)) i; sessions = [] }
 tree-law (Rm entry) t = λ i. record { next = t.next; entries = sym (forgotten-entries entry (filter (is_kept entry) t.entries)) i; sessions = [] }
+tree-law (Smkdir dir name query told) t =
+    added-bare t dir name (Semantic query [] [])
+    ∙ ap (λ (x : State). bare (added x dir name (Semantic query [] []))) (sym (bare-told t query told))
+    ∙ sym (added-bare (with_told query told t) dir name (Semantic query [] []))
+tree-law (Setq dir query told) t =
+    changed_at-bare t dir (edited (asking query)) (asking-passes query)
+    ∙ ap (λ (x : State). bare (changed_at x dir (edited (asking query)))) (sym (bare-told t query told))
+    ∙ sym (changed_at-bare (with_told query told t) dir (edited (asking query)) (asking-passes query))
 tree-law (Smount dir name space documents told) t =
     mounted-bare t dir name space [] [] documents ∙ sym (mounted-bare t dir name space (answers_to (terms_to_ask t.entries) told) [] documents)
 tree-law (Ssync mount documents told) t = λ i. record { next = t.next + length (fresh t mount documents); entries = entries i; sessions = [] }

@@ -1,22 +1,24 @@
 -- Events keep what mounts keep sound: their documents stay theirs, and each term in use has an answer.
 use Rattle.hac_model.specs.declared.events.Event.TheVariants.{Smount, Ssync, Sumount}
 use Rattle.hac_model.specs.Tree.Events.{may_mount, may_sync}
+use Rattle.hac_model.specs.Tree.Asking.{with_told}
+use Rattle.hac_model.proofs.GainLemmas.{mount-told, told-knows, told-valid}
 use Rattle.hac_model.proofs.LayoutLemmas.{apply-layout, smount-parts, ssync-parts, sumount-parts}
 use Rattle.hac_model.proofs.MountKeptLemmas.{mounted-keeps, synced-keeps, unmounted-keeps}
 use Rattle.hac_model.proofs.MountLayoutLemmas.{documents-parts}
-use Rattle.std.proofs.Common.{◌≡◌, ℕ, inl, inr, Bool, true, false, List, [], ◌∷◌, length, refl, ap, sym, ◌∙◌, subst}
-use Rattle.std.specs.Prelude.{◌⊎◌, ◌==◌, ◌&&◌, ◌||◌, not, if◌then◌else◌, filter, nat_le, Option, Some, None, IsTrue}
+use Rattle.std.proofs.Common.{◌≡◌, ℕ, Bool, true, false, List, [], ◌∷◌, length, refl, ap, sym, ◌∙◌, subst}
+use Rattle.std.specs.Prelude.{◌==◌, ◌&&◌, not, if◌then◌else◌, filter, nat_le, Option, Some, None, IsTrue}
 use Rattle.std.specs.Option.{option_map, option_map_or}
-use Rattle.std.specs.List.{AllByRecursion, list_all}
+use Rattle.std.specs.List.{AllByRecursion}
 use Rattle.std.proofs.lemmas.Bool.{and_parts, eqb-true, ne_eqb, not-true}
 use Rattle.hac_model.specs.Query.Formula.{Formula}
 use Rattle.hac_model.specs.Query.Queries.{terms_of}
-use Rattle.hac_model.specs.Tree.Events.{is_free, accepted, added, apply, asking, changed_at, changed_in, edited, first_asked_in, forgetting, forgotten, indexed, is_possible, knows_all, marked, next_dirty, plain_body, removed, reseated, rewritten}
+use Rattle.hac_model.specs.Tree.Events.{is_free, accepted, added, apply, asking, changed_at, changed_in, edited, forgetting, forgotten, indexed, is_possible, marked, next_dirty, plain_body, removed, reseated, rewritten}
 use Rattle.hac_model.specs.Tree.Limits.{is_text, passed_limit}
 use Rattle.hac_model.specs.Script.PathWords.{is_target}
 use Rattle.hac_model.specs.Tree.Links.{parent_of}
-use Rattle.hac_model.specs.Tree.Mounts.{is_kept, terms_in, terms_in_use}
-use Rattle.hac_model.specs.Tree.{answers_in, entry_at, is_directory, is_directory_at, is_document, is_document_at, is_leaf, is_leaf_at, is_made_directory, is_mount, is_mount_at, query_in, space_in}
+use Rattle.hac_model.specs.Tree.Mounts.{terms_in, terms_in_use}
+use Rattle.hac_model.specs.Tree.{entry_at, is_directory, is_directory_at, is_document, is_document_at, is_leaf, is_leaf_at, is_made_directory, is_mount, is_mount_at, query_in}
 use Rattle.hac_model.specs.Tree.Valid.{IsAnswer, IsValid, KeepsWell, has_few}
 use Rattle.hac_model.specs.declared.events.Event.{Event}
 use Rattle.hac_model.specs.declared.events.Event.TheVariants.{Mkdir, NewFile, Rewrite, Ln, Mark, Mv, Rm, Rmdir, Setq, Smkdir, Step, Unq, Cd}
@@ -28,7 +30,6 @@ use Rattle.hac_model.specs.declared.states.Body.{Body}
 use Rattle.hac_model.specs.declared.states.Body.TheVariants.{File, Dir, Symlink, Semantic, Mount, Document}
 use Rattle.hac_model.specs.declared.states.Entry.{Entry}
 use Rattle.hac_model.specs.declared.states.State.{State}
-use Rattle.hac_model.specs.declared.terms.Term.{Term}
 use Rattle.hac_model.proofs.ChangeLemmas.{all-append, all-changed, all-filter, all-weaker, entry_at-append, entry_at-changed, entry_at-kept, is_kept as is_left, touched}
 use Rattle.hac_model.proofs.KeepingLemmas.{AreKept, DocumentsStay, TermsStay, all-kept, answer-stays, document-entry, document_by, each-kept, fewer, inside, inside-added, inside-changed, inside-left, inside-mapped, keeps-stays, same-document}
 use Rattle.hac_model.proofs.MapLemmas.{all-map, entry_at-mapped}
@@ -277,47 +278,6 @@ marked-terms n Prohibited other = refl
 marked-terms n Unlinked (Semantic old permanent prohibited) = refl
 marked-terms n Unlinked other = refl
 
--- a query that no mount has to be asked for: each has an answer for each of its terms
-known-terms : (es : List Entry) (query : Formula ℕ) (n : ℕ) (e : Entry) (space : List ℕ) (answers : List Answer) → first_asked_in query es ≡ None → entry_at es n ≡ Some e → e.body ≡ Mount space answers → AreKept answers (terms_of query)
-known-terms [] query n e space answers none found is = absurd cc
-known-terms (x ∷ es) query n e space answers none found is =
-    elim (x.number == n) as (λ b. (if b then Some x else entry_at es n) ≡ Some e → AreKept answers (terms_of query)) [
-      | true ↦ (λ found.
-          let same : x ≡ e = cc in
-          let body : x.body ≡ Mount space answers = ap (λ (y : Entry). y.body) same ∙ is in
-          all-told answers (terms_of query) (sym (ap (λ (b : Body). not (is_mount b) || list_all (is_kept (answers_in b)) (terms_of query)) body) ∙ knows body))
-      | false ↦ (λ found. known-terms es query n e space answers behind found is)
-    ] found
-  where
-    all-told : (answers : List Answer) (terms : List Term) → list_all (is_kept answers) terms ≡ true → AreKept answers terms
-    all-told answers [] h = tt
-    all-told answers (term ∷ terms) h = let parts = and_parts (is_kept answers term) (list_all (is_kept answers) terms) h in (parts.0, all-told answers terms parts.1)
-
-    first : (b : Bool) → (if b then first_asked_in query es else space_in x.body) ≡ None → (first_asked_in query es ≡ None) ⊎ (space_in x.body ≡ None)
-    first true h = inl h
-    first false h = inr h
-
-    knows : x.body ≡ Mount space answers → knows_all query x.body ≡ true
-    knows body = elim (knows_all query x.body) as (λ b. (if b then first_asked_in query es else space_in x.body) ≡ None → b ≡ true) [
-      | true ↦ (λ h. refl)
-      | false ↦ (λ h. let never : Some space ≡ None = sym (ap space_in body) ∙ h in absurd cc)
-    ] none
-
-    -- what has no space is no mount, and knows all
-    behind : first_asked_in query es ≡ None
-    behind = elim (knows_all query x.body) as (λ b. knows_all query x.body ≡ b → (if b then first_asked_in query es else space_in x.body) ≡ None → first_asked_in query es ≡ None) [
-      | true ↦ (λ _ h. h)
-      | false ↦ (λ asked h. let plain : knows_all query x.body ≡ true = spaceless x.body h in let never : true ≡ false = sym plain ∙ asked in absurd cc)
-    ] refl none
-      where
-        spaceless : (b : Body) → space_in b ≡ None → knows_all query b ≡ true
-        spaceless (Mount space answers) h = absurd cc
-        spaceless (File text dirty shown) h = refl
-        spaceless Dir h = refl
-        spaceless (Symlink target) h = refl
-        spaceless (Semantic old permanent prohibited) h = refl
-        spaceless Document h = refl
-
 asking-terms : (query : Formula ℕ) (answers : List Answer) → AreKept answers (terms_of query) → (body : Body) → AreKept answers (terms_in body) → AreKept answers (terms_in (asking query body))
 asking-terms query answers new Dir old = new
 asking-terms query answers new (Semantic query_was permanent prohibited) old = new
@@ -428,13 +388,15 @@ apply-answers s (Ln dir name target) h ok =
     plain-added s dir name (Symlink target) h (and_parts (is_free s dir name) (is_target target) parts.0).0 refl refl
 apply-answers s (Rewrite file text) h ok = edited-keeps s file (rewritten text) (rewritten-leaves text) (λ e found space answers is body kept. same-terms (rewritten text) (rewritten-terms text) answers body kept) h
 apply-answers s (Smkdir dir name query told) h ok =
-    let parts = accepted-parts (is_possible s (Smkdir dir name query told)) (passed_limit (added s dir name (Semantic query [] []))) ok in
+    let parts = accepted-parts (is_possible s (Smkdir dir name query told)) (passed_limit (apply s (Smkdir dir name query told))) ok in
     let fits = smkdir-parts s dir name query told parts.0 in
-    added-keeps s dir name (Semantic query [] []) h (free-plain s dir name fits.0) refl (λ e found space answers is. known-terms s.entries query e.number e space answers fits.3 found is)
+    let t : State = with_told query told s in
+    added-keeps t dir name (Semantic query [] []) (told-valid s query told h fits.1 fits.2) (mount-told s query told dir ∙ free-plain s dir name fits.0) refl (told-knows s query told h fits.1 fits.2)
 apply-answers s (Setq dir query told) h ok =
-    let parts = accepted-parts (is_possible s (Setq dir query told)) (passed_limit (changed_at s dir (edited (asking query)))) ok in
+    let parts = accepted-parts (is_possible s (Setq dir query told)) (passed_limit (apply s (Setq dir query told))) ok in
     let fits = setq-parts s dir query told parts.0 in
-    edited-keeps s dir (asking query) (asking-leaves query) (λ e found space answers is body kept. asking-terms query answers (known-terms s.entries query e.number e space answers fits.4 found is) body kept) h
+    let t : State = with_told query told s in
+    edited-keeps t dir (asking query) (asking-leaves query) (λ e found space answers is body kept. asking-terms query answers (told-knows s query told h fits.1 fits.3 e found space answers is) body kept) (told-valid s query told h fits.1 fits.3)
 apply-answers s (Unq dir) h ok = edited-keeps s dir plain_body plain-leaves (λ e found space answers is body kept. plain-terms answers body kept) h
 apply-answers s (Mark mark) h ok =
     edited-keeps s mark.dir (marked mark.item mark.kind) (marked-leaves mark.item mark.kind) (λ e found space answers is body kept. same-terms (marked mark.item mark.kind) (marked-terms mark.item mark.kind) answers body kept) h

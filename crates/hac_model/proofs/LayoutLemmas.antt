@@ -1,5 +1,5 @@
 -- Events keep a tree one.
-use Rattle.std.proofs.Common.{◌≡◌, ℕ, true, false, List, [], refl}
+use Rattle.std.proofs.Common.{◌≡◌, ℕ, true, false, List, [], refl, ◌∙◌}
 use Rattle.std.specs.Prelude.{◌&&◌, not, Some, None, IsTrue, is_none, is_some}
 use Rattle.std.specs.Option.{option_map_or}
 use Rattle.std.proofs.lemmas.Bool.{and_parts, not-true}
@@ -14,7 +14,9 @@ use Rattle.hac_model.specs.declared.events.Event.{Event}
 use Rattle.hac_model.specs.declared.events.Event.TheVariants.{Mkdir, NewFile, Rewrite, Ln, Mark, Mv, Rm, Rmdir, Setq, Smkdir, Step, Unq, Cd}
 use Rattle.hac_model.specs.declared.states.Body.TheVariants.{File, Dir, Symlink, Semantic}
 use Rattle.hac_model.specs.declared.states.State.{State}
+use Rattle.hac_model.proofs.GainLemmas.{free-told, layout-told}
 use Rattle.hac_model.proofs.MapLemmas.{mapped-layout}
+use Rattle.hac_model.specs.Tree.Asking.{with_told}
 use Rattle.hac_model.specs.Tree.Events.{may_mount, may_sync}
 use Rattle.hac_model.specs.Tree.Mounting.{answers_to, are_documents, are_told, mounted, synced}
 use Rattle.hac_model.specs.Tree.Mounts.{terms_to_ask}
@@ -66,11 +68,11 @@ apply-layout s (Ln dir name target) h ok =
     let fits = and_parts (is_free s dir name) (is_target target) parts.0 in
     added-layout s dir name (Symlink target) h fits.0 fits.1 refl parts.1
 apply-layout s (Smkdir dir name query told) h ok =
-    let parts = accepted-parts (is_possible s (Smkdir dir name query told)) (passed_limit (added s dir name (Semantic query [] []))) ok in
-    added-layout s dir name (Semantic query [] []) h (smkdir-parts s dir name query told parts.0).0 tt refl parts.1
+    let parts = accepted-parts (is_possible s (Smkdir dir name query told)) (passed_limit (added (with_told query told s) dir name (Semantic query [] []))) ok in
+    added-layout (with_told query told s) dir name (Semantic query [] []) (layout-told s query told h) (free-told s query told dir name ∙ (smkdir-parts s dir name query told parts.0).0) tt refl parts.1
 apply-layout s (Setq dir query told) h ok =
-    let parts = accepted-parts (is_possible s (Setq dir query told)) (passed_limit (changed_at s dir (edited (asking query)))) ok in
-    edited-layout s dir (asking query) (asking-places query) (asking-sound query) h parts.1
+    let parts = accepted-parts (is_possible s (Setq dir query told)) (passed_limit (changed_at (with_told query told s) dir (edited (asking query)))) ok in
+    edited-layout (with_told query told s) dir (asking query) (asking-places query) (asking-sound query) (layout-told s query told h) parts.1
 apply-layout s (Unq dir) h ok =
     let parts = accepted-parts (is_semantic s dir) (passed_limit (changed_at s dir (edited plain_body))) ok in
     edited-layout s dir plain_body plain-places plain-sound h parts.1

@@ -53,6 +53,8 @@ pub mod MountEdgeLemmas
 pub mod MountFactLemmas
 pub mod AcyclicLemmas
 pub mod AlikeLemmas
+pub mod GainLemmas
+pub mod FoundLemmas
 pub mod ViewLemmas
 pub mod FillLemmas
 pub mod FactLemmas

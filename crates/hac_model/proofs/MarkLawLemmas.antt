@@ -8,10 +8,10 @@ use Rattle.hac_model.specs.Query.Formula.{Formula}
 use Rattle.hac_model.specs.Run.Refusals.{marks}
 use Rattle.hac_model.specs.Tree.Depends.{named_in}
 use Rattle.hac_model.specs.Tree.Events.{accepted, apply, is_possible, put_in, without}
-use Rattle.hac_model.specs.Tree.Facts.{Facts, Marks, facts_after, facts_at, facts_of, no_facts, put_at, with_mark}
+use Rattle.hac_model.specs.Tree.Facts.{Facts, Marks, facts_after, facts_at, facts_of, facts_told, no_facts, put_at, with_mark}
 use Rattle.hac_model.specs.Tree.Kinds as kinds
 use Rattle.hac_model.specs.Tree.Limits.{passed_limit}
-use Rattle.hac_model.specs.Tree.Links.{column, found_by, has, holds, is_below, is_permanent, is_prohibited, is_semantic, is_unmarked, items, links, parent_of, passes, provide, satisfies, is_judged}
+use Rattle.hac_model.specs.Tree.Links.{column, found_as, found_by, has, holds, is_below, is_permanent, is_prohibited, is_semantic, is_unmarked, items, links, parent_of, passes, provide, satisfies, is_judged}
 use Rattle.hac_model.specs.Tree.{entry_at, permanent_in, prohibited_in}
 use Rattle.hac_model.specs.Tree.Valid.{AsksWell, IsValid}
 use Rattle.hac_model.specs.Laws.{SameMarks}
@@ -114,7 +114,7 @@ marks-stay s dir item kind other_dir other h ok apart =
 pub queries-leave : (s : State) (asking : ℕ) (query : Formula ℕ) (told : List (List ℕ)) (dir item : ℕ) → IsValid s → IsTrue (accepted s (Setq asking query told)) → SameMarks s (apply s (Setq asking query told)) dir item
 queries-leave s asking query told dir item h ok =
     kept s (Setq asking query told) h ok dir item
-    (elim (dir == asking) as (λ b. (dir == asking) ≡ b → (cond b (record (facts_of s asking) { edges = parent_of s asking ∷ named_in query }) (facts_of s dir)).marks ≡ (facts_of s dir).marks) [
+    (elim (dir == asking) as (λ b. (dir == asking) ≡ b → (cond b (record (facts_of s asking) { edges = parent_of s asking ∷ named_in query }) (facts_told query told s (facts_of s) dir)).marks ≡ (facts_of s dir).marks) [
       | true ↦ (λ same. ap (λ (d : ℕ). (facts_of s d).marks) (sym (eqb-true dir asking same)))
       | false ↦ (λ far. refl)
     ] refl)
@@ -144,7 +144,7 @@ links-unmarked s dir item h linked =
     (shown.1, none.0, none.1)
 
 pub found-indexed : (s : State) (query : Formula ℕ) (item : ℕ) → has (found_by s query) item ≡ true → is_judged s item ≡ true
-unfolding found_by
+unfolding found_as
 found-indexed s query item inside =
     let found = and_parts (is_judged s item && holds s (column (links s) item) query item) (has (items s) item) (sym (has-filter (λ x. is_judged s x && holds s (column (links s) x) query x) (items s) item) ∙ inside) in
     (and_parts (is_judged s item) (holds s (column (links s) item) query item) found.0).0

@@ -115,7 +115,7 @@ rise-told bound (number ∷ numbers) h =
     let parts = and_parts (nat_le bound number) (do_rise_from (number + 1) numbers) h in
     (leb-true bound number parts.0, rise-told (number + 1) numbers parts.1)
 
-answers-sound : (t : State) (m : ℕ) (terms : List Term) (told : List (List ℕ)) → AllByRecursion (λ term. is_askable term ≡ true) terms → list_all (is_told t m) told ≡ true → AllByRecursion (IsAnswer t m) (answers_to terms told)
+pub answers-sound : (t : State) (m : ℕ) (terms : List Term) (told : List (List ℕ)) → AllByRecursion (λ term. is_askable term ≡ true) terms → list_all (is_told t m) told ≡ true → AllByRecursion (IsAnswer t m) (answers_to terms told)
 answers-sound t m [] told askable h = tt
 answers-sound t m (term ∷ terms) [] askable h = tt
 answers-sound t m (term ∷ terms) (numbers ∷ told) askable h =

@@ -1,16 +1,26 @@
 -- Scripts lead from valid states to valid states, by events one after the other.
-use Rattle.std.proofs.Common.{◌≡◌, ℕ, zero, suc, ◌+◌, Bool, true, false, cond, List, [], ◌∷◌, ◌++◌, length, refl, ap, sym, ◌∙◌}
-use Rattle.std.specs.Prelude.{if◌then◌else◌, nat_lt, filter, Some, None, Result, Ok, Err, IsTrue}
+use Rattle.std.proofs.Common.{◌≡◌, ℕ, zero, suc, ◌+◌, Bool, true, false, cond, List, [], ◌∷◌, ◌++◌, length, refl, ap, sym, ◌∙◌, arith}
+use Rattle.std.specs.Prelude.{if◌then◌else◌, nat_lt, filter, Option, Some, None, Result, Ok, Err, IsTrue, IfNone}
 use Rattle.std.specs.List.{AllByRecursion}
-use Rattle.std.specs.Option.{option_map_or}
+use Rattle.std.specs.Option.{option_map, option_map_or, unwrap_or}
 use Rattle.std.proofs.lemmas.Bool.{and_parts}
 use Rattle.hac_model.specs.Tree.Events.{accepted, apply, apply_all, changed_at, dirty, edited, indexed, next_dirty}
 use Rattle.hac_model.specs.Tree.Sessions.{is_stored, stored}
 use Rattle.hac_model.specs.Script.Lines.{Item, is_quiet, is_spelled_line, item_of, items_of}
 use Rattle.hac_model.specs.Payload.Payloads.{event_text}
-use Rattle.hac_model.specs.Run.Play.{Given, Setting, Turn, after_events, all_events, answered_turn, can_step, command_turn, data_lines, end_behind, events_in, full_cause, given_behind, have_room, item_turn, left_by, line_turn, no_answers, play, refused_turn, steps_behind, stored_events, turn_cause, turn_of, turns}
+use Rattle.hac_model.specs.Run.Play.{Given, Setting, Turn, absent_cause, after_events, all_events, answered_turn, can_step, command_turn, data_lines, end_behind, events_in, full_cause, given_behind, have_room, item_turn, left_by, line_turn, no_answers, play, refused_turn, space_answers, steps_behind, stored_events, turn_cause, turn_of, turns}
 use Rattle.hac_model.specs.Run.Given.{next_fault}
-use Rattle.hac_model.specs.Run.Refusals.{cause, events_of, led_to}
+use Rattle.hac_model.specs.Run.Answers.{first_cause}
+use Rattle.hac_model.specs.Run.Asks.{asks}
+use Rattle.hac_model.specs.Run.Refusals.{cause, early_cause, events_of, late_cause, led_to}
+use Rattle.hac_model.specs.Spaces.Answering.{AreAnswersTo, AreRisingNames, Attached, answers_of, documents_in, names_with}
+use Rattle.hac_model.specs.Spaces.Catalogue.{names}
+use Rattle.hac_model.specs.declared.spaces.Answers.{Answers}
+use Rattle.hac_model.specs.declared.spaces.Asks.{Asks}
+use Rattle.std.specs.List.Sorted.{IsStrictlySortedBy}
+use Rattle.std.specs.Map.{lookup}
+use Rattle.std.specs.Str.{bytes_eq}
+use Rattle.std.proofs.lemmas.List.{length-map}
 use Rattle.hac_model.specs.Run.Resolving.{resolve}
 use Rattle.hac_model.specs.Script.{after_item, after_line, first_items, first_line, items_of_lines, script}
 use Rattle.hac_model.specs.Tree.Valid.{IsValid}
@@ -29,11 +39,47 @@ use Rattle.hac_model.proofs.EventLemmas.{all-valid, commands-happen, no_cause, s
 use Rattle.hac_model.proofs.SpellingLemmas.{IsItem, item_of-item}
 
 -- the setting that a command leaves
-abbrev left : Setting → Resolved → Setting
-left setting command = record setting {
-  state = led_to no_answers setting.state command;
-  end = end_behind setting.end (stored_events setting.state command);
+abbrev left : Setting → Resolved → Answers → Setting
+left setting command answers = record setting {
+  state = led_to answers setting.state command;
+  end = end_behind setting.end (stored_events answers setting.state command);
 }
+
+-- what spaces that are in order answer
+pub said-answers : (spaces : List Attached) → AllByRecursion (λ space. AreRisingNames (names space.1)) spaces → (asked : Asks) → AreAnswersTo asked (answers_of spaces asked)
+unfolding IsStrictlySortedBy
+said-answers spaces rise asked = record {
+  rising = listed asked.list;
+  unlisted = unlisted asked.list;
+  found = length-map asked.searches (λ question. names_with (documents_in spaces question.space) question.term);
+}
+  where
+    none : AreRisingNames []
+    none = record { names = λ k d low. absurd (omega (arith, low)); rising = tt }
+
+    at : (spaces : List Attached) (name : List ℕ) → AllByRecursion (λ space. AreRisingNames (names space.1)) spaces → AreRisingNames (names (documents_in spaces name))
+    at [] name rise = none
+    at (space ∷ spaces) name rise = elim (bytes_eq name space.0) as (λ b. AreRisingNames (names (unwrap_or (if b then Some space.1 else lookup (bytes_eq name) spaces) []))) [
+      | true ↦ rise.0
+      | false ↦ at spaces name rise.1
+    ]
+
+    listed : (o : Option (List ℕ)) → AreRisingNames (unwrap_or (option_map (λ space. names (documents_in spaces space)) o) [])
+    listed None = none
+    listed (Some name) = at spaces name rise
+
+    unlisted : (o : Option (List ℕ)) → IfNone o (unwrap_or (option_map (λ space. names (documents_in spaces space)) o) [] ≡ [])
+    unlisted None = refl
+    unlisted (Some name) = tt
+
+-- no cause at all is none of the state's
+no-cause-of : (given : Given) (setting : Setting) (command : Resolved) (answers : Answers) → turn_cause given setting command answers ≡ None → cause answers setting.state command ≡ None
+no-cause-of given setting command answers free =
+    let s = setting.state in
+    let early = no_cause (early_cause s command) (absent_cause given s command ∷ late_cause answers s command ∷ full_cause setting (stored_events answers s command) ∷ []) free in
+    let absent = no_cause (absent_cause given s command) (late_cause answers s command ∷ full_cause setting (stored_events answers s command) ∷ []) early.1 in
+    let late = no_cause (late_cause answers s command) (full_cause setting (stored_events answers s command) ∷ []) absent.1 in
+    λ i. first_cause (early.0 i ∷ late.0 i ∷ [])
 
 -- a step happens where there is something to index
 can-step : (setting : Setting) → IsValid setting.state → can_step setting ≡ true → IsTrue (accepted setting.state event.Step)
@@ -49,30 +95,36 @@ steps-valid (suc n) setting h =
       | false ↦ (λ _. h)
     ] refl
 
+-- the spaces that are given have their documents in order
+abbrev pub AreInOrder : Given → Type 0
+AreInOrder given = AllByRecursion (λ space. AreRisingNames (names space.1)) given.spaces
+
 -- what a command leads to is valid
-command-valid : (given : Given) (setting : Setting) (line : Line) (r : Result Resolved Refusal) → IsValid setting.state → IsTrue (is_spelled_line line) → resolve setting.state line ≡ r → IsValid (command_turn given setting r).after.state
-command-valid given setting line (Err refusal) h spelled leads = steps-valid given.steps setting h
-command-valid given setting line (Ok command) h spelled leads =
-    elim (turn_cause setting command) as (λ o. turn_cause setting command ≡ o → IsValid (option_map_or (refused_turn given setting) o (answered_turn given setting command)).after.state) [
-      | None ↦ (λ free. steps-valid given.steps (left setting command)
-          (all-valid (events_of no_answers setting.state command) setting.state h (commands-happen setting.state line command h spelled leads (no_cause (cause no_answers setting.state command) (full_cause setting command ∷ []) free).0)))
+command-valid : (given : Given) → AreInOrder given → (setting : Setting) (line : Line) (r : Result Resolved Refusal) → IsValid setting.state → IsTrue (is_spelled_line line) → resolve setting.state line ≡ r → IsValid (command_turn given setting r).after.state
+command-valid given rise setting line (Err refusal) h spelled leads = steps-valid given.steps setting h
+command-valid given rise setting line (Ok command) h spelled leads =
+    let answers : Answers = space_answers given setting.state command in
+    elim (turn_cause given setting command answers) as (λ o. turn_cause given setting command answers ≡ o → IsValid (option_map_or (refused_turn given setting) o (answered_turn given setting command answers)).after.state) [
+      | None ↦ (λ free. steps-valid given.steps (left setting command answers)
+          (all-valid (events_of answers setting.state command) setting.state h
+          (commands-happen setting.state line command answers h spelled leads (said-answers given.spaces rise (asks setting.state command)) (no-cause-of given setting command answers free))))
       | Some refusal ↦ (λ _. steps-valid given.steps setting h)
     ] refl
 
-line-valid : (given : Given) (setting : Setting) (item : Item) → IsItem item → IsValid setting.state → IsValid (line_turn given setting item).after.state
-line-valid given setting (Ok line) spelled h = command-valid given setting line (resolve setting.state line) h spelled refl
-line-valid given setting (Err refusal) spelled h = steps-valid given.steps setting h
+line-valid : (given : Given) → AreInOrder given → (setting : Setting) (item : Item) → IsItem item → IsValid setting.state → IsValid (line_turn given setting item).after.state
+line-valid given rise setting (Ok line) spelled h = command-valid given rise setting line (resolve setting.state line) h spelled refl
+line-valid given rise setting (Err refusal) spelled h = steps-valid given.steps setting h
 
-pub turn-valid : (given : Given) (setting : Setting) (item : Item) → IsItem item → IsValid setting.state → IsValid (item_turn given setting item).after.state
-turn-valid given setting item spelled h =
+pub turn-valid : (given : Given) → AreInOrder given → (setting : Setting) (item : Item) → IsItem item → IsValid setting.state → IsValid (item_turn given setting item).after.state
+turn-valid given rise setting item spelled h =
     elim (next_fault given) as (λ o. IsValid (option_map_or (λ space. refused_turn given setting (SpaceFault space)) o (line_turn given setting item)).after.state) [
-      | None ↦ line-valid given setting item spelled h
+      | None ↦ line-valid given rise setting item spelled h
       | Some space ↦ steps-valid given.steps setting h
     ]
 
-pub turns-valid : (given : Given) (setting : Setting) (items : List Item) → AllByRecursion IsItem items → IsValid setting.state → IsValid (left_by setting (turns given setting items)).state
-turns-valid given setting [] spelled h = h
-turns-valid given setting (item ∷ items) spelled h = turns-valid (given_behind 1 given) (item_turn given setting item).after items spelled.1 (turn-valid given setting item spelled.0 h)
+pub turns-valid : (given : Given) → AreInOrder given → (setting : Setting) (items : List Item) → AllByRecursion IsItem items → IsValid setting.state → IsValid (left_by setting (turns given setting items)).state
+turns-valid given rise setting [] spelled h = h
+turns-valid given rise setting (item ∷ items) spelled h = turns-valid (given_behind 1 given) rise (item_turn given setting item).after items spelled.1 (turn-valid given rise setting item spelled.0 h)
 
 all-append : (xs ys : List Item) → AllByRecursion IsItem xs → AllByRecursion IsItem ys → AllByRecursion IsItem (xs ++ ys)
 all-append [] ys p q = q
@@ -90,8 +142,8 @@ pub script-items : (bytes : List ℕ) → AllByRecursion IsItem (script bytes)
 unfolding script
 script-items bytes = items_of_lines-items (length bytes) bytes
 
-pub scripts-valid : (given : Given) (setting : Setting) (bytes : List ℕ) → IsValid setting.state → IsValid (left_by setting (play given setting bytes)).state
-scripts-valid given setting bytes h = turns-valid given setting (script bytes) (script-items bytes) h
+pub scripts-valid : (given : Given) → AreInOrder given → (setting : Setting) (bytes : List ℕ) → IsValid setting.state → IsValid (left_by setting (play given setting bytes)).state
+scripts-valid given rise setting bytes h = turns-valid given rise setting (script bytes) (script-items bytes) h
 
 -- events one after the other
 
@@ -151,9 +203,10 @@ refused-leads given setting refusal = turn_of-leads given setting setting (Refus
 command-leads : (given : Given) (setting : Setting) (r : Result Resolved Refusal) → Leads setting (command_turn given setting r)
 command-leads given setting (Err refusal) = refused-leads given setting refusal
 command-leads given setting (Ok command) =
-    elim (turn_cause setting command) as (λ o. Leads setting (option_map_or (refused_turn given setting) o (answered_turn given setting command))) [
-      | None ↦ turn_of-leads given setting (left setting command) (Lines (data_lines no_answers setting.state command)) (stored_events setting.state command)
-          (stored-all (events_of no_answers setting.state command) setting.state)
+    let answers : Answers = space_answers given setting.state command in
+    elim (turn_cause given setting command answers) as (λ o. Leads setting (option_map_or (refused_turn given setting) o (answered_turn given setting command answers))) [
+      | None ↦ turn_of-leads given setting (left setting command answers) (Lines (data_lines answers setting.state command)) (stored_events answers setting.state command)
+          (stored-all (events_of answers setting.state command) setting.state)
           refl
       | Some refusal ↦ refused-leads given setting refusal
     ]

@@ -2,6 +2,8 @@
 use Rattle.hac_model.specs.declared.events.Event.TheVariants.{Smount, Ssync, Sumount}
 use Rattle.hac_model.specs.Tree.Mounting.{answers_to}
 use Rattle.hac_model.specs.Tree.Mounts.{terms_to_ask}
+use Rattle.hac_model.specs.Tree.Asking.{with_told}
+use Rattle.hac_model.proofs.GainLemmas.{directory-told}
 use Rattle.hac_model.proofs.LayoutLemmas.{sumount-parts}
 use Rattle.hac_model.proofs.MountAskLemmas.{mounted-sessions, synced-sessions, unmounted-sessions}
 use Rattle.std.proofs.Common.{◌≡◌, ℕ, Bool, true, false, List, [], ◌∷◌, ◌++◌, cond, filter, refl, sym, subst, ◌∙◌, append-nil}
@@ -119,8 +121,10 @@ apply-sessions s (Mkdir dir name) h ok = sessions-stay s (apply s (Mkdir dir nam
 apply-sessions s (NewFile dir name text) h ok = sessions-stay s (apply s (NewFile dir name text)) refl h.sessions (added-directories s dir name (File text true None))
 apply-sessions s (Rewrite file text) h ok = sessions-stay s (apply s (Rewrite file text)) refl h.sessions (edited-directories s file (rewritten text) (rewritten-kind text))
 apply-sessions s (Ln dir name target) h ok = sessions-stay s (apply s (Ln dir name target)) refl h.sessions (added-directories s dir name (Symlink target))
-apply-sessions s (Smkdir dir name query told) h ok = sessions-stay s (apply s (Smkdir dir name query told)) refl h.sessions (added-directories s dir name (Semantic query [] []))
-apply-sessions s (Setq dir query told) h ok = sessions-stay s (apply s (Setq dir query told)) refl h.sessions (edited-directories s dir (asking query) (asking-kind query))
+apply-sessions s (Smkdir dir name query told) h ok =
+    sessions-stay s (apply s (Smkdir dir name query told)) refl h.sessions (λ d there. added-directories (with_told query told s) dir name (Semantic query [] []) d (directory-told s query told d ∙ there))
+apply-sessions s (Setq dir query told) h ok =
+    sessions-stay s (apply s (Setq dir query told)) refl h.sessions (λ d there. edited-directories (with_told query told s) dir (asking query) (asking-kind query) d (directory-told s query told d ∙ there))
 apply-sessions s (Unq dir) h ok = sessions-stay s (apply s (Unq dir)) refl h.sessions (edited-directories s dir plain_body plain-kind)
 apply-sessions s (Mark mark) h ok = sessions-stay s (apply s (Mark mark)) refl h.sessions (edited-directories s mark.dir (marked mark.item mark.kind) (marked-kind mark.item mark.kind))
 apply-sessions s (Mv entry dir name) h ok =

@@ -1,12 +1,12 @@
 -- Which names, numbers and lists have a spelling: numbers of a tree have four bytes, so numbers that rise are no more than
 -- four bytes can count, and no more terms are in use than that.
-use Rattle.std.proofs.Common.{◌≡◌, ℕ, suc, ◌+◌, ◌*◌, ◌-◌, ◌<◌, ◌≤◌, true, false, List, [], ◌∷◌, length, refl, arith}
-use Rattle.std.specs.Prelude.{codes, not, ◌&&◌, ◌==◌, if◌then◌else◌, nat_lt, nat_le, Option, Some, None}
+use Rattle.std.proofs.Common.{◌≡◌, ℕ, suc, ◌+◌, ◌*◌, ◌-◌, ◌<◌, ◌≤◌, Bool, true, false, List, [], ◌∷◌, length, refl, ap, sym, ◌∙◌, subst, arith}
+use Rattle.std.specs.Prelude.{codes, drop, filter, not, take, ◌&&◌, ◌==◌, if◌then◌else◌, nat_lt, nat_le, Option, Some, None}
 use Rattle.std.specs.List.{AllByRecursion, list_all}
 use Rattle.std.specs.Str.{bytes_eq}
 use Rattle.std.proofs.lemmas.Bool.{and_from, and_parts, eqb-true, leb-true}
 use Rattle.std.proofs.lemmas.Bool.Decides.{nat_tests}
-use Rattle.std.proofs.lemmas.List.{length-append}
+use Rattle.std.proofs.lemmas.List.{length-append, take-append-drop}
 use Rattle.hac_model.specs.Payload.Fields.{checked, items_fit, num}
 use Rattle.hac_model.specs.Payload.Payloads.{docs_field, name_field, nums, rises, space_field, told_field}
 use Rattle.hac_model.specs.Query.Formula.{Formula}
@@ -16,21 +16,22 @@ use Rattle.hac_model.specs.Query.Terms.{is_term_before}
 use Rattle.hac_model.specs.Script.SpaceNames.{is_space_byte, is_space_name}
 use Rattle.hac_model.specs.Tree.Depends.{named_in}
 use Rattle.hac_model.specs.Tree.Events.{are_directories, may_ask}
-use Rattle.hac_model.specs.Tree.Limits.{semantic_count}
-use Rattle.hac_model.specs.Tree.Links.{parent_of}
+use Rattle.hac_model.specs.Tree.Asking.{are_all_told, asked_by, unanswered}
+use Rattle.hac_model.specs.Tree.Limits.{mount_count, semantic_count}
+use Rattle.hac_model.specs.Tree.Links.{answers_at, parent_of}
 use Rattle.hac_model.specs.Tree.Listing.{is_before}
 use Rattle.hac_model.specs.Tree.Mounting.{are_documents, are_told, do_names_rise, do_rise_from, is_document_of, is_told}
-use Rattle.hac_model.specs.Tree.Mounts.{in_order, put_term, terms_in, terms_in_use, terms_to_ask}
+use Rattle.hac_model.specs.Tree.Mounts.{in_order, is_kept, put_term, terms_in, terms_in_use, terms_to_ask}
 use Rattle.hac_model.specs.Tree.Names.{is_name, is_name_byte}
-use Rattle.hac_model.specs.Tree.{is_document, is_document_at}
+use Rattle.hac_model.specs.Tree.{is_document, is_document_at, is_mount}
 use Rattle.hac_model.specs.Tree.Valid.{AsksWell, IsLayout, IsValid, RiseFrom}
-use Rattle.hac_model.specs.declared.limits.TheConstants.{DOCS_LIMIT, NAME_LIMIT, NESTING_LIMIT, QUERY_LIMIT, SEMANTICS_LIMIT, TERMS_LIMIT}
+use Rattle.hac_model.specs.declared.limits.TheConstants.{DOCS_LIMIT, MOUNTS_LIMIT, NAME_LIMIT, NESTING_LIMIT, QUERY_LIMIT, SEMANTICS_LIMIT, TERMS_LIMIT}
 use Rattle.hac_model.specs.declared.states.Body.{Body}
 use Rattle.hac_model.specs.declared.states.Body.TheVariants.{File, Dir, Symlink, Semantic, Mount, Document}
 use Rattle.hac_model.specs.declared.states.Entry.{Entry}
 use Rattle.hac_model.specs.declared.states.State.{State}
 use Rattle.hac_model.specs.declared.terms.Term.{Term}
-use Rattle.hac_model.proofs.ChangeLemmas.{all-weaker}
+use Rattle.hac_model.proofs.ChangeLemmas.{all-joined, all-weaker}
 use Rattle.hac_model.proofs.CountLemmas.{is_queried, measured-cons, one_if}
 use Rattle.hac_model.proofs.LimitLemmas.{IsWithinLimits, limits-within}
 use Rattle.hac_model.proofs.MountKeptLemmas.{rise-told}
@@ -182,6 +183,67 @@ told-fit s t mount told h tree are =
     let all : length (terms_in_use s.entries) ≤ 64 * semantic_count s.entries = in_use-few s s.entries h.queries in
     let asked : length (terms_to_ask s.entries) ≤ length (terms_in_use s.entries) = order-few (terms_in_use s.entries) in
     and_from (num.fits (length told)) _ (counted (length told) (omega (arith, even, few, all, asked))) (lists-fit t tree mount None told parts.1)
+  where
+    counted : (k : ℕ) → k ≤ 64000 → num.fits k ≡ true
+    counted k most = grind (arith, nat_tests, most)
+
+-- What mounts are told for a query.
+
+filter-few : (p : Term → Bool) (terms : List Term) → length (filter p terms) ≤ length terms
+filter-few p [] = omega arith
+filter-few p (term ∷ terms) =
+    let rest = filter-few p terms in
+    elim (p term) as (λ b. length (if b then term ∷ filter p terms else filter p terms) ≤ length (term ∷ terms)) [ true ↦ omega (arith, rest) | false ↦ omega (arith, rest) ]
+
+module _ (s : State) (query : Formula ℕ) (h : IsLayout s) (may : may_ask s query ≡ true) where
+  -- a mount has to be asked for no more terms than a query may have
+  asked-few : (e : Entry) → length (asked_by (answers_at s) query e) ≤ 64 * one_if is_mount e.body
+  asked-few e = few (is_mount e.body)
+    where
+      few : (b : Bool) → length (if b then unanswered query (answers_at s e.number) else []) ≤ 64 * (if b then 1 else 0)
+      few true =
+          let terms = filter-few (λ term. not (is_kept (answers_at s e.number) term)) (in_order (terms_of query)) in
+          omega (arith, terms, order-few (terms_of query), query-few s query may)
+      few false = omega arith
+
+  told-few : (es : List Entry) (told : List (List ℕ)) → are_all_told s query told es ≡ true → length told ≤ 64 * mount_count es
+  told-few [] told all = let none : length told ≡ 0 = eqb-true (length told) 0 all in omega (arith, none)
+  told-few (e ∷ es) told all =
+      let k = length (asked_by (answers_at s) query e) in
+      let parts = and_parts (are_told s e.number (asked_by (answers_at s) query e) (take k told)) (are_all_told s query (drop k told) es) all in
+      let own = and_parts (length (take k told) == k) (list_all (is_told s e.number) (take k told)) parts.0 in
+      let even : length (take k told) ≡ k = eqb-true (length (take k told)) k own.0 in
+      let both : length (take k told) + length (drop k told) ≡ length told = sym (length-append (take k told) (drop k told)) ∙ ap (λ (ns : List (List ℕ)). length ns) (take-append-drop k told) in
+      let rest = told-few es (drop k told) parts.1 in
+      omega (arith, even, both, rest, asked-few e, measured-cons (one_if is_mount) e es)
+
+  each-fits : (es : List Entry) (told : List (List ℕ)) → are_all_told s query told es ≡ true → AllByRecursion (λ ns. nums.fits ns ≡ true) told
+  each-fits [] [] all = tt
+  each-fits [] (ns ∷ told) all = let never : length (ns ∷ told) ≡ 0 = eqb-true (length (ns ∷ told)) 0 all in absurd (omega (arith, never))
+  each-fits (e ∷ es) told all =
+      let k = length (asked_by (answers_at s) query e) in
+      let parts = and_parts (are_told s e.number (asked_by (answers_at s) query e) (take k told)) (are_all_told s query (drop k told) es) all in
+      let own = and_parts (length (take k told) == k) (list_all (is_told s e.number) (take k told)) parts.0 in
+      subst (AllByRecursion (λ ns. nums.fits ns ≡ true)) (take-append-drop k told)
+      (all-joined (λ ns. nums.fits ns ≡ true) (take k told) (drop k told) (own-fit e.number (take k told) own.1) (each-fits es (drop k told) parts.1))
+    where
+      own-fit : (mount : ℕ) (told : List (List ℕ)) → list_all (is_told s mount) told ≡ true → AllByRecursion (λ ns. nums.fits ns ≡ true) told
+      own-fit mount [] are = tt
+      own-fit mount (ns ∷ told) are =
+          let parts = and_parts (is_told s mount ns) (list_all (is_told s mount) told) are in
+          ((and_parts (nums.fits ns) (items_fit (λ last. nums) (Some ns) told) (lists-fit s h mount None (ns ∷ told) are)).0, own-fit mount told parts.1)
+
+lists-all : (last : Option (List ℕ)) (told : List (List ℕ)) → AllByRecursion (λ ns. nums.fits ns ≡ true) told → items_fit (λ last. nums) last told ≡ true
+lists-all last [] fits = refl
+lists-all last (ns ∷ told) fits = and_from (nums.fits ns) _ fits.0 (lists-all (Some ns) told fits.1)
+
+-- so what mounts are told for a query has a spelling
+pub all-told-fit : (s : State) (query : Formula ℕ) (told : List (List ℕ)) → IsValid s → may_ask s query ≡ true → are_all_told s query told s.entries ≡ true → told_field.fits told ≡ true
+all-told-fit s query told h may all =
+    let within : IsWithinLimits s = limits-within s h.layout.limits in
+    let few : mount_count s.entries ≤ MOUNTS_LIMIT = grind (arith, nat_tests, within.mounts) in
+    let told-all : length told ≤ 64 * mount_count s.entries = told-few s query h.layout may s.entries told all in
+    and_from (num.fits (length told)) _ (counted (length told) (omega (arith, few, told-all))) (lists-all None told (each-fits s query h.layout may s.entries told all))
   where
     counted : (k : ℕ) → k ≤ 64000 → num.fits k ≡ true
     counted k most = grind (arith, nat_tests, most)

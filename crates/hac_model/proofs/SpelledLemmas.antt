@@ -1,8 +1,8 @@
 -- Each event that can happen to a valid state, and is stored, has a spelling: its numbers have four bytes, its names, texts and
 -- queries are no longer than such may be, and what it tells of a space's documents is no more than four bytes can count.
 use Rattle.std.proofs.Common.{inl, inr, ◌≡◌, ℕ, zero, suc, ◌<◌, Bool, true, false, List, [], ◌∷◌, ◌++◌, length, refl, ap, sym, ◌∙◌, arith}
-use Rattle.std.specs.Prelude.{not, option_and_then, ◌&&◌, ◌||◌, ◌==◌, if◌then◌else◌, nat_le, Option, Some, None, IsTrue, is_some, is_none}
-use Rattle.std.proofs.lemmas.Bool.{and_from, and_parts, eqb-true}
+use Rattle.std.specs.Prelude.{not, option_and_then, ◌&&◌, ◌||◌, if◌then◌else◌, nat_le, Option, Some, None, IsTrue, is_some, is_none}
+use Rattle.std.proofs.lemmas.Bool.{and_from, and_parts}
 use Rattle.std.proofs.lemmas.List.Folds.{list_all-append}
 use Rattle.std.specs.Option.{option_map, option_map_or}
 use Rattle.hac_model.specs.Tree.Depends.{cycle_over, first_reaching, named_in, reaches}
@@ -34,7 +34,7 @@ use Rattle.hac_model.proofs.StayLemmas.{asks-stays}
 use Rattle.hac_model.proofs.ChangeLemmas.{all-weaker}
 use Rattle.hac_model.proofs.LayoutLemmas.{smount-parts, ssync-parts, sumount-parts}
 use Rattle.hac_model.proofs.MountLayoutLemmas.{mounted-layout, synced-layout}
-use Rattle.hac_model.proofs.SpellableLemmas.{docs-fit, name-fits, small-fits, space-fits, told-fit}
+use Rattle.hac_model.proofs.SpellableLemmas.{docs-fit, name-fits, small-fits, space-fits, all-told-fit, told-fit}
 use Rattle.hac_model.proofs.TreeLemmas.{Lives, directory-lives, entry_at-below}
 use Rattle.hac_model.proofs.ValidLemmas.{accepted-parts, free-parts, mark-parts, move-parts, rmdir-parts, setq-parts, smkdir-parts}
 use Rattle.hac_model.proofs.KeepingLemmas.{keeps-stays}
@@ -80,10 +80,6 @@ module _ (s : State) (h : IsValid s) where
   pub text-fits : (text : List ℕ) → is_text text ≡ true → text_field.fits text ≡ true
   text-fits text is = and_from (nat_le (length text) TEXT_LIMIT) true is refl
 
-  told-fits : (told : List (List ℕ)) → (length told == 0) ≡ true → told_field.fits told ≡ true
-  told-fits [] none = refl
-  told-fits (one ∷ more) none = let never : length (one ∷ more) ≡ 0 = eqb-true (length (one ∷ more)) 0 none in absurd (omega (arith, never))
-
   -- a place that is free
   place-fits : (dir : ℕ) (name : List ℕ) → is_free s dir name ≡ true → (num.fits dir ≡ true) × (name_field.fits name ≡ true)
   place-fits dir name free = let parts = free-parts s dir name free in (directory-fits dir parts.0, name-fits name parts.1)
@@ -128,10 +124,10 @@ module _ (s : State) (h : IsValid s) where
   possible-spelled (Smkdir dir name query told) kept is limits =
       let parts = smkdir-parts s dir name query told is in
       let place = place-fits dir name parts.0 in
-      and_from (num.fits dir) _ place.0 (and_from (name_field.fits name) _ place.1 (and_from (query_field.fits query) (told_field.fits told) (query-fits query parts.1) (told-fits told parts.2)))
+      and_from (num.fits dir) _ place.0 (and_from (name_field.fits name) _ place.1 (and_from (query_field.fits query) (told_field.fits told) (query-fits query parts.1) (all-told-fit s query told h parts.1 parts.2)))
   possible-spelled (Setq dir query told) kept is limits =
       let parts = setq-parts s dir query told is in
-      and_from (num.fits dir) _ (tested-fits dir is_directory parts.0) (and_from (query_field.fits query) (told_field.fits told) (query-fits query parts.1) (told-fits told parts.3))
+      and_from (num.fits dir) _ (tested-fits dir is_directory parts.0) (and_from (query_field.fits query) (told_field.fits told) (query-fits query parts.1) (all-told-fit s query told h parts.1 parts.3))
   possible-spelled (Unq dir) kept is limits = semantic-fits dir is
   possible-spelled (Mark set) kept is limits =
       let parts = mark-parts s set.dir set.item set.kind is in

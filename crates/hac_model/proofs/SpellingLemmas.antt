@@ -13,14 +13,14 @@ use Rattle.hac_model.specs.Script.LineWords.{after_first_run, after_space, first
 use Rattle.hac_model.specs.Script.Numbers.{are_steps, is_number, is_tick}
 use Rattle.hac_model.specs.Script.SessionWords.{main_session, named_session, names_session, session_name, session_words}
 use Rattle.hac_model.specs.Script.SpaceNames.{is_space_byte, is_space_name}
-use Rattle.hac_model.specs.Script.Lines.{Item, alone, called_with, command_with, each_path, find_of, is_put, is_spelled, is_spelled_line, item_of, item_taken, limited_target, limited_text, line_with, ln_of, maybe_path, named_command, of_two_paths, one_path, only_path, only_word, path_and_query, put_at, put_of, put_words, taken_of, tick_of, two_paths, write_of}
+use Rattle.hac_model.specs.Script.Lines.{Item, alone, called_with, command_with, each_path, find_of, is_put, is_spelled, is_spelled_line, item_of, item_taken, limited_target, limited_text, line_with, ln_of, maybe_path, named_command, of_two_paths, one_path, only_path, only_word, path_and_query, put_at, put_of, put_words, smount_of, taken_of, tick_of, two_paths, write_of}
 use Rattle.hac_model.specs.Script.PathWords.{has_long_part, is_bad, is_path_word, is_target, untested_word, word_of}
 use Rattle.hac_model.specs.Tree.Paths.{are_names}
 use Rattle.hac_model.specs.Query.Formula.{Formula}
 use Rattle.hac_model.specs.Query.QueryReading.{is_spelled_query, read_query}
 use Rattle.hac_model.specs.Script.Texts.{text_of}
 use Rattle.hac_model.specs.declared.commands.Command.{Command}
-use Rattle.hac_model.specs.declared.commands.Command.TheVariants.{Mkdir, Rmdir, Write, Cat, Ls, Cd, Pwd, Mv, Rm, Ln, Readlink, Smkdir, Setq, Unq, Query, Sls, Sln, Srm, Sforget, Find, Index, Tick, Counts}
+use Rattle.hac_model.specs.declared.commands.Command.TheVariants.{Mkdir, Rmdir, Write, Cat, Ls, Cd, Pwd, Mv, Rm, Ln, Readlink, Smkdir, Setq, Unq, Query, Sls, Sln, Srm, Sforget, Find, Smount, Ssync, Sumount, Index, Tick, Counts}
 use Rattle.hac_model.specs.declared.commands.Line.{Line}
 use Rattle.hac_model.specs.declared.limits.LimitWord.TheVariants as limit
 use Rattle.hac_model.specs.declared.limits.TheConstants.{LINE_LIMIT, TARGET_LIMIT}
@@ -179,6 +179,21 @@ spells_alone : (command : Command) (arguments : List ℕ) → is_spelled command
 unfolding Spells alone
 spells_alone command arguments spelled = spells-if (list_all is_space arguments) (Ok command) (Err BadLine) (λ good. spelled) (λ bad. tt)
 
+named-space : (space name : List ℕ) → (if is_space_name space then Ok space else Err BadLine) ≡ Ok name → is_space_name name ≡ true
+named-space space name is = elim (is_space_name space) as (λ b. is_space_name space ≡ b → (if b then Ok space else Err BadLine) ≡ Ok name → is_space_name name ≡ true) [
+  | true ↦ (λ good is. let same : space ≡ name = cc in ap is_space_name (sym same) ∙ good)
+  | false ↦ (λ bad is. absurd cc)
+] refl is
+
+spells_mount : (arguments : List ℕ) → Spells (smount_of arguments)
+unfolding smount_of
+spells_mount arguments =
+    spells-then (first_word arguments) _ (λ word _.
+    spells-then (only_word word.1) _ (λ space _.
+    spells-then (if is_space_name space then Ok space else Err BadLine) _ (λ name good.
+    spells-then (word_of word.0) _ (λ path named.
+    command-spelled (Smount path name) (and_from (are_names path.names) (is_space_name name) (path-spelled word.0 path named) (named-space space name good))))))
+
 tick-spelled : (word : List ℕ) → Spells (if is_tick word then Ok (Tick (digits_value 10 word)) else Err BadLine)
 tick-spelled word =
     spells-if (is_tick word) (Ok (Tick (digits_value 10 word))) (Err BadLine)
@@ -215,10 +230,13 @@ spells_named name arguments =
     (λ _. cond_both (bytes_eq name (codes "srm")) _ _ P (λ _. spells_two Srm arguments both)
     (λ _. cond_both (bytes_eq name (codes "sforget")) _ _ P (λ _. spells_two Sforget arguments both)
     (λ _. cond_both (bytes_eq name (codes "find")) _ _ P (λ _. spells_find arguments)
+    (λ _. cond_both (bytes_eq name (codes "smount")) _ _ P (λ _. spells_mount arguments)
+    (λ _. cond_both (bytes_eq name (codes "ssync")) _ _ P (λ _. spells_one Ssync arguments (λ path names. names))
+    (λ _. cond_both (bytes_eq name (codes "sumount")) _ _ P (λ _. spells_one Sumount arguments (λ path names. names))
     (λ _. cond_both (bytes_eq name (codes "index")) _ _ P (λ _. spells_alone Index arguments refl)
     (λ _. cond_both (bytes_eq name (codes "tick")) _ _ P (λ _. spells_tick arguments)
     (λ _. cond_both (bytes_eq name (codes "counts")) _ _ P (λ _. spells_alone Counts arguments refl)
-    (λ _. spells_bad_line)))))))))))))))))))))))
+    (λ _. spells_bad_line))))))))))))))))))))))))))
 
 spells_put_at : (word : List ℕ) (taken : Option Taken) → Spells (put_at word taken)
 unfolding Spells

@@ -32,7 +32,7 @@ use Rattle.hac_model.specs.declared.places.Place.TheVariants.{There, Free}
 use Rattle.hac_model.specs.declared.replies.Refusal.{Refusal}
 use Rattle.hac_model.specs.declared.replies.Refusal.TheVariants.{NotDir, InMount}
 use Rattle.hac_model.specs.declared.resolved.Resolved.{Resolved}
-use Rattle.hac_model.specs.declared.resolved.Resolved.TheVariants.{Mkdir, Rmdir, Write, Cat, Ls, Cd, Mv, Rm, Ln, Readlink, Smkdir, Setq, Unq, Query, Sls, Sln, Srm, Sforget, Find}
+use Rattle.hac_model.specs.declared.resolved.Resolved.TheVariants.{Mkdir, Rmdir, Write, Cat, Ls, Cd, Mv, Rm, Ln, Readlink, Smkdir, Setq, Unq, Query, Sls, Sln, Srm, Sforget, Find, Smount, Ssync, Sumount}
 use Rattle.hac_model.specs.declared.states.State.{State}
 use Rattle.hac_model.proofs.FollowLemmas.{look-follows, place-free, place-lives}
 use Rattle.hac_model.proofs.SessionLemmas.{session-there}
@@ -240,6 +240,11 @@ module _ (s : State) (base : ℕ) (h : IsLayout s) (from : is_directory_at s.ent
   resolved-stands (command.Srm item dir) spelled = at-both Srm item dir (λ n m there. there)
   resolved-stands (command.Sforget item dir) spelled = at-both Sforget item dir (λ n m there. there)
   resolved-stands (command.Find raw) spelled = asking Find raw spelled (λ q may. may)
+  resolved-stands (command.Smount path space) spelled =
+      let parts = and_parts (is_spelled_word path) (is_space_name space) spelled in
+      at-slot (λ p. Smount p space) true path parts.0 (λ p there. (there, parts.1))
+  resolved-stands (command.Ssync path) spelled = at-directory Ssync path (λ n there. there)
+  resolved-stands (command.Sumount path) spelled = at-directory Sumount path (λ n there. there)
   resolved-stands command.Index spelled = tt
   resolved-stands command.Counts spelled = tt
   resolved-stands other spelled = tt

@@ -1,10 +1,11 @@
 -- Events keep a tree one.
-use Rattle.std.proofs.Common.{◌≡◌, ℕ, ◌<◌, inl, inr, Bool, true, false, List, [], ◌∷◌, length, refl, ap, sym, ◌∙◌, arith}
+use Rattle.std.proofs.Common.{◌≡◌, ℕ, ◌<◌, inl, inr, Bool, true, false, List, [], ◌∷◌, refl, ap, sym, ◌∙◌, arith}
 use Rattle.std.specs.Prelude.{◌&&◌, ◌==◌, if◌then◌else◌, not, Option, Some, None, IsTrue, is_none, is_some}
 use Rattle.std.specs.Option.{option_map, option_map_or}
 use Rattle.std.specs.List.{AllByRecursion}
 use Rattle.std.proofs.lemmas.Bool.{and_from, and_parts, eqb-false, eqb-true, not-true}
-use Rattle.hac_model.specs.Tree.Events.{added, asking, changed_in, changed_at, edited, first_asked, forgetting, forgotten, indexed, is_bare, is_free, is_inside, is_made_holder, is_possible, is_unreferenced, marked, may_ask, may_mark, plain_body, removed, reseated, rewritten, is_placed, is_vacant}
+use Rattle.hac_model.specs.Tree.Asking.{are_all_told}
+use Rattle.hac_model.specs.Tree.Events.{added, asking, changed_in, changed_at, edited, forgetting, forgotten, indexed, is_bare, is_free, is_inside, is_made_holder, is_possible, is_unreferenced, marked, may_ask, may_mark, plain_body, removed, reseated, rewritten, is_placed, is_vacant}
 use Rattle.hac_model.specs.Tree.Depends.{cycle_of_move, cycle_over}
 use Rattle.hac_model.specs.Query.Formula.{Formula}
 use Rattle.hac_model.specs.Tree.Limits.{first_passed, is_text, passed_limit, file_bytes}
@@ -337,18 +338,11 @@ passed-forgotten s n h = measures-passed (forgetting n) s (forgetting-measures n
 
 -- What an event that is possible speaks of.
 
--- what a query that mounts needn't be asked for may ask
-asked-parts : (s : State) (query : Formula ℕ) (told : List (List ℕ)) → (may_ask s query && (is_none (first_asked s query) && length told == 0)) ≡ true → (may_ask s query ≡ true) × (first_asked s query ≡ None) × ((length told == 0) ≡ true)
-asked-parts s query told h =
-    let asks = and_parts (may_ask s query) (is_none (first_asked s query) && length told == 0) h in
-    let knows = and_parts (is_none (first_asked s query)) (length told == 0) asks.1 in
-    (asks.0, none_from (first_asked s query) knows.0, knows.1)
-
-pub smkdir-parts : (s : State) (dir : ℕ) (name : List ℕ) (query : Formula ℕ) (told : List (List ℕ)) → is_possible s (Smkdir dir name query told) ≡ true → (is_free s dir name ≡ true) × (may_ask s query ≡ true) × ((length told == 0) ≡ true) × (first_asked s query ≡ None)
+pub smkdir-parts : (s : State) (dir : ℕ) (name : List ℕ) (query : Formula ℕ) (told : List (List ℕ)) → is_possible s (Smkdir dir name query told) ≡ true → (is_free s dir name ≡ true) × (may_ask s query ≡ true) × (are_all_told s query told s.entries ≡ true)
 smkdir-parts s dir name query told h =
-    let fits = and_parts (is_free s dir name) (may_ask s query && (is_none (first_asked s query) && length told == 0)) h in
-    let asks = asked-parts s query told fits.1 in
-    (fits.0, asks.0, asks.2, asks.1)
+    let fits = and_parts (is_free s dir name) (may_ask s query && are_all_told s query told s.entries) h in
+    let asks = and_parts (may_ask s query) (are_all_told s query told s.entries) fits.1 in
+    (fits.0, asks.0, asks.1)
 
 -- a directory that was made and is a holder
 made-parts : (s : State) (dir : ℕ) → is_made_holder s dir ≡ true → (is_made_directory s.entries dir ≡ true) × (is_mount_at s.entries dir ≡ false)
@@ -356,13 +350,13 @@ made-parts s dir h =
     let parts = and_parts (is_made_directory s.entries dir) (not (is_mount_at s.entries dir)) h in
     (parts.0, not-true (is_mount_at s.entries dir) parts.1)
 
-pub setq-parts : (s : State) (dir : ℕ) (query : Formula ℕ) (told : List (List ℕ)) → is_possible s (Setq dir query told) ≡ true → (is_made_directory s.entries dir ≡ true) × (may_ask s query ≡ true) × (cycle_over s dir (parent_of s dir) query ≡ None) × ((length told == 0) ≡ true) × (first_asked s query ≡ None) × (is_mount_at s.entries dir ≡ false)
+pub setq-parts : (s : State) (dir : ℕ) (query : Formula ℕ) (told : List (List ℕ)) → is_possible s (Setq dir query told) ≡ true → (is_made_directory s.entries dir ≡ true) × (may_ask s query ≡ true) × (cycle_over s dir (parent_of s dir) query ≡ None) × (are_all_told s query told s.entries ≡ true) × (is_mount_at s.entries dir ≡ false)
 setq-parts s dir query told h =
     let way = and_parts (is_none (cycle_over s dir (parent_of s dir) query)) (is_placed s (Setq dir query told)) h in
-    let fits = and_parts (is_made_holder s dir) (may_ask s query && (is_none (first_asked s query) && length told == 0)) way.1 in
-    let asks = asked-parts s query told fits.1 in
+    let fits = and_parts (is_made_holder s dir) (may_ask s query && are_all_told s query told s.entries) way.1 in
+    let asks = and_parts (may_ask s query) (are_all_told s query told s.entries) fits.1 in
     let made = made-parts s dir fits.0 in
-    (made.0, asks.0, none_from (cycle_over s dir (parent_of s dir) query) way.0, asks.2, asks.1, made.1)
+    (made.0, asks.0, none_from (cycle_over s dir (parent_of s dir) query) way.0, asks.1, made.1)
 
 pub mark-parts : (s : State) (dir item : ℕ) (kind : Kind) → is_possible s (Mark (record { dir = dir; item = item; kind = kind })) ≡ true → (is_item s item ≡ true) × (is_semantic s dir ≡ true) × (may_mark s dir item kind ≡ true)
 mark-parts s dir item kind h =

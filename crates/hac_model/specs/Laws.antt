@@ -1,6 +1,6 @@
 -- Theorems over the definitions, each proved as the contract of a function of the module `laws`.
 use Rattle.std.specs.Prelude.{true, false, ◌≡◌, ⊤, ℕ, zero, suc, ◌≤◌, ◌+◌, length, nat_lt, List, [], ◌∷◌, ◌++◌, map, None, Some, Ok, IsTrue, is_some, codes}
-use Rattle.std.specs.List.{flat_map, position_or_len}
+use Rattle.std.specs.List.{AllByRecursion, flat_map, position_or_len}
 use Rattle.hac_model.specs.Tree.Bare.{bare}
 use Rattle.hac_model.specs.Bytes.{is_line_end}
 use Rattle.hac_model.specs.Script.CommandLine.{options}
@@ -13,7 +13,11 @@ use Rattle.hac_model.specs.Tree.Links.{column, found_by, has, is_below, is_perma
 use Rattle.hac_model.specs.Tree.Kinds as kinds
 use Rattle.hac_model.specs.Tree.Looks.{look, plain, destination}
 use Rattle.hac_model.specs.Script.Printed.{ended}
+use Rattle.hac_model.specs.Run.Asks.{asks}
 use Rattle.hac_model.specs.Run.Refusals.{cause, events_of, led_to, marks}
+use Rattle.hac_model.specs.Spaces.Answering.{AreAnswersTo, AreRisingNames}
+use Rattle.hac_model.specs.Spaces.Catalogue.{names}
+use Rattle.hac_model.specs.declared.spaces.Answers.{Answers}
 use Rattle.hac_model.specs.Run.Resolving.{resolve}
 use Rattle.hac_model.specs.Script.{due, whole}
 use Rattle.hac_model.specs.Tree.Sessions.{is_stored, sessions_after, stored}
@@ -100,11 +104,11 @@ abbrev pub AllHappen : State → List Event → Type 0
 AllHappen s [] = ⊤
 AllHappen s (event ∷ events) = IsTrue (accepted s event) × AllHappen (apply s event) events
 
--- the events of a command that isn't refused can happen, all of them
+-- the events of a command that isn't refused can happen, all of them, whatever spaces answer
 abbrev pub CommandsHappen : Type 0
 CommandsHappen =
-    (s : State) (line : Line) (command : Resolved) → IsValid s → IsTrue (is_spelled_line line) →
-    resolve s line ≡ Ok command → cause no_answers s command ≡ None → AllHappen s (events_of no_answers s command)
+    (s : State) (line : Line) (command : Resolved) (answers : Answers) → IsValid s → IsTrue (is_spelled_line line) →
+    resolve s line ≡ Ok command → AreAnswersTo (asks s command) answers → cause answers s command ≡ None → AllHappen s (events_of answers s command)
 
 -- a step can happen just where a file is dirty
 abbrev pub StepsAreDue : Type 0
@@ -118,10 +122,11 @@ StepsClean = (s : State) → IsValid s → IsTrue (accepted s Step) → dirty s 
 abbrev pub IndexCleans : Type 0
 IndexCleans = (s : State) → IsValid s → dirty (led_to no_answers s Index) ≡ 0
 
--- scripts lead from valid states to valid states
+-- scripts lead from valid states to valid states, where the spaces have their documents in order
 abbrev pub ScriptsKeepValid : Type 0
 ScriptsKeepValid =
-    (given : Given) (setting : Setting) (bytes : List ℕ) → IsValid setting.state →
+    (given : Given) (setting : Setting) (bytes : List ℕ) →
+    AllByRecursion (λ space. AreRisingNames (names space.1)) given.spaces → IsValid setting.state →
     IsValid (left_by setting (play given setting bytes)).state
 
 -- what is stored of the state after lines is what their events make of what was stored, one after the other

@@ -1,6 +1,7 @@
 -- A run: what commands lead to, why they are refused, and the turns of a script.
 pub mod Answers
 pub mod Given
+pub mod Asks
 pub mod Resolving
 pub mod Standing
 pub mod Refusals

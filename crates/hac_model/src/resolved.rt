@@ -25,9 +25,9 @@ pub enum Resolved {
         /// The text.
         text: Text,
     },
-    /// Shows the text of a file.
+    /// Shows the text of a file or a document.
     Cat {
-        /// The file.
+        /// The file or the document.
         entry: Number,
     },
     /// Lists a directory.
@@ -125,6 +125,23 @@ pub enum Resolved {
     Find {
         /// The query.
         query: Query<Number>,
+    },
+    /// Mounts a space.
+    Smount {
+        /// Where the mount is to be.
+        place: Place,
+        /// The space.
+        space: Name,
+    },
+    /// Asks a mount's space again.
+    Ssync {
+        /// The mount.
+        mount: Number,
+    },
+    /// Removes a mount.
+    Sumount {
+        /// The mount.
+        mount: Number,
     },
     /// Indexes all dirty files.
     Index,

@@ -1,13 +1,16 @@
 -- A whole run: each command is answered, and changes the state for those behind it.
-use Rattle.std.specs.Prelude.{ℕ, zero, suc, ◌+◌, ◌&&◌, nat_lt, if◌then◌else◌, Bool, true, false, List, [], ◌∷◌, ◌++◌, length, filter, take, Option, None, Some, Result, Ok, Err}
-use Rattle.std.specs.List.{flat_map, list_any}
-use Rattle.std.specs.Option.{option_map_or}
+use Rattle.std.specs.Prelude.{◌≡◌, ⊤, IsTrue, ℕ, zero, suc, ◌+◌, ◌&&◌, nat_lt, if◌then◌else◌, Bool, true, false, List, [], ◌∷◌, ◌++◌, length, filter, take, Option, None, Some, Result, Ok, Err, is_none}
+use Rattle.std.specs.List.{flat_map, list_any, take_while}
+use Rattle.std.specs.Option.{option_map, option_map_or}
 use Rattle.hac_model.specs.Run.Answers.{first_cause}
 use Rattle.hac_model.specs.Tree.Events.{apply_all, dirty}
 use Rattle.hac_model.specs.Tree.Sessions.{is_stored}
 use Rattle.hac_model.specs.Script.Lines.{Item}
-use Rattle.hac_model.specs.Run.Given.{Given, given_behind, next_fault, no_answers}
-use Rattle.hac_model.specs.Run.Refusals.{cause, events_of, led_to}
+use Rattle.hac_model.specs.Run.Asks.{asks}
+use Rattle.hac_model.specs.Run.Given.{Given, given_behind, next_fault}
+use Rattle.hac_model.specs.Run.Refusals.{early_cause, events_of, late_cause, led_to}
+use Rattle.hac_model.specs.Spaces.Answering.{answers_of, asked_spaces, first_absent, is_attached}
+use Rattle.hac_model.specs.Tree.Mounting.{is_among}
 use Rattle.hac_model.specs.Run.Resolving.{resolve}
 use Rattle.hac_model.specs.Script.Printed.{reply_text}
 use Rattle.hac_model.specs.Script.{script}
@@ -15,13 +18,14 @@ use Rattle.hac_model.specs.declared.events.Event.{Event}
 use Rattle.hac_model.specs.declared.events.Event.TheVariants.{Step}
 use Rattle.hac_model.specs.declared.limits.LimitWord.TheVariants.{Store}
 use Rattle.hac_model.specs.declared.replies.Refusal.{Refusal}
-use Rattle.hac_model.specs.declared.replies.Refusal.TheVariants.{Limit, SpaceFault}
+use Rattle.hac_model.specs.declared.replies.Refusal.TheVariants.{Limit, NoSpace, SpaceFault}
 use Rattle.hac_model.specs.declared.replies.Reply.{Reply}
 use Rattle.hac_model.specs.declared.replies.Reply.TheVariants.{Lines, Refused}
 use Rattle.hac_model.specs.declared.resolved.Resolved.{Resolved}
+use Rattle.hac_model.specs.declared.spaces.Answers.{Answers}
 use Rattle.hac_model.specs.declared.states.State.{State}
 pub use Rattle.hac_model.specs.Run.Showing.{count_text, data_lines, found_line, kind_lines, line_of_counts, link_lines, counts_line, path_line, query_line, query_lines, text_line, text_lines}
-pub use Rattle.hac_model.specs.Run.Given.{Given, nothing_given, given_behind, no_answers, ticking}
+pub use Rattle.hac_model.specs.Run.Given.{Given, nothing_given, given_behind, given_spaces, no_answers, ticking}
 pub use Rattle.hac_model.specs.Run.Settings.{Setting, after_events, end_after, end_behind, have_room, new_setting, stored_setting}
 
 -- what comes of one command: its reply, its events and the index steps behind it, of which each is stored, and what the
@@ -55,30 +59,49 @@ turn_of given reply events setting = record {
 abbrev pub refused_turn : Given → Setting → Refusal → Turn
 refused_turn given setting refusal = turn_of given (Refused refusal) [] setting
 
+-- what the spaces that are attached answer to a command
+abbrev pub space_answers : Given → State → Resolved → Answers
+space_answers given s command = answers_of given.spaces (asks s command)
+
+-- a space that has to be asked isn't attached
+abbrev pub absent_cause : Given → State → Resolved → Option Refusal
+absent_cause given s command = option_map NoSpace (first_absent given.spaces (asked_spaces (asks s command)))
+
 -- the events of a command that are stored: where a session stands is known to the run alone
-abbrev pub stored_events : State → Resolved → List Event
-stored_events s command = filter is_stored (events_of no_answers s command)
+abbrev pub stored_events : Answers → State → Resolved → List Event
+stored_events answers s command = filter is_stored (events_of answers s command)
 
 -- a command that isn't refused shows its lines, and its events happen
-abbrev pub answered_turn : Given → Setting → Resolved → Turn
-answered_turn given setting command =
-    turn_of given (Lines (data_lines no_answers setting.state command)) (stored_events setting.state command) (record setting {
-      state = led_to no_answers setting.state command;
-      end = end_after setting (stored_events setting.state command);
+abbrev pub answered_turn : Given → Setting → Resolved → Answers → Turn
+answered_turn given setting command answers =
+    turn_of given (Lines (data_lines answers setting.state command)) (stored_events answers setting.state command) (record setting {
+      state = led_to answers setting.state command;
+      end = end_after setting (stored_events answers setting.state command);
     })
 
--- the store has no room for the records of the command's events
-abbrev pub full_cause : Setting → Resolved → Option Refusal
-full_cause setting command = if have_room setting (stored_events setting.state command) then None else Some (Limit Store)
+-- the store has no room for the records of events
+abbrev pub full_cause : Setting → List Event → Option Refusal
+full_cause setting events = if have_room setting events then None else Some (Limit Store)
 
--- why a command is refused: a full store is the last of all causes
-abbrev pub turn_cause : Setting → Resolved → Option Refusal
-turn_cause setting command = first_cause (cause no_answers setting.state command ∷ full_cause setting command ∷ [])
+-- Why a command is refused: what the state says of it comes first, then a space that isn't attached, then what depends on
+-- the answers of spaces, and a full store is the last of all causes.
+abbrev pub turn_cause : Given → Setting → Resolved → Answers → Option Refusal
+turn_cause given setting command answers = first_cause (
+    early_cause setting.state command
+    ∷ absent_cause given setting.state command
+    ∷ late_cause answers setting.state command
+    ∷ full_cause setting (stored_events answers setting.state command)
+    ∷ [])
+
+-- the turn of a command, given what spaces answer
+abbrev pub turn_with : Given → Setting → Resolved → Answers → Turn
+turn_with given setting command answers =
+    option_map_or (refused_turn given setting) (turn_cause given setting command answers) (answered_turn given setting command answers)
 
 -- the turn of a command whose paths were followed
 abbrev pub command_turn : Given → Setting → Result Resolved Refusal → Turn
 command_turn given setting (Err refusal) = refused_turn given setting refusal
-command_turn given setting (Ok command) = option_map_or (refused_turn given setting) (turn_cause setting command) (answered_turn given setting command)
+command_turn given setting (Ok command) = turn_with given setting command (space_answers given setting.state command)
 
 -- the turn of a line that no space fails: it is a command, or refused by its form
 abbrev pub line_turn : Given → Setting → Item → Turn
@@ -90,11 +113,35 @@ abbrev pub item_turn : Given → Setting → Item → Turn
 item_turn given setting item =
     option_map_or (λ space. refused_turn given setting (SpaceFault space)) (next_fault given) (line_turn given setting item)
 
+-- The spaces that are asked for a command: those of its questions that stand before the first to a space that isn't
+-- attached. A command that is refused whatever they answer asks none.
+abbrev pub askable : Given → State → Result Resolved Refusal → List (List ℕ)
+askable given s (Err refusal) = []
+askable given s (Ok command) =
+    if is_none (early_cause s command) then take_while (is_attached given.spaces) (asked_spaces (asks s command)) else []
+
+-- the same for a line
+abbrev pub askable_by : Given → State → Item → List (List ℕ)
+askable_by given s (Err refusal) = []
+askable_by given s (Ok line) = askable given s (resolve s line)
+
+-- a space that fails is one that is asked
+abbrev pub MayFail : Given → State → Item → Option (List ℕ) → Type 0
+MayFail given s item None = ⊤
+MayFail given s item (Some space) = IsTrue (is_among (askable_by given s item) space)
+
 -- the turns of lines in order
 abbrev pub turns : Given → Setting → List Item → List Turn
 turns given setting [] = []
 turns given setting (item ∷ items) =
     item_turn given setting item ∷ turns (given_behind 1 given) (item_turn given setting item).after items
+
+-- each space that fails as lines are answered in order is one that is asked then, and behind them none fails
+abbrev pub AreAskable : Given → Setting → List Item → Type 0
+AreAskable given setting [] = given.faults ≡ []
+AreAskable given setting (item ∷ items) =
+    MayFail given setting.state item (next_fault given)
+    × AreAskable (given_behind 1 given) (item_turn given setting item).after items
 
 -- the turns of a script
 abbrev pub play : Given → Setting → List ℕ → List Turn

@@ -1,31 +1,32 @@
 -- Why a state refuses a command: the first cause of the one order.
-use Rattle.std.specs.Prelude.{ℕ, ◌==◌, ◌||◌, if◌then◌else◌, List, [], ◌∷◌, map, min, replicate, Option, None, Some, Result, Ok, Err, option_and_then}
+use Rattle.std.specs.Prelude.{ℕ, ◌==◌, ◌||◌, if◌then◌else◌, List, [], ◌∷◌, length, map, min, nat_le, replicate, Option, None, Some, Result, Ok, Err, option_and_then}
 use Rattle.std.specs.Option.{option_map, option_map_or}
 use Rattle.hac_model.specs.Run.Answers.{first_cause}
 use Rattle.hac_model.specs.Run.Given.{no_answers}
 use Rattle.hac_model.specs.Tree.Depends.{cycle_of_move, cycle_over, referrers}
-use Rattle.hac_model.specs.Tree.Events.{apply_all, dirty, first_asked, is_bare, is_inside}
-use Rattle.hac_model.specs.Tree.Limits.{answer_limits, counts, first_passed, layout_limits}
-use Rattle.hac_model.specs.Query.Formula.{Formula}
+use Rattle.hac_model.specs.Tree.Events.{apply_all, dirty, is_bare, is_inside}
+use Rattle.hac_model.specs.Tree.Limits.{counts, first_passed, layout_limits, passed_limit}
+use Rattle.hac_model.specs.Tree.Mounting.{mounted, synced}
 use Rattle.hac_model.specs.Tree.Links.{has, is_permanent, is_prohibited, is_semantic, links, parent_of}
 use Rattle.hac_model.specs.Tree.Listing.{is_before}
 use Rattle.hac_model.specs.Tree.Paths.{path_text}
 use Rattle.hac_model.specs.Tree.Sessions.{are_few, least_name, sessions_with, visitors}
+use Rattle.hac_model.specs.Run.Asks.{documents_named, told_for}
 use Rattle.hac_model.specs.Run.Resolving.{resolve}
-use Rattle.hac_model.specs.Tree.Links.{space_at}
-use Rattle.hac_model.specs.Tree.{is_directory_at, is_document_at, is_symlink_at, path_of}
+use Rattle.hac_model.specs.Tree.{is_directory_at, is_document_at, is_mount_at, is_symlink_at, path_of}
 use Rattle.hac_model.specs.declared.commands.Line.{Line}
 use Rattle.hac_model.specs.declared.events.Event.{Event}
 use Rattle.hac_model.specs.declared.events.Event.TheVariants as event
-use Rattle.hac_model.specs.declared.limits.LimitWord.TheVariants.{Sessions}
+use Rattle.hac_model.specs.declared.limits.LimitWord.TheVariants.{Docs, Sessions}
+use Rattle.hac_model.specs.declared.limits.TheConstants.{DOCS_LIMIT}
 use Rattle.hac_model.specs.declared.marks.Kind.{Kind}
 use Rattle.hac_model.specs.declared.marks.Kind.TheVariants.{Permanent, Prohibited, Unlinked}
 use Rattle.hac_model.specs.declared.places.Place.{Place}
 use Rattle.hac_model.specs.declared.places.Place.TheVariants.{There, Free}
 use Rattle.hac_model.specs.declared.replies.Refusal.{Refusal}
-use Rattle.hac_model.specs.declared.replies.Refusal.TheVariants.{NotFile, Exists, NotEmpty, Under, Root, Cycle, Referenced, Busy, NotSemantic, NotLink, NotLinked, Already, NoMark, NoSpace, Limit}
+use Rattle.hac_model.specs.declared.replies.Refusal.TheVariants.{NotFile, Exists, NotEmpty, Under, Root, Cycle, Referenced, Busy, NotSemantic, NotLink, NotLinked, NotMount, Already, NoMark, Gone, Limit}
 use Rattle.hac_model.specs.declared.resolved.Resolved.{Resolved}
-use Rattle.hac_model.specs.declared.resolved.Resolved.TheVariants.{Mkdir, Rmdir, Write, Cat, Ls, Cd, Pwd, Mv, Rm, Ln, Readlink, Smkdir, Setq, Unq, Query, Sls, Sln, Srm, Sforget, Find, Index, Tick, Counts}
+use Rattle.hac_model.specs.declared.resolved.Resolved.TheVariants.{Mkdir, Rmdir, Write, Cat, Ls, Cd, Pwd, Mv, Rm, Ln, Readlink, Smkdir, Setq, Unq, Query, Sls, Sln, Srm, Sforget, Find, Smount, Ssync, Sumount, Index, Tick, Counts}
 use Rattle.hac_model.specs.declared.spaces.Answers.{Answers}
 use Rattle.hac_model.specs.declared.states.State.{State}
 
@@ -73,6 +74,10 @@ abbrev pub least_path : List (List (List ℕ)) → Option (List (List ℕ))
 least_path [] = None
 least_path (path ∷ paths) = Some (option_map_or (lesser_path path) (least_path paths) path)
 
+-- a mount is wanted
+abbrev pub not_mount_cause : State → ℕ → Option Refusal
+not_mount_cause s dir = if is_mount_at s.entries dir then None else Some (NotMount (path_of s dir))
+
 -- a query names the directory to be removed: the least path of a directory with such a query
 abbrev pub referenced_cause : State → ℕ → Option Refusal
 referenced_cause s dir = option_map Referenced (least_path (map (λ entry. path_of s entry.number) (referrers s dir)))
@@ -119,6 +124,9 @@ blocking_cause s (Sln item dir) = first_cause (directory_cause s item ∷ plain_
 blocking_cause s (Srm item dir) = first_cause (directory_cause s item ∷ plain_cause s dir ∷ unlinked_cause s item dir ∷ [])
 blocking_cause s (Sforget item dir) = first_cause (directory_cause s item ∷ plain_cause s dir ∷ unmarked_cause s item dir ∷ [])
 blocking_cause s (Find query) = None
+blocking_cause s (Smount place space) = taken_cause s place
+blocking_cause s (Ssync mount) = not_mount_cause s mount
+blocking_cause s (Sumount mount) = first_cause (not_mount_cause s mount ∷ referenced_cause s mount ∷ busy_cause s mount ∷ [])
 blocking_cause s Index = None
 blocking_cause s (Tick steps) = None
 blocking_cause s Counts = None
@@ -137,28 +145,41 @@ writes (Free dir name) text = event.NewFile dir name text
 abbrev pub marks : ℕ → ℕ → Kind → Event
 marks item dir kind = event.Mark (record { dir = dir; item = item; kind = kind })
 
--- the event of a command that isn't refused, where it makes one
-abbrev pub event_of : Resolved → Option Event
-event_of (Mkdir place) = makes place event.Mkdir
-event_of (Rmdir dir) = Some (event.Rmdir dir)
-event_of (Write place text) = Some (writes place text)
-event_of (Cd session dir) = Some (event.Cd session dir)
-event_of (Mv entry place) = makes place (event.Mv entry)
-event_of (Rm entry) = Some (event.Rm entry)
-event_of (Ln place target) = makes place (λ dir name. event.Ln dir name target)
-event_of (Smkdir place query) = makes place (λ dir name. event.Smkdir dir name query [])
-event_of (Setq dir query) = Some (event.Setq dir query [])
-event_of (Unq dir) = Some (event.Unq dir)
-event_of (Sln item dir) = Some (marks item dir Permanent)
-event_of (Srm item dir) = Some (marks item dir Prohibited)
-event_of (Sforget item dir) = Some (marks item dir Unlinked)
-event_of other = None
+-- A space is mounted with the documents that it listed. What was told of a term are those of them that were found for
+-- it, by the numbers that they will have.
+abbrev pub mounting : State → List ℕ → Answers → ℕ → List ℕ → Event
+mounting s space answers dir name =
+    event.Smount dir name space answers.list (map (documents_named (mounted s dir name space [] answers.list) s.next) answers.found)
 
--- all its events, given what spaces answer: `index` is as many steps as there are dirty files, `tick` no more than that
+-- a mount takes over what its space has now
+abbrev pub syncing : State → ℕ → Answers → Event
+syncing s mount answers = event.Ssync mount answers.list (map (documents_named (synced s mount [] answers.list) mount) answers.found)
+
+-- the event of a command that isn't refused, where it makes one, given what spaces answer
+abbrev pub event_of : Answers → State → Resolved → Option Event
+event_of answers s (Mkdir place) = makes place event.Mkdir
+event_of answers s (Rmdir dir) = Some (event.Rmdir dir)
+event_of answers s (Write place text) = Some (writes place text)
+event_of answers s (Cd session dir) = Some (event.Cd session dir)
+event_of answers s (Mv entry place) = makes place (event.Mv entry)
+event_of answers s (Rm entry) = Some (event.Rm entry)
+event_of answers s (Ln place target) = makes place (λ dir name. event.Ln dir name target)
+event_of answers s (Smkdir place query) = makes place (λ dir name. event.Smkdir dir name query (told_for s query answers.found))
+event_of answers s (Setq dir query) = Some (event.Setq dir query (told_for s query answers.found))
+event_of answers s (Unq dir) = Some (event.Unq dir)
+event_of answers s (Sln item dir) = Some (marks item dir Permanent)
+event_of answers s (Srm item dir) = Some (marks item dir Prohibited)
+event_of answers s (Sforget item dir) = Some (marks item dir Unlinked)
+event_of answers s (Smount place space) = makes place (mounting s space answers)
+event_of answers s (Ssync mount) = Some (syncing s mount answers)
+event_of answers s (Sumount mount) = Some (event.Sumount mount)
+event_of answers s other = None
+
+-- all its events: `index` is as many steps as there are dirty files, `tick` no more than that
 abbrev pub events_of : Answers → State → Resolved → List Event
 events_of answers s Index = replicate (dirty s) event.Step
 events_of answers s (Tick steps) = replicate (min steps (dirty s)) event.Step
-events_of answers s command = option_map_or (λ event. event ∷ []) (event_of command) []
+events_of answers s command = option_map_or (λ event. event ∷ []) (event_of answers s command) []
 
 -- the state that a command would lead to
 abbrev pub led_to : Answers → State → Resolved → State
@@ -169,10 +190,9 @@ abbrev pub layout_cause : State → Resolved → Option Refusal
 layout_cause s command =
     option_map Limit (first_passed (layout_limits (counts (led_to no_answers s command))))
 
--- the first of the other limits that it would exceed
+-- the first limit of all that it would exceed
 abbrev pub answer_cause : Answers → State → Resolved → Option Refusal
-answer_cause answers s command =
-    option_map Limit (first_passed (answer_limits (counts (led_to answers s command))))
+answer_cause answers s command = option_map Limit (passed_limit (led_to answers s command))
 
 -- a directory would depend on itself through this one
 abbrev pub cycle_by : State → Option ℕ → Option Refusal
@@ -185,39 +205,31 @@ cycle_against s (event.Setq dir query told) = cycle_by s (cycle_over s dir (pare
 cycle_against s (event.Mv entry dir name) = cycle_by s (cycle_of_move s entry dir)
 cycle_against s other = None
 
--- so does the event of a command
+-- so does the event of a command, whatever spaces answer
 abbrev pub cycle_cause : State → Resolved → Option Refusal
-cycle_cause s command = option_and_then (cycle_against s) (event_of command)
+cycle_cause s command = option_and_then (cycle_against s) (event_of no_answers s command)
 
--- a space would have to be asked, and none is attached
-abbrev pub unattached : Option (List ℕ) → Option Refusal
-unattached space = option_map NoSpace space
-
--- the same of the first mount that would have to be asked for a query
-abbrev pub query_cause : State → Formula ℕ → Option Refusal
-query_cause s query = unattached (first_asked s query)
-
--- the same of the mount of a document, whose text is to be fetched
-abbrev pub text_cause : State → ℕ → Option Refusal
-text_cause s entry = if is_document_at s.entries entry then unattached (space_at s (parent_of s entry)) else None
-
--- so far no space is attached: a command that would have to ask one is refused
-abbrev pub space_cause : State → Resolved → Option Refusal
-space_cause s (Cat entry) = text_cause s entry
-space_cause s (Smkdir place query) = query_cause s query
-space_cause s (Setq dir query) = query_cause s query
-space_cause s (Find query) = query_cause s query
-space_cause s other = None
-
--- the causes that don't depend on answers: what blocks the command, then the limits on the tree itself, then a cycle,
--- then a space that can't be asked
+-- the causes that don't depend on answers: what blocks the command, then the limits on the tree itself, then a cycle
 abbrev pub early_cause : State → Resolved → Option Refusal
-early_cause s command =
-    first_cause (blocking_cause s command ∷ layout_cause s command ∷ cycle_cause s command ∷ space_cause s command ∷ [])
+early_cause s command = first_cause (blocking_cause s command ∷ layout_cause s command ∷ cycle_cause s command ∷ [])
 
--- the first cause of all: the limits that depend on what spaces answer come last
+-- the space of a document has no document of its name
+abbrev pub gone_cause : Answers → State → Resolved → Option Refusal
+gone_cause answers s (Cat entry) =
+    if is_document_at s.entries entry then option_map_or (λ text. None) answers.fetched (Some (Gone (path_of s entry))) else None
+gone_cause answers s other = None
+
+-- a space has more documents than a mount may have
+abbrev pub docs_cause : Answers → Option Refusal
+docs_cause answers = if nat_le (length answers.list) DOCS_LIMIT then None else Some (Limit Docs)
+
+-- the causes that depend on what spaces answer
+abbrev pub late_cause : Answers → State → Resolved → Option Refusal
+late_cause answers s command = first_cause (gone_cause answers s command ∷ docs_cause answers ∷ answer_cause answers s command ∷ [])
+
+-- the first cause of all, where the spaces answer so
 abbrev pub cause : Answers → State → Resolved → Option Refusal
-cause answers s command = first_cause (early_cause s command ∷ answer_cause answers s command ∷ [])
+cause answers s command = first_cause (early_cause s command ∷ late_cause answers s command ∷ [])
 
 -- the first cause against a line, where this is what its paths lead to: a path comes before what blocks the command
 abbrev pub cause_against : (Resolved → Option Refusal) → Result Resolved Refusal → Option Refusal
@@ -228,6 +240,6 @@ cause_against against (Ok command) = against command
 abbrev pub refusal : Answers → State → Line → Option Refusal
 refusal answers s line = cause_against (cause answers s) (resolve s line)
 
--- the same, but for what spaces answer
+-- the same, whatever spaces answer
 abbrev pub early_refusal : State → Line → Option Refusal
 early_refusal s line = cause_against (early_cause s) (resolve s line)

@@ -18,7 +18,7 @@ use Rattle.hac_model.specs.declared.places.Place.TheVariants.{There, Free}
 use Rattle.hac_model.specs.declared.replies.Refusal.{Refusal}
 use Rattle.hac_model.specs.declared.replies.Refusal.TheVariants.{BadLine, InMount, NoPath, NotDir}
 use Rattle.hac_model.specs.declared.resolved.Resolved.{Resolved}
-use Rattle.hac_model.specs.declared.resolved.Resolved.TheVariants.{Mkdir, Rmdir, Write, Cat, Ls, Cd, Pwd, Mv, Rm, Ln, Readlink, Smkdir, Setq, Unq, Query, Sls, Sln, Srm, Sforget, Find, Index, Tick, Counts}
+use Rattle.hac_model.specs.declared.resolved.Resolved.TheVariants.{Mkdir, Rmdir, Write, Cat, Ls, Cd, Pwd, Mv, Rm, Ln, Readlink, Smkdir, Setq, Unq, Query, Sls, Sln, Srm, Sforget, Find, Smount, Ssync, Sumount, Index, Tick, Counts}
 use Rattle.hac_model.specs.declared.states.State.{State}
 
 -- where a path word leads from a directory: to an entry or a vacancy. A symbolic link as its last name is followed or not.
@@ -169,6 +169,15 @@ resolved s base (command.Sforget item dir) = item_and_dir Sforget s base item di
 resolved s base (command.Find raw) = do
   asked ← numbered_query s base raw
   Ok (Find asked)
+resolved s base (command.Smount path space) = do
+  found ← slot s base true path
+  Ok (Smount found space)
+resolved s base (command.Ssync path) = do
+  dir ← directory s base path
+  Ok (Ssync dir)
+resolved s base (command.Sumount path) = do
+  dir ← directory s base path
+  Ok (Sumount dir)
 resolved s base command.Index = Ok Index
 resolved s base (command.Tick steps) = Ok (Tick steps)
 resolved s base command.Counts = Ok Counts

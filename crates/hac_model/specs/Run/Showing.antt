@@ -1,10 +1,12 @@
 -- What commands that read show.
-use Rattle.std.specs.Prelude.{ℕ, ◌-◌, if◌then◌else◌, List, [], ◌∷◌, ◌++◌, map, codes, decimal, option_and_then}
+use Rattle.std.specs.Prelude.{ℕ, ◌-◌, if◌then◌else◌, List, [], ◌∷◌, ◌++◌, map, codes, decimal, Option, option_and_then}
 use Rattle.std.specs.List.{flat_map}
 use Rattle.std.specs.Option.{option_map_or}
 use Rattle.hac_model.specs.Query.Formula.{Formula}
+use Rattle.hac_model.specs.Run.Asks.{told_for}
+use Rattle.hac_model.specs.Tree.Asking.{with_told}
 use Rattle.hac_model.specs.Tree.Limits.{counts, plain_count}
-use Rattle.hac_model.specs.Tree.Links.{found_by, items, kind, permanent_count, prohibited_count, query_at, transient_count}
+use Rattle.hac_model.specs.Tree.Links.{found_as, items, kind, permanent_count, prohibited_count, query_at, transient_count}
 use Rattle.hac_model.specs.Tree.Listing.{children, entry_line}
 use Rattle.hac_model.specs.Tree.Paths.{path_text}
 use Rattle.hac_model.specs.Query.QueryText.{query_text, named_by}
@@ -73,9 +75,13 @@ counts_line s = line_of_counts (counts s) (plain_count s.entries) (transient_cou
 abbrev pub text_line : List ℕ → List ℕ
 text_line text = codes "= " ++ escaped_text text
 
--- the text of a file on one line
-abbrev pub text_lines : State → ℕ → List (List ℕ)
-text_lines s number = option_map_or (λ text. text_line text ∷ []) (option_and_then text_in (body_at s.entries number)) []
+-- the text of a file on one line, or that of a document, as its space answers
+abbrev pub text_lines : Answers → State → ℕ → List (List ℕ)
+text_lines answers s number = option_map_or (λ text. text_line text ∷ []) (shown_text answers s number) []
+  where
+    shown_text : Answers → State → ℕ → Option (List ℕ)
+    shown_text answers s number =
+        if is_document_at s.entries number then answers.fetched else option_and_then text_in (body_at s.entries number)
 
 -- where a symbolic link leads, as it was given
 abbrev pub target_line : List ℕ → List ℕ
@@ -91,12 +97,13 @@ path_line s dir = codes "= " ++ path_text (path_of s dir)
 
 -- the data lines of an accepted command, given what spaces answer: only one that reads has any
 abbrev pub data_lines : Answers → State → Resolved → List (List ℕ)
-data_lines answers s (command.Cat entry) = text_lines s entry
+data_lines answers s (command.Cat entry) = text_lines answers s entry
 data_lines answers s (command.Ls dir) = map entry_line (children s dir)
 data_lines answers s (command.Pwd dir) = path_line s dir ∷ []
 data_lines answers s (command.Readlink entry) = target_lines s entry
 data_lines answers s (command.Query dir) = query_lines s dir
 data_lines answers s (command.Sls dir) = link_lines s dir
-data_lines answers s (command.Find query) = map (found_line s) (found_by s query)
+data_lines answers s (command.Find query) =
+    map (found_line s) (found_as (with_told query (told_for s query answers.found) s) s query)
 data_lines answers s command.Counts = counts_line s ∷ []
 data_lines answers s other = []

@@ -9,7 +9,7 @@ use Rattle.hac_model.specs.Tree.{is_directory_at, is_document_at, is_holder_at, 
 use Rattle.hac_model.specs.declared.places.Place.{Place}
 use Rattle.hac_model.specs.declared.places.Place.TheVariants.{There, Free}
 use Rattle.hac_model.specs.declared.resolved.Resolved.{Resolved}
-use Rattle.hac_model.specs.declared.resolved.Resolved.TheVariants.{Mkdir, Rmdir, Write, Cat, Ls, Cd, Pwd, Mv, Rm, Ln, Readlink, Smkdir, Setq, Unq, Query, Sls, Sln, Srm, Sforget, Find, Index, Tick, Counts}
+use Rattle.hac_model.specs.declared.resolved.Resolved.TheVariants.{Mkdir, Rmdir, Write, Cat, Ls, Cd, Pwd, Mv, Rm, Ln, Readlink, Smkdir, Setq, Unq, Query, Sls, Sln, Srm, Sforget, Find, Smount, Ssync, Sumount, Index, Tick, Counts}
 use Rattle.hac_model.specs.declared.states.State.{State}
 
 -- the root or an entry has the number, and it isn't a symbolic link where the last name of its path was followed
@@ -33,8 +33,8 @@ IsSlot s follow found = StandsAt s follow found × (mount_of s found ≡ None)
 abbrev pub AreThere : State → ℕ → ℕ → Type 0
 AreThere s item dir = IsTrue (is_there s true item) × IsTrue (is_directory_at s.entries dir)
 
--- all that the command refers to is in the state, its text and its query are as large as they may be, and its session
--- may have its name
+-- all that the command refers to is in the state, its text and its query are as large as they may be, and its session and
+-- its space may have their names
 abbrev pub AllStand : State → Resolved → Type 0
 AllStand s (Mkdir place) = IsSlot s true place
 AllStand s (Rmdir dir) = IsTrue (is_holder_at s.entries dir)
@@ -56,6 +56,9 @@ AllStand s (Sln item dir) = AreThere s item dir
 AllStand s (Srm item dir) = AreThere s item dir
 AllStand s (Sforget item dir) = AreThere s item dir
 AllStand s (Find query) = IsTrue (may_ask s query)
+AllStand s (Smount place space) = IsSlot s true place × IsTrue (is_space_name space)
+AllStand s (Ssync mount) = IsTrue (is_directory_at s.entries mount)
+AllStand s (Sumount mount) = IsTrue (is_directory_at s.entries mount)
 AllStand s Index = ⊤
 AllStand s (Tick steps) = ⊤
 AllStand s Counts = ⊤

@@ -18,7 +18,7 @@ use Rattle.hac_model.specs.Script.SpaceNames.{is_space_name}
 use Rattle.hac_model.specs.Query.QueryReading.{is_spelled_query, read_query}
 use Rattle.hac_model.specs.Script.Texts.{text_of}
 use Rattle.hac_model.specs.declared.commands.Command.{Command}
-use Rattle.hac_model.specs.declared.commands.Command.TheVariants.{Mkdir, Rmdir, Write, Cat, Ls, Cd, Pwd, Mv, Rm, Ln, Readlink, Smkdir, Setq, Unq, Query, Sls, Sln, Srm, Sforget, Find, Index, Tick, Counts}
+use Rattle.hac_model.specs.declared.commands.Command.TheVariants.{Mkdir, Rmdir, Write, Cat, Ls, Cd, Pwd, Mv, Rm, Ln, Readlink, Smkdir, Setq, Unq, Query, Sls, Sln, Srm, Sforget, Find, Smount, Ssync, Sumount, Index, Tick, Counts}
 use Rattle.hac_model.specs.declared.commands.Line.{Line}
 use Rattle.hac_model.specs.declared.limits.LimitWord.TheVariants as limit
 use Rattle.hac_model.specs.declared.limits.TheConstants.{LINE_LIMIT, TARGET_LIMIT}
@@ -110,6 +110,21 @@ find_of arguments = do
   query ← read_query (after_space arguments)
   Ok (Find query)
 
+-- the space of a name is mounted at a path word. What is no space's name makes the line a bad one, which counts before a
+-- bad path.
+abbrev pub mount_named : List ℕ → List ℕ → Result Command Refusal
+mount_named word space = do
+  name ← if is_space_name space then Ok space else Err BadLine
+  path ← word_of word
+  Ok (Smount path name)
+
+-- `smount PATH SPACE`, from the bytes behind `smount`
+unfoldable pub smount_of : List ℕ → Result Command Refusal
+smount_of arguments = do
+  word ← first_word arguments
+  space ← only_word word.1
+  mount_named word.0 space
+
 -- `tick N`, from the bytes behind `tick`
 unfoldable pub tick_of : List ℕ → Result Command Refusal
 tick_of arguments = do
@@ -143,10 +158,13 @@ named_command name arguments =
     else (if bytes_eq name (codes "srm") then of_two_paths Srm arguments
     else (if bytes_eq name (codes "sforget") then of_two_paths Sforget arguments
     else (if bytes_eq name (codes "find") then find_of arguments
+    else (if bytes_eq name (codes "smount") then smount_of arguments
+    else (if bytes_eq name (codes "ssync") then one_path Ssync arguments
+    else (if bytes_eq name (codes "sumount") then one_path Sumount arguments
     else (if bytes_eq name (codes "index") then alone Index arguments
     else (if bytes_eq name (codes "tick") then tick_of arguments
     else (if bytes_eq name (codes "counts") then alone Counts arguments
-    else Err BadLine))))))))))))))))))))))
+    else Err BadLine)))))))))))))))))))))))))
 
 -- the path and the length of a `put`, from the bytes behind `put`: two words and no more
 unfoldable pub put_words : List ℕ → Result (List ℕ × List ℕ) Refusal
@@ -236,6 +254,9 @@ is_spelled (Sln item dir) = is_spelled_word item && is_spelled_word dir
 is_spelled (Srm item dir) = is_spelled_word item && is_spelled_word dir
 is_spelled (Sforget item dir) = is_spelled_word item && is_spelled_word dir
 is_spelled (Find query) = is_spelled_query query
+is_spelled (Smount path space) = is_spelled_word path && is_space_name space
+is_spelled (Ssync path) = is_spelled_word path
+is_spelled (Sumount path) = is_spelled_word path
 is_spelled Index = true
 is_spelled (Tick steps) = are_steps steps
 is_spelled Counts = true

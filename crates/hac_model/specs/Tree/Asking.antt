@@ -1,12 +1,13 @@
--- What mounts have to be asked for a query, and what they keep then. No event asks them so far: a query is accepted only
--- where none has to be asked.
+-- What mounts have to be asked for a query, and what they keep then.
 use Rattle.std.specs.Prelude.{ℕ, Bool, ◌==◌, ◌&&◌, not, if◌then◌else◌, List, [], ◌∷◌, drop, filter, length, map, take}
 use Rattle.hac_model.specs.Query.Formula.{Formula}
 use Rattle.hac_model.specs.Query.Queries.{terms_of}
 use Rattle.hac_model.specs.Query.Terms.{is_term_before}
 use Rattle.hac_model.specs.Tree.Changes.{edited}
+use Rattle.hac_model.specs.Tree.Links.{answers_at}
 use Rattle.hac_model.specs.Tree.Mounting.{answers_to, are_told}
 use Rattle.hac_model.specs.Tree.Mounts.{in_order, is_kept}
+use Rattle.hac_model.specs.Tree.{is_mount}
 use Rattle.hac_model.specs.declared.states.Answer.{Answer}
 use Rattle.hac_model.specs.declared.states.Body.{Body}
 use Rattle.hac_model.specs.declared.states.Body.TheVariants.{Mount}
@@ -18,10 +19,10 @@ use Rattle.hac_model.specs.declared.terms.Term.{Term}
 abbrev pub unanswered : Formula ℕ → List Answer → List Term
 unanswered query answers = filter (λ term. not (is_kept answers term)) (in_order (terms_of query))
 
--- what an entry has to be asked for a query: a mount the terms for which it keeps no answer, and any other nothing
-abbrev pub asked_of : Formula ℕ → Body → List Term
-asked_of query (Mount space answers) = unanswered query answers
-asked_of query other = []
+-- What an entry has to be asked for a query, given what each mount keeps: a mount the terms for which it keeps no
+-- answer, and any other entry nothing.
+abbrev pub asked_by : (ℕ → List Answer) → Formula ℕ → Entry → List Term
+asked_by kept query entry = if is_mount entry.body then unanswered query (kept entry.number) else []
 
 -- an answer put into its place among answers whose terms rise
 abbrev pub put_answer : Answer → List Answer → List Answer
@@ -39,23 +40,23 @@ abbrev pub gaining : List Answer → Body → Body
 gaining more (Mount space answers) = Mount space (with_answers more answers)
 gaining more other = other
 
--- What the mount of a number gains. The mounts were told in order of number: each one list for each term that it has to
--- be asked for, in order.
-abbrev pub gained : Formula ℕ → List (List ℕ) → List Entry → ℕ → List Answer
-gained query told [] number = []
-gained query told (entry ∷ entries) number =
-    if entry.number == number then answers_to (asked_of query entry.body) told
-    else gained query (drop (length (asked_of query entry.body)) told) entries number
+-- What the mount of a number gains, given what each mount keeps. The mounts were told in order of number: each one list
+-- for each term that it has to be asked for, in order.
+abbrev pub gained : (ℕ → List Answer) → Formula ℕ → List (List ℕ) → List Entry → ℕ → List Answer
+gained kept query told [] number = []
+gained kept query told (entry ∷ entries) number =
+    if entry.number == number then answers_to (asked_by kept query entry) told
+    else gained kept query (drop (length (asked_by kept query entry)) told) entries number
 
 -- the state in which each mount keeps what it was told for a query
 abbrev pub with_told : Formula ℕ → List (List ℕ) → State → State
 with_told query told s = record s {
-  entries = map (λ entry. edited (gaining (gained query told s.entries entry.number)) entry) s.entries;
+  entries = map (λ entry. edited (gaining (gained (answers_at s) query told s.entries entry.number)) entry) s.entries;
 }
 
 -- each mount was told all that it has to be asked for the query, of its own documents, and nothing else was told
 abbrev pub are_all_told : State → Formula ℕ → List (List ℕ) → List Entry → Bool
 are_all_told s query told [] = length told == 0
 are_all_told s query told (entry ∷ entries) =
-    are_told s entry.number (asked_of query entry.body) (take (length (asked_of query entry.body)) told)
-    && are_all_told s query (drop (length (asked_of query entry.body)) told) entries
+    are_told s entry.number (asked_by (answers_at s) query entry) (take (length (asked_by (answers_at s) query entry)) told)
+    && are_all_told s query (drop (length (asked_by (answers_at s) query entry)) told) entries

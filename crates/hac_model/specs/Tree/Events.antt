@@ -12,15 +12,14 @@ use Rattle.hac_model.specs.Tree.Sessions.{are_few, is_busy, sessions_with}
 use Rattle.hac_model.specs.Script.PathWords.{is_target}
 use Rattle.hac_model.specs.Script.SpaceNames.{is_space_name}
 use Rattle.hac_model.specs.Query.Queries.{is_query}
-use Rattle.hac_model.specs.Query.Queries.{terms_of}
+use Rattle.hac_model.specs.Tree.Asking.{are_all_told, with_told}
 use Rattle.hac_model.specs.Tree.Mounting.{answers_to, are_documents, are_told, mounted, synced, unmounted}
-use Rattle.hac_model.specs.Tree.Mounts.{is_kept, terms_to_ask}
-use Rattle.hac_model.specs.Tree.{answers_in, child, entry_at, extends, is_directory_at, is_dirty, is_document_at, is_file_at, is_leaf_at, is_made_directory, is_mount, is_mount_at, path_of, space_in}
+use Rattle.hac_model.specs.Tree.Mounts.{terms_to_ask}
+use Rattle.hac_model.specs.Tree.{child, entry_at, extends, is_directory_at, is_dirty, is_document_at, is_file_at, is_leaf_at, is_made_directory, is_mount_at, path_of}
 use Rattle.hac_model.specs.declared.events.Event.{Event}
 use Rattle.hac_model.specs.declared.events.Event.TheVariants.{Mkdir, NewFile, Rewrite, Ln, Smkdir, Setq, Unq, Mark, Mv, Rm, Rmdir, Smount, Ssync, Sumount, Step, Cd}
 use Rattle.hac_model.specs.declared.marks.Kind.{Kind}
 use Rattle.hac_model.specs.declared.marks.Kind.TheVariants.{Transient, Permanent, Prohibited, Unlinked}
-use Rattle.hac_model.specs.declared.states.Body.{Body}
 use Rattle.hac_model.specs.declared.states.Body.TheVariants.{File, Dir, Symlink, Semantic}
 use Rattle.hac_model.specs.declared.states.Entry.{Entry}
 use Rattle.hac_model.specs.declared.states.State.{State}
@@ -62,18 +61,6 @@ are_directories s dirs = list_all (λ dir. is_directory_at s.entries dir) dirs
 abbrev pub may_ask : State → Formula ℕ → Bool
 may_ask s query = is_query query && are_directories s (named_in query)
 
--- the mount needn't be asked for the query: it keeps an answer for each of its terms. Other entries keep none.
-abbrev pub knows_all : Formula ℕ → Body → Bool
-knows_all query body = not (is_mount body) || list_all (is_kept (answers_in body)) (terms_of query)
-
--- the space of the first mount that has to be asked for the query, if one has to
-abbrev pub first_asked_in : Formula ℕ → List Entry → Option (List ℕ)
-first_asked_in query [] = None
-first_asked_in query (entry ∷ entries) = if knows_all query entry.body then first_asked_in query entries else space_in entry.body
-
-abbrev pub first_asked : State → Formula ℕ → Option (List ℕ)
-first_asked s query = first_asked_in query s.entries
-
 -- no query names the directory
 abbrev pub is_unreferenced : State → ℕ → Bool
 is_unreferenced s dir = list_all (λ entry. not (names_directory dir entry)) s.entries
@@ -105,8 +92,8 @@ is_placed s (Mkdir dir name) = is_free s dir name
 is_placed s (NewFile dir name text) = is_free s dir name && is_text text
 is_placed s (Rewrite file text) = is_file_at s.entries file && is_text text
 is_placed s (Ln dir name target) = is_free s dir name && is_target target
-is_placed s (Smkdir dir name query told) = is_free s dir name && (may_ask s query && (is_none (first_asked s query) && length told == 0))
-is_placed s (Setq dir query told) = is_made_holder s dir && (may_ask s query && (is_none (first_asked s query) && length told == 0))
+is_placed s (Smkdir dir name query told) = is_free s dir name && (may_ask s query && are_all_told s query told s.entries)
+is_placed s (Setq dir query told) = is_made_holder s dir && (may_ask s query && are_all_told s query told s.entries)
 is_placed s (Unq dir) = is_semantic s dir
 is_placed s (Mark mark) = is_item s mark.item && is_semantic s mark.dir
 is_placed s (Mv entry dir name) =
@@ -146,8 +133,8 @@ apply s (Mkdir dir name) = added s dir name Dir
 apply s (NewFile dir name text) = added s dir name (File text true None)
 apply s (Rewrite file text) = changed_at s file (edited (rewritten text))
 apply s (Ln dir name target) = added s dir name (Symlink target)
-apply s (Smkdir dir name query told) = added s dir name (Semantic query [] [])
-apply s (Setq dir query told) = changed_at s dir (edited (asking query))
+apply s (Smkdir dir name query told) = added (with_told query told s) dir name (Semantic query [] [])
+apply s (Setq dir query told) = changed_at (with_told query told s) dir (edited (asking query))
 apply s (Unq dir) = changed_at s dir (edited plain_body)
 apply s (Mark mark) = changed_at s mark.dir (edited (marked mark.item mark.kind))
 apply s (Mv entry dir name) = changed_at s entry (reseated dir name)

@@ -3,7 +3,8 @@
 use Rattle.std.specs.Prelude.{ℕ, Bool, ◌==◌, List, [], ◌∷◌, map, Option, Some, None, if◌then◌else◌}
 use Rattle.std.specs.Option.{option_map_or}
 use Rattle.hac_model.specs.Tree.Depends.{named_in}
-use Rattle.hac_model.specs.Tree.Events.{apply, edited, put_in, removed, without}
+use Rattle.hac_model.specs.Tree.Asking.{gained, with_answers}
+use Rattle.hac_model.specs.Tree.Events.{added, apply, asking, changed_at, edited, put_in, removed, without}
 use Rattle.hac_model.specs.Tree.Mounting.{answers_to, fresh, is_gone, is_of_mount, is_such_at, mounted, numbers_without, with_documents, without_such}
 use Rattle.hac_model.specs.Tree.Mounts.{terms_to_ask}
 use Rattle.hac_model.specs.Query.Formula.{Formula}
@@ -95,11 +96,18 @@ marks_without test marks = record {
 abbrev pub facts_without : (ℕ → Bool) → (ℕ → Facts) → ℕ → Facts
 facts_without test facts number = record (facts number) { marks = marks_without test (facts number).marks }
 
+-- the facts where each mount keeps what it was told for a query, too
+abbrev pub facts_told : Formula ℕ → List (List ℕ) → State → (ℕ → Facts) → ℕ → Facts
+facts_told query told tree facts number = record (facts number) {
+  answers = with_answers (gained (λ mount. (facts mount).answers) query told tree.entries number) (facts number).answers;
+}
+
 -- the facts after an event, of which only the tree is asked what else it needs
 abbrev pub facts_after : Event → State → (ℕ → Facts) → ℕ → Facts
-facts_after (Smkdir dir name query told) tree facts = put_at facts tree.next (record no_facts { edges = dir ∷ named_in query })
+facts_after (Smkdir dir name query told) tree facts =
+    put_at (facts_told query told tree facts) tree.next (record no_facts { edges = dir ∷ named_in query })
 facts_after (Setq dir query told) tree facts =
-    put_at facts dir (record (facts dir) { edges = parent_of tree dir ∷ named_in query })
+    put_at (facts_told query told tree facts) dir (record (facts dir) { edges = parent_of tree dir ∷ named_in query })
 facts_after (Unq dir) tree facts = put_at facts dir no_facts
 facts_after (Mark mark) tree facts =
     put_at facts mark.dir (record (facts mark.dir) { marks = with_mark mark.kind mark.item (facts mark.dir).marks })
@@ -119,6 +127,8 @@ facts_after other tree facts = facts
 abbrev pub bare_after : Event → State → State
 bare_after (Mark mark) tree = tree
 bare_after (Rm entry) tree = removed tree entry
+bare_after (Smkdir dir name query told) tree = added tree dir name (Semantic query [] [])
+bare_after (Setq dir query told) tree = changed_at tree dir (edited (asking query))
 bare_after (Smount dir name space documents told) tree = mounted tree dir name space [] documents
 bare_after (Ssync mount documents told) tree = with_documents (without_such (is_gone mount documents) tree) mount (fresh tree mount documents)
 bare_after (Sumount mount) tree = without_such (is_of_mount mount) tree

@@ -125,9 +125,14 @@ rounds (suc n) s = round s (rounds n s)
 unfoldable pub links : State → ℕ → List ℕ
 links s = rounds (semantic_count s.entries) s
 
--- the items that a query finds anywhere: those that it judges and that satisfy it, given the links
-unfoldable pub found_by : State → Formula ℕ → List ℕ
-found_by s query = filter (λ item. is_judged s item && holds s (column (links s) item) query item) (items s)
+-- the items that a query finds anywhere, given the links: those that it judges and that satisfy it. Which terms an item
+-- has is told by a state in which mounts may keep more.
+unfoldable pub found_as : State → State → Formula ℕ → List ℕ
+found_as told s query = filter (λ item. is_judged s item && query_meaning (atom told) (provide s (column (links s) item)) query item) (items s)
+
+-- the same, by what mounts keep now
+abbrev pub found_by : State → Formula ℕ → List ℕ
+found_by s query = found_as s s query
 
 -- how an item is linked in a directory
 unfoldable pub kind : State → ℕ → ℕ → Kind

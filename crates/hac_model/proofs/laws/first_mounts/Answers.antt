@@ -4,7 +4,7 @@ use Rattle.hac_model.specs.Tree.Limits.{first_passed, passed_limit}
 use Rattle.hac_model.specs.Script.LineWords.{quoted}
 use Rattle.hac_model.specs.Script.Lines.{find_of, ln_of, alone, maybe_path, of_two_paths, one_path, path_and_query, write_of}
 use Rattle.hac_model.specs.Tree.Depends.{first_reaching, reaches}
-use Rattle.hac_model.specs.Tree.Links.{found_by, kind, links, permanent_count, prohibited_count, transient_count}
+use Rattle.hac_model.specs.Tree.Links.{found_as, kind, links, permanent_count, prohibited_count, transient_count}
 use Rattle.hac_model.specs.Tree.ValidTest.{are_sessions, is_acyclic, is_layout, is_valid}
 use Rattle.hac_model.specs.Script.PathWords.{word_of}
 use Rattle.hac_model.specs.Payload.Payloads.{event_text}
@@ -22,11 +22,11 @@ unfolding is_valid is_layout is_acyclic are_sessions reaches first_passed is_pat
 returns-clause-valid c = refl
 
 pub returns-clause-run : goal.returns-clause-run
-unfolding find_of after_run alone digits escaped_byte event_text first_passed found_by has_term first_reaching is_lower_word_byte is_path_short is_word reaches is_word_byte kind kind_of lineage links look destination next_path maybe_path of_two_paths one_path passed_limit path_and_query path_of permanent_count prohibited_count quoted read_on read_query script text_of transient_count word_of words write_of
+unfolding find_of after_run alone digits escaped_byte event_text first_passed found_as has_term first_reaching is_lower_word_byte is_path_short is_word reaches is_word_byte kind kind_of lineage links look destination next_path maybe_path of_two_paths one_path passed_limit path_and_query path_of permanent_count prohibited_count quoted read_on read_query script text_of transient_count word_of words write_of
 returns-clause-run c = refl
 
 pub returns-clause-refuse : goal.returns-clause-refuse
-unfolding find_of ln_of after_run alone digits escaped_byte event_text first_passed found_by has_term first_reaching is_lower_word_byte is_path_short is_word reaches is_word_byte kind kind_of lineage links look destination next_path maybe_path of_two_paths one_path passed_limit path_and_query path_of quoted read_on read_query script text_of word_of words write_of
+unfolding find_of ln_of after_run alone digits escaped_byte event_text first_passed found_as has_term first_reaching is_lower_word_byte is_path_short is_word reaches is_word_byte kind kind_of lineage links look destination next_path maybe_path of_two_paths one_path passed_limit path_and_query path_of quoted read_on read_query script text_of word_of words write_of
 returns-clause-refuse c = refl
 
 pub returns-clause-come : goal.returns-clause-come

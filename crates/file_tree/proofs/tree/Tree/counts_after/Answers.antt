@@ -8,7 +8,7 @@ use Rattle.hac_model.specs.declared.states.Body.TheVariants as body
 use Rattle.hac_model.specs.Tree.Mounting.{answers_to, are_documents}
 use Rattle.hac_model.specs.Tree.Mounts.{terms_to_ask}
 use Rattle.hac_model.specs.Tree.{is_mount_at}
-use Rattle.hac_model.specs.declared.events.Event.TheVariants.{Ssync, Sumount}
+use Rattle.hac_model.specs.declared.events.Event.TheVariants.{Setq, Smkdir, Ssync, Sumount}
 use Rattle.hac_model.specs.declared.limits.TheConstants.{DOCS_LIMIT}
 use Rattle.hac_model.proofs.MountLayoutLemmas.{documents-parts}
 use Rattle.hac_model.proofs.ValidLemmas.{free-parts}
@@ -37,6 +37,7 @@ returns-in-Ln c =
 pub returns-in-Smkdir : goal.returns-in-Smkdir
 returns-in-Smkdir c =
     c.with_entry-in-Smkdir.ensures c.in-Smkdir.name (body.Semantic c.in-Smkdir.query [] []) (c.of_semantic.ensures.share c.in-Smkdir.query [] [])
+    ∙ after-counts c.args.self.now.state (Smkdir c.in-Smkdir.dir c.in-Smkdir.name c.in-Smkdir.query c.in-Smkdir.told)
     ∙ ap (λ (e : Event). counts (apply c.args.self.now.state e)) (sym c.in-Smkdir.is)
 
 pub returns-in-Setq : goal.returns-in-Setq
@@ -44,6 +45,7 @@ returns-in-Setq c =
     let s = c.args.self.now.state in
     let placed = subst (λ (e : Event). IsTrue (is_seated s e)) c.in-Setq.is c.requires in
     c.with_share.ensures (asking c.in-Setq.query) (asking-share s c.in-Setq.dir c.in-Setq.query c.of_semantic-in-Setq.result placed c.of_semantic-in-Setq.ensures.share)
+    ∙ after-counts s (Setq c.in-Setq.dir c.in-Setq.query c.in-Setq.told)
     ∙ ap (λ (e : Event). counts (apply s e)) (sym c.in-Setq.is)
 
 pub returns-in-Rm : goal.returns-in-Rm
