@@ -8,6 +8,8 @@ pub mod ListLemmas
 pub mod OrderLemmas
 pub mod NumberLemmas
 pub mod UseLemmas
+pub mod GainLemmas
+pub mod ToldLemmas
 pub mod NameLemmas
 pub mod ForgetLemmas
 pub mod ReachLemmas

@@ -6,23 +6,25 @@ use Rattle.std.proofs.Math.Bool.{and-false, and-true}
 use Rattle.std.proofs.lemmas.Bool.{and_parts, eqb-true}
 use Rattle.hac_model.specs.Tree.Depends.{named_in}
 use Rattle.hac_model.specs.Tree.Events.{accepted, added, asking, changed_at, edited, may_mark, removed, reseated}
-use Rattle.hac_model.specs.Tree.Facts.{Facts, Marks, bare_after, edges_to, facts_after, facts_at, no_facts, with_mark}
+use Rattle.hac_model.specs.Tree.Asking.{with_answers}
+use Rattle.hac_model.specs.Tree.Facts.{Facts, Marks, bare_after, edges_to, facts_after, facts_at, facts_told, no_facts, with_mark}
 use Rattle.hac_model.specs.Query.Formula.{Formula}
 use Rattle.hac_model.specs.Tree.Limits.{is_text}
 use Rattle.hac_model.specs.Tree.Links.{parent_of, query_at}
 use Rattle.hac_model.specs.Tree.Sessions.{sessions_after}
-use Rattle.hac_model.specs.Tree.{body_at, entry_at, is_directory, is_file_at, is_leaf}
+use Rattle.hac_model.specs.Tree.{body_at, entry_at, is_directory, is_file_at, is_leaf, is_mount, is_mount_at}
 use Rattle.hac_model.specs.declared.events.Event.{Event}
 use Rattle.hac_model.specs.declared.events.Event.TheVariants as event
 use Rattle.hac_model.specs.declared.marks.Kind.{Kind}
 use Rattle.hac_model.specs.declared.marks.Kind.TheVariants.{Transient, Permanent, Prohibited, Unlinked}
 use Rattle.hac_model.specs.declared.marks.Mark.{Mark}
+use Rattle.hac_model.specs.declared.states.Answer.{Answer}
 use Rattle.hac_model.specs.declared.states.Body.{Body}
 use Rattle.hac_model.specs.declared.states.Body.TheVariants.{Semantic}
 use Rattle.hac_model.specs.declared.states.Entry.{Entry}
 use Rattle.hac_model.specs.declared.states.State.{State}
 use Rattle.hac_model.proofs.TreeLemmas.{entry_at-next}
-use Rattle.hac_model.proofs.ValidLemmas.{mark-parts, move-parts, rmdir-parts}
+use Rattle.hac_model.proofs.ValidLemmas.{mark-parts, move-parts, rmdir-parts, setq-parts}
 use Rattle.dep_graph.specs.Graphs as graph
 use Rattle.dep_graph.specs.Graphs.{edges_of, replaced}
 use Rattle.dep_graph.specs.declared.graph.NewEdges.{NewEdges}
@@ -31,14 +33,16 @@ use Rattle.set_pool.specs.Rising as items
 use Rattle.link_kinds.specs.Kinds.{no_lists, with_kind}
 use Rattle.link_kinds.specs.Seen.{ChangesDir, DropsItem, Known, LinkListsRise, SameLinks, has_sets, lists_in, permanent_in, prohibited_in, transient_in}
 use Rattle.link_kinds.proofs.PutLemmas.{inserted-put, removed-without}
-use Rattle.kept_state.specs.Answers.{answers_kept}
+use Rattle.kept_state.specs.Answers.{Answered, answers_kept, answers_with}
+use Rattle.kept_state.specs.Gains.{AreGains, answers_then}
 use Rattle.kept_state.specs.Parts.{AreEdges, AreMovedEdges, IsLinked, facts_kept, state_of}
 use Rattle.kept_state.specs.Ready.{IsCommitted}
 use Rattle.kept_state.specs.declared.parts.Parts.{Parts}
 use Rattle.kept_state.proofs.AnswerLemmas.{asking-keeps_none, kept-answers, mountless}
+use Rattle.kept_state.proofs.GainLemmas.{gained-plain}
 use Rattle.kept_state.proofs.KeptLemmas.{answers-still, has_edges, kept-edges, kept-lists, lists-still, put, sets-edges, unfound}
 use Rattle.kept_state.proofs.ReadyLemmas.{possible-of}
-use Rattle.kept_state.proofs.StateLemmas.{kept-bares, same-depends, same-file, same-leaf, same-made, same-some}
+use Rattle.kept_state.proofs.StateLemmas.{kept-bares, same-depends, same-file, same-leaf, same-made, same-mount, same-some}
 
 -- an entry whose body passes a test is there
 tested-there : (t : State) (n : ℕ) (p : Body → Bool) → option_map_or p (body_at t.entries n) false ≡ true → is_some (entry_at t.entries n) ≡ true
@@ -81,17 +85,41 @@ next-none kept h =
     let s = state_of kept in
     sym (ap facts_at (entry_at-next 0 s.entries s.next s.next h.valid.layout.numbers (omega arith))) ∙ h.own kept.tree.state.next
 
+-- Mounts are told for a query: only what they keep changes.
+
+still-marks : (b : Bool) (new old : Facts) (more : List Answer) → (cond b new old).marks ≡ (cond b new (record old { answers = more })).marks
+still-marks true new old more = refl
+still-marks false new old more = refl
+
+module _ (kept : Parts) (asked : Formula ℕ) (told : List (List ℕ)) where
+  abbrev keeps : ℕ → List Answer
+  keeps = answers_kept kept.answers
+
+  abbrev now-told : ℕ → Facts
+  now-told = facts_told asked told kept.tree.state (facts_kept kept)
+
+  -- what is no mount keeps what it kept
+  plain-then : (n : ℕ) → is_mount_at kept.tree.state.entries n ≡ false → answers_then keeps asked told kept.tree.state n ≡ keeps n
+  plain-then n plain = ap (λ (more : List Answer). with_answers more (keeps n)) (gained-plain keeps asked told kept.tree.state.entries n plain)
+
+  told-but : (m : ℕ) (new : Facts) → answers_then keeps asked told kept.tree.state m ≡ new.answers → (n : ℕ) → answers_then keeps asked told kept.tree.state n ≡ (cond (n == m) new (now-told n)).answers
+  told-but m new same n = at (n == m) refl
+    where
+      at : (b : Bool) → (n == m) ≡ b → answers_then keeps asked told kept.tree.state n ≡ (cond b new (now-told n)).answers
+      at true is = ap (answers_then keeps asked told kept.tree.state) (eqb-true n m is) ∙ same
+      at false is = refl
+
 -- A semantic directory comes.
 
-module _ (kept : Parts) (h : IsLinked kept) (dir : ℕ) (name : List ℕ) (asked : Formula ℕ) (ok : IsTrue (accepted (state_of kept) (event.Smkdir dir name asked []))) (edges : NewEdges) (are : AreEdges kept.graph kept.tree.state.next dir asked edges) where
-  pub semantic-put : (tree : tree.Seen) (edges_now : graph.Seen) → tree.state ≡ added kept.tree.state dir name (Semantic asked [] []) → ((q : ℕ) → edges_of edges_now q ≡ replaced (edges_of kept.graph) edges.dir edges.edges.items q) →
-      IsCommitted (event.Smkdir dir name asked []) kept (record kept { tree = tree; graph = edges_now })
-  semantic-put tree edges_now is each =
-      put kept (record kept { tree = tree; graph = edges_now }) (event.Smkdir dir name asked []) h ok is
-      (λ n. lists-still kept h t.next new n (ap (λ (facts : Facts). facts.marks) (next-none kept h)))
-      (λ n. each n ∙ (λ i. replaced (edges_of kept.graph) (are.dir_is i) (are.edges_are i) n) ∙ edges-put (n == t.next) new (facts_kept kept n))
-      (λ n. answers-still kept h t.next new n (ap (λ (facts : Facts). facts.answers) (next-none kept h)))
-      (λ n has. some-edges (n == t.next) new (facts_kept kept n) refl (sets-edges kept h n has))
+module _ (kept : Parts) (h : IsLinked kept) (dir : ℕ) (name : List ℕ) (asked : Formula ℕ) (told : List (List ℕ)) (ok : IsTrue (accepted (state_of kept) (event.Smkdir dir name asked told))) (edges : NewEdges) (are : AreEdges kept.graph kept.tree.state.next dir asked edges) (gains : AreGains (answers_kept kept.answers) asked told kept.tree.state kept.answers.told) where
+  pub semantic-put : (tree : tree.Seen) (edges_now : graph.Seen) (answered : Answered) → tree.state ≡ added kept.tree.state dir name (Semantic asked [] []) → ((q : ℕ) → edges_of edges_now q ≡ replaced (edges_of kept.graph) edges.dir edges.edges.items q) →
+      ((n : ℕ) → answers_kept answered n ≡ answers_with (answers_kept kept.answers) kept.answers.told n) → IsCommitted (event.Smkdir dir name asked told) kept (record kept { tree = tree; graph = edges_now; answers = answered })
+  semantic-put tree edges_now answered is each takes =
+      put kept (record kept { tree = tree; graph = edges_now; answers = answered }) (event.Smkdir dir name asked told) h ok is
+      (λ n. lists-still kept h t.next new n (ap (λ (facts : Facts). facts.marks) (next-none kept h)) ∙ ap unfound (still-marks (n == t.next) new (facts_kept kept n) (now-told kept asked told n).answers))
+      (λ n. each n ∙ (λ i. replaced (edges_of kept.graph) (are.dir_is i) (are.edges_are i) n) ∙ edges-put (n == t.next) new (now-told kept asked told n))
+      (λ n. takes n ∙ gains n ∙ told-but kept asked told t.next new (plain-then kept asked told t.next plain ∙ sym (ap (λ (facts : Facts). facts.answers) (next-none kept h))) n)
+      (λ n has. some-edges (n == t.next) new (now-told kept asked told n) refl (sets-edges kept h n has))
       refl
     where
       t : State
@@ -100,21 +128,31 @@ module _ (kept : Parts) (h : IsLinked kept) (dir : ℕ) (name : List ℕ) (asked
       new : Facts
       new = record no_facts { edges = dir ∷ named_in asked }
 
+      plain : is_mount_at t.entries t.next ≡ false
+      plain =
+          sym (same-mount (state_of kept) t (kept-bares kept) t.next)
+          ∙ ap (λ (o : Option Entry). option_map_or is_mount (option_map (λ (e : Entry). e.body) o) false) (entry_at-next 0 (state_of kept).entries t.next t.next h.valid.layout.numbers (omega arith))
+
 -- A directory gets a query.
 
-module _ (kept : Parts) (h : IsLinked kept) (dir : ℕ) (asked : Formula ℕ) (ok : IsTrue (accepted (state_of kept) (event.Setq dir asked []))) (edges : NewEdges) (are : AreEdges kept.graph dir (parent_of kept.tree.state dir) asked edges) where
-  pub query-put : (tree : tree.Seen) (edges_now : graph.Seen) → tree.state ≡ changed_at kept.tree.state dir (edited (asking asked)) →
-      ((q : ℕ) → edges_of edges_now q ≡ replaced (edges_of kept.graph) edges.dir edges.edges.items q) → IsCommitted (event.Setq dir asked []) kept (record kept { tree = tree; graph = edges_now })
-  query-put tree edges_now is each =
-      put kept (record kept { tree = tree; graph = edges_now }) (event.Setq dir asked []) h ok is
-      (λ n. lists-still kept h dir new n refl)
-      (λ n. each n ∙ (λ i. replaced (edges_of kept.graph) (are.dir_is i) (are.edges_are i) n) ∙ edges-put (n == dir) new (facts_kept kept n))
-      (λ n. answers-still kept h dir new n refl)
-      (λ n has. some-edges (n == dir) new (facts_kept kept n) refl (sets-edges kept h n has))
+module _ (kept : Parts) (h : IsLinked kept) (dir : ℕ) (asked : Formula ℕ) (told : List (List ℕ)) (ok : IsTrue (accepted (state_of kept) (event.Setq dir asked told))) (edges : NewEdges) (are : AreEdges kept.graph dir (parent_of kept.tree.state dir) asked edges) (gains : AreGains (answers_kept kept.answers) asked told kept.tree.state kept.answers.told) where
+  pub query-put : (tree : tree.Seen) (edges_now : graph.Seen) (answered : Answered) → tree.state ≡ changed_at kept.tree.state dir (edited (asking asked)) → ((q : ℕ) → edges_of edges_now q ≡ replaced (edges_of kept.graph) edges.dir edges.edges.items q) →
+      ((n : ℕ) → answers_kept answered n ≡ answers_with (answers_kept kept.answers) kept.answers.told n) → IsCommitted (event.Setq dir asked told) kept (record kept { tree = tree; graph = edges_now; answers = answered })
+  query-put tree edges_now answered is each takes =
+      put kept (record kept { tree = tree; graph = edges_now; answers = answered }) (event.Setq dir asked told) h ok is
+      (λ n. lists-still kept h dir new n refl ∙ ap unfound (still-marks (n == dir) new (facts_kept kept n) (now-told kept asked told n).answers))
+      (λ n. each n ∙ (λ i. replaced (edges_of kept.graph) (are.dir_is i) (are.edges_are i) n) ∙ edges-put (n == dir) new (now-told kept asked told n))
+      (λ n. takes n ∙ gains n ∙ told-but kept asked told dir new (plain-then kept asked told dir plain) n)
+      (λ n has. some-edges (n == dir) new (now-told kept asked told n) refl (sets-edges kept h n has))
       refl
     where
       new : Facts
       new = record (facts_kept kept dir) { edges = parent_of kept.tree.state dir ∷ named_in asked }
+
+      plain : is_mount_at kept.tree.state.entries dir ≡ false
+      plain =
+          sym (same-mount (state_of kept) kept.tree.state (kept-bares kept) dir)
+          ∙ (setq-parts (state_of kept) dir asked told (possible-of (state_of kept) (event.Setq dir asked told) ok)).4
 
 -- A directory loses its marks and its edges.
 

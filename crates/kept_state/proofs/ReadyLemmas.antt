@@ -1,7 +1,8 @@
 -- What an event needs so that it can be prepared.
-use Rattle.std.proofs.Common.{◌≡◌, ℕ, true, List, [], ◌∷◌, length, refl, subst, sym, ◌∙◌, arith}
-use Rattle.std.specs.Prelude.{◌==◌, IsTrue}
-use Rattle.std.proofs.lemmas.Bool.{and_parts, eqb-true}
+use Rattle.std.proofs.Common.{◌≡◌, ℕ, true, List, subst, sym, ◌∙◌}
+use Rattle.std.specs.Prelude.{IsTrue}
+use Rattle.std.proofs.lemmas.Bool.{and_parts}
+use Rattle.hac_model.specs.Tree.Asking.{are_all_told}
 use Rattle.hac_model.specs.Tree.Events.{accepted, apply, is_free, is_possible}
 use Rattle.hac_model.specs.Tree.Facts.{Facts, joined}
 use Rattle.hac_model.specs.Query.Formula.{Formula}
@@ -9,7 +10,6 @@ use Rattle.hac_model.specs.Tree.Limits.{is_text, passed_limit}
 use Rattle.hac_model.specs.Script.PathWords.{is_target}
 use Rattle.hac_model.specs.Tree.Links.{is_semantic}
 use Rattle.hac_model.specs.Tree.{is_directory_at}
-use Rattle.hac_model.specs.declared.counts.Counts.{Counts}
 use Rattle.hac_model.specs.declared.events.Event.{Event}
 use Rattle.hac_model.specs.declared.events.Event.TheVariants as event
 use Rattle.hac_model.specs.declared.marks.Mark.{Mark}
@@ -17,9 +17,6 @@ use Rattle.hac_model.specs.declared.states.Session.{Session}
 use Rattle.hac_model.specs.declared.states.State.{State}
 use Rattle.hac_model.proofs.FillLemmas.{bare-joined}
 use Rattle.hac_model.proofs.ValidLemmas.{accepted-parts, free-parts, mark-parts, move-parts, setq-parts, smkdir-parts}
-use Rattle.kept_state.specs.Parts.{state_of}
-use Rattle.kept_state.specs.Ready.{CanCommit}
-use Rattle.kept_state.specs.declared.parts.Parts.{Parts}
 use Rattle.kept_state.proofs.StateLemmas.{same-directory, same-semantic}
 
 free-directory : (facts : ℕ → Facts) (sessions : List Session) (t : State) (dir : ℕ) (name : List ℕ) → is_free (joined facts sessions t) dir name ≡ true → is_directory_at t.entries dir ≡ true
@@ -60,14 +57,12 @@ module _ (facts : ℕ → Facts) (sessions : List Session) (t : State) (e : Even
       let possible = possible-of s (event.Mark mark) (subst (λ (e : Event). IsTrue (accepted s e)) is ok) in
       sym (same-semantic s t (bare-joined facts sessions t) mark.dir) ∙ (mark-parts s mark.dir mark.item mark.kind possible).1
 
-none-told : (told : List (List ℕ)) → (length told == 0) ≡ true → told ≡ []
-none-told [] none = refl
-none-told (one ∷ told) none = let no : length (one ∷ told) ≡ 0 = eqb-true (length (one ∷ told)) 0 none in absurd (omega (arith, no))
+  pub smkdir-told : (dir : ℕ) (name : List ℕ) (query : Formula ℕ) (told : List (List ℕ)) → e ≡ event.Smkdir dir name query told → are_all_told (joined facts sessions t) query told (joined facts sessions t).entries ≡ true
+  smkdir-told dir name query told is =
+      let s = joined facts sessions t in
+      (smkdir-parts s dir name query told (possible-of s (event.Smkdir dir name query told) (subst (λ (e : Event). IsTrue (accepted s e)) is ok))).2
 
--- no space tells anything as a query is set
-pub query-alone : (kept : Parts) (counts : Counts) (e : Event) (dir : ℕ) (query : Formula ℕ) (told : List (List ℕ)) → CanCommit e counts kept → e ≡ event.Setq dir query told → CanCommit (event.Setq dir query []) counts kept
-query-alone kept counts e dir query told may is =
-    let s = state_of kept in
-    let here : CanCommit (event.Setq dir query told) counts kept = subst (λ (e : Event). CanCommit e counts kept) is may in
-    subst (λ (told : List (List ℕ)). CanCommit (event.Setq dir query told) counts kept)
-    (none-told told (setq-parts s dir query told (possible-of s (event.Setq dir query told) here.happens)).3) here
+  pub setq-told : (dir : ℕ) (query : Formula ℕ) (told : List (List ℕ)) → e ≡ event.Setq dir query told → are_all_told (joined facts sessions t) query told (joined facts sessions t).entries ≡ true
+  setq-told dir query told is =
+      let s = joined facts sessions t in
+      (setq-parts s dir query told (possible-of s (event.Setq dir query told) (subst (λ (e : Event). IsTrue (accepted s e)) is ok))).3

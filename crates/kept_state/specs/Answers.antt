@@ -9,14 +9,20 @@ use Rattle.hac_model.specs.declared.states.Answer.{Answer}
 use Rattle.hac_model.specs.declared.terms.Term.{Term}
 use Rattle.kept_state.specs.declared.answers.NewAnswers.{NewAnswers}
 
--- the answers by the numbers of their mounts, and those that one of these is ready for
+-- the answers by the numbers of their mounts, those that one of these is ready for, and those that all are ready for
 pub record Answered : Type 0 where
   pub mounts : List (ℕ × List Answer)
   pub ready : Option NewAnswers
+  pub told : Option (List (ℕ × List Answer))
 
 -- the answers that a mount keeps, none where it isn't there
 abbrev pub answers_kept : Answered → ℕ → List Answer
 answers_kept kept mount = unwrap_or (lookup (nat_eq mount) kept.mounts) []
+
+-- the answers of a mount by these lists, or, where there are none, what it keeps
+abbrev pub answers_with : (ℕ → List Answer) → Option (List (ℕ × List Answer)) → ℕ → List Answer
+answers_with kept None mount = kept mount
+answers_with kept (Some lists) mount = unwrap_or (lookup (nat_eq mount) lists) []
 
 -- each mount keeps what it kept
 abbrev pub SameAnswers : Answered → Answered → Type 0

@@ -1,5 +1,5 @@
 -- How the answers of mounts are kept: a list under each number, which has no meaning where it is empty.
-use Rattle.std.specs.Prelude.{ℕ, Bool, List, [], IfSome, IsTrue, is_some, nat_eq, unwrap_or}
+use Rattle.std.specs.Prelude.{ℕ, Bool, List, [], Option, Some, None, IfSome, IsTrue, is_some, nat_eq, unwrap_or}
 use Rattle.indexmap.specs.IndexMap.{IndexMap, get}
 use Rattle.hac_model.specs.declared.states.Answer.{Answer}
 use Rattle.kept_state.specs.Answers.{Answered}
@@ -14,8 +14,13 @@ module _ {S : Type 0} where
   abbrev pub list_at : IndexMap ℕ (List Answer) S → ℕ → List Answer
   list_at lists number = unwrap_or (get nat_eq lists number) []
 
+  -- the lists, where there are some
+  abbrev pub told_of : Option (IndexMap ℕ (List Answer) S) → Option (List (ℕ × List Answer))
+  told_of None = None
+  told_of (Some lists) = Some lists.entries
+
 abbrev pub answered_of : Inside → Answered
-answered_of kept = record { mounts = kept.lists.entries; ready = kept.ready }
+answered_of kept = record { mounts = kept.lists.entries; ready = kept.ready; told = told_of kept.told }
 
 -- the mount that is ready has a list, which may be empty
 abbrev pub HasPlace : Inside → Type 0

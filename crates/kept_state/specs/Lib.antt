@@ -2,6 +2,8 @@ pub mod Ready
 pub mod Parts
 pub mod Answers
 pub mod AnswersKept
+pub mod Gains
+pub mod GainsKept
 pub mod Forgetting
 pub mod Readers
 pub mod Seen

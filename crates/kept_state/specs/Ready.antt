@@ -1,5 +1,6 @@
 -- What a state is ready for: parts of it lie in the tree, the marks, the answers and the graph.
 use Rattle.std.specs.Prelude.{◌≡◌, ⊤, ℕ, ◌<◌, List, [], ◌∷◌, Option, Some, length, replicate, IsTrue}
+use Rattle.hac_model.specs.Query.Formula.{Formula}
 use Rattle.hac_model.specs.Script.PathWords.{untested_word}
 use Rattle.hac_model.specs.Tree.Events.{accepted, apply}
 use Rattle.hac_model.specs.Tree.Facts.{bare_after}
@@ -17,6 +18,8 @@ use Rattle.file_tree.specs.Documents.{numbers_for}
 use Rattle.file_tree.specs.declared.ready.Ready.TheVariants as tree
 use Rattle.file_tree.specs.declared.tree.EntryKind.TheVariants as kind
 use Rattle.link_kinds.specs.Seen.{has_sets}
+use Rattle.kept_state.specs.Answers.{answers_kept}
+use Rattle.kept_state.specs.Gains.{AreGains}
 use Rattle.kept_state.specs.Parts.{AreMovedEdges, HasEdges, IsLinked, state_of}
 use Rattle.kept_state.specs.declared.parts.Parts.{Parts}
 use Rattle.kept_state.specs.declared.ready.Ready.{Ready}
@@ -26,14 +29,18 @@ use Rattle.kept_state.specs.declared.ready.Ready.TheVariants.{Nothing, Change, S
 abbrev pub AnswersReady : Parts → ℕ → List (List ℕ) → Type 0
 AnswersReady kept mount told = kept.answers.ready ≡ Some (record { mount = mount; answers = answers_to (terms_to_ask kept.tree.state.entries) told })
 
+-- all mounts are ready for what they were told for a query
+abbrev pub GainsReady : Parts → Formula ℕ → List (List ℕ) → Type 0
+GainsReady kept query told = AreGains (answers_kept kept.answers) query told kept.tree.state kept.answers.told
+
 -- the tree, the marks, the answers and the graph are ready for an event, with these edges
 abbrev pub IsPreparedFor : Event → Option NewEdges → Parts → Type 0
 IsPreparedFor (Mkdir dir name) edges kept = kept.tree.ready ≡ tree.Add dir kind.Dir
 IsPreparedFor (NewFile dir name text) edges kept = kept.tree.ready ≡ tree.Add dir kind.File
 IsPreparedFor (Rewrite file text) edges kept = kept.tree.ready ≡ tree.Text file
 IsPreparedFor (Ln dir name target) edges kept = kept.tree.ready ≡ tree.Link dir (untested_word target)
-IsPreparedFor (Smkdir dir name query told) edges kept = (kept.tree.ready ≡ tree.Add dir kind.Semantic) × HasEdges kept.graph kept.tree.state.next dir query edges
-IsPreparedFor (Setq dir query told) edges kept = HasEdges kept.graph dir (parent_of kept.tree.state dir) query edges
+IsPreparedFor (Smkdir dir name query told) edges kept = (kept.tree.ready ≡ tree.Add dir kind.Semantic) × HasEdges kept.graph kept.tree.state.next dir query edges × GainsReady kept query told
+IsPreparedFor (Setq dir query told) edges kept = HasEdges kept.graph dir (parent_of kept.tree.state dir) query edges × GainsReady kept query told
 IsPreparedFor (Mark mark) edges kept = IsTrue (has_sets kept.marks mark.dir) × (0 < kept.marks.spare)
 IsPreparedFor (Mv entry dir name) edges kept = (kept.tree.ready ≡ tree.Move dir) × AreMovedEdges kept.tree.state kept.graph entry dir edges
 IsPreparedFor (Smount dir name space documents told) edges kept =

@@ -8,7 +8,8 @@ ghost use Rattle.hac_model.specs.Tree.Links.{has};
 ghost use Rattle.hac_model.specs.Tree.Mounts.{is_kept, kept_for};
 ghost use Rattle.hac_model.specs.Tree.Valid.{RiseFrom, TermsRise};
 ghost use Rattle.kept_state.specs.Answers.{AreInOrder, Replaces, SameAnswers, answers_kept};
-ghost use Rattle.kept_state.specs.AnswersKept.{has_list, list_at};
+ghost use Rattle.kept_state.specs.Answers.{answers_with};
+ghost use Rattle.kept_state.specs.AnswersKept.{has_list, list_at, told_of};
 
 use hac_model::{Answer, Memory, Number, Seq, Term};
 use indexmap::IndexMap;
@@ -16,15 +17,16 @@ use std::alloc::Global;
 use std::marker::Model;
 
 /// The answers by the numbers of their mounts.
-type Lists = IndexMap<u64, Seq<Answer>>;
+pub type Lists = IndexMap<u64, Seq<Answer>>;
 
-/// The answers that each mount keeps, and those that one of them is to keep, once it is ready for
-/// them. A mount that isn't there keeps none.
+/// The answers that each mount keeps, and those that it is to keep, once it is ready for them: one
+/// mount alone, or all that were told for a query. A mount that isn't there keeps none.
 #[derive(Drop)]
 pub struct Answers {
     alloc: Global,
     lists: Lists,
     ready: Option<NewAnswers>,
+    told: Option<Lists>,
 }
 
 /// The answers that a mount is to keep.
@@ -51,12 +53,13 @@ impl Model for Answers {
 impl Answers {
     /// No mount keeps any.
     pub fn new(alloc: Global) -> Answers
-        ensures { result ≡ record { mounts = []; ready = None } }
+        ensures { result ≡ record { mounts = []; ready = None; told = None } }
     {
         Answers {
             alloc,
             lists: IndexMap::new(alloc),
             ready: None,
+            told: None,
         }
     }
 
@@ -74,14 +77,11 @@ impl Answers {
         ensures { result ≡
             has (unwrap_or (kept_for (answers_kept self.now mount) term.now) []) document }
     {
-        match documents_for(self.kept_by(mount), term) {
-            Some(documents) => is_among(documents, document),
-            None => false,
-        }
+        had(self.kept_by(mount), term, document)
     }
 
     /// The answers that a mount keeps.
-    fn kept_by(&self, mount: Number) -> &[Answer]
+    pub fn kept_by(&self, mount: Number) -> &[Answer]
         ensures { result.now ≡ answers_kept self.now mount }
     {
         list_of(&self.lists, mount)
@@ -90,7 +90,8 @@ impl Answers {
     /// Prepares answers that a mount is to keep in place of those that it keeps. No answers change,
     /// whatever the answer.
     pub fn prepare(&mut self, mount: Number, answers: Seq<Answer>) -> Result<(), Memory>
-        ensures ok { OnOk result (self.new.ready ≡ Some (record { mount = mount; answers = answers })) }
+        ensures ok { OnOk result (self.new.ready
+            ≡ Some (record { mount = mount; answers = answers })) }
         ensures same { SameAnswers self.old self.new }
     {
         self.forget();
@@ -110,6 +111,27 @@ impl Answers {
         replace(&mut self.lists, new.mount, new.answers);
     }
 
+    /// Prepares what all mounts are to keep: these lists, or what they keep where there are none.
+    /// No answers change.
+    pub fn prepare_told(&mut self, lists: Option<Lists>)
+        ensures told { self.new.told ≡ told_of lists }
+        ensures same { SameAnswers self.old self.new }
+    {
+        self.forget();
+        self.told = lists;
+    }
+
+    /// The mounts keep what was prepared for all of them.
+    pub fn put_told(&mut self)
+        ensures { (mount : ℕ) → answers_kept self.new mount
+            ≡ answers_with (answers_kept self.old) self.old.told mount }
+    {
+        if let Some(lists) = self.told.take() {
+            self.ready = None;
+            self.lists = lists;
+        }
+    }
+
     /// The mount keeps no answers any more.
     pub fn drop_mount(&mut self, mount: Number)
         ensures { Replaces self.old self.new mount [] }
@@ -123,10 +145,29 @@ impl Answers {
         ensures ready { self.new.ready ≡ None }
         ensures same { SameAnswers self.old self.new }
     {
+        self.told = None;
         if let Some(new) = self.ready.take() {
             take_out_bare(&mut self.lists, new.mount);
         }
     }
+}
+
+/// Whether a document had a term, by these answers.
+pub fn had(answers: &[Answer], term: &Term, document: Number) -> bool
+    ensures { AreInOrder answers.now → result
+        ≡ has (unwrap_or (kept_for answers.now term.now) []) document }
+{
+    match documents_for(answers, term) {
+        Some(documents) => is_among(documents, document),
+        None => false,
+    }
+}
+
+/// Whether an answer for a term is among these.
+pub fn is_answered(answers: &[Answer], term: &Term) -> bool
+    ensures { TermsRise None answers.now → result ≡ is_kept answers.now term.now }
+{
+    documents_for(answers, term).is_some()
 }
 
 /// The documents that had a term, if an answer for it is kept.
@@ -159,7 +200,7 @@ fn is_among(numbers: &[Number], number: Number) -> bool
 }
 
 /// The answers under a number.
-fn list_of(lists: &Lists, mount: Number) -> &[Answer]
+pub fn list_of(lists: &Lists, mount: Number) -> &[Answer]
     ensures { result.now ≡ list_at lists.now mount }
 {
     match lists.get(&mount.get()) {
@@ -176,6 +217,15 @@ fn make_place(alloc: Global, lists: &mut Lists, mount: Number) -> Result<(), Mem
     if !lists.contains_key(&mount.get()) {
         lists.insert(mount.get(), Seq::new(Vec::new(alloc)))?;
     }
+    Ok(())
+}
+
+/// Puts answers under a number, in place of those there.
+pub fn put_list(lists: &mut Lists, mount: Number, answers: Seq<Answer>) -> Result<(), Memory>
+    ensures { OnOk result ((number : ℕ) → list_at lists.new number ≡
+        (if number == mount then answers else list_at lists.old number)) }
+{
+    lists.insert(mount.get(), answers)?;
     Ok(())
 }
 

@@ -1,5 +1,7 @@
 //! The state as it is kept, and the events that it is ready for.
-ghost use Rattle.std.specs.Prelude.{◌≡◌, ◌∷◌, [], IfOk, IsTrue, OnOk, OnErr, replicate};
+ghost use Rattle.std.specs.Prelude.{◌≡◌, ◌∷◌, [], ℕ, IfOk, IsTrue, List, OnErr, OnOk, replicate};
+ghost use Rattle.hac_model.specs.Query.Formula.{Formula};
+ghost use Rattle.hac_model.specs.Tree.Asking.{are_all_told, unanswered, with_told};
 ghost use Rattle.hac_model.specs.Tree.Depends.{cycle_of_move, cycle_over};
 ghost use Rattle.hac_model.specs.Tree.Events.{accepted, apply, apply_all};
 ghost use Rattle.hac_model.specs.Laws.{AllHappen};
@@ -12,11 +14,14 @@ ghost use Rattle.hac_model.specs.Tree.Sessions.{are_few, is_busy, is_stored, lea
 ghost use Rattle.hac_model.specs.Tree.Sessions.{sessions_with, stands_in, visitors};
 ghost use Rattle.hac_model.specs.Tree.Valid.{IsValid};
 ghost use Rattle.hac_model.specs.Tree.Events.{is_placed};
+ghost use Rattle.kept_state.specs.Gains.{AreGainsOf};
 ghost use Rattle.kept_state.specs.Readers.{AreEdgesOf, AreMarksOf, IsTreeOf, mark_at};
 
+use crate::answers::had;
+use crate::gains::{Gains, gained};
 use crate::parts::Parts;
 use crate::ready::{Ready, prepare, put};
-use crate::terms::terms_to_ask;
+use crate::terms::{terms_to_ask, unanswered};
 use crate::{edges, sessions};
 use dep_graph::Graph;
 use file_tree::Tree;
@@ -101,6 +106,52 @@ impl KeptState {
     {
         let terms = terms_to_ask(alloc, self.tree())?;
         Ok(Seq::new(terms))
+    }
+
+    /// The terms that a mount has to be asked for, for a query: those for which it keeps no answer,
+    /// in order.
+    pub fn terms_to_ask_for(
+        &self,
+        alloc: Global,
+        mount: Number,
+        query: &Query<Number>,
+    ) -> Result<Seq<Term>, Memory>
+        ensures { IfOk result (λ terms. terms
+            ≡ unanswered query.now (answers_at self.now.state mount)) }
+    {
+        let terms = unanswered(alloc, query, self.parts.answers.kept_by(mount))?;
+        Ok(Seq::new(terms))
+    }
+
+    /// What mounts would keep once they were told for a query. The state doesn't change.
+    pub fn gains(
+        &self,
+        alloc: Global,
+        query: &Query<Number>,
+        told: &[Seq<Number>],
+    ) -> Result<Gains, Memory>
+        requires { IsTrue (are_all_told self.now.state query.now told.now self.now.state.entries) }
+        ensures { IfOk result (λ gains. AreGainsOf self.now.state query.now told.now gains) }
+    {
+        let lists = gained(alloc, &self.parts, query, told)?;
+        Ok(Gains::new(lists))
+    }
+
+    /// Whether a document of a mount had a term, by what the mount keeps and by what it was told
+    /// for a query.
+    pub fn has_answer_with(
+        &self,
+        gains: &Gains,
+        mount: Number,
+        term: &Term,
+        document: Number,
+    ) -> bool
+        ensures { (query : Formula ℕ) (told : List (List ℕ)) →
+            AreGainsOf self.now.state query told gains.now →
+            result ≡ has (kept_at (with_told query told self.now.state) mount term.now) document }
+    {
+        let answers = gains.answers(mount, self.parts.answers.kept_by(mount));
+        had(answers, term, document)
     }
 
     /// How much the state holds.

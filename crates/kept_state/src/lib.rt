@@ -1,12 +1,13 @@
 //! The state as a machine keeps it: a tree, the marks of semantic directories, the answers of
-//! spaces that mounts keep, what depends on what, and where sessions stand. It is seen as that state and as the events for which memory was
-//! taken: each is prepared with memory, and then applied without any. It knows no command, no path
-//! and no link that a query finds.
+//! spaces that mounts keep, what depends on what, and where sessions stand. It is seen as that
+//! state and as the events for which memory was taken: each is prepared with memory, and then
+//! applied without any. It knows no command, no path and no link that a query finds.
 #![tactic(auto)]
 
 mod answers;
 mod edges;
 mod forgetting;
+mod gains;
 mod kept;
 mod parts;
 mod ready;
@@ -14,4 +15,5 @@ mod sessions;
 mod terms;
 
 pub use edges::push_named;
+pub use gains::Gains;
 pub use kept::KeptState;

@@ -1,14 +1,16 @@
 //! A tree with the marks of its semantic directories, the answers of its mounts, what depends on
 //! what, and its sessions.
-ghost use Rattle.std.specs.Prelude.{◌≡◌, IfOk, OnOk, length};
+ghost use Rattle.std.specs.Prelude.{◌≡◌, IfOk, IsTrue, OnOk, length};
 ghost use Rattle.hac_model.specs.Tree.{empty};
+ghost use Rattle.hac_model.specs.Tree.Asking.{are_all_told};
 ghost use Rattle.hac_model.specs.Tree.Mounts.{terms_to_ask};
 ghost use Rattle.kept_state.specs.Parts.{AreAlike, AreEdges, AreMovedEdges, IsLinked, KeepsTree};
 ghost use Rattle.kept_state.specs.Parts.{state_of};
-ghost use Rattle.kept_state.specs.Ready.{AnswersReady};
+ghost use Rattle.kept_state.specs.Ready.{AnswersReady, GainsReady};
 
 use crate::answers::Answers;
 use crate::edges::edges_of;
+use crate::gains::gained;
 use crate::terms::{answers_to, terms_to_ask};
 use dep_graph::{Graph, NewEdges};
 use file_tree::Tree;
@@ -96,5 +98,24 @@ impl Parts {
         let terms = terms_to_ask(alloc, &self.tree)?;
         let answers = answers_to(alloc, terms.as_slice(), told)?;
         self.answers.prepare(mount, Seq::new(answers))
+    }
+
+    /// Prepares what mounts are to keep that were told for a query.
+    pub fn prepare_gains(
+        &mut self,
+        alloc: Global,
+        query: &Query<Number>,
+        told: &[Seq<Number>],
+    ) -> Result<(), Memory>
+        requires linked { IsLinked self.old }
+        requires told { IsTrue (are_all_told (state_of self.old) query.now told.now
+            (state_of self.old).entries) }
+        ensures alike { AreAlike self.old self.new }
+        ensures tree { self.new.tree ≡ self.old.tree }
+        ensures ready { OnOk result (GainsReady self.new query.now told.now) }
+    {
+        let lists = gained(alloc, self, query, told)?;
+        self.answers.prepare_told(lists);
+        Ok(())
     }
 }

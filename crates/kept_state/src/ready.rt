@@ -2,6 +2,7 @@
 ghost use Rattle.std.specs.Prelude.{◌≡◌, ◌<◌, ◌≤◌, [], IfOk, IsTrue, None, length, replicate};
 ghost use Rattle.hac_model.specs.Laws.{AllHappen};
 ghost use Rattle.hac_model.specs.Script.PathWords.{is_target, untested_word};
+ghost use Rattle.hac_model.specs.Tree.Asking.{are_all_told};
 ghost use Rattle.hac_model.specs.Tree.Events.{accepted, apply_all};
 ghost use Rattle.hac_model.specs.Tree.Links.{is_semantic, parent_of};
 ghost use Rattle.hac_model.specs.Tree.Mounting.{are_documents};
@@ -12,7 +13,7 @@ ghost use Rattle.file_tree.specs.Documents.{numbers_for};
 ghost use Rattle.file_tree.specs.declared.ready.Ready.TheVariants as tree;
 ghost use Rattle.link_kinds.specs.Seen.{LinkListsRise, has_sets};
 ghost use Rattle.kept_state.specs.Parts.{AreAlike, AreMovedEdges, HasEdges, IsLinked, state_of};
-ghost use Rattle.kept_state.specs.Ready.{AnswersReady, IsCommitted, IsReady, CanCommit};
+ghost use Rattle.kept_state.specs.Ready.{AnswersReady, CanCommit, GainsReady, IsCommitted, IsReady};
 ghost use Rattle.kept_state.specs.Ready.{IsPreparedFor, ready_events};
 
 use crate::forgetting::{forget_gone, forget_mount};
@@ -73,8 +74,13 @@ pub fn prepare(alloc: Global, kept: &mut Parts, event: &Event) -> Result<Option<
         Event::Mkdir { dir, .. } => prepare_entry(kept, *dir, EntryKind::Dir),
         Event::NewFile { dir, .. } => prepare_entry(kept, *dir, EntryKind::File),
         Event::Ln { dir, target, .. } => prepare_link(kept, *dir, target),
-        Event::Smkdir { dir, query, .. } => prepare_semantic(alloc, kept, *dir, query),
-        Event::Setq { dir, query, .. } => prepare_query(alloc, kept, *dir, query),
+        Event::Smkdir {
+            dir,
+            query,
+            told,
+            ..
+        } => prepare_semantic(alloc, kept, *dir, query, told),
+        Event::Setq { dir, query, told } => prepare_query(alloc, kept, *dir, query, told),
         Event::Mark(mark) => prepare_mark(kept, mark.dir),
         Event::Rewrite { file, .. } => prepare_text(kept, *file),
         Event::Mv { entry, dir, .. } => prepare_move(alloc, kept, *entry, *dir),
@@ -111,35 +117,47 @@ fn prepare_link(kept: &mut Parts, dir: Number, target: &Text) -> Result<Option<N
     Ok(None)
 }
 
-/// Prepares a new semantic directory.
+/// Prepares a new semantic directory, and what mounts were told for its query.
 fn prepare_semantic(
     alloc: Global,
     kept: &mut Parts,
     dir: Number,
     query: &Query<Number>,
+    told: &Seq<Seq<Number>>,
 ) -> Result<Option<NewEdges>, Memory>
-    requires { IsTrue (is_directory_at kept.old.tree.state.entries dir) }
+    requires linked { IsLinked kept.old }
+    requires told { IsTrue (are_all_told (state_of kept.old) query.now told.now
+        (state_of kept.old).entries) }
+    requires dir { IsTrue (is_directory_at kept.old.tree.state.entries dir) }
     ensures alike { AreAlike kept.old kept.new }
     ensures ready { IfOk result (λ edges. kept.new.tree.ready ≡ tree.Add dir EntryKind.Semantic) }
     ensures edges { IfOk result (HasEdges kept.new.graph kept.new.tree.state.next dir query.now) }
+    ensures gains { IfOk result (λ edges. GainsReady kept.new query.now told.now) }
 {
+    kept.prepare_gains(alloc, query, told.as_slice())?;
     let number = kept.tree.next_number();
     let edges = kept.prepare_edges(alloc, number, dir, query)?;
     kept.tree.prepare_add(dir, EntryKind::Semantic)?;
     Ok(Some(edges))
 }
 
-/// Prepares a new query of a directory.
+/// Prepares a new query of a directory, and what mounts were told for it.
 fn prepare_query(
     alloc: Global,
     kept: &mut Parts,
     dir: Number,
     query: &Query<Number>,
+    told: &Seq<Seq<Number>>,
 ) -> Result<Option<NewEdges>, Memory>
+    requires linked { IsLinked kept.old }
+    requires told { IsTrue (are_all_told (state_of kept.old) query.now told.now
+        (state_of kept.old).entries) }
     ensures alike { AreAlike kept.old kept.new }
     ensures edges { IfOk result (HasEdges kept.new.graph dir
         (parent_of kept.new.tree.state dir) query.now) }
+    ensures gains { IfOk result (λ edges. GainsReady kept.new query.now told.now) }
 {
+    kept.prepare_gains(alloc, query, told.as_slice())?;
     let parent = kept.tree.parent(dir);
     let edges = kept.prepare_edges(alloc, dir, parent, query)?;
     Ok(Some(edges))
@@ -266,9 +284,9 @@ fn apply(kept: &mut Parts, event: Event, edges: Option<NewEdges>, counts: Counts
             dir,
             name,
             query,
-            ..
-        } => put_semantic(kept, dir, name, query, edges, counts),
-        Event::Setq { dir, query, .. } => put_query(kept, dir, query, edges, counts),
+            told,
+        } => put_semantic(kept, dir, name, query, told, edges, counts),
+        Event::Setq { dir, query, told } => put_query(kept, dir, query, told, edges, counts),
         Event::Unq { dir } => drop_query(kept, dir, counts),
         Event::Mark(mark) => put_mark(kept, mark),
         Event::Rewrite { file, text } => put_text(kept, file, text, counts),
@@ -316,39 +334,47 @@ fn put_link(kept: &mut Parts, dir: Number, name: Name, target: Text, counts: Cou
     kept.tree.add(dir, name, NewBody::Symlink(target), counts);
 }
 
-/// Adds the semantic directory that was prepared, with its edges.
+/// Adds the semantic directory that was prepared, with its edges, and what mounts were told for its
+/// query.
 fn put_semantic(
     kept: &mut Parts,
     dir: Number,
     name: Name,
     query: Query<Number>,
+    told: Seq<Seq<Number>>,
     edges: Option<NewEdges>,
     counts: Counts,
 )
-    requires may { CanCommit (Event.Smkdir dir name query []) counts kept.old }
-    requires suits { IsPreparedFor (Event.Smkdir dir name query []) edges kept.old }
-    ensures { IsCommitted (Event.Smkdir dir name query []) kept.old kept.new }
+    requires may { CanCommit (Event.Smkdir dir name query told) counts kept.old }
+    requires suits { IsPreparedFor (Event.Smkdir dir name query told) edges kept.old }
+    ensures { IsCommitted (Event.Smkdir dir name query told) kept.old kept.new }
 {
     let Some(edges) = edges else { unreachable!() };
+    drop(told);
     kept.tree.add(dir, name, NewBody::Semantic(query), counts);
     kept.graph.set_edges(edges);
+    kept.answers.put_told();
 }
 
-/// Gives a directory a query, and the edges that were prepared.
+/// Gives a directory a query, and the edges that were prepared, and mounts what they were told for
+/// it.
 fn put_query(
     kept: &mut Parts,
     dir: Number,
     query: Query<Number>,
+    told: Seq<Seq<Number>>,
     edges: Option<NewEdges>,
     counts: Counts,
 )
-    requires may { CanCommit (Event.Setq dir query []) counts kept.old }
-    requires suits { IsPreparedFor (Event.Setq dir query []) edges kept.old }
-    ensures { IsCommitted (Event.Setq dir query []) kept.old kept.new }
+    requires may { CanCommit (Event.Setq dir query told) counts kept.old }
+    requires suits { IsPreparedFor (Event.Setq dir query told) edges kept.old }
+    ensures { IsCommitted (Event.Setq dir query told) kept.old kept.new }
 {
     let Some(edges) = edges else { unreachable!() };
+    drop(told);
     kept.tree.set_query(dir, query, counts);
     kept.graph.set_edges(edges);
+    kept.answers.put_told();
 }
 
 /// Removes a directory's query, with its edges and all its marks.

@@ -1,13 +1,16 @@
-//! What a space is asked as it is mounted, and as its mount is synced: the terms that the queries of
-//! a tree ask for. It changes nothing.
+//! What a space is asked as it is mounted, as its mount is synced, and for a query: terms in order.
+//! It changes nothing.
 ghost use Rattle.std.specs.Prelude.{◌≡◌, ◌++◌, ◌≤◌, None, IfOk, OnOk, length};
 ghost use Rattle.std.specs.List.{prefix_len};
 ghost use Rattle.hac_model.specs.Query.Queries.{terms_of};
 ghost use Rattle.hac_model.specs.Query.Terms.{is_term_before};
+ghost use Rattle.hac_model.specs.Tree.Asking.{unanswered};
 ghost use Rattle.hac_model.specs.Tree.Mounting.{answers_to};
-ghost use Rattle.hac_model.specs.Tree.Mounts.{put_term, terms_in_use, terms_to_ask};
+ghost use Rattle.hac_model.specs.Tree.Mounts.{in_order, put_term, terms_in_use, terms_to_ask};
+ghost use Rattle.hac_model.specs.Tree.Valid.{TermsRise};
 ghost use Rattle.kept_state.specs.Answers.{AreTermsInOrder};
 
+use crate::answers::is_answered;
 use file_tree::Tree;
 use hac_model::{Answer, Memory, Node, Number, Query, Seq, Term};
 use std::alloc::Global;
@@ -16,7 +19,29 @@ use std::alloc::Global;
 pub fn terms_to_ask(alloc: Global, tree: &Tree) -> Result<Vec<Term>, Memory>
     ensures { IfOk result (λ terms. terms.items ≡ terms_to_ask tree.now.state.entries) }
 {
-    let mut terms = terms_in_use(alloc, tree)?;
+    in_order(alloc, terms_in_use(alloc, tree)?)
+}
+
+/// The terms of a query for which no answer is among these, in order.
+pub fn unanswered(
+    alloc: Global,
+    query: &Query<Number>,
+    answers: &[Answer],
+) -> Result<Vec<Term>, Memory>
+    requires { TermsRise None answers.now }
+    ensures { IfOk result (λ terms. terms.items ≡ unanswered query.now answers.now) }
+{
+    let mut terms = Vec::new(alloc);
+    push_terms(&mut terms, query)?;
+    let mut ordered = in_order(alloc, terms)?;
+    ordered.retain(|term| !is_answered(answers, term));
+    Ok(ordered)
+}
+
+/// The terms in order, each once.
+fn in_order(alloc: Global, mut terms: Vec<Term>) -> Result<Vec<Term>, Memory>
+    ensures { IfOk result (λ ordered. ordered.items ≡ in_order terms.items) }
+{
     let mut ordered = Vec::new(alloc);
     'terms: while let Some(term) = terms.pop() {
         put_term(&mut ordered, term)?;
@@ -92,7 +117,7 @@ pub fn answers_to(
 }
 
 /// The answer that these documents have a term.
-fn answer_to(alloc: Global, term: &Term, documents: &[Number]) -> Result<Answer, Memory>
+pub fn answer_to(alloc: Global, term: &Term, documents: &[Number]) -> Result<Answer, Memory>
     ensures { IfOk result (λ answer. answer ≡
         record { term = term.now; documents = documents.now }) }
 {

@@ -4,7 +4,7 @@ use Rattle.hac_model.specs.Tree.Events.{accepted}
 use Rattle.hac_model.specs.declared.events.Event.{Event}
 use Rattle.kept_state.specs.Parts.{facts_kept, state_of}
 use Rattle.kept_state.proofs.MountPutLemmas.{mount-directory, mount-even, mount-few, sync-documents, sync-even, sync-mount}
-use Rattle.kept_state.proofs.ReadyLemmas.{file-directory, link-parts, mark-directory, mkdir-directory, move-directory, smkdir-directory}
+use Rattle.kept_state.proofs.ReadyLemmas.{file-directory, link-parts, mark-directory, mkdir-directory, move-directory, setq-told, smkdir-directory, smkdir-told}
 use Rattle.kept_state.proofs.ready.prepare.Goals as goal
 
 pub prepare_entry-requires : goal.prepare_entry-requires
@@ -19,8 +19,8 @@ prepare_link-requires-clause-dir c = (link-parts (facts_kept c.args.kept.now) c.
 pub prepare_link-requires-clause-target : goal.prepare_link-requires-clause-target
 prepare_link-requires-clause-target c = (link-parts (facts_kept c.args.kept.now) c.args.kept.now.sessions c.args.kept.now.tree.state c.args.event.now c.requires.accepted c.in-Ln.dir c.in-Ln.name c.in-Ln.target c.in-Ln.is).1
 
-pub prepare_semantic-requires : goal.prepare_semantic-requires
-prepare_semantic-requires c = smkdir-directory (facts_kept c.args.kept.now) c.args.kept.now.sessions c.args.kept.now.tree.state c.args.event.now c.requires.accepted c.in-Smkdir.dir c.in-Smkdir.name c.in-Smkdir.query c.in-Smkdir.told c.in-Smkdir.is
+pub prepare_semantic-requires-clause-dir : goal.prepare_semantic-requires-clause-dir
+prepare_semantic-requires-clause-dir c = smkdir-directory (facts_kept c.args.kept.now) c.args.kept.now.sessions c.args.kept.now.tree.state c.args.event.now c.requires.accepted c.in-Smkdir.dir c.in-Smkdir.name c.in-Smkdir.query c.in-Smkdir.told c.in-Smkdir.is
 
 pub prepare_move-requires : goal.prepare_move-requires
 prepare_move-requires c = move-directory (facts_kept c.args.kept.now) c.args.kept.now.sessions c.args.kept.now.tree.state c.args.event.now c.requires.accepted c.in-Mv.entry c.in-Mv.dir c.in-Mv.name c.in-Mv.is
@@ -45,3 +45,9 @@ prepare_sync-requires-clause-documents c = sync-documents c.args.kept.now c.in-S
 
 pub prepare_sync-requires-clause-even : goal.prepare_sync-requires-clause-even
 prepare_sync-requires-clause-even c = sync-even c.args.kept.now c.in-Ssync.mount c.in-Ssync.docs c.in-Ssync.told (subst (λ (e : Event). IsTrue (accepted (state_of c.args.kept.now) e)) c.in-Ssync.is c.requires.accepted)
+
+pub prepare_semantic-requires-clause-told : goal.prepare_semantic-requires-clause-told
+prepare_semantic-requires-clause-told c = smkdir-told (facts_kept c.args.kept.now) c.args.kept.now.sessions c.args.kept.now.tree.state c.args.event.now c.requires.accepted c.in-Smkdir.dir c.in-Smkdir.name c.in-Smkdir.query c.in-Smkdir.told c.in-Smkdir.is
+
+pub prepare_query-requires-clause-told : goal.prepare_query-requires-clause-told
+prepare_query-requires-clause-told c = setq-told (facts_kept c.args.kept.now) c.args.kept.now.sessions c.args.kept.now.tree.state c.args.event.now c.requires.accepted c.in-Setq.dir c.in-Setq.query c.in-Setq.told c.in-Setq.is
