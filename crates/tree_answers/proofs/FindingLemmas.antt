@@ -9,6 +9,7 @@ use Rattle.hac_model.specs.Tree.Links.{atom, column, holds, is_item, passes, pro
 use Rattle.hac_model.specs.declared.marks.Kind.{Kind}
 use Rattle.hac_model.specs.declared.marks.Kind.TheVariants.{Transient, Permanent, Prohibited, Unlinked}
 use Rattle.hac_model.specs.declared.states.State.{State}
+use Rattle.hac_model.specs.declared.terms.Term.{Term}
 use Rattle.hac_model.specs.Query.Queries.{query_meaning}
 use Rattle.set_pool.specs.Rising.{is_among}
 use Rattle.hac_model.specs.Tree.Kinds.{is_transient}
@@ -19,12 +20,16 @@ use Rattle.tree_answers.specs.Finding.{GetsFound, GetsOne, finds, is_within}
 
 -- Judging one item by what is known of it.
 
+module _ (atoms : Term → ℕ → Bool) (s : State) (found : Known) where
+  pub judged-as : (asked : Formula ℕ) (item : ℕ) → query_meaning atoms (λ dir item. provide s (column (transient_in found) item) dir item) asked item ≡ query_meaning atoms (provide s (column (transient_in found) item)) asked item
+  judged-as (query.Term term) item = refl
+  judged-as (query.Dir dir) item = refl
+  judged-as (query.Not q) item = ap not (judged-as q item)
+  judged-as (query.And p q) item = λ i. judged-as p item i && judged-as q item i
+  judged-as (query.Or p q) item = λ i. judged-as p item i || judged-as q item i
+
 pub judged-found : (s : State) (found : Known) (asked : Formula ℕ) (item : ℕ) → query_meaning (atom s) (λ dir item. provide s (column (transient_in found) item) dir item) asked item ≡ holds s (column (transient_in found) item) asked item
-judged-found s found (query.Term term) item = refl
-judged-found s found (query.Dir dir) item = refl
-judged-found s found (query.Not q) item = ap not (judged-found s found q item)
-judged-found s found (query.And p q) item = λ i. judged-found s found p item i && judged-found s found q item i
-judged-found s found (query.Or p q) item = λ i. judged-found s found p item i || judged-found s found q item i
+judged-found s found asked item = judged-as (atom s) s found asked item
 
 -- what is linked by a query is of that kind
 column-kind : (links : Known) (item dir : ℕ) → column (transient_in links) item dir ≡ is_transient (kind_at links dir item)

@@ -8,3 +8,7 @@ pub mod QueryLineLemmas
 pub mod PlainLemmas
 pub mod CountsLemmas
 pub mod ReferringLemmas
+pub mod AtomLemmas
+pub mod ToldLemmas
+pub mod QuestionLemmas
+pub mod NumberingLemmas

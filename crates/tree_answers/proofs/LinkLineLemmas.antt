@@ -1,20 +1,36 @@
 -- Lines of links, given what was found.
-use Rattle.std.proofs.Common.{◌≡◌, ℕ, Bool, true, false, cond, List, [], ◌∷◌, map, refl, ap, sym, subst, ◌∙◌}
-use Rattle.std.specs.Prelude.{◌&&◌, filter}
+use Rattle.std.proofs.Common.{◌≡◌, ℕ, Bool, true, false, cond, List, [], ◌∷◌, map, refl, ap, sym, subst, ◌∙◌, inl}
+use Rattle.std.specs.Prelude.{◌&&◌, ◌||◌, filter, not}
 use Rattle.std.specs.List.{flat_map, range_with_len}
 use Rattle.std.proofs.lemmas.List.Concat.{flat_map_single}
 use Rattle.hac_model.specs.Tree.Depends.{Among, depends, named_in}
 use Rattle.hac_model.specs.Query.Formula.{Formula}
-use Rattle.hac_model.specs.Tree.Links.{column, found_by, holds, is_item, is_judged, items, kind, links}
+use Rattle.hac_model.specs.Query.Formula as query
+use Rattle.hac_model.specs.Query.Queries.{query_meaning}
+use Rattle.hac_model.specs.declared.terms.Term.{Term}
+use Rattle.hac_model.specs.Tree.Links.{atom, column, found_as, is_item, is_judged, items, kind, links, provide}
 use Rattle.hac_model.specs.Run.Play.{found_line, kind_lines, link_lines}
 use Rattle.hac_model.specs.Tree.{path_of}
 use Rattle.hac_model.specs.Tree.Valid.{IsValid}
 use Rattle.hac_model.specs.declared.states.State.{State}
-use Rattle.hac_model.proofs.LinkLemmas.{holds-same}
+use Rattle.hac_model.proofs.AmongLemmas.{among-left, among-right}
+use Rattle.hac_model.proofs.LinkLemmas.{provide-same}
 use Rattle.link_kinds.specs.Seen.{Known, transient_in}
-use Rattle.tree_answers.specs.Finding.{AreFound, is_found_by, is_within, kind_given}
+use Rattle.tree_answers.specs.Finding.{AreFound, is_found_as, is_within, kind_given}
 use Rattle.tree_answers.proofs.FoundLemmas.{alone-reaches, file-below, found-kind, within-below}
 use Rattle.tree_answers.proofs.RangeLemmas.{filtered}
+
+-- a query looks at the links of the directories that it names
+meant-same : (atoms : Term → ℕ → Bool) (s : State) (a b : ℕ → Bool) (q : Formula ℕ) (item : ℕ) → ((e : ℕ) → Among (named_in q) e → a e ≡ b e) → query_meaning atoms (provide s a) q item ≡ query_meaning atoms (provide s b) q item
+meant-same atoms s a b (query.Term term) item same = refl
+meant-same atoms s a b (query.Dir dir) item same = provide-same s a b dir item (same dir (inl refl))
+meant-same atoms s a b (query.Not q) item same = ap not (meant-same atoms s a b q item same)
+meant-same atoms s a b (query.And p q) item same = λ i.
+    meant-same atoms s a b p item (λ e edge. same e (among-left (named_in p) (named_in q) e edge)) i
+    && meant-same atoms s a b q item (λ e edge. same e (among-right (named_in p) (named_in q) e edge)) i
+meant-same atoms s a b (query.Or p q) item same = λ i.
+    meant-same atoms s a b p item (λ e edge. same e (among-left (named_in p) (named_in q) e edge)) i
+    || meant-same atoms s a b q item (λ e edge. same e (among-right (named_in p) (named_in q) e edge)) i
 
 module _ (s : State) (valid : IsValid s) (dirs : List ℕ) (found : Known) (all : AreFound s dirs 0 s.next found) where
   within : (item : ℕ) → is_item s item ≡ true → is_within 0 s.next item ≡ true
@@ -30,20 +46,21 @@ module _ (s : State) (valid : IsValid s) (dirs : List ℕ) (found : Known) (all 
       each item true file = ap (kind_lines (path_of s item)) (found-kind s dirs 0 s.next found dir item (λ is. alone-reaches (depends s) dirs dir among) (within item file) all)
       each item false other = refl
 
-  -- what a query finds
-  pub found-told : (asked : Formula ℕ) → dirs ≡ named_in asked → flat_map (λ item. cond (is_found_by s found asked item) (found_line s item ∷ []) []) (range_with_len 0 s.next) ≡ map (found_line s) (found_by s asked)
-  unfolding found_by
-  found-told asked named =
+  -- what a query finds, where another state has other terms of the items
+  pub found-told : (atoms : Term → ℕ → Bool) (other : State) (asked : Formula ℕ) → ((term : Term) (item : ℕ) → atom other term item ≡ atoms term item) → dirs ≡ named_in asked → flat_map (λ item. cond (is_found_as atoms s found asked item) (found_line s item ∷ []) []) (range_with_len 0 s.next) ≡ map (found_line s) (found_as other s asked)
+  unfolding found_as
+  found-told atoms other asked same named =
       (λ i. flat_map (λ item. each item (is_item s item) refl i) (range_with_len 0 s.next))
       ∙ sym (filtered (is_item s) (λ item. cond (passes item) (found_line s item ∷ []) []) (range_with_len 0 s.next))
       ∙ sym (filtered passes (λ item. found_line s item ∷ []) (items s))
       ∙ flat_map_single (found_line s) (filter passes (items s))
+      ∙ (λ i. map (found_line s) (filter (λ item. is_judged s item && query_meaning (λ term item. sym (same term item) i) (provide s (column (links s) item)) asked item) (items s)))
     where
       passes : ℕ → Bool
-      passes item = is_judged s item && holds s (column (links s) item) asked item
+      passes item = is_judged s item && query_meaning atoms (provide s (column (links s) item)) asked item
 
-      each : (item : ℕ) (b : Bool) → is_item s item ≡ b → cond ((b && is_judged s item) && holds s (column (transient_in found) item) asked item) (found_line s item ∷ []) [] ≡ cond b (cond (passes item) (found_line s item ∷ []) []) []
+      each : (item : ℕ) (b : Bool) → is_item s item ≡ b → cond ((b && is_judged s item) && query_meaning atoms (provide s (column (transient_in found) item)) asked item) (found_line s item ∷ []) [] ≡ cond b (cond (passes item) (found_line s item ∷ []) []) []
       each item true file = ap (λ h. cond (is_judged s item && h) (found_line s item ∷ []) [])
-          (holds-same s (column (transient_in found) item) (column (links s) item) asked item
+          (meant-same atoms s (column (transient_in found) item) (column (links s) item) asked item
           (λ e among. all.links e item (λ is. alone-reaches (depends s) dirs e (subst (λ (ds : List ℕ). Among ds e) (sym named) among)) (within item file)))
       each item false other = refl

@@ -2,10 +2,12 @@
 use Rattle.std.specs.Prelude.{◌≡◌, ℕ, Bool, true, false, ◌&&◌, ◌||◌, ◌==◌, nat_le, nat_lt, List, if◌then◌else◌}
 use Rattle.hac_model.specs.Tree.Depends.{depends}
 use Rattle.hac_model.specs.Query.Formula.{Formula}
-use Rattle.hac_model.specs.Tree.Links.{column, holds, is_item, is_judged, is_permanent, is_prohibited, is_semantic, links, passes}
+use Rattle.hac_model.specs.Query.Queries.{query_meaning}
+use Rattle.hac_model.specs.Tree.Links.{column, is_item, is_judged, is_permanent, is_prohibited, is_semantic, links, passes, provide}
 use Rattle.hac_model.specs.declared.marks.Kind.{Kind}
 use Rattle.hac_model.specs.declared.marks.Kind.TheVariants.{Transient, Permanent, Prohibited, Unlinked}
 use Rattle.hac_model.specs.declared.states.State.{State}
+use Rattle.hac_model.specs.declared.terms.Term.{Term}
 use Rattle.dep_graph.specs.Searches.{AnyReaches}
 use Rattle.link_kinds.specs.Seen.{Known, transient_in}
 
@@ -21,9 +23,10 @@ is_judged_item s number = is_item s number && is_judged s number
 abbrev pub finds : State → Known → ℕ → ℕ → Bool
 finds s found dir item = is_item s item && passes s (column (transient_in found) item) dir item
 
--- the query finds the item, which it judges and which satisfies it, given the links so far
-abbrev pub is_found_by : State → Known → Formula ℕ → ℕ → Bool
-is_found_by s found query item = is_judged_item s item && holds s (column (transient_in found) item) query item
+-- the query finds the item, which it judges and which satisfies it, given the links so far and which terms items have
+abbrev pub is_found_as : (Term → ℕ → Bool) → State → Known → Formula ℕ → ℕ → Bool
+is_found_as atoms s found query item =
+    is_judged_item s item && query_meaning atoms (provide s (column (transient_in found) item)) query item
 
 -- how an item is linked in a directory, given the links that it finds
 abbrev pub kind_given : State → Known → ℕ → ℕ → Kind

@@ -2,7 +2,8 @@
 ghost use Rattle.std.specs.Prelude.{◌≡◌, ◌≤◌, false, IfOk, IsTrue, OnOk};
 ghost use Rattle.std.specs.Option.{option_map_or};
 ghost use Rattle.hac_model.specs.Query.Words.{has_term};
-ghost use Rattle.hac_model.specs.Tree.Links.{atom, column, has, holds, is_item, is_unmarked, kept_at};
+ghost use Rattle.hac_model.specs.Tree.Links.{atom, column, has, holds, is_item, is_unmarked};
+ghost use Rattle.hac_model.specs.Tree.Links.{kept_at};
 ghost use Rattle.hac_model.specs.Tree.Links.{links, parent_of, provide, satisfies, shown_of};
 ghost use Rattle.link_kinds.specs.Seen.{LinkListsRise, transient_in};
 ghost use Rattle.tree_answers.specs.Finding.{AreFound, GetsFound, GetsOne, finds};
@@ -39,7 +40,7 @@ impl<'a> Atoms for Sight<'a> {
 }
 
 /// Whether a document has a term, by what its mount keeps.
-fn document_has(kept: &KeptState, term: &Term, item: Number) -> bool
+pub fn document_has(kept: &KeptState, term: &Term, item: Number) -> bool
     ensures { result
         ≡ has (kept_at kept.now.state (parent_of kept.now.state item) term.now) item }
 {
@@ -47,7 +48,7 @@ fn document_has(kept: &KeptState, term: &Term, item: Number) -> bool
 }
 
 /// Whether the text of an item, as it was last indexed, has a term.
-fn text_has(kept: &KeptState, term: &Term, item: Number) -> bool
+pub fn text_has(kept: &KeptState, term: &Term, item: Number) -> bool
     ensures { result
         ≡ option_map_or (λ text. has_term text term.now) (shown_of kept.now.state item) false }
 {

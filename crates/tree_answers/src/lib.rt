@@ -1,9 +1,10 @@
 //! What a kept state answers: the links that queries find, the marks that users made, which queries
-//! name a directory, and the data lines of commands that read. Links are found anew for each
-//! answer. It knows no line of a script and no refusal, and of a command only what its paths lead
-//! to.
+//! name a directory, what the mounts have to be asked for a query, and the data lines of commands
+//! that read. Links are found anew for each answer, and no answer of a space is kept. It knows no
+//! line of a script and no refusal, and of a command only what its paths lead to.
 #![tactic(auto)]
 
+mod asking;
 mod finding;
 mod lines;
 mod lines_of_counts;
@@ -12,8 +13,12 @@ mod lines_of_links;
 mod lines_of_queries;
 mod lookups;
 mod marking;
+mod numbering;
 mod referring;
+mod telling;
 
+pub use asking::{Question, questions, told_for};
 pub use lines::data_lines;
 pub use marking::{is_linked, is_marked, is_permanent, may_mark};
+pub use numbering::{documents_named, mounted_named, synced_named};
 pub use referring::{is_unreferenced, least_referrer};

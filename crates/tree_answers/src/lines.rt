@@ -1,28 +1,37 @@
 //! The data lines of commands that read.
 ghost use Rattle.std.specs.Prelude.{◌≡◌, IfOk};
-ghost use Rattle.hac_model.specs.Run.Play.{data_lines, no_answers};
+ghost use Rattle.hac_model.specs.Run.Asks.{asks};
+ghost use Rattle.hac_model.specs.Run.Play.{data_lines};
+ghost use Rattle.hac_model.specs.Spaces.Answering.{AreAnswersTo};
 
 use crate::lines_of_counts::counts_lines;
 use crate::lines_of_entries::{child_lines, path_lines, target_lines, text_lines};
 use crate::lines_of_links::{found_lines, link_lines};
 use crate::lines_of_queries::query_lines;
-use hac_model::{Memory, Name, Resolved};
+use hac_model::{Answers, Memory, Name, Resolved};
 use kept_state::KeptState;
 use std::alloc::Global;
 
-/// The data lines of a command. One that changes the state has none.
-pub fn data_lines(alloc: Global, kept: &KeptState, command: &Resolved) -> Result<Vec<Name>, Memory>
-    ensures { IfOk result (λ lines. lines.items ≡ data_lines no_answers kept.now.state
-        command.now) }
+/// The data lines of a command, given what spaces answered to its questions. One that changes the
+/// state has none.
+pub fn data_lines(
+    alloc: Global,
+    kept: &KeptState,
+    command: &Resolved,
+    answers: &Answers,
+) -> Result<Vec<Name>, Memory>
+    requires { AreAnswersTo (asks kept.now.state command.now) answers.now }
+    ensures { IfOk result (λ lines. lines.items
+        ≡ data_lines answers.now kept.now.state command.now) }
 {
     match command {
-        Resolved::Cat { entry } => text_lines(alloc, kept, *entry),
+        Resolved::Cat { entry } => text_lines(alloc, kept, *entry, answers),
         Resolved::Ls { dir } => child_lines(alloc, kept, *dir),
         Resolved::Pwd { dir } => path_lines(alloc, kept, *dir),
         Resolved::Readlink { entry } => target_lines(alloc, kept, *entry),
         Resolved::Query { dir } => query_lines(alloc, kept, *dir),
         Resolved::Sls { dir } => link_lines(alloc, kept, *dir),
-        Resolved::Find { query } => found_lines(alloc, kept, query),
+        Resolved::Find { query } => found_lines(alloc, kept, query, answers.found.as_slice()),
         Resolved::Counts => counts_lines(alloc, kept),
         _ => Ok(Vec::new(alloc)),
     }

@@ -63,7 +63,8 @@ fn line_of_counts(
     requires plain { 1 + counts.semantics + counts.mounts ≤ counts.directories }
     requires items { counts.files ≤ counts.items }
     ensures { IfOk result (λ line. line ≡ line_of_counts counts
-        (counts.directories - 1 - counts.semantics - counts.mounts) transient permanent prohibited) }
+        (counts.directories - 1 - counts.semantics - counts.mounts) transient permanent
+        prohibited) }
 {
     let plain = counts.directories - 1 - counts.semantics - counts.mounts;
     let mut line = Vec::from_slice(alloc, b"=")?;

@@ -1,6 +1,6 @@
 //! The text of a file, the target of a symbolic link, and the entries and the path of a directory.
 ghost use Rattle.std.specs.Prelude.{◌≡◌, ◌∷◌, [], IfOk, IsSome, Some, map};
-ghost use Rattle.std.specs.Option.{option_map};
+ghost use Rattle.std.specs.Option.{option_copied, option_map, option_map_or};
 ghost use Rattle.hac_model.specs.Tree.Listing.{children, entry_line, letter};
 ghost use Rattle.hac_model.specs.Run.Play.{path_line, text_line, text_lines};
 ghost use Rattle.hac_model.specs.Run.Showing.{target_line, target_lines};
@@ -8,19 +8,47 @@ ghost use Rattle.hac_model.specs.Tree.{entry_at};
 ghost use Rattle.hac_model.specs.declared.states.Body.{Body};
 ghost use Rattle.file_tree.specs.Answers.{entry_kind};
 
-use crate::lookups::{target_of, text_of};
+use crate::lookups::{is_document, target_of, text_of};
 use file_tree::{EntryKind, Tree};
-use hac_model::{Memory, Name, Number, Text};
+use hac_model::{Answers, Memory, Name, Number, Text};
 use hac_names::{print_path, print_text};
 use kept_state::KeptState;
 use std::alloc::Global;
 
-/// The text of a file, on one line.
-pub fn text_lines(alloc: Global, kept: &KeptState, file: Number) -> Result<Vec<Name>, Memory>
-    ensures { IfOk result (λ lines. lines.items ≡ text_lines kept.now.state file) }
+/// The text of a file on one line, or that of a document, as its space answers.
+pub fn text_lines(
+    alloc: Global,
+    kept: &KeptState,
+    item: Number,
+    answers: &Answers,
+) -> Result<Vec<Name>, Memory>
+    ensures { IfOk result (λ lines. lines.items
+        ≡ text_lines answers.now kept.now.state item) }
+{
+    if is_document(kept, item) {
+        shown_lines(alloc, fetched(answers))
+    } else {
+        shown_lines(alloc, text_of(kept, item))
+    }
+}
+
+/// The text that a space answered.
+fn fetched(answers: &Answers) -> Option<&[u8]>
+    ensures { option_copied result ≡ answers.now.fetched }
+{
+    match &answers.fetched {
+        Some(text) => Some(text.as_slice()),
+        None => None,
+    }
+}
+
+/// A text on one line, where there is one.
+fn shown_lines(alloc: Global, text: Option<&[u8]>) -> Result<Vec<Name>, Memory>
+    ensures { IfOk result (λ lines. lines.items
+        ≡ option_map_or (λ text. text_line text ∷ []) (option_copied text.entry) []) }
 {
     let mut lines = Vec::new(alloc);
-    if let Some(text) = text_of(kept, file) {
+    if let Some(text) = text {
         lines.push(text_line(alloc, text)?)?;
     }
     Ok(lines)

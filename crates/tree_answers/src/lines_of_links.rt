@@ -1,16 +1,21 @@
 //! The lines of links: those of a semantic directory, and what a query finds anywhere.
-ghost use Rattle.std.specs.Prelude.{◌≡◌, ◌∷◌, ◌++◌, [], map, if◌then◌else◌, IfOk, OnOk};
+ghost use Rattle.std.specs.Prelude.{◌≡◌, ◌∷◌, ◌++◌, [], length, map, if◌then◌else◌, IfOk, OnOk};
 ghost use Rattle.std.specs.List.{flat_map, range_with_len};
-ghost use Rattle.hac_model.specs.Tree.Links.{column, found_by, is_item};
+ghost use Rattle.hac_model.specs.Tree.Asking.{with_told};
+ghost use Rattle.hac_model.specs.Tree.Links.{column, found_as, is_item};
 ghost use Rattle.hac_model.specs.Tree.Paths.{path_text};
+ghost use Rattle.hac_model.specs.Run.Asks.{query_asks, told_for};
 ghost use Rattle.hac_model.specs.Run.Play.{found_line, kind_lines, link_lines};
 ghost use Rattle.hac_model.specs.Tree.{path_of};
 ghost use Rattle.link_kinds.specs.Seen.{transient_in};
-ghost use Rattle.tree_answers.specs.Finding.{is_found_by, kind_given};
+ghost use Rattle.tree_answers.specs.Finding.{kind_given};
+ghost use Rattle.tree_answers.specs.Told.{is_found_told};
 
-use crate::finding::{find_links, satisfies_query};
+use crate::asking::{questions_answered, told_by};
+use crate::finding::find_links;
 use crate::lookups::{is_document, is_item, is_judged_item, next_number};
-use hac_model::{Kind, Memory, Name, Number, Query};
+use crate::telling::{Told, satisfies_told};
+use hac_model::{Kind, Memory, Name, Number, Query, Seq};
 use hac_names::print_path;
 use kept_state::{KeptState, push_named};
 use link_kinds::Links;
@@ -112,39 +117,50 @@ fn push_link(
     Ok(())
 }
 
-/// The items that a query finds anywhere, in order of number.
+/// The items that a query finds anywhere, in order of number, given the names that spaces answered
+/// to the questions for it.
 pub fn found_lines(
     alloc: Global,
     kept: &KeptState,
     query: &Query<Number>,
+    names: &[Seq<Name>],
 ) -> Result<Vec<Name>, Memory>
-    ensures { IfOk result (λ lines. lines.items
-        ≡ map (found_line kept.now.state) (found_by kept.now.state query.now)) }
+    requires { length names.now ≡ length (query_asks kept.now.state query.now).searches }
+    ensures { let told = told_for kept.now.state query.now names.now in
+        IfOk result (λ lines. lines.items ≡ map (found_line kept.now.state)
+        (found_as (with_told query.now told kept.now.state) kept.now.state query.now)) }
 {
     kept.know_valid();
     let mut dirs = Vec::new(alloc);
     push_named(&mut dirs, query)?;
     let found = find_links(alloc, kept, dirs.as_slice(), 0, next_number(kept))?;
-    lines_of_found(alloc, kept, &found, query)
+    let questions = questions_answered(alloc, kept, query, names)?;
+    let documents = told_by(alloc, kept, questions.as_slice(), names)?;
+    let told = Told {
+        kept,
+        questions: questions.as_slice(),
+        documents: documents.as_slice(),
+    };
+    lines_of_found(alloc, &told, &found, query)
 }
 
 /// The lines of the items that a query finds, given the links.
 #[tactic(auto, using(crate::proofs::RangeLemmas::flat_next))]
 fn lines_of_found(
     alloc: Global,
-    kept: &KeptState,
+    told: &Told<'_>,
     found: &Links,
     query: &Query<Number>,
 ) -> Result<Vec<Name>, Memory>
     ensures { IfOk result (λ lines. lines.items ≡ flat_map
-        (λ item. if is_found_by kept.now.state found.now query.now item
-        then found_line kept.now.state item ∷ []
+        (λ item. if is_found_told told.now found.now query.now item
+        then found_line told.now.kept.now.state item ∷ []
         else [])
-        (range_with_len 0 kept.now.state.next)) }
+        (range_with_len 0 told.now.kept.now.state.next)) }
 {
     let mut lines = Vec::new(alloc);
-    for number in 0..next_number(kept) {
-        push_found(alloc, &mut lines, kept, found, query, number)?;
+    for number in 0..next_number(told.kept) {
+        push_found(alloc, &mut lines, told, found, query, number)?;
     }
     Ok(lines)
 }
@@ -153,19 +169,19 @@ fn lines_of_found(
 fn push_found(
     alloc: Global,
     lines: &mut Vec<Name>,
-    kept: &KeptState,
+    told: &Told<'_>,
     found: &Links,
     query: &Query<Number>,
     number: u64,
 ) -> Result<(), Memory>
     ensures { OnOk result (lines.new.items ≡ lines.old.items ++
-        (if is_found_by kept.now.state found.now query.now number
-        then found_line kept.now.state number ∷ []
+        (if is_found_told told.now found.now query.now number
+        then found_line told.now.kept.now.state number ∷ []
         else [])) }
 {
     let item = Number::new(number);
-    if is_found_by(kept, found, query, item) {
-        lines.push(found_line(alloc, kept, item)?)?;
+    if is_found(told, found, query, item) {
+        lines.push(found_line(alloc, told.kept, item)?)?;
     }
     Ok(())
 }
@@ -182,10 +198,10 @@ fn found_line(alloc: Global, kept: &KeptState, item: Number) -> Result<Name, Mem
 }
 
 /// Whether a query finds a number: that of an item that it judges, and which satisfies it.
-fn is_found_by(kept: &KeptState, found: &Links, query: &Query<Number>, number: Number) -> bool
-    ensures { result ≡ is_found_by kept.now.state found.now query.now number }
+fn is_found(told: &Told<'_>, found: &Links, query: &Query<Number>, number: Number) -> bool
+    ensures { result ≡ is_found_told told.now found.now query.now number }
 {
-    is_judged_item(kept, number) && satisfies_query(kept, found, query, number)
+    is_judged_item(told.kept, number) && satisfies_told(told, found, query, number)
 }
 
 /// A line of a letter and the path of an entry.

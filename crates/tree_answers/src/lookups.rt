@@ -2,7 +2,7 @@
 ghost use Rattle.std.specs.Prelude.{◌≡◌, is_some, option_and_then};
 ghost use Rattle.std.specs.Option.{option_copied};
 ghost use Rattle.hac_model.specs.Tree.Links.{is_item, is_semantic, parent_of, query_at, shown_of};
-ghost use Rattle.hac_model.specs.Tree.{body_at, is_document_at, target_in, text_in};
+ghost use Rattle.hac_model.specs.Tree.{body_at, is_document_at, is_mount_at, target_in, text_in};
 ghost use Rattle.tree_answers.specs.Finding.{is_judged_item};
 
 use hac_model::{Number, Query, Text};
@@ -75,6 +75,13 @@ pub fn is_document(kept: &KeptState, number: Number) -> bool
     ensures { result ≡ is_document_at kept.now.state.entries number }
 {
     kept.tree().is_document(number)
+}
+
+/// Whether a number is that of a mount.
+pub fn is_mount(kept: &KeptState, number: Number) -> bool
+    ensures { result ≡ is_mount_at kept.now.state.entries number }
+{
+    kept.tree().is_mount(number)
 }
 
 /// Whether a number is that of an item that queries judge: a document, or a file that was indexed.
