@@ -3,12 +3,12 @@ use Rattle.std.proofs.Common.{◌≡◌, ℕ, true, cond, List, [], ◌∷◌, s
 use Rattle.std.specs.Prelude.{Option, Some, None, Result, IsTrue}
 use Rattle.hac_model.specs.Run.Answers.{Passes, Refuses, first_cause}
 use Rattle.hac_model.specs.Tree.Bare.{bare}
-use Rattle.hac_model.specs.Run.Refusals.{already_cause, blocking_cause, busy_cause, directory_cause, filled_cause, not_link_cause, plain_cause, referenced_cause, root_cause, session_cause, taken_cause, under_cause, unlinked_cause, unmarked_cause, written_cause}
+use Rattle.hac_model.specs.Run.Refusals.{already_cause, blocking_cause, busy_cause, directory_cause, filled_cause, not_link_cause, not_mount_cause, plain_cause, referenced_cause, root_cause, session_cause, taken_cause, under_cause, unlinked_cause, unmarked_cause, written_cause}
 use Rattle.hac_model.specs.declared.places.Place.{Place}
 use Rattle.hac_model.specs.declared.places.Place.TheVariants.{There, Free}
 use Rattle.hac_model.specs.declared.replies.Refusal.TheVariants as refusal
 use Rattle.hac_model.specs.declared.resolved.Resolved.{Resolved}
-use Rattle.hac_model.specs.declared.resolved.Resolved.TheVariants.{Mkdir, Rmdir, Write, Cat, Cd, Mv, Rm, Ln, Readlink, Smkdir, Unq, Query, Sls, Sln, Srm, Sforget}
+use Rattle.hac_model.specs.declared.resolved.Resolved.TheVariants.{Mkdir, Rmdir, Write, Cat, Cd, Mv, Rm, Ln, Readlink, Smkdir, Unq, Query, Sls, Sln, Srm, Sforget, Smount, Ssync, Sumount}
 use Rattle.hac_model.specs.declared.states.State.{State}
 use Rattle.hac_core.specs.Blocking.{item_cause, link_cause, tree_cause}
 use Rattle.hac_model.specs.Tree.Valid.{IsLayout}
@@ -18,7 +18,7 @@ use Rattle.hac_model.specs.declared.replies.Deny.{Deny}
 use Rattle.hac_model.specs.declared.replies.Deny.TheVariants as deny
 use Rattle.hac_model.specs.declared.replies.Refusal.{Refusal}
 use Rattle.hac_model.proofs.EventLemmas.{item-there, no_cause}
-use Rattle.kept_state.proofs.StateLemmas.{same-bare, same-directory, same-inside, same-path, same-semantic, same-symlink}
+use Rattle.kept_state.proofs.StateLemmas.{same-bare, same-directory, same-inside, same-mount, same-path, same-semantic, same-symlink}
 
 module _ (s t : State) (bares : bare s ≡ bare t) where
   same-directory_cause : (n : ℕ) → directory_cause s n ≡ directory_cause t n
@@ -29,6 +29,9 @@ module _ (s t : State) (bares : bare s ≡ bare t) where
 
   same-not_link : (n : ℕ) → not_link_cause s n ≡ not_link_cause t n
   same-not_link n = λ i. cond (same-symlink s t bares n i) None (Some (refusal.NotLink (same-path s t bares n i)))
+
+  same-not_mount : (dir : ℕ) → not_mount_cause s dir ≡ not_mount_cause t dir
+  same-not_mount dir = λ i. cond (same-mount s t bares dir i) None (Some (refusal.NotMount (same-path s t bares dir i)))
 
   same-full_cause : (dir : ℕ) → filled_cause s dir ≡ filled_cause t dir
   same-full_cause dir = λ i. cond (same-bare s t bares dir i) None (Some (refusal.NotEmpty (same-path s t bares dir i)))
@@ -62,6 +65,9 @@ module _ (s t : State) (bares : bare s ≡ bare t) where
   same-tree (Sln item dir) = λ i. first_cause (same-directory_cause item i ∷ same-plain_cause dir i ∷ [])
   same-tree (Srm item dir) = λ i. first_cause (same-directory_cause item i ∷ same-plain_cause dir i ∷ [])
   same-tree (Sforget item dir) = λ i. first_cause (same-directory_cause item i ∷ same-plain_cause dir i ∷ [])
+  same-tree (Smount place space) = same-taken place
+  same-tree (Ssync mount) = same-not_mount mount
+  same-tree (Sumount mount) = same-not_mount mount
   same-tree other = refl
 
 -- What blocks a command is what the tree says, and then what links, marks and other queries say.
@@ -86,9 +92,16 @@ joined (Some e) b c = refl
 joined None (Some e) c = refl
 joined None None c = refl
 
+behind : (a b c : Option Refusal) → first_cause (a ∷ first_cause (b ∷ c ∷ []) ∷ []) ≡ first_cause (a ∷ b ∷ c ∷ [])
+behind (Some e) b c = refl
+behind None (Some e) c = refl
+behind None None (Some e) = refl
+behind None None None = refl
+
 parted : (s : State) (r : Resolved) → first_cause (tree_cause s r ∷ link_cause s r ∷ []) ≡ blocking_cause s r
 parted s (Rmdir dir) = split (root_cause dir) (filled_cause s dir) (referenced_cause s dir) (busy_cause s dir)
 parted s (Cd session dir) = lone (session_cause s session dir)
+parted s (Sumount mount) = behind (not_mount_cause s mount) (referenced_cause s mount) (busy_cause s mount)
 parted s (Sln item dir) = joined (directory_cause s item) (plain_cause s dir) (already_cause s item dir)
 parted s (Srm item dir) = joined (directory_cause s item) (plain_cause s dir) (unlinked_cause s item dir)
 parted s (Sforget item dir) = joined (directory_cause s item) (plain_cause s dir) (unmarked_cause s item dir)

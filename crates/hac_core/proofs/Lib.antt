@@ -1,3 +1,4 @@
+mod AskedLemmas
 mod BlockingLemmas
 mod CountedLemmas
 mod DraftLemmas
@@ -6,5 +7,6 @@ mod LoopLemmas
 mod MountedLemmas
 mod NamesLemmas
 mod PlacedLemmas
-mod SpaceLemmas
+mod SettleLemmas
+mod ShowLemmas
 mod StandsLemmas

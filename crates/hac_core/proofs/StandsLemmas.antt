@@ -8,7 +8,7 @@ use Rattle.hac_model.specs.declared.paths.PathWord.{PathWord}
 use Rattle.hac_model.specs.declared.places.Place.{Place}
 use Rattle.hac_model.specs.declared.places.Place.TheVariants.{There, Free}
 use Rattle.hac_model.specs.declared.resolved.Resolved.{Resolved}
-use Rattle.hac_model.specs.declared.resolved.Resolved.TheVariants.{Mkdir, Rmdir, Write, Cat, Ls, Cd, Pwd, Mv, Rm, Ln, Readlink, Smkdir, Setq, Unq, Query, Sls, Sln, Srm, Sforget, Find, Index, Tick, Counts}
+use Rattle.hac_model.specs.declared.resolved.Resolved.TheVariants.{Mkdir, Rmdir, Write, Cat, Ls, Cd, Pwd, Mv, Rm, Ln, Readlink, Smkdir, Setq, Unq, Query, Sls, Sln, Srm, Sforget, Find, Smount, Ssync, Sumount, Index, Tick, Counts}
 use Rattle.hac_model.specs.Tree.Bare.{bare, bare_body}
 use Rattle.hac_model.specs.Tree.Events.{is_vacant}
 use Rattle.hac_model.specs.Tree.Names.{is_name}
@@ -66,6 +66,9 @@ module _ (s t : State) (bares : bare s ≡ bare t) where
   stands-kept (Srm item dir) h = (there true item h.0, sym (same-directory s t bares dir) ∙ h.1)
   stands-kept (Sforget item dir) h = (there true item h.0, sym (same-directory s t bares dir) ∙ h.1)
   stands-kept (Find query) h = sym (same-asks s t bares query) ∙ h
+  stands-kept (Smount p space) h = (slot true p h.0, h.1)
+  stands-kept (Ssync mount) h = sym (same-directory s t bares mount) ∙ h
+  stands-kept (Sumount mount) h = sym (same-directory s t bares mount) ∙ h
   stands-kept Index h = tt
   stands-kept (Tick steps) h = tt
   stands-kept Counts h = tt

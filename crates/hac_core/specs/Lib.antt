@@ -1,7 +1,10 @@
 pub mod Drafts
+pub mod DraftShape
 pub mod Blocking
 pub mod Seen
 pub mod Shape
-pub mod Spaces
+pub mod Questions
+pub mod Settling
+pub mod Told
 pub mod Mounting
 pub mod Fitting

@@ -2,7 +2,7 @@
 ghost use Rattle.std.specs.Prelude.{◌≡◌, IsTrue, false};
 ghost use Rattle.hac_model.specs.Run.Answers.{Passes};
 ghost use Rattle.hac_model.specs.Run.Refusals.{blocking_cause, directory_cause, filled_cause};
-ghost use Rattle.hac_model.specs.Run.Refusals.{not_link_cause, plain_cause};
+ghost use Rattle.hac_model.specs.Run.Refusals.{not_link_cause, not_mount_cause, plain_cause};
 ghost use Rattle.hac_model.specs.Run.Refusals.{root_cause, taken_cause, under_cause, written_cause};
 ghost use Rattle.hac_model.specs.Run.Standing.{AllStand, IsSlot, is_own};
 ghost use Rattle.hac_model.specs.Tree.Events.{is_inside};
@@ -42,8 +42,10 @@ fn fits_tree_alone(tree: &Tree, command: &Resolved) -> Result<(), Deny>
     ensures { Passes result (tree_cause tree.now.state command.now) }
 {
     match command {
-        Resolved::Mkdir { place } | Resolved::Ln { place, .. } | Resolved::Smkdir { place, .. } =>
-            vacant(tree, place),
+        Resolved::Mkdir { place }
+        | Resolved::Ln { place, .. }
+        | Resolved::Smkdir { place, .. }
+        | Resolved::Smount { place, .. } => vacant(tree, place),
         Resolved::Write { place, .. } => writable(tree, place),
         Resolved::Cat { entry } => file(tree, *entry),
         Resolved::Mv { entry, place } => {
@@ -61,6 +63,7 @@ fn fits_tree_alone(tree: &Tree, command: &Resolved) -> Result<(), Deny>
             empty(tree, *dir)
         }
         Resolved::Setq { dir, .. } => not_root(*dir),
+        Resolved::Ssync { mount: dir } | Resolved::Sumount { mount: dir } => mount(tree, *dir),
         Resolved::Unq { dir } | Resolved::Query { dir } | Resolved::Sls { dir } => {
             semantic(tree, *dir)
         }
@@ -88,7 +91,7 @@ fn fits_links(alloc: Global, kept: &KeptState, command: &Resolved) -> Result<(),
 {
     kept.know_valid();
     match command {
-        Resolved::Rmdir { dir } => {
+        Resolved::Rmdir { dir } | Resolved::Sumount { mount: dir } => {
             unreferenced(alloc, kept, *dir)?;
             idle(kept, *dir)
         }
@@ -182,6 +185,16 @@ pub fn is_inside(tree: &Tree, dir: Number, entry: Number) -> bool
     ensures { result ≡ is_inside tree.now.state dir entry }
 {
     dir == entry || tree.is_below(dir, entry)
+}
+
+/// A directory is a mount.
+fn mount(tree: &Tree, dir: Number) -> Result<(), Deny>
+    ensures { Passes result (not_mount_cause tree.now.state dir) }
+{
+    if tree.is_mount(dir) {
+        return Ok(());
+    }
+    Err(Deny::Refused(Refusal::NotMount(tree.path_of(dir)?)))
 }
 
 /// A directory has a query.

@@ -1,19 +1,29 @@
 //! Each command with what its paths lead to, from left to right.
 ghost use Rattle.std.specs.Prelude.{◌≡◌, IsTrue};
 ghost use Rattle.hac_model.specs.Run.Answers.{Answers};
-ghost use Rattle.hac_model.specs.Run.Resolving.{resolved, resolved_for};
+ghost use Rattle.hac_model.specs.Run.Resolving.{resolve, resolved, resolved_for};
 ghost use Rattle.hac_model.specs.Tree.{is_directory_at};
 
 use crate::resolving::{
     directory, directory_or_root, entry, holder, listed_directory, numbered_query, own_entry, slot,
 };
 use file_tree::Tree;
-use hac_model::{Command, Deny, Name, Number, PathWord, RawQuery, Refusal, Resolved, Text};
+use hac_model::{Command, Deny, Line, Name, Number, PathWord, RawQuery, Refusal, Resolved, Text};
+use kept_state::KeptState;
 use std::alloc::Global;
+
+/// The command of a line with what its paths lead to from where its session stands, or the first
+/// cause against it that lies in them.
+pub fn followed(alloc: Global, kept: &KeptState, line: Line) -> Result<Resolved, Deny>
+    ensures { Answers result (resolve kept.now.state line) }
+{
+    let base = kept.stands_in(&line.session);
+    resolve(alloc, kept.tree(), line.session, base, line.command)
+}
 
 /// The command of a session with what its paths lead to from a directory, or the first cause
 /// against it that lies in them.
-pub fn resolve(
+fn resolve(
     alloc: Global,
     tree: &Tree,
     session: Name,
@@ -54,6 +64,9 @@ fn follow(alloc: Global, tree: &Tree, base: Number, command: Command) -> Result<
         Command::Srm { item, dir } => srm(tree, base, &item, &dir),
         Command::Sforget { item, dir } => sforget(tree, base, &item, &dir),
         Command::Find { query } => find(alloc, tree, base, query),
+        Command::Smount { path, space } => smount(tree, base, &path, space),
+        Command::Ssync { path } => ssync(tree, base, &path),
+        Command::Sumount { path } => sumount(tree, base, &path),
         Command::Index => Ok(Resolved::Index),
         Command::Tick { steps } => Ok(Resolved::Tick { steps }),
         Command::Counts => Ok(Resolved::Counts),
@@ -254,4 +267,31 @@ fn find(alloc: Global, tree: &Tree, base: Number, query: RawQuery) -> Result<Res
 {
     let query = numbered_query(alloc, tree, base, query)?;
     Ok(Resolved::Find { query })
+}
+
+/// `smount PATH SPACE`.
+fn smount(tree: &Tree, base: Number, path: &PathWord, space: Name) -> Result<Resolved, Deny>
+    requires { IsTrue (is_directory_at tree.now.state.entries base) }
+    ensures { Answers result (resolved tree.now.state base (Command.Smount path.now space)) }
+{
+    let place = slot(tree, base, path, true)?;
+    Ok(Resolved::Smount { place, space })
+}
+
+/// `ssync PATH`.
+fn ssync(tree: &Tree, base: Number, path: &PathWord) -> Result<Resolved, Deny>
+    requires { IsTrue (is_directory_at tree.now.state.entries base) }
+    ensures { Answers result (resolved tree.now.state base (Command.Ssync path.now)) }
+{
+    let mount = directory(tree, base, path)?;
+    Ok(Resolved::Ssync { mount })
+}
+
+/// `sumount PATH`.
+fn sumount(tree: &Tree, base: Number, path: &PathWord) -> Result<Resolved, Deny>
+    requires { IsTrue (is_directory_at tree.now.state.entries base) }
+    ensures { Answers result (resolved tree.now.state base (Command.Sumount path.now)) }
+{
+    let mount = directory(tree, base, path)?;
+    Ok(Resolved::Sumount { mount })
 }

@@ -2,7 +2,7 @@
 ghost use Rattle.std.specs.Prelude.{◌≡◌};
 ghost use Rattle.hac_core.specs.Drafts.{reads};
 
-use hac_model::{Counts, Event, Resolved};
+use hac_model::{Asks, Counts, Event, Resolved};
 use std::marker::Model;
 
 /// An event of a state, and how much the state holds once it has happened. The counts are worked
@@ -26,29 +26,37 @@ pub(crate) enum Known {
     Indexes(u64),
 }
 
-/// A command that a machine's state doesn't refuse so far, its paths followed. It says nothing of
-/// later states.
+/// A command that a machine's state doesn't refuse so far, its paths followed, with what it asks
+/// spaces. It says nothing of later states.
 #[derive(Drop)]
 pub struct Draft {
     known: Known,
+    asks: Asks,
 }
 
 impl Model for Draft {
-    ghost use Rattle.hac_core.specs.declared.drafts.Known.{Known};
-    ghost use Rattle.hac_core.specs.contracts.drafts.Known.{the_row};
+    ghost use Rattle.hac_core.specs.Drafts.{DraftSeen};
+    ghost use Rattle.hac_core.specs.DraftShape.{draft_code, draft_of};
 
-    ghost Value = { Known };
+    ghost Value = { DraftSeen };
 
-    ghost coded = { the_row.coded };
+    ghost coded = { draft_code };
 
-    ghost view = { λ draft. draft.known };
+    ghost view = { draft_of };
 }
 
 impl Draft {
-    pub(crate) fn new(known: Known) -> Draft
-        ensures { result ≡ known }
+    pub(crate) fn new(known: Known, asks: Asks) -> Draft
+        ensures { result ≡ record { known = known; asks = asks } }
     {
-        Draft { known }
+        Draft { known, asks }
+    }
+
+    /// What the command asks spaces. It is answered, or settled, by what they answer.
+    pub fn asks(&self) -> &Asks
+        ensures { result.now ≡ self.now.asks }
+    {
+        &self.asks
     }
 
     /// Whether the command only reads, so that it is answered by `ask` and not by `settle`.
@@ -59,7 +67,7 @@ impl Draft {
     }
 
     pub(crate) fn into_known(self) -> Known
-        ensures { result ≡ self }
+        ensures { result ≡ self.known }
     {
         self.known
     }

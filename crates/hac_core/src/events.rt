@@ -19,7 +19,7 @@ pub enum Made {
     Nothing(Resolved),
 }
 
-/// What a command makes that nothing blocks.
+/// What a command makes that nothing blocks, before any space has answered.
 pub fn made_by(alloc: Global, kept: &KeptState, command: Resolved) -> Made
     requires { blocking_cause kept.now.state command ≡ None }
     ensures { Makes kept.now.state command result }
@@ -59,6 +59,22 @@ pub fn made_by(alloc: Global, kept: &KeptState, command: Resolved) -> Made
         Resolved::Sln { item, dir } => Made::Event(marking(item, dir, Kind::Permanent)),
         Resolved::Srm { item, dir } => Made::Event(marking(item, dir, Kind::Prohibited)),
         Resolved::Sforget { item, dir } => Made::Event(marking(item, dir, Kind::Unlinked)),
+        Resolved::Smount { place, space } => {
+            let (dir, name) = vacancy(place);
+            Made::Event(Event::Smount {
+                dir,
+                name,
+                space,
+                docs: Seq::new(Vec::new(alloc)),
+                told: Seq::new(Vec::new(alloc)),
+            })
+        }
+        Resolved::Ssync { mount } => Made::Event(Event::Ssync {
+            mount,
+            docs: Seq::new(Vec::new(alloc)),
+            told: Seq::new(Vec::new(alloc)),
+        }),
+        Resolved::Sumount { mount } => Made::Event(Event::Sumount { mount }),
         Resolved::Index => Made::Steps(dirty(kept)),
         Resolved::Tick { steps } => Made::Steps(steps.min(dirty(kept))),
         other => Made::Nothing(other),

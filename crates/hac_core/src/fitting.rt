@@ -1,10 +1,11 @@
 //! Whether an event can happen to the state, wherever it comes from. Commands make only such
 //! events; a log may hold any.
-ghost use Rattle.std.specs.Prelude.{◌≡◌, ◌==◌, ◌&&◌, false, length, IfOk, IsTrue, is_none};
+ghost use Rattle.std.specs.Prelude.{◌≡◌, ◌&&◌, false, length, IfOk, IsTrue};
 ghost use Rattle.hac_model.specs.Script.PathWords.{is_target};
 ghost use Rattle.hac_model.specs.Tree.{is_leaf_at};
-ghost use Rattle.hac_model.specs.Tree.Events.{first_asked, is_clear, is_free, is_made_holder};
-ghost use Rattle.hac_model.specs.Tree.Events.{is_placed, may_ask};
+ghost use Rattle.hac_model.specs.Tree.Asking.{are_all_told};
+ghost use Rattle.hac_model.specs.Tree.Events.{is_clear, is_free, is_made_holder, is_placed};
+ghost use Rattle.hac_model.specs.Tree.Events.{may_ask};
 ghost use Rattle.hac_model.specs.Tree.Limits.{is_text};
 ghost use Rattle.hac_core.specs.Fitting.{FitsAs, IsWithin, asks_spaces, passes_none};
 
@@ -12,7 +13,7 @@ use crate::asking::may_ask;
 use crate::blocking::is_inside;
 use crate::drafts::Change;
 use crate::mounting::{may_mount, may_sync};
-use crate::spaces::first_asked;
+use crate::told::are_all_told;
 use file_tree::Tree;
 use hac_model::{
     Counts, Event, Memory, Name, Number, Query, Seq, TARGET_LIMIT, TEXT_LIMIT, Text, first_passed,
@@ -67,9 +68,9 @@ fn is_placed(alloc: Global, kept: &KeptState, event: &Event) -> Result<bool, Mem
             name,
             query,
             told,
-        } => Ok(has_room(kept, *dir, name) && may_be_asked(kept, query, told)),
+        } => Ok(has_room(kept, *dir, name) && may_be_asked(alloc, kept, query, told)?),
         Event::Setq { dir, query, told } => {
-            Ok(is_holder(kept, *dir) && may_be_asked(kept, query, told))
+            Ok(is_holder(kept, *dir) && may_be_asked(alloc, kept, query, told)?)
         }
         Event::Smount {
             dir,
@@ -185,14 +186,21 @@ fn is_leaf(tree: &Tree, number: Number) -> bool
     tree.is_file(number) || tree.is_symlink(number)
 }
 
-/// Whether a query may be asked without asking a space, and none answered anything.
-fn may_be_asked(kept: &KeptState, query: &Query<Number>, told: &Seq<Seq<Number>>) -> bool
-    ensures { result ≡ may_ask kept.now.state query.now
-        && (is_none (first_asked kept.now.state query.now) && length told.now == 0) }
+/// Whether a query may be asked, and this was told to the mounts that have to be asked for it.
+fn may_be_asked(
+    alloc: Global,
+    kept: &KeptState,
+    query: &Query<Number>,
+    told: &Seq<Seq<Number>>,
+) -> Result<bool, Memory>
+    ensures { IfOk result (λ may. may ≡ may_ask kept.now.state query.now
+        && are_all_told kept.now.state query.now told.now kept.now.state.entries) }
 {
-    names_directories(kept, query)
-        && first_asked(kept, query).is_none()
-        && told.as_slice().is_empty()
+    if names_directories(kept, query) {
+        are_all_told(alloc, kept, query, told.as_slice())
+    } else {
+        Ok(false)
+    }
 }
 
 /// `is_free` of the tree of a state.

@@ -6,6 +6,7 @@
 mod asking;
 mod blocking;
 mod commands;
+mod counting;
 mod cycles;
 mod drafting;
 mod drafts;
@@ -14,10 +15,14 @@ mod fitting;
 mod machine;
 mod marking;
 mod mounting;
+mod numbers;
+mod questions;
 mod resolving;
 mod sessions;
-mod spaces;
+mod settling;
+mod showing;
 mod telling;
+mod told;
 
 pub use drafts::{Change, Draft, Settled};
 pub use machine::Machine;

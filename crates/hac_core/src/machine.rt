@@ -1,28 +1,27 @@
 //! The machine itself.
 ghost use Rattle.std.specs.Prelude.{◌≡◌, [], IfOk, IfErr, IsTrue, None, OnOk, OnErr, true, false};
-ghost use Rattle.hac_model.specs.Run.Answers.{Answers, Refuses};
+ghost use Rattle.hac_model.specs.Run.Answers.{Refuses};
 ghost use Rattle.hac_model.specs.Tree.Events.{apply_all, dirty};
 ghost use Rattle.hac_model.specs.Script.Lines.{is_spelled_line};
-ghost use Rattle.hac_model.specs.Run.Showing.{data_lines};
-ghost use Rattle.hac_model.specs.Run.Given.{no_answers};
 ghost use Rattle.hac_model.specs.Run.Refusals.{cause, early_refusal};
-ghost use Rattle.hac_model.specs.Run.Resolving.{resolve};
+ghost use Rattle.hac_model.specs.Spaces.Answering.{AreAnswersTo};
 ghost use Rattle.hac_model.specs.Tree.{empty};
 ghost use Rattle.hac_model.specs.Tree.Valid.{IsValid};
 ghost use Rattle.hac_core.specs.Drafts.{CanSettle, IsDraft, IsDraftFor, IsDraftOf, Settles, reads};
-ghost use Rattle.hac_core.specs.Drafts.{settled_events};
+ghost use Rattle.hac_core.specs.Drafts.{Shows, settled_events};
 ghost use Rattle.hac_core.specs.Fitting.{FitsAs};
 
 use crate::blocking::unblocked;
-use crate::commands::resolve;
-use crate::drafting::{drafted, settled};
+use crate::commands::followed;
+use crate::drafting::drafted;
 use crate::drafts::{Change, Draft, Known, Settled};
 use crate::fitting::fits;
-use hac_model::{Deny, Event, Line, Memory, Reply, Resolved, Seq};
+use crate::settling::settled;
+use crate::showing::shown;
+use hac_model::{Answers, Deny, Event, Line, Memory, Reply, Resolved};
 use kept_state::KeptState;
 use std::alloc::Global;
 use std::marker::Model;
-use tree_answers::data_lines;
 
 /// A state that is kept so that commands are quick, with the events for which memory was taken.
 #[derive(Drop)]
@@ -62,9 +61,10 @@ impl Machine {
         self.kept.counts().dirty
     }
 
-    /// Follows the paths of a line that spells a command, and says whether the state refuses it:
-    /// for what the paths lead to, for what blocks it, for a limit on the tree itself, or because a
-    /// directory would depend on itself, in this order.
+    /// Follows the paths of a line that spells a command, and says whether the state refuses it
+    /// whatever spaces answer: for what the paths lead to, for what blocks it, for a limit on the
+    /// tree itself, or because a directory would depend on itself, in this order. The draft has what
+    /// the command asks spaces.
     pub fn check(&self, line: Line) -> Result<Draft, Deny>
         requires { IsTrue (is_spelled_line line) }
         ensures draft { IfOk result (IsDraftOf self.now.state line) }
@@ -81,40 +81,38 @@ impl Machine {
         }
     }
 
-    /// Answers a command that reads.
-    pub fn ask(&self, draft: Draft) -> Result<Reply, Memory>
+    /// Answers a command that reads, given what spaces answered to its questions. Only the space of
+    /// a document can have a cause against it: that the document is gone.
+    pub fn ask(&self, draft: Draft, answers: Answers) -> Result<Reply, Deny>
         requires made { IsDraft self.now.state draft }
         requires reads { reads draft ≡ true }
+        requires answered { AreAnswersTo draft.asks answers }
         ensures reply { (command : Resolved) → IsDraftFor self.now.state command draft →
-            IfOk result (λ reply. reply ≡ Reply.Lines
-            (data_lines no_answers self.now.state command)) }
-        ensures cause { (command : Resolved) → IsDraftFor self.now.state command draft →
-            cause no_answers self.now.state command ≡ None }
+            IfOk result (Shows self.now.state answers command) }
+        ensures refused { (command : Resolved) → IsDraftFor self.now.state command draft →
+            IfErr result (λ deny. Refuses deny (cause answers self.now.state command)) }
     {
         self.kept.know_valid();
         match draft.into_known() {
-            Known::Reads(command) => {
-                let lines = data_lines(self.alloc, &self.kept, &command);
-                drop(command);
-                Ok(Reply::Lines(Seq::new(lines?)))
-            }
+            Known::Reads(command) => shown(self.alloc, &self.kept, command, answers),
             Known::Changes(_) | Known::Indexes(_) => unreachable!(),
         }
     }
 
-    /// The outcome of a command that changes the state, unless it would exceed a limit that `check`
-    /// leaves aside.
-    pub fn settle(&self, draft: Draft) -> Result<Settled, Deny>
+    /// The outcome of a command that changes the state, given what spaces answered to its questions,
+    /// unless it would exceed a limit that `check` leaves aside.
+    pub fn settle(&self, draft: Draft, answers: Answers) -> Result<Settled, Deny>
         requires made { IsDraft self.now.state draft }
         requires changes { reads draft ≡ false }
+        requires answered { AreAnswersTo draft.asks answers }
         ensures settled { (command : Resolved) → IsDraftFor self.now.state command draft →
-            IfOk result (Settles self.now.state command) }
+            IfOk result (Settles self.now.state answers command) }
         ensures refused { (command : Resolved) → IsDraftFor self.now.state command draft →
-            IfErr result (λ deny. Refuses deny (cause no_answers self.now.state command)) }
+            IfErr result (λ deny. Refuses deny (cause answers self.now.state command)) }
     {
         self.kept.know_valid();
         match draft.into_known() {
-            Known::Changes(change) => settled(change),
+            Known::Changes(change) => settled(self.alloc, &self.kept, change, answers),
             Known::Indexes(count) => Ok(Settled::Steps(count)),
             Known::Reads(_) => unreachable!(),
         }
@@ -160,13 +158,4 @@ impl Machine {
     {
         self.kept.commit();
     }
-}
-
-/// The command of a line with what its paths lead to from where its session stands, or the first
-/// cause against it that lies in them.
-fn followed(alloc: Global, kept: &KeptState, line: Line) -> Result<Resolved, Deny>
-    ensures { Answers result (resolve kept.now.state line) }
-{
-    let base = kept.stands_in(&line.session);
-    resolve(alloc, kept.tree(), line.session, base, line.command)
 }

@@ -1,0 +1,23 @@
+-- What becomes of a change once spaces have answered.
+use Rattle.std.specs.Prelude.{[], ◌∷◌, Option}
+use Rattle.std.specs.Option.{option_map}
+use Rattle.hac_model.specs.Run.Answers.{first_cause}
+use Rattle.hac_model.specs.Run.Refusals.{docs_cause}
+use Rattle.hac_model.specs.Tree.Events.{apply}
+use Rattle.hac_model.specs.Tree.Limits.{counts, passed_limit}
+use Rattle.hac_model.specs.declared.events.Event.{Event}
+use Rattle.hac_model.specs.declared.replies.Refusal.{Refusal}
+use Rattle.hac_model.specs.declared.replies.Refusal.TheVariants.{Limit}
+use Rattle.hac_model.specs.declared.spaces.Answers.{Answers}
+use Rattle.hac_model.specs.declared.states.State.{State}
+use Rattle.hac_core.specs.Drafts.{answering}
+use Rattle.hac_core.specs.declared.drafts.Change.{Change}
+
+-- the change of an event once spaces have answered
+abbrev pub answered : State → Answers → Event → Change
+answered s answers event = record { event = answering s answers event; counts = counts (apply s (answering s answers event)) }
+
+-- the first limit that stands against it
+abbrev pub settling_cause : State → Answers → Event → Option Refusal
+settling_cause s answers event =
+    first_cause (docs_cause answers ∷ option_map Limit (passed_limit (apply s (answering s answers event))) ∷ [])

@@ -1,0 +1,84 @@
+//! The replies to commands that read.
+ghost use Rattle.std.specs.Prelude.{◌≡◌, true, IfErr, IfOk, None};
+ghost use Rattle.hac_model.specs.Run.Answers.{Passes, Refuses};
+ghost use Rattle.hac_model.specs.Run.Asks.{asks};
+ghost use Rattle.hac_model.specs.Run.Refusals.{cause, early_cause, gone_cause};
+ghost use Rattle.hac_model.specs.Run.Showing.{data_lines};
+ghost use Rattle.hac_model.specs.Spaces.Answering.{AreAnswersTo};
+ghost use Rattle.hac_core.specs.Drafts.{Shows, is_reading};
+
+use hac_model::{Answers, Deny, Refusal, Reply, Resolved, Seq};
+use kept_state::KeptState;
+use std::alloc::Global;
+use tree_answers::data_lines;
+
+/// The reply to a command that reads, given what spaces answered. Only a document that its space
+/// has no more stands against it.
+pub fn shown(
+    alloc: Global,
+    kept: &KeptState,
+    command: Resolved,
+    answers: Answers,
+) -> Result<Reply, Deny>
+    requires reads { is_reading command ≡ true }
+    requires free { early_cause kept.now.state command ≡ None }
+    requires answered { AreAnswersTo (asks kept.now.state command) answers }
+    ensures reply { IfOk result (Shows kept.now.state answers command) }
+    ensures refused { IfErr result (λ deny. Refuses deny (cause answers kept.now.state command)) }
+{
+    kept.know_valid();
+    let reply = reply_to(alloc, kept, &command, &answers);
+    drop(command);
+    drop(answers);
+    reply
+}
+
+/// The same of a command that stays.
+fn reply_to(
+    alloc: Global,
+    kept: &KeptState,
+    command: &Resolved,
+    answers: &Answers,
+) -> Result<Reply, Deny>
+    requires reads { is_reading command.now ≡ true }
+    requires free { early_cause kept.now.state command.now ≡ None }
+    requires answered { AreAnswersTo (asks kept.now.state command.now) answers.now }
+    ensures reply { IfOk result (Shows kept.now.state answers.now command.now) }
+    ensures refused { IfErr result (λ deny. Refuses deny
+        (cause answers.now kept.now.state command.now)) }
+{
+    kept.know_valid();
+    match not_gone(kept, command, answers) {
+        Ok(()) => lines_of(alloc, kept, command, answers),
+        Err(deny) => Err(deny),
+    }
+}
+
+/// The data lines as a reply.
+fn lines_of(
+    alloc: Global,
+    kept: &KeptState,
+    command: &Resolved,
+    answers: &Answers,
+) -> Result<Reply, Deny>
+    requires { AreAnswersTo (asks kept.now.state command.now) answers.now }
+    ensures reply { IfOk result (λ reply. reply ≡ Reply.Lines
+        (data_lines answers.now kept.now.state command.now)) }
+    ensures memory { IfErr result (λ deny. deny ≡ Deny.Memory) }
+{
+    let lines = data_lines(alloc, kept, command, answers)?;
+    Ok(Reply::Lines(Seq::new(lines)))
+}
+
+/// Denies a document that its space has no more.
+fn not_gone(kept: &KeptState, command: &Resolved, answers: &Answers) -> Result<(), Deny>
+    ensures { Passes result (gone_cause answers.now kept.now.state command.now) }
+{
+    match command {
+        Resolved::Cat { entry } if kept.tree().is_document(*entry) => match &answers.fetched {
+            Some(_) => Ok(()),
+            None => Err(Deny::Refused(Refusal::Gone(kept.path_of(*entry)?))),
+        },
+        _ => Ok(()),
+    }
+}
