@@ -27,6 +27,13 @@ fn prints_commands(rt: HostRuntime) -> Result<(), Fail> {
             b"smkdir \"/my s\" (Apple*) AND NOT {/a}",
             b"smkdir \"/my s\" apple* AND NOT {/a}\n",
         ),
+        (b"smount /m \"lib\"", b"smount \"/m\" \"lib\"\n"),
+        (
+            b"@bob smount ../m/ a-_1",
+            b"@bob smount \"./../m\" \"a-_1\"\n",
+        ),
+        (b"ssync m/.", b"ssync \"./m\"\n"),
+        (b"sumount //m", b"sumount \"/m\"\n"),
     ] {
         expect_printed(&rt, rt.alloc(), line, want)?;
     }
@@ -55,6 +62,11 @@ fn refuses_lines(rt: HostRuntime) -> Result<(), Fail> {
         b"tick",
         b"tick 01",
         b"tick 65537",
+        b"smount /m",
+        b"smount /m lib lib",
+        b"smount \"\" l.b",
+        b"ssync",
+        b"sumount /m lib",
     ] {
         expect_bad(&rt, rt.alloc(), line);
     }

@@ -12,13 +12,13 @@ use Rattle.hac_model.specs.Script.LineWords.{first_word, after_space}
 use Rattle.hac_model.specs.Script.Numbers.{is_tick}
 use Rattle.hac_model.specs.Script.SessionWords.{session_words}
 use Rattle.hac_model.specs.Script.SpaceNames.{is_space_name}
-use Rattle.hac_model.specs.Script.Lines.{Item, alone, called_with, command_with, each_path, find_of, is_put, is_spelled, limited_target, limited_text, line_with, ln_of, maybe_path, named_command, of_two_paths, one_path, only_path, only_word, path_and_query, put_at, put_of, put_words, tick_of, two_paths, write_of}
+use Rattle.hac_model.specs.Script.Lines.{Item, alone, called_with, command_with, each_path, find_of, is_put, is_spelled, limited_target, limited_text, line_with, ln_of, maybe_path, named_command, of_two_paths, one_path, only_path, only_word, path_and_query, put_at, put_of, put_words, smount_of, tick_of, two_paths, write_of}
 use Rattle.hac_model.specs.Script.PathWords.{is_bad, word_of}
 use Rattle.hac_model.specs.Query.Formula.{Formula}
 use Rattle.hac_model.specs.Query.QueryReading.{read_query}
 use Rattle.hac_model.specs.Script.Texts.{text_of}
 use Rattle.hac_model.specs.declared.commands.Command.{Command}
-use Rattle.hac_model.specs.declared.commands.Command.TheVariants.{Mkdir, Rmdir, Write, Cat, Ls, Cd, Pwd, Mv, Rm, Ln, Readlink, Smkdir, Setq, Unq, Query, Sls, Sln, Srm, Sforget, Find, Index, Tick, Counts}
+use Rattle.hac_model.specs.declared.commands.Command.TheVariants.{Mkdir, Rmdir, Write, Cat, Ls, Cd, Pwd, Mv, Rm, Ln, Readlink, Smkdir, Setq, Unq, Query, Sls, Sln, Srm, Sforget, Find, Smount, Ssync, Sumount, Index, Tick, Counts}
 use Rattle.hac_model.specs.declared.commands.Line.{Line}
 use Rattle.hac_model.specs.declared.limits.LimitWord.TheVariants as limit
 use Rattle.hac_model.specs.declared.limits.TheConstants.{LINE_LIMIT}
@@ -63,6 +63,9 @@ Given (Sln item dir) = IsWord item × IsWord dir
 Given (Srm item dir) = IsWord item × IsWord dir
 Given (Sforget item dir) = IsWord item × IsWord dir
 Given (Find query) = IsAsked query
+Given (Smount path space) = IsWord path
+Given (Ssync path) = IsWord path
+Given (Sumount path) = IsWord path
 Given Index = ⊤
 Given (Tick steps) = ⊤
 Given Counts = ⊤
@@ -165,6 +168,15 @@ gives_find : (arguments : List ℕ) → Gives (find_of arguments)
 unfolding find_of
 gives_find arguments = gives-then (read_query (after_space arguments)) _ (λ query read. command-given (Find query) (after_space arguments, read))
 
+gives_mount : (arguments : List ℕ) → Gives (smount_of arguments)
+unfolding smount_of
+gives_mount arguments =
+    gives-then (first_word arguments) _ (λ word _.
+    gives-then (only_word word.1) _ (λ space _.
+    gives-then (if is_space_name space then Ok space else Err BadLine) _ (λ name _.
+    gives-then (word_of word.0) _ (λ path named.
+    command-given (Smount path name) (word.0, named)))))
+
 gives_alone : (command : Command) (arguments : List ℕ) → Given command → Gives (alone command arguments)
 unfolding Gives alone
 gives_alone command arguments given = gives-if (list_all is_space arguments) (Ok command) (Err BadLine) given tt
@@ -198,10 +210,13 @@ gives_named name arguments =
     (λ _. cond_both (bytes_eq name (codes "srm")) _ _ P (λ _. gives_two Srm arguments (λ a b p q. (p, q)))
     (λ _. cond_both (bytes_eq name (codes "sforget")) _ _ P (λ _. gives_two Sforget arguments (λ a b p q. (p, q)))
     (λ _. cond_both (bytes_eq name (codes "find")) _ _ P (λ _. gives_find arguments)
+    (λ _. cond_both (bytes_eq name (codes "smount")) _ _ P (λ _. gives_mount arguments)
+    (λ _. cond_both (bytes_eq name (codes "ssync")) _ _ P (λ _. gives_one Ssync arguments (λ path is. is))
+    (λ _. cond_both (bytes_eq name (codes "sumount")) _ _ P (λ _. gives_one Sumount arguments (λ path is. is))
     (λ _. cond_both (bytes_eq name (codes "index")) _ _ P (λ _. gives_alone Index arguments tt)
     (λ _. cond_both (bytes_eq name (codes "tick")) _ _ P (λ _. gives_tick arguments)
     (λ _. cond_both (bytes_eq name (codes "counts")) _ _ P (λ _. gives_alone Counts arguments tt)
-    (λ _. gives_bad_line)))))))))))))))))))))))
+    (λ _. gives_bad_line))))))))))))))))))))))))))
 
 gives_put_at : (word : List ℕ) (taken : Option Taken) → Gives (put_at word taken)
 unfolding Gives

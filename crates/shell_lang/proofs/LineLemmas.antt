@@ -19,13 +19,13 @@ use Rattle.hac_model.specs.Query.QueryReading.{read_query}
 use Rattle.hac_model.specs.Query.QueryText.{named_by, query_text}
 use Rattle.hac_model.specs.Script.CommandTexts.{number_part, path_part, query_part, quoted_part, word_text}
 use Rattle.hac_model.specs.Script.LineWords.{after_first_run, after_space, first_run, first_word, is_word_end, quoted_word, skip_spaces, word_at}
-use Rattle.hac_model.specs.Script.Lines.{each_path, find_of, limited_target, ln_of, of_two_paths, one_path, only_word, path_and_query, put_words, tick_of, two_paths}
+use Rattle.hac_model.specs.Script.Lines.{each_path, find_of, limited_target, ln_of, mount_named, of_two_paths, one_path, only_word, path_and_query, put_words, smount_of, tick_of, two_paths}
 use Rattle.hac_model.specs.Script.PathWords.{has_long_part, is_bad, untested_word, word_of}
 use Rattle.hac_model.specs.Script.Numbers.{are_steps, is_number, is_tick}
 use Rattle.hac_model.specs.Script.SessionWords.{main_session, named_session, names_session, session_words}
 use Rattle.hac_model.specs.Script.SpaceNames.{is_space_byte, is_space_name}
 use Rattle.hac_model.specs.declared.commands.Command.{Command}
-use Rattle.hac_model.specs.declared.commands.Command.TheVariants.{Find, Ln, Tick}
+use Rattle.hac_model.specs.declared.commands.Command.TheVariants.{Find, Ln, Smount, Tick}
 use Rattle.hac_model.specs.declared.limits.LimitWord.{LimitWord}
 use Rattle.hac_model.specs.declared.limits.LimitWord.TheVariants as limit
 use Rattle.hac_model.specs.declared.paths.PathWord.{PathWord}
@@ -135,8 +135,11 @@ path-first word rest ends = quoted-first (word_text word) rest ends
 only-first : (bytes word : List ℕ) → first_word bytes ≡ Ok (word, []) → only_word bytes ≡ Ok word
 only-first bytes word read = ap (λ (r : Result (List ℕ × List ℕ) Refusal). r >>= λ w. if list_all is_space w.1 then Ok w.0 else Err BadLine) read
 
+quoted-only : (bytes : List ℕ) → only_word (quoted_part bytes) ≡ Ok bytes
+quoted-only bytes = only-first (quoted_part bytes) bytes (ap first_word (sym (append-nil (quoted_part bytes))) ∙ quoted-first bytes [] refl)
+
 path-only : (word : PathWord) → only_word (path_part word) ≡ Ok (word_text word)
-path-only word = only-first (path_part word) (word_text word) (ap first_word (sym (append-nil (path_part word))) ∙ path-first word [] refl)
+path-only word = quoted-only (word_text word)
 
 pub one-read : (command : PathWord → Command) (word : PathWord) → WordParts word → one_path command (path_part word) ≡ Ok (command word)
 unfolding one_path
@@ -178,6 +181,14 @@ link-read target path known is =
     ∙ ap (λ (r : Result (PathWord × PathWord) Refusal). r >>= λ paths. limited_target target >>= λ bytes. Ok (Ln bytes paths.1))
     (both-read target (word_text path) (untested_word target) path known.read (word_text-read path is))
     ∙ ap (λ (t : Bool). (if t then Ok target else Err (Limit limit.Target)) >>= λ bytes. Ok (Ln bytes path)) known.few
+
+pub mount-read : (path : PathWord) (space : List ℕ) → WordParts path → is_space_name space ≡ true → smount_of (path_part path ++ quoted_part space) ≡ Ok (Smount path space)
+unfolding smount_of
+mount-read path space known is =
+    ap (λ (r : Result (List ℕ × List ℕ) Refusal). r >>= λ w. only_word w.1 >>= λ v. mount_named w.0 v) (path-first path (quoted_part space) (space-ends (in_quotes space)))
+    ∙ ap (λ (r : Result (List ℕ) Refusal). r >>= λ v. mount_named (word_text path) v) (quoted-only space)
+    ∙ ap (λ (t : Bool). (if t then Ok space else Err BadLine) >>= λ name. word_of (word_text path) >>= λ word. Ok (Smount word name)) is
+    ∙ ap (λ (r : Result PathWord Refusal). r >>= λ word. Ok (Smount word space)) (word_text-read path known)
 
 -- what a query is read as, given the limit that its text exceeds
 abbrev pub asked_as : Formula PathWord → Option LimitWord → Result (Formula PathWord) Refusal

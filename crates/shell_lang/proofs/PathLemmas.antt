@@ -189,7 +189,7 @@ quoted-one_line (b ∷ bytes) h =
     let both = and_parts (is_inner b) (is_one_line bytes) h in
     one_line-join (quoted_byte b) (flat_map quoted_byte bytes) (marked-one_line (is_quote b || is_backslash b) b both.0) (quoted-one_line bytes both.1)
 
-quoted_part-one_line : (bytes : List ℕ) → is_one_line bytes ≡ true → is_one_line (quoted_part bytes) ≡ true
+pub quoted_part-one_line : (bytes : List ℕ) → is_one_line bytes ≡ true → is_one_line (quoted_part bytes) ≡ true
 quoted_part-one_line bytes h = one_line-join (flat_map quoted_byte bytes) (34 ∷ []) (quoted-one_line bytes h) refl
 
 pub path_part-one_line : (word : PathWord) → WordParts word → is_one_line (path_part word) ≡ true

@@ -24,7 +24,7 @@ use Rattle.hac_model.specs.Script.SessionWords.{main_session, named_session, nam
 use Rattle.hac_model.specs.Script.SpaceNames.{is_space_name}
 use Rattle.hac_model.specs.Tree.Limits.{is_text}
 use Rattle.hac_model.specs.declared.commands.Command.{Command}
-use Rattle.hac_model.specs.declared.commands.Command.TheVariants.{Mkdir, Rmdir, Write, Cat, Ls, Cd, Pwd, Mv, Rm, Ln, Readlink, Smkdir, Setq, Unq, Query, Sls, Sln, Srm, Sforget, Find, Index, Tick, Counts}
+use Rattle.hac_model.specs.declared.commands.Command.TheVariants.{Mkdir, Rmdir, Write, Cat, Ls, Cd, Pwd, Mv, Rm, Ln, Readlink, Smkdir, Setq, Unq, Query, Sls, Sln, Srm, Sforget, Find, Smount, Ssync, Sumount, Index, Tick, Counts}
 use Rattle.hac_model.specs.declared.commands.Line.{Line}
 use Rattle.hac_model.specs.declared.limits.LimitWord.{LimitWord}
 use Rattle.hac_model.specs.declared.limits.LimitWord.TheVariants as limit
@@ -37,8 +37,8 @@ use Rattle.hac_model.specs.declared.taken.Taken.TheVariants.{Whole, Dropped, Sho
 use Rattle.hac_model.proofs.JoinLemmas.{first_items-line, script-line}
 use Rattle.shell_lang.proofs.AskedLemmas.{query-one_line, query-read}
 use Rattle.shell_lang.proofs.GivenLemmas.{Given, IsAsked, IsWord, given-line}
-use Rattle.shell_lang.proofs.LineLemmas.{asking-read, name-one_line, number-one_line, find-read, is_unspaced, link-read, one-read, plain-read, put-words, session-read, space-ends, space-skipped, steps-few, tick-read, told_as, two-read}
-use Rattle.shell_lang.proofs.PathLemmas.{WordParts, is_one_line, one_line-join, one_line-unended, path_part-one_line, target-parts, word-parts, word_text-read}
+use Rattle.shell_lang.proofs.LineLemmas.{asking-read, name-one_line, number-one_line, find-read, is_unspaced, link-read, mount-read, one-read, plain-read, put-words, session-read, space-ends, space-skipped, steps-few, tick-read, told_as, two-read}
+use Rattle.shell_lang.proofs.PathLemmas.{WordParts, is_one_line, one_line-join, one_line-unended, path_part-one_line, quoted_part-one_line, target-parts, word-parts, word_text-read}
 use Rattle.shell_lang.proofs.PutLemmas.{behind-session, put_said}
 use Rattle.shell_lang.specs.Laws.{IsGiven}
 use Rattle.shell_lang.specs.Limits.{excess, query_size}
@@ -213,6 +213,16 @@ printed (Sforget item dir) spelled is =
 printed (Find query) spelled is =
     of_named (Find query) refl (query-one_line query is) refl refl
     (named 102 (codes "ind") (query_part query) (told_as (Find query) (past_query (length (query_text (named_by word_text query))))) refl refl refl refl (space-ends (query_text (named_by word_text query))) (find-read query (past_query (length (query_text (named_by word_text query)))) (query-read query is)))
+printed (Smount path space) spelled is =
+    let parts = and_parts (is_spelled_word path) (is_space_name space) spelled in
+    of_named (Smount path space) refl (one_line-join (path_part path) (quoted_part space) (part-one_line path is) (quoted_part-one_line space (name-one_line space parts.1))) refl refl
+    (named 115 (codes "mount") (path_part path ++ quoted_part space) (Ok (Smount path space)) refl refl refl refl (path-ends path (quoted_part space)) (mount-read path space (word-parts path is) parts.1))
+printed (Ssync path) spelled is =
+    of_named (Ssync path) refl (part-one_line path is) refl refl
+    (named 115 (codes "sync") (path_part path) (Ok (Ssync path)) refl refl refl refl (path-only_ends path) (one-read Ssync path (word-parts path is)))
+printed (Sumount path) spelled is =
+    of_named (Sumount path) refl (part-one_line path is) refl refl
+    (named 115 (codes "umount") (path_part path) (Ok (Sumount path)) refl refl refl refl (path-only_ends path) (one-read Sumount path (word-parts path is)))
 printed Index spelled is = of_named Index refl refl refl refl (named 105 (codes "ndex") [] (Ok Index) refl refl refl refl refl (alone-read Index))
 printed (Tick steps) spelled is =
     of_named (Tick steps) refl (number-one_line steps (steps-few steps spelled)) refl refl

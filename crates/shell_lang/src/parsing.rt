@@ -8,7 +8,7 @@ use crate::numbers::parse_tick;
 use crate::putting::{is_put, parse_put};
 use crate::sessions::session_words;
 use crate::shapes::{
-    alone, maybe_path, of_two_paths, one_path, parse_find, parse_link, path_and_query,
+    alone, maybe_path, of_two_paths, one_path, parse_find, parse_link, parse_mount, path_and_query,
 };
 use crate::words::split_word;
 use crate::writing::parse_write;
@@ -115,6 +115,12 @@ fn parse_named(alloc: Global, name: &[u8], arguments: &[u8]) -> Result<Command, 
         of_two_paths(alloc, arguments, |item, dir| Command::Sforget { item, dir })
     } else if name == b"find".as_slice() {
         parse_find(alloc, arguments)
+    } else if name == b"smount".as_slice() {
+        parse_mount(alloc, arguments)
+    } else if name == b"ssync".as_slice() {
+        one_path(alloc, arguments, |path| Command::Ssync { path })
+    } else if name == b"sumount".as_slice() {
+        one_path(alloc, arguments, |path| Command::Sumount { path })
     } else if name == b"index".as_slice() {
         alone(arguments, Command::Index)
     } else if name == b"tick".as_slice() {

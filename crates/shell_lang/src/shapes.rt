@@ -1,17 +1,20 @@
 //! Commands from what follows their names, by its shape.
-ghost use Rattle.std.specs.Prelude.{◌≡◌, Option};
+ghost use Rattle.std.specs.Prelude.{◌≡◌, if◌then◌else◌, Option, Ok, Err};
 ghost use Rattle.hac_model.specs.Run.Answers.{Answers};
 ghost use Rattle.hac_model.specs.Query.Formula.{Formula};
 ghost use Rattle.hac_model.specs.Script.Lines.{alone, find_of, ln_of, maybe_path};
-ghost use Rattle.hac_model.specs.Script.Lines.{of_two_paths, one_path, path_and_query};
+ghost use Rattle.hac_model.specs.Script.Lines.{of_two_paths, one_path, path_and_query, smount_of};
+ghost use Rattle.hac_model.specs.Script.SpaceNames.{is_space_name};
 ghost use Rattle.hac_model.specs.Query.QueryReading.{read_query};
 ghost use Rattle.hac_model.specs.declared.commands.Command.{Command};
 ghost use Rattle.hac_model.specs.declared.paths.PathWord.{PathWord};
+ghost use Rattle.hac_model.specs.declared.replies.Refusal.TheVariants.{BadLine};
 
 use crate::paths::{only_path, parse_path, two_paths};
 use crate::words::{is_blank, only_word, skip_one, split_word};
 use crate::writing::limited;
-use hac_model::{Command, Deny, LimitWord, PathWord, RawQuery, Refusal, TARGET_LIMIT, Text};
+use hac_model::{Command, Deny, LimitWord, Name, PathWord, RawQuery, Refusal, TARGET_LIMIT, Text};
+use hac_names::is_space_name;
 use query_text::{QueryFault, parse};
 use std::alloc::Global;
 
@@ -98,6 +101,28 @@ pub fn path_and_query<F: FnOnce(PathWord, RawQuery) -> Command>(
     let path = parse_path(alloc, &word)?;
     let query = spelled_query(alloc, skip_one(rest))?;
     Ok(command(path, query))
+}
+
+/// `smount PATH SPACE`, from what follows `smount`. A bad name of a space counts before a bad path.
+#[tactic(auto, unfolding(hac_model::specs::Script::Lines::smount_of))]
+pub fn parse_mount(alloc: Global, arguments: &[u8]) -> Result<Command, Deny>
+    ensures { Answers result (smount_of arguments.now) }
+{
+    let (word, rest) = split_word(alloc, arguments)?;
+    let space = only_word(alloc, rest)?;
+    let space = named_space(Name::new(space))?;
+    let path = parse_path(alloc, &word)?;
+    Ok(Command::Smount { path, space })
+}
+
+/// The name, where a space may have it. The line is bad where none may.
+fn named_space(name: Name) -> Result<Name, Deny>
+    ensures { Answers result (if is_space_name name then Ok name else Err BadLine) }
+{
+    if !is_space_name(name.as_bytes()) {
+        return Err(Deny::Refused(Refusal::BadLine));
+    }
+    Ok(name)
 }
 
 /// The command that is its name alone.
