@@ -1,29 +1,41 @@
 -- What an answer does: its command is stored, its reply is told, and the index steps behind it are stored.
-use Rattle.std.proofs.Common.{◌≡◌, ℕ, ◌≤◌, true, false, Bool, List, [], ◌∷◌, ◌++◌, length, take, ◌+◌, refl, ap, sym, subst, ◌∙◌, append-nil, arith, inl, inr}
-use Rattle.std.specs.Prelude.{◌||◌, Option, Result, Ok, Err, IfErr, OnOk}
+use Rattle.std.proofs.Common.{◌≡◌, ℕ, zero, suc, ◌≤◌, rules, true, false, Bool, List, [], ◌∷◌, ◌++◌, length, take, ◌+◌, refl, ap, sym, subst, ◌∙◌, append-nil, arith, inl, inr}
+use Rattle.std.specs.Prelude.{◌⊎◌, ◌||◌, if◌then◌else◌, filter, Option, None, Some, Result, Ok, Err, IfErr, OnOk}
+use Rattle.std.specs.Option.{IfSome}
 use Rattle.hac_disk.proofs.Moments.{then_run, weaken}
 use Rattle.hac_model.specs.Tree.Events.{apply_all}
-use Rattle.hac_model.specs.Run.Play.{Setting, Turn, all_events, has_refusal, is_refused, item_turn, nothing_given, steps_behind, stored_setting, turns_text}
+use Rattle.hac_model.specs.Run.Play.{Setting, Turn, after_events, all_events, can_step, has_refusal, is_refused, nothing_given, refused_turn, steps_behind, stored_setting, turns_text}
 use Rattle.hac_model.specs.Script.Lines.{Item}
-use Rattle.hac_model.specs.Tree.Sessions.{stored}
+use Rattle.hac_model.specs.Tree.Sessions.{is_stored, stored}
+use Rattle.hac_model.specs.declared.events.Event.TheVariants.{Step}
+use Rattle.hac_model.specs.declared.replies.Refusal.{Refusal}
+use Rattle.hac_model.specs.declared.replies.Reply.TheVariants.{Refused}
+use Rattle.sem_mounts.specs.Seen.{Contents, SpacesSeen}
 use Rattle.hac_model.specs.declared.events.Event.{Event}
 use Rattle.hac_model.specs.declared.replies.Reply.{Reply}
 use Rattle.hac_model.specs.declared.states.State.{State}
-use Rattle.hac_model.proofs.PlayLemmas.{events-lead}
+use Rattle.hac_model.proofs.PlayLemmas.{apply_all-append, stored-all}
 use Rattle.hac_outside.specs.Seen.{SinkSeen}
-use Rattle.hac_store.specs.Stores.{Seen, Stands, store_after}
+use Rattle.hac_store.specs.Stores.{Bears, Seen, Stands, store_after}
 use Rattle.hac_store.proofs.PutLemmas.{stands-each}
+use Rattle.hac_top.specs.Asking.{given_by}
 use Rattle.hac_top.specs.Crashes.{Holds, IsTreeAfter, IsTreeOfAnswered}
 use Rattle.hac_top.specs.Ends.{is_disk_fault}
 use Rattle.hac_top.specs.Replies.{CutsWriting, StopsWriting, WritesAll}
-use Rattle.hac_top.specs.Storing.{AnswersLine, StopsAnswer, StopsCommand, Stores, StoresSteps, StoresTurn}
-use Rattle.hac_top.specs.Ticking.{command_events, ticking, told_turn}
+use Rattle.hac_top.specs.Storing.{AnswersItems, AnswersLine, AreTurns, IsTurnOf, StopsAnswer, StopsCommand, Stores, StoresItem, StoresSteps, StoresTurn}
+use Rattle.hac_top.specs.Ticking.{command_events, told_turn}
 use Rattle.hac_model.specs.Script.Printed.{text}
+use Rattle.hac_top.specs.TakenLines.{items_of_piece}
+use Rattle.hac_model.specs.declared.taken.Taken.{Taken}
+use Rattle.shell_lang.specs.declared.reading.Piece.{Piece}
+use Rattle.shell_lang.specs.declared.reading.Piece.TheVariants.{Blank, End}
 use Rattle.hac_top.specs.declared.status.Status.{Status}
 use Rattle.hac_top.specs.declared.status.Status.TheVariants.{WriteFault, DiskFault, Memory}
 use Rattle.hac_top.proofs.CrashLemmas.{holds-weaker, tree-more, tree-then}
 use Rattle.hac_top.proofs.StoringLemmas.{stores-nothing, told-since}
-use Rattle.hac_top.proofs.TickLemmas.{one-turn, ticked, turn-ticks}
+use Rattle.hac_top.proofs.TickLemmas.{ticked, turn-ticks}
+use Rattle.hac_top.proofs.AskLemmas.{fails-same}
+use Rattle.hac_top.proofs.ReplyLemmas.{appends-nothing}
 
 -- the events of a turn that stores nothing before its reply are the steps behind it
 told-events : (tick : ℕ) (setting : Setting) (reply : Reply) → all_events (told_turn tick setting reply ∷ []) ≡ steps_behind tick setting
@@ -39,21 +51,53 @@ some-steps tick setting reply now tree =
     let all = subst (λ (es : List Event). IsTreeAfter (stored setting.state) es now) (sym (told-events tick setting reply)) tree in
     record { count = all.count; within = all.within; is = all.is; answered = omega arith; no_further = λ more. absurd (omega (arith, more)) }
 
--- what a line's command leads to
-bare-led : (setting : Setting) (item : Item) → stored (item_turn nothing_given setting item).after.state ≡ apply_all (stored setting.state) (item_turn nothing_given setting item).events
-bare-led setting item = events-lead nothing_given setting (item ∷ []) ∙ ap (apply_all (stored setting.state)) (one-turn setting item)
+-- the steps that follow by themselves are stored
+steps-kept : (n : ℕ) (setting : Setting) → filter is_stored (steps_behind n setting) ≡ steps_behind n setting
+steps-kept zero setting = refl
+steps-kept (suc n) setting =
+    let next = after_events setting (Step ∷ []) in
+    elim (can_step setting) as (λ b. filter is_stored (if b then Step ∷ steps_behind n next else []) ≡ (if b then Step ∷ steps_behind n next else [])) [
+      | true ↦ ap (λ (events : List Event). Step ∷ events) (steps-kept n next)
+      | false ↦ refl
+    ]
+
+-- what a turn with steps leads to
+ticked-leads : (tick : ℕ) (setting : Setting) (turn : Turn) → stored turn.after.state ≡ apply_all (stored setting.state) turn.events →
+    stored (ticked tick turn).after.state ≡ apply_all (stored setting.state) (all_events (ticked tick turn ∷ []))
+ticked-leads tick setting turn led =
+    let steps = steps_behind tick turn.after in
+    stored-all steps turn.after.state ∙ ap (apply_all (stored turn.after.state)) (steps-kept tick turn.after) ∙ ap (λ (s : State). apply_all s steps) led
+    ∙ sym (apply_all-append turn.events steps (stored setting.state)) ∙ ap (apply_all (stored setting.state)) (sym (ticked-events tick turn))
 
 or-none : (b : Bool) → (b || false) ≡ b
 or-none true = refl
 or-none false = refl
 
 -- whether a line was refused is told by its reply
-pub line-refused : (tick : ℕ) (setting : Setting) (item : Item) (reply : Reply) (was now : Bool) (result : Result (Unit {0}) Status) → reply ≡ (item_turn nothing_given setting item).reply → OnOk result (now ≡ (was || is_refused reply)) →
-    OnOk result (now ≡ (was || has_refusal (item_turn (ticking tick) setting item ∷ [])))
-line-refused tick setting item reply was now (Err status) same told = tt
-line-refused tick setting item reply was now (Ok done) same told =
-    let turn = item_turn (ticking tick) setting item in
-    told ∙ ap (λ (b : Bool). was || b) (ap is_refused (same ∙ ap (λ (t : Turn). t.reply) (sym (turn-ticks tick setting item))) ∙ sym (or-none (is_refused turn.reply)))
+line-refused : (tick : ℕ) (turn : Turn) (reply : Reply) (was now : Bool) (result : Result (Unit {0}) Status) → reply ≡ turn.reply → OnOk result (now ≡ (was || is_refused reply)) →
+    OnOk result (now ≡ (was || has_refusal (ticked tick turn ∷ [])))
+line-refused tick turn reply was now (Err status) same told = tt
+line-refused tick turn reply was now (Ok done) same told = told ∙ ap (λ (b : Bool). was || b) (ap is_refused same ∙ sym (or-none (is_refused turn.reply)))
+
+-- the turn of a line is that without steps, and the steps behind it
+line-turns : (contents : Contents) (fault : Option (List ℕ)) (tick : ℕ) (setting : Setting) (item : Item) (turn : Turn) → IsTurnOf contents fault setting item turn → AreTurns contents (fault ∷ []) tick setting (item ∷ []) (ticked tick turn ∷ [])
+line-turns contents fault tick setting item turn of =
+    let given = given_by contents (fault ∷ []) tick in
+    record {
+      are = ap (λ (t : Turn). ticked tick t ∷ []) of.is ∙ ap (λ (t : Turn). t ∷ []) (sym (turn-ticks contents (fault ∷ []) tick setting item));
+      count = refl;
+      askable = (fails-same contents 0 tick (fault ∷ []) (fault ∷ []) setting.state item fault of.may, refl);
+    }
+
+-- a blank line asks for nothing, nor does the end of a script
+pub no-items : (piece : Piece) (taken : Option Taken) → (piece ≡ Blank) ⊎ (piece ≡ End) → items_of_piece piece taken ≡ []
+no-items piece taken (inl is) = ap (λ (p : Piece). items_of_piece p taken) is
+no-items piece taken (inr is) = ap (λ (p : Piece). items_of_piece p taken) is
+
+-- what is known where the contents are told
+told-alike : (P Q : Contents → Type 0) (o : Option Contents) → ((contents : Contents) → P contents → Q contents) → IfSome o P → IfSome o Q
+told-alike P Q None then_q p = search rules
+told-alike P Q (Some contents) then_q p = then_q contents p
 
 module _ {D : Type 0} {seen : D → Option (List ℕ)} {image : D → List ℕ → Type 0} {moment : D → ℕ} {image_since : D → ℕ → List ℕ → Type 0} {attached : D → Option (List (List ℕ × Bool))} {faults : D → ℕ} where
   -- a store that went on by events, and then by more
@@ -126,20 +170,19 @@ module _ {D : Type 0} {seen : D → Option (List ℕ)} {image : D → List ℕ �
   -- A command, and its reply with the steps behind it.
 
   -- no reply was told
-  pub command-stops : (old new : D) (before after : Seen) (tick : ℕ) (item : Item) (sink : SinkSeen) (status : Status) → StoresTurn seen image moment image_since attached faults old new before after (item_turn nothing_given before.setting item) (Err status) →
-      StopsAnswer seen image moment image_since attached faults old new before.setting sink sink (item_turn (ticking tick) before.setting item ∷ []) status
-  command-stops old new before after tick item sink status went =
-      subst (λ (turn : Turn). StopsAnswer seen image moment image_since attached faults old new before.setting sink sink (turn ∷ []) status) (sym (turn-ticks tick before.setting item))
-      (inl (record {
+  command-stops : (old new : D) (before after : Seen) (tick : ℕ) (turn : Turn) (sink : SinkSeen) (status : Status) → all_events (turn ∷ []) ≡ turn.events → StoresTurn seen image moment image_since attached faults old new before after turn (Err status) →
+      StopsAnswer seen image moment image_since attached faults old new before.setting sink sink (ticked tick turn ∷ []) status
+  command-stops old new before after tick turn sink status bare went =
+      inl (record {
         replies = nothing status went.err;
         stored = λ write. absurd (no-write status went.err write);
-        stores = stores-same old new before.setting (all_events (item_turn nothing_given before.setting item ∷ [])) (command_events (ticked tick (item_turn nothing_given before.setting item) ∷ [])) (is_disk_fault status) own went.stores;
-      }))
+        stores = stores-same old new before.setting (all_events (turn ∷ [])) (command_events (ticked tick turn ∷ [])) (is_disk_fault status) own went.stores;
+      })
     where
-      own : all_events (item_turn nothing_given before.setting item ∷ []) ≡ command_events (ticked tick (item_turn nothing_given before.setting item) ∷ [])
-      own = one-turn before.setting item ∙ sym (append-nil (item_turn nothing_given before.setting item).events)
+      own : all_events (turn ∷ []) ≡ command_events (ticked tick turn ∷ [])
+      own = bare ∙ sym (append-nil turn.events)
 
-      nothing : (status : Status) → StopsCommand status → CutsWriting status sink sink (turns_text (ticked tick (item_turn nothing_given before.setting item) ∷ []))
+      nothing : (status : Status) → StopsCommand status → CutsWriting status sink sink (turns_text (ticked tick turn ∷ []))
       nothing DiskFault why = refl
       nothing Memory why = refl
       nothing other why = absurd why
@@ -211,17 +254,104 @@ module _ {D : Type 0} {seen : D → Option (List ℕ)} {image : D → List ℕ �
               (stores-on (all_events (told_turn tick store.setting reply ∷ [])) (is_disk_fault status) stop.stores);
         })
 
-  module _ (old mid new : D) (before store after : Seen) (reply : Reply) (sink sink_after : SinkSeen) (tick : ℕ) (item : Item) (went : StoresTurn seen image moment image_since attached faults old mid before store (item_turn nothing_given before.setting item) (Ok reply)) where
-    pub line-told : (result : Result (Unit {0}) Status) → OnOk result (AnswersLine seen image moment image_since attached faults mid new store after sink sink_after (told_turn tick store.setting reply ∷ [])) →
-        OnOk result (AnswersLine seen image moment image_since attached faults old new before after sink sink_after (item_turn (ticking tick) before.setting item ∷ []))
-    line-told (Err status) answers = tt
-    line-told (Ok done) answers =
-        subst (λ (turn : Turn). AnswersLine seen image moment image_since attached faults old new before after sink sink_after (turn ∷ [])) (sym (turn-ticks tick before.setting item))
-        (then-told old mid new before store after (item_turn nothing_given before.setting item) reply sink sink_after tick went (one-turn before.setting item) (bare-led before.setting item) answers)
+  -- A line, whose turn is known where the contents of the spaces are told.
 
-    pub line-stops-behind : (result : Result (Unit {0}) Status) → IfErr result (StopsAnswer seen image moment image_since attached faults mid new store.setting sink sink_after (told_turn tick store.setting reply ∷ [])) →
-        IfErr result (StopsAnswer seen image moment image_since attached faults old new before.setting sink sink_after (item_turn (ticking tick) before.setting item ∷ []))
+  -- no reply was told
+  pub item-stops : (old new : D) (spaces left : SpacesSeen) (before after : Seen) (tick : ℕ) (item : Item) (sink : SinkSeen) (was now : Bool) (status : Status) →
+      StoresItem seen image moment image_since attached faults old new spaces left before after item (Err status) →
+      AnswersItems seen image moment image_since attached faults old new spaces left tick before after sink sink (item ∷ []) was now (Err status)
+  item-stops old new spaces left before after tick item sink was now status went =
+      record {
+        met = went.fault ∷ [];
+        asked = went.asked;
+        answered = ticked tick went.turn ∷ [];
+        few = omega arith;
+        leads = ticked-leads tick before.setting went.turn went.bare.leads;
+        told = told-alike (λ contents. IsTurnOf contents went.fault before.setting item went.turn) (λ contents. AreTurns contents (went.fault ∷ []) tick before.setting (item ∷ []) (ticked tick went.turn ∷ [])) spaces.contents (λ contents of. line-turns contents went.fault tick before.setting item went.turn of) went.told;
+        refused = tt;
+        ok = tt;
+        err = command-stops old new before after tick went.turn sink status went.bare.own went.stores;
+      }
+
+  module _ (old mid new : D) (spaces left : SpacesSeen) (before store after : Seen) (reply : Reply) (sink sink_after : SinkSeen) (tick : ℕ) (item : Item)
+      (went : StoresItem seen image moment image_since attached faults old mid spaces left before store item (Ok reply)) where
+    line-told : (result : Result (Unit {0}) Status) → OnOk result (AnswersLine seen image moment image_since attached faults mid new store after sink sink_after (told_turn tick store.setting reply ∷ [])) →
+        OnOk result (AnswersLine seen image moment image_since attached faults old new before after sink sink_after (ticked tick went.turn ∷ []))
+    line-told (Err status) answers = tt
+    line-told (Ok done) answers = then-told old mid new before store after went.turn reply sink sink_after tick went.stores went.bare.own went.bare.leads answers
+
+    line-stops-behind : (result : Result (Unit {0}) Status) → IfErr result (StopsAnswer seen image moment image_since attached faults mid new store.setting sink sink_after (told_turn tick store.setting reply ∷ [])) →
+        IfErr result (StopsAnswer seen image moment image_since attached faults old new before.setting sink sink_after (ticked tick went.turn ∷ []))
     line-stops-behind (Ok done) stop = tt
-    line-stops-behind (Err status) stop =
-        subst (λ (turn : Turn). StopsAnswer seen image moment image_since attached faults old new before.setting sink sink_after (turn ∷ []) status) (sym (turn-ticks tick before.setting item))
-        (then-stops old mid new before store after (item_turn nothing_given before.setting item) reply sink sink_after tick went (one-turn before.setting item) (bare-led before.setting item) status stop)
+    line-stops-behind (Err status) stop = then-stops old mid new before store after went.turn reply sink sink_after tick went.stores went.bare.own went.bare.leads status stop
+
+    -- its reply was told, or stopped
+    pub item-told : (was now : Bool) (result : Result (Unit {0}) Status) → OnOk result (now ≡ (was || is_refused reply)) →
+        OnOk result (AnswersLine seen image moment image_since attached faults mid new store after sink sink_after (told_turn tick store.setting reply ∷ [])) →
+        IfErr result (StopsAnswer seen image moment image_since attached faults mid new store.setting sink sink_after (told_turn tick store.setting reply ∷ [])) →
+        AnswersItems seen image moment image_since attached faults old new spaces left tick before after sink sink_after (item ∷ []) was now result
+    item-told was now result told_refused answers stops =
+        record {
+          met = went.fault ∷ [];
+          asked = went.asked;
+          answered = ticked tick went.turn ∷ [];
+          few = omega arith;
+          leads = ticked-leads tick before.setting went.turn went.bare.leads;
+          told = told-alike (λ contents. IsTurnOf contents went.fault before.setting item went.turn) (λ contents. AreTurns contents (went.fault ∷ []) tick before.setting (item ∷ []) (ticked tick went.turn ∷ [])) spaces.contents (λ contents of. line-turns contents went.fault tick before.setting item went.turn of) went.told;
+          refused = line-refused tick went.turn reply was now result went.stores.ok.reply_is told_refused;
+          ok = line-told result answers;
+          err = line-stops-behind result stops;
+        }
+
+  -- A line that is refused by its form asks nothing.
+  pub form-told : (old new : D) (spaces : SpacesSeen) (before after : Seen) (sink sink_after : SinkSeen) (tick : ℕ) (refusal : Refusal) (was now : Bool) (result : Result (Unit {0}) Status) →
+      OnOk result (now ≡ (was || is_refused (Refused refusal))) →
+      OnOk result (AnswersLine seen image moment image_since attached faults old new before after sink sink_after (told_turn tick before.setting (Refused refusal) ∷ [])) →
+      IfErr result (StopsAnswer seen image moment image_since attached faults old new before.setting sink sink_after (told_turn tick before.setting (Refused refusal) ∷ [])) →
+      AnswersItems seen image moment image_since attached faults old new spaces spaces tick before after sink sink_after (Err refusal ∷ []) was now result
+  form-told old new spaces before after sink sink_after tick refusal was now result told_refused answers stops =
+      record {
+        met = None ∷ [];
+        asked = record { stay = record { attached = refl; contents = refl; later = omega arith }; count = refl };
+        answered = told_turn tick before.setting (Refused refusal) ∷ [];
+        few = omega arith;
+        leads = ticked-leads tick before.setting (refused_turn nothing_given before.setting refusal) refl;
+        told = told spaces.contents;
+        refused = told_refused_on result told_refused;
+        ok = answers;
+        err = stops;
+      }
+    where
+      told : (o : Option Contents) → IfSome o (λ contents. AreTurns contents (None ∷ []) tick before.setting (Err refusal ∷ []) (told_turn tick before.setting (Refused refusal) ∷ []))
+      told None = search rules
+      told (Some contents) = record { are = refl; count = refl; askable = (tt, refl) }
+
+      told_refused_on : (result : Result (Unit {0}) Status) → OnOk result (now ≡ (was || is_refused (Refused refusal))) → OnOk result (now ≡ (was || has_refusal (told_turn tick before.setting (Refused refusal) ∷ [])))
+      told_refused_on (Ok done) is = is
+      told_refused_on (Err status) is = tt
+
+  -- nothing is answered
+  pub none-told : ((disk : D) (c : List ℕ) → image_since disk (moment disk) c → image disk c) → (disk : D) (spaces : SpacesSeen) (store : Seen) (sink : SinkSeen) (tick : ℕ) (was : Bool) → Bears (seen disk) store →
+      AnswersItems seen image moment image_since attached faults disk disk spaces spaces tick store store sink sink [] was was (Ok tt)
+  none-told only_now disk spaces store sink tick was place =
+      record {
+        met = [];
+        asked = record { stay = record { attached = refl; contents = refl; later = omega arith }; count = refl };
+        answered = [];
+        few = omega arith;
+        leads = refl;
+        told = told spaces.contents;
+        refused = sym (or-none was);
+        ok = record {
+          replies = record { written = appends-nothing sink.written; passed = λ none. none; faults = refl };
+          store = refl;
+          place = place;
+          stands = λ stands. stands;
+          stores = stores-nothing only_now disk store.setting [];
+        };
+        err = tt;
+      }
+    where
+      told : (o : Option Contents) → IfSome o (λ contents. AreTurns contents [] tick store.setting [] [])
+      told None = search rules
+      told (Some contents) = record { are = refl; count = refl; askable = refl }

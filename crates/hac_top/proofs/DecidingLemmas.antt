@@ -1,15 +1,18 @@
 -- The turn of a line is the one that was decided on.
 use Rattle.std.proofs.Common.{◌≡◌, true, false, Bool, List, [], ◌∷◌, refl, ap, sym, subst, ◌∙◌, ℕ, zero, suc}
-use Rattle.std.specs.Prelude.{Option, None, Some, IfOk, Result, Ok, Err, filter, if◌then◌else◌, replicate}
-use Rattle.std.specs.Option.{option_map_or}
-use Rattle.hac_core.specs.Drafts.{CanSettle, IsDraftFor, Settles, is_reading, reads, settled_events, is_indexing}
+use Rattle.std.specs.Prelude.{Option, None, Some, IfErr, IfOk, Result, Ok, Err, filter, if◌then◌else◌, replicate}
+use Rattle.std.specs.Option.{option_map, option_map_or}
+use Rattle.hac_core.specs.Drafts.{CanSettle, DraftSeen, IsDraftFor, Knows, Settles, Shows, is_reading, reads, settled_events, is_indexing}
 use Rattle.hac_core.specs.declared.drafts.Known.{Known}
 use Rattle.hac_core.specs.declared.drafts.Known.TheVariants.{Reads, Changes, Indexes}
 use Rattle.hac_core.specs.declared.drafts.Settled.{Settled}
 use Rattle.hac_core.specs.declared.drafts.Settled.TheVariants as settled
-use Rattle.hac_model.specs.Run.Answers.{first_cause}
-use Rattle.hac_model.specs.Run.Play.{Setting, Turn, answered_turn, command_turn, data_lines, end_behind, full_cause, have_room, no_answers, nothing_given, refused_turn}
-use Rattle.hac_model.specs.Run.Refusals.{answer_cause, cause, cause_against, early_cause, event_of, events_of}
+use Rattle.hac_model.specs.Run.Answers.{Refuses, first_cause}
+use Rattle.hac_model.specs.Run.Asks.{asks}
+use Rattle.hac_model.specs.Run.Play.{Setting, Turn, absent_cause, answered_turn, command_turn, data_lines, end_behind, full_cause, given_spaces, have_room, no_answers, nothing_given, refused_turn, space_answers, stored_events, turn_cause}
+use Rattle.hac_model.specs.Run.Refusals.{cause, cause_against, early_cause, event_of, events_of, late_cause}
+use Rattle.hac_model.specs.declared.spaces.Asks.{Asks}
+use Rattle.hac_model.specs.Spaces.Answering.{Attached, answers_of, asked_spaces, first_absent}
 use Rattle.hac_model.specs.Tree.Events.{apply, apply_all}
 use Rattle.hac_model.specs.Tree.Sessions.{is_stored}
 use Rattle.hac_model.specs.declared.events.Event.{Event}
@@ -19,13 +22,16 @@ use Rattle.hac_model.specs.declared.memory.Memory.{Memory}
 use Rattle.hac_model.specs.declared.replies.Deny.{Deny}
 use Rattle.hac_model.specs.declared.replies.Deny.TheVariants as deny
 use Rattle.hac_model.specs.declared.replies.Refusal.{Refusal}
-use Rattle.hac_model.specs.declared.replies.Refusal.TheVariants.{Limit}
+use Rattle.hac_model.specs.declared.replies.Refusal.TheVariants.{Limit, NoSpace}
+use Rattle.hac_model.specs.declared.replies.Reply.{Reply}
 use Rattle.hac_model.specs.declared.replies.Reply.TheVariants.{Lines}
 use Rattle.hac_model.specs.declared.resolved.Resolved.{Resolved}
 use Rattle.hac_model.specs.declared.resolved.Resolved.TheVariants.{Cat, Ls, Pwd, Readlink, Query, Sls, Find, Counts, Index, Tick}
+use Rattle.hac_model.specs.declared.spaces.Answers.{Answers}
 use Rattle.hac_model.specs.declared.states.State.{State}
-use Rattle.hac_top.specs.Deciding.{Decides, IsDenial, settled_turn, standing_turn, storing_turn, turn_with}
+use Rattle.hac_top.specs.Deciding.{CanHappen, Decides, IsDenial, settled_turn, standing_turn, storing_turn, turn_with}
 use Rattle.hac_top.specs.declared.deciding.Decision.{Decision}
+use Rattle.hac_top.specs.declared.deciding.Decision.TheVariants.{Answer}
 
 -- what indexes doesn't only read
 indexing-changes : (command : Resolved) → is_indexing command ≡ true → is_reading command ≡ false
@@ -34,11 +40,10 @@ indexing-changes (Tick steps) indexes = refl
 indexing-changes other indexes = absurd cc
 
 -- a draft reads where its command does
-reading-is : (s : State) (command : Resolved) (draft : Known) → IsDraftFor s command draft → is_reading command ≡ reads draft
-reading-is s command (Reads shown) for = for.known.1
-reading-is s command (Changes change) for = by command change.event for.known.0
+reading-is : (s : State) (command : Resolved) (draft : DraftSeen) → IsDraftFor s command draft → is_reading command ≡ reads draft
+reading-is s command draft for = of draft.known for.known.known
   where
-    by : (command : Resolved) (event : Event) → event_of command ≡ Some event → is_reading command ≡ false
+    by : (command : Resolved) (event : Event) → event_of no_answers s command ≡ Some event → is_reading command ≡ false
     by (Cat entry) event is = absurd cc
     by (Ls dir) event is = absurd cc
     by (Pwd dir) event is = absurd cc
@@ -48,31 +53,62 @@ reading-is s command (Changes change) for = by command change.event for.known.0
     by (Find query) event is = absurd cc
     by Counts event is = absurd cc
     by other event is = refl
-reading-is s command (Indexes count) for = indexing-changes command for.known.0
+
+    of : (known : Known) → Knows s command known → is_reading command ≡ reads (record { known = known; asks = draft.asks })
+    of (Reads shown) knows = knows.1
+    of (Changes change) knows = by command change.event knows.0
+    of (Indexes count) knows = indexing-changes command knows.0
 
 -- a command that changes the tree has no data lines
-no-lines : (s : State) (command : Resolved) → is_reading command ≡ false → data_lines no_answers s command ≡ []
-no-lines s (Cat entry) changes = absurd cc
-no-lines s (Ls dir) changes = absurd cc
-no-lines s (Pwd dir) changes = absurd cc
-no-lines s (Readlink entry) changes = absurd cc
-no-lines s (Query dir) changes = absurd cc
-no-lines s (Sls dir) changes = absurd cc
-no-lines s (Find query) changes = absurd cc
-no-lines s Counts changes = absurd cc
-no-lines s other changes = refl
+no-lines : (answers : Answers) (s : State) (command : Resolved) → is_reading command ≡ false → data_lines answers s command ≡ []
+no-lines answers s (Cat entry) changes = absurd cc
+no-lines answers s (Ls dir) changes = absurd cc
+no-lines answers s (Pwd dir) changes = absurd cc
+no-lines answers s (Readlink entry) changes = absurd cc
+no-lines answers s (Query dir) changes = absurd cc
+no-lines answers s (Sls dir) changes = absurd cc
+no-lines answers s (Find query) changes = absurd cc
+no-lines answers s Counts changes = absurd cc
+no-lines answers s other changes = refl
 
 -- a command that reads makes no event
-reads-nothing : (s : State) (command : Resolved) → is_reading command ≡ true → events_of no_answers s command ≡ []
-reads-nothing s (Cat entry) reading = refl
-reads-nothing s (Ls dir) reading = refl
-reads-nothing s (Pwd dir) reading = refl
-reads-nothing s (Readlink entry) reading = refl
-reads-nothing s (Query dir) reading = refl
-reads-nothing s (Sls dir) reading = refl
-reads-nothing s (Find query) reading = refl
-reads-nothing s Counts reading = refl
-reads-nothing s other reading = absurd cc
+reads-nothing : (answers : Answers) (s : State) (command : Resolved) → is_reading command ≡ true → events_of answers s command ≡ []
+reads-nothing answers s (Cat entry) reading = refl
+reads-nothing answers s (Ls dir) reading = refl
+reads-nothing answers s (Pwd dir) reading = refl
+reads-nothing answers s (Readlink entry) reading = refl
+reads-nothing answers s (Query dir) reading = refl
+reads-nothing answers s (Sls dir) reading = refl
+reads-nothing answers s (Find query) reading = refl
+reads-nothing answers s Counts reading = refl
+reads-nothing answers s other reading = absurd cc
+
+-- The first cause of a turn.
+
+-- what is refused early is refused
+first-early : (early absent late full : Option Refusal) (refusal : Refusal) → early ≡ Some refusal → first_cause (early ∷ absent ∷ late ∷ full ∷ []) ≡ Some refusal
+first-early (Some other) absent late full refusal is = is
+first-early None absent late full refusal is = absurd cc
+
+-- then what asks a space that isn't attached
+first-absent : (early absent late full : Option Refusal) (refusal : Refusal) → early ≡ None → absent ≡ Some refusal → first_cause (early ∷ absent ∷ late ∷ full ∷ []) ≡ Some refusal
+first-absent None (Some other) late full refusal free is = is
+first-absent None None late full refusal free is = absurd cc
+first-absent (Some other) absent late full refusal free is = absurd cc
+
+-- where all that are asked are attached, a command is refused as the state and the answers say
+first-late : (early absent late full : Option Refusal) (refusal : Refusal) → absent ≡ None → first_cause (early ∷ late ∷ []) ≡ Some refusal → first_cause (early ∷ absent ∷ late ∷ full ∷ []) ≡ Some refusal
+first-late (Some other) absent late full refusal attached is = is
+first-late None None (Some other) full refusal attached is = is
+first-late None None None full refusal attached is = absurd cc
+first-late None (Some other) late full refusal attached is = absurd cc
+
+-- and where these say nothing, only as the store is full
+first-full : (early absent late full : Option Refusal) → absent ≡ None → first_cause (early ∷ late ∷ []) ≡ None → first_cause (early ∷ absent ∷ late ∷ full ∷ []) ≡ first_cause (full ∷ [])
+first-full None None None full attached free = refl
+first-full None None (Some other) full attached free = absurd cc
+first-full None (Some other) late full attached free = absurd cc
+first-full (Some other) absent late full attached free = absurd cc
 
 -- the turn with these lines, in which all of these events happen, and those of them are stored that are
 abbrev turn_by : Setting → List (List ℕ) → List Event → Turn
@@ -83,38 +119,113 @@ turn_by setting lines events = record {
   after = record setting { state = apply_all setting.state events; end = end_behind setting.end (filter is_stored events) };
 }
 
-answered-is : (setting : Setting) (command : Resolved) → answered_turn nothing_given setting command ≡ turn_by setting (data_lines no_answers setting.state command) (events_of no_answers setting.state command)
-answered-is setting command = refl
+-- the turn in which these events happen, if there is room for those that are stored
+abbrev turn_from : Setting → List (List ℕ) → List Event → Turn
+turn_from setting lines events =
+    if have_room setting (filter is_stored events) then turn_by setting lines events else refused_turn nothing_given setting (Limit Store)
 
--- the turn of a command that isn't refused is that of its lines and its events
-shown-by : (setting : Setting) (draft : Resolved) (o full : Option Refusal) → o ≡ None → full ≡ None →
-    option_map_or (refused_turn nothing_given setting) (first_cause (o ∷ full ∷ [])) (answered_turn nothing_given setting draft) ≡ answered_turn nothing_given setting draft
-shown-by setting draft None None free room = refl
-shown-by setting draft None (Some refusal) free room = absurd cc
-shown-by setting draft (Some refusal) full free room = absurd cc
+-- the turn by its first cause
+abbrev turn_for : List Attached → Setting → Resolved → Answers → Option Refusal → Turn
+turn_for spaces setting command answers why =
+    option_map_or (refused_turn (given_spaces spaces) setting) why (answered_turn (given_spaces spaces) setting command answers)
+
+-- what spaces answer to the questions of a command, all of which are attached
+pub record AreAnswered (spaces : List Attached) (s : State) (command : Resolved) (answers : Answers) : Type 0 where
+  pub is : answers ≡ answers_of spaces (asks s command)
+  pub attached : first_absent spaces (asked_spaces (asks s command)) ≡ None
+
+none-absent : (spaces : List Attached) (s : State) (command : Resolved) (answers : Answers) → AreAnswered spaces s command answers → absent_cause (given_spaces spaces) s command ≡ None
+none-absent spaces s command answers told = ap (option_map NoSpace) told.attached
+
+-- the turn of a command whose questions are answered
+told-turn : (spaces : List Attached) (setting : Setting) (command : Resolved) (answers : Answers) → AreAnswered spaces setting.state command answers →
+    command_turn (given_spaces spaces) setting (Ok command) ≡ turn_for spaces setting command answers (turn_cause (given_spaces spaces) setting command answers)
+told-turn spaces setting command answers told =
+    ap (λ (a : Answers). turn_for spaces setting command a (turn_cause (given_spaces spaces) setting command a)) (sym told.is)
+
+-- which nothing refuses
+free-turn : (spaces : List Attached) (setting : Setting) (command : Resolved) (answers : Answers) → AreAnswered spaces setting.state command answers → cause answers setting.state command ≡ None →
+    command_turn (given_spaces spaces) setting (Ok command) ≡ turn_from setting (data_lines answers setting.state command) (events_of answers setting.state command)
+free-turn spaces setting command answers told free =
+    let early = early_cause setting.state command in
+    let late = late_cause answers setting.state command in
+    let full = full_cause setting (stored_events answers setting.state command) in
+    told-turn spaces setting command answers told
+    ∙ ap (turn_for spaces setting command answers) (first-full early (absent_cause (given_spaces spaces) setting.state command) late full (none-absent spaces setting.state command answers told) free)
+    ∙ by (have_room setting (stored_events answers setting.state command))
+  where
+    by : (room : Bool) → turn_for spaces setting command answers (first_cause ((if room then None else Some (Limit Store)) ∷ []))
+        ≡ (if room then turn_by setting (data_lines answers setting.state command) (events_of answers setting.state command) else refused_turn nothing_given setting (Limit Store))
+    by true = refl
+    by false = refl
 
 -- a command that reads is answered by its lines
-pub shown-turn : (setting : Setting) (s : State) (command : Resolved) (draft : Known) → setting.state ≡ s → IsDraftFor s command draft → reads draft ≡ true → cause no_answers s command ≡ None → command_turn nothing_given setting (Ok command) ≡ turn_with setting (Lines (data_lines no_answers s command)) []
-shown-turn setting s command draft same for reads_it free =
-    let none : events_of no_answers setting.state command ≡ [] = reads-nothing setting.state command (reading-is s command draft for ∙ reads_it) in
-    shown-by setting command (cause no_answers setting.state command) (full_cause setting command) (ap (λ (t : State). cause no_answers t command) same ∙ free)
-    (ap (λ (es : List Event). if have_room setting (filter is_stored es) then None else Some (Limit Store)) none)
-    ∙ answered-is setting command ∙ ap (turn_by setting (data_lines no_answers setting.state command)) none ∙ ap (λ (t : State). turn_with setting (Lines (data_lines no_answers t command)) []) same
+pub shown-turn : (spaces : List Attached) (setting : Setting) (command : Resolved) (draft : DraftSeen) (answers : Answers) → AreAnswered spaces setting.state command answers → IsDraftFor setting.state command draft → reads draft ≡ true →
+    (reply : Reply) → Shows setting.state answers command reply → command_turn (given_spaces spaces) setting (Ok command) ≡ turn_with setting reply []
+shown-turn spaces setting command draft answers told for reads_it reply shows =
+    free-turn spaces setting command answers told shows.cause
+    ∙ ap (turn_from setting (data_lines answers setting.state command)) (reads-nothing answers setting.state command (reading-is setting.state command draft for ∙ reads_it))
+    ∙ ap (λ (r : Reply). turn_with setting r []) (sym shows.lines)
 
 -- the turn of what is refused
-by-first : (setting : Setting) (command : Resolved) (o full : Option Refusal) (refusal : Refusal) → o ≡ Some refusal →
-    option_map_or (refused_turn nothing_given setting) (first_cause (o ∷ full ∷ [])) (answered_turn nothing_given setting command) ≡ refused_turn nothing_given setting refusal
-by-first setting command None full refusal is = absurd cc
-by-first setting command (Some other) full refusal is = let same : other ≡ refusal = cc in ap (refused_turn nothing_given setting) same
+pub refused-turn : (spaces : List Attached) (setting : Setting) (command : Resolved) (answers : Answers) → AreAnswered spaces setting.state command answers → (refusal : Refusal) → cause answers setting.state command ≡ Some refusal →
+    command_turn (given_spaces spaces) setting (Ok command) ≡ refused_turn nothing_given setting refusal
+refused-turn spaces setting command answers told refusal is =
+    told-turn spaces setting command answers told
+    ∙ ap (turn_for spaces setting command answers)
+    (first-late (early_cause setting.state command) (absent_cause (given_spaces spaces) setting.state command) (late_cause answers setting.state command) (full_cause setting (stored_events answers setting.state command)) refusal
+    (none-absent spaces setting.state command answers told) is)
 
-pub refused-turn : (setting : Setting) (wanted : Result Resolved Refusal) (refusal : Refusal) → cause_against (cause no_answers setting.state) wanted ≡ Some refusal → command_turn nothing_given setting wanted ≡ refused_turn nothing_given setting refusal
-refused-turn setting (Err other) refusal is = let same : other ≡ refusal = cc in ap (refused_turn nothing_given setting) same
-refused-turn setting (Ok command) refusal is = by-first setting command (cause no_answers setting.state command) (full_cause setting command) refusal is
+-- the turn of a command that is refused early, or by its paths
+pub early-turn : (spaces : List Attached) (setting : Setting) (wanted : Result Resolved Refusal) (refusal : Refusal) → cause_against (early_cause setting.state) wanted ≡ Some refusal →
+    command_turn (given_spaces spaces) setting wanted ≡ refused_turn nothing_given setting refusal
+early-turn spaces setting (Err other) refusal is = let same : other ≡ refusal = cc in ap (refused_turn nothing_given setting) same
+early-turn spaces setting (Ok command) refusal is =
+    let answers = space_answers (given_spaces spaces) setting.state command in
+    ap (turn_for spaces setting command answers)
+    (first-early (early_cause setting.state command) (absent_cause (given_spaces spaces) setting.state command) (late_cause answers setting.state command) (full_cause setting (stored_events answers setting.state command)) refusal is)
 
--- what is refused early is refused
-pub early-refused : (s : State) (wanted : Result Resolved Refusal) (refusal : Refusal) → cause_against (early_cause s) wanted ≡ Some refusal → cause_against (cause no_answers s) wanted ≡ Some refusal
-early-refused s (Err other) refusal is = is
-early-refused s (Ok command) refusal is = ap (λ (o : Option Refusal). first_cause (o ∷ answer_cause no_answers s command ∷ [])) is
+-- the turn of a command that asks a space which isn't attached
+pub absent-turn : (spaces : List Attached) (setting : Setting) (command : Resolved) (space : List ℕ) → early_cause setting.state command ≡ None → first_absent spaces (asked_spaces (asks setting.state command)) ≡ Some space →
+    command_turn (given_spaces spaces) setting (Ok command) ≡ refused_turn nothing_given setting (NoSpace space)
+absent-turn spaces setting command space free absent =
+    let answers = space_answers (given_spaces spaces) setting.state command in
+    ap (turn_for spaces setting command answers)
+    (first-absent (early_cause setting.state command) (absent_cause (given_spaces spaces) setting.state command) (late_cause answers setting.state command) (full_cause setting (stored_events answers setting.state command)) (NoSpace space) free
+    (ap (option_map NoSpace) absent))
+
+-- Drafts of a state, at a setting that has it.
+
+pub answered-at : (spaces : List Attached) (setting : Setting) (s : State) (command : Resolved) (draft : DraftSeen) (answers : Answers) → setting.state ≡ s → IsDraftFor s command draft → answers ≡ answers_of spaces draft.asks →
+    first_absent spaces (asked_spaces draft.asks) ≡ None → AreAnswered spaces setting.state command answers
+answered-at spaces setting s command draft answers same for is attached =
+    let asks_are : draft.asks ≡ asks setting.state command = for.asks ∙ ap (λ (t : State). asks t command) (sym same) in
+    record {
+      is = is ∙ ap (answers_of spaces) asks_are;
+      attached = ap (λ (a : Asks). first_absent spaces (asked_spaces a)) (sym asks_are) ∙ attached;
+    }
+
+-- it asks a space that isn't attached
+pub absent-draft : (spaces : List Attached) (setting : Setting) (s : State) (command : Resolved) (draft : DraftSeen) (space : List ℕ) → setting.state ≡ s → IsDraftFor s command draft → first_absent spaces (asked_spaces draft.asks) ≡ Some space →
+    command_turn (given_spaces spaces) setting (Ok command) ≡ refused_turn nothing_given setting (NoSpace space)
+absent-draft spaces setting s command draft space same for absent =
+    let asks_are : draft.asks ≡ asks setting.state command = for.asks ∙ ap (λ (t : State). asks t command) (sym same) in
+    absent-turn spaces setting command space (ap (λ (t : State). early_cause t command) same ∙ for.known.cause) (ap (λ (a : Asks). first_absent spaces (asked_spaces a)) (sym asks_are) ∙ absent)
+
+-- it only reads
+pub shown-draft : (spaces : List Attached) (setting : Setting) (s : State) (command : Resolved) (draft : DraftSeen) (answers : Answers) → setting.state ≡ s → IsDraftFor s command draft → answers ≡ answers_of spaces draft.asks →
+    first_absent spaces (asked_spaces draft.asks) ≡ None → reads draft ≡ true → (reply : Reply) → Shows s answers command reply → command_turn (given_spaces spaces) setting (Ok command) ≡ turn_with setting reply []
+shown-draft spaces setting s command draft answers same for is attached reads_it reply shows =
+    shown-turn spaces setting command draft answers (answered-at spaces setting s command draft answers same for is attached) (subst (λ (t : State). IsDraftFor t command draft) (sym same) for) reads_it reply
+    (subst (λ (t : State). Shows t answers command reply) (sym same) shows)
+
+-- it is refused, given the answers
+pub refused-draft : (spaces : List Attached) (setting : Setting) (s : State) (command : Resolved) (draft : DraftSeen) (answers : Answers) → setting.state ≡ s → IsDraftFor s command draft → answers ≡ answers_of spaces draft.asks →
+    first_absent spaces (asked_spaces draft.asks) ≡ None → (why : Deny) (refusal : Refusal) → Refuses why (cause answers s command) → why ≡ deny.Refused refusal →
+    command_turn (given_spaces spaces) setting (Ok command) ≡ refused_turn nothing_given setting refusal
+refused-draft spaces setting s command draft answers same for is attached why refusal refuses why_is =
+    refused-turn spaces setting command answers (answered-at spaces setting s command draft answers same for is attached) refusal
+    (ap (λ (t : State). cause answers t command) same ∙ subst (λ (d : Deny). Refuses d (cause answers s command)) why_is refuses)
 
 -- what is denied is decided
 pub decides-denied : (why : Deny) (result : Result Decision Memory) (s : State) (turn : Setting → Turn) → IsDenial why result →
@@ -124,38 +235,31 @@ decides-denied (deny.Refused refusal) result s turn denies refuses =
 decides-denied deny.Memory (Ok decision) s turn denies refuses = absurd cc
 decides-denied deny.Memory (Err memory) s turn denies refuses = tt
 
+-- nothing has to happen for it
+pub denied-happens : (why : Deny) (result : Result Decision Memory) (s : State) → IsDenial why result → IfOk result (CanHappen s)
+denied-happens (deny.Refused refusal) result s denies = subst (λ (r : Result Decision Memory). IfOk r (CanHappen s)) (sym denies) tt
+denied-happens deny.Memory (Ok decision) s denies = absurd cc
+denied-happens deny.Memory (Err memory) s denies = tt
+
 -- turns that are the same are decided alike
 pub decides-alike : (s : State) (turn other : Setting → Turn) (result : Result Decision Memory) → ((setting : Setting) → setting.state ≡ s → turn setting ≡ other setting) → IfOk result (Decides s turn) → IfOk result (Decides s other)
 decides-alike s turn other (Ok decision) same decides = record { happen = decides.happen; leads = λ setting is. sym (same setting is) ∙ decides.leads setting is }
 decides-alike s turn other (Err memory) same decides = tt
 
--- the turn in which these events happen, if there is room for those that are stored
-abbrev turn_from : Setting → List Event → Turn
-turn_from setting events =
-    if have_room setting (filter is_stored events) then turn_by setting [] events else refused_turn nothing_given setting (Limit Store)
-
--- a command that changes the tree has no lines
-stored-by : (setting : Setting) (command : Resolved) (o : Option Refusal) (room : Bool) → o ≡ None → data_lines no_answers setting.state command ≡ [] →
-    option_map_or (refused_turn nothing_given setting) (first_cause (o ∷ (if room then None else Some (Limit Store)) ∷ [])) (answered_turn nothing_given setting command)
-    ≡ (if room then turn_by setting [] (events_of no_answers setting.state command) else refused_turn nothing_given setting (Limit Store))
-stored-by setting command None true free none = answered-is setting command ∙ ap (λ (lines : List (List ℕ)). turn_by setting lines (events_of no_answers setting.state command)) none
-stored-by setting command None false free none = refl
-stored-by setting command (Some refusal) room free none = absurd cc
-
 -- where all events are stored
-all-kept : (setting : Setting) (events : List Event) → filter is_stored events ≡ events → turn_from setting events ≡ storing_turn setting events
+all-kept : (setting : Setting) (events : List Event) → filter is_stored events ≡ events → turn_from setting [] events ≡ storing_turn setting events
 all-kept setting events same =
     ap (λ (es : List Event).
     if have_room setting es
     then record { reply = Lines []; events = es; steps = []; after = record setting { state = apply_all setting.state events; end = end_behind setting.end es } }
     else refused_turn nothing_given setting (Limit Store)) same
 
-steps-kept : (count : ℕ) → filter is_stored (replicate count Step) ≡ replicate count Step
+pub steps-kept : (count : ℕ) → filter is_stored (replicate count Step) ≡ replicate count Step
 steps-kept zero = refl
 steps-kept (suc count) = ap (λ (events : List Event). Step ∷ events) (steps-kept count)
 
 -- one event, given whether it is stored
-one-event : (setting : Setting) (event : Event) (b : Bool) → is_stored event ≡ b → turn_from setting (event ∷ []) ≡ (if b then storing_turn setting (event ∷ []) else standing_turn setting event)
+one-event : (setting : Setting) (event : Event) (b : Bool) → is_stored event ≡ b → turn_from setting [] (event ∷ []) ≡ (if b then storing_turn setting (event ∷ []) else standing_turn setting event)
 one-event setting event true is = all-kept setting (event ∷ []) (ap (λ (b : Bool). if b then event ∷ [] else []) is)
 one-event setting event false is =
     ap (λ (es : List Event).
@@ -164,16 +268,44 @@ one-event setting event false is =
     else refused_turn nothing_given setting (Limit Store)) (ap (λ (b : Bool). if b then event ∷ [] else []) is)
 
 -- the turn of an outcome, by its events
-outcome-turn : (setting : Setting) (s : State) (outcome : Settled) → CanSettle s outcome → turn_from setting (settled_events outcome) ≡ settled_turn setting outcome
+outcome-turn : (setting : Setting) (s : State) (outcome : Settled) → CanSettle s outcome → turn_from setting [] (settled_events outcome) ≡ settled_turn setting outcome
 outcome-turn setting s (settled.Change change) can = one-event setting change.event true can.2
 outcome-turn setting s (settled.Steps count) can = all-kept setting (replicate count Step) (steps-kept count)
 outcome-turn setting s (settled.Session event) can = one-event setting event false can.1
 
 -- a command that changes the tree stores its events, if there is room for them
-pub storing-turn-is : (setting : Setting) (s : State) (command : Resolved) (draft : Known) → setting.state ≡ s → IsDraftFor s command draft → reads draft ≡ false → (outcome : Settled) → Settles s command outcome →
-    command_turn nothing_given setting (Ok command) ≡ settled_turn setting outcome
-storing-turn-is setting s command draft same for changes outcome settles =
-    stored-by setting command (cause no_answers setting.state command) (have_room setting (filter is_stored (events_of no_answers setting.state command))) (ap (λ (t : State). cause no_answers t command) same ∙ settles.cause)
-    (no-lines setting.state command (reading-is s command draft for ∙ changes))
-    ∙ ap (turn_from setting) (ap (λ (t : State). events_of no_answers t command) same ∙ sym settles.events)
-    ∙ outcome-turn setting s outcome settles.can
+pub storing-turn-is : (spaces : List Attached) (setting : Setting) (command : Resolved) (draft : DraftSeen) (answers : Answers) → AreAnswered spaces setting.state command answers → IsDraftFor setting.state command draft → reads draft ≡ false →
+    (outcome : Settled) → Settles setting.state answers command outcome → command_turn (given_spaces spaces) setting (Ok command) ≡ settled_turn setting outcome
+storing-turn-is spaces setting command draft answers told for changes outcome settles =
+    free-turn spaces setting command answers told settles.cause
+    ∙ ap (λ (lines : List (List ℕ)). turn_from setting lines (events_of answers setting.state command)) (no-lines answers setting.state command (reading-is setting.state command draft for ∙ changes))
+    ∙ ap (turn_from setting []) (sym settles.events)
+    ∙ outcome-turn setting setting.state outcome settles.can
+
+-- it changes the tree
+pub settled-draft : (spaces : List Attached) (setting : Setting) (s : State) (command : Resolved) (draft : DraftSeen) (answers : Answers) → setting.state ≡ s → IsDraftFor s command draft → answers ≡ answers_of spaces draft.asks →
+    first_absent spaces (asked_spaces draft.asks) ≡ None → reads draft ≡ false → (outcome : Settled) → Settles s answers command outcome → command_turn (given_spaces spaces) setting (Ok command) ≡ settled_turn setting outcome
+settled-draft spaces setting s command draft answers same for is attached changes outcome settles =
+    storing-turn-is spaces setting command draft answers (answered-at spaces setting s command draft answers same for is attached) (subst (λ (t : State). IsDraftFor t command draft) (sym same) for) changes outcome
+    (subst (λ (t : State). Settles t answers command outcome) (sym same) settles)
+
+-- Replies to commands that read.
+
+pub reply-happens : (reply : Result Reply Deny) (result : Result Decision Memory) (s : State) → IfOk reply (λ reply. result ≡ Ok (Answer reply)) → IfErr reply (λ deny. IsDenial deny result) → IfOk result (CanHappen s)
+reply-happens (Ok reply) result s ok err = subst (λ (r : Result Decision Memory). IfOk r (CanHappen s)) (sym ok) tt
+reply-happens (Err why) result s ok err = denied-happens why result s err
+
+pub reply-decides : (reply : Result Reply Deny) (result : Result Decision Memory) (s : State) (turn : Setting → Turn) → IfOk reply (λ reply. result ≡ Ok (Answer reply)) → IfErr reply (λ deny. IsDenial deny result) →
+    IfOk reply (λ reply. (setting : Setting) → setting.state ≡ s → turn setting ≡ turn_with setting reply []) →
+    IfErr reply (λ why. (refusal : Refusal) → why ≡ deny.Refused refusal → (setting : Setting) → setting.state ≡ s → turn setting ≡ refused_turn nothing_given setting refusal) → IfOk result (Decides s turn)
+reply-decides (Ok reply) result s turn ok err shows refuses = subst (λ (r : Result Decision Memory). IfOk r (Decides s turn)) (sym ok) (record { happen = tt; leads = shows })
+reply-decides (Err why) result s turn ok err shows refuses = decides-denied why result s turn err refuses
+
+-- the reply to a draft that only reads
+pub read-decides : (spaces : List Attached) (s : State) (command : Resolved) (draft : DraftSeen) (answers : Answers) (reply : Result Reply Deny) (result : Result Decision Memory) → IsDraftFor s command draft → answers ≡ answers_of spaces draft.asks →
+    first_absent spaces (asked_spaces draft.asks) ≡ None → reads draft ≡ true → IfOk reply (Shows s answers command) → IfErr reply (λ why. Refuses why (cause answers s command)) →
+    IfOk reply (λ reply. result ≡ Ok (Answer reply)) → IfErr reply (λ deny. IsDenial deny result) → IfOk result (Decides s (λ setting. command_turn (given_spaces spaces) setting (Ok command)))
+read-decides spaces s command draft answers (Ok reply) result for is attached reads_it shows refuses ok err =
+    reply-decides (Ok reply) result s (λ setting. command_turn (given_spaces spaces) setting (Ok command)) ok err (λ setting same. shown-draft spaces setting s command draft answers same for is attached reads_it reply shows) tt
+read-decides spaces s command draft answers (Err why) result for is attached reads_it shows refuses ok err =
+    reply-decides (Err why) result s (λ setting. command_turn (given_spaces spaces) setting (Ok command)) ok err tt (λ refusal why_is setting same. refused-draft spaces setting s command draft answers same for is attached why refusal refuses why_is)

@@ -1,44 +1,61 @@
 -- What stays true of a run from line to line: the lines so far were answered, and what is pending is to come.
-use Rattle.std.proofs.Common.{◌≡◌, ℕ, false, Bool, List, [], ◌++◌, Option}
+use Rattle.std.proofs.Common.{◌≡◌, ℕ, false, Bool, List, [], ◌++◌, length, Option}
 use Rattle.std.specs.Option.{IfSome}
 use Rattle.std.specs.Io.KnownBytes.{Appends}
 use Rattle.hac_disk.specs.Images.{LeavesOnly}
 use Rattle.hac_outside.specs.Known.{Known}
 use Rattle.hac_outside.specs.Seen.{SinkSeen}
-use Rattle.hac_model.specs.Run.Play.{Setting, Turn, has_refusal, left_by, play, turns, turns_text}
-use Rattle.hac_model.specs.Script.{first_items, whole}
+use Rattle.hac_model.specs.Run.Play.{AreAskable, Given, Setting, Turn, all_events, has_refusal, left_by, play, turns, turns_text}
+use Rattle.hac_model.specs.Script.{first_items, script, whole}
+use Rattle.hac_model.specs.Tree.Events.{apply_all}
+use Rattle.hac_model.specs.Tree.Sessions.{stored}
+use Rattle.sem_mounts.specs.Seen.{Contents, SpacesSeen}
 use Rattle.hac_store.specs.Stores.{Bears, Seen, Stands}
 use Rattle.shell_lang.specs.Reading.{IsReaderOf, Reading, pending}
-use Rattle.hac_top.specs.Crashes.{Holds}
-use Rattle.hac_top.specs.Run.{IsTreeOf, Outside}
-use Rattle.hac_top.specs.Ticking.{ticking}
+use Rattle.hac_top.specs.Asking.{HaveAsked, given_by}
+use Rattle.hac_top.specs.Crashes.{Holds, IsTreeAfter}
+use Rattle.hac_top.specs.Run.{Outside, given_after}
 use Rattle.hac_top.specs.TakenLines.{IsLine, LeavesSource}
 
 -- the turns of whole lines, and of one line behind them
-abbrev pub turns_of : ℕ → Setting → List ℕ → List ℕ → List Turn
-turns_of tick first played last = play (ticking tick) first played ++ turns (ticking tick) (left_by first (play (ticking tick) first played)) (first_items last)
+abbrev pub turns_of : Given → Setting → List ℕ → List ℕ → List Turn
+turns_of given first played last =
+    play given first played ++ turns (given_after given (play given first played)) (left_by first (play given first played)) (first_items last)
 
 -- The script is whole lines that were played, the line that was played last, and what is pending. All of the lines were
--- answered.
-pub record Goes (tick : ℕ) (first : Setting) (script pending : List ℕ) (ended : Bool) (setting : Setting) (refused : Bool) (before now : SinkSeen) : Type 0 where
+-- answered. What is given to them is known, and what is to what is pending.
+pub record Goes (given pending_given : Given) (first : Setting) (script pending : List ℕ) (ended : Bool) (setting : Setting) (refused : Bool) (before now : SinkSeen) : Type 0 where
   pub played : List ℕ
   pub last : List ℕ
   pub script_is : script ≡ played ++ (last ++ pending)
   pub lines : whole played ≡ played
   pub line_is : IsLine ended last pending
-  pub left_is : setting ≡ left_by first (turns_of tick first played last)
-  pub written : Appends before.written now.written (turns_text (turns_of tick first played last))
-  pub refused_is : refused ≡ has_refusal (turns_of tick first played last)
+  pub given_is : pending_given ≡ given_after given (turns_of given first played last)
+  pub left_is : setting ≡ left_by first (turns_of given first played last)
+  pub written : Appends before.written now.written (turns_text (turns_of given first played last))
+  pub refused_is : refused ≡ has_refusal (turns_of given first played last)
 
 -- a reader that holds nothing yet
 abbrev pub fresh_reader : Reading
 fresh_reader = record { buffered = []; taken = 0; ended = false }
 
--- Between two lines no call has failed, and all was passed on. The disk stands for what the lines so far left, and a
--- crash since the run began leaves the tree after some of its events.
+-- The lines so far are those that were played, and their commands met these faults.
+pub record IsPlayed (contents : Contents) (met : List (Option (List ℕ))) (tick : ℕ) (first : Setting) (bytes pending : List ℕ) (ended : Bool) (setting : Setting) (refused : Bool) (before now : SinkSeen) (answered : List Turn) : Type 0 where
+  pub goes : Goes (given_by contents met tick) (given_by contents [] tick) first bytes pending ended setting refused before now
+  pub answered_is : answered ≡ turns_of (given_by contents met tick) first goes.played goes.last
+  pub count : length met ≡ length answered
+  pub askable : AreAskable (given_by contents met tick) first (script goes.played ++ first_items goes.last)
+
+-- Between two lines no call of the source, the sink or the disk has failed, and all was passed on. The disk stands for
+-- what the lines so far left, and a crash since the run began leaves the tree after some of the events of their turns.
 pub record RunsOn {D : Type 0} (seen : D → Option (List ℕ)) (image : D → List ℕ → Type 0) (moment : D → ℕ) (image_since : D → ℕ → List ℕ → Type 0) (attached : D → Option (List (List ℕ × Bool))) (faults : D → ℕ)
-    (old disk : D) (tick : ℕ) (first : Setting) (before now : Outside) (reader : Reading) (store : Seen) (refused : Bool) : Type 0 where
-  pub goes : Known (λ script bytes. Goes tick first script bytes reader.ended store.setting refused before.sink now.sink) before.source.left (pending reader now.source.left)
+    (old disk : D) (tick : ℕ) (first : Setting) (before now : Outside) (spaces spaces_now : SpacesSeen) (reader : Reading) (store : Seen) (refused : Bool) : Type 0 where
+  pub met : List (Option (List ℕ))
+  pub asked : HaveAsked spaces spaces_now met
+  pub answered : List Turn
+  pub leads : stored store.setting.state ≡ apply_all (stored first.state) (all_events answered)
+  pub goes : IfSome spaces.contents (λ contents.
+      Known (λ bytes pending. IsPlayed contents met tick first bytes pending reader.ended store.setting refused before.sink now.sink answered) before.source.left (pending reader now.source.left))
   pub reads : IsReaderOf reader now.source
   pub source : LeavesSource false fresh_reader reader before.source now.source
   pub passed : before.sink.held_back ≡ 0 → now.sink.held_back ≡ 0
@@ -46,6 +63,6 @@ pub record RunsOn {D : Type 0} (seen : D → Option (List ℕ)) (image : D → L
   pub intact : store.broken ≡ false
   pub place : Bears (seen disk) store
   pub stands : Stands (seen old) (image old) first → Stands (seen disk) (image disk) store.setting
-  pub moments : IfSome before.source.left (λ script. Stands (seen old) (image old) first → LeavesOnly moment image_since old disk (Holds (IsTreeOf tick first script)))
+  pub moments : Stands (seen old) (image old) first → LeavesOnly moment image_since old disk (Holds (IsTreeAfter (stored first.state) (all_events answered)))
   pub names : attached disk ≡ attached old
   pub quiet : faults disk ≡ faults old

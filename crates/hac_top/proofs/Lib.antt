@@ -1,12 +1,16 @@
 pub mod CrashLemmas
 pub mod DecidingLemmas
+pub mod GatherLemmas
+pub mod AskLemmas
 pub mod TickLemmas
 pub mod AnswerLemmas
+pub mod ItemLemmas
 pub mod StoringLemmas
 pub mod TakenLemmas
 pub mod ReplyLemmas
 pub mod GoesOn
 pub mod RunLemmas
+pub mod PlayedLemmas
 pub mod LineLemmas
 pub mod OpenedLemmas
 pub mod AttachLemmas

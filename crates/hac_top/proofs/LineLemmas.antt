@@ -2,14 +2,20 @@
 use Rattle.std.proofs.Common.{◌≡◌, ℕ, ◌+◌, ◌≤◌, Bool, true, false, List, [], ◌++◌, length, refl, ap, sym, ◌∙◌, arith, rules, subst, inl, inr, Option, Some, None}
 use Rattle.std.specs.Prelude.{◌||◌}
 use Rattle.std.specs.Option.{IfSome}
-use Rattle.std.specs.Io.KnownBytes.{prepend_known}
+use Rattle.std.specs.Io.KnownBytes.{Appends, prepend_known}
 use Rattle.hac_disk.specs.Images.{LeavesOnly}
 use Rattle.hac_disk.proofs.Moments.{started, then_run, weaken}
 use Rattle.hac_outside.specs.Causes.{ReportsFault}
 use Rattle.hac_outside.specs.Known.{Known}
-use Rattle.hac_outside.specs.Seen.{SinkSeen, SourceSeen}
+use Rattle.hac_outside.specs.Seen.{SinkSeen, SourceSeen, WritesSome}
 use Rattle.hac_outside.proofs.KnownLemmas.{known-behind, known-joined, known-weaker}
-use Rattle.hac_model.specs.Run.Play.{Setting, Turn, all_events, has_refusal, left_by, play, turns}
+use Rattle.hac_model.specs.Run.Play.{AreAskable, Given, Setting, Turn, all_events, has_refusal, left_by, play, turns_text}
+use Rattle.hac_model.specs.Script.{script}
+use Rattle.hac_model.specs.Tree.Events.{apply_all}
+use Rattle.hac_model.specs.declared.events.Event.{Event}
+use Rattle.hac_model.specs.declared.states.State.{State}
+use Rattle.hac_model.proofs.PlayLemmas.{apply_all-append}
+use Rattle.sem_mounts.specs.Seen.{Contents, SpacesSeen}
 use Rattle.hac_model.specs.Tree.Sessions.{stored}
 use Rattle.hac_model.specs.declared.limits.TheConstants.{SCRIPT_LIMIT}
 use Rattle.hac_store.specs.Stores.{Bears, Seen, Stands}
@@ -18,16 +24,18 @@ use Rattle.shell_lang.specs.Reading.{Reading, SameTotal, pending}
 use Rattle.shell_lang.proofs.ReaderLemmas.{total_on}
 use Rattle.hac_top.specs.Crashes.{Holds, IsTreeAfter, IsTreeOfAnswered}
 use Rattle.hac_top.specs.Ends.{IsFinished, IsOpenStatus, finished_status, is_disk_fault, is_read_fault, is_write_fault}
-use Rattle.hac_top.specs.Run.{AnswersBy, Ends, IsTreeOf, Outside, Played, PlaysStore, outside}
-use Rattle.hac_top.specs.Ticking.{command_events, ticking}
-use Rattle.hac_top.specs.Storing.{AnswersLine, StopsAnswer, StopsBehind, StopsReply, Stores}
-use Rattle.hac_top.specs.TakenLines.{GivesFrom, LeavesSource, StopsIn, StopsLine, StopsTaking, TakesLine, items_of_taken}
+use Rattle.hac_top.specs.Asking.{HaveAsked, faults_after, given_by}
+use Rattle.hac_top.specs.Run.{AnswersBy, Ends, IsTreeOf, Outside, Played, PlaysStore, given_after, outside}
+use Rattle.hac_top.specs.Ticking.{command_events}
+use Rattle.hac_top.specs.Storing.{AnswersLine, AreTurns, StopsAnswer, StopsBehind, StopsReply, Stores}
+use Rattle.hac_top.specs.TakenLines.{GivesFrom, GivesTaken, LeavesSource, StopsIn, StopsLine, StopsTaking, TakesLine, items_of_taken}
 use Rattle.hac_top.specs.declared.status.Status.{Status}
 use Rattle.hac_top.specs.declared.status.Status.TheVariants.{Done, SomeRefused, ReadFault, WriteFault, DiskFault, Memory, TooLong}
 use Rattle.hac_top.specs.declared.taking.TakenLine.{TakenLine}
-use Rattle.hac_top.proofs.GoesOn.{Goes, RunsOn, fresh_reader}
-use Rattle.hac_top.proofs.CrashLemmas.{answered-tree, holds-weaker, none-answered}
-use Rattle.hac_top.proofs.RunLemmas.{answered-held, answered-so_far, answers-stop, few-items, goes-first, goes-next, line-stops, nothing-stops, open-goes, played-behind, played-cut, played-end, played-stop, tree-of-line, turns-next}
+use Rattle.hac_top.proofs.GoesOn.{Goes, IsPlayed, RunsOn, fresh_reader}
+use Rattle.hac_top.proofs.CrashLemmas.{all_events-append, answered-tree, holds-weaker, none-answered, tree-more, tree-then}
+use Rattle.hac_top.proofs.PlayedLemmas.{askable-all, faults-append, here-all, here-askable, here-goes, here-next, open-played, played-first, played-next}
+use Rattle.hac_top.proofs.RunLemmas.{answered-held, answered-so_far, answers-stop, line-stops, nothing-stops, played-behind, played-cut, played-end, played-stop, turns-are}
 use Rattle.hac_top.proofs.StoringLemmas.{held-before, told-since}
 
 -- facts of bytes that a source may not tell
@@ -97,12 +105,16 @@ stops-unread source = record { why = tt; stops = stops source.left; goes = λ ot
 
 module _ {D : Type 0} {seen : D → Option (List ℕ)} {image : D → List ℕ → Type 0} {moment : D → ℕ} {image_since : D → ℕ → List ℕ → Type 0} {attached : D → Option (List (List ℕ × Bool))} {faults : D → ℕ} where
   -- a run begins with a reader that holds nothing
-  pub runs-begin : ((disk : D) (c : List ℕ) → image_since disk (moment disk) c → image disk c) → (disk : D) (tick : ℕ) (before : Outside) (reader : Reading) (store : Seen) (refused : Bool) → reader ≡ fresh_reader → before.source.ended ≡ false → refused ≡ false → store.broken ≡ false →
-      Bears (seen disk) store → RunsOn seen image moment image_since attached faults disk disk tick store.setting before before reader store refused
-  runs-begin only_now disk tick before reader store refused is open_now unrefused intact place =
-      subst (λ (r : Reading). RunsOn seen image moment image_since attached faults disk disk tick store.setting before before r store refused) (sym is)
+  pub runs-begin : ((disk : D) (c : List ℕ) → image_since disk (moment disk) c → image disk c) → (disk : D) (tick : ℕ) (before : Outside) (spaces : SpacesSeen) (reader : Reading) (store : Seen) (refused : Bool) → reader ≡ fresh_reader → before.source.ended ≡ false → refused ≡ false →
+      store.broken ≡ false → Bears (seen disk) store → RunsOn seen image moment image_since attached faults disk disk tick store.setting before before spaces spaces reader store refused
+  runs-begin only_now disk tick before spaces reader store refused is open_now unrefused intact place =
+      subst (λ (r : Reading). RunsOn seen image moment image_since attached faults disk disk tick store.setting before before spaces spaces r store refused) (sym is)
       (record {
-        goes = goes before.source.left;
+        met = [];
+        asked = record { stay = record { attached = refl; contents = refl; later = omega arith }; count = refl };
+        answered = [];
+        leads = refl;
+        goes = goes spaces.contents before.source.left;
         reads = record { ended = open_now; nothing = λ e. absurd cc; last = λ e. absurd cc; near = omega arith };
         source = record { total = total before.source.left; limit = omega arith; reported = refl };
         passed = λ none. none;
@@ -110,105 +122,156 @@ module _ {D : Type 0} {seen : D → Option (List ℕ)} {image : D → List ℕ �
         intact = intact;
         place = place;
         stands = λ stands. stands;
-        moments = moments before.source.left;
+        moments = λ stands. started moment image_since disk (Holds (IsTreeAfter (stored store.setting.state) [])) (λ c left. held-before store.setting [] c (stands-each (seen disk) (image disk) store.setting stands c (only_now disk c left)));
         names = refl;
         quiet = refl;
       })
     where
-      goes : (script : Option (List ℕ)) → Known (λ s p. Goes tick store.setting s p false store.setting refused before.sink before.sink) script (prepend_known [] script)
-      goes None = tt
-      goes (Some s) = goes-first tick store.setting s refused before.sink unrefused
+      goes : (contents : Option Contents) (script : Option (List ℕ)) → IfSome contents (λ c. Known (λ s p. IsPlayed c [] tick store.setting s p false store.setting refused before.sink before.sink []) script (prepend_known [] script))
+      goes None script = search rules
+      goes (Some c) None = tt
+      goes (Some c) (Some s) = played-first c tick store.setting s refused before.sink unrefused
 
       total : (script : Option (List ℕ)) → SameTotal 0 script 0 script
       total None = tt
       total (Some s) = refl
 
-      moments : (script : Option (List ℕ)) → IfSome script (λ s. Stands (seen disk) (image disk) store.setting → LeavesOnly moment image_since disk disk (Holds (IsTreeOf tick store.setting s)))
-      moments None = search rules
-      moments (Some s) = λ stands.
-          started moment image_since disk (Holds (IsTreeOf tick store.setting s)) (λ c left. held-before store.setting (all_events (play (ticking tick) store.setting s)) c (stands-each (seen disk) (image disk) store.setting stands c (only_now disk c left)))
+  module _ {old mid : D} {tick : ℕ} {first : Setting} {before now : Outside} {spaces spaces_now : SpacesSeen} {reader : Reading} {store : Seen} {refused : Bool} (was : RunsOn seen image moment image_since attached faults old mid tick first before now spaces spaces_now reader store refused) where
+    -- what is known of the script, and of what is left, where no line was taken
+    stop-script : {left : Option (List ℕ)} (total : ℕ) (P : List ℕ → List ℕ → Type 0) (R : Contents → List ℕ → Type 0) →
+        ((c : Contents) (s p l : List ℕ) → Some l ≡ left → IsPlayed c was.met tick first s p reader.ended store.setting refused before.sink now.sink was.answered → P p l → total + length l ≡ 0 + length s → R c s) →
+        Known P (pending reader now.source.left) left → Known (λ s l. total + length l ≡ 0 + length s) before.source.left left → IfSome spaces.contents (λ c. IfSome before.source.left (R c))
+    stop-script {left} total P R follows stops totals = by spaces.contents was.goes
+      where
+        by : (o : Option Contents) → IfSome o (λ c. Known (λ s p. IsPlayed c was.met tick first s p reader.ended store.setting refused before.sink now.sink was.answered) before.source.left (pending reader now.source.left)) →
+            IfSome o (λ c. IfSome before.source.left (R c))
+        by None goes = search rules
+        by (Some c) goes =
+            known-script (λ s p. IsPlayed c was.met tick first s p reader.ended store.setting refused before.sink now.sink was.answered) P (λ s l. total + length l ≡ 0 + length s) (R c)
+            before.source.left (pending reader now.source.left) left (follows c) goes stops totals
 
-  module _ {old mid : D} {tick : ℕ} {first : Setting} {before now : Outside} {reader : Reading} {store : Seen} {refused : Bool} (was : RunsOn seen image moment image_since attached faults old mid tick first before now reader store refused) where
+    -- a crash leaves the tree after some of the events of the script
+    all-moments : (c : Contents) (s p : List ℕ) → IsPlayed c was.met tick first s p reader.ended store.setting refused before.sink now.sink was.answered → Stands (seen old) (image old) first →
+        LeavesOnly moment image_since old mid (Holds (IsTreeOf (given_by c was.met tick) first s))
+    all-moments c s p played stands =
+        let given = given_by c was.met tick in
+        let all = turns-are given (given_by c [] tick) first s p reader.ended store.setting refused before.sink now.sink played.goes in
+        let rest = play (given_by c [] tick) store.setting p in
+        weaken moment image_since old mid (Holds (IsTreeAfter (stored first.state) (all_events was.answered))) (Holds (IsTreeOf given first s))
+        (λ i holds. holds-weaker (IsTreeAfter (stored first.state) (all_events was.answered)) (IsTreeOf given first s) i
+        (λ t tree.
+        subst (λ (es : List Event). IsTreeAfter (stored first.state) es t) (sym (ap all_events (all ∙ ap (λ (ts : List Turn). ts ++ rest) (sym played.answered_is)) ∙ all_events-append was.answered rest))
+        (tree-more (stored first.state) t (all_events was.answered) (all_events rest) tree)) holds)
+        (was.moments stands)
+
     -- no line was taken
-    pub runs-stop : {source : SourceSeen} {new : Reading} {status : Status} → StopsTaking reader new now.source source status → PlaysStore seen image moment image_since attached faults old mid tick first before (outside source now.sink) status
+    pub runs-stop : {source : SourceSeen} {new : Reading} {status : Status} → StopsTaking reader new now.source source status → PlaysStore seen image moment image_since attached faults old mid tick first before (outside source now.sink) spaces spaces_now status
     runs-stop {source} {new} {status} stop =
         let kind = stops-source status stop.why in
         let takes = leaves-then (is_read_fault status) fresh_reader reader new before.source now.source source was.source stop.source in
         record {
+          met = was.met;
+          asked = was.asked;
+          askable = stop-script new.taken (StopsIn status) (λ c s. AreAskable (given_by c was.met tick) first (script s)) (λ c s p l _ played _ _. askable-all c tick first was.met s p reader.ended store.setting refused before.sink now.sink was.answered played) stop.stops takes.total;
           played =
-              known-script (λ s p. Goes tick first s p reader.ended store.setting refused before.sink now.sink) (StopsIn status) (λ s l. new.taken + length l ≡ 0 + length s)
-              (λ s. Played false tick status first s before (outside source now.sink) (Stands (seen old) (image old) first) (image mid)) before.source.left (pending reader now.source.left) source.left
-              (λ s p l left_is goes stops total.
-              played-stop tick first (Stands (seen old) (image old) first) (image mid) status status s p l reader.ended store.setting refused before (outside source now.sink) goes left_is was.passed stops
-              (answers-stop tick first s p reader.ended store.setting refused before.sink now.sink goes status l new.taken stop.why stops stop.goes stop.past total)
-              (λ stands c left.
-              answered-held tick first s p reader.ended store.setting refused before.sink now.sink goes c (stands-each (seen mid) (image mid) store.setting (was.stands stands) c left)) (λ _ finished. absurd (kind.unfinished finished)))
-              was.goes stop.stops takes.total;
+              stop-script new.taken (StopsIn status) (λ c s. Played false (given_by c was.met tick) status first s before (outside source now.sink) (Stands (seen old) (image old) first) (image mid))
+              (λ c s p l left_is played stops total.
+              let given = given_by c was.met tick in
+              let none = given_by c [] tick in
+              let goes = played.goes in
+              played-stop given none first (Stands (seen old) (image old) first) (image mid) status status s p l reader.ended store.setting refused before (outside source now.sink) goes left_is was.passed stops
+              (answers-stop given none first s p reader.ended store.setting refused before.sink now.sink goes status l new.taken stop.why stops stop.goes stop.past total)
+              (λ stands i left. answered-held given none first s p reader.ended store.setting refused before.sink now.sink goes i (stands-each (seen mid) (image mid) store.setting (was.stands stands) i left))
+              (λ _ finished. absurd (kind.unfinished finished)))
+              stop.stops takes.total;
           opened = kind.opened;
-          moments = was.moments;
+          moments = stop-script new.taken (StopsIn status) (λ c s. Stands (seen old) (image old) first → LeavesOnly moment image_since old mid (Holds (IsTreeOf (given_by c was.met tick) first s))) (λ c s p l _ played _ _. all-moments c s p played) stop.stops takes.total;
           ends = ends-of status new before (outside source now.sink) takes (no-fault (is_write_fault status) before.sink.faults now.sink.faults kind.sink was.wrote) (λ _. was.passed);
           names = was.names;
           reported = no-fault (is_disk_fault status) (faults old) (faults mid) kind.disk was.quiet;
         }
 
     -- the script has ended
-    pub runs-end : {source : SourceSeen} {new : Reading} → TakesLine reader new now.source source None → PlaysStore seen image moment image_since attached faults old mid tick first before (outside source now.sink) (finished_status refused)
+    pub runs-end : {source : SourceSeen} {new : Reading} → TakesLine reader new now.source source None → PlaysStore seen image moment image_since attached faults old mid tick first before (outside source now.sink) spaces spaces_now (finished_status refused)
     runs-end {source} {new} takes =
         let took = leaves-then false fresh_reader reader new before.source now.source source was.source takes.source in
+        let nothing = λ (p l : List ℕ). (p ≡ []) × (new.buffered ++ l ≡ []) in
+        let behind = known-behind (λ p q. (p ≡ []) × (q ≡ [])) (pending reader now.source.left) source.left new.buffered takes.given in
         record {
+          met = was.met;
+          asked = was.asked;
+          askable = stop-script new.taken (λ p l. (p ≡ []) × (new.buffered ++ l ≡ [])) (λ c s. AreAskable (given_by c was.met tick) first (script s)) (λ c s p l _ played _ _. askable-all c tick first was.met s p reader.ended store.setting refused before.sink now.sink was.answered played) behind took.total;
           played =
-              known-script (λ s p. Goes tick first s p reader.ended store.setting refused before.sink now.sink) (λ p l. (p ≡ []) × (new.buffered ++ l ≡ [])) (λ s l. new.taken + length l ≡ 0 + length s)
-              (λ s. Played false tick (finished_status refused) first s before (outside source now.sink) (Stands (seen old) (image old) first) (image mid)) before.source.left (pending reader now.source.left) source.left
-              (λ s p l left_is goes none total.
-              played-end tick first (Stands (seen old) (image old) first) (image mid) s p l new.buffered new.taken reader.ended store.setting refused before (outside source now.sink) goes left_is was.passed none total takes.advances
+              stop-script new.taken (λ p l. (p ≡ []) × (new.buffered ++ l ≡ [])) (λ c s. Played false (given_by c was.met tick) (finished_status refused) first s before (outside source now.sink) (Stands (seen old) (image old) first) (image mid))
+              (λ c s p l left_is played none total.
+              played-end (given_by c was.met tick) (given_by c [] tick) first (Stands (seen old) (image old) first) (image mid) s p l new.buffered new.taken reader.ended store.setting refused before (outside source now.sink) played.goes left_is was.passed none total takes.advances
               (λ stands. stands-each (seen mid) (image mid) store.setting (was.stands stands)))
-              was.goes (known-behind (λ p q. (p ≡ []) × (q ≡ [])) (pending reader now.source.left) source.left new.buffered takes.given) took.total;
+              behind took.total;
           opened = (finished-facts refused).1;
-          moments = was.moments;
+          moments = stop-script new.taken (λ p l. (p ≡ []) × (new.buffered ++ l ≡ [])) (λ c s. Stands (seen old) (image old) first → LeavesOnly moment image_since old mid (Holds (IsTreeOf (given_by c was.met tick) first s))) (λ c s p l _ played _ _. all-moments c s p played) behind took.total;
           ends = ends-finished refused new before (outside source now.sink) took was.wrote was.passed;
           names = was.names;
           reported = no-fault (is_disk_fault (finished_status refused)) (faults old) (faults mid) (finished-facts refused).0 was.quiet;
         }
 
-    -- a line was taken
-    module _ {source : SourceSeen} {next : Reading} {line : TakenLine} (takes : TakesLine reader next now.source source (Some line)) where
-      -- what is known of the script then, and of what is left
-      given-script : (R : List ℕ → Type 0) → ((s p l : List ℕ) → Some l ≡ source.left → Goes tick first s p false store.setting refused before.sink now.sink → GivesFrom (Some line) next.ended p (next.buffered ++ l) → R s) → IfSome before.source.left R
-      given-script R follows =
-          known-script (λ s p. Goes tick first s p reader.ended store.setting refused before.sink now.sink) (λ p l. GivesFrom (Some line) next.ended p (next.buffered ++ l)) (λ s l. next.taken + length l ≡ 0 + length s) R
-          before.source.left (pending reader now.source.left) source.left
-          (λ s p l left_is goes gives total. follows s p l left_is (open-goes tick first s p reader.ended store.setting refused before.sink now.sink goes line next.ended (next.buffered ++ l) gives) gives)
-          was.goes (known-behind (GivesFrom (Some line) next.ended) (pending reader now.source.left) source.left next.buffered takes.given)
-          (leaves-then false fresh_reader reader next before.source now.source source was.source takes.source).total
+    -- a line was taken, and its turns are in hand
+    module _ {source : SourceSeen} {next : Reading} {line : TakenLine} (takes : TakesLine reader next now.source source (Some line)) {left : SpacesSeen} (more : List (Option (List ℕ))) (asks : HaveAsked spaces_now left more) (here : List Turn) (few : length here ≤ 1)
+        (leads : stored (left_by store.setting here).state ≡ apply_all (stored store.setting.state) (all_events here)) (told : IfSome spaces_now.contents (λ c. AreTurns c more tick store.setting (items_of_taken line) here)) where
+      all-asked : HaveAsked spaces left (was.met ++ more)
+      all-asked = record {
+        stay = record {
+          attached = asks.stay.attached ∙ was.asked.stay.attached;
+          contents = asks.stay.contents ∙ was.asked.stay.contents;
+          later = omega (arith, was.asked.stay.later, asks.stay.later);
+        };
+        count = asks.count ∙ ap (λ (n : ℕ). faults_after n more) was.asked.count ∙ sym (faults-append spaces.faults was.met more);
+      }
 
-      -- what a crash leaves at each moment
-      line-moments : (new : D) → (Stands (seen mid) (image mid) store.setting → LeavesOnly moment image_since mid new (Holds (IsTreeAfter (stored store.setting.state) (all_events (turns (ticking tick) store.setting (items_of_taken line)))))) →
-          IfSome before.source.left (λ s. Stands (seen old) (image old) first → LeavesOnly moment image_since old new (Holds (IsTreeOf tick first s)))
-      line-moments new run =
-          let here = Holds (IsTreeAfter (stored store.setting.state) (all_events (turns (ticking tick) store.setting (items_of_taken line)))) in
-          both before.source.left (λ s. Stands (seen old) (image old) first → LeavesOnly moment image_since old mid (Holds (IsTreeOf tick first s)))
-          (λ s. (c : List ℕ) → Holds (IsTreeAfter (stored store.setting.state) (all_events (turns (ticking tick) store.setting (items_of_taken line)))) c → Holds (IsTreeOf tick first s) c)
-          (λ s. Stands (seen old) (image old) first → LeavesOnly moment image_since old new (Holds (IsTreeOf tick first s)))
-          (λ s so_far then_all stands. then_run moment image_since old mid new (Holds (IsTreeOf tick first s)) (so_far stands) (weaken moment image_since mid new here (Holds (IsTreeOf tick first s)) then_all (run (was.stands stands))))
-          was.moments
-          (given-script (λ s. (c : List ℕ) → Holds (IsTreeAfter (stored store.setting.state) (all_events (turns (ticking tick) store.setting (items_of_taken line)))) c → Holds (IsTreeOf tick first s) c)
-          (λ s p l _ goes gives.
-          tree-of-line tick first s p false store.setting refused before.sink now.sink goes (items_of_taken line) (play (ticking tick) (left_by store.setting (turns (ticking tick) store.setting (items_of_taken line))) (next.buffered ++ l))
-          (turns-next tick line next.ended p (next.buffered ++ l) store.setting gives)))
+      -- what is known of the script then, and of what is left
+      given-script : (R : Contents → List ℕ → Type 0) →
+          ((c : Contents) (s p l : List ℕ) → Some l ≡ source.left → IsPlayed c was.met tick first s p false store.setting refused before.sink now.sink was.answered → GivesTaken line next.ended p (next.buffered ++ l) → AreTurns c more tick store.setting (items_of_taken line) here → R c s) →
+          IfSome spaces.contents (λ c. IfSome before.source.left (R c))
+      given-script R follows = by spaces.contents was.goes (subst (λ (o : Option Contents). IfSome o (λ c. AreTurns c more tick store.setting (items_of_taken line) here)) was.asked.stay.contents told)
+        where
+          by : (o : Option Contents) → IfSome o (λ c. Known (λ s p. IsPlayed c was.met tick first s p reader.ended store.setting refused before.sink now.sink was.answered) before.source.left (pending reader now.source.left)) →
+              IfSome o (λ c. AreTurns c more tick store.setting (items_of_taken line) here) → IfSome o (λ c. IfSome before.source.left (R c))
+          by None goes are = search rules
+          by (Some c) goes are =
+              known-script (λ s p. IsPlayed c was.met tick first s p reader.ended store.setting refused before.sink now.sink was.answered) (λ p l. GivesFrom (Some line) next.ended p (next.buffered ++ l)) (λ s l. next.taken + length l ≡ 0 + length s) (R c)
+              before.source.left (pending reader now.source.left) source.left
+              (λ s p l left_is played gives total. follows c s p l left_is (open-played c tick first was.met s p reader.ended store.setting refused before.sink now.sink was.answered played line next.ended (next.buffered ++ l) gives) gives are)
+              goes (known-behind (GivesFrom (Some line) next.ended) (pending reader now.source.left) source.left next.buffered takes.given)
+              (leaves-then false fresh_reader reader next before.source now.source source was.source takes.source).total
+
+      -- what a crash leaves: the tree after some of the events of the turns so far, and of those in hand
+      line-moments : (new : D) → (Stands (seen mid) (image mid) store.setting → LeavesOnly moment image_since mid new (Holds (IsTreeAfter (stored store.setting.state) (all_events here)))) →
+          Stands (seen old) (image old) first → LeavesOnly moment image_since old new (Holds (IsTreeAfter (stored first.state) (all_events (was.answered ++ here))))
+      line-moments new run stands =
+          let s = stored first.state in
+          let so_far = IsTreeAfter (stored first.state) (all_events was.answered) in
+          let on = IsTreeAfter (stored store.setting.state) (all_events here) in
+          let all = IsTreeAfter (stored first.state) (all_events (was.answered ++ here)) in
+          let joined = all_events-append was.answered here in
+          then_run moment image_since old mid new (Holds all)
+          (weaken moment image_since old mid (Holds so_far) (Holds all)
+          (λ c holds. holds-weaker so_far all c (λ t tree. subst (λ (es : List Event). IsTreeAfter (stored first.state) es t) (sym joined) (tree-more s t (all_events was.answered) (all_events here) tree)) holds) (was.moments stands))
+          (weaken moment image_since mid new (Holds on) (Holds all)
+          (λ c holds.
+          holds-weaker on all c (λ t tree. subst (λ (es : List Event). IsTreeAfter (stored first.state) es t) (sym joined) (tree-then s (stored store.setting.state) t (all_events was.answered) (all_events here) was.leads tree)) holds)
+          (run (was.stands stands)))
 
       -- it was answered
-      pub runs-next : {new : D} {sink : SinkSeen} {after : Seen} {refused_now : Bool} → AnswersLine seen image moment image_since attached faults mid new store after now.sink sink (turns (ticking tick) store.setting (items_of_taken line)) →
-          refused_now ≡ (refused || has_refusal (turns (ticking tick) store.setting (items_of_taken line))) → RunsOn seen image moment image_since attached faults old new tick first before (outside source sink) next after refused_now
+      pub runs-next : {new : D} {sink : SinkSeen} {after : Seen} {refused_now : Bool} → AnswersLine seen image moment image_since attached faults mid new store after now.sink sink here →
+          refused_now ≡ (refused || has_refusal here) → RunsOn seen image moment image_since attached faults old new tick first before (outside source sink) spaces left next after refused_now
       runs-next {new} {sink} {after} {refused_now} answers is =
           record {
-            goes =
-                known-joined (λ s p. Goes tick first s p reader.ended store.setting refused before.sink now.sink) (GivesFrom (Some line) next.ended) (λ s q. Goes tick first s q next.ended after.setting refused_now before.sink sink)
-                before.source.left (pending reader now.source.left) (pending next source.left)
-                (λ s p q goes gives.
-                subst (λ (z : Seen). Goes tick first s q next.ended z.setting refused_now before.sink sink) (sym answers.store)
-                (subst (λ (b : Bool). Goes tick first s q next.ended (left_by store.setting (turns (ticking tick) store.setting (items_of_taken line))) b before.sink sink) (sym is)
-                (goes-next tick first s p q line next.ended store.setting refused before.sink now.sink sink (open-goes tick first s p reader.ended store.setting refused before.sink now.sink goes line next.ended q gives) gives answers.replies.written)))
-                was.goes takes.given;
+            met = was.met ++ more;
+            asked = all-asked;
+            answered = was.answered ++ here;
+            leads =
+                ap (λ (z : Seen). stored z.setting.state) answers.store ∙ leads ∙ ap (λ (s : State). apply_all s (all_events here)) was.leads ∙ sym (apply_all-append (all_events was.answered) (all_events here) (stored first.state))
+                ∙ ap (apply_all (stored first.state)) (sym (all_events-append was.answered here));
+            goes = goes_by spaces.contents was.goes (subst (λ (o : Option Contents). IfSome o (λ c. AreTurns c more tick store.setting (items_of_taken line) here)) was.asked.stay.contents told);
             reads = takes.reader;
             source = leaves-then false fresh_reader reader next before.source now.source source was.source takes.source;
             passed = λ none. answers.replies.passed (was.passed none);
@@ -220,36 +283,63 @@ module _ {D : Type 0} {seen : D → Option (List ℕ)} {image : D → List ℕ �
             names = answers.stores.names ∙ was.names;
             quiet = answers.stores.reported ∙ was.quiet;
           }
-
-      -- the turns in hand
-      abbrev here : List Turn
-      here = turns (ticking tick) store.setting (items_of_taken line)
+        where
+          goes_by : (o : Option Contents) → IfSome o (λ c. Known (λ s p. IsPlayed c was.met tick first s p reader.ended store.setting refused before.sink now.sink was.answered) before.source.left (pending reader now.source.left)) →
+              IfSome o (λ c. AreTurns c more tick store.setting (items_of_taken line) here) →
+              IfSome o (λ c. Known (λ s q. IsPlayed c (was.met ++ more) tick first s q next.ended after.setting refused_now before.sink sink (was.answered ++ here)) before.source.left (pending next source.left))
+          goes_by None goes are = search rules
+          goes_by (Some c) goes are =
+              known-joined (λ s p. IsPlayed c was.met tick first s p reader.ended store.setting refused before.sink now.sink was.answered) (GivesFrom (Some line) next.ended)
+              (λ s q. IsPlayed c (was.met ++ more) tick first s q next.ended after.setting refused_now before.sink sink (was.answered ++ here))
+              before.source.left (pending reader now.source.left) (pending next source.left)
+              (λ s p q played gives.
+              subst (λ (z : Seen). IsPlayed c (was.met ++ more) tick first s q next.ended z.setting refused_now before.sink sink (was.answered ++ here)) (sym answers.store)
+              (subst (λ (b : Bool). IsPlayed c (was.met ++ more) tick first s q next.ended (left_by store.setting here) b before.sink sink (was.answered ++ here)) (sym is)
+              (played-next c tick first was.met more s p q store.setting refused before.sink now.sink was.answered here (open-played c tick first was.met s p reader.ended store.setting refused before.sink now.sink was.answered played line next.ended q gives)
+              line next.ended gives are sink answers.replies.written)))
+              goes takes.given
 
       -- what is known of the events of a command is known of its turn
-      stores-wider : (new : D) (failed : Bool) → Stores seen image moment image_since attached faults mid new store.setting (command_events (turns (ticking tick) store.setting (items_of_taken line))) failed →
-          Stores seen image moment image_since attached faults mid new store.setting (all_events (turns (ticking tick) store.setting (items_of_taken line))) failed
+      stores-wider : (new : D) (failed : Bool) → Stores seen image moment image_since attached faults mid new store.setting (command_events here) failed → Stores seen image moment image_since attached faults mid new store.setting (all_events here) failed
       stores-wider new failed stores =
           let s = stored store.setting.state in
-          let commands = command_events (turns (ticking tick) store.setting (items_of_taken line)) in
-          let all = all_events (turns (ticking tick) store.setting (items_of_taken line)) in
+          let commands = command_events here in
+          let all = all_events here in
           record {
             moments = λ stands.
                 weaken moment image_since mid new (Holds (IsTreeAfter s commands)) (Holds (IsTreeAfter s all))
-                (λ c holds. holds-weaker (IsTreeAfter s commands) (IsTreeAfter s all) c (λ t tree. answered-tree s t here 0 (none-answered s t here (few-items tick line store.setting) tree)) holds) (stores.moments stands);
+                (λ c holds. holds-weaker (IsTreeAfter s commands) (IsTreeAfter s all) c (λ t tree. answered-tree s t here 0 (none-answered s t here few tree)) holds) (stores.moments stands);
             names = stores.names;
             reported = stores.reported;
           }
 
       -- its answer stopped
       module _ (counts_now : (disk : D) (t : ℕ) (c : List ℕ) → t ≤ moment disk → image disk c → image_since disk t c) {new : D} {sink : SinkSeen} where
-        cut-with : (status : Status) → Stores seen image moment image_since attached faults mid new store.setting (all_events (turns (ticking tick) store.setting (items_of_taken line))) (is_disk_fault status) → IsOpenStatus status →
+        cut-with : (status : Status) → Stores seen image moment image_since attached faults mid new store.setting (all_events here) (is_disk_fault status) → IsOpenStatus status →
             is_read_fault status ≡ false → ReportsFault (is_write_fault status) before.sink.faults sink.faults → ((status ≡ WriteFault → ⊥) → before.sink.held_back ≡ 0 → sink.held_back ≡ 0) →
-            IfSome before.source.left (λ s. Played false tick status first s before (outside source sink) (Stands (seen old) (image old) first) (image new)) → PlaysStore seen image moment image_since attached faults old new tick first before (outside source sink) status
+            IfSome spaces.contents (λ c. IfSome before.source.left (λ s. Played false (given_by c (was.met ++ more) tick) status first s before (outside source sink) (Stands (seen old) (image old) first) (image new))) →
+            PlaysStore seen image moment image_since attached faults old new tick first before (outside source sink) spaces left status
         cut-with status stores opened reads writes passed played =
             record {
               opened = opened;
+              met = was.met ++ more;
+              asked = all-asked;
+              askable = given-script (λ c s. AreAskable (given_by c (was.met ++ more) tick) first (script s))
+                  (λ c s p l _ played gives are. here-askable c tick first was.met more s p (next.buffered ++ l) store.setting refused before.sink now.sink was.answered here played line next.ended gives are);
               played = played;
-              moments = line-moments new stores.moments;
+              moments = given-script (λ c s. Stands (seen old) (image old) first → LeavesOnly moment image_since old new (Holds (IsTreeOf (given_by c (was.met ++ more) tick) first s)))
+                  (λ c s p l _ played gives are stands.
+                  let given = given_by c (was.met ++ more) tick in
+                  let rest = play (given_after (given_by c more tick) here) (left_by store.setting here) (next.buffered ++ l) in
+                  let all = here-all c tick first was.met more s p (next.buffered ++ l) store.setting refused before.sink now.sink was.answered here played line next.ended gives are in
+                  let so_far = IsTreeAfter (stored first.state) (all_events (was.answered ++ here)) in
+                  weaken moment image_since old new (Holds so_far) (Holds (IsTreeOf given first s))
+                  (λ i holds.
+                  holds-weaker so_far (IsTreeOf given first s) i
+                  (λ t tree.
+                  subst (λ (es : List Event). IsTreeAfter (stored first.state) es t) (sym (ap all_events all ∙ all_events-append (was.answered ++ here) rest))
+                  (tree-more (stored first.state) t (all_events (was.answered ++ here)) (all_events rest) tree)) holds)
+                  (line-moments new stores.moments stands));
               ends =
                   ends-of status next before (outside source sink)
                   (subst (λ (b : Bool). LeavesSource b fresh_reader next before.source source) (sym reads) (leaves-then false fresh_reader reader next before.source now.source source was.source takes.source)) writes passed;
@@ -258,53 +348,61 @@ module _ {D : Type 0} {seen : D → Option (List ℕ)} {image : D → List ℕ �
             }
 
         -- none of its reply was written
-        cut-before : (status : Status) → StopsReply seen image moment image_since attached faults mid new store.setting now.sink sink (turns (ticking tick) store.setting (items_of_taken line)) status → sink ≡ now.sink → IsOpenStatus status → is_read_fault status ≡ false → is_write_fault status ≡ false →
-            ((s left : List ℕ) (done : ℕ) → AnswersBy tick status first s done (Some left)) → (IsFinished status → ⊥) → PlaysStore seen image moment image_since attached faults old new tick first before (outside source sink) status
+        cut-before : (status : Status) → StopsReply seen image moment image_since attached faults mid new store.setting now.sink sink here status → sink ≡ now.sink → IsOpenStatus status → is_read_fault status ≡ false → is_write_fault status ≡ false →
+            ((given : Given) (s left : List ℕ) (done : ℕ) → AnswersBy given status first s done (Some left)) → (IsFinished status → ⊥) → PlaysStore seen image moment image_since attached faults old new tick first before (outside source sink) spaces left status
         cut-before status stop same opened reads writes answers unfinished =
             let passed : before.sink.held_back ≡ 0 → sink.held_back ≡ 0 = λ none. ap (λ (k : SinkSeen). k.held_back) same ∙ was.passed none in
             let now_is = stored store.setting.state in
             cut-with status (stores-wider new (is_disk_fault status) stop.stores) opened reads (no-fault (is_write_fault status) before.sink.faults sink.faults writes (ap (λ (k : SinkSeen). k.faults) same ∙ was.wrote)) (λ _. passed)
-            (given-script (λ s. Played false tick status first s before (outside source sink) (Stands (seen old) (image old) first) (image new))
-            (λ s p l left_is goes gives.
-            let goes_on = subst (λ (k : SinkSeen). Goes tick first s p false store.setting refused before.sink k) (sym same) goes in
-            played-stop tick first (Stands (seen old) (image old) first) (image new) status Memory s p l false store.setting refused before (outside source sink) goes_on left_is
-            passed (line-stops line next.ended p next.buffered l gives takes.advances.near) (answers s l _)
-            (λ stands c left.
+            (given-script (λ c s. Played false (given_by c (was.met ++ more) tick) status first s before (outside source sink) (Stands (seen old) (image old) first) (image new))
+            (λ c s p l left_is played gives are.
+            let given = given_by c (was.met ++ more) tick in
+            let later = given_by c more tick in
+            let goes_on = subst (λ (k : SinkSeen). Goes (given_by c (was.met ++ more) tick) (given_by c more tick) first s p false store.setting refused before.sink k) (sym same)
+            (here-goes c tick first was.met more s p (next.buffered ++ l) store.setting refused before.sink now.sink was.answered here played line next.ended gives are) in
+            played-stop given later first (Stands (seen old) (image old) first) (image new) status Memory s p l false store.setting refused before (outside source sink) goes_on left_is
+            passed (line-stops line next.ended p next.buffered l gives takes.advances.near) (answers given s l _)
+            (λ stands i left_now.
             let run = stop.stores.moments (was.stands stands) in
-            answered-so_far tick first s p false store.setting refused before.sink sink goes_on here (play (ticking tick) (left_by store.setting (turns (ticking tick) store.setting (items_of_taken line))) (next.buffered ++ l))
-            (turns-next tick line next.ended p (next.buffered ++ l) store.setting gives) c
-            (holds-weaker (IsTreeAfter now_is (command_events here)) (IsTreeOfAnswered now_is here 0) c (λ t tree. none-answered now_is t here (few-items tick line store.setting) tree)
-            (run.each c (counts_now new (moment mid) c run.later left))))
+            answered-so_far given later first s p false store.setting refused before.sink sink goes_on here (play (given_after later here) (left_by store.setting here) (next.buffered ++ l))
+            (here-next c tick first was.met more s p (next.buffered ++ l) store.setting refused before.sink now.sink was.answered here played line next.ended gives are) i
+            (holds-weaker (IsTreeAfter now_is (command_events here)) (IsTreeOfAnswered now_is here 0) i (λ t tree. none-answered now_is t here few tree)
+            (run.each i (counts_now new (moment mid) i run.later left_now))))
             (λ _ finished. absurd (unfinished finished))))
 
         -- all of its reply was written
-        cut-behind : (status : Status) → StopsBehind seen image moment image_since attached faults mid new store.setting now.sink sink (turns (ticking tick) store.setting (items_of_taken line)) status → IsOpenStatus status → is_read_fault status ≡ false → is_write_fault status ≡ false →
-            ((s left : List ℕ) (done : ℕ) → AnswersBy tick status first s done (Some left)) → (IsFinished status → ⊥) → PlaysStore seen image moment image_since attached faults old new tick first before (outside source sink) status
+        cut-behind : (status : Status) → StopsBehind seen image moment image_since attached faults mid new store.setting now.sink sink here status → IsOpenStatus status → is_read_fault status ≡ false → is_write_fault status ≡ false →
+            ((given : Given) (s left : List ℕ) (done : ℕ) → AnswersBy given status first s done (Some left)) → (IsFinished status → ⊥) → PlaysStore seen image moment image_since attached faults old new tick first before (outside source sink) spaces left status
         cut-behind status stop opened reads writes answers unfinished =
             let passed : before.sink.held_back ≡ 0 → sink.held_back ≡ 0 = λ none. stop.replies.passed (was.passed none) in
             cut-with status stop.stores opened reads (no-fault (is_write_fault status) before.sink.faults sink.faults writes (stop.replies.faults ∙ was.wrote)) (λ _. passed)
-            (given-script (λ s. Played false tick status first s before (outside source sink) (Stands (seen old) (image old) first) (image new))
-            (λ s p l left_is goes gives.
-            played-behind tick first (Stands (seen old) (image old) first) (image new) status s p l next.buffered line next.ended store.setting refused now.sink before (outside source sink) goes left_is passed gives takes.advances.near
-            stop.replies.written (answers s l) unfinished (λ stands c left. stop.left (was.stands stands) c left)))
+            (given-script (λ c s. Played false (given_by c (was.met ++ more) tick) status first s before (outside source sink) (Stands (seen old) (image old) first) (image new))
+            (λ c s p l left_is played gives are.
+            let given = given_by c (was.met ++ more) tick in
+            let later = given_by c more tick in
+            played-behind given later first (Stands (seen old) (image old) first) (image new) status s p l next.buffered line next.ended store.setting refused now.sink before (outside source sink)
+            (here-goes c tick first was.met more s p (next.buffered ++ l) store.setting refused before.sink now.sink was.answered here played line next.ended gives are) left_is passed gives takes.advances.near
+            (subst (λ (ts : List Turn). Appends now.sink.written sink.written (turns_text ts)) are.are stop.replies.written) (answers given s l) unfinished
+            (λ stands i left_now. subst (λ (ts : List Turn). Holds (IsTreeOfAnswered (stored store.setting.state) ts (length ts)) i) are.are (stop.left (was.stands stands) i left_now))))
 
-        reply-by : (status : Status) → StopsReply seen image moment image_since attached faults mid new store.setting now.sink sink (turns (ticking tick) store.setting (items_of_taken line)) status → PlaysStore seen image moment image_since attached faults old new tick first before (outside source sink) status
+        reply-by : (status : Status) → StopsReply seen image moment image_since attached faults mid new store.setting now.sink sink here status → PlaysStore seen image moment image_since attached faults old new tick first before (outside source sink) spaces left status
         reply-by WriteFault stop =
             cut-with WriteFault (stores-wider new false stop.stores) tt refl (told-since true before.sink.faults now.sink.faults sink.faults was.wrote stop.replies.1) (λ other. absurd (other refl))
-            (given-script (λ s. Played false tick WriteFault first s before (outside source sink) (Stands (seen old) (image old) first) (image new))
-            (λ s p l left_is goes gives.
-            played-cut tick first (Stands (seen old) (image old) first) (image new) s p l next.buffered line next.ended store.setting refused now.sink before (outside source sink) goes left_is was.passed gives takes.advances.near stop.replies.0
-            (λ stands. stop.stored refl (was.stands stands))))
-        reply-by DiskFault stop = cut-before DiskFault stop stop.replies tt refl refl (λ s left done. tt) (λ never. never)
-        reply-by Memory stop = cut-before Memory stop stop.replies tt refl refl (λ s left done. tt) (λ never. never)
+            (given-script (λ c s. Played false (given_by c (was.met ++ more) tick) WriteFault first s before (outside source sink) (Stands (seen old) (image old) first) (image new))
+            (λ c s p l left_is played gives are.
+            played-cut (given_by c (was.met ++ more) tick) (given_by c more tick) first (Stands (seen old) (image old) first) (image new) s p l next.buffered line next.ended store.setting refused now.sink before (outside source sink)
+            (here-goes c tick first was.met more s p (next.buffered ++ l) store.setting refused before.sink now.sink was.answered here played line next.ended gives are) left_is was.passed gives takes.advances.near
+            (subst (λ (ts : List Turn). WritesSome now.sink sink (turns_text ts)) are.are stop.replies.0)
+            (λ stands i left_now. subst (λ (ts : List Turn). Holds (λ now. now ≡ apply_all (stored store.setting.state) (command_events ts)) i) are.are (stop.stored refl (was.stands stands) i left_now))))
+        reply-by DiskFault stop = cut-before DiskFault stop stop.replies tt refl refl (λ given s left done. tt) (λ never. never)
+        reply-by Memory stop = cut-before Memory stop stop.replies tt refl refl (λ given s left done. tt) (λ never. never)
         reply-by other stop = absurd stop.replies
 
-        behind-by : (status : Status) → StopsBehind seen image moment image_since attached faults mid new store.setting now.sink sink (turns (ticking tick) store.setting (items_of_taken line)) status → PlaysStore seen image moment image_since attached faults old new tick first before (outside source sink) status
-        behind-by DiskFault stop = cut-behind DiskFault stop tt refl refl (λ s left done. tt) (λ never. never)
-        behind-by Memory stop = cut-behind Memory stop tt refl refl (λ s left done. tt) (λ never. never)
+        behind-by : (status : Status) → StopsBehind seen image moment image_since attached faults mid new store.setting now.sink sink here status → PlaysStore seen image moment image_since attached faults old new tick first before (outside source sink) spaces left status
+        behind-by DiskFault stop = cut-behind DiskFault stop tt refl refl (λ given s left done. tt) (λ never. never)
+        behind-by Memory stop = cut-behind Memory stop tt refl refl (λ given s left done. tt) (λ never. never)
         behind-by other stop = absurd stop.why
 
-        pub runs-cut : {status : Status} → StopsAnswer seen image moment image_since attached faults mid new store.setting now.sink sink (turns (ticking tick) store.setting (items_of_taken line)) status →
-            PlaysStore seen image moment image_since attached faults old new tick first before (outside source sink) status
+        pub runs-cut : {status : Status} → StopsAnswer seen image moment image_since attached faults mid new store.setting now.sink sink here status → PlaysStore seen image moment image_since attached faults old new tick first before (outside source sink) spaces left status
         runs-cut {status} (inl stop) = reply-by status stop
         runs-cut {status} (inr stop) = behind-by status stop

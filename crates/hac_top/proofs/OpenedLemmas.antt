@@ -1,12 +1,16 @@
 -- What a crash leaves while a store is opened, and how a run ends, given how it was opened.
-use Rattle.std.proofs.Common.{◌≡◌, ◌⊎◌, ℕ, ◌≤◌, true, false, Bool, List, length, refl, ap, sym, ◌∙◌, subst, arith, rules, inl, inr}
-use Rattle.std.specs.Prelude.{Option, None, Some, Result, Ok, Err, IfOk, IsErr}
+use Rattle.std.proofs.Common.{◌≡◌, ◌⊎◌, ℕ, ◌≤◌, true, false, Bool, List, [], length, refl, ap, sym, ◌∙◌, subst, arith, rules, inl, inr}
+use Rattle.std.specs.Prelude.{⊤, Option, None, Some, Result, Ok, Err, IfOk, IsErr}
 use Rattle.std.specs.Option.{IfSome}
 use Rattle.hac_disk.specs.Images.{IsQuiet, LeavesOnly}
 use Rattle.hac_disk.specs.Contents.{IsSettled}
 use Rattle.hac_disk.proofs.Moments.{quiet_leaves, then_run, weaken}
 use Rattle.hac_outside.specs.Causes.{Rose, ReportsFault}
-use Rattle.hac_model.specs.Run.Play.{Setting, all_events, new_setting, play}
+use Rattle.hac_model.specs.Run.Play.{AreAskable, Given, Setting, all_events, new_setting, play}
+use Rattle.hac_model.specs.Script as Script
+use Rattle.sem_mounts.specs.Seen.{Contents, SpacesSeen}
+use Rattle.hac_top.specs.Asking.{AreMet, IfTold, faults_after, given_by}
+use Rattle.hac_top.proofs.AskLemmas.{askable-none, met-none}
 use Rattle.hac_model.specs.Tree.Sessions.{stored}
 use Rattle.hac_model.specs.declared.events.Event.{Event}
 use Rattle.hac_model.specs.declared.states.State.{State}
@@ -15,7 +19,6 @@ use Rattle.hac_store.specs.Stores.{IsNewOrNone, Stands}
 use Rattle.hac_store.proofs.HeldLemmas.{held-stored}
 use Rattle.hac_top.specs.Crashes.{Holds, IsOpened, IsTreeAfter, IsTreeOfAnswered, Reopens, StopsOpening, IsOfFile, opening_outcome}
 use Rattle.hac_top.specs.Ends.{IsFinished, IsOpenStatus, is_disk_fault}
-use Rattle.hac_top.specs.Ticking.{ticking}
 use Rattle.hac_top.specs.Run.{AnswersBy, Completes, Ends, HasBegun, IsFaultless, IsTreeOf, Outside, Played, Plays, PlaysStore, Ran}
 use Rattle.hac_top.specs.declared.status.Status.{Status}
 use Rattle.hac_top.specs.declared.status.Status.TheVariants.{Done, SomeRefused, ReadFault, WriteFault, DiskFault, NotStore, Memory, TooLong, AlreadyStore}
@@ -91,16 +94,24 @@ no-event : (s now : State) (events : List Event) → now ≡ s → IsTreeAfter s
 no-event s now events same = record { count = 0; within = omega arith; is = same }
 
 -- without a fault the script is played, unless memory runs out
-completes : (tick : ℕ) (status : Status) (setting : Setting) (script : List ℕ) (before after : Outside) → IsOpenStatus status → Plays tick status setting script before after → Ends status before after →
+completes : (given : Given) (status : Status) (setting : Setting) (script : List ℕ) (before after : Outside) → IsOpenStatus status → Plays given status setting script before after → Ends status before after →
     ¬ Rose before.source.faults after.source.faults → ¬ Rose before.sink.faults after.sink.faults → (is_disk_fault status ≡ true → ⊥) → Completes status script
-completes tick Done setting script before after opened plays ends read wrote disk = record { within = λ _. inl tt; past = λ long. absurd (omega (arith, long, plays.answers.within)) }
-completes tick SomeRefused setting script before after opened plays ends read wrote disk = record { within = λ _. inl tt; past = λ long. absurd (omega (arith, long, plays.answers.within)) }
-completes tick ReadFault setting script before after opened plays ends read wrote disk = absurd (read ends.reads.1)
-completes tick WriteFault setting script before after opened plays ends read wrote disk = absurd (wrote ends.writes.1)
-completes tick DiskFault setting script before after opened plays ends read wrote disk = absurd (disk refl)
-completes tick Memory setting script before after opened plays ends read wrote disk = record { within = λ _. inr refl; past = λ _. inr refl }
-completes tick TooLong setting script before after opened plays ends read wrote disk = record { within = λ few. absurd (omega (arith, few, plays.answers.longer)); past = λ _. inl refl }
-completes tick other setting script before after opened plays ends read wrote disk = absurd opened
+completes given Done setting script before after opened plays ends read wrote disk = record { within = λ _. inl tt; past = λ long. absurd (omega (arith, long, plays.answers.within)) }
+completes given SomeRefused setting script before after opened plays ends read wrote disk = record { within = λ _. inl tt; past = λ long. absurd (omega (arith, long, plays.answers.within)) }
+completes given ReadFault setting script before after opened plays ends read wrote disk = absurd (read ends.reads.1)
+completes given WriteFault setting script before after opened plays ends read wrote disk = absurd (wrote ends.writes.1)
+completes given DiskFault setting script before after opened plays ends read wrote disk = absurd (disk refl)
+completes given Memory setting script before after opened plays ends read wrote disk = record { within = λ _. inr refl; past = λ _. inr refl }
+completes given TooLong setting script before after opened plays ends read wrote disk = record { within = λ few. absurd (omega (arith, few, plays.answers.longer)); past = λ _. inl refl }
+completes given other setting script before after opened plays ends read wrote disk = absurd opened
+
+-- where commands met nothing
+pub told-none : (old new : SpacesSeen) (tick : ℕ) (setting : Setting) (bytes : List ℕ) (P : Given → Type 0) → old.faults ≤ new.faults → ((given : Given) → P given) → IfTold old new tick setting bytes P
+told-none old new tick setting bytes P later holds = by new.contents
+  where
+    by : (o : Option Contents) → IfSome o (λ c. (met : List (Option (List ℕ))) × AreMet old new (given_by c met tick) setting bytes × P (given_by c met tick))
+    by None = search rules
+    by (Some c) = ([], record { askable = askable-none c tick setting (Script.script bytes); counted = later; none = λ _. refl }, holds (given_by c [] tick))
 
 -- a disk whose count hasn't risen hasn't failed
 no-disk : (failed : Bool) (before now : ℕ) → ReportsFault failed before now → ¬ Rose before now → failed ≡ true → ⊥
@@ -119,90 +130,117 @@ module _ {D : Type 0} (seen : D → Option (List ℕ)) (image : D → List ℕ �
   Opening fresh settled old new setting = settled → LeavesOnly moment image_since old new (Reopens fresh (λ s. s ≡ stored setting.state))
 
   -- a store was opened
-  module _ (counts_now : (disk : D) (t : ℕ) (c : List ℕ) → t ≤ moment disk → image disk c → image_since disk t c) (fresh : Bool) (tick : ℕ) (settled : Type 0) (old mid new : D) (setting : Setting) (before after : Outside) (status : Status)
-      (plays : PlaysStore seen image moment image_since attached faults mid new tick setting before after status) (quiet : faults mid ≡ faults old) where
-    ran-from : (script : List ℕ) → Stands (seen mid) (image mid) setting → Opening fresh settled old mid setting → Played false tick status setting script before after (Stands (seen mid) (image mid) setting) (image new) →
-        (Stands (seen mid) (image mid) setting → LeavesOnly moment image_since mid new (Holds (IsTreeOf tick setting script))) →
-        Ran fresh tick status setting script before after settled (image new) (LeavesOnly moment image_since old new) (IsFaultless before after (faults old) (faults new))
-    ran-from script stands opening played moments =
-        let events = all_events (play (ticking tick) setting script) in
+  module _ (counts_now : (disk : D) (t : ℕ) (c : List ℕ) → t ≤ moment disk → image disk c → image_since disk t c) (fresh : Bool) (tick : ℕ) (settled : Type 0) (old mid new : D) (setting : Setting) (before after : Outside) (spaces left : SpacesSeen) (status : Status)
+      (plays : PlaysStore seen image moment image_since attached faults mid new tick setting before after spaces left status) (quiet : faults mid ≡ faults old) where
+    ran-from : (given : Given) (script : List ℕ) → Stands (seen mid) (image mid) setting → Opening fresh settled old mid setting → Played false given status setting script before after (Stands (seen mid) (image mid) setting) (image new) →
+        (Stands (seen mid) (image mid) setting → LeavesOnly moment image_since mid new (Holds (IsTreeOf given setting script))) →
+        Ran fresh given status setting script before after settled (image new) (LeavesOnly moment image_since old new) (IsFaultless before after (faults old) (faults new))
+    ran-from given script stands opening played moments =
+        let events = all_events (play given setting script) in
         record {
           played = record {
             plays = played.plays;
-            reopens = λ _ c left. reopens fresh (IsTreeOfAnswered (stored setting.state) (play (ticking tick) setting script) played.plays.replies.done) c (played.reopens stands c left);
+            reopens = λ _ c left. reopens fresh (IsTreeOfAnswered (stored setting.state) (play given setting script) played.plays.replies.done) c (played.reopens stands c left);
             kept = λ _. played.kept stands;
           };
           moments = λ settles.
-              then_run moment image_since old mid new (Reopens fresh (IsTreeOf tick setting script))
-              (weaken moment image_since old mid (Reopens fresh (λ s. s ≡ stored setting.state)) (Reopens fresh (IsTreeOf tick setting script))
-              (λ c holds. reopens-weaker fresh (λ s. s ≡ stored setting.state) (IsTreeOf tick setting script) c (λ s same. no-event (stored setting.state) s events same) holds) (opening settles))
-              (weaken moment image_since mid new (Holds (IsTreeOf tick setting script)) (Reopens fresh (IsTreeOf tick setting script)) (λ c holds. reopens fresh (IsTreeOf tick setting script) c holds) (moments stands));
+              then_run moment image_since old mid new (Reopens fresh (IsTreeOf given setting script))
+              (weaken moment image_since old mid (Reopens fresh (λ s. s ≡ stored setting.state)) (Reopens fresh (IsTreeOf given setting script))
+              (λ c holds. reopens-weaker fresh (λ s. s ≡ stored setting.state) (IsTreeOf given setting script) c (λ s same. no-event (stored setting.state) s events same) holds) (opening settles))
+              (weaken moment image_since mid new (Holds (IsTreeOf given setting script)) (Reopens fresh (IsTreeOf given setting script)) (λ c holds. reopens fresh (IsTreeOf given setting script) c holds) (moments stands));
           begun = λ _ _ c left.
               let run = moments stands in
               run.each c (counts_now new (moment mid) c run.later left);
           complete = λ none.
-              completes tick status setting script before after plays.opened played.plays plays.ends none.0 none.1
+              completes given status setting script before after plays.opened played.plays plays.ends none.0 none.1
               (no-disk (is_disk_fault status) (faults old) (faults new) (told-since (is_disk_fault status) (faults old) (faults mid) (faults new) quiet plays.reported) none.2);
         }
 
+    -- the faults that it met are those of the script
+    ran-met : (c : Contents) (script : List ℕ) → AreAskable (given_by c plays.met tick) setting (Script.script script) → AreMet spaces left (given_by c plays.met tick) setting script
+    ran-met c script askable =
+        let counted : faults_after spaces.faults plays.met ≤ left.faults = omega (arith, plays.asked.count) in
+        record { askable = askable; counted = counted; none = met-none spaces.faults left.faults plays.met counted }
+
+    ran-told : (script : Option (List ℕ)) (o : Option Contents) → IfSome o (λ c. IfSome script (λ s. AreAskable (given_by c plays.met tick) setting (Script.script s))) →
+        IfSome o (λ c. IfSome script (λ s. Played false (given_by c plays.met tick) status setting s before after (Stands (seen mid) (image mid) setting) (image new))) →
+        IfSome o (λ c. IfSome script (λ s. Stands (seen mid) (image mid) setting → LeavesOnly moment image_since mid new (Holds (IsTreeOf (given_by c plays.met tick) setting s)))) →
+        Stands (seen mid) (image mid) setting → Opening fresh settled old mid setting →
+        IfSome script (λ s. IfSome o (λ c. (met : List (Option (List ℕ))) × AreMet spaces left (given_by c met tick) setting s ×
+        Ran fresh (given_by c met tick) status setting s before after settled (image new) (LeavesOnly moment image_since old new) (IsFaultless before after (faults old) (faults new))))
+    ran-told None o askable played moments stands opening = search rules
+    ran-told (Some s) None askable played moments stands opening = search rules
+    ran-told (Some s) (Some c) askable played moments stands opening = (plays.met, ran-met c s askable, ran-from (given_by c plays.met tick) s stands opening played moments)
+
     pub ran-opened : (file : Option (List ℕ)) → IfSome file (λ f. opening_outcome fresh (held f) ≡ Ok setting) → IfSome file (λ _. Stands (seen mid) (image mid) setting) →
         IfSome file (λ f. IfOk (opening_outcome fresh (held f)) (Opening fresh settled old mid)) →
-        IfSome file (λ f. IfSome before.source.left (λ script. IfOk (opening_outcome fresh (held f)) (λ z. Ran fresh tick status z script before after settled (image new) (LeavesOnly moment image_since old new) (IsFaultless before after (faults old) (faults new)))))
+        IfSome file (λ f. IfSome before.source.left (λ script. IfOk (opening_outcome fresh (held f)) (λ z. IfTold spaces left tick z script (λ given.
+        Ran fresh given status z script before after settled (image new) (LeavesOnly moment image_since old new) (IsFaultless before after (faults old) (faults new))))))
     ran-opened None is stands opening = search rules
     ran-opened (Some f) is stands opening =
-        both before.source.left (λ script. Played false tick status setting script before after (Stands (seen mid) (image mid) setting) (image new))
-        (λ script. Stands (seen mid) (image mid) setting → LeavesOnly moment image_since mid new (Holds (IsTreeOf tick setting script)))
-        (λ script. IfOk (opening_outcome fresh (held f)) (λ z. Ran fresh tick status z script before after settled (image new) (LeavesOnly moment image_since old new) (IsFaultless before after (faults old) (faults new))))
-        (λ script played moments.
-        subst (λ (r : Result Setting Status). IfOk r (λ z. Ran fresh tick status z script before after settled (image new) (LeavesOnly moment image_since old new) (IsFaultless before after (faults old) (faults new)))) (sym is)
-        (ran-from script stands (subst (λ (r : Result Setting Status). IfOk r (Opening fresh settled old mid)) is opening) played moments))
-        plays.played plays.moments
+        both before.source.left
+        (λ s. IfSome spaces.contents (λ c. (met : List (Option (List ℕ))) × AreMet spaces left (given_by c met tick) setting s ×
+        Ran fresh (given_by c met tick) status setting s before after settled (image new) (LeavesOnly moment image_since old new) (IsFaultless before after (faults old) (faults new))))
+        (λ s. ⊤)
+        (λ script. IfOk (opening_outcome fresh (held f)) (λ z. IfTold spaces left tick z script (λ given.
+        Ran fresh given status z script before after settled (image new) (LeavesOnly moment image_since old new) (IsFaultless before after (faults old) (faults new)))))
+        (λ script ran _.
+        subst (λ (r : Result Setting Status). IfOk r (λ z. IfTold spaces left tick z script (λ given.
+        Ran fresh given status z script before after settled (image new) (LeavesOnly moment image_since old new) (IsFaultless before after (faults old) (faults new))))) (sym is)
+        (subst (λ (o : Option Contents). IfSome o (λ c. (met : List (Option (List ℕ))) × AreMet spaces left (given_by c met tick) setting script ×
+        Ran fresh (given_by c met tick) status setting script before after settled (image new) (LeavesOnly moment image_since old new) (IsFaultless before after (faults old) (faults new)))) (sym plays.asked.stay.contents) ran))
+        (ran-told before.source.left spaces.contents plays.askable plays.played plays.moments stands (subst (λ (r : Result Setting Status). IfOk r (Opening fresh settled old mid)) is opening))
+        (trivial before.source.left)
+      where
+        trivial : (l : Option (List ℕ)) → IfSome l (λ s. ⊤)
+        trivial None = search rules
+        trivial (Some s) = tt
 
   -- no store was opened: the run does nothing, and a crash leaves what it would have gone on from
   module _ (counts_now : (disk : D) (t : ℕ) (c : List ℕ) → t ≤ moment disk → image disk c → image_since disk t c) (fresh : Bool) (tick : ℕ) (settled : Type 0) (old new : D) (before : Outside) where
-    pub ran-none : (faultless : Type 0) (ends : Status) (setting : Setting) (script : List ℕ) → Some script ≡ before.source.left → Opening fresh settled old new setting → ((done : ℕ) → AnswersBy tick ends setting script done (Some script)) →
-        (IsFinished ends → ⊥) → (faultless → Completes ends script) → Ran fresh tick ends setting script before before settled (image new) (LeavesOnly moment image_since old new) faultless
-    ran-none faultless ends setting script left_is opening answers unfinished complete =
-        let goes = goes-first tick setting script false before.sink refl in
-        let done = turns_of tick setting goes.played goes.last in
-        let all_is = turns-are tick setting script script false setting false before.sink before.sink goes in
-        let state_is = state-is tick setting script script false setting false before.sink before.sink goes in
+    pub ran-none : (given : Given) (faultless : Type 0) (ends : Status) (setting : Setting) (script : List ℕ) → Some script ≡ before.source.left → Opening fresh settled old new setting → ((done : ℕ) → AnswersBy given ends setting script done (Some script)) →
+        (IsFinished ends → ⊥) → (faultless → Completes ends script) → Ran fresh given ends setting script before before settled (image new) (LeavesOnly moment image_since old new) faultless
+    ran-none given faultless ends setting script left_is opening answers unfinished complete =
+        let goes = goes-first given given setting script false before.sink refl refl in
+        let done = turns_of given setting goes.played goes.last in
+        let all_is = turns-are given given setting script script false setting false before.sink before.sink goes in
+        let state_is = state-is given given setting script script false setting false before.sink before.sink goes in
         record {
           played = record {
-            plays = plays-stop tick setting ends Memory script script script false setting false before before goes left_is (λ none. none) (nothing-stops script script refl) (answers (length done));
+            plays = plays-stop given given setting ends Memory script script script false setting false before before goes left_is (λ none. none) (nothing-stops script script refl) (answers (length done));
             reopens = λ settles c now.
                 let run = opening settles in
-                reopens-weaker fresh (λ s. s ≡ stored setting.state) (IsTreeOfAnswered (stored setting.state) (play (ticking tick) setting script) (length done)) c
-                (λ s same. all-answered (stored setting.state) s (play (ticking tick) setting script) done (play (ticking tick) setting script) all_is (same ∙ state_is)) (run.each c (counts_now new (moment old) c run.later now));
+                reopens-weaker fresh (λ s. s ≡ stored setting.state) (IsTreeOfAnswered (stored setting.state) (play given setting script) (length done)) c
+                (λ s same. all-answered (stored setting.state) s (play given setting script) done (play given setting script) all_is (same ∙ state_is)) (run.each c (counts_now new (moment old) c run.later now));
             kept = λ _ finished. absurd (unfinished finished);
           };
           moments = λ settles.
-              weaken moment image_since old new (Reopens fresh (λ s. s ≡ stored setting.state)) (Reopens fresh (IsTreeOf tick setting script))
-              (λ c holds. reopens-weaker fresh (λ s. s ≡ stored setting.state) (IsTreeOf tick setting script) c (λ s same. no-event (stored setting.state) s (all_events (play (ticking tick) setting script)) same) holds) (opening settles);
+              weaken moment image_since old new (Reopens fresh (λ s. s ≡ stored setting.state)) (Reopens fresh (IsTreeOf given setting script))
+              (λ c holds. reopens-weaker fresh (λ s. s ≡ stored setting.state) (IsTreeOf given setting script) c (λ s same. no-event (stored setting.state) s (all_events (play given setting script)) same) holds) (opening settles);
           begun = λ _ begun. absurd (not-begun ends before unfinished begun);
           complete = complete;
         }
 
-    pub ran-unopened : (ends : Status) → StopsOpening ends → ReportsFault (is_disk_fault ends) (faults old) (faults new) → (file : Option (List ℕ)) → IfSome file (λ f. IsOpened (Err ends) (opening_outcome fresh (held f))) →
+    pub ran-unopened : (spaces : SpacesSeen) (ends : Status) → StopsOpening ends → ReportsFault (is_disk_fault ends) (faults old) (faults new) → (file : Option (List ℕ)) → IfSome file (λ f. IsOpened (Err ends) (opening_outcome fresh (held f))) →
         IfSome file (λ f. IfOk (opening_outcome fresh (held f)) (Opening fresh settled old new)) →
-        IfSome file (λ f. IfSome before.source.left (λ script. IfOk (opening_outcome fresh (held f)) (λ z. Ran fresh tick ends z script before before settled (image new) (LeavesOnly moment image_since old new) (IsFaultless before before (faults old) (faults new)))))
-    ran-unopened ends why told None opened opening = search rules
-    ran-unopened ends why told (Some f) opened opening = of before.source.left refl
+        IfSome file (λ f. IfSome before.source.left (λ script. IfOk (opening_outcome fresh (held f)) (λ z. IfTold spaces spaces tick z script (λ given. Ran fresh given ends z script before before settled (image new) (LeavesOnly moment image_since old new) (IsFaultless before before (faults old) (faults new))))))
+    ran-unopened spaces ends why told None opened opening = search rules
+    ran-unopened spaces ends why told (Some f) opened opening = of before.source.left refl
       where
-        by : (ends : Status) → StopsOpening ends → ReportsFault (is_disk_fault ends) (faults old) (faults new) → (setting : Setting) (script : List ℕ) → Some script ≡ before.source.left → (IsOfFile ends → Ok setting ≡ Err ends) → Opening fresh settled old new setting →
-            Ran fresh tick ends setting script before before settled (image new) (LeavesOnly moment image_since old new) (IsFaultless before before (faults old) (faults new))
-        by DiskFault why told setting script left_is tells opening = ran-none (IsFaultless before before (faults old) (faults new)) DiskFault setting script left_is opening (λ done. tt) (λ never. never) (λ none. absurd (none.2 told.1))
-        by Memory why told setting script left_is tells opening = ran-none (IsFaultless before before (faults old) (faults new)) Memory setting script left_is opening (λ done. tt) (λ never. never) (λ _. record { within = λ _. inr refl; past = λ _. inr refl })
-        by (NotStore at) why told setting script left_is tells opening = absurd (let never : Ok setting ≡ Err (NotStore at) = tells tt in cc)
-        by AlreadyStore why told setting script left_is tells opening = absurd (let never : Ok setting ≡ Err AlreadyStore = tells tt in cc)
-        by other why told setting script left_is tells opening = absurd why
+        by : (given : Given) (ends : Status) → StopsOpening ends → ReportsFault (is_disk_fault ends) (faults old) (faults new) → (setting : Setting) (script : List ℕ) → Some script ≡ before.source.left → (IsOfFile ends → Ok setting ≡ Err ends) → Opening fresh settled old new setting →
+            Ran fresh given ends setting script before before settled (image new) (LeavesOnly moment image_since old new) (IsFaultless before before (faults old) (faults new))
+        by given DiskFault why told setting script left_is tells opening = ran-none given (IsFaultless before before (faults old) (faults new)) DiskFault setting script left_is opening (λ done. tt) (λ never. never) (λ none. absurd (none.2 told.1))
+        by given Memory why told setting script left_is tells opening = ran-none given (IsFaultless before before (faults old) (faults new)) Memory setting script left_is opening (λ done. tt) (λ never. never) (λ _. record { within = λ _. inr refl; past = λ _. inr refl })
+        by given (NotStore at) why told setting script left_is tells opening = absurd (let never : Ok setting ≡ Err (NotStore at) = tells tt in cc)
+        by given AlreadyStore why told setting script left_is tells opening = absurd (let never : Ok setting ≡ Err AlreadyStore = tells tt in cc)
+        by given other why told setting script left_is tells opening = absurd why
 
         at : (r : Result Setting Status) (script : List ℕ) → Some script ≡ before.source.left → IsOpened (Err ends) r → IfOk r (Opening fresh settled old new) →
-            IfOk r (λ z. Ran fresh tick ends z script before before settled (image new) (LeavesOnly moment image_since old new) (IsFaultless before before (faults old) (faults new)))
+            IfOk r (λ z. IfTold spaces spaces tick z script (λ given. Ran fresh given ends z script before before settled (image new) (LeavesOnly moment image_since old new) (IsFaultless before before (faults old) (faults new))))
         at (Err wanted) script left_is opened opening = search rules
-        at (Ok setting) script left_is opened opening = by ends why told setting script left_is opened opening
+        at (Ok setting) script left_is opened opening = told-none spaces spaces tick setting script (λ given. Ran fresh given ends setting script before before settled (image new) (LeavesOnly moment image_since old new) (IsFaultless before before (faults old) (faults new))) (omega arith) (λ given. by given ends why told setting script left_is opened opening)
 
         of : (left : Option (List ℕ)) → left ≡ before.source.left →
-            IfSome left (λ script. IfOk (opening_outcome fresh (held f)) (λ z. Ran fresh tick ends z script before before settled (image new) (LeavesOnly moment image_since old new) (IsFaultless before before (faults old) (faults new))))
+            IfSome left (λ script. IfOk (opening_outcome fresh (held f)) (λ z. IfTold spaces spaces tick z script (λ given. Ran fresh given ends z script before before settled (image new) (LeavesOnly moment image_since old new) (IsFaultless before before (faults old) (faults new)))))
         of None left_is = search rules
         of (Some script) left_is = at (opening_outcome fresh (held f)) script left_is opened opening

@@ -1,11 +1,15 @@
 -- The index steps that follow commands by themselves: the turns that have them, and how many there are.
-use Rattle.std.proofs.Common.{◌≡◌, ◌⊎◌, ℕ, zero, suc, ◌+◌, ◌<◌, ◌≤◌, Bool, true, false, List, [], ◌∷◌, ◌++◌, refl, ap, sym, ◌∙◌, arith, append-nil, inl, inr, ⊎_elim}
-use Rattle.std.specs.Prelude.{◌&&◌, nat_lt, if◌then◌else◌, replicate, min, None, Some, Result, Ok, Err, IsTrue}
+use Rattle.std.proofs.Common.{◌≡◌, ◌⊎◌, ℕ, zero, suc, ◌+◌, ◌<◌, ◌≤◌, Bool, true, false, List, [], ◌∷◌, ◌++◌, length, drop, length-append, refl, ap, sym, ◌∙◌, arith, inl, inr, ⊎_elim}
+use Rattle.std.specs.Prelude.{◌&&◌, nat_lt, if◌then◌else◌, replicate, min, Option, None, Some, Result, Ok, Err, IsTrue}
 use Rattle.std.specs.Option.{option_map_or}
 use Rattle.std.proofs.lemmas.Bool.{cases_lt}
 use Rattle.std.proofs.lemmas.Bool.Decides.{nat_tests}
-use Rattle.hac_model.specs.Run.Play.{Setting, Turn, after_events, all_events, answered_turn, can_step, command_turn, end_behind, events_in, have_room, item_turn, left_by, nothing_given, play, refused_turn, steps_behind, turn_cause, turn_of, turns}
+use Rattle.hac_model.specs.Run.Play.{Given, Setting, Turn, after_events, answered_turn, can_step, command_turn, end_behind, given_behind, have_room, item_turn, left_by, line_turn, play, refused_turn, space_answers, steps_behind, turn_cause, turn_of, turns}
+use Rattle.hac_model.specs.Run.Given.{next_fault}
 use Rattle.hac_model.specs.Run.Resolving.{resolve}
+use Rattle.hac_model.specs.declared.replies.Refusal.TheVariants.{SpaceFault}
+use Rattle.sem_mounts.specs.Seen.{Contents}
+use Rattle.hac_top.specs.Asking.{given_by}
 use Rattle.hac_model.specs.Script.Lines.{Item}
 use Rattle.hac_model.specs.Script.{after_item, first_items, script, whole}
 use Rattle.hac_model.specs.Tree.Events.{accepted, apply, dirty}
@@ -16,11 +20,13 @@ use Rattle.hac_model.specs.declared.replies.Refusal.{Refusal}
 use Rattle.hac_model.specs.declared.resolved.Resolved.{Resolved}
 use Rattle.hac_model.proofs.AcyclicLemmas.{apply-valid}
 use Rattle.hac_model.proofs.EventLemmas.{steps-clean, steps-due}
-use Rattle.hac_model.proofs.JoinLemmas.{script-joined}
+use Rattle.hac_model.proofs.JoinLemmas.{script-joined, turns-append}
 use Rattle.hac_model.proofs.ScriptLemmas.{script-step}
 use Rattle.hac_store.specs.Stores.{fit_behind}
 use Rattle.hac_store.proofs.RoomLemmas.{end-steps, steps-have-room}
+use Rattle.hac_top.specs.Run.{given_after}
 use Rattle.hac_top.specs.Ticking.{ticking}
+use Rattle.std.proofs.lemmas.List.{drop-drop}
 
 -- The turn of a line is that without steps, and the steps behind it.
 
@@ -28,49 +34,56 @@ use Rattle.hac_top.specs.Ticking.{ticking}
 abbrev pub ticked : ℕ → Turn → Turn
 ticked tick turn = turn_of (ticking tick) turn.reply turn.events turn.after
 
-command-ticks : (tick : ℕ) (setting : Setting) (r : Result Resolved Refusal) → command_turn (ticking tick) setting r ≡ ticked tick (command_turn nothing_given setting r)
-command-ticks tick setting (Err refusal) = refl
-command-ticks tick setting (Ok command) =
-    elim (turn_cause setting command) as (λ o.
-    option_map_or (refused_turn (ticking tick) setting) o (answered_turn (ticking tick) setting command)
-    ≡ ticked tick (option_map_or (refused_turn nothing_given setting) o (answered_turn nothing_given setting command))) [ None ↦ refl | Some refusal ↦ refl ]
+module _ (contents : Contents) (met : List (Option (List ℕ))) (tick : ℕ) where
+  command-ticks : (setting : Setting) (r : Result Resolved Refusal) → command_turn (given_by contents met tick) setting r ≡ ticked tick (command_turn (given_by contents met 0) setting r)
+  command-ticks setting (Err refusal) = refl
+  command-ticks setting (Ok command) =
+      let answers = space_answers (given_by contents met 0) setting.state command in
+      elim (turn_cause (given_by contents met 0) setting command answers) as (λ o.
+      option_map_or (refused_turn (given_by contents met tick) setting) o (answered_turn (given_by contents met tick) setting command answers)
+      ≡ ticked tick (option_map_or (refused_turn (given_by contents met 0) setting) o (answered_turn (given_by contents met 0) setting command answers))) [ None ↦ refl | Some refusal ↦ refl ]
 
-pub turn-ticks : (tick : ℕ) (setting : Setting) (item : Item) → item_turn (ticking tick) setting item ≡ ticked tick (item_turn nothing_given setting item)
-turn-ticks tick setting (Ok line) = command-ticks tick setting (resolve setting.state line)
-turn-ticks tick setting (Err refusal) = refl
+  line-ticks : (setting : Setting) (item : Item) → line_turn (given_by contents met tick) setting item ≡ ticked tick (line_turn (given_by contents met 0) setting item)
+  line-ticks setting (Ok line) = command-ticks setting (resolve setting.state line)
+  line-ticks setting (Err refusal) = refl
 
--- without steps none follow
-command-steps : (setting : Setting) (r : Result Resolved Refusal) → (command_turn nothing_given setting r).steps ≡ []
-command-steps setting (Err refusal) = refl
-command-steps setting (Ok command) =
-    elim (turn_cause setting command) as (λ o. (option_map_or (refused_turn nothing_given setting) o (answered_turn nothing_given setting command)).steps ≡ []) [ None ↦ refl | Some refusal ↦ refl ]
-
-turn-steps : (setting : Setting) (item : Item) → (item_turn nothing_given setting item).steps ≡ []
-turn-steps setting (Ok line) = command-steps setting (resolve setting.state line)
-turn-steps setting (Err refusal) = refl
-
--- so the events of one turn are those of its command
-pub one-turn : (setting : Setting) (item : Item) → all_events (item_turn nothing_given setting item ∷ []) ≡ (item_turn nothing_given setting item).events
-one-turn setting item =
-    append-nil (events_in (item_turn nothing_given setting item)) ∙ ap (λ (steps : List Event). (item_turn nothing_given setting item).events ++ steps) (turn-steps setting item) ∙ append-nil (item_turn nothing_given setting item).events
+  pub turn-ticks : (setting : Setting) (item : Item) → item_turn (given_by contents met tick) setting item ≡ ticked tick (item_turn (given_by contents met 0) setting item)
+  turn-ticks setting item =
+      elim (next_fault (given_by contents met 0)) as (λ o.
+      option_map_or (λ space. refused_turn (given_by contents met tick) setting (SpaceFault space)) o (line_turn (given_by contents met tick) setting item)
+      ≡ ticked tick (option_map_or (λ space. refused_turn (given_by contents met 0) setting (SpaceFault space)) o (line_turn (given_by contents met 0) setting item))) [
+        | None ↦ line-ticks setting item
+        | Some space ↦ refl
+      ]
 
 -- Turns that are joined go on from what the first ones leave.
 
-pub turns-joined : (tick : ℕ) (setting : Setting) (xs ys : List Item) →
-    turns (ticking tick) setting (xs ++ ys) ≡ turns (ticking tick) setting xs ++ turns (ticking tick) (left_by setting (turns (ticking tick) setting xs)) ys
-turns-joined tick setting [] ys = refl
-turns-joined tick setting (x ∷ xs) ys = ap (λ (more : List Turn). item_turn (ticking tick) setting x ∷ more) (turns-joined tick (item_turn (ticking tick) setting x).after xs ys)
+pub turns-counted : (given : Given) (setting : Setting) (items : List Item) → length (turns given setting items) ≡ length items
+turns-counted given setting [] = refl
+turns-counted given setting (item ∷ items) = ap (λ (n : ℕ). suc n) (turns-counted (given_behind 1 given) (item_turn given setting item).after items)
 
-pub scripts-joined : (tick : ℕ) (setting : Setting) (first second : List ℕ) → whole first ≡ first →
-    play (ticking tick) setting (first ++ second) ≡ play (ticking tick) setting first ++ play (ticking tick) (left_by setting (play (ticking tick) setting first)) second
-scripts-joined tick setting first second lines =
-    ap (turns (ticking tick) setting) (script-joined first second lines) ∙ turns-joined tick setting (script first) (script second)
+pub turns-joined : (given : Given) (setting : Setting) (xs ys : List Item) →
+    turns given setting (xs ++ ys) ≡ turns given setting xs ++ turns (given_after given (turns given setting xs)) (left_by setting (turns given setting xs)) ys
+turns-joined given setting xs ys =
+    let done = turns given setting xs in
+    turns-append given setting xs ys ∙ ap (λ (n : ℕ). done ++ turns (given_behind n given) (left_by setting done) ys) (sym (turns-counted given setting xs))
+
+pub scripts-joined : (given : Given) (setting : Setting) (first second : List ℕ) → whole first ≡ first →
+    play given setting (first ++ second) ≡ play given setting first ++ play (given_after given (play given setting first)) (left_by setting (play given setting first)) second
+scripts-joined given setting first second lines =
+    ap (turns given setting) (script-joined first second lines) ∙ turns-joined given setting (script first) (script second)
 
 -- a script is played by its first line and what follows that
-pub play-line : (tick : ℕ) (setting : Setting) (b : List ℕ) →
-    play (ticking tick) setting b
-    ≡ turns (ticking tick) setting (first_items b) ++ play (ticking tick) (left_by setting (turns (ticking tick) setting (first_items b))) (after_item b)
-play-line tick setting b = ap (turns (ticking tick) setting) (script-step b) ∙ turns-joined tick setting (first_items b) (script (after_item b))
+pub play-line : (given : Given) (setting : Setting) (b : List ℕ) →
+    play given setting b
+    ≡ turns given setting (first_items b) ++ play (given_after given (turns given setting (first_items b))) (left_by setting (turns given setting (first_items b))) (after_item b)
+play-line given setting b = ap (turns given setting) (script-step b) ∙ turns-joined given setting (first_items b) (script (after_item b))
+
+-- what is given behind some commands, and then behind more
+pub given-further : (given : Given) (xs ys : List Turn) → given_after (given_after given xs) ys ≡ given_after given (xs ++ ys)
+given-further given xs ys =
+    ap (λ (faults : List (Option (List ℕ))). record given { faults = faults })
+    (drop-drop (length ys) (length xs) given.faults ∙ ap (λ (n : ℕ). drop n given.faults) (omega (arith, length-append xs ys)))
 
 -- How many steps there are.
 

@@ -4,11 +4,12 @@ use Rattle.std.specs.Prelude.{⊤, Result, IfOk, IfErr}
 use Rattle.std.specs.Option.{IfSome}
 use Rattle.hac_disk.specs.Images.{IsQuiet, LeavesOnly}
 use Rattle.hac_disk.specs.Contents.{IsSettled}
-use Rattle.hac_model.specs.Run.Play.{Setting}
+use Rattle.hac_model.specs.Run.Play.{Given, Setting}
 use Rattle.hac_model.specs.Script.CommandLine.{Options, Space}
-use Rattle.hac_outside.specs.Causes.{ReportsFault}
+use Rattle.hac_outside.specs.Causes.{ReportsFault, Rose}
 use Rattle.hac_store.specs.Held.{held}
-use Rattle.sem_mounts.specs.Seen.{SpacesSeen}
+use Rattle.sem_mounts.specs.Seen.{Contents, CountsFault, SpacesSeen, is_attach_failed}
+use Rattle.hac_top.specs.Asking.{AreMet, IfTold, StayAttached, faults_after, given_by}
 use Rattle.sem_mounts.specs.declared.faults.AttachFault.{AttachFault}
 use Rattle.sem_mounts.specs.declared.faults.AttachFault.TheVariants as attach
 use Rattle.hac_top.specs.Attaching.{AttachesStore, LeavesAttached, MayAttach}
@@ -18,7 +19,7 @@ use Rattle.hac_top.specs.Run.{Ends, EndsSo, IfOpens, Outside, Ran, TakesWithin}
 use Rattle.hac_top.specs.Spaces.{HasAttached, LeavesSpaces, StopsAttaching, attach_status}
 use Rattle.hac_top.specs.declared.status.Status.{Status}
 use Rattle.hac_top.specs.declared.status.Status.TheVariants.{Usage, WriteFault, DiskFault, Memory, BadSpace}
-use Rattle.hac_top.proofs.OpenedLemmas.{Opening, opens-quiet, ran-none}
+use Rattle.hac_top.proofs.OpenedLemmas.{Opening, opens-quiet, ran-none, told-none}
 
 -- a run that comes to its store ends otherwise than at its words or at a space
 pub opened-own : (status : Status) → IsOpenStatus status → IsStoreStatus status
@@ -46,10 +47,10 @@ unopened-attached Memory old asked new stops may attaches = may
 unopened-attached other old asked new stops may attaches = attaches (λ never. cc)
 
 -- once all are attached a run doesn't end at a space
-pub own-spaces : (status : Status) (files : List Space) (old new : SpacesSeen) → IsStoreStatus status → HasAttached files old new → LeavesSpaces status files old new
-own-spaces (BadSpace which line) files old new own has = absurd own
-own-spaces Memory files old new own has = inr (inr has)
-own-spaces other files old new own has = has
+pub own-spaces : (status : Status) (files : List Space) (old mid new : SpacesSeen) → IsStoreStatus status → HasAttached files old mid → StayAttached mid new → LeavesSpaces status files old new
+own-spaces (BadSpace which line) files old mid new own has stay = absurd own
+own-spaces Memory files old mid new own has stay = inr (inr (mid, has, stay))
+own-spaces other files old mid new own has stay = (mid, has, stay)
 
 pub own-good : (status : Status) → IsStoreStatus status → is_bad_space status ≡ true → ⊥
 own-good (BadSpace which line) own bad = own
@@ -120,19 +121,37 @@ ends-so wanted (BadSpace which line) un = inr (inl refl)
 ends-so wanted Memory un = inr (inr (inr refl))
 ends-so wanted other un = absurd un
 
--- what holds of a run that goes on from a store, given another premise
+-- What holds of a run that goes on from a store, once its spaces were attached and given another premise.
 pub ran-given : (fresh : Bool) (tick : ℕ) (status : Status) (before after : Outside) (settled : Type 0) (image : List ℕ → Type 0) (leaves : (List ℕ → Type 0) → Type 0) (less more : Type 0) → (more → less) →
-    (seen left : Option (List ℕ)) →
-    IfSome seen (λ file. IfSome left (λ script. IfOk (opening_outcome fresh (held file)) (λ setting. Ran fresh tick status setting script before after settled image leaves less))) →
-    IfSome seen (λ file. IfSome left (λ script. IfOk (opening_outcome fresh (held file)) (λ setting. Ran fresh tick status setting script before after settled image leaves more)))
-ran-given fresh tick status before after settled image leaves less more leads None left ran = search rules
-ran-given fresh tick status before after settled image leaves less more leads (Some file) None ran = search rules
-ran-given fresh tick status before after settled image leaves less more leads (Some file) (Some script) ran = by (opening_outcome fresh (held file)) ran
+    (old mid new : SpacesSeen) → mid.faults ≡ old.faults → (seen left : Option (List ℕ)) →
+    IfSome seen (λ file. IfSome left (λ script. IfOk (opening_outcome fresh (held file)) (λ setting. IfTold mid new tick setting script (λ given. Ran fresh given status setting script before after settled image leaves less)))) →
+    IfSome seen (λ file. IfSome left (λ script. IfOk (opening_outcome fresh (held file)) (λ setting. IfTold old new tick setting script (λ given. Ran fresh given status setting script before after settled image leaves more))))
+ran-given fresh tick status before after settled image leaves less more leads old mid new same None left ran = search rules
+ran-given fresh tick status before after settled image leaves less more leads old mid new same (Some file) None ran = search rules
+ran-given fresh tick status before after settled image leaves less more leads old mid new same (Some file) (Some script) ran = by (opening_outcome fresh (held file)) ran
   where
-    by : (outcome : Result Setting Status) → IfOk outcome (λ setting. Ran fresh tick status setting script before after settled image leaves less) →
-        IfOk outcome (λ setting. Ran fresh tick status setting script before after settled image leaves more)
+    of : (setting : Setting) (o : Option Contents) → IfSome o (λ c. (met : List (Option (List ℕ))) × AreMet mid new (given_by c met tick) setting script × Ran fresh (given_by c met tick) status setting script before after settled image leaves less) →
+        IfSome o (λ c. (met : List (Option (List ℕ))) × AreMet old new (given_by c met tick) setting script × Ran fresh (given_by c met tick) status setting script before after settled image leaves more)
+    of setting None ran = search rules
+    of setting (Some c) (met, are, ran) = (
+      met,
+      record { askable = are.askable; counted = subst (λ (n : ℕ). faults_after n met ≤ new.faults) same are.counted; none = λ quiet. are.none (λ rose. quiet (subst (λ (n : ℕ). Rose n new.faults) same rose)) },
+      record { played = ran.played; moments = ran.moments; begun = ran.begun; complete = λ given. ran.complete (leads given) },
+    )
+
+    by : (outcome : Result Setting Status) → IfOk outcome (λ setting. IfTold mid new tick setting script (λ given. Ran fresh given status setting script before after settled image leaves less)) →
+        IfOk outcome (λ setting. IfTold old new tick setting script (λ given. Ran fresh given status setting script before after settled image leaves more))
     by (Err wanted) ran = search rules
-    by (Ok setting) ran = record { played = ran.played; moments = ran.moments; begun = ran.begun; complete = λ given. ran.complete (leads given) }
+    by (Ok setting) ran = of setting new.contents ran
+
+-- a space that couldn't be attached was counted, and no fault was before it
+pub stopped-later : (files : List Space) (old new : SpacesSeen) (status : Status) → StopsAttaching files old new status → old.faults ≤ new.faults
+stopped-later files old new status stops = by stops.fault stops.cause
+  where
+    by : (fault : AttachFault) → CountsFault (is_attach_failed {A = Unit {0}} (Err fault)) old.faults new.faults → old.faults ≤ new.faults
+    by attach.Failed cause = cause.0.0
+    by (attach.BadCatalogue line) cause = omega (arith, cause.0)
+    by attach.Memory cause = omega (arith, cause.0)
 
 module _ {D : Type 0} (seen : D → Option (List ℕ)) (image : D → List ℕ → Type 0) (moment : D → ℕ) (image_since : D → ℕ → List ℕ → Type 0) (attached : D → Option (List (List ℕ × Bool))) (faults : D → ℕ)
     (only_now : (disk : D) (c : List ℕ) → image_since disk (moment disk) c → image disk c) (counts_now : (disk : D) (t : ℕ) (c : List ℕ) → t ≤ moment disk → image disk c → image_since disk t c) where
@@ -149,31 +168,31 @@ module _ {D : Type 0} (seen : D → Option (List ℕ)) (image : D → List ℕ �
       by (Err wanted) = (ends-so wanted status un, untouched disk, refl, refl)
 
   -- it answers nothing of the script, and a crash leaves what it would have gone on from
-  pub ran-unattached : (faultless : Type 0) (status : Status) → IsUnattached status → (faultless → is_bad_space status ≡ true → ⊥) → (asked : Options) (disk : D) (before : Outside) →
-      IfOpens (Some asked) (seen disk) before.source.left (λ asked setting script. Ran asked.fresh asked.tick status setting script before before
-      (IsSettled (seen disk) (image disk)) (image disk) (LeavesOnly moment image_since disk disk) faultless)
-  ran-unattached faultless status un good asked disk before = of-file (seen disk) (opens-quiet seen image moment image_since only_now asked.fresh (seen disk) disk disk (untouched disk))
+  pub ran-unattached : (faultless : Type 0) (status : Status) → IsUnattached status → (faultless → is_bad_space status ≡ true → ⊥) → (asked : Options) (disk : D) (before : Outside) (old new : SpacesSeen) → old.faults ≤ new.faults →
+      IfOpens (Some asked) (seen disk) before.source.left (λ asked setting script. IfTold old new asked.tick setting script (λ given. Ran asked.fresh given status setting script before before
+      (IsSettled (seen disk) (image disk)) (image disk) (LeavesOnly moment image_since disk disk) faultless))
+  ran-unattached faultless status un good asked disk before old new later = of-file (seen disk) (opens-quiet seen image moment image_since only_now asked.fresh (seen disk) disk disk (untouched disk))
     where
       settled : Type 0
       settled = IsSettled (seen disk) (image disk)
 
       says : Setting → List ℕ → Type 0
-      says setting script = Ran asked.fresh asked.tick status setting script before before settled (image disk) (LeavesOnly moment image_since disk disk) faultless
+      says setting script = IfTold old new asked.tick setting script (λ given. Ran asked.fresh given status setting script before before settled (image disk) (LeavesOnly moment image_since disk disk) faultless)
 
-      one : (status : Status) → IsUnattached status → (faultless → is_bad_space status ≡ true → ⊥) → (setting : Setting) (script : List ℕ) → Some script ≡ before.source.left →
+      one : (given : Given) (status : Status) → IsUnattached status → (faultless → is_bad_space status ≡ true → ⊥) → (setting : Setting) (script : List ℕ) → Some script ≡ before.source.left →
           Opening seen image moment image_since attached faults asked.fresh settled disk disk setting →
-          Ran asked.fresh asked.tick status setting script before before settled (image disk) (LeavesOnly moment image_since disk disk) faultless
-      one (BadSpace which line) un good setting script left_is opening =
-          ran-none seen image moment image_since attached faults counts_now asked.fresh asked.tick settled disk disk before faultless (BadSpace which line) setting script left_is opening (λ done. tt) (λ never. never)
+          Ran asked.fresh given status setting script before before settled (image disk) (LeavesOnly moment image_since disk disk) faultless
+      one given (BadSpace which line) un good setting script left_is opening =
+          ran-none seen image moment image_since attached faults counts_now asked.fresh asked.tick settled disk disk before given faultless (BadSpace which line) setting script left_is opening (λ done. tt) (λ never. never)
           (λ none. absurd (good none refl))
-      one Memory un good setting script left_is opening =
-          ran-none seen image moment image_since attached faults counts_now asked.fresh asked.tick settled disk disk before faultless Memory setting script left_is opening (λ done. tt) (λ never. never)
+      one given Memory un good setting script left_is opening =
+          ran-none seen image moment image_since attached faults counts_now asked.fresh asked.tick settled disk disk before given faultless Memory setting script left_is opening (λ done. tt) (λ never. never)
           (λ _. record { within = λ _. inr refl; past = λ _. inr refl })
-      one other un good setting script left_is opening = absurd un
+      one given other un good setting script left_is opening = absurd un
 
       at : (outcome : Result Setting Status) (script : List ℕ) → Some script ≡ before.source.left → IfOk outcome (Opening seen image moment image_since attached faults asked.fresh settled disk disk) → IfOk outcome (λ setting. says setting script)
       at (Err wanted) script left_is opening = search rules
-      at (Ok setting) script left_is opening = one status un good setting script left_is opening
+      at (Ok setting) script left_is opening = told-none old new asked.tick setting script (λ given. Ran asked.fresh given status setting script before before settled (image disk) (LeavesOnly moment image_since disk disk) faultless) later (λ given. one given status un good setting script left_is opening)
 
       of-left : (file : List ℕ) (left : Option (List ℕ)) → left ≡ before.source.left → IfOk (opening_outcome asked.fresh (held file)) (Opening seen image moment image_since attached faults asked.fresh settled disk disk) →
           IfSome left (λ script. IfOk (opening_outcome asked.fresh (held file)) (λ setting. says setting script))
@@ -191,11 +210,11 @@ module _ {D : Type 0} (seen : D → Option (List ℕ)) (image : D → List ℕ �
   memory-quiet None disk input output = search rules
   memory-quiet (Some asked) disk input output = unattached-quiet Memory tt asked.fresh disk input output (seen disk)
 
-  pub memory-ran : (faultless : Options → Type 0) (asked : Option Options) (disk : D) (before : Outside) →
-      IfOpens asked (seen disk) before.source.left (λ asked setting script. Ran asked.fresh asked.tick Memory setting script before before
-      (IsSettled (seen disk) (image disk)) (image disk) (LeavesOnly moment image_since disk disk) (faultless asked))
-  memory-ran faultless None disk before = search rules
-  memory-ran faultless (Some asked) disk before = ran-unattached (faultless asked) Memory tt (λ _ never. cc) asked disk before
+  pub memory-ran : (faultless : Options → Type 0) (asked : Option Options) (disk : D) (before : Outside) (spaces : SpacesSeen) →
+      IfOpens asked (seen disk) before.source.left (λ asked setting script. IfTold spaces spaces asked.tick setting script (λ given. Ran asked.fresh given Memory setting script before before
+      (IsSettled (seen disk) (image disk)) (image disk) (LeavesOnly moment image_since disk disk) (faultless asked)))
+  memory-ran faultless None disk before spaces = search rules
+  memory-ran faultless (Some asked) disk before spaces = ran-unattached (faultless asked) Memory tt (λ _ never. cc) asked disk before spaces spaces (omega arith)
 
 pub memory-spaces : (asked : Option Options) (spaces : SpacesSeen) → IfSome asked (λ asked. LeavesSpaces Memory asked.spaces spaces spaces)
 memory-spaces None spaces = search rules

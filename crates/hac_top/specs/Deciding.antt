@@ -1,20 +1,29 @@
 -- What is decided about a line before the store is touched.
-use Rattle.std.specs.Prelude.{◌≡◌, ⊤, if◌then◌else◌, List, [], ◌∷◌, replicate, IsErr, Result, Ok}
-use Rattle.hac_core.specs.Drafts.{CanSettle}
+use Rattle.std.specs.Prelude.{◌≡◌, ⊤, ℕ, if◌then◌else◌, List, [], ◌∷◌, replicate, IfOk, IsErr, IsTrue, Option, Result, Ok}
+use Rattle.std.specs.Option.{IfSome, option_map_or}
+use Rattle.hac_core.specs.Drafts.{CanSettle, DraftSeen, IsDraftFor}
 use Rattle.hac_core.specs.declared.drafts.Settled.{Settled}
 use Rattle.hac_core.specs.declared.drafts.Settled.TheVariants as settled
-use Rattle.hac_model.specs.Run.Play.{Setting, Turn, after_events, have_room, nothing_given, refused_turn}
+use Rattle.hac_model.specs.Run.Play.{MayFail, Setting, Turn, after_events, askable, command_turn, given_spaces, have_room, item_turn, nothing_given, refused_turn}
+use Rattle.hac_model.specs.Script.Lines.{Item}
+use Rattle.hac_model.specs.Spaces.Answering.{Attached}
+use Rattle.hac_model.specs.Tree.Mounting.{is_among}
+use Rattle.hac_model.specs.declared.resolved.Resolved.{Resolved}
+use Rattle.sem_mounts.specs.Seen.{SpacesSeen}
+use Rattle.sem_mounts.specs.declared.gathering.GatherFault.{GatherFault}
+use Rattle.sem_mounts.specs.declared.gathering.GatherFault.TheVariants as gather
 use Rattle.hac_model.specs.declared.events.Event.{Event}
 use Rattle.hac_model.specs.declared.events.Event.TheVariants.{Step}
 use Rattle.hac_model.specs.declared.limits.LimitWord.TheVariants.{Store}
 use Rattle.hac_model.specs.declared.memory.Memory.{Memory}
 use Rattle.hac_model.specs.declared.replies.Deny.{Deny}
 use Rattle.hac_model.specs.declared.replies.Deny.TheVariants as deny
-use Rattle.hac_model.specs.declared.replies.Refusal.TheVariants.{Limit}
+use Rattle.hac_model.specs.declared.replies.Refusal.TheVariants.{Limit, NoSpace, SpaceFault}
 use Rattle.hac_model.specs.declared.replies.Reply.{Reply}
 use Rattle.hac_model.specs.declared.replies.Reply.TheVariants.{Lines, Refused}
 use Rattle.hac_model.specs.declared.states.State.{State}
 use Rattle.hac_store.specs.Stores.{unstored_after}
+use Rattle.hac_top.specs.Asking.{HaveAsked, given_by}
 use Rattle.hac_top.specs.declared.deciding.Decision.{Decision}
 use Rattle.hac_top.specs.declared.deciding.Decision.TheVariants.{Answer, Change}
 
@@ -55,3 +64,33 @@ pub record Decides (s : State) (turn : Setting → Turn) (decision : Decision) :
 abbrev pub IsDenial : Deny → Result Decision Memory → Type 0
 IsDenial (deny.Refused refusal) result = result ≡ Ok (Answer (Refused refusal))
 IsDenial deny.Memory result = IsErr result
+
+-- why a command is denied whose questions got no answers
+abbrev pub denial : GatherFault → Deny
+denial (gather.NoSpace space) = deny.Refused (NoSpace space)
+denial (gather.SpaceFault space) = deny.Refused (SpaceFault space)
+denial gather.Memory = deny.Memory
+
+-- the turn of a command that met this fault, or none
+abbrev pub met_turn : List Attached → Option (List ℕ) → Setting → Resolved → Turn
+met_turn spaces fault setting command =
+    option_map_or (λ space. refused_turn nothing_given setting (SpaceFault space)) fault (command_turn (given_spaces spaces) setting (Ok command))
+
+-- A draft was decided on as the spaces answered to its questions, where their contents are told; and one of them may have
+-- failed.
+pub record DecidesDraft (old new : SpacesSeen) (s : State) (draft : DraftSeen) (result : Result Decision Memory) : Type 0 where
+  pub fault : Option (List ℕ)
+  pub asked : HaveAsked old new (fault ∷ [])
+  pub happen : IfOk result (CanHappen s)
+  pub told : (command : Resolved) → IsDraftFor s command draft → IfSome old.contents (λ contents.
+      IfSome fault (λ space. IsTrue (is_among (askable (given_spaces contents.spaces) s (Ok command)) space))
+      × IfOk result (Decides s (λ setting. met_turn contents.spaces fault setting command)))
+
+-- the same of a line
+pub record DecidesItem (old new : SpacesSeen) (s : State) (item : Item) (result : Result Decision Memory) : Type 0 where
+  pub fault : Option (List ℕ)
+  pub asked : HaveAsked old new (fault ∷ [])
+  pub happen : IfOk result (CanHappen s)
+  pub told : IfSome old.contents (λ contents.
+      MayFail (given_by contents (fault ∷ []) 0) s item fault
+      × IfOk result (Decides s (λ setting. item_turn (given_by contents (fault ∷ []) 0) setting item)))

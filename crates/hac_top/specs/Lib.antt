@@ -1,3 +1,4 @@
+pub mod Asking
 pub mod Attaching
 pub mod Crashes
 pub mod Deciding

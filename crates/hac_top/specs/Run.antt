@@ -7,10 +7,10 @@ use Rattle.hac_outside.specs.Known.{Known}
 use Rattle.hac_outside.specs.Seen.{SourceSeen, SinkSeen}
 use Rattle.hac_disk.specs.Images.{LeavesOnly}
 use Rattle.hac_model.specs.Script.CommandLine.{Options}
-use Rattle.hac_model.specs.Run.Play.{Setting, all_events, has_refusal, left_by, play, stored_setting, turns}
+use Rattle.hac_model.specs.Run.Play.{AreAskable, Given, Setting, Turn, all_events, given_behind, has_refusal, left_by, play, stored_setting, turns}
 use Rattle.hac_model.specs.Tree.Sessions.{stored}
 use Rattle.hac_model.specs.Script.Printed.{ended}
-use Rattle.hac_model.specs.Script.{after_item, first_items, whole}
+use Rattle.hac_model.specs.Script.{after_item, first_items, script, whole}
 use Rattle.hac_model.specs.declared.limits.TheConstants.{SCRIPT_LIMIT}
 use Rattle.hac_model.specs.declared.states.State.{State}
 use Rattle.hac_store.specs.Held.{held}
@@ -18,7 +18,8 @@ use Rattle.hac_store.specs.Stores.{IsHeldAs, Stands}
 use Rattle.hac_top.specs.Crashes.{Holds, IsTreeAfter, IsTreeOfAnswered, Reopens, opening_outcome}
 use Rattle.hac_top.specs.Ends.{IsFinished, IsOpenStatus, finished_status, is_bad_space, is_disk_fault, is_read_fault, is_write_fault}
 use Rattle.hac_top.specs.Replies.{WritesReplies}
-use Rattle.hac_top.specs.Ticking.{ticking}
+use Rattle.hac_top.specs.Asking.{HaveAsked, given_by}
+use Rattle.sem_mounts.specs.Seen.{SpacesSeen}
 use Rattle.hac_top.specs.declared.status.Status.{Status}
 use Rattle.hac_top.specs.declared.status.Status.TheVariants.{Done, SomeRefused, Usage, ReadFault, WriteFault, DiskFault, Memory, TooLong}
 use Rattle.shell_lang.specs.Reading.{piece_size}
@@ -58,35 +59,39 @@ pub record Ends (status : Status) (before after : Outside) : Type 0 where
   pub within : TakesWithin before.source.left after.source.left
   pub passed : (status ≡ WriteFault → ⊥) → before.sink.held_back ≡ 0 → after.sink.held_back ≡ 0
 
+-- what is given to the commands behind these turns
+abbrev pub given_after : Given → List Turn → Given
+given_after given turns = given_behind (length turns) given
+
 -- the script was read to its end, and each reply was written: no more and no less
-pub record AnswersAll (tick : ℕ) (status : Status) (setting : Setting) (script : List ℕ) (done : ℕ)
+pub record AnswersAll (given : Given) (status : Status) (setting : Setting) (script : List ℕ) (done : ℕ)
     (left : Option (List ℕ)) : Type 0 where
   pub read : left ≡ Some []
   pub within : length script ≤ SCRIPT_LIMIT
-  pub status_is : status ≡ finished_status (has_refusal (play (ticking tick) setting script))
-  pub all : done ≡ length (play (ticking tick) setting script)
+  pub status_is : status ≡ finished_status (has_refusal (play given setting script))
+  pub all : done ≡ length (play given setting script)
 
 -- a part of the script was taken, and each whole line of it was answered
-pub record AnswersTaken (tick : ℕ) (setting : Setting) (script : List ℕ) (done : ℕ)
+pub record AnswersTaken (given : Given) (setting : Setting) (script : List ℕ) (done : ℕ)
     (left : Option (List ℕ)) : Type 0 where
   pub taken : List ℕ
   pub rest : List ℕ
   pub script_is : script ≡ taken ++ rest
   pub left_is : left ≡ Some rest
-  pub all : take done (play (ticking tick) setting script) ≡ play (ticking tick) setting (whole taken)
+  pub all : take done (play given setting script) ≡ play given setting (whole taken)
 
 -- the script is longer than a script may be, so much of it and one byte were taken, and each line within the limit was
 -- answered
-pub record AnswersWithin (tick : ℕ) (setting : Setting) (script : List ℕ) (done : ℕ)
+pub record AnswersWithin (given : Given) (setting : Setting) (script : List ℕ) (done : ℕ)
     (left : Option (List ℕ)) : Type 0 where
   pub longer : SCRIPT_LIMIT < length script
   pub left_is : left ≡ Some (drop (SCRIPT_LIMIT + 1) script)
-  pub all : take done (play (ticking tick) setting script) ≡ play (ticking tick) setting (whole (take SCRIPT_LIMIT script))
+  pub all : take done (play given setting script) ≡ play given setting (whole (take SCRIPT_LIMIT script))
 
 -- Of what was taken, all was answered but one line with the bytes that belong to it, and less than one piece behind
 -- them. So no read goes beyond the piece in which an unanswered line ends, with its bytes. Of that line's replies the
 -- first k were written, and of nothing behind it.
-pub record AnswersPromptly (tick : ℕ) (setting : Setting) (script : List ℕ) (done : ℕ)
+pub record AnswersPromptly (given : Given) (setting : Setting) (script : List ℕ) (done : ℕ)
     (left : Option (List ℕ)) : Type 0 where
   pub answered : List ℕ
   pub line : List ℕ
@@ -97,37 +102,37 @@ pub record AnswersPromptly (tick : ℕ) (setting : Setting) (script : List ℕ) 
   pub whole_is : whole answered ≡ answered
   pub one : after_item line ≡ []
   pub near : length behind < piece_size
-  pub all : (k : ℕ) × (take done (play (ticking tick) setting script) ≡ play (ticking tick) setting answered ++ take k
-      (turns (ticking tick) (left_by setting (play (ticking tick) setting answered)) (first_items line)))
+  pub all : (k : ℕ) × (take done (play given setting script) ≡ play given setting answered ++ take k
+      (turns (given_after given (play given setting answered)) (left_by setting (play given setting answered)) (first_items line)))
 
 -- which replies were written, by how the run ended
-abbrev pub AnswersBy : ℕ → Status → Setting → List ℕ → ℕ → Option (List ℕ) → Type 0
-AnswersBy tick Done setting script done left = AnswersAll tick Done setting script done left
-AnswersBy tick SomeRefused setting script done left = AnswersAll tick SomeRefused setting script done left
-AnswersBy tick ReadFault setting script done left = AnswersTaken tick setting script done left
-AnswersBy tick TooLong setting script done left = AnswersWithin tick setting script done left
-AnswersBy tick other setting script done left = ⊤
+abbrev pub AnswersBy : Given → Status → Setting → List ℕ → ℕ → Option (List ℕ) → Type 0
+AnswersBy given Done setting script done left = AnswersAll given Done setting script done left
+AnswersBy given SomeRefused setting script done left = AnswersAll given SomeRefused setting script done left
+AnswersBy given ReadFault setting script done left = AnswersTaken given setting script done left
+AnswersBy given TooLong setting script done left = AnswersWithin given setting script done left
+AnswersBy given other setting script done left = ⊤
 
 -- However the run ends, the replies are those of the plain tree, none ahead of time and none late. A reply is cut off
 -- only where the sink failed.
-pub record Plays (tick : ℕ) (status : Status) (setting : Setting) (script : List ℕ)
+pub record Plays (given : Given) (status : Status) (setting : Setting) (script : List ℕ)
     (before after : Outside) : Type 0 where
-  pub replies : WritesReplies (play (ticking tick) setting script) before.sink after.sink
+  pub replies : WritesReplies (play given setting script) before.sink after.sink
   pub whole : (status ≡ WriteFault → ⊥) → replies.cut ≡ []
-  pub prompt : AnswersPromptly tick setting script replies.done after.source.left
-  pub answers : AnswersBy tick status setting script replies.done after.source.left
+  pub prompt : AnswersPromptly given setting script replies.done after.source.left
+  pub answers : AnswersBy given status setting script replies.done after.source.left
 
 -- How a script is played from a store. Its replies are those of the plain tree. Where nothing was pending on
 -- the disk as it began, a crash leaves the tree with the events of each answered command, and at most those of the
 -- command in hand besides; and where the script has ended, it leaves what is stored of what the last command left.
-pub record Played (fresh : Bool) (tick : ℕ) (status : Status) (setting : Setting) (script : List ℕ)
+pub record Played (fresh : Bool) (given : Given) (status : Status) (setting : Setting) (script : List ℕ)
     (before after : Outside)
     (stood : Type 0) (image : List ℕ → Type 0) : Type 0 where
-  pub plays : Plays tick status setting script before after
+  pub plays : Plays given status setting script before after
   pub reopens : stood → (c : List ℕ) → image c → Reopens fresh (IsTreeOfAnswered (stored setting.state)
-      (play (ticking tick) setting script) plays.replies.done) c
+      (play given setting script) plays.replies.done) c
   pub kept : stood → IsFinished status → (c : List ℕ) → image c →
-      IsHeldAs c (stored_setting (left_by setting (play (ticking tick) setting script)))
+      IsHeldAs c (stored_setting (left_by setting (play given setting script)))
 
 -- the run has begun: a byte of the script was taken, or one of a reply was written, or the script has ended
 abbrev pub HasBegun : Status → Outside → Outside → Type 0
@@ -142,20 +147,25 @@ pub record Completes (status : Status) (script : List ℕ) : Type 0 where
   pub past : SCRIPT_LIMIT < length script → (status ≡ TooLong) ⊎ (status ≡ Memory)
 
 -- what was stored, after some of the events of a script, the first ones in order
-abbrev pub IsTreeOf : ℕ → Setting → List ℕ → State → Type 0
-IsTreeOf tick setting script now = IsTreeAfter (stored setting.state) (all_events (play (ticking tick) setting script)) now
+abbrev pub IsTreeOf : Given → Setting → List ℕ → State → Type 0
+IsTreeOf given setting script now = IsTreeAfter (stored setting.state) (all_events (play given setting script)) now
 
--- How the script is played from a store that was opened, whatever source and disk tell. A crash at each moment leaves
--- the tree after some of the events. A call of the disk that failed is reported, and no other.
+-- How the script is played from a store that was opened, whatever source, disk and spaces tell. A crash at each moment
+-- leaves the tree after some of the events. A call of the disk that failed is reported, and no other. The spaces met
+-- these faults as they were asked.
 pub record PlaysStore {D : Type 0} (seen : D → Option (List ℕ)) (image : D → List ℕ → Type 0)
     (moment : D → ℕ) (image_since : D → ℕ → List ℕ → Type 0)
     (attached : D → Option (List (List ℕ × Bool))) (faults : D → ℕ) (old new : D)
-    (tick : ℕ) (setting : Setting) (before after : Outside) (status : Status) : Type 0 where
+    (tick : ℕ) (setting : Setting) (before after : Outside) (spaces left : SpacesSeen) (status : Status) : Type 0 where
   pub opened : IsOpenStatus status
-  pub played : IfSome before.source.left (λ script.
-      Played false tick status setting script before after (Stands (seen old) (image old) setting) (image new))
-  pub moments : IfSome before.source.left (λ script. Stands (seen old) (image old) setting →
-      LeavesOnly moment image_since old new (Holds (IsTreeOf tick setting script)))
+  pub met : List (Option (List ℕ))
+  pub asked : HaveAsked spaces left met
+  pub askable : IfSome spaces.contents (λ contents. IfSome before.source.left (λ bytes.
+      AreAskable (given_by contents met tick) setting (script bytes)))
+  pub played : IfSome spaces.contents (λ contents. IfSome before.source.left (λ bytes.
+      Played false (given_by contents met tick) status setting bytes before after (Stands (seen old) (image old) setting) (image new)))
+  pub moments : IfSome spaces.contents (λ contents. IfSome before.source.left (λ bytes. Stands (seen old) (image old) setting →
+      LeavesOnly moment image_since old new (Holds (IsTreeOf (given_by contents met tick) setting bytes))))
   pub ends : Ends status before after
   pub names : attached new ≡ attached old
   pub reported : ReportsFault (is_disk_fault status) (faults old) (faults new)
@@ -163,14 +173,14 @@ pub record PlaysStore {D : Type 0} (seen : D → Option (List ℕ)) (image : D �
 -- The outcome of a run that goes on from a store. Where nothing was pending on the disk as it began, a crash at each
 -- moment leaves that tree after some of the events of the script; once it has begun to take the script, a crash leaves
 -- a store. Without a fault the script is played, unless memory runs out.
-pub record Ran (fresh : Bool) (tick : ℕ) (status : Status) (setting : Setting) (script : List ℕ)
+pub record Ran (fresh : Bool) (given : Given) (status : Status) (setting : Setting) (script : List ℕ)
     (before after : Outside)
     (settled : Type 0) (image : List ℕ → Type 0) (leaves : (List ℕ → Type 0) → Type 0)
     (faultless : Type 0) : Type 0 where
-  pub played : Played fresh tick status setting script before after settled image
-  pub moments : settled → leaves (Reopens fresh (IsTreeOf tick setting script))
+  pub played : Played fresh given status setting script before after settled image
+  pub moments : settled → leaves (Reopens fresh (IsTreeOf given setting script))
   pub begun : settled → HasBegun status before after → (c : List ℕ) → image c →
-      Holds (IsTreeOf tick setting script) c
+      Holds (IsTreeOf given setting script) c
   pub complete : faultless → Completes status script
 
 -- the words, the file and the script, if they are known, and what the run then goes on from

@@ -9,6 +9,7 @@ use Rattle.hac_model.specs.Spaces.Catalogue.{Document}
 use Rattle.sem_mounts.specs.Seen.{Contents, CountsFault, Refuses, SpacesSeen, file_says, is_attach_failed}
 use Rattle.sem_mounts.specs.declared.faults.AttachFault.{AttachFault}
 use Rattle.sem_mounts.specs.declared.faults.AttachFault.TheVariants as attach
+use Rattle.hac_top.specs.Asking.{StayAttached}
 use Rattle.hac_top.specs.declared.status.Status.{Status}
 use Rattle.hac_top.specs.declared.status.Status.TheVariants.{BadSpace, Memory}
 
@@ -67,12 +68,16 @@ pub record StopsAttaching (files : List Space) (old new : SpacesSeen) (status : 
   pub contents : Known (AttachesUpTo front space fault) old.contents new.contents
   pub cause : CountsFault (is_attach_failed {A = Unit {0}} (Err fault)) old.faults new.faults
 
+-- each space is attached, with the documents of its file; since then they were only asked
+abbrev pub Serves : List Space → SpacesSeen → SpacesSeen → Type 0
+Serves files old new = (attached : SpacesSeen) × HasAttached files old attached × StayAttached attached new
+
 -- What a run leaves of its spaces: each of those that the words name is attached, unless one of them can't be; and
 -- memory may run out before, too.
 abbrev pub LeavesSpaces : Status → List Space → SpacesSeen → SpacesSeen → Type 0
 LeavesSpaces (BadSpace which line) files old new = StopsAttaching files old new (BadSpace which line)
-LeavesSpaces Memory files old new = (new ≡ old) ⊎ (StopsAttaching files old new Memory ⊎ HasAttached files old new)
-LeavesSpaces other files old new = HasAttached files old new
+LeavesSpaces Memory files old new = (new ≡ old) ⊎ (StopsAttaching files old new Memory ⊎ Serves files old new)
+LeavesSpaces other files old new = Serves files old new
 
 -- the file is a catalogue, as the spaces tell
 abbrev pub IsCatalogue : SpacesSeen → List ℕ → Type 0

@@ -4,14 +4,14 @@ ghost use Rattle.std.specs.Prelude.{◌≡◌, ◌||◌, ◌∷◌, [], false, I
 ghost use Rattle.std.specs.Io.KnownBytes.{Appends};
 ghost use Rattle.hac_outside.specs.Causes.{HasCause};
 ghost use Rattle.hac_outside.specs.Seen.{WritesSome};
-ghost use Rattle.hac_model.specs.Run.Play.{has_refusal, is_refused, item_turn, turns};
+ghost use Rattle.hac_model.specs.Run.Play.{is_refused};
 ghost use Rattle.hac_model.specs.Script.Lines.{item_taken};
 ghost use Rattle.hac_model.specs.Script.Printed.{text};
 ghost use Rattle.hac_store.specs.Stores.{Bears};
-ghost use Rattle.hac_top.specs.Storing.{AnswersLine, StopsAnswer};
+ghost use Rattle.hac_top.specs.Storing.{AnswersItems, AnswersLine, StopsAnswer};
 ghost use Rattle.hac_top.specs.TakenLines.{items_of_taken};
 ghost use Rattle.hac_top.specs.Replies.{StopsWriting, WritesAll};
-ghost use Rattle.hac_top.specs.Ticking.{ticking, told_turn};
+ghost use Rattle.hac_top.specs.Ticking.{told_turn};
 
 use crate::status::Status;
 use crate::storing::store_line;
@@ -21,6 +21,7 @@ use hac_disk::Disk;
 use hac_model::{LimitWord, Refusal, Reply, Taken, Text};
 use hac_outside::{Failed, Sink, write_all};
 use hac_store::Store;
+use sem_mounts::Spaces;
 use shell_lang::{Piece, print_reply};
 use std::alloc::Global;
 
@@ -40,30 +41,24 @@ impl Player {
     /// Answers a line of the script, with the bytes that belong to it. What it changes is in the
     /// store before anything of its reply is written, and no step follows before its reply was
     /// written and flushed.
-    pub fn answer<K: Sink, D: Disk>(
+    pub fn answer<K: Sink, D: Disk, P: Spaces>(
         &mut self,
         output: &mut K,
         disk: &mut D,
+        spaces: &mut P,
         line: TakenLine,
     ) -> Result<(), Status>
         requires intact { self.old.store.broken ≡ false }
         requires place { Bears (D.seen disk.old) self.old.store }
         ensures tick { self.new.tick ≡ self.old.tick }
-        ensures refused { OnOk result (self.new.refused ≡
-            (self.old.refused || has_refusal (turns (ticking self.old.tick) self.old.store.setting
-            (items_of_taken line)))) }
-        ensures ok { OnOk result (AnswersLine D.seen D.image D.moment D.image_since D.attached
-            D.faults disk.old disk.new self.old.store self.new.store
-            (K.seen output.old) (K.seen output.new)
-            (turns (ticking self.old.tick) self.old.store.setting (items_of_taken line))) }
-        ensures err { IfErr result (StopsAnswer D.seen D.image D.moment D.image_since D.attached
-            D.faults disk.old disk.new self.old.store.setting
-            (K.seen output.old) (K.seen output.new)
-            (turns (ticking self.old.tick) self.old.store.setting (items_of_taken line))) }
+        ensures answers { AnswersItems D.seen D.image D.moment D.image_since D.attached D.faults
+            disk.old disk.new (P.seen spaces.old) (P.seen spaces.new) self.old.tick
+            self.old.store self.new.store (K.seen output.old) (K.seen output.new)
+            (items_of_taken line) self.old.refused self.new.refused result }
     {
         let TakenLine { piece, taken } = line;
         match piece {
-            Piece::Bytes(line) => self.answer_line(output, disk, line, taken),
+            Piece::Bytes(line) => self.answer_line(output, disk, spaces, line, taken),
             Piece::LongLine => self.tell(
                 output,
                 disk,
@@ -74,31 +69,23 @@ impl Player {
     }
 
     // Answers a line that spells a command.
-    fn answer_line<K: Sink, D: Disk>(
+    fn answer_line<K: Sink, D: Disk, P: Spaces>(
         &mut self,
         output: &mut K,
         disk: &mut D,
+        spaces: &mut P,
         line: Text,
         taken: Option<Taken>,
     ) -> Result<(), Status>
         requires intact { self.old.store.broken ≡ false }
         requires place { Bears (D.seen disk.old) self.old.store }
         ensures tick { self.new.tick ≡ self.old.tick }
-        ensures refused { OnOk result (self.new.refused ≡ (self.old.refused || has_refusal
-            (item_turn (ticking self.old.tick) self.old.store.setting
-            (item_taken line taken) ∷ []))) }
-        ensures ok { OnOk result (AnswersLine D.seen D.image D.moment D.image_since D.attached
-            D.faults disk.old disk.new self.old.store self.new.store
-            (K.seen output.old) (K.seen output.new)
-            (item_turn (ticking self.old.tick) self.old.store.setting
-            (item_taken line taken) ∷ [])) }
-        ensures err { IfErr result (StopsAnswer D.seen D.image D.moment D.image_since D.attached
-            D.faults disk.old disk.new self.old.store.setting
-            (K.seen output.old) (K.seen output.new)
-            (item_turn (ticking self.old.tick) self.old.store.setting
-            (item_taken line taken) ∷ [])) }
+        ensures answers { AnswersItems D.seen D.image D.moment D.image_since D.attached D.faults
+            disk.old disk.new (P.seen spaces.old) (P.seen spaces.new) self.old.tick
+            self.old.store self.new.store (K.seen output.old) (K.seen output.new)
+            (item_taken line taken ∷ []) self.old.refused self.new.refused result }
     {
-        let reply = store_line(self.alloc, &mut self.store, disk, line, taken)?;
+        let reply = store_line(self.alloc, &mut self.store, disk, spaces, line, taken)?;
         self.tell(output, disk, reply)
     }
 

@@ -1,14 +1,19 @@
-//! Deciding: what a line asks of the tree, by the machine alone, before the store is touched.
-ghost use Rattle.std.specs.Prelude.{IfOk, IsTrue, Ok};
+//! Deciding: what a line asks of the tree and of the spaces, before the store is touched.
+ghost use Rattle.std.specs.Prelude.{◌≡◌, List, IfErr, IfOk, IsTrue, None, Ok};
 ghost use Rattle.hac_core.specs.Drafts.{IsDraft, IsDraftFor};
 ghost use Rattle.hac_model.specs.declared.resolved.Resolved.{Resolved};
-ghost use Rattle.hac_model.specs.Script.Lines.{is_spelled_line};
-ghost use Rattle.hac_model.specs.Run.Play.{command_turn, item_turn, nothing_given};
-ghost use Rattle.hac_top.specs.Deciding.{Decides, IsDenial};
-ghost use Rattle.hac_model.specs.Script.Lines.{item_taken};
+ghost use Rattle.hac_model.specs.Script.Lines.{is_spelled_line, item_taken};
+ghost use Rattle.hac_model.specs.Run.Given.{given_spaces};
+ghost use Rattle.hac_model.specs.Run.Play.{command_turn};
+ghost use Rattle.hac_model.specs.Spaces.Answering.{AreAnswersTo, Attached, answers_of};
+ghost use Rattle.hac_model.specs.Spaces.Answering.{asked_spaces, first_absent};
+ghost use Rattle.hac_top.specs.Deciding.{CanHappen, Decides, DecidesDraft, DecidesItem, IsDenial};
+ghost use Rattle.hac_top.specs.Deciding.{denial};
+ghost use Rattle.hac_top.specs.declared.deciding.Decision.TheVariants.{Answer};
 
 use hac_core::{Draft, Machine, Settled};
-use hac_model::{Deny, Line, Memory, Reply, Taken, Text};
+use hac_model::{Answers, Deny, Line, Memory, Refusal, Reply, Taken, Text};
+use sem_mounts::{GatherFault, Spaces, gather};
 use shell_lang::parse_line;
 use std::alloc::Global;
 
@@ -21,47 +26,96 @@ pub enum Decision {
     Change(Settled),
 }
 
-/// What is to be done about a line, given what was taken of the bytes behind it.
-pub fn decide(
+/// What is to be done about a line, given what was taken of the bytes behind it. The spaces are
+/// asked what its command has to know of them.
+pub fn decide<P: Spaces>(
     alloc: Global,
     machine: &Machine,
+    spaces: &mut P,
     line: Text,
     taken: Option<Taken>,
 ) -> Result<Decision, Memory>
-    ensures { IfOk result (Decides machine.now.state
-        (λ setting. item_turn nothing_given setting (item_taken line taken))) }
+    ensures { DecidesItem (P.seen spaces.old) (P.seen spaces.new) machine.now.state
+        (item_taken line taken) result }
 {
     match parse_line(alloc, line.as_slice(), taken) {
-        Ok(line) => decide_line(machine, line),
+        Ok(line) => decide_line(alloc, machine, spaces, line),
         Err(deny) => refused(deny),
     }
 }
 
 // What is to be done about a line that spells a command.
-fn decide_line(machine: &Machine, line: Line) -> Result<Decision, Memory>
+fn decide_line<P: Spaces>(
+    alloc: Global,
+    machine: &Machine,
+    spaces: &mut P,
+    line: Line,
+) -> Result<Decision, Memory>
     requires { IsTrue (is_spelled_line line) }
-    ensures { IfOk result (Decides machine.now.state
-        (λ setting. item_turn nothing_given setting (Ok line))) }
+    ensures { DecidesItem (P.seen spaces.old) (P.seen spaces.new) machine.now.state (Ok line)
+        result }
 {
     match machine.check(line) {
-        Ok(draft) => decide_draft(machine, draft),
+        Ok(draft) => decide_draft(alloc, machine, spaces, draft),
         Err(deny) => refused(deny),
     }
 }
 
-// What is to be done about a command that the tree doesn't refuse so far.
-fn decide_draft(machine: &Machine, draft: Draft) -> Result<Decision, Memory>
+// What is to be done about a command that the tree doesn't refuse so far: its questions are asked,
+// and the first that gets no answer refuses it.
+fn decide_draft<P: Spaces>(
+    alloc: Global,
+    machine: &Machine,
+    spaces: &mut P,
+    draft: Draft,
+) -> Result<Decision, Memory>
     requires { IsDraft machine.now.state draft }
-    ensures { (command : Resolved) → IsDraftFor machine.now.state command draft →
+    ensures { DecidesDraft (P.seen spaces.old) (P.seen spaces.new) machine.now.state draft result }
+{
+    match gather(alloc, spaces, draft.asks()) {
+        Ok(answers) => decide_answered(machine, draft, answers),
+        Err(fault) => refused(denial(fault)),
+    }
+}
+
+// Why a command is denied whose questions got no answers.
+fn denial(fault: GatherFault) -> Deny
+    ensures { result ≡ denial fault }
+{
+    match fault {
+        GatherFault::NoSpace(space) => Deny::Refused(Refusal::NoSpace(space)),
+        GatherFault::SpaceFault(space) => Deny::Refused(Refusal::SpaceFault(space)),
+        GatherFault::Memory => Deny::Memory,
+    }
+}
+
+// What is to be done about such a command once its questions are answered.
+fn decide_answered(machine: &Machine, draft: Draft, answers: Answers) -> Result<Decision, Memory>
+    requires made { IsDraft machine.now.state draft }
+    requires answered { AreAnswersTo draft.asks answers }
+    ensures happen { IfOk result (CanHappen machine.now.state) }
+    ensures leads { (command : Resolved) → IsDraftFor machine.now.state command draft →
+        (spaces : List Attached) → answers ≡ answers_of spaces draft.asks →
+        first_absent spaces (asked_spaces draft.asks) ≡ None →
         IfOk result (Decides machine.now.state
-        (λ setting. command_turn nothing_given setting (Ok command))) }
+        (λ setting. command_turn (given_spaces spaces) setting (Ok command))) }
 {
     if draft.reads() {
-        let reply = machine.ask(draft)?;
-        return Ok(Decision::Answer(reply));
+        return answered(machine.ask(draft, answers));
     }
-    match machine.settle(draft) {
+    match machine.settle(draft, answers) {
         Ok(settled) => Ok(Decision::Change(settled)),
+        Err(deny) => refused(deny),
+    }
+}
+
+// To give the reply that there is.
+fn answered(reply: Result<Reply, Deny>) -> Result<Decision, Memory>
+    ensures ok { IfOk reply (λ reply. result ≡ Ok (Answer reply)) }
+    ensures err { IfErr reply (λ deny. IsDenial deny result) }
+{
+    match reply {
+        Ok(reply) => Ok(Decision::Answer(reply)),
         Err(deny) => refused(deny),
     }
 }

@@ -1,5 +1,5 @@
-//! The run: the spaces are attached, the store is opened, the script is taken line by line, and each
-//! line is answered before the next is taken.
+//! The run: the spaces are attached, the store is opened, the script is taken line by line, and
+//! each line is answered before the next is taken.
 ghost use Rattle.std.specs.Prelude.{◌≡◌, ◌⊎◌, [], true, false, IfErr, IfSome, None, Some, map};
 ghost use Rattle.std.specs.Prelude.{string_bytes};
 ghost use Rattle.std.specs.Io.KnownBytes.{Appends};
@@ -9,6 +9,7 @@ ghost use Rattle.hac_model.specs.Script.CommandLine.{options};
 ghost use Rattle.hac_outside.specs.Causes.{ReportsFault};
 ghost use Rattle.hac_store.specs.Held.{held};
 ghost use Rattle.hac_store.specs.Stores.{Bears};
+ghost use Rattle.hac_top.specs.Asking.{IfTold, StayAttached};
 ghost use Rattle.hac_top.specs.Attaching.{LeavesAttached};
 ghost use Rattle.hac_top.specs.Crashes.{IsOfFile, opening_outcome};
 ghost use Rattle.hac_top.specs.Ends.{IsStoreStatus, end_status, is_bad_space, is_disk_fault};
@@ -31,15 +32,16 @@ use sem_mounts::Spaces;
 use shell_lang::Reader;
 use std::alloc::Global;
 
-/// Attaches the spaces that the words name, opens the store, plays the script that the source gives,
-/// and writes the reply to each command to the sink.
+/// Attaches the spaces that the words name, opens the store, plays the script that the source
+/// gives, and writes the reply to each command to the sink.
 ///
 /// `words` are those of the program behind its own name: `[--new] [--tick N] STORE [NAME=FILE]...`.
 /// Each FILE is read first, as the catalogue of the space NAME. Then the disk is bound to the file
 /// STORE, which is made where it is missing and `--new` is given. The source is read in pieces, and
 /// no line is carried out before the reply to the line before it was written and flushed; what a
 /// line changes is stored before its reply is written. Behind each reply up to N index steps
-/// follow. A `put` is carried out with the bytes that follow its line. No command uses a space yet.
+/// follow. A `put` is carried out with the bytes that follow its line. A command asks the spaces
+/// what it has to know of their documents, and is refused where one of them isn't attached or fails.
 pub fn run<S: Source, K: Sink, D: Disk, P: Spaces>(
     alloc: Global,
     words: &[String],
@@ -58,19 +60,20 @@ pub fn run<S: Source, K: Sink, D: Disk, P: Spaces>(
         (outside (S.seen input.new) (K.seen output.new)) × (disk.new ≡ disk.old) ×
         (spaces.new ≡ spaces.old) }
 
-    // Each space that the words name is attached, with the documents of its file. Where one can't
-    // be, it says which and why, and does nothing else.
+    // Each space that the words name is attached, with the documents of its file, and is only asked
+    // since. Where one can't be, it says which and why, and does nothing else.
     ensures spaces { IfSome (options (map string_bytes words.now))
         (λ asked. LeavesSpaces result asked.spaces (P.seen spaces.old) (P.seen spaces.new)) }
     ensures bad_space { is_bad_space result ≡ true →
         (input.new ≡ input.old) × (output.new ≡ output.old) × (disk.new ≡ disk.old) }
 
-    // The replies are those of the tree that the store held, a crash at any moment leaves that tree
-    // after some of the events, at the end those of what was answered, and without a fault the
-    // script is played.
+    // The replies are those of the tree that the store held, given the documents of the spaces and
+    // the faults that its commands met. A crash at any moment leaves that tree after some of the
+    // events, at the end those of what was answered, and without a fault the script is played.
     ensures ran { IfOpens (options (map string_bytes words.now)) (D.seen disk.old)
         (S.seen input.old).left
-        (λ asked setting script. Ran asked.fresh asked.tick result setting script
+        (λ asked setting script. IfTold (P.seen spaces.old) (P.seen spaces.new) asked.tick setting
+        script (λ given. Ran asked.fresh given result setting script
         (outside (S.seen input.old) (K.seen output.old))
         (outside (S.seen input.new) (K.seen output.new))
         (IsSettled (D.seen disk.old) (D.image disk.old)) (D.image disk.new)
@@ -78,7 +81,7 @@ pub fn run<S: Source, K: Sink, D: Disk, P: Spaces>(
         (CanAttach asked.spaces (P.seen spaces.old) (P.seen spaces.new) ×
         IsFaultless (outside (S.seen input.old) (K.seen output.old))
         (outside (S.seen input.new) (K.seen output.new))
-        (D.faults disk.old) (D.faults disk.new))) }
+        (D.faults disk.old) (D.faults disk.new)))) }
 
     // Where the file holds no store, or one though a new one was asked for, it says so and does
     // nothing else.
@@ -107,31 +110,34 @@ pub fn run<S: Source, K: Sink, D: Disk, P: Spaces>(
         Err(WordsFault::Memory) => return Status::Memory,
     };
     match attach_spaces(spaces, &options.spaces) {
-        Ok(()) => run_store(alloc, &options, input, output, disk),
+        Ok(()) => run_store(alloc, &options, input, output, disk, spaces),
         Err(status) => status,
     }
 }
 
 // Opens the store, and plays the script on it.
-fn run_store<S: Source, K: Sink, D: Disk>(
+fn run_store<S: Source, K: Sink, D: Disk, P: Spaces>(
     alloc: Global,
     options: &Options<'_>,
     input: &mut S,
     output: &mut K,
     disk: &mut D,
+    spaces: &mut P,
 ) -> Status
     requires { (S.seen input.old).ended ≡ false }
     ensures own { IsStoreStatus result }
     ensures ran { IfOpens (Some (asked_of options.now)) (D.seen disk.old)
         (S.seen input.old).left
-        (λ asked setting script. Ran asked.fresh asked.tick result setting script
+        (λ asked setting script. IfTold (P.seen spaces.old) (P.seen spaces.new) asked.tick setting
+        script (λ given. Ran asked.fresh given result setting script
         (outside (S.seen input.old) (K.seen output.old))
         (outside (S.seen input.new) (K.seen output.new))
         (IsSettled (D.seen disk.old) (D.image disk.old)) (D.image disk.new)
         (LeavesOnly D.moment D.image_since disk.old disk.new)
         (IsFaultless (outside (S.seen input.old) (K.seen output.old))
         (outside (S.seen input.new) (K.seen output.new))
-        (D.faults disk.old) (D.faults disk.new))) }
+        (D.faults disk.old) (D.faults disk.new)))) }
+    ensures spaces { StayAttached (P.seen spaces.old) (P.seen spaces.new) }
     ensures unopened { IfSome (D.seen disk.old) (λ file. IfErr
         (opening_outcome options.now.fresh (held file))
         (λ wanted.
@@ -147,7 +153,7 @@ fn run_store<S: Source, K: Sink, D: Disk>(
         (D.faults disk.new) }
 {
     match open_store(alloc, options, disk) {
-        Ok(store) => play_store(alloc, store, options.tick, input, output, disk),
+        Ok(store) => play_store(alloc, store, options.tick, input, output, disk, spaces),
         Err(status) => status,
     }
 }
@@ -171,20 +177,22 @@ fn write_usage<K: Sink>(output: &mut K) -> Status
 }
 
 // Plays the script on a store that was opened.
-fn play_store<S: Source, K: Sink, D: Disk>(
+fn play_store<S: Source, K: Sink, D: Disk, P: Spaces>(
     alloc: Global,
     store: Store,
     tick: u64,
     input: &mut S,
     output: &mut K,
     disk: &mut D,
+    spaces: &mut P,
 ) -> Status
     requires source { (S.seen input.old).ended ≡ false }
     requires intact { store.broken ≡ false }
     requires place { Bears (D.seen disk.old) store }
     ensures { PlaysStore D.seen D.image D.moment D.image_since D.attached D.faults disk.old disk.new
         tick store.setting (outside (S.seen input.old) (K.seen output.old))
-        (outside (S.seen input.new) (K.seen output.new)) result }
+        (outside (S.seen input.new) (K.seen output.new)) (P.seen spaces.old) (P.seen spaces.new)
+        result }
 {
     let mut player = Player {
         alloc,
@@ -192,18 +200,19 @@ fn play_store<S: Source, K: Sink, D: Disk>(
         tick,
         refused: false,
     };
-    let played = play_script(alloc, &mut player, input, output, disk);
+    let played = play_script(alloc, &mut player, input, output, disk, spaces);
     drop(player);
     end_status(played)
 }
 
 // Plays the script to its end, and says whether some command was refused.
-fn play_script<S: Source, K: Sink, D: Disk>(
+fn play_script<S: Source, K: Sink, D: Disk, P: Spaces>(
     alloc: Global,
     player: &mut Player,
     input: &mut S,
     output: &mut K,
     disk: &mut D,
+    spaces: &mut P,
 ) -> Result<bool, Status>
     requires source { (S.seen input.old).ended ≡ false }
     requires begun { player.old.refused ≡ false }
@@ -211,12 +220,13 @@ fn play_script<S: Source, K: Sink, D: Disk>(
     requires place { Bears (D.seen disk.old) player.old.store }
     ensures { PlaysStore D.seen D.image D.moment D.image_since D.attached D.faults disk.old disk.new
         player.old.tick player.old.store.setting (outside (S.seen input.old) (K.seen output.old))
-        (outside (S.seen input.new) (K.seen output.new)) (end_status result) }
+        (outside (S.seen input.new) (K.seen output.new)) (P.seen spaces.old) (P.seen spaces.new)
+        (end_status result) }
 {
     let mut reader = Reader::new(alloc)?;
     'lines: loop {
         match take_line(&mut reader, input)? {
-            Some(line) => player.answer(output, disk, line)?,
+            Some(line) => player.answer(output, disk, spaces, line)?,
             None => return Ok(player.refused),
         }
     }

@@ -2,12 +2,11 @@
 ghost use Rattle.std.specs.Prelude.{◌≡◌, false, replicate};
 ghost use Rattle.hac_core.specs.Drafts.{CanSettle};
 ghost use Rattle.hac_model.specs.Laws.{AllHappen};
-ghost use Rattle.hac_model.specs.Run.Play.{item_turn, nothing_given};
 ghost use Rattle.hac_model.specs.Script.Lines.{item_taken};
 ghost use Rattle.hac_model.specs.declared.events.Event.TheVariants as event;
 ghost use Rattle.hac_store.specs.Stores.{Bears};
 ghost use Rattle.hac_top.specs.Deciding.{settled_turn, storing_turn};
-ghost use Rattle.hac_top.specs.Storing.{StoresTurn, storing_reply};
+ghost use Rattle.hac_top.specs.Storing.{StoresItem, StoresTurn, storing_reply};
 
 use crate::deciding::{Decision, decide};
 use crate::status::{Status, store_status};
@@ -15,6 +14,7 @@ use hac_core::Settled;
 use hac_disk::Disk;
 use hac_model::{LimitWord, Refusal, Reply, Seq, Taken, Text};
 use hac_store::{Store, StoreFault};
+use sem_mounts::Spaces;
 use std::alloc::Global;
 
 // The most index steps that one append takes.
@@ -25,20 +25,20 @@ pub const STEP_BYTES: u64 = 2;
 
 /// Decides what a line asks for, given what was taken of the bytes behind it, and stores what it
 /// changes. Gives the reply.
-pub fn store_line<D: Disk>(
+pub fn store_line<D: Disk, P: Spaces>(
     alloc: Global,
     store: &mut Store,
     disk: &mut D,
+    spaces: &mut P,
     line: Text,
     taken: Option<Taken>,
 ) -> Result<Reply, Status>
     requires intact { store.old.broken ≡ false }
     requires place { Bears (D.seen disk.old) store.old }
-    ensures { StoresTurn D.seen D.image D.moment D.image_since D.attached D.faults disk.old disk.new
-        store.old store.new (item_turn nothing_given store.old.setting
-        (item_taken line taken)) result }
+    ensures { StoresItem D.seen D.image D.moment D.image_since D.attached D.faults disk.old disk.new
+        (P.seen spaces.old) (P.seen spaces.new) store.old store.new (item_taken line taken) result }
 {
-    let decision = decide(alloc, store.machine(), line, taken)?;
+    let decision = decide(alloc, store.machine(), spaces, line, taken)?;
     match decision {
         Decision::Answer(reply) => Ok(reply),
         Decision::Change(settled) => storing_reply(alloc, store_events(store, disk, settled)),

@@ -28,14 +28,12 @@ const NO_TAB: &[u8] = b"oak\thigh\n\nfir green\n";
 fn spaces_of_the_words_are_attached(rt: HostRuntime) -> Result<(), Fail> {
     let mut spaces = unattached(rt.alloc(), TREES, &[])?;
     let mut disk = failing_disk(rt.alloc(), &[])?;
-    expect(
-        &rt,
-        rt.alloc(),
-        &mut spaces,
-        &mut disk,
-        Status::Done,
-        b"ok\n",
-    )?;
+    let script = Script {
+        lines: b"ls\n",
+        replies: b"ok\n",
+        status: Status::Done,
+    };
+    expect(&rt, rt.alloc(), &mut spaces, &mut disk, script)?;
     expect_space(&rt, rt.alloc(), &mut spaces, b"fruit", Some(b"apple pear "))?;
     expect_space(&rt, rt.alloc(), &mut spaces, b"trees", Some(b"fir oak "))?;
     expect_run(
@@ -47,6 +45,20 @@ fn spaces_of_the_words_are_attached(rt: HostRuntime) -> Result<(), Fail> {
         Status::Done,
         b"ok\n",
     )
+}
+
+// The third call, the first that a command makes, fails, and so does the seventh, which asks the
+// second mount for a term.
+#[test]
+fn space_that_fails_is_told(rt: HostRuntime) -> Result<(), Fail> {
+    let mut spaces = unattached(rt.alloc(), TREES, &[3, 7])?;
+    let mut disk = failing_disk(rt.alloc(), &[])?;
+    let script = Script {
+        lines: b"smount /f fruit\nsmount /f fruit\nsmount /t trees\nsmkdir /g green\nls\nsmkdir /g green\nsls /g\n",
+        replies: b"no space-fault fruit\nok\nok\nno space-fault trees\nm f\nm t\nok\nok\nt /f/pear\nt /t/fir\nok\n",
+        status: Status::SomeRefused,
+    };
+    expect(&rt, rt.alloc(), &mut spaces, &mut disk, script)
 }
 
 #[test]
@@ -79,29 +91,41 @@ fn expect_end(
     requires { (seen_of spaces.old).attached ≡ [] }
 {
     let mut disk = failing_disk(alloc, &[])?;
-    expect(rt, alloc, spaces, &mut disk, status, b"")?;
+    let script = Script {
+        lines: b"ls\n",
+        replies: b"",
+        status,
+    };
+    expect(rt, alloc, spaces, &mut disk, script)?;
     expect_space(rt, alloc, spaces, b"fruit", Some(b"apple pear "))?;
     expect_space(rt, alloc, spaces, b"trees", None)?;
     let none = Status::NotStore { at: 0 };
     expect_run(rt, alloc, &OLD, b"ls\n", &mut disk, none, b"")
 }
 
-/// A run of one command on a new store ends with the status and replies the text.
+/// The lines of a run, its replies, and the status at its end.
+#[derive(Drop)]
+struct Script {
+    lines: &'static [u8],
+    replies: &'static [u8],
+    status: Status,
+}
+
+/// A run on a new store replies so and ends so.
 fn expect(
     rt: &impl Abort,
     alloc: Global,
     spaces: &mut MemorySpaces,
     disk: &mut MemoryDisk,
-    status: Status,
-    text: &[u8],
+    script: Script,
 ) -> Result<(), Fail>
     requires { (seen_of spaces.old).attached ≡ [] }
 {
-    let mut input = MemorySource::new(alloc, b"ls\n", &[], &[])?;
+    let mut input = MemorySource::new(alloc, script.lines, &[], &[])?;
     let mut output = MemorySink::new(alloc, ROOM, ROOM, &[])?;
     let ended = run_on(alloc, &WORDS, &mut input, &mut output, disk, spaces)?;
-    assert_eq!(rt; ended, status);
-    assert_eq!(rt; output.written(), text);
+    assert_eq!(rt; ended, script.status);
+    assert_eq!(rt; output.written(), script.replies);
     Ok(())
 }
 

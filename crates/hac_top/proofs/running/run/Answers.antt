@@ -7,7 +7,7 @@ use Rattle.hac_top.specs.Run.{IsFaultless, outside}
 use Rattle.hac_top.specs.Spaces.{CanAttach, HasAttached, StopsAttaching}
 use Rattle.hac_top.specs.Words.{asked_of, spaces_asked}
 use Rattle.hac_top.proofs.AttachLemmas.{asked-differ, not-bad}
-use Rattle.hac_top.proofs.UnattachedLemmas.{is-unattached, memory-attached, memory-quiet, memory-ran, memory-spaces, own-good, own-spaces, ran-given, ran-unattached, stopped-spaces, told-good, unattached-disk, unattached-ends, unattached-file, unattached-names, unattached-quiet, unattached-usage}
+use Rattle.hac_top.proofs.UnattachedLemmas.{is-unattached, memory-attached, memory-quiet, memory-ran, memory-spaces, own-good, own-spaces, ran-given, ran-unattached, stopped-later, stopped-spaces, told-good, unattached-disk, unattached-ends, unattached-file, unattached-names, unattached-quiet, unattached-usage}
 use Rattle.hac_top.proofs.running.run.Goals as goal
 
 pub attach_spaces-requires-clause-differ : goal.attach_spaces-requires-clause-differ
@@ -28,7 +28,7 @@ returns-in-Err-Memory-clause-ran g c =
     let faults = disk.faults c.args.disk.now in
     let spaces = g.P.Spaces.seen c.args.spaces.now in
     memory-ran disk.seen disk.image disk.moment disk.image_since disk.attached disk.faults g.met.D.Disk.only_now g.met.D.Disk.counts_now
-    (λ asked. CanAttach asked.spaces spaces spaces × IsFaultless before before faults faults) (options (map string_bytes c.args.words.now)) c.args.disk.now before
+    (λ asked. CanAttach asked.spaces spaces spaces × IsFaultless before before faults faults) (options (map string_bytes c.args.words.now)) c.args.disk.now before spaces
 
 pub returns-in-Err-Memory-clause-unopened : goal.returns-in-Err-Memory-clause-unopened
 returns-in-Err-Memory-clause-unopened g c =
@@ -47,10 +47,11 @@ pub returns-in-Ok-attach_spaces-clause-spaces : goal.returns-in-Ok-attach_spaces
 returns-in-Ok-attach_spaces-clause-spaces g c =
     let seen = g.P.Spaces.seen in
     let old = seen c.args.spaces.now in
-    let new = seen c.attach_spaces.new.spaces in
+    let mid = seen c.attach_spaces.new.spaces in
+    let new = seen c.run_store.new.spaces in
     let files = spaces_asked c.in-Ok.options.spaces.items in
-    let has : HasAttached files old new = rw c.deref.ensures.value at c.in-Ok-attach_spaces.ensures.ok in
-    rw c.in-Ok.ensures.read (own-spaces c.run_store.result files old new c.run_store.ensures.own has)
+    let has : HasAttached files old mid = rw c.deref.ensures.value at c.in-Ok-attach_spaces.ensures.ok in
+    rw c.in-Ok.ensures.read (own-spaces c.run_store.result files old mid new c.run_store.ensures.own has c.run_store.ensures.spaces)
 
 pub returns-in-Ok-attach_spaces-clause-bad_space : goal.returns-in-Ok-attach_spaces-clause-bad_space
 returns-in-Ok-attach_spaces-clause-bad_space g c = λ bad. absurd (own-good c.run_store.result c.run_store.ensures.own bad)
@@ -62,12 +63,13 @@ returns-in-Ok-attach_spaces-clause-ran g c =
     let before = outside (g.S.Source.seen c.args.input.now) (g.K.Sink.seen c.args.output.now) in
     let after = outside (g.S.Source.seen c.run_store.new.input) (g.K.Sink.seen c.run_store.new.output) in
     let faultless = IsFaultless before after (disk.faults c.args.disk.now) (disk.faults c.run_store.new.disk) in
-    let can = CanAttach (spaces_asked c.in-Ok.options.spaces.items) (seen c.args.spaces.now) (seen c.attach_spaces.new.spaces) in
+    let can = CanAttach (spaces_asked c.in-Ok.options.spaces.items) (seen c.args.spaces.now) (seen c.run_store.new.spaces) in
+    let has : HasAttached (spaces_asked c.in-Ok.options.spaces.items) (seen c.args.spaces.now) (seen c.attach_spaces.new.spaces) = rw c.deref.ensures.value at c.in-Ok-attach_spaces.ensures.ok in
     let old = c.args.disk.now in
     let new = c.run_store.new.disk in
     rw c.in-Ok.ensures.read
     (ran-given c.in-Ok.options.fresh c.in-Ok.options.tick c.run_store.result before after (IsSettled (disk.seen old) (disk.image old)) (disk.image new) (LeavesOnly disk.moment disk.image_since old new) faultless (can × faultless) (λ given. given.1)
-    (disk.seen old) before.source.left c.run_store.ensures.ran)
+    (seen c.args.spaces.now) (seen c.attach_spaces.new.spaces) (seen c.run_store.new.spaces) has.faults (disk.seen old) before.source.left c.run_store.ensures.ran)
 
 pub returns-in-Ok-attach_spaces-clause-unopened : goal.returns-in-Ok-attach_spaces-clause-unopened
 returns-in-Ok-attach_spaces-clause-unopened g c = rw c.in-Ok.ensures.read c.run_store.ensures.unopened
@@ -105,7 +107,7 @@ returns-clause-ran g c =
     let stops : StopsAttaching files old new c.in-Err.status = rw c.deref.ensures.value at c.in-Err.ensures.err in
     rw c.in-Ok.ensures.read
     (ran-unattached disk.seen disk.image disk.moment disk.image_since disk.attached disk.faults g.met.D.Disk.only_now g.met.D.Disk.counts_now (CanAttach files old new × IsFaultless before before faults faults)
-    c.in-Err.status (is-unattached files old new c.in-Err.status stops) (λ given bad. not-bad files old new c.in-Err.status stops given.0 bad) (asked_of c.in-Ok.options) c.args.disk.now before)
+    c.in-Err.status (is-unattached files old new c.in-Err.status stops) (λ given bad. not-bad files old new c.in-Err.status stops given.0 bad) (asked_of c.in-Ok.options) c.args.disk.now before old new (stopped-later files old new c.in-Err.status stops))
 
 pub returns-clause-unopened : goal.returns-clause-unopened
 returns-clause-unopened g c =
