@@ -5,11 +5,12 @@ from __future__ import annotations
 import os
 import random
 import shutil
+import subprocess
 import time
 from pathlib import Path
 from typing import Dict, List
 
-from tests.support import Run, ToolTest
+from tests.support import HAC, Run, ToolTest
 
 
 class ViewTest(ToolTest):
@@ -36,6 +37,15 @@ class ViewTest(ToolTest):
 
 
 class WhatIsWritten(ViewTest):
+    def test_documents_are_left(self) -> None:
+        catalogue = self.made / "mail.cat"
+        catalogue.write_text("one\tapple\n")
+        script = b"smount /mail mail\nsmkdir /fruit apple\nwrite /a apple\nindex\n"
+        subprocess.run([HAC, "--new", self.store, f"mail={catalogue}"], input=script, check=True, stdout=subprocess.DEVNULL)
+        reason = "it can't be read: no-space mail (this space has to be asked, and isn't attached)"
+        self.assertEqual(self.view(status=1), [f"left: fruit/one: {reason}", "2 made, 0 removed, 0 unchanged, 1 left"])
+        self.assertEqual(self.seen(), {"fruit": "d", "fruit/a": "apple"})
+
     def test_links_and_copies(self) -> None:
         notes = self.made / "notes"
         (notes / "sub").mkdir(parents=True)
