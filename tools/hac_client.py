@@ -43,11 +43,11 @@ CAUSES: Dict[str, str] = {
     "exists": "something is already at this path",
     "under": "a directory can't be moved into itself",
     "not-empty": "the directory at this path isn't empty",
-    "referenced": "the query of this directory names the one that was to be removed",
+    "referenced": "the query of this directory names the one that was to be removed, or that one is linked in it",
     "busy": "this session stands in the directory that was to be removed",
     "not-linked": "the file isn't a link of that directory",
-    "already": "the file is already a permanent link of that directory",
-    "no-mark": "the file has no mark in that directory",
+    "already": "the file or directory is already a permanent link of that directory",
+    "no-mark": "the file or directory has no mark in that directory",
     "cycle": "the directory would depend on itself through this one",
     "in-mount": "what is in this mount belongs to its space and isn't changed",
     "no-space": "this space has to be asked, and isn't attached",
@@ -67,6 +67,7 @@ CAUSES: Dict[str, str] = {
     "limit symlinks": "a store has at most 10,000 symbolic links",
     "limit path": "a path has at most 64 names",
     "limit docs": "a mount has at most 10,000 documents",
+    "limit answers": "mounts keep at most 65,536 answers, and these name at most 4,194,304 documents",
     "limit sessions": "at most 64 sessions may stand elsewhere than in the root",
     "limit items": "a store has at most 65,536 files and documents",
     "limit numbers": "a store has used up its numbers for new entries",
@@ -215,6 +216,10 @@ class Hac:
 
     def sls(self, path: bytes) -> Reply:
         return self.ask(b"sls " + word(path))
+
+    def find_in(self, directory: bytes) -> Reply:
+        """Lists all that a directory provides."""
+        return self.ask(b"find {" + spelled_in_braces(directory) + b"}")
 
     def mkdir(self, path: bytes) -> Reply:
         return self.ask(b"mkdir " + word(path))
@@ -409,6 +414,11 @@ def write_whole(path: Path, content: bytes) -> None:
 def word(path: bytes) -> bytes:
     """A path as one word of a line."""
     return b'"' + path.replace(b"\\", b"\\\\").replace(b'"', b'\\"') + b'"'
+
+
+def spelled_in_braces(path: bytes) -> bytes:
+    """A path as it stands between the braces of a query."""
+    return path.replace(b"\\", b"\\\\").replace(b"}", b"\\}")
 
 
 def is_silent(line: bytes) -> bool:

@@ -46,6 +46,38 @@ class WhatIsWritten(ViewTest):
         self.assertEqual(self.view(status=1), [f"left: fruit/one: {reason}", "2 made, 0 removed, 0 unchanged, 1 left"])
         self.assertEqual(self.seen(), {"fruit": "d", "fruit/a": "apple"})
 
+    def test_linked_directories(self) -> None:
+        self.make_store(
+            "mkdir /roof",
+            "mkdir /roof/a}b",
+            "write /roof/tiles red",
+            "write /roof/a}b/beams oak",
+            "smkdir /house none",
+            "smkdir /all none",
+            "sln /roof/a}b /house",
+            "sln /roof/tiles /house",
+            "sln /roof /all",
+            "sln /house /all",
+            "smkdir /all/red red",
+            "index",
+        )
+        wanted = {
+            "house": "d",
+            "house/beams": "oak",
+            "house/tiles": "red",
+            "all": "d",
+            "all/beams": "oak",
+            "all/tiles": "red",
+            "all/red": "d",
+            "all/red/tiles": "red",
+        }
+        self.assertEqual(self.view(), ["8 made, 0 removed, 0 unchanged, 0 left"])
+        self.assertEqual(self.seen(), wanted)
+        self.ask("sforget /roof/a}b /house", "sforget /roof /all")
+        self.assertEqual(self.view(), ["0 made, 2 removed, 6 unchanged, 0 left"])
+        del wanted["house/beams"], wanted["all/beams"]
+        self.assertEqual(self.seen(), wanted)
+
     def test_links_and_copies(self) -> None:
         notes = self.made / "notes"
         (notes / "sub").mkdir(parents=True)

@@ -1,5 +1,5 @@
 -- What callers see of a graph.
-use Rattle.std.specs.Prelude.{ℕ, ◌==◌, if◌then◌else◌, List, [], ◌∷◌, Option, Some, None, drop, refl}
+use Rattle.std.specs.Prelude.{ℕ, ◌==◌, if◌then◌else◌, List, [], ◌∷◌, Option, drop, refl}
 use Rattle.std.specs.Coded.{Coded, code_by, coded×, coded_list, coded_option, coded_ℕ}
 
 -- the directories with the edges of each, and which of them is ready for new ones
@@ -19,14 +19,9 @@ edges_at (node ∷ nodes) number = if number == node.0 then node.1 else edges_at
 abbrev pub edges_of : Seen → ℕ → List ℕ
 edges_of graph dir = edges_at graph.nodes dir
 
--- the directories that a directory's query names: all edges but the first
-abbrev pub named_by : Seen → ℕ → List ℕ
-named_by graph dir = drop 1 (edges_of graph dir)
-
--- the numbers, where there are any
-abbrev pub if_any : List ℕ → Option (List ℕ)
-if_any [] = None
-if_any (first ∷ numbers) = Some (first ∷ numbers)
+-- the directories to which a directory refers, by its query or since they were added to it: all edges but the first
+abbrev pub referred_by : Seen → ℕ → List ℕ
+referred_by graph dir = drop 1 (edges_of graph dir)
 
 -- the edges, but for those of one directory
 abbrev pub replaced : (ℕ → List ℕ) → ℕ → List ℕ → ℕ → List ℕ

@@ -42,7 +42,7 @@ impl Graph {
                 return Ok(true);
             }
             if seen.insert(number.get())? {
-                stack.extend_from_slice(self.edges_at(number))?;
+                stack.extend_from_slice(self.edges(number))?;
             }
         }
         Ok(false)

@@ -1,8 +1,7 @@
 //! The graph itself, what it says of a directory, and its changes. Those that may want memory are
 //! prepared.
 ghost use Rattle.std.specs.Prelude.{◌≡◌, ℕ, [], Some, None, IfOk, OnOk, OnErr};
-ghost use Rattle.std.specs.Option.{option_copied};
-ghost use Rattle.dep_graph.specs.Graphs.{edges_of, if_any, replaced};
+ghost use Rattle.dep_graph.specs.Graphs.{edges_of, replaced};
 
 use crate::nodes::{self, Nodes};
 use hac_model::{Memory, Number};
@@ -11,8 +10,9 @@ use std::alloc::Global;
 use std::marker::Model;
 
 /// The semantic directories with the edges of each, seen as their list and as which of them is
-/// ready for new edges. The first edge of a directory leads to its own directory, the others to
-/// those that its query names, in the query's order. A directory with no edges isn't there.
+/// ready for new edges. The first edge of a directory leads to its own directory, the next ones to
+/// those that its query names, in the query's order, and the last to those that users added to it,
+/// in order of number. A directory with no edges isn't there.
 #[derive(Drop)]
 pub struct Graph {
     pub(crate) alloc: Global,
@@ -56,16 +56,8 @@ impl Graph {
         }
     }
 
-    /// The edges of a directory, where it is there.
-    pub fn edges(&self, dir: Number) -> Option<&[Number]>
-        ensures { option_copied result ≡ if_any (edges_of self.now dir) }
-    {
-        let edges = self.edges_at(dir);
-        if edges.is_empty() { None } else { Some(edges) }
-    }
-
     /// The edges of a directory, none where it isn't there.
-    pub(crate) fn edges_at(&self, dir: Number) -> &[Number]
+    pub fn edges(&self, dir: Number) -> &[Number]
         ensures { result.now ≡ edges_of self.now dir }
     {
         nodes::edges_at(&self.nodes, dir)

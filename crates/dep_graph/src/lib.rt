@@ -1,5 +1,5 @@
 //! Which directories depend on which, as numbers with lists of edges: which edges would close a
-//! cycle, which queries name a directory, and in what order links are found. It knows no tree, no
+//! cycle, which directories refer to one, and in what order links are found. It knows no tree, no
 //! query and no link, and not why a directory has its edges.
 #![tactic(auto)]
 

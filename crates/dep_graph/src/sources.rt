@@ -49,7 +49,7 @@ impl Graph {
         ensures { OnOk result (Visits (edges_of self.now) number (contains nat_eq seen.old)
             (contains nat_eq seen.new) stack.old stack.new) }
     {
-        let edges = self.edges_at(number);
+        let edges = self.edges(number);
         if !edges.is_empty() && seen.insert(number.get())? {
             stack.push(Step::Leave(number))?;
             enter(stack, edges)?;

@@ -1,13 +1,12 @@
 -- How the counts of a state change with it.
-use Rattle.std.proofs.Common.{◌≡◌, ℕ, ◌+◌, ◌≤◌, Bool, true, false, cond, List, [], ◌∷◌, ◌++◌, length, refl, ap, sym, ◌∙◌, arith}
-use Rattle.std.specs.Prelude.{Some, None, not, nat_le, nat_lt, filter}
+use Rattle.std.proofs.Common.{◌≡◌, ℕ, ◌+◌, ◌≤◌, Bool, true, false, cond, List, [], ◌∷◌, ◌++◌, refl, ap, sym, ◌∙◌, arith}
+use Rattle.std.specs.Prelude.{Some, None, not, filter}
 use Rattle.std.proofs.lemmas.Bool.Decides.{nat_tests}
 use Rattle.hac_model.specs.Tree.Events.{added, changed_in, changed_at, edited, removed, reseated}
 use Rattle.hac_model.specs.Tree.Limits.{are_paths_short, counts, long_paths, passed_limit, file_bytes}
-use Rattle.hac_model.specs.Tree.{entry_at, is_directory, is_directory_at, is_dirty, is_file, is_linkable, is_mount, is_symlink, path_of}
+use Rattle.hac_model.specs.Tree.{entry_at, is_directory, is_dirty, is_file, is_linkable, is_mount, is_symlink}
 use Rattle.hac_model.specs.Tree.Valid.{IsLayout}
 use Rattle.hac_model.specs.declared.counts.Counts.{Counts}
-use Rattle.hac_model.specs.declared.limits.TheConstants.{PATH_LIMIT}
 use Rattle.hac_model.specs.declared.states.Body.{Body}
 use Rattle.hac_model.specs.declared.states.Body.TheVariants as body
 use Rattle.hac_model.specs.declared.states.Entry.{Entry}
@@ -16,8 +15,7 @@ use Rattle.hac_model.proofs.ChangeLemmas.{is_kept}
 use Rattle.hac_model.proofs.CountLemmas.{is_queried, measured, measured-added, measured-changed, measured-cons, measured-removed, measured-reseated, one_if}
 use Rattle.hac_model.proofs.DepthLemmas.{paths-edited}
 use Rattle.hac_model.proofs.LimitLemmas.{IsWithinLimits, limits-within}
-use Rattle.hac_model.proofs.MoveLemmas.{paths-added}
-use Rattle.hac_model.proofs.TreeLemmas.{directory-lives}
+use Rattle.hac_model.proofs.ValidLemmas.{KeepsPlaces}
 use Rattle.file_tree.specs.Counting as counting
 use Rattle.file_tree.specs.Counting.{AreSmall, plus, share_of}
 
@@ -103,8 +101,8 @@ module _ (s : State) (h : IsLayout s) where
     counts-removed k = ap (λ (long : ℕ). plus (tally (filter (is_kept n) s.entries) long s.next) (share_of e.body)) (k ∙ sym (long-none s h.limits)) ∙ sym part-of.1
 
     -- an entry with another body
-    pub counts-edited : (edit : Body → Body) → plus (counts (changed_at s n (edited edit))) (share_of e.body) ≡ plus (counts s) (share_of (edit e.body))
-    counts-edited edit = λ i. record {
+    pub counts-edited : (edit : Body → Body) → KeepsPlaces edit → plus (counts (changed_at s n (edited edit))) (share_of e.body) ≡ plus (counts s) (share_of (edit e.body))
+    counts-edited edit kind = λ i. record {
       bytes = new file_bytes i;
       directories = other i;
       semantics = new (one_if is_queried) i;
@@ -113,7 +111,7 @@ module _ (s : State) (h : IsLayout s) where
       files = new (one_if is_file) i;
       items = new (one_if is_linkable) i;
       dirty = new (one_if is_dirty) i;
-      long_paths = cond {A = ℕ} (paths-edited s.entries n edit i) 0 1 + 0;
+      long_paths = cond {A = ℕ} (paths-edited s.entries n edit kind.mounts i) 0 1 + 0;
       next = s.next + 0;
     }
       where
@@ -219,34 +217,31 @@ module _ (s : State) (h : IsLayout s) (n : ℕ) (e : Entry) (found : entry_at s.
   pub told-removed : (left : Counts) → long_paths (removed s n).entries ≡ 0 → plus left part ≡ told → left ≡ counts (removed s n)
   told-removed left short sum = same-part left (counts (removed s n)) (share_of e.body) (ap (plus left) (sym one) ∙ sum ∙ all ∙ sym (counts-removed s h n e found short))
 
-  pub told-edited : (edit : Body → Body) (left new : Counts) → new ≡ share_of (edit e.body) → plus left part ≡ plus told new → left ≡ counts (changed_at s n (edited edit))
-  told-edited edit left new is sum =
+  pub told-edited : (edit : Body → Body) (left new : Counts) → KeepsPlaces edit → new ≡ share_of (edit e.body) → plus left part ≡ plus told new → left ≡ counts (changed_at s n (edited edit))
+  told-edited edit left new kind is sum =
       same-part left (counts (changed_at s n (edited edit))) (share_of e.body)
-      (ap (plus left) (sym one) ∙ sum ∙ (λ i. plus (all i) (is i)) ∙ sym (counts-edited s h n e found edit))
+      (ap (plus left) (sym one) ∙ sum ∙ (λ i. plus (all i) (is i)) ∙ sym (counts-edited s h n e found edit kind))
 
 -- A new entry, and one that moves.
 
-pub told-added : (s : State) (dir : ℕ) (name : List ℕ) (b : Body) (depth : ℕ) (told share more sum : Counts) → IsLayout s → is_directory_at s.entries dir ≡ true → depth ≡ length (path_of s dir) → told ≡ counts s → share ≡ share_of b →
-    more ≡ record share { long_paths = counting.one_if (nat_le PATH_LIMIT depth); next = 1 } → sum ≡ plus told more → sum ≡ counts (added s dir name b)
-told-added s dir name b depth told share more sum h directory deep all one extended summed =
-    summed
-    ∙ (λ i. plus (all i) ((extended ∙ ap (λ (c : Counts). record c { long_paths = counting.one_if (nat_le PATH_LIMIT depth); next = 1 }) one) i))
-    ∙ sym (counts-added s h dir name b (counting.one_if (nat_le PATH_LIMIT depth))
-    (ap (λ (t : Bool). cond {A = ℕ} t 0 1) (paths-added s dir name b h (directory-lives s.entries dir directory)) ∙ ap (λ (k : ℕ). cond {A = ℕ} (nat_lt k PATH_LIMIT) 0 1) (sym deep) ∙ turned depth PATH_LIMIT))
+-- some path is long where not all are short
+pub long-told : (es : List Entry) (short : Bool) → short ≡ are_paths_short es → long_paths es ≡ counting.one_if (not short)
+long-told es short same = ap (λ (b : Bool). cond {A = ℕ} b 0 1) (sym same) ∙ turned short
   where
-    turned : (d k : ℕ) → cond {A = ℕ} (nat_lt d k) 0 1 ≡ cond {A = ℕ} (nat_le k d) 1 0
-    turned d k = elim (nat_le k d) as (λ b. nat_le k d ≡ b → cond {A = ℕ} (nat_lt d k) 0 1 ≡ cond {A = ℕ} b 1 0) [
-      | true ↦ (λ low. let no : nat_lt d k ≡ false = grind (arith, nat_tests, low) in ap (λ (t : Bool). cond {A = ℕ} t 0 1) no)
-      | false ↦ (λ high. let yes : nat_lt d k ≡ true = grind (arith, nat_tests, high) in ap (λ (t : Bool). cond {A = ℕ} t 0 1) yes)
-    ] refl
+    turned : (b : Bool) → cond {A = ℕ} b 0 1 ≡ cond {A = ℕ} (not b) 1 0
+    turned true = refl
+    turned false = refl
+
+pub told-added : (s : State) (dir : ℕ) (name : List ℕ) (b : Body) (told share more sum : Counts) (short : Bool) → IsLayout s → short ≡ are_paths_short (added s dir name b).entries → told ≡ counts s → share ≡ share_of b →
+    more ≡ record share { long_paths = counting.one_if (not short); next = 1 } → sum ≡ plus told more → sum ≡ counts (added s dir name b)
+told-added s dir name b told share more sum short h same all one extended summed =
+    summed
+    ∙ (λ i. plus (all i) ((extended ∙ ap (λ (c : Counts). record c { long_paths = counting.one_if (not short); next = 1 }) one) i))
+    ∙ sym (counts-added s h dir name b (counting.one_if (not short)) (long-told (added s dir name b).entries short same))
 
 pub told-moved : (s : State) (n dir : ℕ) (name : List ℕ) (told sum : Counts) (short : Bool) → told ≡ counts s → short ≡ are_paths_short (changed_at s n (reseated dir name)).entries →
     sum ≡ record told { long_paths = counting.one_if (not short) } → sum ≡ counts (changed_at s n (reseated dir name))
 told-moved s n dir name told sum short all same is =
     is
     ∙ ap (λ (c : Counts). record c { long_paths = counting.one_if (not short) }) all
-    ∙ sym (counts-reseated s n dir name (counting.one_if (not short)) (ap (λ (b : Bool). cond {A = ℕ} b 0 1) (sym same) ∙ turned short))
-  where
-    turned : (b : Bool) → cond {A = ℕ} b 0 1 ≡ cond {A = ℕ} (not b) 1 0
-    turned true = refl
-    turned false = refl
+    ∙ sym (counts-reseated s n dir name (counting.one_if (not short)) (long-told (changed_at s n (reseated dir name)).entries short same))

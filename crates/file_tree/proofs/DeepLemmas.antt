@@ -1,240 +1,141 @@
--- Which paths are long once a mount comes with its documents.
-use Rattle.std.proofs.Common.{◌≡◌, ℕ, zero, suc, ◌+◌, ◌<◌, ◌≤◌, Bool, true, false, cond, List, [], ◌∷◌, ◌++◌, length, take, refl, ap, sym, ◌∙◌, arith, inl, inr, eq-eqb}
-use Rattle.std.specs.Prelude.{◌==◌, ◌&&◌, min, nat_le, Some, None}
+-- What a state counts for once a mount has more documents. No path becomes too long by them.
+use Rattle.std.proofs.Common.{◌≡◌, ℕ, zero, suc, ◌+◌, ◌<◌, ◌≤◌, Bool, true, false, cond, List, [], ◌∷◌, ◌++◌, length, refl, ap, sym, ◌∙◌, arith}
+use Rattle.std.specs.Prelude.{◌&&◌, not, nat_le, Some, None, IsTrue}
 use Rattle.std.specs.List.{AllByRecursion, list_all}
-use Rattle.std.proofs.lemmas.Bool.{and_from, cases_lt, ne_eqb}
-use Rattle.std.proofs.lemmas.Bool.Decides.{nat_tests}
-use Rattle.std.proofs.Math.Bool.{and-false, and-true}
-use Rattle.std.proofs.lemmas.List.{length-take, length-take-le}
+use Rattle.std.proofs.lemmas.Bool.{and_from, le-leb, leb-true}
+use Rattle.std.proofs.lemmas.List.{length-take}
 use Rattle.std.proofs.lemmas.List.Folds.{list_all-append}
-use Rattle.hac_model.specs.Tree.Limits.{are_paths_short, counts, file_bytes, long_paths}
-use Rattle.hac_model.specs.Tree.Mounting.{documents_from, mounted}
-use Rattle.hac_model.specs.Tree.{ancestors, entry_at, is_directory, is_dirty, is_file, is_linkable, is_mount, is_path_short, is_symlink, lineage, path_of}
-use Rattle.hac_model.specs.Tree.Valid.{IsLayout}
+use Rattle.hac_model.specs.Tree.Events.{added}
+use Rattle.hac_model.specs.Tree.Limits.{are_paths_short, counts, file_bytes, has_short_path, names_below}
+use Rattle.hac_model.specs.Tree.Mounting.{documents_from, mounted, with_documents}
+use Rattle.hac_model.specs.Tree.{ancestors, entry_at, is_directory, is_directory_at, is_dirty, is_file, is_linkable, is_mount, is_mount_at, is_symlink, lineage}
+use Rattle.hac_model.specs.Tree.Valid.{IsLayout, NumbersRise, is_in_place}
+use Rattle.hac_model.specs.declared.counts.Counts.{Counts}
 use Rattle.hac_model.specs.declared.limits.TheConstants.{PATH_LIMIT}
 use Rattle.hac_model.specs.declared.states.Answer.{Answer}
 use Rattle.hac_model.specs.declared.states.Body.{Body}
-use Rattle.hac_model.specs.declared.states.Body.TheVariants.{Mount}
+use Rattle.hac_model.specs.declared.states.Body.TheVariants.{Document, Mount}
 use Rattle.hac_model.specs.declared.states.Entry.{Entry}
 use Rattle.hac_model.specs.declared.states.State.{State}
-use Rattle.hac_model.proofs.CountLemmas.{is_queried, measured, measured-added, one_if}
-use Rattle.hac_model.proofs.PathLemmas.{ancestors-step, ancestors-taken, ancestors_by, length-path, limit, lineage-is, lineage-take, parent-lives, path-short, short-is}
-use Rattle.hac_model.proofs.TreeLemmas.{Lives, all-entries, entry_at-below, entry_at-next, rise-below}
+use Rattle.hac_model.proofs.ChangeLemmas.{all-append, all-weaker, numbers-append}
+use Rattle.hac_model.proofs.CountLemmas.{is_queried, measured, one_if}
+use Rattle.hac_model.proofs.MountLayoutLemmas.{added-mount, all-tested, entry_at-documents, numbers-documents}
+use Rattle.hac_model.proofs.PathLemmas.{ancestors-step, ancestors-taken, ancestors_by, limit, lineage-is}
+use Rattle.hac_model.proofs.TreeLemmas.{all-entries, entry_at-all, entry_at-below, entry_at-number, place-directory}
+use Rattle.hac_model.proofs.ValidLemmas.{directory-below}
 use Rattle.file_tree.specs.Counting as counting
 use Rattle.file_tree.specs.Counting.{plus, share_of}
-use Rattle.file_tree.specs.Depths.{is_deep}
-use Rattle.file_tree.proofs.CountingLemmas.{long-none}
-use Rattle.file_tree.proofs.OverLemmas.{document, long}
-use Rattle.file_tree.proofs.ShapeLemmas.{same-or-not}
-use Rattle.file_tree.proofs.TallyLemmas.{all-documents, documents-each, documents-none, measured-append}
+use Rattle.file_tree.proofs.CountingLemmas.{counts-added, long-told}
+use Rattle.file_tree.proofs.OverLemmas.{long}
+use Rattle.file_tree.proofs.TallyLemmas.{all-documents, documents-each, documents-none, measured-append, mount-found}
 
--- The entry of a number among two lists.
+all-behind : (P : Entry → Type 0) (es fs : List Entry) → AllByRecursion P (es ++ fs) → AllByRecursion P fs
+all-behind P [] fs all = all
+all-behind P (e ∷ es) fs all = all-behind P es fs all.1
 
-pub front-found : (es fs : List Entry) (n : ℕ) (e : Entry) → entry_at es n ≡ Some e → entry_at (es ++ fs) n ≡ Some e
-front-found [] fs n e found = absurd cc
-front-found (x ∷ es) fs n e found = elim (x.number == n) as (λ b. cond b (Some x) (entry_at es n) ≡ Some e → cond b (Some x) (entry_at (es ++ fs) n) ≡ Some e) [
-  | true ↦ (λ found. found)
-  | false ↦ (λ found. front-found es fs n e found)
-] found
+-- entries are in what has lower numbers than the next one
+pub parents-low : (s : State) → IsLayout s → AllByRecursion (λ (e : Entry). e.parent < s.next) s.entries
+parents-low s h = all-weaker (λ (e : Entry). IsTrue (is_in_place s.entries e)) (λ (e : Entry). e.parent < s.next) s.entries (λ e place. directory-below s e.parent h (place-directory s.entries e place)) h.places
 
-pub behind-found : (es fs : List Entry) (n : ℕ) → entry_at es n ≡ None → entry_at (es ++ fs) n ≡ entry_at fs n
-behind-found [] fs n none = refl
-behind-found (x ∷ es) fs n none = elim (x.number == n) as (λ b. cond b (Some x) (entry_at es n) ≡ None → cond b (Some x) (entry_at (es ++ fs) n) ≡ entry_at fs n) [
-  | true ↦ (λ none. absurd cc)
-  | false ↦ (λ none. behind-found es fs n none)
-] none
-
-pub documents-low : (k m : ℕ) (xs : List (List ℕ)) (n : ℕ) → n < k → entry_at (documents_from k m xs) n ≡ None
-documents-low k m [] n low = refl
-documents-low k m (x ∷ xs) n low = ap (λ (b : Bool). cond b (Some (document k m x)) (entry_at (documents_from (k + 1) m xs) n)) (ne_eqb k n (λ same. omega arith)) ∙ documents-low (k + 1) m xs n (omega arith)
-
-pub documents-found : (k m : ℕ) (xs : List (List ℕ)) (n : ℕ) → k ≤ n → n < k + length xs → (e : Entry) × (entry_at (documents_from k m xs) n ≡ Some e) × (e.parent ≡ m)
-documents-found k m [] n high low = absurd (omega arith)
-documents-found k m (x ∷ xs) n high low = elim (same-or-not k n) [
-  | inl same ↦ (document k m x, ap (λ (b : Bool). cond b (Some (document k m x)) (entry_at (documents_from (k + 1) m xs) n)) (eq-eqb k n same), refl)
-  | inr other ↦
-      (let rest = documents-found (k + 1) m xs n (omega arith) (omega arith) in
-      (rest.0, ap (λ (b : Bool). cond b (Some (document k m x)) (entry_at (documents_from (k + 1) m xs) n)) (ne_eqb k n other) ∙ rest.1, rest.2))
-]
-
-pub documents-pass : (test : ℕ → Bool) (deep : Bool) (k m : ℕ) (xs : List (List ℕ)) → ((n : ℕ) → k ≤ n → n < k + length xs → test n ≡ deep) → list_all (λ (e : Entry). test e.number) (documents_from k m xs) ≡ cond (length xs == 0) true deep
-documents-pass test deep k m [] each = refl
-documents-pass test deep k m (x ∷ xs) each =
-    let some : (length (x ∷ xs) == 0) ≡ false = ne_eqb (length (x ∷ xs)) 0 (λ same. omega arith) in
-    ap (λ (b : Bool). b && list_all (λ (e : Entry). test e.number) (documents_from (k + 1) m xs)) (each k (omega arith) (omega arith))
-    ∙ ap (λ (b : Bool). deep && b) (documents-pass test deep (k + 1) m xs (λ n high low. each n (omega arith) (omega arith)))
-    ∙ twice deep (length xs == 0)
-    ∙ ap (λ (b : Bool). cond b true deep) (sym some)
-  where
-    twice : (deep none : Bool) → (deep && cond none true deep) ≡ deep
-    twice true true = refl
-    twice true false = refl
-    twice false none = refl
-
-limit-more : (l : ℕ) × (limit ≡ suc l)
-unfolding limit
-limit-more = (63, refl)
-
-pub limit-is : limit ≡ PATH_LIMIT
-unfolding limit
-limit-is = refl
-
-pub all_pass : (test : Entry → Bool) (es : List Entry) → AllByRecursion (λ e. test e ≡ true) es → list_all test es ≡ true
-all_pass test [] all = refl
-all_pass test (e ∷ es) all = and_from (test e) (list_all test es) all.0 (all_pass test es all.1)
-
-module _ (s : State) (h : IsLayout s) (dir : ℕ) (name space : List ℕ) (answers : List Answer) (xs : List (List ℕ)) where
-  abbrev new : Entry
-  new = record { number = s.next; parent = dir; name = name; body = Mount space answers }
-
+module _ (s : State) (rise : NumbersRise 0 s.entries s.next) (low : AllByRecursion (λ (e : Entry). e.parent < s.next) s.entries) (mount : ℕ) (is : is_mount_at s.entries mount ≡ true) (xs : List (List ℕ)) where
   abbrev documents : List Entry
-  documents = documents_from (s.next + 1) s.next xs
+  documents = documents_from s.next mount xs
 
   abbrev all : List Entry
-  all = s.entries ++ new ∷ [] ++ documents
+  all = s.entries ++ documents
 
-  lives-low : (n : ℕ) → Lives s.entries n → n < s.next
-  lives-low n (inl root) = let more : 0 < s.next = rise-below 0 s.entries s.next h.numbers in omega arith
-  lives-low n (inr found) = entry_at-below 0 s.entries s.next n found.0 h.numbers found.1
-
-  none-here : (n : ℕ) → s.next ≤ n → entry_at s.entries n ≡ None
-  none-here n high = entry_at-next 0 s.entries s.next n h.numbers high
-
-  at-old : (n : ℕ) → n < s.next → entry_at all n ≡ entry_at s.entries n
-  at-old n low = elim (entry_at s.entries n) as (λ o. entry_at s.entries n ≡ o → entry_at all n ≡ o) [
-    | Some e ↦ (λ found. front-found (s.entries ++ new ∷ []) documents n e (front-found s.entries (new ∷ []) n e found))
-    | None ↦ (λ none.
-        behind-found (s.entries ++ new ∷ []) documents n (behind-found s.entries (new ∷ []) n none ∙ ap (λ (b : Bool). cond b (Some new) None) (ne_eqb s.next n (λ same. omega arith)))
-        ∙ documents-low (s.next + 1) s.next xs n (omega arith))
-  ] refl
-
-  at-new : entry_at all s.next ≡ Some new
-  at-new = front-found (s.entries ++ new ∷ []) documents s.next new (behind-found s.entries (new ∷ []) s.next (none-here s.next (omega arith)) ∙ ap (λ (b : Bool). cond b (Some new) None) (eq-eqb s.next s.next refl))
-
-  at-document : (n : ℕ) → s.next + 1 ≤ n → n < s.next + 1 + length xs → (e : Entry) × (entry_at all n ≡ Some e) × (e.parent ≡ s.next)
-  at-document n high low =
-      let found = documents-found (s.next + 1) s.next xs n high low in
-      let none : entry_at (s.entries ++ new ∷ []) n ≡ None = behind-found s.entries (new ∷ []) n (none-here n (omega arith)) ∙ ap (λ (b : Bool). cond b (Some new) None) (ne_eqb s.next n (λ same. omega arith)) in
-      (found.0, behind-found (s.entries ++ new ∷ []) documents n none ∙ found.1, found.2)
-
-  front : (steps m : ℕ) → Lives s.entries m → ancestors steps all m ≡ ancestors steps s.entries m
-  front zero m lives = refl
-  front (suc steps) m lives =
-      ap (ancestors_by steps all) (at-old m (lives-low m lives))
-      ∙ (elim (entry_at s.entries m) as (λ o. entry_at s.entries m ≡ o → ancestors_by steps all o ≡ ancestors_by steps s.entries o) [
+  -- what is above an entry stays
+  front : (steps n : ℕ) → n < s.next → ancestors steps all n ≡ ancestors steps s.entries n
+  front zero n below = refl
+  front (suc steps) n below =
+      ap (ancestors_by steps all) (entry_at-documents s.entries s.next mount n xs below)
+      ∙ (elim (entry_at s.entries n) as (λ o. entry_at s.entries n ≡ o → ancestors_by steps all o ≡ ancestors_by steps s.entries o) [
         | None ↦ (λ found. refl)
-        | Some e ↦ (λ found. ap (λ (above : List Entry). e ∷ above) (front steps e.parent (parent-lives s m e h found)))
+        | Some e ↦ (λ found. ap (λ (above : List Entry). e ∷ above) (front steps e.parent (entry_at-all (λ (e : Entry). e.parent < s.next) s.entries n e low found)))
       ] refl)
 
-  short-old : (m : ℕ) → Lives s.entries m → is_path_short all m ≡ true
-  short-old m lives =
-      short-is all m ∙ ap (λ (es : List Entry). nat_le (length es) limit) (lineage-is all m ∙ front (suc limit) m lives ∙ sym (lineage-is s.entries m))
-      ∙ sym (short-is s.entries m) ∙ path-short s m h lives
+  lineage-same : (n : ℕ) → n < s.next → lineage all n ≡ lineage s.entries n
+  lineage-same n below = lineage-is all n ∙ front (suc limit) n below ∙ sym (lineage-is s.entries n)
 
-  module _ (lives : Lives s.entries dir) where
-    abbrev deep : ℕ
-    deep = length (lineage s.entries dir)
+  fits-same : (e : Entry) → entry_at s.entries e.number ≡ Some e → has_short_path all e ≡ has_short_path s.entries e
+  fits-same e found = ap (λ (es : List Entry). nat_le (length es + names_below e.body) PATH_LIMIT) (lineage-same e.number (entry_at-below 0 s.entries s.next e.number e rise found))
 
-    -- from the mount up
-    above-new : (steps : ℕ) → ancestors (suc steps) all s.next ≡ new ∷ ancestors steps s.entries dir
-    above-new steps = ancestors-step steps all s.next new at-new ∙ ap (λ (es : List Entry). new ∷ es) (front steps dir lives)
+  -- a mount whose path is short has room for a name
+  mount-room : are_paths_short s.entries ≡ true → length (lineage all mount) + 1 ≤ PATH_LIMIT
+  mount-room short =
+      let (m, found, kind) = mount-found s.entries mount is in
+      let number : m.number ≡ mount = entry_at-number s.entries mount m found in
+      let fits : has_short_path s.entries m ≡ true = entry_at-all (λ e. has_short_path s.entries e ≡ true) s.entries mount m (all-tested (has_short_path s.entries) s.entries short) found in
+      let same : length (lineage all mount) ≡ length (lineage s.entries m.number) = ap length (lineage-same mount (entry_at-below 0 s.entries s.next mount m rise found)) ∙ ap (λ (k : ℕ). length (lineage s.entries k)) (sym number) in
+      omega (arith, same, leb-true (length (lineage s.entries m.number) + names_below m.body) PATH_LIMIT fits, ap (λ (b : Bool). cond {A = ℕ} b 1 0) kind)
 
-    short-new : is_path_short all s.next ≡ nat_le (1 + deep) limit
-    short-new =
-        let long : length (new ∷ lineage s.entries dir) ≡ 1 + deep = omega arith in
-        short-is all s.next
-        ∙ ap (λ (es : List Entry). nat_le (length es) limit) (lineage-is all s.next ∙ above-new limit ∙ ap (λ (es : List Entry). new ∷ es) (lineage-take s dir h lives))
-        ∙ ap (λ (k : ℕ). nat_le k limit) long
+  -- so what comes into it fits
+  abbrev Fits : Entry → Type 0
+  Fits e = e.parent ≡ mount → is_mount e.body ≡ false → has_short_path all e ≡ true
 
-    short-document : (n : ℕ) → s.next + 1 ≤ n → n < s.next + 1 + length xs → is_path_short all n ≡ nat_le (2 + deep) limit
-    short-document n high low =
-        let found = at-document n high low in
-        let l = limit-more.0 in
-        let more : limit ≡ suc l = limit-more.1 in
-        let up : lineage all n ≡ found.0 ∷ new ∷ ancestors l s.entries dir =
-        lineage-is all n ∙ ancestors-step limit all n found.0 found.1
-        ∙ ap (λ (es : List Entry). found.0 ∷ es) (ap (λ (d : ℕ). ancestors limit all d) found.2 ∙ ap (λ (k : ℕ). ancestors k all s.next) more ∙ above-new l) in
-        let taken : ancestors l s.entries dir ≡ take l (lineage s.entries dir) = ancestors-taken l s.entries dir ∙ ap (take l) (ap (λ (k : ℕ). ancestors k s.entries dir) (sym more) ∙ lineage-take s dir h lives) in
-        let size : length (lineage all n) ≡ 2 + length (take l (lineage s.entries dir)) = ap length up ∙ ap (λ (es : List Entry). length (found.0 ∷ new ∷ es)) taken ∙ two found.0 new (take l (lineage s.entries dir)) in
-        short-is all n ∙ ap (λ (k : ℕ). nat_le k limit) size ∙ cut l (lineage s.entries dir) more
-      where
-        two : (e f : Entry) (es : List Entry) → length (e ∷ f ∷ es) ≡ 2 + length es
-        two e f es = omega arith
+  new-fits : are_paths_short s.entries ≡ true → (e : Entry) → entry_at all e.number ≡ Some e → Fits e
+  new-fits short e found inside leaf =
+      let up : length (lineage all e.number) ≡ length (e ∷ ancestors limit all mount) = ap length (lineage-is all e.number ∙ ancestors-step limit all e.number e found ∙ ap (λ (d : ℕ). e ∷ ancestors limit all d) inside) in
+      let above : length (ancestors limit all mount) ≤ length (lineage all mount) = omega (arith, ap length (ancestors-taken limit all mount), length-take limit (ancestors (suc limit) all mount), ap length (lineage-is all mount)) in
+      le-leb (length (lineage all e.number) + names_below e.body) PATH_LIMIT (omega (arith, up, above, mount-room short, ap (λ (b : Bool). cond {A = ℕ} b 1 0) leaf))
 
-        cut : (l : ℕ) (es : List Entry) → limit ≡ suc l → nat_le (2 + length (take l es)) limit ≡ nat_le (2 + length es) limit
-        cut l es more = elim (cases_lt (length es) l) [
-          | inl less ↦ (let whole : length (take l es) ≡ length es = length-take l es ∙ smaller l (length es) (omega arith) in ap (λ (k : ℕ). nat_le (2 + k) limit) whole)
-          | inr high ↦
-              (let full : length (take l es) ≡ l = length-take-le l es high in
-              let left : nat_le (2 + length (take l es)) limit ≡ false = grind (arith, nat_tests, full, more) in
-              by_size (length es) l high more left)
-        ]
-          where
-            smaller : (l n : ℕ) → n ≤ l → min l n ≡ n
-            smaller l n less = omega arith
+  paths-documents : are_paths_short all ≡ are_paths_short s.entries
+  paths-documents =
+      list_all-append (has_short_path all) s.entries documents
+      ∙ ap (λ (b : Bool). b && list_all (has_short_path all) documents) (old s.entries (all-entries (λ e. has_short_path all e ≡ has_short_path s.entries e) 0 s.entries s.next rise fits-same))
+      ∙ (elim (are_paths_short s.entries) as (λ b. are_paths_short s.entries ≡ b → (b && list_all (has_short_path all) documents) ≡ b) [
+        | true ↦ (λ short. each s.next xs (all-behind Fits s.entries documents (all-entries Fits 0 all (s.next + length xs) (numbers-documents 0 s.entries s.next mount xs rise) (new-fits short))))
+        | false ↦ (λ long. refl)
+      ] refl)
+    where
+      old : (es : List Entry) → AllByRecursion (λ e. has_short_path all e ≡ has_short_path s.entries e) es → list_all (has_short_path all) es ≡ list_all (has_short_path s.entries) es
+      old [] same = refl
+      old (e ∷ es) same = λ i. same.0 i && old es same.1 i
 
-            by_size : (n l : ℕ) → l ≤ n → limit ≡ suc l → nat_le (2 + length (take l es)) limit ≡ false → nat_le (2 + length (take l es)) limit ≡ nat_le (2 + n) limit
-            by_size n l high more left = let right : nat_le (2 + n) limit ≡ false = grind (arith, nat_tests, more, high) in left ∙ sym right
+      each : (k : ℕ) (names : List (List ℕ)) → AllByRecursion Fits (documents_from k mount names) → list_all (has_short_path all) (documents_from k mount names) ≡ true
+      each k [] fits = refl
+      each k (name ∷ names) fits = and_from (has_short_path all (record { number = k; parent = mount; name = name; body = Document })) (list_all (has_short_path all) (documents_from (k + 1) mount names)) (fits.0 refl refl) (each (k + 1) names fits.1)
 
-    all-short : are_paths_short all ≡ ((true && nat_le (1 + deep) limit) && cond (length xs == 0) true (nat_le (2 + deep) limit))
-    all-short =
-        let test : Entry → Bool = λ e. is_path_short all e.number in
-        list_all-append test (s.entries ++ new ∷ []) documents
-        ∙ (λ i. (list_all-append test s.entries (new ∷ []) i) && documents-pass (λ n. is_path_short all n) (nat_le (2 + deep) limit) (s.next + 1) s.next xs short-document i)
-        ∙ (λ i. (all_pass test s.entries (all-entries (λ e. test e ≡ true) 0 s.entries s.next h.numbers (λ e found. short-old e.number (inr (e, found)))) i && (short-new i && true)) && cond (length xs == 0) true (nat_le (2 + deep) limit))
-        ∙ ap (λ (b : Bool). b && cond (length xs == 0) true (nat_le (2 + deep) limit)) (and-true (nat_le (1 + deep) limit))
+  -- they are items, and take numbers
+  pub counts-documents : counts (with_documents s mount xs) ≡ record (counts s) { items = (counts s).items + length xs; next = (counts s).next + length xs }
+  counts-documents =
+      let new = all-documents s.next mount xs in
+      let same : (f : Body → ℕ) → f Document ≡ 0 → measured f all ≡ measured f s.entries = λ f none. omega (arith, measured-append f s.entries documents, documents-none f documents none new) in
+      let items : measured (one_if is_linkable) all ≡ measured (one_if is_linkable) s.entries + length xs = omega (arith, measured-append (one_if is_linkable) s.entries documents, documents-each (one_if is_linkable) documents refl new, long s.next mount xs) in
+      λ i. record {
+        bytes = same file_bytes refl i;
+        directories = same (one_if is_directory) refl i + 1;
+        semantics = same (one_if is_queried) refl i;
+        mounts = same (one_if is_mount) refl i;
+        symlinks = same (one_if is_symlink) refl i;
+        files = same (one_if is_file) refl i;
+        items = items i;
+        dirty = same (one_if is_dirty) refl i;
+        long_paths = cond {A = ℕ} (paths-documents i) 0 1;
+        next = s.next + length xs;
+      }
 
-    pub long-mounted : long_paths all ≡ counting.one_if (is_deep (length (path_of s dir)) (length xs))
-    long-mounted =
-        ap (λ (b : Bool). cond {A = ℕ} b 0 1) all-short
-        ∙ told deep limit (length xs)
-        ∙ (λ i. counting.one_if (cond (length xs == 0) (nat_le (limit-is i) (sym (length-path s dir) i)) (nat_le (limit-is i) (sym (length-path s dir) i + 1))))
-      where
-        turned : (d l : ℕ) → cond {A = ℕ} (nat_le (1 + d) l) 0 1 ≡ cond {A = ℕ} (nat_le l d) 1 0
-        turned d l = elim (nat_le l d) as (λ b. nat_le l d ≡ b → cond {A = ℕ} (nat_le (1 + d) l) 0 1 ≡ cond {A = ℕ} b 1 0) [
-          | true ↦ (λ low. let no : nat_le (1 + d) l ≡ false = grind (arith, nat_tests, low) in ap (λ (t : Bool). cond {A = ℕ} t 0 1) no)
-          | false ↦ (λ high. let yes : nat_le (1 + d) l ≡ true = grind (arith, nat_tests, high) in ap (λ (t : Bool). cond {A = ℕ} t 0 1) yes)
-        ] refl
+-- A mount comes with its documents.
 
-        deeper : (d l : ℕ) → (nat_le (1 + d) l && nat_le (2 + d) l) ≡ nat_le (1 + (d + 1)) l
-        deeper d l = elim (nat_le (2 + d) l) as (λ b. nat_le (2 + d) l ≡ b → (nat_le (1 + d) l && b) ≡ nat_le (1 + (d + 1)) l) [
-          | true ↦ (λ fits.
-              let one : nat_le (1 + d) l ≡ true = grind (arith, nat_tests, fits) in
-              let two : nat_le (1 + (d + 1)) l ≡ true = grind (arith, nat_tests, fits) in
-              ap (λ (b : Bool). b && true) one ∙ sym two)
-          | false ↦ (λ not_so. let no : nat_le (1 + (d + 1)) l ≡ false = grind (arith, nat_tests, not_so) in and-false (nat_le (1 + d) l) ∙ sym no)
-        ] refl
+module _ (s : State) (h : IsLayout s) (dir : ℕ) (directory : is_directory_at s.entries dir ≡ true) (name space : List ℕ) (answers : List Answer) (xs : List (List ℕ)) (short : Bool) where
+  abbrev body : Body
+  body = Mount space answers
 
-        told : (d l n : ℕ) → cond {A = ℕ} (nat_le (1 + d) l && cond (n == 0) true (nat_le (2 + d) l)) 0 1 ≡ counting.one_if (cond (n == 0) (nat_le l d) (nat_le l (d + 1)))
-        told d l n = elim (n == 0) as (λ b. cond {A = ℕ} (nat_le (1 + d) l && cond b true (nat_le (2 + d) l)) 0 1 ≡ counting.one_if (cond b (nat_le l d) (nat_le l (d + 1)))) [
-          | true ↦ ap (λ (b : Bool). cond {A = ℕ} b 0 1) (and-true (nat_le (1 + d) l)) ∙ turned d l
-          | false ↦ ap (λ (b : Bool). cond {A = ℕ} b 0 1) (deeper d l) ∙ turned (d + 1) l
-        ]
+  abbrev new : Entry
+  new = record { number = s.next; parent = dir; name = name; body = body }
 
-    -- what is counted then
-    pub counts-mounted : counts (mounted s dir name space answers xs) ≡ plus (counts s) (record (share_of (Mount space answers)) { items = length xs; long_paths = counting.one_if (is_deep (length (path_of s dir)) (length xs)); next = 1 + length xs })
-    counts-mounted =
-        let more : (f : Body → ℕ) → measured f all ≡ measured f s.entries + f (Mount space answers) + measured f documents = λ f. measured-append f (s.entries ++ new ∷ []) documents ∙ ap (λ (k : ℕ). k + measured f documents) (measured-added f s.entries new) in
-        let are = all-documents (s.next + 1) s.next xs in
-        let bytes : measured file_bytes all ≡ measured file_bytes s.entries + 0 = omega (arith, more file_bytes, documents-none file_bytes documents refl are) in
-        let directories : measured (one_if is_directory) all + 1 ≡ measured (one_if is_directory) s.entries + 1 + 1 = omega (arith, more (one_if is_directory), documents-none (one_if is_directory) documents refl are) in
-        let semantics : measured (one_if is_queried) all ≡ measured (one_if is_queried) s.entries + 0 = omega (arith, more (one_if is_queried), documents-none (one_if is_queried) documents refl are) in
-        let mounts : measured (one_if is_mount) all ≡ measured (one_if is_mount) s.entries + 1 = omega (arith, more (one_if is_mount), documents-none (one_if is_mount) documents refl are) in
-        let symlinks : measured (one_if is_symlink) all ≡ measured (one_if is_symlink) s.entries + 0 = omega (arith, more (one_if is_symlink), documents-none (one_if is_symlink) documents refl are) in
-        let files : measured (one_if is_file) all ≡ measured (one_if is_file) s.entries + 0 = omega (arith, more (one_if is_file), documents-none (one_if is_file) documents refl are) in
-        let items : measured (one_if is_linkable) all ≡ measured (one_if is_linkable) s.entries + length xs = omega (arith, more (one_if is_linkable), documents-each (one_if is_linkable) documents refl are, long (s.next + 1) s.next xs) in
-        let dirty : measured (one_if is_dirty) all ≡ measured (one_if is_dirty) s.entries + 0 = omega (arith, more (one_if is_dirty), documents-none (one_if is_dirty) documents refl are) in
-        let longs : long_paths all ≡ long_paths s.entries + counting.one_if (is_deep (length (path_of s dir)) (length xs)) = omega (arith, long-mounted, long-none s h.limits) in
-        let next : s.next + 1 + length xs ≡ s.next + (1 + length xs) = omega arith in
-        λ i. record {
-          bytes = bytes i;
-          directories = directories i;
-          semantics = semantics i;
-          mounts = mounts i;
-          symlinks = symlinks i;
-          files = files i;
-          items = items i;
-          dirty = dirty i;
-          long_paths = longs i;
-          next = next i;
-        }
+  abbrev deep : ℕ
+  deep = counting.one_if (not short)
+
+  low-parents : AllByRecursion (λ (e : Entry). e.parent < s.next + 1) (s.entries ++ new ∷ [])
+  low-parents =
+      let below : dir < s.next = directory-below s dir h directory in
+      all-append (λ (e : Entry). e.parent < s.next + 1) s.entries new (all-weaker (λ (e : Entry). e.parent < s.next) (λ (e : Entry). e.parent < s.next + 1) s.entries (λ e less. omega (arith, less)) (parents-low s h)) (omega (arith, below))
+
+  pub counts-mounted : short ≡ are_paths_short (added s dir name body).entries → counts (mounted s dir name space answers xs) ≡ plus (counts s) (record (share_of body) { items = length xs; long_paths = deep; next = 1 + length xs })
+  counts-mounted same =
+      let items : (counts s).items + 0 + length xs ≡ (counts s).items + length xs = omega arith in
+      let next : s.next + 1 + length xs ≡ s.next + (1 + length xs) = omega arith in
+      counts-documents (added s dir name body) (numbers-append 0 s.entries new s.next h.numbers refl) low-parents s.next (added-mount s dir name space answers h.numbers) xs
+      ∙ ap (λ (c : Counts). record c { items = c.items + length xs; next = c.next + length xs }) (counts-added s h dir name body deep (long-told (added s dir name body).entries short same))
+      ∙ (λ i. record (plus (counts s) (record (share_of body) { long_paths = deep; next = 1 })) { items = items i; next = next i })

@@ -1,26 +1,28 @@
 -- What a state counts for when entries come and go by the many.
-use Rattle.std.proofs.Common.{◌≡◌, ℕ, zero, suc, ◌+◌, ◌<◌, ◌≤◌, Bool, true, false, cond, List, [], ◌∷◌, ◌++◌, length, subst, refl, ap, sym, ◌∙◌, arith, inl, inr}
-use Rattle.std.specs.Prelude.{◌⊎◌, ◌==◌, ◌||◌, not, filter, nat_le, if◌then◌else◌, IsTrue, Option, Some, None}
+use Rattle.std.proofs.Common.{◌≡◌, ℕ, zero, suc, ◌+◌, ◌≤◌, Bool, true, false, cond, List, [], ◌∷◌, ◌++◌, length, subst, refl, ap, sym, ◌∙◌, arith}
+use Rattle.std.specs.Prelude.{◌==◌, ◌||◌, not, filter, if◌then◌else◌, IsTrue, Option, Some, None}
 use Rattle.std.specs.List.{AllByRecursion, list_all}
-use Rattle.std.specs.Option.{option_map, option_map_or}
-use Rattle.std.proofs.lemmas.Bool.{and_from, and_parts, eqb-true, ne_eqb}
+use Rattle.std.specs.Option.{option_and_then, option_map, option_map_or}
+use Rattle.std.proofs.lemmas.Bool.{and_from, and_parts, eqb-true, le-leb, leb-true, ne_eqb}
 use Rattle.std.proofs.lemmas.List.Sums.{sum_by-append}
-use Rattle.std.proofs.lemmas.Bool.Decides.{nat_tests}
-use Rattle.hac_model.specs.Tree.Limits.{are_paths_short, counts, file_bytes, long_paths}
+use Rattle.hac_model.specs.Tree.Limits.{are_paths_short, counts, file_bytes, has_short_path, long_paths, names_below}
 use Rattle.hac_model.specs.Tree.Listing.{in_order, is_before, put_in_order}
 use Rattle.hac_model.specs.Tree.Mounting.{documents_from, is_of_mount, without_such}
-use Rattle.hac_model.specs.Tree.{ancestors, entry_at, is_directory, is_directory_at, is_dirty, is_document, is_file, is_holder_at, is_linkable, is_mount, is_mount_at, is_path_short, is_symlink, lineage, path_of}
+use Rattle.hac_model.specs.Tree.{ancestors, entry_at, is_directory, is_directory_at, is_dirty, is_document, is_file, is_holder_at, is_linkable, is_mount, is_mount_at, is_symlink, lineage, path_of}
 use Rattle.hac_model.specs.Tree.Valid.{IsLayout, NumbersRise, is_in_place}
+use Rattle.hac_model.specs.declared.limits.TheConstants.{PATH_LIMIT}
 use Rattle.hac_model.specs.declared.states.Answer.{Answer}
 use Rattle.hac_model.specs.declared.states.Body.{Body}
 use Rattle.hac_model.specs.declared.states.Body.TheVariants.{File, Dir, Symlink, Semantic, Mount, Document}
 use Rattle.hac_model.specs.declared.states.Entry.{Entry}
 use Rattle.hac_model.specs.declared.states.State.{State}
-use Rattle.hac_model.proofs.ChangeLemmas.{is_kept, rise-lower}
+use Rattle.hac_model.proofs.ChangeLemmas.{all-filter, all-weaker, entry_at-filter as found-filter, is_kept, numbers-filter}
 use Rattle.hac_model.proofs.CountLemmas.{is_queried, measured, measured-cons, measured-removed, one_if}
+use Rattle.hac_model.proofs.FittingLemmas.{all-passed}
 use Rattle.hac_model.proofs.LimitLemmas.{limits-within}
-use Rattle.hac_model.proofs.PathLemmas.{ancestors_by, limit, lineage-is, path_of-deeper, short-is}
-use Rattle.hac_model.proofs.TreeLemmas.{entry_at-low}
+use Rattle.hac_model.proofs.MountAskLemmas.{entry_at-filter, passing}
+use Rattle.hac_model.proofs.MountLayoutLemmas.{all-tested}
+use Rattle.hac_model.proofs.PathLemmas.{ancestors_by, limit, lineage-is, path_of-deeper}
 use Rattle.file_tree.specs.Counting.{plus, share_of}
 
 -- Measures of some of the entries.
@@ -43,13 +45,21 @@ document-is (Symlink target) is = absurd cc
 document-is (Semantic query permanent prohibited) is = absurd cc
 document-is (Mount space answers) is = absurd cc
 
-mount-is : (b : Body) → is_mount b ≡ true → (space : List ℕ) × (answers : List Answer) × (b ≡ Mount space answers)
+pub mount-is : (b : Body) → is_mount b ≡ true → (space : List ℕ) × (answers : List Answer) × (b ≡ Mount space answers)
 mount-is (Mount space answers) is = (space, answers, refl)
 mount-is (File text dirty shown) is = absurd cc
 mount-is Dir is = absurd cc
 mount-is (Symlink target) is = absurd cc
 mount-is (Semantic query permanent prohibited) is = absurd cc
 mount-is Document is = absurd cc
+
+-- the entry of a mount
+pub mount-found : (es : List Entry) (mount : ℕ) → is_mount_at es mount ≡ true → (e : Entry) × (entry_at es mount ≡ Some e) × (is_mount e.body ≡ true)
+mount-found es mount is = in_option (entry_at es mount) is
+  where
+    in_option : (o : Option Entry) → option_map_or is_mount (option_map (λ (e : Entry). e.body) o) false ≡ true → (e : Entry) × (o ≡ Some e) × (is_mount e.body ≡ true)
+    in_option None is = absurd cc
+    in_option (Some e) is = (e, refl, is)
 
 -- documents count for nothing, or each for one
 pub documents-none : (f : Body → ℕ) (es : List Entry) → f Document ≡ 0 → AllByRecursion (λ (e : Entry). is_document e.body ≡ true) es → measured f es ≡ 0
@@ -69,12 +79,10 @@ pub all-documents : (k m : ℕ) (xs : List (List ℕ)) → AllByRecursion (λ (e
 all-documents k m [] = tt
 all-documents k m (x ∷ xs) = (refl, all-documents (k + 1) m xs)
 
-pub all-in : (P Q : Entry → Type 0) (test : Entry → Bool) (es : List Entry) → ((e : Entry) → P e → test e ≡ true → Q e) → AllByRecursion P es → AllByRecursion Q (filter test es)
-all-in P Q test [] each all = tt
-all-in P Q test (e ∷ es) each all = elim (test e) as (λ b. test e ≡ b → AllByRecursion Q (cond b (e ∷ filter test es) (filter test es))) [
-  | true ↦ (λ is. (each e all.0 is, all-in P Q test es each all.1))
-  | false ↦ (λ is. all-in P Q test es each all.1)
-] refl
+-- a list whose entries pass a test passes it
+pub all_pass : (test : Entry → Bool) (es : List Entry) → AllByRecursion (λ e. test e ≡ true) es → list_all test es ≡ true
+all_pass test [] all = refl
+all_pass test (e ∷ es) all = and_from (test e) (list_all test es) all.0 (all_pass test es all.1)
 
 -- Some of the entries, and their paths.
 
@@ -91,79 +99,29 @@ filter-both p q (e ∷ es) = elim (q e) as (λ b. cond (not (p e || b)) (e ∷ f
   ])
 ]
 
-module _ (test : Entry → Bool) where
-  pub numbers-left : (above : ℕ) (es : List Entry) (next : ℕ) → NumbersRise above es next → NumbersRise above (filter test es) next
-  numbers-left above [] next h = h
-  numbers-left above (e ∷ es) next h =
-      let first : above < e.number = h.0 in
-      let rest : NumbersRise e.number (filter test es) next = numbers-left e.number es next h.1 in
-      elim (test e) as (λ b. NumbersRise above (cond b (e ∷ filter test es) (filter test es)) next) [ true ↦ (first, rest) | false ↦ rise-lower above e.number (filter test es) next (omega arith) rest ]
-
-  -- what is left is under its number
-  pub entry_at-left : (es : List Entry) (n : ℕ) (e : Entry) → entry_at es n ≡ Some e → test e ≡ true → entry_at (filter test es) n ≡ Some e
-  entry_at-left [] n e found is = absurd cc
-  entry_at-left (x ∷ es) n e found is = elim (x.number == n) as (λ b. (x.number == n) ≡ b → cond b (Some x) (entry_at es n) ≡ Some e → entry_at (cond (test x) (x ∷ filter test es) (filter test es)) n ≡ Some e) [
-    | true ↦ (λ here found.
-        let same : x ≡ e = cc in
-        ap (λ (b : Bool). entry_at (cond b (x ∷ filter test es) (filter test es)) n) (ap test same ∙ is)
-        ∙ ap (λ (b : Bool). cond b (Some x) (entry_at (filter test es) n)) here ∙ ap (λ (y : Entry). Some y) same)
-    | false ↦ (λ other found. elim (test x) as (λ b. entry_at (cond b (x ∷ filter test es) (filter test es)) n ≡ Some e) [
-      | true ↦ ap (λ (b : Bool). cond b (Some x) (entry_at (filter test es) n)) other ∙ entry_at-left es n e found is
-      | false ↦ entry_at-left es n e found is
-    ])
-  ] refl found
-
-  -- a number has the same entry, or none
-  pub entry_at-either : (above : ℕ) (es : List Entry) (next n : ℕ) → NumbersRise above es next → (entry_at (filter test es) n ≡ None) ⊎ (entry_at (filter test es) n ≡ entry_at es n)
-  entry_at-either above [] next n h = inl refl
-  entry_at-either above (x ∷ es) next n h = elim (x.number == n) as (λ b. (x.number == n) ≡ b → (entry_at (cond (test x) (x ∷ filter test es) (filter test es)) n ≡ None) ⊎ (entry_at (cond (test x) (x ∷ filter test es) (filter test es)) n ≡ cond b (Some x) (entry_at es n))) [
-    | true ↦ (λ here. elim (test x) as (λ b. (entry_at (cond b (x ∷ filter test es) (filter test es)) n ≡ None) ⊎ (entry_at (cond b (x ∷ filter test es) (filter test es)) n ≡ Some x)) [
-      | true ↦ inr (ap (λ (b : Bool). cond b (Some x) (entry_at (filter test es) n)) here)
-      | false ↦ (let number : x.number ≡ n = eqb-true x.number n here in inl (entry_at-low x.number (filter test es) next n (numbers-left x.number es next h.1) (omega arith)))
-    ])
-    | false ↦ (λ other. elim (test x) as (λ b. (entry_at (cond b (x ∷ filter test es) (filter test es)) n ≡ None) ⊎ (entry_at (cond b (x ∷ filter test es) (filter test es)) n ≡ entry_at es n)) [
-      | true ↦ (elim (entry_at-either x.number es next n h.1) [
-        | inl none ↦ inl (ap (λ (b : Bool). cond b (Some x) (entry_at (filter test es) n)) other ∙ none)
-        | inr same ↦ inr (ap (λ (b : Bool). cond b (Some x) (entry_at (filter test es) n)) other ∙ same)
-      ])
-      | false ↦ entry_at-either x.number es next n h.1
-    ])
-  ] refl
-
-  -- so no path becomes longer
-  ancestors-left : (steps : ℕ) (es : List Entry) (next n : ℕ) → NumbersRise 0 es next → length (ancestors steps (filter test es) n) ≤ length (ancestors steps es n)
-  ancestors-left zero es next n h = omega arith
-  ancestors-left (suc steps) es next n h = elim (entry_at-either 0 es next n h) [
-    | inl none ↦
-        (let short : length (ancestors (suc steps) (filter test es) n) ≡ 0 = ap (λ (o : Option Entry). length (ancestors_by steps (filter test es) o)) none in
-        omega arith)
-    | inr same ↦
-        subst (λ (k : ℕ). k ≤ length (ancestors (suc steps) es n)) (sym (ap (λ (o : Option Entry). length (ancestors_by steps (filter test es) o)) same))
-        (elim (entry_at es n) as (λ o. length (ancestors_by steps (filter test es) o) ≤ length (ancestors_by steps es o)) [
-          | None ↦ omega arith
-          | Some e ↦ (let less : length (ancestors steps (filter test es) e.parent) ≤ length (ancestors steps es e.parent) = ancestors-left steps es next e.parent h in omega arith)
+module _ (test : Entry → Bool) (es : List Entry) (next : ℕ) (rise : NumbersRise 0 es next) where
+  ancestors-left : (steps n : ℕ) → length (ancestors steps (filter test es) n) ≤ length (ancestors steps es n)
+  ancestors-left zero n = omega arith
+  ancestors-left (suc steps) n =
+      subst (λ (o : Option Entry). length (ancestors_by steps (filter test es) o) ≤ length (ancestors_by steps es (entry_at es n))) (sym (entry_at-filter test 0 es next n rise))
+      (elim (entry_at es n) as (λ o. length (ancestors_by steps (filter test es) (option_and_then (passing test) o)) ≤ length (ancestors_by steps es o)) [
+        | None ↦ omega arith
+        | Some e ↦ (elim (test e) as (λ b. length (ancestors_by steps (filter test es) (if b then Some e else None)) ≤ length (ancestors_by steps es (Some e))) [
+          | true ↦ (let less = ancestors-left steps e.parent in omega (arith, less))
+          | false ↦ omega arith
         ])
-  ]
+      ])
 
-  short-left : (es : List Entry) (next n : ℕ) → NumbersRise 0 es next → is_path_short es n ≡ true → is_path_short (filter test es) n ≡ true
-  short-left es next n h short =
-      let less : length (ancestors (suc limit) (filter test es) n) ≤ length (ancestors (suc limit) es n) = ancestors-left (suc limit) es next n h in
-      let old : length (lineage es n) ≡ length (ancestors (suc limit) es n) = ap length (lineage-is es n) in
-      let new : length (lineage (filter test es) n) ≡ length (ancestors (suc limit) (filter test es) n) = ap length (lineage-is (filter test es) n) in
-      let within : nat_le (length (lineage es n)) limit ≡ true = sym (short-is es n) ∙ short in
-      short-is (filter test es) n ∙ grind (arith, nat_tests, within, less, old, new)
+  fits-left : (e : Entry) → has_short_path es e ≡ true → has_short_path (filter test es) e ≡ true
+  fits-left e short =
+      le-leb (length (lineage (filter test es) e.number) + names_below e.body) PATH_LIMIT
+      (omega (arith, ancestors-left (suc limit) e.number, ap length (lineage-is es e.number), ap length (lineage-is (filter test es) e.number), leb-true (length (lineage es e.number) + names_below e.body) PATH_LIMIT short))
 
-  pub paths-left : (es : List Entry) (next : ℕ) → NumbersRise 0 es next → are_paths_short es ≡ true → are_paths_short (filter test es) ≡ true
-  paths-left es next h short = each es short
-    where
-      each : (rest : List Entry) → list_all (λ (e : Entry). is_path_short es e.number) rest ≡ true → list_all (λ (e : Entry). is_path_short (filter test es) e.number) (filter test rest) ≡ true
-      each [] short = refl
-      each (e ∷ rest) short =
-          let parts = and_parts (is_path_short es e.number) (list_all (λ (e : Entry). is_path_short es e.number) rest) short in
-          elim (test e) as (λ b. list_all (λ (e : Entry). is_path_short (filter test es) e.number) (cond b (e ∷ filter test rest) (filter test rest)) ≡ true) [
-            | true ↦ and_from (is_path_short (filter test es) e.number) (list_all (λ (e : Entry). is_path_short (filter test es) e.number) (filter test rest)) (short-left es next e.number h parts.0) (each rest parts.1)
-            | false ↦ each rest parts.1
-          ]
+  -- no path becomes longer where some are left
+  pub paths-left : are_paths_short es ≡ true → are_paths_short (filter test es) ≡ true
+  paths-left short =
+      all_pass (has_short_path (filter test es)) (filter test es)
+      (all-filter (λ e. has_short_path (filter test es) e ≡ true) test es (all-weaker (λ e. has_short_path es e ≡ true) (λ e. has_short_path (filter test es) e ≡ true) es fits-left (all-tested (has_short_path es) es short)))
 
 -- A directory has as many children as entries that are in it.
 
@@ -182,8 +140,8 @@ order-length (e ∷ es) = omega (arith, put-length e (in_order es), order-length
 
 module _ (s : State) (h : IsLayout s) (mount : ℕ) (is : is_mount_at s.entries mount ≡ true) where
   -- what is in it are documents
-  pub inside-documents : AllByRecursion (λ (e : Entry). is_document e.body ≡ true) (filter (λ (e : Entry). e.parent == mount) s.entries)
-  inside-documents = all-in (λ (e : Entry). IsTrue (is_in_place s.entries e)) (λ (e : Entry). is_document e.body ≡ true) (λ (e : Entry). e.parent == mount) s.entries each h.places
+  pub in-mount : AllByRecursion (λ (e : Entry). (e.parent == mount) ≡ true → is_document e.body ≡ true) s.entries
+  in-mount = all-weaker (λ (e : Entry). IsTrue (is_in_place s.entries e)) (λ (e : Entry). (e.parent == mount) ≡ true → is_document e.body ≡ true) s.entries each h.places
     where
       each : (e : Entry) → is_in_place s.entries e ≡ true → (e.parent == mount) ≡ true → is_document e.body ≡ true
       each e place here = elim (is_document e.body) as (λ b. (if b then is_mount_at s.entries e.parent else is_holder_at s.entries e.parent) ≡ true → b ≡ true) [
@@ -195,12 +153,11 @@ module _ (s : State) (h : IsLayout s) (mount : ℕ) (is : is_mount_at s.entries 
             absurd cc)
       ] place
 
+  pub inside-documents : AllByRecursion (λ (e : Entry). is_document e.body ≡ true) (filter (λ (e : Entry). e.parent == mount) s.entries)
+  inside-documents = all-passed (λ (e : Entry). is_document e.body ≡ true) (λ (e : Entry). e.parent == mount) s.entries in-mount
+
   found : (e : Entry) × (entry_at s.entries mount ≡ Some e) × (is_mount e.body ≡ true)
-  found = in_option (entry_at s.entries mount) is
-    where
-      in_option : (o : Option Entry) → option_map_or is_mount (option_map (λ (e : Entry). e.body) o) false ≡ true → (e : Entry) × (o ≡ Some e) × (is_mount e.body ≡ true)
-      in_option None is = absurd cc
-      in_option (Some e) is = (e, refl, is)
+  found = mount-found s.entries mount is
 
   abbrev pub count : ℕ
   count = length (filter (λ (e : Entry). e.parent == mount) s.entries)
@@ -216,7 +173,7 @@ module _ (s : State) (h : IsLayout s) (mount : ℕ) (is : is_mount_at s.entries 
 
   gone : (f : Body → ℕ) (space : List ℕ) (answers : List Answer) → found.0.body ≡ Mount space answers → measured f left + f (Mount space answers) + measured f (filter (λ (e : Entry). e.parent == mount) s.entries) ≡ measured f s.entries
   gone f space answers body =
-      let one = measured-removed f mount 0 (filter (λ (e : Entry). not (e.parent == mount)) s.entries) s.next found.0 (numbers-left (λ (e : Entry). not (e.parent == mount)) 0 s.entries s.next h.numbers) (entry_at-left (λ (e : Entry). not (e.parent == mount)) s.entries mount found.0 found.1 (ap not outside)) in
+      let one = measured-removed f mount 0 (filter (λ (e : Entry). not (e.parent == mount)) s.entries) s.next found.0 (numbers-filter (λ (e : Entry). not (e.parent == mount)) 0 s.entries s.next h.numbers) (found-filter (λ (e : Entry). not (e.parent == mount)) s.entries mount found.0 found.1 (ap not outside)) in
       let same : f found.0.body ≡ f (Mount space answers) = ap f body in
       omega (arith, one, measured-split f (λ (e : Entry). e.parent == mount) s.entries)
 

@@ -10,9 +10,10 @@ ghost use Rattle.hac_model.specs.Tree.{entry_at, is_directory_at, is_file_at, is
 ghost use Rattle.hac_model.specs.Tree.Valid.{IsLayout};
 ghost use Rattle.hac_model.specs.declared.states.Answer.{Answer};
 ghost use Rattle.hac_model.specs.declared.states.Body.{Body};
+ghost use Rattle.hac_model.proofs.ValidLemmas.{KeepsPlaces};
 ghost use Rattle.file_tree.specs.Answers.{is_dirty_at};
 ghost use Rattle.file_tree.specs.Counting.{AreSmall, IsShare, share_of};
-ghost use Rattle.file_tree.specs.Depths.{GoesTo, is_deep, is_deep_in};
+ghost use Rattle.file_tree.specs.Depths.{GoesTo};
 ghost use Rattle.file_tree.specs.Nodes.{body_of};
 ghost use Rattle.file_tree.specs.Seated.{is_seated};
 
@@ -22,7 +23,7 @@ use crate::shares::{
     of_semantic, of_symlink, plus, replaced, synced, with_long_paths,
 };
 use crate::tree::Tree;
-use hac_model::{Counts, DOCS_LIMIT, Event, Name, Number, PATH_LIMIT, Seq, Text};
+use hac_model::{Counts, DOCS_LIMIT, Event, Name, Number, Seq, Text};
 
 impl Tree {
     /// How much the state would hold after an event. What it refers to is in the tree; it may
@@ -55,14 +56,15 @@ impl Tree {
         }
     }
 
-    /// The counts with a new entry in a directory, given what it counts for.
+    /// The counts with a new entry in a directory, given what it counts for. A name has to fit
+    /// below a mount.
     fn with_entry(&self, dir: Number, share: Counts) -> Counts
         requires dir { IsTrue (is_directory_at self.now.state.entries dir) }
         requires small { AreSmall share }
         ensures { (name : List ℕ) (body : Body) → share ≡ share_of body →
             result ≡ counts (added self.now.state dir name body) }
     {
-        let is_long = self.depth(dir) >= PATH_LIMIT;
+        let is_long = !self.has_room(dir, share.mounts);
         plus(self.small_counts(), as_new(share, is_long))
     }
 
@@ -99,7 +101,8 @@ impl Tree {
     fn with_share(&self, entry: Number, new: Counts) -> Counts
         requires there { IsSome (entry_at self.now.state.entries entry) }
         requires small { AreSmall new }
-        ensures { (edit : Body → Body) → IsShare new edit self.now.state entry →
+        ensures { (edit : Body → Body) → KeepsPlaces edit →
+            IsShare new edit self.now.state entry →
             result ≡ counts (changed_at self.now.state entry (edited edit)) }
     {
         replaced(self.small_counts(), self.share(entry), new)
@@ -125,7 +128,7 @@ impl Tree {
     }
 
     /// How much the state would hold with a mount in a directory that has `count` documents. It may
-    /// exceed limits.
+    /// exceed limits. A name has to fit below the mount, whether it has documents or not.
     pub fn counts_mounted(&self, dir: Number, count: u64) -> Counts
         requires dir { IsTrue (is_directory_at self.now.state.entries dir) }
         requires few { count ≤ DOCS_LIMIT }
@@ -133,7 +136,7 @@ impl Tree {
             length documents ≡ count →
             result ≡ counts (mounted self.now.state dir name space answers documents) }
     {
-        let is_long = is_deep(self.depth(dir), count);
+        let is_long = !self.has_room(dir, 1);
         plus(self.small_counts(), of_mount_with(count, is_long))
     }
 
@@ -147,9 +150,8 @@ impl Tree {
     {
         let names = documents.as_slice();
         let fresh = self.count_fresh(mount, names);
-        let is_long = is_deep_in(self.depth(mount), fresh);
         let old = self.children(mount).len() as u64;
-        synced(self.small_counts(), old, names.len() as u64, fresh, is_long)
+        synced(self.small_counts(), old, names.len() as u64, fresh)
     }
 
     /// How many of the names a directory doesn't have.
@@ -225,29 +227,6 @@ fn longer(bytes: u64, shown: Option<&[u8]>) -> u64
     match shown {
         Some(text) => bytes.max(text.len() as u64),
         None => bytes,
-    }
-}
-
-/// Whether a path is too long where a mount comes to a directory whose path has this many names.
-fn is_deep(names: u64, count: u64) -> bool
-    requires { names ≤ PATH_LIMIT + 1 }
-    ensures { result ≡ is_deep names count }
-{
-    if count == 0 {
-        names >= PATH_LIMIT
-    } else {
-        names + 1 >= PATH_LIMIT
-    }
-}
-
-/// Whether a path is too long where entries come to a directory whose path has this many names.
-fn is_deep_in(names: u64, count: u64) -> bool
-    ensures { result ≡ is_deep_in names count }
-{
-    if count == 0 {
-        false
-    } else {
-        names >= PATH_LIMIT
     }
 }
 

@@ -1,8 +1,9 @@
-//! How many names paths have, and whether all stay short when an entry moves.
-ghost use Rattle.std.specs.Prelude.{◌≡◌, ◌≤◌, ◌+◌, ℕ, List, length};
-ghost use Rattle.hac_model.specs.Tree.Events.{changed_at, reseated};
-ghost use Rattle.hac_model.specs.Tree.Limits.{are_paths_short};
-ghost use Rattle.hac_model.specs.Tree.{ancestors, path_of};
+//! How many names paths have, and whether all stay short when an entry comes or moves.
+ghost use Rattle.std.specs.Prelude.{◌≡◌, ◌≤◌, ◌<◌, ◌+◌, ◌^◌, ℕ, List, length, IsTrue};
+ghost use Rattle.hac_model.specs.Tree.Events.{added, changed_at, reseated};
+ghost use Rattle.hac_model.specs.Tree.Limits.{are_paths_short, names_below};
+ghost use Rattle.hac_model.specs.Tree.{ancestors, is_directory_at, path_of};
+ghost use Rattle.hac_model.specs.declared.states.Body.{Body};
 ghost use Rattle.file_tree.specs.Depths.{GoesTo, is_shallow};
 
 use crate::nodes::entry_at;
@@ -23,13 +24,26 @@ impl Tree {
         new <= old || (new <= PATH_LIMIT && self.is_shallow(entry, PATH_LIMIT - new))
     }
 
-    /// Whether at most `names` names lead from a directory to anything below it.
-    fn is_shallow(&self, dir: Number, names: u64) -> bool
-        ensures { result ≡ is_shallow names self.now.state dir }
+    /// Whether all paths are still short with a new entry in a directory, where `below` names have
+    /// to fit below that entry.
+    pub(crate) fn has_room(&self, dir: Number, below: u64) -> bool
+        requires dir { IsTrue (is_directory_at self.now.state.entries dir) }
+        requires small { below < 2 ^ 63 }
+        ensures { (name : List ℕ) (body : Body) → below ≡ names_below body →
+            result ≡ are_paths_short (added self.now.state dir name body).entries }
     {
-        let children = self.children(dir);
+        self.know_layout();
+        self.depth(dir) + 1 + below <= PATH_LIMIT
+    }
+
+    /// Whether at most `names` names lead from an entry to anything below it. A mount counts one
+    /// more, for documents that may come.
+    fn is_shallow(&self, entry: Number, names: u64) -> bool
+        ensures { result ≡ is_shallow names self.now.state entry }
+    {
+        let children = self.children(entry);
         if names == 0 {
-            return children.is_empty();
+            return children.is_empty() && !self.is_mount(entry);
         }
         for child in children {
             if !self.is_shallow(*child, names - 1) {

@@ -1,6 +1,7 @@
 //! The nodes of documents, many at once. Nothing here knows how they fit together.
 ghost use Rattle.std.specs.Prelude.{◌≡◌, ℕ, ◌+◌, ◌<◌, ◌≤◌, ◌^◌, ◌∷◌, ◌++◌, [], Some, None, nat_eq};
-ghost use Rattle.std.specs.Prelude.{if◌then◌else◌, length, ◌&&◌, is_none, false, IsTrue, IfOk, OnOk};
+ghost use Rattle.std.specs.Prelude.{if◌then◌else◌, length, ◌&&◌, is_none, false, IsTrue};
+ghost use Rattle.std.specs.Prelude.{IfOk, OnOk};
 ghost use Rattle.hac_model.specs.Tree.Depends.{Among};
 ghost use Rattle.hac_model.specs.Tree.Mounting.{documents_from};
 ghost use Rattle.file_tree.specs.Documents.{is_dropped, numbers_from, numbers_up, unknown};

@@ -71,7 +71,7 @@ pub(crate) fn of_mount() -> Counts
     }
 }
 
-/// What a new mount and its documents count for, which take numbers, and whose paths may be too
+/// What a new mount and its documents count for, which take numbers. The mount's path may be too
 /// long.
 pub(crate) fn of_mount_with(count: u64, is_long: bool) -> Counts
     requires { count ≤ DOCS_LIMIT }
@@ -141,23 +141,22 @@ pub(crate) fn as_new(share: Counts, is_long: bool) -> Counts
     }
 }
 
-/// The counts once a mount has `new` documents in place of `old` ones. So many of them take
-/// numbers, and their paths may be too long.
-pub(crate) fn synced(counts: Counts, old: u64, new: u64, fresh: u64, is_long: bool) -> Counts
+/// The counts once a mount has `new` documents in place of `old` ones, of which `fresh` take
+/// numbers.
+pub(crate) fn synced(counts: Counts, old: u64, new: u64, fresh: u64) -> Counts
     requires small { AreSmall counts }
     requires new_few { new ≤ DOCS_LIMIT }
     requires fresh_few { fresh ≤ new }
     requires there { old ≤ counts.items }
     ensures { result ≡ record counts {
       items = counts.items - old + new;
-      long_paths = one_if is_long;
       next = counts.next + fresh;
     } }
 {
     Counts {
         items: counts.items - old + new,
         next: counts.next + fresh,
-        ..with_long_paths(counts, is_long)
+        ..counts
     }
 }
 

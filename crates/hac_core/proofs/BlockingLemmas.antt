@@ -3,14 +3,14 @@ use Rattle.std.proofs.Common.{◌≡◌, ℕ, true, cond, List, [], ◌∷◌, s
 use Rattle.std.specs.Prelude.{Option, Some, None, Result, IsTrue}
 use Rattle.hac_model.specs.Run.Answers.{Passes, Refuses, first_cause}
 use Rattle.hac_model.specs.Tree.Bare.{bare}
-use Rattle.hac_model.specs.Run.Refusals.{already_cause, blocking_cause, busy_cause, directory_cause, filled_cause, not_link_cause, not_mount_cause, plain_cause, referenced_cause, root_cause, session_cause, taken_cause, under_cause, unlinked_cause, unmarked_cause, written_cause}
+use Rattle.hac_model.specs.Run.Refusals.{blocking_cause, busy_cause, directory_cause, filled_cause, not_link_cause, not_mount_cause, plain_cause, referenced_cause, root_cause, session_cause, taken_cause, under_cause, unlinked_cause, written_cause}
 use Rattle.hac_model.specs.declared.places.Place.{Place}
 use Rattle.hac_model.specs.declared.places.Place.TheVariants.{There, Free}
 use Rattle.hac_model.specs.declared.replies.Refusal.TheVariants as refusal
 use Rattle.hac_model.specs.declared.resolved.Resolved.{Resolved}
 use Rattle.hac_model.specs.declared.resolved.Resolved.TheVariants.{Mkdir, Rmdir, Write, Cat, Cd, Mv, Rm, Ln, Readlink, Smkdir, Unq, Query, Sls, Sln, Srm, Sforget, Smount, Ssync, Sumount}
 use Rattle.hac_model.specs.declared.states.State.{State}
-use Rattle.hac_core.specs.Blocking.{item_cause, link_cause, tree_cause}
+use Rattle.hac_core.specs.Blocking.{link_cause, tree_cause}
 use Rattle.hac_model.specs.Tree.Valid.{IsLayout}
 use Rattle.hac_model.specs.Run.Standing.{is_there}
 use Rattle.hac_model.specs.Tree.Links.{is_item}
@@ -62,9 +62,9 @@ module _ (s t : State) (bares : bare s ≡ bare t) where
   same-tree (Unq dir) = same-plain_cause dir
   same-tree (Query dir) = same-plain_cause dir
   same-tree (Sls dir) = same-plain_cause dir
-  same-tree (Sln item dir) = λ i. first_cause (same-directory_cause item i ∷ same-plain_cause dir i ∷ [])
+  same-tree (Sln item dir) = same-plain_cause dir
   same-tree (Srm item dir) = λ i. first_cause (same-directory_cause item i ∷ same-plain_cause dir i ∷ [])
-  same-tree (Sforget item dir) = λ i. first_cause (same-directory_cause item i ∷ same-plain_cause dir i ∷ [])
+  same-tree (Sforget item dir) = same-plain_cause dir
   same-tree (Smount place space) = same-taken place
   same-tree (Ssync mount) = same-not_mount mount
   same-tree (Sumount mount) = same-not_mount mount
@@ -102,9 +102,9 @@ parted : (s : State) (r : Resolved) → first_cause (tree_cause s r ∷ link_cau
 parted s (Rmdir dir) = split (root_cause dir) (filled_cause s dir) (referenced_cause s dir) (busy_cause s dir)
 parted s (Cd session dir) = lone (session_cause s session dir)
 parted s (Sumount mount) = behind (not_mount_cause s mount) (referenced_cause s mount) (busy_cause s mount)
-parted s (Sln item dir) = joined (directory_cause s item) (plain_cause s dir) (already_cause s item dir)
+parted s (Sln item dir) = refl
 parted s (Srm item dir) = joined (directory_cause s item) (plain_cause s dir) (unlinked_cause s item dir)
-parted s (Sforget item dir) = joined (directory_cause s item) (plain_cause s dir) (unmarked_cause s item dir)
+parted s (Sforget item dir) = refl
 parted s other = alone (blocking_cause s other)
 
 -- a command that the tree refuses is refused, and one that it lets pass is refused for what else blocks it
@@ -117,5 +117,5 @@ blocked-late s r result free passes =
     subst (λ (cause : Option Refusal). Passes result cause) (sym (ap (λ (o : Option Refusal). first_cause (o ∷ link_cause s r ∷ [])) free ∙ lone (link_cause s r)) ∙ parted s r) passes
 
 -- what may be a link is an item
-pub linkable : (s : State) (item dir : ℕ) → IsLayout s → IsTrue (is_there s true item) → item_cause s item dir ≡ None → IsTrue (is_item s item)
+pub linkable : (s : State) (item dir : ℕ) → IsLayout s → IsTrue (is_there s true item) → tree_cause s (Srm item dir) ≡ None → IsTrue (is_item s item)
 linkable s item dir h there free = item-there s h item there (no_cause (directory_cause s item) (plain_cause s dir ∷ []) free).0

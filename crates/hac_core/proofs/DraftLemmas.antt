@@ -10,8 +10,8 @@ use Rattle.hac_model.specs.Run.Given.{no_answers}
 use Rattle.hac_model.specs.Run.Refusals.{blocking_cause, cause, cycle_against, cycle_cause, docs_cause, early_cause, event_of, events_of, gone_cause, layout_cause, led_to, not_mount_cause, root_cause}
 use Rattle.hac_model.specs.Run.Standing.{AllStand}
 use Rattle.hac_model.specs.Spaces.Answering.{AreAnswersTo}
-use Rattle.hac_model.specs.Tree.Events.{apply_all, dirty, is_free}
-use Rattle.hac_model.specs.Tree.Limits.{counts, first_passed, layout_limits, passed_limit}
+use Rattle.hac_model.specs.Tree.Events.{apply_all, dirty, is_free, is_placed}
+use Rattle.hac_model.specs.Tree.Limits.{are_answers_few, counts, first_passed, layout_limits, passed_limit}
 use Rattle.hac_model.specs.Tree.Links.{parent_of}
 use Rattle.hac_model.specs.Tree.Mounting.{are_documents}
 use Rattle.hac_model.specs.Tree.Sessions.{is_stored}
@@ -20,7 +20,7 @@ use Rattle.hac_model.specs.Tree.{entry_at, is_document_at, is_mount_at, path_of}
 use Rattle.hac_model.specs.declared.states.Entry.{Entry}
 use Rattle.hac_model.specs.declared.events.Event.{Event}
 use Rattle.hac_model.specs.declared.limits.TheConstants.{DOCS_LIMIT}
-use Rattle.hac_model.specs.declared.limits.LimitWord.TheVariants.{Docs}
+use Rattle.hac_model.specs.declared.limits.LimitWord.TheVariants.{Answers as AnswersWord, Docs}
 use Rattle.hac_model.specs.declared.places.Place.TheVariants.{There, Free}
 use Rattle.hac_model.specs.declared.replies.Deny.{Deny}
 use Rattle.hac_model.specs.declared.replies.Refusal.{Refusal}
@@ -132,10 +132,11 @@ module _ (s : State) (h : IsValid s) where
   reads-cause answers r reads early told =
       let docs = few-unlisted answers (asks s r) (reads-unlisted s r reads) told in
       let limits : passed_limit (led_to answers s r) ≡ None = ap passed_limit (reads-led answers r reads).0 ∙ h.layout.limits in
-      (λ i. first_cause (early i ∷ first_cause (gone_cause answers s r ∷ docs i ∷ option_map Limit (limits i) ∷ []) ∷ []))
+      let few : are_answers_few (led_to answers s r).entries ≡ true = ap (λ (t : State). are_answers_few t.entries) (reads-led answers r reads).0 ∙ h.few in
+      (λ i. first_cause (early i ∷ first_cause (gone_cause answers s r ∷ docs i ∷ option_map Limit (limits i) ∷ (if few i then None else Some (Limit AnswersWord)) ∷ []) ∷ []))
       ∙ alone (gone_cause answers s r)
     where
-      alone : (o : Option Refusal) → first_cause (None ∷ first_cause (o ∷ None ∷ None ∷ []) ∷ []) ≡ o
+      alone : (o : Option Refusal) → first_cause (None ∷ first_cause (o ∷ None ∷ None ∷ None ∷ []) ∷ []) ≡ o
       alone None = refl
       alone (Some e) = refl
 
@@ -162,7 +163,8 @@ module _ (s : State) (h : IsValid s) where
   index-free answers r indexes told =
       let docs = few-unlisted answers (asks s r) (index-unlisted s r indexes) told in
       let limits : passed_limit (led_to answers s r) ≡ None = (steps-valid answers r indexes).layout.limits in
-      λ i. first_cause (index-early r indexes i ∷ first_cause ((index-gone answers r indexes).0 i ∷ docs i ∷ option_map Limit (limits i) ∷ []) ∷ [])
+      let few : are_answers_few (led_to answers s r).entries ≡ true = (steps-valid answers r indexes).few in
+      λ i. first_cause (index-early r indexes i ∷ first_cause ((index-gone answers r indexes).0 i ∷ docs i ∷ option_map Limit (limits i) ∷ (if few i then None else Some (Limit AnswersWord)) ∷ []) ∷ [])
 
   pub known-indexes : (r : Resolved) (count : ℕ) → AllStand s r → MakesSteps s r count → IsKnownOf s r (Indexes count)
   known-indexes r count stands made = record { stands = stands; cause = index-early r made.0; known = made }
@@ -296,8 +298,11 @@ gone-none answers s other e is = refl
 
 cause-settling : (answers : Answers) (s : State) (r : Resolved) (e : Event) → early_cause s r ≡ None → event_of no_answers s r ≡ Some e → cause answers s r ≡ settling_cause s answers e
 cause-settling answers s r e early is =
-    (λ i. first_cause (early i ∷ first_cause (gone-none answers s r e is i ∷ docs_cause answers ∷ option_map Limit (passed_limit (apply_all s (made-events answers s r (answering s answers e) (answering-made answers s r e is) i))) ∷ []) ∷ []))
+    (λ i. first_cause (early i ∷ first_cause (gone-none answers s r e is i ∷ docs_cause answers ∷ option_map Limit (passed_limit (apply_all s (events i))) ∷ (if are_answers_few (apply_all s (events i)).entries then None else Some (Limit AnswersWord)) ∷ []) ∷ []))
     ∙ lone (settling_cause s answers e)
+  where
+    events : events_of answers s r ≡ answering s answers e ∷ []
+    events = made-events answers s r (answering s answers e) (answering-made answers s r e is)
 
 module _ (s : State) (h : IsValid s) (answers : Answers) where
   settles-change : (r : Resolved) (change : Change) → IsKnownOf s r (Changes change) → AreAnswersTo (asks s r) answers → settling_cause s answers change.event ≡ None → Settles s answers r (settled_change (answered s answers change.event))
@@ -317,7 +322,7 @@ module _ (s : State) (h : IsValid s) (answers : Answers) where
       events = made-events answers s r next (answering-made answers s r change.event fact.known.0)
 
       happen : AllHappen s (next ∷ [])
-      happen = let parts = cause-parts answers s r free in subst (AllHappen s) events (unblocked-happen answers s r h fact.stands parts.0 parts.1 told parts.3 parts.2)
+      happen = let parts = cause-parts answers s r free in subst (AllHappen s) events (unblocked-happen answers s r h fact.stands parts.0 parts.1 told parts.3 parts.2 parts.4)
 
   -- the outcome of a change, or why there is none
   pub settles-changed : (change : Change) (known : Known) (result : Result Settled Deny) → Changes change ≡ known → IfOk result (λ outcome. outcome ≡ settled_change (answered s answers change.event)) → Passes result (settling_cause s answers change.event) →
@@ -333,6 +338,13 @@ pub known-seated : (s : State) → IsLayout s → (r : Resolved) (change : Chang
 known-seated s h r change known is fact =
     let own = subst (IsKnownOf s r) (sym is) fact in
     seated-made s h r change.event own.stands (no_cause (blocking_cause s r) (layout_cause s r ∷ cycle_cause s r ∷ []) own.cause).0 own.known.0
+
+-- so what spaces answered is placed
+pub known-placed : (s : State) → IsLayout s → (answers : Answers) (r : Resolved) (change : Change) (known : Known) → Changes change ≡ known → IsKnownOf s r known → AreAnswersTo (asks s r) answers → docs_cause answers ≡ None → is_placed s (answering s answers change.event) ≡ true
+known-placed s h answers r change known is fact told few =
+    let own = subst (IsKnownOf s r) (sym is) fact in
+    let free = (no_cause (blocking_cause s r) (layout_cause s r ∷ cycle_cause s r ∷ []) own.cause).0 in
+    subst (λ (o : Option Event). IfSome o (λ e. IsTrue (is_placed s e))) (answering-made answers s r change.event own.known.0) (unblocked-placed s h answers r own.stands free told few)
 
 -- where nothing was found, nothing is told
 pub nothing-told : (s : State) (mounts : List ℕ) → told_to s mounts [] ≡ []

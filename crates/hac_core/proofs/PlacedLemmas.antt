@@ -21,7 +21,7 @@ use Rattle.hac_model.proofs.AlikeLemmas.{entry_at-bare}
 use Rattle.hac_model.proofs.EventLemmas.{due}
 use Rattle.hac_model.proofs.LimitLemmas.{limits-within}
 use Rattle.hac_model.proofs.MapLemmas.{child-mapped}
-use Rattle.kept_state.proofs.StateLemmas.{alike, same-bare, same-directory, same-dirty, same-document, same-file, same-free, same-inside, same-item, same-leaf, same-made, same-mount, same-next, same-parent, same-semantic, same-some}
+use Rattle.kept_state.proofs.StateLemmas.{alike, same-bare, same-directory, same-dirty, same-document, same-file, same-free, same-inside, same-leaf, same-made, same-markable, same-mount, same-next, same-parent, same-semantic, same-some}
 use Rattle.hac_core.specs.Fitting.{asks_spaces}
 use Rattle.hac_core.specs.Mounting.{are_told_by, is_one_of, name_at, will_have}
 use Rattle.hac_core.specs.declared.mounting.Coming.{Coming}
@@ -61,7 +61,7 @@ module _ (s t : State) (bares : bare s ≡ bare t) where
   same-alone (Smkdir dir name query told) none = absurd cc
   same-alone (Setq dir query told) none = absurd cc
   same-alone (Unq dir) none = same-semantic s t bares dir
-  same-alone (Mark mark) none = λ i. same-item s t bares mark.item i && same-semantic s t bares mark.dir i
+  same-alone (Mark mark) none = λ i. same-markable s t bares mark.item mark.kind i && same-semantic s t bares mark.dir i
   same-alone (Mv entry dir name) none = λ i. same-some s t bares entry i && not (same-document s t bares entry i) && same-free s t bares dir name i && not (same-inside s t bares dir entry i)
   same-alone (Rm entry) none = same-leaf s t bares entry
   same-alone (Rmdir dir) none = λ i. same-made_holder dir i && same-bare s t bares dir i

@@ -1,6 +1,6 @@
 -- What becomes of a change once spaces have answered.
 use Rattle.std.proofs.Common.{◌≡◌, ℕ, true, false, List, [], ◌∷◌, ◌++◌, length, subst, refl, ap, sym, ◌∙◌}
-use Rattle.std.specs.Prelude.{Option, None, Some, IsTrue}
+use Rattle.std.specs.Prelude.{None, IsTrue}
 use Rattle.std.specs.Option.{option_map}
 use Rattle.std.proofs.lemmas.Bool.{and_from, and_parts}
 use Rattle.hac_model.specs.Query.Formula.{Formula}
@@ -15,7 +15,6 @@ use Rattle.hac_model.specs.Tree.Valid.{IsLayout}
 use Rattle.hac_model.specs.Tree.{is_mount_at}
 use Rattle.hac_model.specs.declared.events.Event.{Event}
 use Rattle.hac_model.specs.declared.events.Event.TheVariants.{Smkdir, Setq, Smount, Ssync}
-use Rattle.hac_model.specs.declared.replies.Refusal.{Refusal}
 use Rattle.hac_model.specs.declared.replies.Refusal.TheVariants.{Limit}
 use Rattle.hac_model.specs.declared.spaces.Answers.{Answers}
 use Rattle.hac_model.specs.declared.states.State.{State}
@@ -24,7 +23,7 @@ use Rattle.file_tree.specs.Seated.{is_seated}
 use Rattle.hac_core.specs.Drafts.{IsCounted, answering}
 use Rattle.hac_core.specs.Fitting.{asks_spaces}
 use Rattle.hac_core.specs.Questions.{asks_for}
-use Rattle.hac_core.specs.Settling.{answered, settling_cause}
+use Rattle.hac_core.specs.Settling.{answered, keeping_cause, limits_cause, settling_cause}
 use Rattle.hac_core.specs.declared.drafts.Change.{Change}
 
 -- what is told of an event that asks no space is nothing
@@ -51,17 +50,11 @@ change-is s change e is counted = λ i. record { event = is i; counts = (counted
 pub unasked-change : (s : State) (answers : Answers) (change : Change) → asks_spaces change.event ≡ false → IsCounted s change → change ≡ answered s answers change.event
 unasked-change s answers change none counted = change-is s change (answering s answers change.event) (sym (answering-none s answers change.event none)) counted
 
-lone : (o : Option Refusal) → first_cause (o ∷ []) ≡ o
-lone None = refl
-lone (Some e) = refl
-
--- only a limit can stand against it where its documents are few
-pub settling-is : (s : State) (answers : Answers) (e : Event) (change : Change) → change ≡ answered s answers e → docs_cause answers ≡ None →
-    settling_cause s answers e ≡ option_map Limit (first_passed (layout_limits change.counts ++ answer_limits change.counts))
+-- only a limit on the next state can stand against it where its documents are few
+pub settling-is : (s : State) (answers : Answers) (e : Event) (change : Change) → change ≡ answered s answers e → docs_cause answers ≡ None → settling_cause s answers e ≡ limits_cause s change
 unfolding passed_limit
 settling-is s answers e change is few =
-    (λ i. first_cause (few i ∷ option_map Limit (first_passed (layout_limits (sym is i).counts ++ answer_limits (sym is i).counts)) ∷ []))
-    ∙ lone (option_map Limit (first_passed (layout_limits change.counts ++ answer_limits change.counts)))
+    λ i. first_cause (few i ∷ option_map Limit (first_passed (layout_limits (sym is i).counts ++ answer_limits (sym is i).counts)) ∷ keeping_cause s (sym is i).event ∷ [])
 
 -- what the answers to an event's questions are
 

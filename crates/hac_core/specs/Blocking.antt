@@ -7,18 +7,14 @@ use Rattle.hac_model.specs.declared.resolved.Resolved.{Resolved}
 use Rattle.hac_model.specs.declared.resolved.Resolved.TheVariants.{Rmdir, Cd, Sln, Srm, Sforget, Sumount}
 use Rattle.hac_model.specs.declared.states.State.{State}
 
--- an item and a semantic directory are wanted
-abbrev pub item_cause : State → ℕ → ℕ → Option Refusal
-item_cause s item dir = first_cause (directory_cause s item ∷ plain_cause s dir ∷ [])
-
 -- what the tree says of the command
 abbrev pub tree_cause : State → Resolved → Option Refusal
 tree_cause s (Rmdir dir) = first_cause (root_cause dir ∷ filled_cause s dir ∷ [])
 tree_cause s (Cd session dir) = None
 tree_cause s (Sumount mount) = not_mount_cause s mount
-tree_cause s (Sln item dir) = item_cause s item dir
-tree_cause s (Srm item dir) = item_cause s item dir
-tree_cause s (Sforget item dir) = item_cause s item dir
+tree_cause s (Sln item dir) = plain_cause s dir
+tree_cause s (Srm item dir) = first_cause (directory_cause s item ∷ plain_cause s dir ∷ [])
+tree_cause s (Sforget item dir) = plain_cause s dir
 tree_cause s other = blocking_cause s other
 
 -- what links, marks, the queries of other directories and sessions say of it

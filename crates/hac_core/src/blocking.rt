@@ -64,12 +64,12 @@ fn fits_tree_alone(tree: &Tree, command: &Resolved) -> Result<(), Deny>
         }
         Resolved::Setq { dir, .. } => not_root(*dir),
         Resolved::Ssync { mount: dir } | Resolved::Sumount { mount: dir } => mount(tree, *dir),
-        Resolved::Unq { dir } | Resolved::Query { dir } | Resolved::Sls { dir } => {
-            semantic(tree, *dir)
-        }
-        Resolved::Sln { item, dir }
-        | Resolved::Srm { item, dir }
-        | Resolved::Sforget { item, dir } => {
+        Resolved::Unq { dir }
+        | Resolved::Query { dir }
+        | Resolved::Sls { dir }
+        | Resolved::Sln { dir, .. }
+        | Resolved::Sforget { dir, .. } => semantic(tree, *dir),
+        Resolved::Srm { item, dir } => {
             file(tree, *item)?;
             semantic(tree, *dir)
         }

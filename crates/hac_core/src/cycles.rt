@@ -14,6 +14,7 @@ pub fn acyclic(alloc: Global, kept: &KeptState, event: &Event) -> Result<(), Den
     let on = match event {
         Event::Setq { dir, query, .. } => kept.cycle_of_query(alloc, *dir, query)?,
         Event::Mv { entry, dir, .. } => kept.cycle_of_move(alloc, *entry, *dir)?,
+        Event::Mark(mark) => kept.cycle_of_mark(alloc, mark)?,
         _ => None,
     };
     refuse_cycle(kept, on)

@@ -4,7 +4,7 @@ ghost use Rattle.std.specs.Prelude.{◌≡◌, ◌&&◌, false, length, IfOk, Is
 ghost use Rattle.hac_model.specs.Script.PathWords.{is_target};
 ghost use Rattle.hac_model.specs.Tree.{is_leaf_at};
 ghost use Rattle.hac_model.specs.Tree.Asking.{are_all_told};
-ghost use Rattle.hac_model.specs.Tree.Events.{is_clear, is_free, is_made_holder, is_placed};
+ghost use Rattle.hac_model.specs.Tree.Events.{can_have_mark, is_clear, is_free, is_made_holder, is_placed};
 ghost use Rattle.hac_model.specs.Tree.Events.{may_ask};
 ghost use Rattle.hac_model.specs.Tree.Limits.{is_text};
 ghost use Rattle.hac_core.specs.Fitting.{FitsAs, IsWithin, asks_spaces, passes_none};
@@ -16,7 +16,8 @@ use crate::mounting::{may_mount, may_sync};
 use crate::told::are_all_told;
 use file_tree::Tree;
 use hac_model::{
-    Counts, Event, Memory, Name, Number, Query, Seq, TARGET_LIMIT, TEXT_LIMIT, Text, first_passed,
+    Counts, Event, Kind, Mark, Memory, Name, Number, Query, Seq, TARGET_LIMIT, TEXT_LIMIT, Text,
+    first_passed,
 };
 use hac_names::{has_long_part, is_bad, is_name, is_space_name};
 use kept_state::KeptState;
@@ -95,7 +96,9 @@ fn is_placed_in(tree: &Tree, event: &Event) -> bool
         Event::Rewrite { file, text } => tree.is_file(*file) && is_text(text),
         Event::Ln { dir, name, target } => is_free(tree, *dir, name) && is_target(target),
         Event::Unq { dir } => tree.query(*dir).is_some(),
-        Event::Mark(mark) => tree.is_item(mark.item) && tree.query(mark.dir).is_some(),
+        Event::Mark(mark) => {
+            can_have_mark(tree, mark.item, mark.kind) && tree.query(mark.dir).is_some()
+        }
         Event::Mv { entry, dir, name } => may_go(tree, *entry, *dir, name),
         Event::Rm { entry } => is_leaf(tree, *entry),
         Event::Rmdir { dir } => is_made_holder(tree, *dir) && tree.children(*dir).is_empty(),
@@ -110,7 +113,8 @@ fn is_placed_in(tree: &Tree, event: &Event) -> bool
     }
 }
 
-/// Whether no mark, no link, no query of another directory and no session blocks an event.
+/// Whether no mark, no link, no query of another directory and no session blocks an event, and
+/// mounts then keep no more answers than they may.
 fn is_clear(alloc: Global, kept: &KeptState, event: &Event) -> Result<bool, Memory>
     requires { IsTrue (is_placed kept.now.state event.now) }
     ensures { IfOk result (λ is. is ≡ is_clear kept.now.state event.now) }
@@ -118,7 +122,7 @@ fn is_clear(alloc: Global, kept: &KeptState, event: &Event) -> Result<bool, Memo
     match event {
         Event::Setq { dir, query, .. } => {
             let way = kept.cycle_of_query(alloc, *dir, query)?;
-            Ok(way.is_none())
+            Ok(way.is_none() && kept.keeps_few_after(event))
         }
         Event::Mv { entry, dir, .. } => {
             let way = kept.cycle_of_move(alloc, *entry, *dir)?;
@@ -128,9 +132,28 @@ fn is_clear(alloc: Global, kept: &KeptState, event: &Event) -> Result<bool, Memo
             Ok(is_unreferenced(kept, *dir)? && !kept.is_busy(*dir))
         }
         Event::Cd { session, dir } => Ok(kept.has_place_for(session, *dir)),
-        Event::Mark(mark) => may_mark(alloc, kept, *mark),
+        Event::Mark(mark) => may_be_marked(alloc, kept, mark),
+        Event::Smkdir { .. } | Event::Smount { .. } | Event::Ssync { .. } => {
+            Ok(kept.keeps_few_after(event))
+        }
         _ => Ok(true),
     }
+}
+
+/// Whether a mark changes something, and no directory comes to depend on itself by it.
+fn may_be_marked(alloc: Global, kept: &KeptState, mark: &Mark) -> Result<bool, Memory>
+    requires { IsTrue (can_have_mark kept.now.state mark.now.item mark.now.kind) }
+    ensures { IfOk result (λ is. is ≡ is_clear kept.now.state (Event.Mark mark.now)) }
+{
+    let way = kept.cycle_of_mark(alloc, mark)?;
+    Ok(may_mark(alloc, kept, *mark)? && way.is_none())
+}
+
+/// Whether an item or a directory can have a mark of a kind.
+fn can_have_mark(tree: &Tree, number: Number, kind: Kind) -> bool
+    ensures { result ≡ can_have_mark tree.now.state number kind }
+{
+    tree.is_item(number) || (tree.is_directory(number) && !kind.is_prohibited())
 }
 
 /// Whether counts exceed no limit.

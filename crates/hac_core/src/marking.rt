@@ -1,16 +1,17 @@
-//! What blocks a mark, and the removal of a directory that a query names.
+//! What blocks a mark, and the removal of a directory to which another refers.
 ghost use Rattle.std.specs.Prelude.{IsTrue};
 ghost use Rattle.hac_model.specs.Run.Answers.{Passes};
 ghost use Rattle.hac_model.specs.Run.Refusals.{already_cause, referenced_cause, unlinked_cause};
 ghost use Rattle.hac_model.specs.Run.Refusals.{unmarked_cause};
 ghost use Rattle.hac_model.specs.Tree.Links.{is_item};
+ghost use Rattle.hac_model.specs.Tree.{is_directory_at};
 
 use hac_model::{Deny, Number, Refusal};
 use kept_state::KeptState;
 use std::alloc::Global;
 use tree_answers::{is_linked, is_marked, is_permanent, least_referrer};
 
-/// The item isn't a permanent link yet.
+/// The item or directory isn't a permanent link yet.
 pub fn not_permanent(kept: &KeptState, item: Number, dir: Number) -> Result<(), Deny>
     ensures { Passes result (already_cause kept.now.state item dir) }
 {
@@ -31,7 +32,7 @@ pub fn linked(alloc: Global, kept: &KeptState, item: Number, dir: Number) -> Res
     Err(Deny::Refused(Refusal::NotLinked(kept.path_of(item)?)))
 }
 
-/// The item has a mark.
+/// The item or directory has a mark.
 pub fn marked(kept: &KeptState, item: Number, dir: Number) -> Result<(), Deny>
     ensures { Passes result (unmarked_cause kept.now.state item dir) }
 {
@@ -41,9 +42,10 @@ pub fn marked(kept: &KeptState, item: Number, dir: Number) -> Result<(), Deny>
     Err(Deny::Refused(Refusal::NoMark(kept.path_of(item)?)))
 }
 
-/// No query names a directory to be removed. Where some do, the refusal has the least path of such
-/// a directory.
+/// No directory refers to one that is to be removed. Where some do, the refusal has the least path
+/// of such a directory.
 pub fn unreferenced(alloc: Global, kept: &KeptState, dir: Number) -> Result<(), Deny>
+    requires { IsTrue (is_directory_at kept.now.state.entries dir) }
     ensures { Passes result (referenced_cause kept.now.state dir) }
 {
     match least_referrer(alloc, kept, dir)? {

@@ -4,10 +4,11 @@ ghost use Rattle.hac_model.specs.Run.Answers.{Passes};
 ghost use Rattle.hac_model.specs.Run.Asks.{query_asks, told_for};
 ghost use Rattle.hac_model.specs.Run.Refusals.{docs_cause};
 ghost use Rattle.hac_model.specs.Spaces.Answering.{AreAnswersTo};
+ghost use Rattle.hac_model.specs.Tree.Events.{is_placed};
 ghost use Rattle.hac_core.specs.Drafts.{IsCounted, answering, settled_change};
 ghost use Rattle.hac_core.specs.Fitting.{asks_spaces};
 ghost use Rattle.hac_core.specs.Questions.{asks_for};
-ghost use Rattle.hac_core.specs.Settling.{answered, settling_cause};
+ghost use Rattle.hac_core.specs.Settling.{answered, keeping_cause, limits_cause, settling_cause};
 ghost use Rattle.file_tree.specs.Seated.{is_seated};
 
 use crate::counting::{counts_after, within_all};
@@ -30,6 +31,8 @@ pub fn settled(
     requires seated { IsTrue (is_seated kept.now.state change.event) }
     requires counted { IsCounted kept.now.state change }
     requires answered { AreAnswersTo (asks_for kept.now.state change.event) answers }
+    requires placed { docs_cause answers ≡ None →
+        IsTrue (is_placed kept.now.state (answering kept.now.state answers change.event)) }
     ensures settled { IfOk result (λ settled. settled
         ≡ settled_change (answered kept.now.state answers change.event)) }
     ensures limits { Passes result (settling_cause kept.now.state answers change.event) }
@@ -65,18 +68,40 @@ fn settled_few(
     requires counted { IsCounted kept.now.state change }
     requires answered { AreAnswersTo (asks_for kept.now.state change.event) answers }
     requires few { docs_cause answers ≡ None }
+    requires placed { IsTrue (is_placed kept.now.state
+        (answering kept.now.state answers change.event)) }
     ensures settled { IfOk result (λ settled. settled
         ≡ settled_change (answered kept.now.state answers change.event)) }
     ensures limits { Passes result (settling_cause kept.now.state answers change.event) }
 {
     let change = answered(alloc, kept, change, answers)?;
-    match within_all(change.counts) {
+    match within_limits(kept, &change) {
         Ok(()) => Ok(outcome(change)),
         Err(deny) => {
             drop(change);
             Err(deny)
         }
     }
+}
+
+/// Denies a change that would exceed a limit, by the first such limit.
+fn within_limits(kept: &KeptState, change: &Change) -> Result<(), Deny>
+    requires { IsTrue (is_placed kept.now.state change.now.event) }
+    ensures { Passes result (limits_cause kept.now.state change.now) }
+{
+    within_all(change.counts)?;
+    few_answers(kept, &change.event)
+}
+
+/// Denies an event after which mounts would keep more answers than they may.
+fn few_answers(kept: &KeptState, event: &Event) -> Result<(), Deny>
+    requires { IsTrue (is_placed kept.now.state event.now) }
+    ensures { Passes result (keeping_cause kept.now.state event.now) }
+{
+    if kept.keeps_few_after(event) {
+        return Ok(());
+    }
+    Err(Deny::Refused(Refusal::Limit(LimitWord::Answers)))
 }
 
 /// The change with what spaces answered.

@@ -5,7 +5,7 @@ use Rattle.std.specs.List.{AllByRecursion, slice_index_or}
 use Rattle.std.specs.Option.{option_map, option_map_or, unwrap_or}
 use Rattle.hac_model.specs.Run.Answers.{and_then, first_cause}
 use Rattle.hac_model.specs.Tree.Bare.{bare, bare_body}
-use Rattle.hac_model.specs.Tree.Depends.{depends, named_in, names_directory, referrers}
+use Rattle.hac_model.specs.Tree.Depends.{named_in}
 use Rattle.hac_model.specs.Tree.Events.{are_directories, dirty, edited, is_bare, is_free, is_inside, may_ask}
 use Rattle.hac_model.specs.Query.Formula.{Formula}
 use Rattle.hac_model.specs.Query.Formula as query
@@ -131,9 +131,6 @@ parent_of-bare s n =
     ap (λ (o : Option Entry). option_map_or (λ (e : Entry). e.parent) o 0) (entry_at-bare s n)
     ∙ (elim (entry_at s.entries n) as (λ o. option_map_or (λ (e : Entry). e.parent) (option_map (edited bare_body) o) 0 ≡ option_map_or (λ (e : Entry). e.parent) o 0) [ None ↦ refl | Some e ↦ refl ])
 
-pub depends-bare : (s : State) (n : ℕ) → depends (bare s) n ≡ depends s n
-depends-bare s n = λ i. option_map_or (λ query. parent_of-bare s n i ∷ named_in query) (query_at-bare s n i) []
-
 pub directory-bare : (s : State) (n : ℕ) → is_directory_at (bare s).entries n ≡ is_directory_at s.entries n
 directory-bare s n = directory-mapped bare_body s.entries n bare-kind
 
@@ -176,25 +173,6 @@ may_ask-bare s asked = ap (λ (b : Bool). is_query asked && b) (each (named_in a
     each : (ds : List ℕ) → are_directories (bare s) ds ≡ are_directories s ds
     each [] = refl
     each (d ∷ ds) = λ i. directory-bare s d i && each ds i
-
--- the paths of those whose queries name a directory
-pub referrers-bare : (s : State) (dir : ℕ) → map (λ (e : Entry). path_of (bare s) e.number) (referrers (bare s) dir) ≡ map (λ (e : Entry). path_of s e.number) (referrers s dir)
-referrers-bare s dir = each s.entries
-  where
-    paths : List Entry → List (List (List ℕ))
-    paths es = map (λ (e : Entry). path_of s e.number) es
-
-    each : (es : List Entry) → map (λ (e : Entry). path_of (bare s) e.number) (filter (names_directory dir) (map (edited bare_body) es)) ≡ paths (filter (names_directory dir) es)
-    each [] = refl
-    each (e ∷ es) =
-        ap (λ (b : Bool). map (λ (e : Entry). path_of (bare s) e.number) (cond b (edited bare_body e ∷ filter (names_directory dir) (map (edited bare_body) es)) (filter (names_directory dir) (map (edited bare_body) es)))) named
-        ∙ (elim (names_directory dir e) as (λ b. map (λ (e : Entry). path_of (bare s) e.number) (cond b (edited bare_body e ∷ filter (names_directory dir) (map (edited bare_body) es)) (filter (names_directory dir) (map (edited bare_body) es))) ≡ paths (cond b (e ∷ filter (names_directory dir) es) (filter (names_directory dir) es))) [
-          | true ↦ (λ i. path_of-bare s e.number i ∷ each es i)
-          | false ↦ each es
-        ])
-      where
-        named : names_directory dir (edited bare_body e) ≡ names_directory dir e
-        named = ap (λ (o : Option (Formula ℕ)). option_map_or (λ asked. has (named_in asked) dir) o false) (bare-query e.body)
 
 -- Where paths lead.
 
@@ -340,7 +318,7 @@ counts-bare s = λ i. record {
   files = ones is_file bare-file i;
   items = ones is_linkable (keeps-linkable bare_body bare-file bare-document) i;
   dirty = dirty-same s i;
-  long_paths = cond {A = ℕ} (paths-mapped bare_body s.entries i) 0 1;
+  long_paths = cond {A = ℕ} (paths-mapped bare_body s.entries bare-mount i) 0 1;
   next = s.next;
 }
   where

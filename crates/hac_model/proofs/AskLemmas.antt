@@ -5,16 +5,16 @@ use Rattle.hac_model.specs.Tree.Mounts.{terms_to_ask}
 use Rattle.hac_model.proofs.LayoutLemmas.{sumount-parts}
 use Rattle.hac_model.proofs.MountAskLemmas.{mounted-queries, synced-queries, unmounted-queries}
 use Rattle.std.proofs.Common.{◌≡◌, ℕ, Bool, true, false, List, [], ◌∷◌, ◌++◌, refl, ap, sym, ◌∙◌}
-use Rattle.std.specs.Prelude.{◌==◌, not, filter, Option, Some, None, IsTrue}
+use Rattle.std.specs.Prelude.{◌==◌, ◌||◌, not, filter, Option, Some, None, IsTrue}
 use Rattle.std.specs.Option.{option_map, option_map_or}
 use Rattle.std.specs.List.{AllByRecursion, list_all}
 use Rattle.std.proofs.lemmas.Bool.{and_parts, eqb-false, not-true}
-use Rattle.hac_model.specs.Tree.Depends.{named_in, names_directory}
-use Rattle.hac_model.specs.Tree.Events.{accepted, added, apply, asking, changed_at, edited, forgetting, forgotten, indexed, is_possible, marked, may_ask, next_dirty, plain_body, removed, reseated, rewritten, without}
+use Rattle.hac_model.specs.Tree.Depends.{named_in, refers_to}
+use Rattle.hac_model.specs.Tree.Events.{accepted, added, apply, asking, can_have_mark, changed_at, edited, forgetting, forgotten, indexed, is_possible, marked, may_ask, next_dirty, plain_body, removed, reseated, rewritten, without}
 use Rattle.hac_model.specs.Query.Formula.{Formula}
 use Rattle.hac_model.specs.Tree.Limits.{passed_limit}
-use Rattle.hac_model.specs.Tree.Links.{has, is_item}
-use Rattle.hac_model.specs.Tree.{body_at, entry_at, is_directory, is_directory_at, is_file_at, is_leaf_at, is_linkable, is_made_directory, query_in}
+use Rattle.hac_model.specs.Tree.Links.{can_be_added, has, is_item}
+use Rattle.hac_model.specs.Tree.{body_at, entry_at, is_directory, is_directory_at, is_file_at, is_leaf_at, is_linkable, is_made_directory, permanent_in, query_in}
 use Rattle.hac_model.specs.Tree.Valid.{AreMarks, AsksWell, IsLayout, IsValid}
 use Rattle.hac_model.specs.declared.events.Event.{Event}
 use Rattle.hac_model.specs.declared.events.Event.TheVariants.{Mkdir, NewFile, Rewrite, Ln, Mark, Mv, Rm, Rmdir, Setq, Smkdir, Step, Unq, Cd}
@@ -31,14 +31,14 @@ use Rattle.hac_model.proofs.MarkLemmas.{all-passes, forgetting-asks, marked-asks
 use Rattle.hac_model.proofs.PathLemmas.{root-none}
 use Rattle.hac_model.proofs.GainLemmas.{ask-told, told-valid}
 use Rattle.hac_model.specs.Tree.Asking.{with_told}
-use Rattle.hac_model.proofs.StayLemmas.{DirectoriesStay, ItemsStay, all-stay, ask-stays, marks-stay}
+use Rattle.hac_model.proofs.StayLemmas.{DirectoriesStay, ItemsStay, added-stays, all-stay, ask-stays, marks-stay}
 use Rattle.hac_model.proofs.TreeLemmas.{directory-no_item, directory-no_leaf, file-leaf}
 use Rattle.hac_model.proofs.ValidLemmas.{accepted-parts, asking-kind, forgetting-measures, mark-parts, marked-kind, plain-kind, rmdir-parts, setq-parts, smkdir-parts}
 
 -- An entry is added.
 
 -- a test that the entry of a number passes is passed once another is added
-test-append : (test : Body → Bool) (es : List Entry) (e : Entry) (n : ℕ) → option_map_or test (body_at es n) false ≡ true → option_map_or test (body_at (es ++ e ∷ []) n) false ≡ true
+pub test-append : (test : Body → Bool) (es : List Entry) (e : Entry) (n : ℕ) → option_map_or test (body_at es n) false ≡ true → option_map_or test (body_at (es ++ e ∷ []) n) false ≡ true
 test-append test es e n h = elim (entry_at es n) as (λ o. entry_at es n ≡ o → option_map_or test (option_map (λ (e : Entry). e.body) o) false ≡ true → option_map_or test (body_at (es ++ e ∷ []) n) false ≡ true) [
   | None ↦ (λ found h. absurd cc)
   | Some there ↦ (λ found h. ap (λ (o : Option Entry). option_map_or test (option_map (λ (e : Entry). e.body) o) false) (entry_at-append es e n there found) ∙ h)
@@ -69,7 +69,7 @@ indexed-asks s (Semantic query permanent prohibited) h = h
 indexed-asks s other h = tt
 
 asking-asks : (s : State) (query : Formula ℕ) (body : Body) → may_ask s query ≡ true → AsksWell s body → AsksWell s (asking query body)
-asking-asks s query Dir fits h = record { fits = fits; added = record { rise = tt; items = tt }; removed = record { rise = tt; items = tt }; apart = tt }
+asking-asks s query Dir fits h = record { fits = fits; added = record { rise = tt; there = tt }; removed = record { rise = tt; there = tt }; apart = tt }
 asking-asks s query (Semantic old permanent prohibited) fits h = record { fits = fits; added = h.added; removed = h.removed; apart = h.apart }
 asking-asks s query other fits h = tt
 
@@ -101,6 +101,17 @@ marked-items n Unlinked other = refl
 forgetting-items : (n : ℕ) (body : Body) → is_linkable (forgetting n body) ≡ is_linkable body
 forgetting-items n = keeps-linkable (forgetting n) (forgetting-measures n).file (forgetting-measures n).document
 
+-- what can have a mark can still have it, where directories and items stay
+marking-stays : (s t : State) (n : ℕ) (kind : Kind) → (is_directory_at s.entries n ≡ true → is_directory_at t.entries n ≡ true) → (is_item s n ≡ true → is_item t n ≡ true) → can_have_mark s n kind ≡ true → can_have_mark t n kind ≡ true
+marking-stays s t n Prohibited dirs items can = items can
+marking-stays s t n Permanent dirs items can = added-stays s t n dirs items can
+marking-stays s t n Transient dirs items can = added-stays s t n dirs items can
+marking-stays s t n Unlinked dirs items can = added-stays s t n dirs items can
+
+pub neither : (a b : Bool) → (a || b) ≡ false → (a ≡ false) × (b ≡ false)
+neither true b h = absurd cc
+neither false b h = (refl, h)
+
 -- directories and items of a state in which a body was edited
 pub edited-directories : (s : State) (n : ℕ) (edit : Body → Body) → ((body : Body) → is_directory (edit body) ≡ is_directory body) → DirectoriesStay s (changed_at s n (edited edit))
 edited-directories s n edit kind d there = directory-changed n (edited edit) s.entries d (λ e. refl) (λ e. kind e.body) ∙ there
@@ -129,9 +140,9 @@ forgotten-asks : (s : State) (file : ℕ) (body : Body) → IsLayout s → is_le
 forgotten-asks s file (Semantic query permanent prohibited) h there asks =
     let rest = forgetting-asks s file (Semantic query permanent prohibited) asks in
     record {
-      fits = ask-stays s (forgotten (removed s file) file) query (λ d inside dir. directory-mapped (forgetting file) (filter (is_kept file) s.entries) d (forgetting-measures file).kind ∙ directory-kept file s.entries d (leaf-no_directory s file d h there dir) ∙ dir) asks.fits;
-      added = marks permanent rest.added;
-      removed = marks prohibited rest.removed;
+      fits = ask-stays s (forgotten (removed s file) file) query (λ d inside dir. directory d dir) asks.fits;
+      added = marks (can_be_added s) (can_be_added t) (λ n can other. added-stays s t n (directory n) (λ there. item n there other) can) permanent rest.added;
+      removed = marks (is_item s) (is_item t) item prohibited rest.removed;
       apart = rest.apart;
     }
   where
@@ -144,16 +155,19 @@ forgotten-asks s file (Semantic query permanent prohibited) h there asks =
         ∙ ap (λ (o : Option Entry). option_map_or is_linkable (option_map (λ (e : Entry). e.body) o) false) (entry_at-kept file s.entries n (λ same. eqb-false n file (not-true (n == file) other) (sym same)))
         ∙ there
 
-    marks : (xs : List ℕ) → AreMarks s (without file xs) → AreMarks t (without file xs)
-    marks xs m = record {
+    directory : (d : ℕ) → is_directory_at s.entries d ≡ true → is_directory_at t.entries d ≡ true
+    directory d dir = directory-mapped (forgetting file) (filter (is_kept file) s.entries) d (forgetting-measures file).kind ∙ directory-kept file s.entries d (leaf-no_directory s file d h there dir) ∙ dir
+
+    marks : (test kept : ℕ → Bool) → ((n : ℕ) → test n ≡ true → not (n == file) ≡ true → kept n ≡ true) → (xs : List ℕ) → AreMarks test (without file xs) → AreMarks kept (without file xs)
+    marks test kept stay xs m = record {
       rise = m.rise;
-      items = all-both (λ n. is_item s n ≡ true) (λ n. not (n == file) ≡ true) (λ n. is_item t n ≡ true) (without file xs) item m.items (all-passes (λ other. not (other == file)) xs);
+      there = all-both (λ n. test n ≡ true) (λ n. not (n == file) ≡ true) (λ n. kept n ≡ true) (without file xs) stay m.there (all-passes (λ other. not (other == file)) xs);
     }
 forgotten-asks s file other h there asks = tt
 
--- without a directory that no query names
-unreferenced-asks : (s : State) (dir : ℕ) (e : Entry) → IsLayout s → is_made_directory s.entries dir ≡ true → not (names_directory dir e) ≡ true → AsksWell s e.body → AsksWell (removed s dir) e.body
-unreferenced-asks s dir e h made apart asks = body e.body (not-true (names_directory dir e) apart) asks
+-- without a directory to which no entry refers
+unreferenced-asks : (s : State) (dir : ℕ) (e : Entry) → IsLayout s → is_made_directory s.entries dir ≡ true → not (refers_to dir e) ≡ true → AsksWell s e.body → AsksWell (removed s dir) e.body
+unreferenced-asks s dir e h made apart asks = body e.body (not-true (refers_to dir e) apart) asks
   where
     there : is_directory_at s.entries dir ≡ true
     there = or-right (dir == 0) (is_made_directory s.entries dir) made
@@ -161,19 +175,31 @@ unreferenced-asks s dir e h made apart asks = body e.body (not-true (names_direc
     item : ItemsStay s (removed s dir)
     item n linked = ap (λ (o : Option Entry). option_map_or is_linkable (option_map (λ (e : Entry). e.body) o) false) (entry_at-kept dir s.entries n (λ same. item-no_directory s n dir h linked there (sym same))) ∙ linked
 
-    body : (b : Body) → option_map_or (λ query. has (named_in query) dir) (query_in b) false ≡ false → AsksWell s b → AsksWell (removed s dir) b
-    body (Semantic query permanent prohibited) apart asks = record {
-      fits = ask-stays s (removed s dir) query (λ d inside stands. directory-kept dir s.entries d (λ same. let never : true ≡ false = sym inside ∙ ap (has (named_in query)) (sym same) ∙ apart in cc) ∙ stands) asks.fits;
-      added = marks-stay s (removed s dir) permanent item asks.added;
-      removed = marks-stay s (removed s dir) prohibited item asks.removed;
-      apart = asks.apart;
-    }
+    other : (ns : List ℕ) → has ns dir ≡ false → AllByRecursion (λ n. dir ≡ n → ⊥) ns
+    other [] apart = tt
+    other (n ∷ ns) apart =
+        let parts = neither (n == dir) (has ns dir) apart in
+        (λ same. eqb-false n dir parts.0 (sym same), other ns parts.1)
+
+    body : (b : Body) → (option_map_or (λ query. has (named_in query) dir) (query_in b) false || has (permanent_in b) dir) ≡ false → AsksWell s b → AsksWell (removed s dir) b
+    body (Semantic query permanent prohibited) apart asks =
+        let parts = neither (has (named_in query) dir) (has permanent dir) apart in
+        record {
+          fits = ask-stays s (removed s dir) query (λ d inside stands. directory-kept dir s.entries d (λ same. let never : true ≡ false = sym inside ∙ ap (has (named_in query)) (sym same) ∙ parts.0 in cc) ∙ stands) asks.fits;
+          added = record {
+            rise = asks.added.rise;
+            there = all-both (λ n. dir ≡ n → ⊥) (λ n. can_be_added s n ≡ true) (λ n. can_be_added (removed s dir) n ≡ true) permanent
+                (λ n apart can. added-stays s (removed s dir) n (λ stands. directory-kept dir s.entries n apart ∙ stands) (item n) can) (other permanent parts.1) asks.added.there;
+          };
+          removed = marks-stay (is_item s) (is_item (removed s dir)) prohibited item asks.removed;
+          apart = asks.apart;
+        }
     body other apart asks = tt
 
-all-unreferenced : (s : State) (dir : ℕ) (es : List Entry) → IsLayout s → is_made_directory s.entries dir ≡ true → list_all (λ e. not (names_directory dir e)) es ≡ true → AllByRecursion (λ e. AsksWell s e.body) es → AllByRecursion (λ e. AsksWell (removed s dir) e.body) es
+all-unreferenced : (s : State) (dir : ℕ) (es : List Entry) → IsLayout s → is_made_directory s.entries dir ≡ true → list_all (λ e. not (refers_to dir e)) es ≡ true → AllByRecursion (λ e. AsksWell s e.body) es → AllByRecursion (λ e. AsksWell (removed s dir) e.body) es
 all-unreferenced s dir [] h made apart asks = tt
 all-unreferenced s dir (e ∷ es) h made apart asks =
-    let parts = and_parts (not (names_directory dir e)) (list_all (λ e. not (names_directory dir e)) es) apart in
+    let parts = and_parts (not (refers_to dir e)) (list_all (λ e. not (refers_to dir e)) es) apart in
     (unreferenced-asks s dir e h made parts.0 asks.0, all-unreferenced s dir es h made parts.1 asks.1)
 
 -- the queries and marks stay sound
@@ -188,20 +214,21 @@ apply-queries s (Smkdir dir name query told) h ok =
     let old : State = with_told query told s in
     let fits = ask-told s query told query ∙ asks.1 in
     let t : State = added old dir name (Semantic query [] []) in
-    added-asks old dir name (Semantic query [] []) (told-valid s query told h asks.1 asks.2) (record { fits = ask-stays old t query (λ d inside there. added-directories old dir name (Semantic query [] []) d there) fits; added = record { rise = tt; items = tt }; removed = record { rise = tt; items = tt }; apart = tt })
+    added-asks old dir name (Semantic query [] []) (told-valid s query told h asks.1 asks.2 asks.3) (record { fits = ask-stays old t query (λ d inside there. added-directories old dir name (Semantic query [] []) d there) fits; added = record { rise = tt; there = tt }; removed = record { rise = tt; there = tt }; apart = tt })
 apply-queries s (Setq dir query told) h ok =
     let parts = accepted-parts (is_possible s (Setq dir query told)) (passed_limit (apply s (Setq dir query told))) ok in
     let asks = setq-parts s dir query told parts.0 in
     let old : State = with_told query told s in
     let t : State = changed_at old dir (edited (asking query)) in
     let fits = ask-stays old t query (λ d inside there. edited-directories old dir (asking query) (asking-kind query) d there) (ask-told s query told query ∙ asks.1) in
-    changed-asks old dir (edited (asking query)) (λ e. refl) (λ e. asking-kind query e.body) (λ e. asking-items query e.body) (λ e there. asking-asks t query e.body fits there) (told-valid s query told h asks.1 asks.3)
+    changed-asks old dir (edited (asking query)) (λ e. refl) (λ e. asking-kind query e.body) (λ e. asking-items query e.body) (λ e there. asking-asks t query e.body fits there) (told-valid s query told h asks.1 asks.3 asks.5)
 apply-queries s (Unq dir) h ok = changed-asks s dir (edited plain_body) (λ e. refl) (λ e. plain-kind e.body) (λ e. plain-items e.body) (λ e there. plain-asks (apply s (Unq dir)) e.body there) h
 apply-queries s (Mark mark) h ok =
     let edit : Body → Body = marked mark.item mark.kind in
     let parts = accepted-parts (is_possible s (Mark mark)) (passed_limit (changed_at s mark.dir (edited edit))) ok in
-    let item = edited-items s mark.dir edit (marked-items mark.item mark.kind) mark.item (mark-parts s mark.dir mark.item mark.kind parts.0).0 in
-    changed-asks s mark.dir (edited edit) (λ e. refl) (λ e. marked-kind mark.item mark.kind e.body) (λ e. marked-items mark.item mark.kind e.body) (λ e there. marked-asks (apply s (Mark mark)) mark.item mark.kind e.body item there) h
+    let t : State = changed_at s mark.dir (edited edit) in
+    let can : can_have_mark t mark.item mark.kind ≡ true = marking-stays s t mark.item mark.kind (edited-directories s mark.dir edit (marked-kind mark.item mark.kind) mark.item) (edited-items s mark.dir edit (marked-items mark.item mark.kind) mark.item) (mark-parts s mark.dir mark.item mark.kind parts.0).0 in
+    changed-asks s mark.dir (edited edit) (λ e. refl) (λ e. marked-kind mark.item mark.kind e.body) (λ e. marked-items mark.item mark.kind e.body) (λ e there. marked-asks t mark.item mark.kind e.body can there) h
 apply-queries s (Mv entry dir name) h ok = changed-asks s entry (reseated dir name) (λ e. refl) (λ e. refl) (λ e. refl) (λ e there. there) h
 apply-queries s (Rm file) h ok =
     let parts = accepted-parts (is_leaf_at s.entries file) (passed_limit (forgotten (removed s file) file)) ok in

@@ -103,11 +103,3 @@ none-reaching s dir (other ∷ others) none e inside walk =
         let never : true ≡ false = sym (reaches-told s e dir walk) ∙ ap (λ (n : ℕ). reaches s n dir) (sym same) ∙ apart in
         absurd cc
     first (inr more) apart none rest = rest more
-
--- what an entry depends on
-abbrev pub edges_in : Option Entry → List ℕ
-edges_in None = []
-edges_in (Some e) = option_map_or (λ q. e.parent ∷ named_in q) (query_in e.body) []
-
-pub depends-is : (s : State) (d : ℕ) → depends s d ≡ edges_in (entry_at s.entries d)
-depends-is s d = elim (entry_at s.entries d) as (λ o. option_map_or (λ q. option_map_or (λ e. e.parent) o 0 ∷ named_in q) (option_and_then query_in (option_map (λ (e : Entry). e.body) o)) [] ≡ edges_in o) [ None ↦ refl | Some e ↦ refl ]

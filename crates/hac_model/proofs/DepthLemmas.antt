@@ -1,13 +1,14 @@
 -- Which paths are short after an event, from the paths before it.
-use Rattle.std.proofs.Common.{◌≡◌, ℕ, zero, suc, Bool, true, false, cond, List, [], ◌∷◌, length, map, subst, refl, ap, sym, ◌∙◌}
+use Rattle.std.proofs.Common.{◌≡◌, ℕ, zero, suc, ◌+◌, Bool, true, false, cond, List, [], ◌∷◌, length, map, subst, refl, ap, sym, ◌∙◌}
 use Rattle.std.specs.Prelude.{◌==◌, ◌&&◌, not, nat_le, filter, Option, Some, None}
 use Rattle.std.specs.Option.{option_map}
 use Rattle.std.specs.List.{AllByRecursion, list_all}
 use Rattle.std.proofs.lemmas.Bool.{and_from, and_parts, eqb-false}
 use Rattle.std.proofs.lemmas.List.{length-map}
 use Rattle.hac_model.specs.Tree.Events.{changed_in, edited}
-use Rattle.hac_model.specs.Tree.Limits.{are_paths_short}
-use Rattle.hac_model.specs.Tree.{ancestors, entry_at, is_path_short, lineage}
+use Rattle.hac_model.specs.Tree.Limits.{are_paths_short, has_short_path}
+use Rattle.hac_model.specs.Tree.{ancestors, entry_at, is_mount, is_path_short, lineage}
+use Rattle.hac_model.specs.declared.limits.TheConstants.{PATH_LIMIT}
 use Rattle.hac_model.specs.Tree.Valid.{IsLayout}
 use Rattle.hac_model.specs.declared.states.Body.{Body}
 use Rattle.hac_model.specs.declared.states.Entry.{Entry}
@@ -30,6 +31,13 @@ short-names es other n m same =
     short-is es n
     ∙ ap (λ (k : ℕ). nat_le k limit) (sym (length-map (lineage es n) (λ (e : Entry). e.name)) ∙ same ∙ length-map (lineage other m) (λ (e : Entry). e.name))
     ∙ sym (short-is other m)
+
+-- so it fits or doesn't, where both are mounts or neither is
+pub path-alike : (es other : List Entry) (e f : Entry) → length (names_of (lineage es e.number)) ≡ length (names_of (lineage other f.number)) → is_mount e.body ≡ is_mount f.body → has_short_path es e ≡ has_short_path other f
+path-alike es other e f same kind = λ i. nat_le (even i + cond {A = ℕ} (kind i) 1 0) PATH_LIMIT
+  where
+    even : length (lineage es e.number) ≡ length (lineage other f.number)
+    even = sym (length-map (lineage es e.number) (λ (e : Entry). e.name)) ∙ same ∙ length-map (lineage other f.number) (λ (e : Entry). e.name)
 
 -- A path where parents stay as they are.
 
@@ -58,22 +66,18 @@ lineage-edited : (es : List Entry) (n : ℕ) (edit : Body → Body) (m : ℕ) �
 lineage-edited es n edit m =
     ap names_of (lineage-is (changed_in n (edited edit) es) m) ∙ ancestors-placed (suc limit) n (edited edit) es m (edited-keeps edit) ∙ ap names_of (sym (lineage-is es m))
 
-short-edited : (es : List Entry) (n : ℕ) (edit : Body → Body) (m : ℕ) → is_path_short (changed_in n (edited edit) es) m ≡ is_path_short es m
-short-edited es n edit m = short-names (changed_in n (edited edit) es) es m m (ap length (lineage-edited es n edit m))
-
 -- so all are short where they were
-pub paths-edited : (es : List Entry) (n : ℕ) (edit : Body → Body) → are_paths_short (changed_in n (edited edit) es) ≡ are_paths_short es
-paths-edited es n edit = each es
+pub paths-edited : (es : List Entry) (n : ℕ) (edit : Body → Body) → ((body : Body) → is_mount (edit body) ≡ is_mount body) → are_paths_short (changed_in n (edited edit) es) ≡ are_paths_short es
+paths-edited es n edit mounts = each es
   where
-    each : (rest : List Entry) → list_all (λ e. is_path_short (changed_in n (edited edit) es) e.number) (changed_in n (edited edit) rest) ≡ list_all (λ e. is_path_short es e.number) rest
+    one : (e : Entry) → has_short_path (changed_in n (edited edit) es) (touched n (edited edit) e) ≡ has_short_path es e
+    one e = path-alike (changed_in n (edited edit) es) es (touched n (edited edit) e) e
+        (ap (λ (k : ℕ). length (names_of (lineage (changed_in n (edited edit) es) k))) (touched-keeps (λ e. e.number) n (edited edit) e refl) ∙ ap length (lineage-edited es n edit e.number))
+        (touched-keeps (λ e. is_mount e.body) n (edited edit) e (mounts e.body))
+
+    each : (rest : List Entry) → list_all (has_short_path (changed_in n (edited edit) es)) (changed_in n (edited edit) rest) ≡ list_all (has_short_path es) rest
     each [] = refl
-    each (e ∷ rest) =
-        ap (λ (k : ℕ). is_path_short (changed_in n (edited edit) es) k && list_all (λ e. is_path_short (changed_in n (edited edit) es) e.number) (changed_in n (edited edit) rest)) (number e)
-        ∙ ap (λ (b : Bool). b && list_all (λ e. is_path_short (changed_in n (edited edit) es) e.number) (changed_in n (edited edit) rest)) (short-edited es n edit e.number)
-        ∙ ap (λ (b : Bool). is_path_short es e.number && b) (each rest)
-      where
-        number : (e : Entry) → (touched n (edited edit) e).number ≡ e.number
-        number e = elim (e.number == n) as (λ b. (cond b (edited edit e) e).number ≡ e.number) [ true ↦ refl | false ↦ refl ]
+    each (e ∷ rest) = λ i. one e i && each rest i
 
 -- A path once an empty entry was removed.
 
@@ -89,17 +93,17 @@ ancestors-removed (suc steps) n es m bare other =
 lineage-removed : (es : List Entry) (n m : ℕ) → AllByRecursion (λ e. n ≡ e.parent → ⊥) es → (n ≡ m → ⊥) → lineage (filter (is_kept n) es) m ≡ lineage es m
 lineage-removed es n m bare other = lineage-is (filter (is_kept n) es) m ∙ ancestors-removed (suc limit) n es m bare other ∙ sym (lineage-is es m)
 
-short-removed : (es : List Entry) (n m : ℕ) → AllByRecursion (λ e. n ≡ e.parent → ⊥) es → (n ≡ m → ⊥) → is_path_short (filter (is_kept n) es) m ≡ is_path_short es m
-short-removed es n m bare other = short-names (filter (is_kept n) es) es m m (ap (λ (es : List Entry). length (names_of es)) (lineage-removed es n m bare other))
+short-removed : (es : List Entry) (n : ℕ) (e : Entry) → AllByRecursion (λ e. n ≡ e.parent → ⊥) es → (n ≡ e.number → ⊥) → has_short_path (filter (is_kept n) es) e ≡ has_short_path es e
+short-removed es n e bare other = path-alike (filter (is_kept n) es) es e e (ap (λ (es : List Entry). length (names_of es)) (lineage-removed es n e.number bare other)) refl
 
 pub paths-removed : (es : List Entry) (n : ℕ) → AllByRecursion (λ e. n ≡ e.parent → ⊥) es → are_paths_short es ≡ true → are_paths_short (filter (is_kept n) es) ≡ true
 paths-removed es n bare short = each es short
   where
-    each : (rest : List Entry) → list_all (λ e. is_path_short es e.number) rest ≡ true → list_all (λ e. is_path_short (filter (is_kept n) es) e.number) (filter (is_kept n) rest) ≡ true
+    each : (rest : List Entry) → list_all (has_short_path es) rest ≡ true → list_all (has_short_path (filter (is_kept n) es)) (filter (is_kept n) rest) ≡ true
     each [] short = refl
     each (e ∷ rest) short =
-        let parts = and_parts (is_path_short es e.number) (list_all (λ e. is_path_short es e.number) rest) short in
-        elim (e.number == n) as (λ b. (e.number == n) ≡ b → list_all (λ e. is_path_short (filter (is_kept n) es) e.number) (cond (not b) (e ∷ filter (is_kept n) rest) (filter (is_kept n) rest)) ≡ true) [
+        let parts = and_parts (has_short_path es e) (list_all (has_short_path es) rest) short in
+        elim (e.number == n) as (λ b. (e.number == n) ≡ b → list_all (has_short_path (filter (is_kept n) es)) (cond (not b) (e ∷ filter (is_kept n) rest) (filter (is_kept n) rest)) ≡ true) [
           | true ↦ (λ here. each rest parts.1)
-          | false ↦ (λ other. and_from (is_path_short (filter (is_kept n) es) e.number) (list_all (λ e. is_path_short (filter (is_kept n) es) e.number) (filter (is_kept n) rest)) (short-removed es n e.number bare (λ same. eqb-false e.number n other (sym same)) ∙ parts.0) (each rest parts.1))
+          | false ↦ (λ other. and_from (has_short_path (filter (is_kept n) es) e) (list_all (has_short_path (filter (is_kept n) es)) (filter (is_kept n) rest)) (short-removed es n e bare (λ same. eqb-false e.number n other (sym same)) ∙ parts.0) (each rest parts.1))
         ] refl

@@ -6,17 +6,17 @@ use Rattle.std.specs.Option.{option_map, option_map_or}
 use Rattle.std.proofs.lemmas.Bool.{and_from, and_parts, not-true, not_from_false}
 use Rattle.std.proofs.lemmas.Bool.Decides.{nat_tests}
 use Rattle.hac_model.specs.Run.Answers.{first_cause}
-use Rattle.hac_model.specs.Tree.Events.{accepted, apply, apply_all, changed_at, dirty, edited, indexed, is_bare, is_free, is_clear, is_inside, is_placed, is_possible, is_unreferenced, may_ask, next_dirty, is_made_holder, is_vacant}
-use Rattle.hac_model.specs.Tree.Depends.{cycle_of_move, cycle_over, names_directory, referrers}
+use Rattle.hac_model.specs.Tree.Events.{accepted, apply, apply_all, asking, changed_at, dirty, edited, indexed, is_bare, is_free, is_clear, is_inside, is_placed, is_possible, is_unreferenced, may_ask, next_dirty, is_made_holder, is_vacant}
+use Rattle.hac_model.specs.Tree.Depends.{cycle_of_mark, cycle_of_move, cycle_over, refers_to, referrers}
 use Rattle.hac_model.specs.Laws.{AllHappen}
-use Rattle.hac_model.specs.Tree.Limits.{dirty_count, is_text, passed_limit}
+use Rattle.hac_model.specs.Tree.Limits.{are_answers_few, dirty_count, is_text, passed_limit}
 use Rattle.hac_model.specs.Script.Lines.{is_spelled_line}
 use Rattle.hac_model.specs.Script.PathWords.{is_target}
 use Rattle.hac_model.specs.Script.SpaceNames.{is_space_name}
-use Rattle.hac_model.specs.Tree.Links.{has, is_item, is_permanent, is_prohibited, is_semantic, links, parent_of}
+use Rattle.hac_model.specs.Tree.Links.{can_be_added, has, is_item, is_permanent, is_prohibited, is_semantic, parent_of, transient_at}
 use Rattle.hac_model.specs.Run.Asks.{asks, documents_named, mount_asks, query_asks, space_of, told_for}
 use Rattle.hac_model.specs.Spaces.Answering.{AreAnswersTo, AreRisingNames}
-use Rattle.hac_model.specs.Tree.Asking.{are_all_told}
+use Rattle.hac_model.specs.Tree.Asking.{are_all_told, with_told}
 use Rattle.hac_model.specs.Tree.Mounting.{answers_to, are_documents, are_told, do_names_rise, mounted, synced}
 use Rattle.hac_model.specs.Tree.Mounts.{terms_to_ask}
 use Rattle.hac_model.specs.Tree.Names.{is_name}
@@ -24,7 +24,7 @@ use Rattle.hac_model.specs.declared.limits.TheConstants.{DOCS_LIMIT}
 use Rattle.hac_model.specs.declared.spaces.Answers.{Answers}
 use Rattle.hac_model.specs.declared.spaces.Search.{Search}
 use Rattle.hac_model.specs.declared.terms.Term.{Term}
-use Rattle.hac_model.specs.Run.Refusals.{already_cause, answer_cause, docs_cause, gone_cause, late_cause, not_mount_cause, blocking_cause, busy_cause, cause, cycle_by, cycle_cause, directory_cause, early_cause, event_of, events_of, filled_cause, layout_cause, least_path, led_to, plain_cause, referenced_cause, root_cause, taken_cause, under_cause, unlinked_cause, unmarked_cause}
+use Rattle.hac_model.specs.Run.Refusals.{already_cause, answer_cause, docs_cause, gone_cause, kept_cause, late_cause, not_mount_cause, blocking_cause, busy_cause, cause, cycle_by, cycle_cause, directory_cause, early_cause, event_of, events_of, filled_cause, layout_cause, least_path, led_to, plain_cause, referenced_cause, root_cause, taken_cause, under_cause, unlinked_cause, unmarked_cause}
 use Rattle.hac_model.specs.Run.Resolving.{resolve}
 use Rattle.hac_model.specs.Run.Standing.{AllStand, is_there, IsSlot, is_own}
 use Rattle.hac_model.specs.Tree.Sessions.{are_few, is_busy, least_name, sessions_with, visitors}
@@ -34,7 +34,8 @@ use Rattle.hac_model.specs.declared.commands.Line.{Line}
 use Rattle.hac_model.specs.declared.events.Event.{Event}
 use Rattle.hac_model.specs.declared.events.Event.TheVariants.{Step}
 use Rattle.hac_model.specs.declared.limits.LimitWord.{LimitWord}
-use Rattle.hac_model.specs.declared.limits.LimitWord.TheVariants.{Docs, Sessions}
+use Rattle.hac_model.specs.declared.marks.Kind.TheVariants.{Permanent}
+use Rattle.hac_model.specs.declared.limits.LimitWord.TheVariants.{Docs, Sessions, Answers as Answers-word}
 use Rattle.hac_model.specs.declared.places.Place.TheVariants.{There, Free}
 use Rattle.hac_model.specs.declared.replies.Refusal.{Refusal}
 use Rattle.hac_model.specs.declared.replies.Refusal.TheVariants as refusal
@@ -42,12 +43,14 @@ use Rattle.hac_model.specs.declared.replies.Refusal.TheVariants.{NoPath, NotDir}
 use Rattle.hac_model.specs.declared.resolved.Resolved.{Resolved}
 use Rattle.hac_model.specs.declared.resolved.Resolved.TheVariants.{Mkdir, Rmdir, Write, Cd, Mv, Rm, Ln, Smkdir, Setq, Unq, Sln, Srm, Sforget, Smount, Ssync, Sumount, Index, Tick}
 use Rattle.hac_model.specs.declared.states.Body.{Body}
-use Rattle.hac_model.specs.declared.states.Body.TheVariants.{File}
+use Rattle.hac_model.specs.declared.states.Body.TheVariants.{File, Semantic}
 use Rattle.hac_model.specs.declared.states.Entry.{Entry}
 use Rattle.hac_model.specs.declared.states.Session.{Session}
 use Rattle.hac_model.specs.declared.states.State.{State}
 use Rattle.hac_model.proofs.AcyclicLemmas.{apply-valid}
+use Rattle.hac_model.proofs.ChangeLemmas.{or-left, or-right}
 use Rattle.hac_model.proofs.CountLemmas.{dirty_count-is, measured-changed, measured-cons, one_if}
+use Rattle.hac_model.proofs.FewLemmas.{asking-keeps, few-added, few-edited}
 use Rattle.hac_model.proofs.FoundLemmas.{mounted-told, names-rise, query-told, synced-told}
 use Rattle.std.proofs.lemmas.List.{length-map}
 use Rattle.hac_model.proofs.LookLemmas.{leaf-file, leaf-or_directory, item-or_directory}
@@ -76,17 +79,18 @@ no_limit None h = refl
 no_limit (Some word) h = absurd cc
 
 -- nothing blocks the event, no directory would depend on itself, and the next state exceeds no limit
-pub cause-parts : (answers : Answers) (s : State) (r : Resolved) → cause answers s r ≡ None → (blocking_cause s r ≡ None) × (cycle_cause s r ≡ None) × (passed_limit (led_to answers s r) ≡ None) × (docs_cause answers ≡ None)
+pub cause-parts : (answers : Answers) (s : State) (r : Resolved) → cause answers s r ≡ None → (blocking_cause s r ≡ None) × (cycle_cause s r ≡ None) × (passed_limit (led_to answers s r) ≡ None) × (docs_cause answers ≡ None) × (are_answers_few (led_to answers s r).entries ≡ true)
 cause-parts answers s r h =
     let both = no_cause (early_cause s r) (late_cause answers s r ∷ []) h in
     let early = no_cause (blocking_cause s r) (layout_cause s r ∷ cycle_cause s r ∷ []) both.0 in
     let layout = no_cause (layout_cause s r) (cycle_cause s r ∷ []) early.1 in
     let cycle = no_cause (cycle_cause s r) [] layout.1 in
     let late = no_cause (late_cause answers s r) [] both.1 in
-    let gone = no_cause (gone_cause answers s r) (docs_cause answers ∷ answer_cause answers s r ∷ []) late.0 in
-    let docs = no_cause (docs_cause answers) (answer_cause answers s r ∷ []) gone.1 in
-    let limits = no_cause (answer_cause answers s r) [] docs.1 in
-    (early.0, cycle.0, no_limit (passed_limit (led_to answers s r)) limits.0, docs.0)
+    let gone = no_cause (gone_cause answers s r) (docs_cause answers ∷ answer_cause answers s r ∷ kept_cause answers s r ∷ []) late.0 in
+    let docs = no_cause (docs_cause answers) (answer_cause answers s r ∷ kept_cause answers s r ∷ []) gone.1 in
+    let limits = no_cause (answer_cause answers s r) (kept_cause answers s r ∷ []) docs.1 in
+    let kept = no_cause (kept_cause answers s r) [] limits.1 in
+    (early.0, cycle.0, no_limit (passed_limit (led_to answers s r)) limits.0, docs.0, no_other (are_answers_few (led_to answers s r).entries) (refusal.Limit Answers-word) kept.0)
 
 lives-some : (s : State) (n : ℕ) → is_live s.entries n ≡ true → (n == 0) ≡ false → is_some (entry_at s.entries n) ≡ true
 lives-some s n lives other = ap (λ (b : Bool). b || is_some (entry_at s.entries n)) (sym other) ∙ lives
@@ -165,7 +169,7 @@ all-valid (e ∷ events) s h happen = all-valid events (apply s e) (apply-valid 
 free-root : (s : State) (n : ℕ) (more : List (Option Refusal)) → first_cause (root_cause n ∷ more) ≡ None → ((n == 0) ≡ false) × (first_cause more ≡ None)
 free-root s n more free = let parts = no_cause (root_cause n) more free in (no_refusal (n == 0) refusal.Root parts.0, parts.1)
 
--- where no query is found that names a directory, none names it
+-- where no entry is found that refers to a directory, none does
 unreferenced : (s : State) (dir : ℕ) → referenced_cause s dir ≡ None → is_unreferenced s dir ≡ true
 unreferenced s dir none = all s.entries (no-paths (referrers s dir) (no-referenced (least_path (map (λ e. path_of s e.number) (referrers s dir))) none))
   where
@@ -177,9 +181,9 @@ unreferenced s dir none = all s.entries (no-paths (referrers s dir) (no-referenc
     no-paths [] h = refl
     no-paths (e ∷ es) h = absurd cc
 
-    all : (es : List Entry) → filter (names_directory dir) es ≡ [] → list_all (λ e. not (names_directory dir e)) es ≡ true
+    all : (es : List Entry) → filter (refers_to dir) es ≡ [] → list_all (λ e. not (refers_to dir e)) es ≡ true
     all [] h = refl
-    all (e ∷ es) h = elim (names_directory dir e) as (λ b. cond b (e ∷ filter (names_directory dir) es) (filter (names_directory dir) es) ≡ [] → (not b && list_all (λ e. not (names_directory dir e)) es) ≡ true) [
+    all (e ∷ es) h = elim (refers_to dir e) as (λ b. cond b (e ∷ filter (refers_to dir) es) (filter (refers_to dir) es) ≡ [] → (not b && list_all (λ e. not (refers_to dir e)) es) ≡ true) [
       | true ↦ (λ h. absurd cc)
       | false ↦ (λ h. all es h)
     ] h
@@ -249,13 +253,19 @@ module _ (s : State) (h : IsLayout s) where
       let parts = and_parts (is_directory_at s.entries dir) (not (is_mount_at s.entries dir)) there in
       and_from (is_made_directory s.entries dir) (not (is_mount_at s.entries dir)) (made s dir parts.0 other) parts.1
 
-  -- an item and a semantic directory, of which a mark speaks
-  mark-placed : (item dir : ℕ) (more : List (Option Refusal)) → is_there s true item ≡ true → first_cause (directory_cause s item ∷ plain_cause s dir ∷ more) ≡ None → ((is_item s item && is_semantic s dir) ≡ true) × (first_cause more ≡ None)
-  mark-placed item dir more there free =
-      let file = no_cause (directory_cause s item) (plain_cause s dir ∷ more) free in
-      let plain = no_cause (plain_cause s dir) more file.1 in
-      let semantic : is_semantic s dir ≡ true = no_other (is_semantic s dir) (refusal.NotSemantic (path_of s dir)) plain.0 in
-      (and_from (is_item s item) (is_semantic s dir) (item-there item there file.0) semantic, plain.1)
+  -- what is found may be added to a directory where it was followed
+  added-there : (n : ℕ) → is_there s true n ≡ true → can_be_added s n ≡ true
+  added-there n there = at (is_directory_at s.entries n) refl
+    where
+      at : (b : Bool) → is_directory_at s.entries n ≡ b → can_be_added s n ≡ true
+      at true is = or-right (is_item s n) (is_directory_at s.entries n) is
+      at false is = or-left (is_item s n) (is_directory_at s.entries n) (item-there n there (ap (λ (b : Bool). if b then Some (refusal.NotFile (path_of s n)) else None) is))
+
+  -- a semantic directory, of which a mark speaks
+  semantic-there : (dir : ℕ) (more : List (Option Refusal)) → first_cause (plain_cause s dir ∷ more) ≡ None → (is_semantic s dir ≡ true) × (first_cause more ≡ None)
+  semantic-there dir more free =
+      let plain = no_cause (plain_cause s dir) more free in
+      (no_other (is_semantic s dir) (refusal.NotSemantic (path_of s dir)) plain.0, plain.1)
 
   -- what spaces answer to questions for a query may be told
   may-be-asked : (query : Formula ℕ) (found : List (List (List ℕ))) → may_ask s query ≡ true → length found ≡ length (query_asks s query).searches → (may_ask s query && are_all_told s query (told_for s query found) s.entries) ≡ true
@@ -305,9 +315,13 @@ module _ (s : State) (h : IsLayout s) where
   unblocked-placed answers (Setq dir query) there free told few =
       and_from (is_made_holder s dir) (may_ask s query && are_all_told s query (told_for s query answers.found) s.entries) (made-holder dir there.0 (no_refusal (dir == 0) refusal.Root free)) (may-be-asked query answers.found there.1 told.found)
   unblocked-placed answers (Unq dir) there free told few = no_other (is_semantic s dir) (refusal.NotSemantic (path_of s dir)) free
-  unblocked-placed answers (Sln item dir) there free told few = (mark-placed item dir (already_cause s item dir ∷ []) there.0 free).0
-  unblocked-placed answers (Srm item dir) there free told few = (mark-placed item dir (unlinked_cause s item dir ∷ []) there.0 free).0
-  unblocked-placed answers (Sforget item dir) there free told few = (mark-placed item dir (unmarked_cause s item dir ∷ []) there.0 free).0
+  unblocked-placed answers (Sln item dir) there free told few =
+      and_from (can_be_added s item) (is_semantic s dir) (added-there item there.0) (semantic-there dir (already_cause s item dir ∷ []) free).0
+  unblocked-placed answers (Srm item dir) there free told few =
+      let file = no_cause (directory_cause s item) (plain_cause s dir ∷ unlinked_cause s item dir ∷ []) free in
+      and_from (is_item s item) (is_semantic s dir) (item-there item there.0 file.0) (semantic-there dir (unlinked_cause s item dir ∷ []) file.1).0
+  unblocked-placed answers (Sforget item dir) there free told few =
+      and_from (can_be_added s item) (is_semantic s dir) (added-there item there.0) (semantic-there dir (unmarked_cause s item dir ∷ []) free).0
   unblocked-placed answers (Smount (There number) space) there free told few = tt
   unblocked-placed answers (Smount (Free dir name) space) there free told few =
       let told-numbers : List (List ℕ) = map (documents_named (mounted s dir name space [] answers.list) s.next) answers.found in
@@ -328,43 +342,53 @@ module _ (s : State) (h : IsLayout s) where
   unblocked-placed answers other there free told few = tt
 
   -- and against which nothing stands
-  unblocked-clear : (answers : Answers) (r : Resolved) → AllStand s r → blocking_cause s r ≡ None → cycle_cause s r ≡ None → IfSome (event_of answers s r) (λ e. IsTrue (is_clear s e))
-  unblocked-clear answers (Mkdir (There number)) there free acyclic = tt
-  unblocked-clear answers (Mkdir (Free dir name)) there free acyclic = refl
-  unblocked-clear answers (Rmdir dir) there free acyclic =
+  unblocked-clear : (answers : Answers) (r : Resolved) → AllStand s r → blocking_cause s r ≡ None → cycle_cause s r ≡ None → are_answers_few (led_to answers s r).entries ≡ true → IfSome (event_of answers s r) (λ e. IsTrue (is_clear s e))
+  unblocked-clear answers (Mkdir (There number)) there free acyclic few = tt
+  unblocked-clear answers (Mkdir (Free dir name)) there free acyclic few = refl
+  unblocked-clear answers (Rmdir dir) there free acyclic few =
       let root = free-root s dir (filled_cause s dir ∷ referenced_cause s dir ∷ busy_cause s dir ∷ []) free in
       let full = no_cause (filled_cause s dir) (referenced_cause s dir ∷ busy_cause s dir ∷ []) root.1 in
       let named = no_cause (referenced_cause s dir) (busy_cause s dir ∷ []) full.1 in
       and_from (is_unreferenced s dir) (not (is_busy s.sessions dir)) (unreferenced s dir named.0) (idle s dir (no_cause (busy_cause s dir) [] named.1).0)
-  unblocked-clear answers (Write (There number) text) there free acyclic = refl
-  unblocked-clear answers (Write (Free dir name) text) there free acyclic = refl
-  unblocked-clear answers (Cd session dir) there free acyclic = no_other (are_few (sessions_with session dir s.sessions)) (refusal.Limit Sessions) free
-  unblocked-clear answers (Mv entry (There number)) there free acyclic = tt
-  unblocked-clear answers (Mv entry (Free dir name)) there free acyclic = ap (λ (o : Option ℕ). is_none o) (no-cycle s (cycle_of_move s entry dir) acyclic)
-  unblocked-clear answers (Rm entry) there free acyclic = refl
-  unblocked-clear answers (Ln (There number) target) there free acyclic = tt
-  unblocked-clear answers (Ln (Free dir name) target) there free acyclic = refl
-  unblocked-clear answers (Smkdir (There number) query) there free acyclic = tt
-  unblocked-clear answers (Smkdir (Free dir name) query) there free acyclic = refl
-  unblocked-clear answers (Setq dir query) there free acyclic = ap (λ (o : Option ℕ). is_none o) (no-cycle s (cycle_over s dir (parent_of s dir) query) acyclic)
-  unblocked-clear answers (Unq dir) there free acyclic = refl
-  unblocked-clear answers (Sln item dir) there free acyclic =
-      let more = (mark-placed item dir (already_cause s item dir ∷ []) there.0 free).1 in
-      not_from_false (is_permanent s dir item) (no_refusal (is_permanent s dir item) (refusal.Already (path_of s item)) (no_cause (already_cause s item dir) [] more).0)
-  unblocked-clear answers (Srm item dir) there free acyclic =
-      let more = (mark-placed item dir (unlinked_cause s item dir ∷ []) there.0 free).1 in
-      no_other (is_permanent s dir item || has (links s dir) item) (refusal.NotLinked (path_of s item)) (no_cause (unlinked_cause s item dir) [] more).0
-  unblocked-clear answers (Sforget item dir) there free acyclic =
-      let more = (mark-placed item dir (unmarked_cause s item dir ∷ []) there.0 free).1 in
-      no_other (is_permanent s dir item || is_prohibited s dir item) (refusal.NoMark (path_of s item)) (no_cause (unmarked_cause s item dir) [] more).0
-  unblocked-clear answers (Smount (There number) space) there free acyclic = tt
-  unblocked-clear answers (Smount (Free dir name) space) there free acyclic = refl
-  unblocked-clear answers (Ssync mount) there free acyclic = refl
-  unblocked-clear answers (Sumount mount) there free acyclic =
+  unblocked-clear answers (Write (There number) text) there free acyclic few = refl
+  unblocked-clear answers (Write (Free dir name) text) there free acyclic few = refl
+  unblocked-clear answers (Cd session dir) there free acyclic few = no_other (are_few (sessions_with session dir s.sessions)) (refusal.Limit Sessions) free
+  unblocked-clear answers (Mv entry (There number)) there free acyclic few = tt
+  unblocked-clear answers (Mv entry (Free dir name)) there free acyclic few = ap (λ (o : Option ℕ). is_none o) (no-cycle s (cycle_of_move s entry dir) acyclic)
+  unblocked-clear answers (Rm entry) there free acyclic few = refl
+  unblocked-clear answers (Ln (There number) target) there free acyclic few = tt
+  unblocked-clear answers (Ln (Free dir name) target) there free acyclic few = refl
+  unblocked-clear answers (Smkdir (There number) query) there free acyclic few = tt
+  unblocked-clear answers (Smkdir (Free dir name) query) there free acyclic few =
+      sym (few-added (with_told query (told_for s query answers.found) s) dir name (Semantic query [] []) refl) ∙ few
+  unblocked-clear answers (Setq dir query) there free acyclic few =
+      let told : List (List ℕ) = told_for s query answers.found in
+      and_from (is_none (cycle_over s dir (parent_of s dir) query)) (are_answers_few (with_told query told s).entries)
+      (ap (λ (o : Option ℕ). is_none o) (no-cycle s (cycle_over s dir (parent_of s dir) query) acyclic))
+      (sym (few-edited (with_told query told s) dir (asking query) (asking-keeps query)) ∙ few)
+  unblocked-clear answers (Unq dir) there free acyclic few = refl
+  unblocked-clear answers (Sln item dir) there free acyclic few =
+      let more = (semantic-there dir (already_cause s item dir ∷ []) free).1 in
+      and_from (not (is_permanent s dir item)) (is_none (cycle_of_mark s dir item Permanent))
+      (not_from_false (is_permanent s dir item) (no_refusal (is_permanent s dir item) (refusal.Already (path_of s item)) (no_cause (already_cause s item dir) [] more).0))
+      (ap (λ (o : Option ℕ). is_none o) (no-cycle s (cycle_of_mark s dir item Permanent) acyclic))
+  unblocked-clear answers (Srm item dir) there free acyclic few =
+      let file = no_cause (directory_cause s item) (plain_cause s dir ∷ unlinked_cause s item dir ∷ []) free in
+      let more = (semantic-there dir (unlinked_cause s item dir ∷ []) file.1).1 in
+      and_from (is_permanent s dir item || has (transient_at s dir) item) true
+      (no_other (is_permanent s dir item || has (transient_at s dir) item) (refusal.NotLinked (path_of s item)) (no_cause (unlinked_cause s item dir) [] more).0) refl
+  unblocked-clear answers (Sforget item dir) there free acyclic few =
+      let more = (semantic-there dir (unmarked_cause s item dir ∷ []) free).1 in
+      and_from (is_permanent s dir item || is_prohibited s dir item) true
+      (no_other (is_permanent s dir item || is_prohibited s dir item) (refusal.NoMark (path_of s item)) (no_cause (unmarked_cause s item dir) [] more).0) refl
+  unblocked-clear answers (Smount (There number) space) there free acyclic few = tt
+  unblocked-clear answers (Smount (Free dir name) space) there free acyclic few = few
+  unblocked-clear answers (Ssync mount) there free acyclic few = few
+  unblocked-clear answers (Sumount mount) there free acyclic few =
       let is = no_cause (not_mount_cause s mount) (referenced_cause s mount ∷ busy_cause s mount ∷ []) free in
       let named = no_cause (referenced_cause s mount) (busy_cause s mount ∷ []) is.1 in
       and_from (is_unreferenced s mount) (not (is_busy s.sessions mount)) (unreferenced s mount named.0) (idle s mount (no_cause (busy_cause s mount) [] named.1).0)
-  unblocked-clear answers other there free acyclic = tt
+  unblocked-clear answers other there free acyclic few = tt
 
 -- one event, or none, happens
 made-happens : (s : State) (o : Option Event) → IfSome o (λ e. IsTrue (is_placed s e)) → IfSome o (λ e. IsTrue (is_clear s e)) → passed_limit (apply_all s (option_map_or (λ e. e ∷ []) o [])) ≡ None → AllHappen s (option_map_or (λ e. e ∷ []) o [])
@@ -373,13 +397,13 @@ made-happens s (Some e) placed clear limits =
     let possible = and_from (is_clear s e) (is_placed s e) clear placed in
     (and_from (is_possible s e) (is_none (passed_limit (apply s e))) possible (ap (λ (o : Option LimitWord). is_none o) limits), tt)
 
-pub unblocked-happen : (answers : Answers) (s : State) (r : Resolved) → IsValid s → AllStand s r → blocking_cause s r ≡ None → cycle_cause s r ≡ None → AreAnswersTo (asks s r) answers → docs_cause answers ≡ None → passed_limit (led_to answers s r) ≡ None → AllHappen s (events_of answers s r)
-unblocked-happen answers s Index h there free acyclic told few limits = steps-happen (dirty s) s h (omega arith)
-unblocked-happen answers s (Tick steps) h there free acyclic told few limits = steps-happen (min steps (dirty s)) s h (omega arith)
-unblocked-happen answers s r h there free acyclic told few limits =
-    made-happens s (event_of answers s r) (unblocked-placed s h.layout answers r there free told few) (unblocked-clear s h.layout answers r there free acyclic) limits
+pub unblocked-happen : (answers : Answers) (s : State) (r : Resolved) → IsValid s → AllStand s r → blocking_cause s r ≡ None → cycle_cause s r ≡ None → AreAnswersTo (asks s r) answers → docs_cause answers ≡ None → passed_limit (led_to answers s r) ≡ None → are_answers_few (led_to answers s r).entries ≡ true → AllHappen s (events_of answers s r)
+unblocked-happen answers s Index h there free acyclic told few limits kept = steps-happen (dirty s) s h (omega arith)
+unblocked-happen answers s (Tick steps) h there free acyclic told few limits kept = steps-happen (min steps (dirty s)) s h (omega arith)
+unblocked-happen answers s r h there free acyclic told few limits kept =
+    made-happens s (event_of answers s r) (unblocked-placed s h.layout answers r there free told few) (unblocked-clear s h.layout answers r there free acyclic kept) limits
 
 pub commands-happen : (s : State) (line : Line) (r : Resolved) (answers : Answers) → IsValid s → IsTrue (is_spelled_line line) → resolve s line ≡ Ok r → AreAnswersTo (asks s r) answers → cause answers s r ≡ None → AllHappen s (events_of answers s r)
 commands-happen s line r answers h spelled leads told free =
     let parts = cause-parts answers s r free in
-    unblocked-happen answers s r h (line-stands s line r h spelled leads) parts.0 parts.1 told parts.3 parts.2
+    unblocked-happen answers s r h (line-stands s line r h spelled leads) parts.0 parts.1 told parts.3 parts.2 parts.4

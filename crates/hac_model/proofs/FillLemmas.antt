@@ -1,5 +1,5 @@
 -- A state is its bare tree joined with its facts and its sessions.
-use Rattle.std.proofs.Common.{◌≡◌, ℕ, ◌+◌, List, [], ◌∷◌, ◌++◌, length, map, refl, ap, sym, ◌∙◌}
+use Rattle.std.proofs.Common.{◌≡◌, ℕ, ◌+◌, Bool, List, [], ◌∷◌, ◌++◌, length, map, refl, ap, sym, ◌∙◌}
 use Rattle.std.specs.Prelude.{Some, filter}
 use Rattle.std.specs.List.{AllByRecursion}
 use Rattle.std.proofs.lemmas.List.{map-append}
@@ -8,7 +8,7 @@ use Rattle.hac_model.specs.Tree.Events.{added, apply, asking, changed_at, edited
 use Rattle.hac_model.specs.Tree.Facts.{Facts, bare_after, facts_at, facts_in, facts_of, filled, filled_entry, joined}
 use Rattle.hac_model.specs.Tree.Mounting.{answers_to, cleared, documents_from, fresh, is_gone, is_of_mount, is_such_at, keeping, redocumented, synced, without_such}
 use Rattle.hac_model.specs.Tree.Mounts.{terms_to_ask}
-use Rattle.hac_model.specs.Tree.{entry_at}
+use Rattle.hac_model.specs.Tree.{entry_at, is_directory_at}
 use Rattle.hac_model.specs.Tree.Valid.{NumbersRise}
 use Rattle.hac_model.specs.declared.events.Event.{Event}
 use Rattle.hac_model.specs.declared.events.Event.TheVariants.{Mark, Rm, Setq, Smkdir, Smount, Ssync, Sumount, Step, Cd}
@@ -25,13 +25,13 @@ use Rattle.hac_model.specs.Tree.Asking.{with_told}
 use Rattle.hac_model.proofs.TreeLemmas.{all-entries}
 
 -- what was taken from a body is in its facts
-filled-again : (dir : ℕ) (body : Body) → filled (facts_in dir body) (bare_body body) ≡ body
-filled-again dir (File text dirty shown) = refl
-filled-again dir Dir = refl
-filled-again dir (Symlink target) = refl
-filled-again dir (Semantic query permanent prohibited) = refl
-filled-again dir (Mount space answers) = refl
-filled-again dir Document = refl
+filled-again : (is_dir : ℕ → Bool) (dir : ℕ) (body : Body) → filled (facts_in is_dir dir body) (bare_body body) ≡ body
+filled-again is_dir dir (File text dirty shown) = refl
+filled-again is_dir dir Dir = refl
+filled-again is_dir dir (Symlink target) = refl
+filled-again is_dir dir (Semantic query permanent prohibited) = refl
+filled-again is_dir dir (Mount space answers) = refl
+filled-again is_dir dir Document = refl
 
 filled-bare : (facts : Facts) (body : Body) → filled facts (bare_body body) ≡ filled facts body
 filled-bare facts (File text dirty shown) = refl
@@ -57,8 +57,8 @@ rejoined s rise = λ i. record { next = s.next; entries = all s.entries (all-ent
   where
     again : (e : Entry) → entry_at s.entries e.number ≡ Some e → IsFilled s e
     again e found =
-        (λ i. record e { body = filled (facts_at (found i)) (bare_body e.body) })
-        ∙ ap (λ (body : Body). record e { body = body }) (filled-again e.parent e.body)
+        (λ i. record e { body = filled (facts_at (is_directory_at s.entries) (found i)) (bare_body e.body) })
+        ∙ ap (λ (body : Body). record e { body = body }) (filled-again (is_directory_at s.entries) e.parent e.body)
 
     all : (es : List Entry) → AllByRecursion (IsFilled s) es → map (filled_entry (facts_of s)) (map (edited bare_body) es) ≡ es
     all [] h = refl

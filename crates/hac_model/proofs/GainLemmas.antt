@@ -1,7 +1,7 @@
 -- A state in which mounts keep what they were told for a query: the same tree, and valid, and no mount has to be asked
 -- for the query then.
 use Rattle.std.proofs.Common.{◌≡◌, ℕ, Bool, true, false, cond, List, [], ◌∷◌, length, map, refl, ap, sym, ◌∙◌, arith, subst}
-use Rattle.std.specs.Prelude.{◌++◌, not, ◌==◌, ◌&&◌, if◌then◌else◌, drop, nat_le, take, Option, Some, None, IsTrue}
+use Rattle.std.specs.Prelude.{◌++◌, not, ◌==◌, ◌&&◌, if◌then◌else◌, drop, filter, nat_le, take, Option, Some, None, IsTrue}
 use Rattle.std.specs.List.{AllByRecursion, list_all}
 use Rattle.std.specs.Option.{option_map, option_map_or}
 use Rattle.std.proofs.lemmas.Bool.{and_from, and_parts, eqb-true}
@@ -11,11 +11,11 @@ use Rattle.hac_model.specs.Tree.Asking.{are_all_told, asked_by, gained, gaining,
 use Rattle.hac_model.specs.Tree.Bare.{bare, bare_body}
 use Rattle.hac_model.specs.Tree.Depends.{NeverReturns, cycle_over, depends, first_reaching, leads_within, named_in, reaches}
 use Rattle.hac_model.specs.Tree.Events.{edited, is_free, may_ask}
-use Rattle.hac_model.specs.Tree.Limits.{counts}
-use Rattle.hac_model.specs.Tree.Links.{answers_at, is_item, parent_of}
+use Rattle.hac_model.specs.Tree.Limits.{are_answers_few, counts}
+use Rattle.hac_model.specs.Tree.Links.{answers_at, is_item, parent_of, permanent_at, query_at}
 use Rattle.hac_model.specs.Tree.Mounting.{answers_to, are_told, do_rise_from, is_told}
 use Rattle.hac_model.specs.Tree.Mounts.{in_order, is_kept, terms_in, terms_in_use}
-use Rattle.hac_model.specs.Tree.{answers_in, body_at, entry_at, is_directory, is_directory_at, is_document, is_linkable, is_made_directory, is_mount, is_mount_at}
+use Rattle.hac_model.specs.Tree.{answers_in, body_at, entry_at, is_directory, is_directory_at, is_document, is_linkable, is_made_directory, is_mount, is_mount_at, permanent_in}
 use Rattle.hac_model.specs.Tree.Valid.{AsksWell, IsAnswer, IsLayout, IsSoundMount, IsValid, KeepsWell, is_document_of}
 use Rattle.hac_model.specs.declared.limits.TheConstants.{DOCS_LIMIT}
 use Rattle.hac_model.specs.declared.states.Answer.{Answer}
@@ -24,7 +24,7 @@ use Rattle.hac_model.specs.declared.states.Body.TheVariants.{File, Dir, Symlink,
 use Rattle.hac_model.specs.declared.states.Entry.{Entry}
 use Rattle.hac_model.specs.declared.states.State.{State}
 use Rattle.hac_model.specs.declared.terms.Term.{Term}
-use Rattle.hac_model.proofs.AlikeLemmas.{counts-bare, depends-bare, directory-bare, is_free-bare, layout-bare, layout-unbare, may_ask-bare, mount-bare, parent_of-bare}
+use Rattle.hac_model.proofs.AlikeLemmas.{counts-bare, directory-bare, is_free-bare, layout-bare, layout-unbare, may_ask-bare, mount-bare, parent_of-bare, query_at-bare}
 use Rattle.hac_model.proofs.ChangeLemmas.{all-both, all-filter, all-weaker}
 use Rattle.hac_model.proofs.KeepingLemmas.{AreKept, DocumentsStay, TermsStay, answer-stays, document_by, inside}
 use Rattle.hac_model.proofs.MapLemmas.{all-map}
@@ -56,6 +56,10 @@ gaining-document more other = refl
 gaining-terms : (more : List Answer) (body : Body) → terms_in (gaining more body) ≡ terms_in body
 gaining-terms more (Mount space answers) = refl
 gaining-terms more other = refl
+
+gaining-permanent : (more : List Answer) (body : Body) → permanent_in (gaining more body) ≡ permanent_in body
+gaining-permanent more (Mount space answers) = refl
+gaining-permanent more other = refl
 
 gaining-asks : (t : State) (more : List Answer) (body : Body) → AsksWell t body → AsksWell t (gaining more body)
 gaining-asks t more (Semantic query permanent prohibited) h = h
@@ -164,8 +168,19 @@ module _ (s : State) (query : Formula ℕ) (told : List (List ℕ)) where
   pub parent-told : (n : ℕ) → parent_of t n ≡ parent_of s n
   parent-told n = sym (parent_of-bare t n) ∙ ap (λ (x : State). parent_of x n) bare-told ∙ parent_of-bare s n
 
+  query-told : (n : ℕ) → query_at t n ≡ query_at s n
+  query-told n = sym (query_at-bare t n) ∙ ap (λ (x : State). query_at x n) bare-told ∙ query_at-bare s n
+
+  permanent-told : (n : ℕ) → permanent_at t n ≡ permanent_at s n
+  permanent-told n =
+      ap (λ (o : Option Entry). option_map_or permanent_in (option_map (λ (e : Entry). e.body) o) []) (entry_at-gains more s.entries n)
+      ∙ (elim (entry_at s.entries n) as (λ o. option_map_or permanent_in (option_map (λ (e : Entry). e.body) (option_map (gains more) o)) [] ≡ option_map_or permanent_in (option_map (λ (e : Entry). e.body) o) []) [
+        | None ↦ refl
+        | Some e ↦ gaining-permanent (more e.number) e.body
+      ])
+
   depends-told : depends t ≡ depends s
-  depends-told = λ i n. (sym (depends-bare t n) ∙ ap (λ (x : State). depends x n) bare-told ∙ depends-bare s n) i
+  depends-told = λ i n. option_map_or (λ query. parent-told n i ∷ named_in query ++ filter (λ d. directory-told d i) (permanent-told n i)) (query-told n i) []
 
   pub cycle-told : (dir : ℕ) (asked : Formula ℕ) → cycle_over t dir (parent_of t dir) asked ≡ cycle_over s dir (parent_of s dir) asked
   unfolding first_reaching reaches
@@ -185,7 +200,7 @@ module _ (s : State) (query : Formula ℕ) (told : List (List ℕ)) where
         | Some e ↦ same (more e.number) e.body
       ])
 
-  item-told : (n : ℕ) → is_item t n ≡ is_item s n
+  pub item-told : (n : ℕ) → is_item t n ≡ is_item s n
   item-told n = tested-told is_linkable gaining-linkable n
 
   pub made-told : (n : ℕ) → is_made_directory t.entries n ≡ is_made_directory s.entries n
@@ -251,12 +266,13 @@ module _ (s : State) (query : Formula ℕ) (told : List (List ℕ)) where
         each e found (Semantic asked permanent prohibited) is keeps = tt
         each e found Document is keeps = tt
 
-    -- the state is valid
-    pub told-valid : IsValid t
-    told-valid = record {
+    -- the state is valid, where it keeps no more than it may
+    pub told-valid : are_answers_few t.entries ≡ true → IsValid t
+    told-valid few = record {
       layout = layout-told h.layout;
       queries = queries-told h;
       answers = answers-told;
+      few = few;
       acyclic = subst NeverReturns (sym depends-told) h.acyclic;
       sessions = sessions-stay s t refl h.sessions (λ d there. directory-told d ∙ there);
     }

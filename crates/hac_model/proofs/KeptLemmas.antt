@@ -391,12 +391,12 @@ apply-answers s (Smkdir dir name query told) h ok =
     let parts = accepted-parts (is_possible s (Smkdir dir name query told)) (passed_limit (apply s (Smkdir dir name query told))) ok in
     let fits = smkdir-parts s dir name query told parts.0 in
     let t : State = with_told query told s in
-    added-keeps t dir name (Semantic query [] []) (told-valid s query told h fits.1 fits.2) (mount-told s query told dir ∙ free-plain s dir name fits.0) refl (told-knows s query told h fits.1 fits.2)
+    added-keeps t dir name (Semantic query [] []) (told-valid s query told h fits.1 fits.2 fits.3) (mount-told s query told dir ∙ free-plain s dir name fits.0) refl (told-knows s query told h fits.1 fits.2)
 apply-answers s (Setq dir query told) h ok =
     let parts = accepted-parts (is_possible s (Setq dir query told)) (passed_limit (apply s (Setq dir query told))) ok in
     let fits = setq-parts s dir query told parts.0 in
     let t : State = with_told query told s in
-    edited-keeps t dir (asking query) (asking-leaves query) (λ e found space answers is body kept. asking-terms query answers (told-knows s query told h fits.1 fits.3 e found space answers is) body kept) (told-valid s query told h fits.1 fits.3)
+    edited-keeps t dir (asking query) (asking-leaves query) (λ e found space answers is body kept. asking-terms query answers (told-knows s query told h fits.1 fits.3 e found space answers is) body kept) (told-valid s query told h fits.1 fits.3 fits.5)
 apply-answers s (Unq dir) h ok = edited-keeps s dir plain_body plain-leaves (λ e found space answers is body kept. plain-terms answers body kept) h
 apply-answers s (Mark mark) h ok =
     edited-keeps s mark.dir (marked mark.item mark.kind) (marked-leaves mark.item mark.kind) (λ e found space answers is body kept. same-terms (marked mark.item mark.kind) (marked-terms mark.item mark.kind) answers body kept) h
@@ -424,12 +424,12 @@ apply-answers s Step h ok = elim (next_dirty s.entries) as (λ o. AllByRecursion
 apply-answers s (Cd session dir) h ok =
     all-weaker (λ e. KeepsWell s e.number e.body) (λ e. KeepsWell (apply s (Cd session dir)) e.number e.body) s.entries (λ e keeps. keeps-stays s (apply s (Cd session dir)) e.number e.body (λ m n there. there) (λ m few. few) (λ m answers old. old) keeps) h.answers
 apply-answers s (Smount dir name space documents told) h ok =
-    let parts = accepted-parts (may_mount s dir name space documents told) (passed_limit (apply s (Smount dir name space documents told))) ok in
+    let parts = accepted-parts (is_possible s (Smount dir name space documents told)) (passed_limit (apply s (Smount dir name space documents told))) ok in
     let fits = smount-parts s dir name space documents told parts.0 in
     let layout = apply-layout s (Smount dir name space documents told) h.layout ok in
     mounted-keeps s dir name space told documents h fits.0 (free-plain s dir name fits.0) fits.3 (documents-parts documents fits.2).2 layout.numbers
 apply-answers s (Ssync mount documents told) h ok =
-    let parts = accepted-parts (may_sync s mount documents told) (passed_limit (apply s (Ssync mount documents told))) ok in
+    let parts = accepted-parts (is_possible s (Ssync mount documents told)) (passed_limit (apply s (Ssync mount documents told))) ok in
     let fits = ssync-parts s mount documents told parts.0 in
     let layout = apply-layout s (Ssync mount documents told) h.layout ok in
     synced-keeps s mount told documents h fits.0 fits.2 (documents-parts documents fits.1).2 layout.numbers layout.differ

@@ -4,7 +4,7 @@ use Rattle.std.specs.Prelude.{◌&&◌, not, Some, None, IsTrue, is_none, is_som
 use Rattle.std.specs.Option.{option_map_or}
 use Rattle.std.proofs.lemmas.Bool.{and_parts, not-true}
 use Rattle.hac_model.specs.Tree.Events.{accepted, added, apply, asking, changed_at, edited, forgetting, forgotten, indexed, is_free, is_possible, is_unreferenced, marked, next_dirty, plain_body, removed, reseated, rewritten}
-use Rattle.hac_model.specs.Tree.Limits.{is_text, passed_limit}
+use Rattle.hac_model.specs.Tree.Limits.{are_answers_few, is_text, passed_limit}
 use Rattle.hac_model.specs.Tree.Links.{is_semantic}
 use Rattle.hac_model.specs.Script.PathWords.{is_target}
 use Rattle.hac_model.specs.Tree.Sessions.{is_busy}
@@ -26,21 +26,25 @@ use Rattle.hac_model.proofs.MountLayoutLemmas.{mounted-layout, synced-layout, un
 use Rattle.hac_model.proofs.ValidLemmas.{accepted-parts, added-layout, asking-places, asking-sound, bare-all, edited-layout, forgetting-measures, forgetting-sound, indexed-places, indexed-sound, leaf-bare, marked-places, marked-sound, move-parts, none_from, passed-forgotten, plain-places, plain-sound, removed-layout, reseated-layout, rewritten-places, rewritten-sound, rmdir-parts, smkdir-parts}
 
 -- what may be mounted
-pub smount-parts : (s : State) (dir : ℕ) (name space : List ℕ) (documents told : List (List ℕ)) → may_mount s dir name space documents told ≡ true →
+pub smount-parts : (s : State) (dir : ℕ) (name space : List ℕ) (documents told : List (List ℕ)) → is_possible s (Smount dir name space documents told) ≡ true →
     (is_free s dir name ≡ true) × (is_space_name space ≡ true) × (are_documents documents ≡ true) × (are_told (mounted s dir name space (answers_to (terms_to_ask s.entries) told) documents) s.next (terms_to_ask s.entries) told ≡ true)
+    × (are_answers_few (mounted s dir name space (answers_to (terms_to_ask s.entries) told) documents).entries ≡ true)
 smount-parts s dir name space documents told h =
-    let well = and_parts (is_free s dir name && is_space_name space && are_documents documents) (are_told (mounted s dir name space (answers_to (terms_to_ask s.entries) told) documents) s.next (terms_to_ask s.entries) told) h in
+    let few = and_parts (are_answers_few (mounted s dir name space (answers_to (terms_to_ask s.entries) told) documents).entries) (may_mount s dir name space documents told) h in
+    let well = and_parts (is_free s dir name && is_space_name space && are_documents documents) (are_told (mounted s dir name space (answers_to (terms_to_ask s.entries) told) documents) s.next (terms_to_ask s.entries) told) few.1 in
     let named = and_parts (is_free s dir name && is_space_name space) (are_documents documents) well.0 in
     let free = and_parts (is_free s dir name) (is_space_name space) named.0 in
-    (free.0, free.1, named.1, well.1)
+    (free.0, free.1, named.1, well.1, few.0)
 
 -- what a mount may take over
-pub ssync-parts : (s : State) (mount : ℕ) (documents told : List (List ℕ)) → may_sync s mount documents told ≡ true →
+pub ssync-parts : (s : State) (mount : ℕ) (documents told : List (List ℕ)) → is_possible s (Ssync mount documents told) ≡ true →
     (is_mount_at s.entries mount ≡ true) × (are_documents documents ≡ true) × (are_told (synced s mount (answers_to (terms_to_ask s.entries) told) documents) mount (terms_to_ask s.entries) told ≡ true)
+    × (are_answers_few (synced s mount (answers_to (terms_to_ask s.entries) told) documents).entries ≡ true)
 ssync-parts s mount documents told h =
-    let well = and_parts (is_mount_at s.entries mount && are_documents documents) (are_told (synced s mount (answers_to (terms_to_ask s.entries) told) documents) mount (terms_to_ask s.entries) told) h in
+    let few = and_parts (are_answers_few (synced s mount (answers_to (terms_to_ask s.entries) told) documents).entries) (may_sync s mount documents told) h in
+    let well = and_parts (is_mount_at s.entries mount && are_documents documents) (are_told (synced s mount (answers_to (terms_to_ask s.entries) told) documents) mount (terms_to_ask s.entries) told) few.1 in
     let there = and_parts (is_mount_at s.entries mount) (are_documents documents) well.0 in
-    (there.0, there.1, well.1)
+    (there.0, there.1, well.1, few.0)
 
 -- a mount that may go
 pub sumount-parts : (s : State) (mount : ℕ) → is_possible s (Sumount mount) ≡ true → (is_mount_at s.entries mount ≡ true) × (is_unreferenced s mount ≡ true) × (is_busy s.sessions mount ≡ false)
@@ -103,11 +107,11 @@ apply-layout s (Cd session dir) h ok = record {
   limits = (accepted-parts (is_possible s (Cd session dir)) (passed_limit (apply s (Cd session dir))) ok).1;
 }
 apply-layout s (Smount dir name space documents told) h ok =
-    let parts = accepted-parts (may_mount s dir name space documents told) (passed_limit (apply s (Smount dir name space documents told))) ok in
+    let parts = accepted-parts (is_possible s (Smount dir name space documents told)) (passed_limit (apply s (Smount dir name space documents told))) ok in
     let fits = smount-parts s dir name space documents told parts.0 in
     mounted-layout s dir name space (answers_to (terms_to_ask s.entries) told) documents h fits.0 fits.1 fits.2 parts.1
 apply-layout s (Ssync mount documents told) h ok =
-    let parts = accepted-parts (may_sync s mount documents told) (passed_limit (apply s (Ssync mount documents told))) ok in
+    let parts = accepted-parts (is_possible s (Ssync mount documents told)) (passed_limit (apply s (Ssync mount documents told))) ok in
     let fits = ssync-parts s mount documents told parts.0 in
     synced-layout s mount (answers_to (terms_to_ask s.entries) told) documents h fits.0 fits.1 parts.1
 apply-layout s (Sumount mount) h ok =

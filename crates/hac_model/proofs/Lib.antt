@@ -12,6 +12,7 @@ pub mod LookLemmas
 pub mod AmongLemmas
 pub mod LinkLemmas
 pub mod CountLemmas
+pub mod FewLemmas
 pub mod ValidLemmas
 pub mod LayoutLemmas
 pub mod FittingLemmas
@@ -49,7 +50,6 @@ pub mod MarkLemmas
 pub mod StayLemmas
 pub mod AskLemmas
 pub mod MountAskLemmas
-pub mod MountEdgeLemmas
 pub mod MountFactLemmas
 pub mod AcyclicLemmas
 pub mod AlikeLemmas

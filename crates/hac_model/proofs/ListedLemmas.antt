@@ -1,11 +1,11 @@
 -- What a listing needs of the links: which items they are, and by what each is linked.
 use Rattle.std.proofs.Common.{◌≡◌, ℕ, zero, suc, ◌+◌, ◌<◌, ◌≤◌, Bool, true, false, cond, List, [], ◌∷◌, refl, ap, sym, ◌∙◌, arith, eq-eqb, inl, inr}
-use Rattle.std.specs.Prelude.{◌&&◌, ◌||◌, ◌==◌, Option, filter}
+use Rattle.std.specs.Prelude.{◌&&◌, ◌||◌, ◌==◌, if◌then◌else◌, Option, filter}
 use Rattle.std.specs.List.{range_with_len}
 use Rattle.std.specs.Option.{option_map, option_map_or}
 use Rattle.std.proofs.lemmas.Bool.{cases_eq, cases_lt}
 use Rattle.hac_model.specs.Tree.Depends.{IsAcyclic}
-use Rattle.hac_model.specs.Tree.Links.{has, is_item, is_semantic, passes, column, links, items, round}
+use Rattle.hac_model.specs.Tree.Links.{DirLinks, column, has, is_item, is_lent, is_semantic, items, links, no_links, passes, round, transient_at}
 use Rattle.hac_model.specs.Tree.{is_linkable}
 use Rattle.hac_model.specs.Tree.Valid.{IsLayout}
 use Rattle.hac_model.specs.declared.states.Entry.{Entry}
@@ -34,32 +34,62 @@ filter-none : (xs : List ℕ) → filter (λ x. false) xs ≡ []
 filter-none [] = refl
 filter-none (x ∷ xs) = filter-none xs
 
--- the links of a directory are the items that are linked in it
-pub links-listed : (s : State) (dir : ℕ) → IsAcyclic s → links s dir ≡ filter (λ item. column (links s) item dir) (items s)
-links-listed s dir acyclic =
-    let q : ℕ → Bool = λ item. passes s (column (links s) item) dir item in
-    let fixed : round s (links s) dir ≡ links s dir = ap (λ (known : ℕ → List ℕ). known dir) (links-fixed s acyclic) in
-    let kept : filter (λ item. has (round s (links s) dir) item) (items s) ≡ round s (links s) dir =
-    elim (is_semantic s dir) as (λ b. filter (λ item. has (cond b (filter q (items s)) []) item) (items s) ≡ cond b (filter q (items s)) []) [
-      | true ↦ filter-kept q (items s)
-      | false ↦ filter-none (items s)
-    ] in
-    sym fixed ∙ sym kept ∙ ap (λ (found : List ℕ). filter (λ item. has found item) (items s)) fixed
+-- what a round keeps of the items, and what is in it
+module _ (s : State) (dir : ℕ) (q : ℕ → Bool) where
+  abbrev kept : List ℕ
+  kept = if is_semantic s dir then filter q (items s) else []
 
--- an item is linked in a semantic directory just where it passes there
-pub linked-item : (s : State) (item dir : ℕ) → IsAcyclic s → has (items s) item ≡ true → column (links s) item dir ≡ (is_semantic s dir && passes s (column (links s) item) dir item)
-linked-item s item dir acyclic inside =
-    let q : ℕ → Bool = λ item. passes s (column (links s) item) dir item in
-    let fixed : links s dir ≡ round s (links s) dir = ap (λ (known : ℕ → List ℕ). known dir) (sym (links-fixed s acyclic)) in
-    ap (λ (found : List ℕ). has found item) fixed
-    ∙ (elim (is_semantic s dir) as (λ b. has (cond b (filter q (items s)) []) item ≡ (b && q item)) [
-      | true ↦ has-filter q (items s) item ∙ ap (λ (b : Bool). q item && b) inside ∙ and-true (q item)
-      | false ↦ refl
-    ])
-  where
-    and-true : (b : Bool) → (b && true) ≡ b
-    and-true true = refl
-    and-true false = refl
+  kept-listed : filter (λ item. has kept item) (items s) ≡ kept
+  kept-listed = elim (is_semantic s dir) as (λ b. filter (λ item. has (cond b (filter q (items s)) []) item) (items s) ≡ cond b (filter q (items s)) []) [
+    | true ↦ filter-kept q (items s)
+    | false ↦ filter-none (items s)
+  ]
+
+  kept-item : (item : ℕ) → has (items s) item ≡ true → has kept item ≡ (is_semantic s dir && q item)
+  kept-item item inside = elim (is_semantic s dir) as (λ b. has (cond b (filter q (items s)) []) item ≡ (b && q item)) [
+    | true ↦ has-filter q (items s) item ∙ ap (λ (b : Bool). q item && b) inside ∙ and-true (q item)
+    | false ↦ refl
+  ]
+    where
+      and-true : (b : Bool) → (b && true) ≡ b
+      and-true true = refl
+      and-true false = refl
+
+-- the links of a directory are those that one more round finds
+module _ (s : State) (dir : ℕ) (acyclic : IsAcyclic s) where
+  finds : ℕ → Bool
+  finds item = passes s (column (links s) item) dir item
+
+  lends : ℕ → Bool
+  lends item = is_lent s (column (links s) item) dir item
+
+  fixed : (part : DirLinks → List ℕ) → part (round s (links s) dir) ≡ part (links s dir)
+  fixed part = ap (λ (known : ℕ → DirLinks). part (known dir)) (links-fixed s acyclic)
+
+  found-is : transient_at s dir ≡ kept s dir finds
+  unfolding finds
+  found-is = sym (fixed (λ known. known.found)) ∙ (elim (is_semantic s dir) as (λ b. (cond b (record { found = filter finds (items s); lent = filter (λ item. is_lent s (column (links s) item) dir item) (items s) }) no_links).found ≡ cond b (filter finds (items s)) []) [ true ↦ refl | false ↦ refl ])
+
+  lent-is : (links s dir).lent ≡ kept s dir lends
+  unfolding lends
+  lent-is = sym (fixed (λ known. known.lent)) ∙ (elim (is_semantic s dir) as (λ b. (cond b (record { found = filter (λ item. passes s (column (links s) item) dir item) (items s); lent = filter lends (items s) }) no_links).lent ≡ cond b (filter lends (items s)) []) [ true ↦ refl | false ↦ refl ])
+
+  -- they are items, in order
+  pub found-listed : transient_at s dir ≡ filter (λ item. has (transient_at s dir) item) (items s)
+  found-listed = found-is ∙ sym (kept-listed s dir finds) ∙ ap (λ (found : List ℕ). filter (λ item. has found item) (items s)) (sym found-is)
+
+  pub lent-listed : (links s dir).lent ≡ filter (λ item. has (links s dir).lent item) (items s)
+  lent-listed = lent-is ∙ sym (kept-listed s dir lends) ∙ ap (λ (lent : List ℕ). filter (λ item. has lent item) (items s)) (sym lent-is)
+
+  -- an item is found by a semantic directory just where it passes there
+  pub found-item : (item : ℕ) → has (items s) item ≡ true → has (transient_at s dir) item ≡ (is_semantic s dir && passes s (column (links s) item) dir item)
+  unfolding finds
+  found-item item inside = ap (λ (found : List ℕ). has found item) found-is ∙ kept-item s dir finds item inside
+
+  -- and lent to it just where a directory that was added to it provides it
+  pub lent-item : (item : ℕ) → has (items s) item ≡ true → has (links s dir).lent item ≡ (is_semantic s dir && is_lent s (column (links s) item) dir item)
+  unfolding lends
+  lent-item item inside = ap (λ (lent : List ℕ). has lent item) lent-is ∙ kept-item s dir lends item inside
 
 has-range : (a n x : ℕ) → a ≤ x → x < a + n → has (range_with_len a n) x ≡ true
 has-range a zero x low high = absurd (omega arith)

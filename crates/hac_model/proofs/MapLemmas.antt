@@ -5,10 +5,10 @@ use Rattle.std.specs.Option.{option_map, option_map_or}
 use Rattle.std.specs.List.{AllByRecursion, list_all}
 use Rattle.std.specs.Str.{bytes_eq}
 use Rattle.hac_model.specs.Tree.Events.{edited}
-use Rattle.hac_model.specs.Tree.Limits.{answer_limits, are_paths_short, counts, directory_count, first_passed, item_count, layout_limits, long_paths, mount_count, passed_limit, semantic_count, symlink_count, text_size, file_bytes}
+use Rattle.hac_model.specs.Tree.Limits.{answer_limits, are_paths_short, counts, directory_count, first_passed, has_short_path, item_count, layout_limits, long_paths, mount_count, passed_limit, semantic_count, symlink_count, text_size, file_bytes}
 use Rattle.hac_model.specs.Tree.Limits as limits_of
 use Rattle.hac_model.specs.Tree.Names.{is_name}
-use Rattle.hac_model.specs.Tree.{ancestors, body_at, child, entry_at, is_directory, is_directory_at, is_document, is_file, is_linkable, is_mount, is_mount_at, is_path_short, is_symlink, lineage, query_in}
+use Rattle.hac_model.specs.Tree.{ancestors, body_at, child, entry_at, is_directory, is_directory_at, is_document, is_file, is_linkable, is_mount, is_mount_at, is_symlink, lineage, query_in}
 use Rattle.hac_model.specs.Tree.Valid.{IsLayout, IsSound, NamesDiffer, NumbersRise, is_in_place}
 use Rattle.hac_model.specs.declared.limits.LimitWord.TheVariants.{Texts, Dirs, Semantics, Mounts, Symlinks, Path, Items, Numbers}
 use Rattle.hac_model.specs.declared.limits.TheConstants.{DIRS_LIMIT, ITEMS_LIMIT, MOUNTS_LIMIT, NUMBERS_LIMIT, SEMANTICS_LIMIT, SYMLINKS_LIMIT, TEXTS_LIMIT}
@@ -17,7 +17,7 @@ use Rattle.hac_model.specs.declared.states.Entry.{Entry}
 use Rattle.hac_model.specs.declared.states.State.{State}
 use Rattle.hac_model.proofs.ChangeLemmas.{all-weaker}
 use Rattle.hac_model.proofs.CountLemmas.{directory_count-is, is_queried, keeps-linkable, measured, measured-cons, one_if}
-use Rattle.hac_model.proofs.DepthLemmas.{names_of, short-names}
+use Rattle.hac_model.proofs.DepthLemmas.{names_of, path-alike}
 use Rattle.hac_model.proofs.PathLemmas.{ancestors_by, limit, lineage-is}
 
 pub all-map : {X Y : Type 0} (P : Y → Type 0) (f : X → Y) (xs : List X) → AllByRecursion (λ x. P (f x)) xs → AllByRecursion P (map f xs)
@@ -75,15 +75,12 @@ ancestors-mapped edit (suc k) es n =
 pub lineage-mapped : (edit : Body → Body) (es : List Entry) (n : ℕ) → names_of (lineage (map (edited edit) es) n) ≡ names_of (lineage es n)
 lineage-mapped edit es n = ap names_of (lineage-is (map (edited edit) es) n) ∙ ancestors-mapped edit (suc limit) es n ∙ ap names_of (sym (lineage-is es n))
 
-short-mapped : (edit : Body → Body) (es : List Entry) (n : ℕ) → is_path_short (map (edited edit) es) n ≡ is_path_short es n
-short-mapped edit es n = short-names (map (edited edit) es) es n n (ap length (lineage-mapped edit es n))
-
-pub paths-mapped : (edit : Body → Body) (es : List Entry) → are_paths_short (map (edited edit) es) ≡ are_paths_short es
-paths-mapped edit es = each es
+pub paths-mapped : (edit : Body → Body) (es : List Entry) → ((body : Body) → is_mount (edit body) ≡ is_mount body) → are_paths_short (map (edited edit) es) ≡ are_paths_short es
+paths-mapped edit es mounts = each es
   where
-    each : (fs : List Entry) → list_all (λ (e : Entry). is_path_short (map (edited edit) es) e.number) (map (edited edit) fs) ≡ list_all (λ (e : Entry). is_path_short es e.number) fs
+    each : (fs : List Entry) → list_all (has_short_path (map (edited edit) es)) (map (edited edit) fs) ≡ list_all (has_short_path es) fs
     each [] = refl
-    each (f ∷ fs) = λ i. short-mapped edit es f.number i && each fs i
+    each (f ∷ fs) = λ i. path-alike (map (edited edit) es) es (edited edit f) f (ap length (lineage-mapped edit es f.number)) (mounts f.body) i && each fs i
 
 -- the state in which the bodies were edited
 abbrev pub mapped : (Body → Body) → State → State
@@ -99,7 +96,7 @@ pub record KeepsMeasures (edit : Body → Body) : Type 0 where
   pub queried : (body : Body) → is_some (query_in (edit body)) ≡ is_some (query_in body)
   pub texts : (body : Body) → file_bytes (edit body) ≡ file_bytes body
 
-measured-mapped : (f : Body → ℕ) (edit : Body → Body) (es : List Entry) → ((body : Body) → f (edit body) ≡ f body) → measured f (map (edited edit) es) ≡ measured f es
+pub measured-mapped : (f : Body → ℕ) (edit : Body → Body) (es : List Entry) → ((body : Body) → f (edit body) ≡ f body) → measured f (map (edited edit) es) ≡ measured f es
 measured-mapped f edit [] same = refl
 measured-mapped f edit (e ∷ es) same =
     let here : f (edit e.body) ≡ f e.body = same e.body in
@@ -136,7 +133,7 @@ counts-mapped edit s keeps = λ i. first_passed (
     items = ones is_linkable (keeps-linkable edit keeps.file keeps.document)
 
     paths : long_paths (map (edited edit) es) ≡ long_paths es
-    paths = ap (λ (b : Bool). cond {A = ℕ} b 0 1) (paths-mapped edit es)
+    paths = ap (λ (b : Bool). cond {A = ℕ} b 0 1) (paths-mapped edit es keeps.mount)
 
 pub passed-mapped : (edit : Body → Body) (s : State) → KeepsMeasures edit → passed_limit (mapped edit s) ≡ passed_limit s
 unfolding passed_limit

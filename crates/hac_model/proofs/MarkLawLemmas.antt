@@ -1,18 +1,18 @@
 -- Marks after events, and what links and queries say of marked items.
 use Rattle.std.proofs.Common.{◌≡◌, ℕ, Bool, true, false, cond, List, [], ◌∷◌, subst, refl, ap, sym, ◌∙◌, eq-eqb}
-use Rattle.std.specs.Prelude.{◌==◌, ◌&&◌, ◌||◌, not, Some, None, IsTrue}
-use Rattle.std.specs.List.{AllByRecursion}
+use Rattle.std.specs.Prelude.{◌==◌, ◌&&◌, ◌||◌, not, Some, None, IsTrue, is_some, option_and_then}
+use Rattle.std.specs.List.{AllByRecursion, list_any}
 use Rattle.std.specs.Option.{option_map, option_map_or}
 use Rattle.std.proofs.lemmas.Bool.{and_parts, eqb-true, ne_eqb}
 use Rattle.hac_model.specs.Query.Formula.{Formula}
 use Rattle.hac_model.specs.Run.Refusals.{marks}
 use Rattle.hac_model.specs.Tree.Depends.{named_in}
 use Rattle.hac_model.specs.Tree.Events.{accepted, apply, is_possible, put_in, without}
-use Rattle.hac_model.specs.Tree.Facts.{Facts, Marks, facts_after, facts_at, facts_of, facts_told, no_facts, put_at, with_mark}
+use Rattle.hac_model.specs.Tree.Facts.{Facts, Marks, facts_after, facts_at, facts_of, facts_told, facts_with, no_facts, put_at, with_mark}
 use Rattle.hac_model.specs.Tree.Kinds as kinds
 use Rattle.hac_model.specs.Tree.Limits.{passed_limit}
-use Rattle.hac_model.specs.Tree.Links.{column, found_as, found_by, has, holds, is_below, is_permanent, is_prohibited, is_semantic, is_unmarked, items, links, parent_of, passes, provide, satisfies, is_judged}
-use Rattle.hac_model.specs.Tree.{entry_at, permanent_in, prohibited_in}
+use Rattle.hac_model.specs.Tree.Links.{column, found_as, found_by, has, holds, is_below, is_item, is_judged, is_lent, is_permanent, is_prohibited, is_semantic, is_unmarked, items, lenders, links, parent_of, passes, provide, query_at, satisfies, transient_at}
+use Rattle.hac_model.specs.Tree.{entry_at, is_directory_at, permanent_in, prohibited_in, query_in}
 use Rattle.hac_model.specs.Tree.Valid.{AsksWell, IsValid}
 use Rattle.hac_model.specs.Laws.{SameMarks}
 use Rattle.hac_model.specs.declared.events.Event.{Event}
@@ -24,7 +24,8 @@ use Rattle.hac_model.specs.declared.states.Body.TheVariants.{File, Dir, Symlink,
 use Rattle.hac_model.specs.declared.states.Entry.{Entry}
 use Rattle.hac_model.specs.declared.states.State.{State}
 use Rattle.hac_model.proofs.FactLemmas.{facts-law}
-use Rattle.hac_model.proofs.ListedLemmas.{linked-item, links-listed}
+use Rattle.hac_model.proofs.ChangeLemmas.{or-right}
+use Rattle.hac_model.proofs.ListedLemmas.{found-item, found-listed, item-listed, lent-item}
 use Rattle.hac_model.proofs.MarkLemmas.{has-filter, has-put_in, has-without}
 use Rattle.hac_model.proofs.TreeLemmas.{entry_at-all}
 use Rattle.hac_model.proofs.ValidLemmas.{accepted-parts}
@@ -32,7 +33,7 @@ use Rattle.hac_model.proofs.ValidLemmas.{accepted-parts}
 -- the marks of a directory are facts
 marks-told : (s : State) (dir item : ℕ) → (has (facts_of s dir).marks.permanent item ≡ is_permanent s dir item) × (has (facts_of s dir).marks.prohibited item ≡ is_prohibited s dir item)
 marks-told s dir item =
-    elim (entry_at s.entries dir) as (λ o. (has (facts_at o).marks.permanent item ≡ has (option_map_or permanent_in (option_map (λ (e : Entry). e.body) o) []) item) × (has (facts_at o).marks.prohibited item ≡ has (option_map_or prohibited_in (option_map (λ (e : Entry). e.body) o) []) item)) [
+    elim (entry_at s.entries dir) as (λ o. (has (facts_at (is_directory_at s.entries) o).marks.permanent item ≡ has (option_map_or permanent_in (option_map (λ (e : Entry). e.body) o) []) item) × (has (facts_at (is_directory_at s.entries) o).marks.prohibited item ≡ has (option_map_or prohibited_in (option_map (λ (e : Entry). e.body) o) []) item)) [
       | None ↦ (refl, refl)
       | Some e ↦ (refl, refl)
     ]
@@ -44,7 +45,7 @@ module _ (s : State) (e : Event) (h : IsValid s) (ok : IsTrue (accepted s e)) (d
 
   law : facts_of (apply s e) dir ≡ new
   unfolding new
-  law = facts-law s e h.layout (accepted-parts (is_possible s e) (passed_limit (apply s e)) ok).0 dir
+  law = facts-law s h e ok dir
 
   permanent-after : is_permanent (apply s e) dir item ≡ has new.marks.permanent item
   permanent-after = sym (marks-told (apply s e) dir item).0 ∙ ap (λ (facts : Facts). has facts.marks.permanent item) law
@@ -79,12 +80,16 @@ marked-other Prohibited item other old apart far = (without-other item other old
 marked-other Transient item other old apart far = (without-other item other old.permanent far, without-other item other old.prohibited far)
 marked-other Unlinked item other old apart far = (without-other item other old.permanent far, without-other item other old.prohibited far)
 
+-- what is known of a directory once an item has a mark there
+abbrev marked-facts : Kind → ℕ → ℕ → State → Facts
+marked-facts kind item dir s = facts_with s (parent_of s dir) (query_at s dir) (with_mark kind item (facts_of s dir).marks) (facts_of s dir)
+
 pub marks-set : (s : State) (dir item : ℕ) (kind : Kind) → IsValid s → IsTrue (accepted s (marks item dir kind)) → (is_permanent (apply s (marks item dir kind)) dir item ≡ kinds.is_permanent kind) × (is_prohibited (apply s (marks item dir kind)) dir item ≡ kinds.is_prohibited kind)
 unfolding new
 marks-set s dir item kind h ok =
     let e : Event = marks item dir kind in
     let old : Facts = facts_of s dir in
-    let here = put-here (facts_of s) dir (record old { marks = with_mark kind item old.marks }) in
+    let here = put-here (facts_of s) dir (marked-facts kind item dir s) in
     let set = marked-item kind item old.marks in
     (permanent-after s e h ok dir item ∙ ap (λ (facts : Facts). has facts.marks.permanent item) here ∙ set.0, prohibited-after s e h ok dir item ∙ ap (λ (facts : Facts). has facts.marks.prohibited item) here ∙ set.1)
 
@@ -100,13 +105,13 @@ unfolding new
 marks-stay s dir item kind other_dir other h ok apart =
     elim (other_dir == dir) as (λ b. (other_dir == dir) ≡ b → SameMarks s (apply s (marks item dir kind)) other_dir other) [
       | true ↦ (λ same. let here : other_dir ≡ dir = eqb-true other_dir dir same in subst (λ (d : ℕ). SameMarks s (apply s (marks item dir kind)) d other) (sym here) (at_dir (apart here)))
-      | false ↦ (λ far. kept s (marks item dir kind) h ok other_dir other (ap (λ (facts : Facts). facts.marks) (put-other (facts_of s) dir other_dir (record (facts_of s dir) { marks = with_mark kind item (facts_of s dir).marks }) far)))
+      | false ↦ (λ far. kept s (marks item dir kind) h ok other_dir other (ap (λ (facts : Facts). facts.marks) (put-other (facts_of s) dir other_dir (marked-facts kind item dir s) far)))
     ] refl
   where
     at_dir : (other ≡ item → ⊥) → SameMarks s (apply s (marks item dir kind)) dir other
     at_dir far =
         let old : Facts = facts_of s dir in
-        let here = put-here (facts_of s) dir (record old { marks = with_mark kind item old.marks }) in
+        let here = put-here (facts_of s) dir (marked-facts kind item dir s) in
         let stay = marked-other kind item other old.marks (ne_eqb item other (λ same. far (sym same))) (ne_eqb other item far) in
         let told = marks-told s dir other in
         (permanent-after s (marks item dir kind) h ok dir other ∙ ap (λ (facts : Facts). has facts.marks.permanent other) here ∙ stay.0 ∙ told.0, prohibited-after s (marks item dir kind) h ok dir other ∙ ap (λ (facts : Facts). has facts.marks.prohibited other) here ∙ stay.1 ∙ told.1)
@@ -114,7 +119,7 @@ marks-stay s dir item kind other_dir other h ok apart =
 pub queries-leave : (s : State) (asking : ℕ) (query : Formula ℕ) (told : List (List ℕ)) (dir item : ℕ) → IsValid s → IsTrue (accepted s (Setq asking query told)) → SameMarks s (apply s (Setq asking query told)) dir item
 queries-leave s asking query told dir item h ok =
     kept s (Setq asking query told) h ok dir item
-    (elim (dir == asking) as (λ b. (dir == asking) ≡ b → (cond b (record (facts_of s asking) { edges = parent_of s asking ∷ named_in query }) (facts_told query told s (facts_of s) dir)).marks ≡ (facts_of s dir).marks) [
+    (elim (dir == asking) as (λ b. (dir == asking) ≡ b → (cond b (facts_with s (parent_of s asking) (Some query) (facts_of s asking).marks (facts_of s asking)) (facts_told query told s (facts_of s) dir)).marks ≡ (facts_of s dir).marks) [
       | true ↦ (λ same. ap (λ (d : ℕ). (facts_of s d).marks) (sym (eqb-true dir asking same)))
       | false ↦ (λ far. refl)
     ] refl)
@@ -132,12 +137,20 @@ neither true b h = absurd cc
 neither false true h = absurd cc
 neither false false h = (refl, refl)
 
-pub links-unmarked : (s : State) (dir item : ℕ) → IsValid s → has (links s dir) item ≡ true → (is_judged s item ≡ true) × (is_permanent s dir item ≡ false) × (is_prohibited s dir item ≡ false)
+-- what a directory found are items, and it found them as links are found
+module _ (s : State) (dir item : ℕ) (h : IsValid s) (linked : has (transient_at s dir) item ≡ true) where
+  found-inside : has (items s) item ≡ true
+  found-inside =
+      let listed = sym (has-filter (λ x. has (transient_at s dir) x) (items s) item) ∙ ap (λ (found : List ℕ). has found item) (sym (found-listed s dir h.acyclic)) ∙ linked in
+      (and_parts (has (transient_at s dir) item) (has (items s) item) listed).1
+
+  found-passes : passes s (column (links s) item) dir item ≡ true
+  found-passes = (and_parts (is_semantic s dir) (passes s (column (links s) item) dir item) (sym (found-item s dir h.acyclic item found-inside) ∙ linked)).1
+
+pub links-unmarked : (s : State) (dir item : ℕ) → IsValid s → has (transient_at s dir) item ≡ true → (is_judged s item ≡ true) × (is_permanent s dir item ≡ false) × (is_prohibited s dir item ≡ false)
 links-unmarked s dir item h linked =
-    let listed = sym (has-filter (λ x. column (links s) x dir) (items s) item) ∙ ap (λ (found : List ℕ). has found item) (sym (links-listed s dir h.acyclic)) ∙ linked in
-    let inside = and_parts (column (links s) item dir) (has (items s) item) listed in
-    let found = and_parts (is_semantic s dir) (passes s (column (links s) item) dir item) (sym (linked-item s item dir h.acyclic inside.1) ∙ linked) in
-    let marks = and_parts (provide s (column (links s) item) (parent_of s dir) item && is_judged s item && satisfies s (column (links s) item) dir item) (is_unmarked s dir item) found.1 in
+    let found = found-passes s dir item h linked in
+    let marks = and_parts (provide s (column (links s) item) (parent_of s dir) item && is_judged s item && satisfies s (column (links s) item) dir item) (is_unmarked s dir item) found in
     let asked = and_parts (provide s (column (links s) item) (parent_of s dir) item && is_judged s item) (satisfies s (column (links s) item) dir item) marks.0 in
     let shown = and_parts (provide s (column (links s) item) (parent_of s dir) item) (is_judged s item) asked.0 in
     let none = neither (is_permanent s dir item) (is_prohibited s dir item) marks.1 in
@@ -149,14 +162,34 @@ found-indexed s query item inside =
     let found = and_parts (is_judged s item && holds s (column (links s) item) query item) (has (items s) item) (sym (has-filter (λ x. is_judged s x && holds s (column (links s) x) query x) (items s) item) ∙ inside) in
     (and_parts (is_judged s item) (holds s (column (links s) item) query item) found.0).0
 
-pub added-provided : (s : State) (dir item : ℕ) → is_semantic s dir ≡ true → is_permanent s dir item ≡ true → provide s (column (links s) item) dir item ≡ true
-added-provided s dir item semantic permanent = all-true (is_below s dir item) (is_semantic s dir) (column (links s) item dir) (is_permanent s dir item) semantic permanent
+pub added-provided : (s : State) (dir item : ℕ) → is_semantic s dir ≡ true → is_permanent s dir item ≡ true → is_item s item ≡ true → provide s (column (links s) item) dir item ≡ true
+added-provided s dir item semantic permanent there = all-true (is_below s dir item) (is_semantic s dir) (column (links s) item dir) (is_permanent s dir item && is_item s item) semantic ((λ i. permanent i && is_item s item) ∙ there)
   where
     all-true : (a b c d : Bool) → b ≡ true → d ≡ true → (a || (b && (c || d))) ≡ true
     all-true true b c d h k = refl
     all-true false false c d h k = absurd cc
     all-true false true true d h k = refl
     all-true false true false d h k = k
+
+pub lent-provided : (s : State) (dir lender item : ℕ) → IsValid s → is_semantic s dir ≡ true → has (lenders s dir) lender ≡ true → is_item s item ≡ true → provide s (column (links s) item) lender item ≡ true → provide s (column (links s) item) dir item ≡ true
+lent-provided s dir lender item h semantic linked there provided =
+    let any : is_lent s (column (links s) item) dir item ≡ true = some (lenders s dir) linked in
+    let lent : has (links s dir).lent item ≡ true = lent-item s dir h.acyclic item (item-listed s item h.layout there) ∙ (λ i. semantic i && any i) in
+    all-true (is_below s dir item) (is_semantic s dir) (has (transient_at s dir) item) (has (links s dir).lent item) (is_permanent s dir item && is_item s item) semantic lent
+  where
+    some : (xs : List ℕ) → has xs lender ≡ true → list_any (λ x. provide s (column (links s) item) x item) xs ≡ true
+    some [] inside = absurd cc
+    some (x ∷ xs) inside = elim (x == lender) as (λ b. (x == lender) ≡ b → (b || has xs lender) ≡ true → (provide s (column (links s) item) x item || list_any (λ x. provide s (column (links s) item) x item) xs) ≡ true) [
+      | true ↦ (λ is more. ap (λ (b : Bool). b || list_any (λ x. provide s (column (links s) item) x item) xs) (ap (λ (d : ℕ). provide s (column (links s) item) d item) (eqb-true x lender is) ∙ provided))
+      | false ↦ (λ is more. or-right (provide s (column (links s) item) x item) (list_any (λ x. provide s (column (links s) item) x item) xs) (some xs more))
+    ] refl inside
+
+    all-true : (a b c d e : Bool) → b ≡ true → d ≡ true → (a || (b && ((c || d) || e))) ≡ true
+    all-true true b c d e h k = refl
+    all-true false false c d e h k = absurd cc
+    all-true false true true d e h k = refl
+    all-true false true false true e h k = refl
+    all-true false true false false e h k = absurd cc
 
 -- no item is added and removed in one directory
 apart : (s : State) (dir item : ℕ) → IsValid s → is_prohibited s dir item ≡ true → is_permanent s dir item ≡ false
@@ -181,15 +214,30 @@ apart s dir item h removed =
     in_body (Mount space answers) sound inside = refl
     in_body Document sound inside = refl
 
-pub removed-not_provided : (s : State) (dir item : ℕ) → IsValid s → is_prohibited s dir item ≡ true → provide s (column (links s) item) dir item ≡ is_below s dir item
+pub removed-not_provided : (s : State) (dir item : ℕ) → IsValid s → is_prohibited s dir item ≡ true → provide s (column (links s) item) dir item ≡ (is_below s dir item || has (links s dir).lent item)
 removed-not_provided s dir item h removed =
-    (λ i. is_below s dir item || (is_semantic s dir && (unlinked (has (links s dir) item) refl i || apart s dir item h removed i))) ∙ nothing (is_below s dir item) (is_semantic s dir)
+    (λ i. is_below s dir item || (semantic i && ((unlinked (has (transient_at s dir) item) refl i || has (links s dir).lent item) || (apart s dir item h removed i && is_item s item))))
+    ∙ ap (λ (b : Bool). is_below s dir item || b) (nothing (has (links s dir).lent item))
   where
-    unlinked : (b : Bool) → has (links s dir) item ≡ b → has (links s dir) item ≡ false
+    unlinked : (b : Bool) → has (transient_at s dir) item ≡ b → has (transient_at s dir) item ≡ false
     unlinked true is = let never : true ≡ false = sym removed ∙ (links-unmarked s dir item h is).2 in absurd cc
     unlinked false is = is
 
-    nothing : (a b : Bool) → (a || (b && (false || false))) ≡ a
-    nothing true b = refl
-    nothing false true = refl
-    nothing false false = refl
+    -- only a semantic directory has marks
+    semantic : is_semantic s dir ≡ true
+    semantic = elim (entry_at s.entries dir) as (λ o. has (option_map_or prohibited_in (option_map (λ (e : Entry). e.body) o) []) item ≡ true → is_some (option_and_then query_in (option_map (λ (e : Entry). e.body) o)) ≡ true) [
+      | None ↦ (λ inside. absurd cc)
+      | Some e ↦ (λ inside. body e.body inside)
+    ] removed
+      where
+        body : (b : Body) → has (prohibited_in b) item ≡ true → is_some (query_in b) ≡ true
+        body (Semantic query permanent prohibited) inside = refl
+        body (File text dirty shown) inside = absurd cc
+        body Dir inside = absurd cc
+        body (Symlink target) inside = absurd cc
+        body (Mount space answers) inside = absurd cc
+        body Document inside = absurd cc
+
+    nothing : (a : Bool) → ((false || a) || false) ≡ a
+    nothing true = refl
+    nothing false = refl

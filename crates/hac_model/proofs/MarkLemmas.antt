@@ -3,8 +3,8 @@ use Rattle.std.proofs.Common.{◌≡◌, ℕ, ◌+◌, ◌≤◌, Bool, true, fa
 use Rattle.std.specs.Prelude.{◌==◌, ◌&&◌, ◌||◌, not, nat_lt, filter}
 use Rattle.std.specs.List.{AllByRecursion}
 use Rattle.std.proofs.lemmas.Bool.{cases_order, eqb-true, ltb-true, ltb-false, eqb-false, ne_eqb, not-true}
-use Rattle.hac_model.specs.Tree.Events.{forgetting, marked, marking, put_in, without}
-use Rattle.hac_model.specs.Tree.Links.{has, is_item}
+use Rattle.hac_model.specs.Tree.Events.{can_have_mark, forgetting, marked, marking, put_in, without}
+use Rattle.hac_model.specs.Tree.Links.{can_be_added, has, is_item}
 use Rattle.hac_model.specs.Tree.Valid.{AreMarks, AsksWell, IsSoundQuery, RiseFrom}
 use Rattle.hac_model.specs.declared.marks.Kind.{Kind}
 use Rattle.hac_model.specs.declared.marks.Kind.TheVariants.{Transient, Permanent, Prohibited, Unlinked}
@@ -54,7 +54,7 @@ has-put_in n (x ∷ xs) m = elim (nat_lt n x) as (λ b. has (cond b (n ∷ x ∷
     swap true false c = refl
     swap false b c = refl
 
-all-put_in : (P : ℕ → Type 0) (n : ℕ) (xs : List ℕ) → P n → AllByRecursion P xs → AllByRecursion P (put_in n xs)
+pub all-put_in : (P : ℕ → Type 0) (n : ℕ) (xs : List ℕ) → P n → AllByRecursion P xs → AllByRecursion P (put_in n xs)
 all-put_in P n [] p h = (p, tt)
 all-put_in P n (x ∷ xs) p h = elim (nat_lt n x) as (λ b. AllByRecursion P (cond b (n ∷ x ∷ xs) (x ∷ put_in n xs))) [
   | true ↦ (p, h)
@@ -103,25 +103,25 @@ rise-put_in n bound (x ∷ xs) low absent h =
     ]
 
 -- marks stay marks where one goes
-marks-without : (s : State) (n : ℕ) (xs : List ℕ) → AreMarks s xs → AreMarks s (without n xs)
-marks-without s n xs h = record {
+marks-without : (test : ℕ → Bool) (n : ℕ) (xs : List ℕ) → AreMarks test xs → AreMarks test (without n xs)
+marks-without test n xs h = record {
   rise = rise-filter (λ other. not (other == n)) 0 xs h.rise;
-  items = all-filter (λ x. is_item s x ≡ true) (λ other. not (other == n)) xs h.items;
+  there = all-filter (λ x. test x ≡ true) (λ other. not (other == n)) xs h.there;
 }
 
--- or an item comes that isn't there
-marks-put_in : (s : State) (n : ℕ) (xs : List ℕ) → is_item s n ≡ true → has xs n ≡ false → AreMarks s xs → AreMarks s (put_in n xs)
-marks-put_in s n xs item absent h = record {
+-- or one comes that isn't there
+marks-put_in : (test : ℕ → Bool) (n : ℕ) (xs : List ℕ) → test n ≡ true → has xs n ≡ false → AreMarks test xs → AreMarks test (put_in n xs)
+marks-put_in test n xs passes absent h = record {
   rise = rise-put_in n 0 xs (omega arith) absent h.rise;
-  items = all-put_in (λ x. is_item s x ≡ true) n xs item h.items;
+  there = all-put_in (λ x. test x ≡ true) n xs passes h.there;
 }
 
 -- a directory asks well without an item's mark
 pub forgetting-asks : (s : State) (n : ℕ) (body : Body) → AsksWell s body → AsksWell s (forgetting n body)
 forgetting-asks s n (Semantic query permanent prohibited) h = record {
   fits = h.fits;
-  added = marks-without s n permanent h.added;
-  removed = marks-without s n prohibited h.removed;
+  added = marks-without (can_be_added s) n permanent h.added;
+  removed = marks-without (is_item s) n prohibited h.removed;
   apart = all-filter (λ x. has (without n prohibited) x ≡ false) (λ other. not (other == n)) permanent (all-weaker (λ x. has prohibited x ≡ false) (λ x. has (without n prohibited) x ≡ false) permanent (λ x absent. absent-without n prohibited x absent) h.apart);
 }
 forgetting-asks s n other h = h
@@ -130,8 +130,8 @@ turned : (n x : ℕ) → (x == n) ≡ false → (n == x) ≡ false
 turned n x other = ne_eqb n x (λ same. eqb-false x n other (sym same))
 
 -- and with another one
-pub marked-asks : (s : State) (n : ℕ) (kind : Kind) (body : Body) → is_item s n ≡ true → AsksWell s body → AsksWell s (marked n kind body)
-marked-asks s n kind (Semantic query permanent prohibited) item h = put kind (forgetting-asks s n (Semantic query permanent prohibited) h)
+pub marked-asks : (s : State) (n : ℕ) (kind : Kind) (body : Body) → can_have_mark s n kind ≡ true → AsksWell s body → AsksWell s (marked n kind body)
+marked-asks s n kind (Semantic query permanent prohibited) can h = put kind can (forgetting-asks s n (Semantic query permanent prohibited) h)
   where
     ps : List ℕ
     ps = without n permanent
@@ -139,20 +139,20 @@ marked-asks s n kind (Semantic query permanent prohibited) item h = put kind (fo
     xs : List ℕ
     xs = without n prohibited
 
-    put : (kind : Kind) → IsSoundQuery s query ps xs → AsksWell s (marking n kind (Semantic query ps xs))
-    put Permanent k = record {
+    put : (kind : Kind) → can_have_mark s n kind ≡ true → IsSoundQuery s query ps xs → AsksWell s (marking n kind (Semantic query ps xs))
+    put Permanent can k = record {
       fits = k.fits;
-      added = marks-put_in s n ps item (has-without n permanent) k.added;
+      added = marks-put_in (can_be_added s) n ps can (has-without n permanent) k.added;
       removed = k.removed;
       apart = all-put_in (λ x. has xs x ≡ false) n ps (has-without n prohibited) k.apart;
     }
-    put Prohibited k = record {
+    put Prohibited can k = record {
       fits = k.fits;
       added = k.added;
-      removed = marks-put_in s n xs item (has-without n prohibited) k.removed;
+      removed = marks-put_in (is_item s) n xs can (has-without n prohibited) k.removed;
       apart = all-both (λ x. not (x == n) ≡ true) (λ x. has xs x ≡ false) (λ x. has (put_in n xs) x ≡ false) ps (λ x other absent. has-put_in n xs x ∙ ap (λ (b : Bool). b || has xs x) (turned n x (not-true (x == n) other)) ∙ absent) (all-passes (λ other. not (other == n)) permanent) k.apart;
     }
-    put other k = k
+    put other can k = k
 marked-asks s n Permanent other item h = h
 marked-asks s n Prohibited other item h = h
 marked-asks s n Transient other item h = h

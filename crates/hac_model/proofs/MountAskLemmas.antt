@@ -5,12 +5,12 @@ use Rattle.std.specs.Option.{option_map, option_map_or}
 use Rattle.std.specs.List.{AllByRecursion, list_all}
 use Rattle.std.proofs.lemmas.Bool.{and_parts, eqb-false, eqb-true, ne_eqb, not-true}
 use Rattle.hac_model.specs.Tree.Changes.{added, changed_at, edited}
-use Rattle.hac_model.specs.Tree.Depends.{named_in, names_directory}
+use Rattle.hac_model.specs.Tree.Depends.{named_in, names_directory, refers_to}
 use Rattle.hac_model.specs.Tree.Events.{is_unreferenced}
-use Rattle.hac_model.specs.Tree.Links.{has, is_item}
+use Rattle.hac_model.specs.Tree.Links.{can_be_added, has, is_item}
 use Rattle.hac_model.specs.Tree.Mounting.{cleared, documents_from, forgetting_such, fresh, is_gone, is_of_mount, is_such_at, keeping, mounted, numbers_without, redocumented, synced, unmounted, without_such}
 use Rattle.hac_model.specs.Tree.Sessions.{is_busy}
-use Rattle.hac_model.specs.Tree.{body_at, entry_at, is_directory, is_directory_at, is_document, is_file, is_holder_at, is_linkable, is_made_directory, is_mount_at, query_in}
+use Rattle.hac_model.specs.Tree.{body_at, entry_at, is_directory, is_directory_at, is_document, is_file, is_holder_at, is_linkable, is_made_directory, is_mount_at, permanent_in, query_in}
 use Rattle.hac_model.specs.Tree.Valid.{AreMarks, AreSessions, AsksWell, IsLayout, IsValid, NumbersRise, is_in_place}
 use Rattle.hac_model.specs.declared.states.Answer.{Answer}
 use Rattle.hac_model.specs.declared.states.Body.{Body}
@@ -125,7 +125,7 @@ module _ (test : Entry → Bool) (s : State) (h : IsLayout s) where
   gone n = is_such_at test s.entries n
 
   -- a test that the entry of a number passes or fails still, where the entry stays
-  cleared-test : (of : Body → Bool) (n : ℕ) → ((body : Body) → of (forgetting_such gone body) ≡ of body) → gone n ≡ false → option_map_or of (body_at (cleared test s).entries n) false ≡ option_map_or of (body_at s.entries n) false
+  pub cleared-test : (of : Body → Bool) (n : ℕ) → ((body : Body) → of (forgetting_such gone body) ≡ of body) → gone n ≡ false → option_map_or of (body_at (cleared test s).entries n) false ≡ option_map_or of (body_at s.entries n) false
   cleared-test of n same other =
       test-mapped of (forgetting_such gone) (without_such test s).entries n same
       ∙ ap (λ (o : Option Entry). option_map_or of (option_map (λ (e : Entry). e.body) o) false) (entry_at-stays test s n h other)
@@ -133,12 +133,19 @@ module _ (test : Entry → Bool) (s : State) (h : IsLayout s) where
   pub cleared-directory : (d : ℕ) → gone d ≡ false → is_directory_at (cleared test s).entries d ≡ is_directory_at s.entries d
   cleared-directory d other = ap (λ (b : Bool). d == 0 || b) (cleared-test is_directory d (such-directory gone) other)
 
+  -- what may be added, and what is an item, is so still where it stays
+  pub cleared-item : (n : ℕ) → gone n ≡ false → is_item (cleared test s) n ≡ is_item s n
+  cleared-item n other = cleared-test is_linkable n (such-item gone) other
+
+  pub cleared-added : (n : ℕ) → gone n ≡ false → can_be_added (cleared test s) n ≡ can_be_added s n
+  cleared-added n other = λ i. cleared-item n other i || cleared-directory n other i
+
   -- what a body asks stays sound without marks on what goes
   cleared-body : (body : Body) → NamesLeft test s body → AsksWell s body → AsksWell (cleared test s) (forgetting_such gone body)
   cleared-body (Semantic query permanent prohibited) left asks = record {
     fits = ask-stays s (cleared test s) query (λ d inside there. cleared-directory d (left d inside there) ∙ there) asks.fits;
-    added = marks permanent asks.added;
-    removed = marks prohibited asks.removed;
+    added = marks (can_be_added s) (can_be_added (cleared test s)) cleared-added permanent asks.added;
+    removed = marks (is_item s) (is_item (cleared test s)) cleared-item prohibited asks.removed;
     apart = all-filter (λ n. has (numbers_without gone prohibited) n ≡ false) (λ n. not (gone n)) permanent
         (all-weaker (λ n. has prohibited n ≡ false) (λ n. has (numbers_without gone prohibited) n ≡ false) permanent (λ n absent. has-filter (λ n. not (gone n)) prohibited n ∙ ap (λ (b : Bool). not (gone n) && b) absent ∙ and-false (not (gone n))) asks.apart);
   }
@@ -147,12 +154,12 @@ module _ (test : Entry → Bool) (s : State) (h : IsLayout s) where
       and-false true = refl
       and-false false = refl
 
-      marks : (ns : List ℕ) → AreMarks s ns → AreMarks (cleared test s) (numbers_without gone ns)
-      marks ns m = record {
+      marks : (of kept : ℕ → Bool) → ((n : ℕ) → gone n ≡ false → kept n ≡ of n) → (ns : List ℕ) → AreMarks of ns → AreMarks kept (numbers_without gone ns)
+      marks of kept same ns m = record {
         rise = rise-filter (λ n. not (gone n)) 0 ns m.rise;
-        items = all-both (λ n. is_item s n ≡ true) (λ n. not (gone n) ≡ true) (λ n. is_item (cleared test s) n ≡ true) (numbers_without gone ns)
-            (λ n there left. cleared-test is_linkable n (such-item gone) (not-true (gone n) left) ∙ there)
-            (all-filter (λ n. is_item s n ≡ true) (λ n. not (gone n)) ns m.items) (all-passes (λ n. not (gone n)) ns);
+        there = all-both (λ n. of n ≡ true) (λ n. not (gone n) ≡ true) (λ n. kept n ≡ true) (numbers_without gone ns)
+            (λ n there left. same n (not-true (gone n) left) ∙ there)
+            (all-filter (λ n. of n ≡ true) (λ n. not (gone n)) ns m.there) (all-passes (λ n. not (gone n)) ns);
       }
   cleared-body other left asks = tt
 
@@ -232,10 +239,10 @@ keeping-asks s answers (Semantic query permanent prohibited) h = h
 keeping-asks s answers other h = tt
 
 -- directories and items of a state in which a mount keeps other answers
-keeping-directories : (s : State) (mount : ℕ) (answers : List Answer) → DirectoriesStay s (changed_at s mount (edited (keeping answers)))
+pub keeping-directories : (s : State) (mount : ℕ) (answers : List Answer) → DirectoriesStay s (changed_at s mount (edited (keeping answers)))
 keeping-directories s mount answers d there = directory-changed mount (edited (keeping answers)) s.entries d (λ e. refl) (λ e. keeping-directory answers e.body) ∙ there
 
-keeping-items : (s : State) (mount : ℕ) (answers : List Answer) → ItemsStay s (changed_at s mount (edited (keeping answers)))
+pub keeping-items : (s : State) (mount : ℕ) (answers : List Answer) → ItemsStay s (changed_at s mount (edited (keeping answers)))
 keeping-items s mount answers n there = test-changed is_linkable mount (edited (keeping answers)) s.entries n (λ e. refl) (λ e. keeping-item answers e.body) ∙ there
 
 pub synced-queries : (s : State) (mount : ℕ) (answers : List Answer) (documents : List (List ℕ)) → IsValid s →
@@ -254,13 +261,17 @@ pub unmounted-queries : (s : State) (mount : ℕ) → IsValid s → is_mount_at 
     AllByRecursion (λ e. AsksWell (unmounted s mount) e.body) (unmounted s mount).entries
 unmounted-queries s mount h here apart = cleared-asks (is_of_mount mount) s h.layout (each s.entries apart) h.queries
   where
-    each : (es : List Entry) → list_all (λ e. not (names_directory mount e)) es ≡ true → AllByRecursion (λ e. NamesLeft (is_of_mount mount) s e.body) es
+    first : (a b : Bool) → (a || b) ≡ false → a ≡ false
+    first true b h = absurd cc
+    first false b h = refl
+
+    each : (es : List Entry) → list_all (λ e. not (refers_to mount e)) es ≡ true → AllByRecursion (λ e. NamesLeft (is_of_mount mount) s e.body) es
     each [] apart = tt
     each (e ∷ es) apart =
-        let parts = and_parts (not (names_directory mount e)) (list_all (λ e. not (names_directory mount e)) es) apart in (
+        let parts = and_parts (not (refers_to mount e)) (list_all (λ e. not (refers_to mount e)) es) apart in (
           λ d inside there. of_mount-directory s mount d h.layout here there (λ same.
               let named : names_directory mount e ≡ true = ap (λ (n : ℕ). names_directory n e) (sym same) ∙ inside in
-              let never : true ≡ false = sym named ∙ not-true (names_directory mount e) parts.0 in cc),
+              let never : true ≡ false = sym named ∙ first (names_directory mount e) (has (permanent_in e.body) mount) (not-true (refers_to mount e) parts.0) in cc),
           each es parts.1,
         )
 

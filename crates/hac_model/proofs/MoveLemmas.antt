@@ -10,17 +10,17 @@ use Rattle.std.proofs.lemmas.List.{drop-append-le, length-map, length-reverse, l
 use Rattle.std.proofs.lemmas.List.Folds.{list_all-append}
 use Rattle.std.proofs.Math.Seq.{drop-length}
 use Rattle.hac_model.specs.Tree.Events.{accepted, added, apply, changed_in, changed_at, is_inside, is_possible, renamed, reseated}
-use Rattle.hac_model.specs.Tree.Limits.{are_paths_short, passed_limit}
-use Rattle.hac_model.specs.Tree.{ancestors, entry_at, extends, is_path_short, lineage, path_of}
+use Rattle.hac_model.specs.Tree.Limits.{are_paths_short, has_short_path, names_below, passed_limit}
+use Rattle.hac_model.specs.Tree.{ancestors, entry_at, extends, lineage, path_of}
 use Rattle.hac_model.specs.Tree.Valid.{IsLayout}
 use Rattle.hac_model.specs.declared.events.Event.TheVariants.{Mv}
 use Rattle.hac_model.specs.declared.limits.TheConstants.{PATH_LIMIT}
 use Rattle.hac_model.specs.declared.states.Body.{Body}
 use Rattle.hac_model.specs.declared.states.Entry.{Entry}
 use Rattle.hac_model.specs.declared.states.State.{State}
-use Rattle.hac_model.proofs.ChangeLemmas.{entry_at-changed, entry_at-new, entry_at-other, touched}
-use Rattle.hac_model.proofs.DepthLemmas.{entry-no_root, names_of, short-names}
-use Rattle.hac_model.proofs.PathLemmas.{ancestors-none, ancestors-step, ancestors_by, few-ancestors, length-path, limit, lineage-is, lineage-take, path-names, root-none, short-is, extends-parent, extends-root, from_root, parent-lives, path_of-few, path-short, path_of-parent, path_of-root}
+use Rattle.hac_model.proofs.ChangeLemmas.{entry_at-changed, entry_at-new, entry_at-other, touched, touched-keeps}
+use Rattle.hac_model.proofs.DepthLemmas.{entry-no_root, names_of, path-alike}
+use Rattle.hac_model.proofs.PathLemmas.{ancestors-none, ancestors-step, ancestors_by, few-ancestors, length-path, limit, lineage-is, lineage-take, path-names, root-none, short-is, extends-parent, extends-root, from_root, parent-lives, path-fits, path_of-few, path_of-room, path_of-parent, path_of-root}
 use Rattle.hac_model.proofs.TreeLemmas.{Lives, all-entries, directory-lives, entry_at-below, entry_at-cases, entry_at-next, entry_at-number, rise-below}
 use Rattle.hac_model.proofs.LayoutLemmas.{apply-layout}
 use Rattle.hac_model.proofs.ValidLemmas.{accepted-parts, free-parts, move-parts}
@@ -49,28 +49,26 @@ ancestors-added (suc steps) s new m h number lives =
 lineage-added : (s : State) (new : Entry) (m : ℕ) → IsLayout s → new.number ≡ s.next → Lives s.entries m → lineage (s.entries ++ new ∷ []) m ≡ lineage s.entries m
 lineage-added s new m h number lives = lineage-is (s.entries ++ new ∷ []) m ∙ ancestors-added (suc limit) s new m h number lives ∙ sym (lineage-is s.entries m)
 
-short-added : (s : State) (new : Entry) (m : ℕ) → IsLayout s → new.number ≡ s.next → Lives s.entries m → is_path_short (s.entries ++ new ∷ []) m ≡ is_path_short s.entries m
-short-added s new m h number lives = short-names (s.entries ++ new ∷ []) s.entries m m (ap (λ (es : List Entry). length (names_of es)) (lineage-added s new m h number lives))
+short-added : (s : State) (new e : Entry) → IsLayout s → new.number ≡ s.next → Lives s.entries e.number → has_short_path (s.entries ++ new ∷ []) e ≡ has_short_path s.entries e
+short-added s new e h number lives = path-alike (s.entries ++ new ∷ []) s.entries e e (ap (λ (es : List Entry). length (names_of es)) (lineage-added s new e.number h number lives)) refl
 
 -- the new entry is one step deeper than its directory
-short-new : (s : State) (new : Entry) → IsLayout s → new.number ≡ s.next → Lives s.entries new.parent → is_path_short (s.entries ++ new ∷ []) new.number ≡ nat_lt (length (path_of s new.parent)) PATH_LIMIT
-unfolding limit
+short-new : (s : State) (new : Entry) → IsLayout s → new.number ≡ s.next → Lives s.entries new.parent → has_short_path (s.entries ++ new ∷ []) new ≡ nat_le (length (path_of s new.parent) + 1 + names_below new.body) PATH_LIMIT
 short-new s new h number lives =
     let none : entry_at s.entries new.number ≡ None = entry_at-next 0 s.entries s.next new.number h.numbers (omega arith) in
     let above : lineage (s.entries ++ new ∷ []) new.number ≡ new ∷ lineage s.entries new.parent =
     lineage-is (s.entries ++ new ∷ []) new.number
     ∙ ancestors-step limit (s.entries ++ new ∷ []) new.number new (entry_at-new s.entries new none)
     ∙ ap (λ (es : List Entry). new ∷ es) (ancestors-added limit s new new.parent h number lives ∙ lineage-take s new.parent h lives) in
-    short-is (s.entries ++ new ∷ []) new.number
-    ∙ ap (λ (k : ℕ). nat_le k limit) (ap length above ∙ ap suc (sym (length-path s new.parent)))
-    ∙ grind (arith, nat_tests)
+    let deeper : length (lineage (s.entries ++ new ∷ []) new.number) ≡ length (path_of s new.parent) + 1 = omega (arith, ap length above, length-path s new.parent) in
+    ap (λ (k : ℕ). nat_le (k + names_below new.body) PATH_LIMIT) deeper
 
--- all paths are short just where that of the directory leaves room for a name
-pub paths-added : (s : State) (dir : ℕ) (name : List ℕ) (body : Body) → IsLayout s → Lives s.entries dir → are_paths_short (added s dir name body).entries ≡ nat_lt (length (path_of s dir)) PATH_LIMIT
+-- all paths are short just where that of the directory leaves room for a name, or for two
+pub paths-added : (s : State) (dir : ℕ) (name : List ℕ) (body : Body) → IsLayout s → Lives s.entries dir → are_paths_short (added s dir name body).entries ≡ nat_le (length (path_of s dir) + 1 + names_below body) PATH_LIMIT
 paths-added s dir name body h lives =
     let new : Entry = record { number = s.next; parent = dir; name = name; body = body } in
-    let test : Entry → Bool = λ e. is_path_short (s.entries ++ new ∷ []) e.number in
-    let old : list_all test s.entries ≡ true = all_pass test s.entries (all-entries (λ e. test e ≡ true) 0 s.entries s.next h.numbers (λ e found. short-added s new e.number h refl (inr (e, found)) ∙ path-short s e.number h (inr (e, found)))) in
+    let test : Entry → Bool = has_short_path (s.entries ++ new ∷ []) in
+    let old : list_all test s.entries ≡ true = all_pass test s.entries (all-entries (λ e. test e ≡ true) 0 s.entries s.next h.numbers (λ e found. short-added s new e h refl (inr (e, found)) ∙ path-fits s e.number e h found)) in
     list_all-append test s.entries (new ∷ [])
     ∙ ap (λ (b : Bool). b && list_all test (new ∷ [])) old
     ∙ and-true (test new)
@@ -225,45 +223,50 @@ length-moved s n dir name e m h move lives =
     ∙ length-take (suc limit) (reverse (renamed s n dir name m))
     ∙ ap (λ (k : ℕ). min (suc limit) k) (length-reverse (renamed s n dir name m))
 
-short-moved : (s : State) (n dir : ℕ) (name : List ℕ) (e : Entry) (m : ℕ) → IsLayout s → IsMove s n dir e → Lives s.entries m → is_path_short (changed_in n (reseated dir name) s.entries) m ≡ nat_le (length (renamed s n dir name m)) PATH_LIMIT
+short-moved : (s : State) (n dir : ℕ) (name : List ℕ) (e f : Entry) → IsLayout s → IsMove s n dir e → Lives s.entries f.number → has_short_path (changed_in n (reseated dir name) s.entries) (touched n (reseated dir name) f) ≡ nat_le (length (renamed s n dir name f.number) + names_below f.body) PATH_LIMIT
 unfolding limit
-short-moved s n dir name e m h move lives =
-    short-is (changed_in n (reseated dir name) s.entries) m
-    ∙ ap (λ (k : ℕ). nat_le k limit) (length-moved s n dir name e m h move lives)
-    ∙ grind (arith, nat_tests)
+short-moved s n dir name e f h move lives =
+    (λ i. nat_le (length (lineage (changed_in n (reseated dir name) s.entries) (number i)) + names_below (body i)) PATH_LIMIT)
+    ∙ ap (λ (k : ℕ). nat_le (k + names_below f.body) PATH_LIMIT) (length-moved s n dir name e f.number h move lives)
+    ∙ cut (length (renamed s n dir name f.number)) (names_below f.body)
+  where
+    number : (touched n (reseated dir name) f).number ≡ f.number
+    number = touched-keeps (λ e. e.number) n (reseated dir name) f refl
+
+    body : (touched n (reseated dir name) f).body ≡ f.body
+    body = touched-keeps (λ e. e.body) n (reseated dir name) f refl
+
+    cut : (k more : ℕ) → nat_le (min (suc limit) k + more) PATH_LIMIT ≡ nat_le (k + more) PATH_LIMIT
+    cut k more = grind (arith, nat_tests)
 
 -- all paths are short after a move just where each new one is
-pub paths-moved : (s : State) (n dir : ℕ) (name : List ℕ) (e : Entry) → IsLayout s → IsMove s n dir e → are_paths_short (changed_at s n (reseated dir name)).entries ≡ list_all (λ f. nat_le (length (renamed s n dir name f.number)) PATH_LIMIT) s.entries
-paths-moved s n dir name e h move = each s.entries (all-entries (λ f. is_path_short (changed_in n (reseated dir name) s.entries) f.number ≡ nat_le (length (renamed s n dir name f.number)) PATH_LIMIT) 0 s.entries s.next h.numbers (λ f found. short-moved s n dir name e f.number h move (inr (f, found))))
+pub paths-moved : (s : State) (n dir : ℕ) (name : List ℕ) (e : Entry) → IsLayout s → IsMove s n dir e → are_paths_short (changed_at s n (reseated dir name)).entries ≡ list_all (λ f. nat_le (length (renamed s n dir name f.number) + names_below f.body) PATH_LIMIT) s.entries
+paths-moved s n dir name e h move = each s.entries (all-entries (λ f. has_short_path (changed_in n (reseated dir name) s.entries) (touched n (reseated dir name) f) ≡ nat_le (length (renamed s n dir name f.number) + names_below f.body) PATH_LIMIT) 0 s.entries s.next h.numbers (λ f found. short-moved s n dir name e f h move (inr (f, found))))
   where
-    number : (f : Entry) → (touched n (reseated dir name) f).number ≡ f.number
-    number f = elim (f.number == n) as (λ b. (cond b (reseated dir name f) f).number ≡ f.number) [ true ↦ refl | false ↦ refl ]
-
-    each : (es : List Entry) → AllByRecursion (λ f. is_path_short (changed_in n (reseated dir name) s.entries) f.number ≡ nat_le (length (renamed s n dir name f.number)) PATH_LIMIT) es → list_all (λ f. is_path_short (changed_in n (reseated dir name) s.entries) f.number) (changed_in n (reseated dir name) es) ≡ list_all (λ f. nat_le (length (renamed s n dir name f.number)) PATH_LIMIT) es
+    each : (es : List Entry) → AllByRecursion (λ f. has_short_path (changed_in n (reseated dir name) s.entries) (touched n (reseated dir name) f) ≡ nat_le (length (renamed s n dir name f.number) + names_below f.body) PATH_LIMIT) es → list_all (has_short_path (changed_in n (reseated dir name) s.entries)) (changed_in n (reseated dir name) es) ≡ list_all (λ f. nat_le (length (renamed s n dir name f.number) + names_below f.body) PATH_LIMIT) es
     each [] same = refl
-    each (f ∷ es) same =
-        ap (λ (k : ℕ). is_path_short (changed_in n (reseated dir name) s.entries) k && list_all (λ f. is_path_short (changed_in n (reseated dir name) s.entries) f.number) (changed_in n (reseated dir name) es)) (number f)
-        ∙ ap (λ (b : Bool). b && list_all (λ f. is_path_short (changed_in n (reseated dir name) s.entries) f.number) (changed_in n (reseated dir name) es)) same.0
-        ∙ ap (λ (b : Bool). nat_le (length (renamed s n dir name f.number)) PATH_LIMIT && b) (each es same.1)
+    each (f ∷ es) same = λ i. same.0 i && each es same.1 i
 
 -- so only what moves has to be looked at, whose paths grow by what the new place is deeper
 pub paths-moved-inside : (s : State) (n dir : ℕ) (name : List ℕ) (e : Entry) → IsLayout s → IsMove s n dir e → are_paths_short (changed_at s n (reseated dir name)).entries
-    ≡ list_all (λ f. not (is_inside s f.number n) || nat_le (length (path_of s dir) + 1 + (length (path_of s f.number) - length (path_of s n))) PATH_LIMIT) s.entries
+    ≡ list_all (λ f. not (is_inside s f.number n) || nat_le (length (path_of s dir) + 1 + (length (path_of s f.number) - length (path_of s n)) + names_below f.body) PATH_LIMIT) s.entries
 paths-moved-inside s n dir name e h move =
     paths-moved s n dir name e h move
-    ∙ each s.entries (all-entries (λ f. nat_le (length (renamed s n dir name f.number)) PATH_LIMIT ≡ (not (is_inside s f.number n) || nat_le (length (path_of s dir) + 1 + (length (path_of s f.number) - length (path_of s n))) PATH_LIMIT)) 0 s.entries s.next h.numbers (λ f found. one f.number (inr (f, found))))
+    ∙ each s.entries (all-entries IsSame 0 s.entries s.next h.numbers one)
   where
-    one : (m : ℕ) → Lives s.entries m → nat_le (length (renamed s n dir name m)) PATH_LIMIT ≡ (not (is_inside s m n) || nat_le (length (path_of s dir) + 1 + (length (path_of s m) - length (path_of s n))) PATH_LIMIT)
-    one m lives = elim (is_inside s m n) as (λ b. is_inside s m n ≡ b → nat_le (length (renamed s n dir name m)) PATH_LIMIT ≡ (not b || nat_le (length (path_of s dir) + 1 + (length (path_of s m) - length (path_of s n))) PATH_LIMIT)) [
+    IsSame : Entry → Type 0
+    IsSame f = nat_le (length (renamed s n dir name f.number) + names_below f.body) PATH_LIMIT ≡ (not (is_inside s f.number n) || nat_le (length (path_of s dir) + 1 + (length (path_of s f.number) - length (path_of s n)) + names_below f.body) PATH_LIMIT)
+
+    one : (f : Entry) → entry_at s.entries f.number ≡ Some f → IsSame f
+    one f found = elim (is_inside s f.number n) as (λ b. is_inside s f.number n ≡ b → nat_le (length (renamed s n dir name f.number) + names_below f.body) PATH_LIMIT ≡ (not b || nat_le (length (path_of s dir) + 1 + (length (path_of s f.number) - length (path_of s n)) + names_below f.body) PATH_LIMIT)) [
       | true ↦ (λ inside.
-          let long : length (renamed s n dir name m) ≡ length (path_of s dir) + 1 + (length (path_of s m) - length (path_of s n)) =
-          ap length (renamed-inside s n dir name m inside) ∙ omega (arith, length-append (path_of s dir) (name ∷ drop (length (path_of s n)) (path_of s m)), length-drop (length (path_of s n)) (path_of s m)) in
-          ap (λ (k : ℕ). nat_le k PATH_LIMIT) long)
-      | false ↦ (λ outside. ap (λ (p : List (List ℕ)). nat_le (length p) PATH_LIMIT) (renamed-outside s n dir name m outside) ∙ le-leb (length (path_of s m)) PATH_LIMIT (path_of-few s m h lives))
+          let long : length (renamed s n dir name f.number) ≡ length (path_of s dir) + 1 + (length (path_of s f.number) - length (path_of s n)) =
+          ap length (renamed-inside s n dir name f.number inside) ∙ omega (arith, length-append (path_of s dir) (name ∷ drop (length (path_of s n)) (path_of s f.number)), length-drop (length (path_of s n)) (path_of s f.number)) in
+          ap (λ (k : ℕ). nat_le (k + names_below f.body) PATH_LIMIT) long)
+      | false ↦ (λ outside. ap (λ (p : List (List ℕ)). nat_le (length p + names_below f.body) PATH_LIMIT) (renamed-outside s n dir name f.number outside) ∙ le-leb (length (path_of s f.number) + names_below f.body) PATH_LIMIT (path_of-room s f.number f h found))
     ] refl
 
-    each : (es : List Entry) → AllByRecursion (λ f. nat_le (length (renamed s n dir name f.number)) PATH_LIMIT ≡ (not (is_inside s f.number n) || nat_le (length (path_of s dir) + 1 + (length (path_of s f.number) - length (path_of s n))) PATH_LIMIT)) es →
-        list_all (λ f. nat_le (length (renamed s n dir name f.number)) PATH_LIMIT) es ≡ list_all (λ f. not (is_inside s f.number n) || nat_le (length (path_of s dir) + 1 + (length (path_of s f.number) - length (path_of s n))) PATH_LIMIT) es
+    each : (es : List Entry) → AllByRecursion IsSame es → list_all (λ f. nat_le (length (renamed s n dir name f.number) + names_below f.body) PATH_LIMIT) es ≡ list_all (λ f. not (is_inside s f.number n) || nat_le (length (path_of s dir) + 1 + (length (path_of s f.number) - length (path_of s n)) + names_below f.body) PATH_LIMIT) es
     each [] same = refl
     each (f ∷ es) same = λ i. same.0 i && each es same.1 i
 

@@ -39,7 +39,7 @@ module _ (tree : State) (facts : ℕ → Facts) (sessions : List Session) (event
       (now : List Session) (stand : now ≡ sessions_after event sessions) where
     told : (n : ℕ) → facts_of (apply old event) n ≡ new n
     told n =
-        facts-law old event valid.layout (accepted-parts (is_possible old event) (passed_limit (apply old event)) ok).0 n
+        facts-law old valid event ok n
         ∙ facts-alike event old tree (facts_of old) n (bare-joined facts sessions tree)
         ∙ ap (λ (f : ℕ → Facts). facts_after event tree f n) (λ i n. own n i)
         ∙ sym (each n)

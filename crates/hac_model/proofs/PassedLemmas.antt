@@ -32,7 +32,7 @@ edited-passes s n edit h keeps lighter =
       semantics = ap (λ (k : ℕ). nat_lt SEMANTICS_LIMIT k) (semantic_count-edited s n edit keeps) ∙ old.semantics;
       mounts = ap (λ (k : ℕ). nat_lt MOUNTS_LIMIT k) (mount_count-edited s n edit keeps) ∙ old.mounts;
       symlinks = ap (λ (k : ℕ). nat_lt SYMLINKS_LIMIT k) (symlink_count-edited s n edit keeps) ∙ old.symlinks;
-      paths = paths-edited s.entries n edit ∙ old.paths;
+      paths = paths-edited s.entries n edit keeps.mounts ∙ old.paths;
       items = ap (λ (k : ℕ). nat_lt ITEMS_LIMIT k) (item_count-edited s n edit keeps) ∙ old.items;
       numbers = old.numbers;
     })

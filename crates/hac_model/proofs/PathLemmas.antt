@@ -10,6 +10,7 @@ use Rattle.std.proofs.lemmas.Bool.{and_parts, cond-false, eqb-true, le-leb, leb-
 use Rattle.std.proofs.lemmas.Bool.Decides.{same_from_decides, Decides-eqb, Decides-like}
 use Rattle.std.proofs.lemmas.List.{append-nil, length-map, length-reverse, reverse-append, take_all}
 use Rattle.std.proofs.lemmas.Slice.Eq.{bytes_eq-Decides, slice_eq-Decides}
+use Rattle.hac_model.specs.Tree.Limits.{has_short_path, names_below}
 use Rattle.hac_model.specs.Tree.Looks.{has_names, destination}
 use Rattle.hac_model.specs.Tree.{ancestors, child, entry_at, extends, is_directory_at, is_path_short, lineage, path_of}
 use Rattle.hac_model.specs.Tree.Valid.{IsLayout, is_in_place}
@@ -79,24 +80,29 @@ short-is es n = refl
 pub root-none : (s : State) → IsLayout s → entry_at s.entries 0 ≡ None
 root-none s h = entry_at-low 0 s.entries s.next 0 h.numbers (omega arith)
 
-all_short : (es all : List Entry) (n : ℕ) (e : Entry) → list_all (λ (e : Entry). is_path_short all e.number) es ≡ true → entry_at es n ≡ Some e → is_path_short all e.number ≡ true
+all_short : (es all : List Entry) (n : ℕ) (e : Entry) → list_all (has_short_path all) es ≡ true → entry_at es n ≡ Some e → has_short_path all e ≡ true
 all_short [] all n e h found = absurd cc
 all_short (first ∷ es) all n e h found =
-    let parts = and_parts (is_path_short all first.number) (list_all (λ (e : Entry). is_path_short all e.number) es) h in
-    elim (first.number == n) as (λ b. cond b (Some first) (entry_at es n) ≡ Some e → is_path_short all e.number ≡ true) [
-      | true ↦ (λ found. let same : first ≡ e = cc in subst (λ (f : Entry). is_path_short all f.number ≡ true) same parts.0)
+    let parts = and_parts (has_short_path all first) (list_all (has_short_path all) es) h in
+    elim (first.number == n) as (λ b. cond b (Some first) (entry_at es n) ≡ Some e → has_short_path all e ≡ true) [
+      | true ↦ (λ found. let same : first ≡ e = cc in subst (λ (f : Entry). has_short_path all f ≡ true) same parts.0)
       | false ↦ (λ found. all_short es all n e parts.1 found)
     ] found
 
+-- each entry has a short path, also with what may be below it
+pub path-fits : (s : State) (n : ℕ) (e : Entry) → IsLayout s → entry_at s.entries n ≡ Some e → has_short_path s.entries e ≡ true
+path-fits s n e h found = let within : IsWithinLimits s = limits-within s h.limits in all_short s.entries s.entries n e within.paths found
+
 -- what lives has few ancestors
 pub few-ancestors : (s : State) (n : ℕ) → IsLayout s → Lives s.entries n → length (lineage s.entries n) ≤ limit
+unfolding limit
 few-ancestors s n h (inl root) =
     let none : lineage s.entries n ≡ [] = ap (lineage s.entries) root ∙ lineage-is s.entries 0 ∙ ancestors-none (suc limit) s.entries 0 (root-none s h) in
     omega (arith, ap length none)
 few-ancestors s n h (inr found) =
-    let within : IsWithinLimits s = limits-within s h.limits in
-    let short : is_path_short s.entries n ≡ true = subst (λ (k : ℕ). is_path_short s.entries k ≡ true) (entry_at-number s.entries n found.0 found.1) (all_short s.entries s.entries n found.0 within.paths found.1) in
-    leb-true (length (lineage s.entries n)) limit (sym (short-is s.entries n) ∙ short)
+    let most : length (lineage s.entries found.0.number) + names_below found.0.body ≤ PATH_LIMIT = leb-true (length (lineage s.entries found.0.number) + names_below found.0.body) PATH_LIMIT (path-fits s n found.0 h found.1) in
+    let same : length (lineage s.entries found.0.number) ≡ length (lineage s.entries n) = ap (λ (k : ℕ). length (lineage s.entries k)) (entry_at-number s.entries n found.0 found.1) in
+    omega (arith, most, same)
 
 -- the path of what lives is short
 pub path-short : (s : State) (n : ℕ) → IsLayout s → Lives s.entries n → is_path_short s.entries n ≡ true
@@ -106,6 +112,13 @@ path-short s n h lives = short-is s.entries n ∙ le-leb (length (lineage s.entr
 pub path_of-few : (s : State) (n : ℕ) → IsLayout s → Lives s.entries n → length (path_of s n) ≤ PATH_LIMIT
 unfolding limit
 path_of-few s n h lives = subst (λ (k : ℕ). k ≤ PATH_LIMIT) (sym (length-path s n)) (few-ancestors s n h lives)
+
+-- so do those of what is in it, where it is a mount
+pub path_of-room : (s : State) (n : ℕ) (e : Entry) → IsLayout s → entry_at s.entries n ≡ Some e → length (path_of s n) + names_below e.body ≤ PATH_LIMIT
+path_of-room s n e h found =
+    let most : length (lineage s.entries e.number) + names_below e.body ≤ PATH_LIMIT = leb-true (length (lineage s.entries e.number) + names_below e.body) PATH_LIMIT (path-fits s n e h found) in
+    let same : length (lineage s.entries e.number) ≡ length (lineage s.entries n) = ap (λ (k : ℕ). length (lineage s.entries k)) (entry_at-number s.entries n e found) in
+    omega (arith, most, same, length-path s n)
 
 -- what lives and isn't the root is in a directory, which lives
 pub parent-directory : (s : State) (n : ℕ) (e : Entry) → IsLayout s → entry_at s.entries n ≡ Some e → is_directory_at s.entries e.parent ≡ true

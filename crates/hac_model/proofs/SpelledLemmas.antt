@@ -5,13 +5,14 @@ use Rattle.std.specs.Prelude.{not, option_and_then, ◌&&◌, ◌||◌, if◌the
 use Rattle.std.proofs.lemmas.Bool.{and_from, and_parts}
 use Rattle.std.proofs.lemmas.List.Folds.{list_all-append}
 use Rattle.std.specs.Option.{option_map, option_map_or}
-use Rattle.hac_model.specs.Tree.Depends.{cycle_over, first_reaching, named_in, reaches}
-use Rattle.hac_model.specs.Tree.Events.{accepted, apply, are_directories, changed_at, edited, indexed, is_clear, is_free, is_placed, is_possible, is_unreferenced, may_ask, may_mark, next_dirty}
+use Rattle.hac_model.specs.Tree.Depends.{cycle_of_mark, cycle_over, first_reaching, named_in, reaches}
+use Rattle.hac_model.specs.Tree.Events.{accepted, apply, are_directories, can_have_mark, changed_at, edited, indexed, is_clear, is_free, is_placed, is_possible, is_unreferenced, may_ask, may_mark, next_dirty}
 use Rattle.hac_model.specs.Payload.Fields.{num}
 use Rattle.hac_model.specs.Query.Formula.{Formula}
 use Rattle.hac_model.specs.Query.Formula as formula
-use Rattle.hac_model.specs.Tree.Limits.{is_text, passed_limit, semantic_count}
-use Rattle.hac_model.specs.Tree.Links.{has, is_permanent, is_semantic, links, parent_of, query_at, round, rounds}
+use Rattle.hac_model.specs.Tree.Asking.{with_told}
+use Rattle.hac_model.specs.Tree.Limits.{are_answers_few, is_text, passed_limit, semantic_count}
+use Rattle.hac_model.specs.Tree.Links.{DirLinks, can_be_added, has, is_item, is_permanent, is_semantic, links, parent_of, query_at, round, rounds}
 use Rattle.hac_model.specs.Script.PathWords.{is_target}
 use Rattle.hac_model.specs.Tree.Mounting.{answers_to}
 use Rattle.hac_model.specs.Tree.Mounts.{terms_to_ask}
@@ -31,7 +32,7 @@ use Rattle.hac_model.specs.declared.states.Body.{Body}
 use Rattle.hac_model.specs.declared.states.Entry.{Entry}
 use Rattle.hac_model.specs.declared.states.State.{State}
 use Rattle.hac_model.proofs.StayLemmas.{asks-stays}
-use Rattle.hac_model.proofs.ChangeLemmas.{all-weaker}
+use Rattle.hac_model.proofs.ChangeLemmas.{all-weaker, or-cases}
 use Rattle.hac_model.proofs.LayoutLemmas.{smount-parts, ssync-parts, sumount-parts}
 use Rattle.hac_model.proofs.MountLayoutLemmas.{mounted-layout, synced-layout}
 use Rattle.hac_model.proofs.SpellableLemmas.{docs-fit, name-fits, small-fits, space-fits, all-told-fit, told-fit}
@@ -107,6 +108,19 @@ module _ (s : State) (h : IsValid s) where
       query_of : Option Entry → Option (Formula ℕ)
       query_of o = option_and_then query_in (option_map (λ (e : Entry). e.body) o)
 
+  -- what can have a mark has a number that fits
+  added-fits : (n : ℕ) → can_be_added s n ≡ true → num.fits n ≡ true
+  added-fits n can = elim (or-cases (is_item s n) (is_directory_at s.entries n) can) [
+    | inl item ↦ tested-fits n is_linkable item
+    | inr dir ↦ number-fits n (directory-lives s.entries n dir)
+  ]
+
+  marked-fits : (n : ℕ) (kind : Kind) → can_have_mark s n kind ≡ true → num.fits n ≡ true
+  marked-fits n Prohibited can = tested-fits n is_linkable can
+  marked-fits n Permanent can = added-fits n can
+  marked-fits n Transient can = added-fits n can
+  marked-fits n Unlinked can = added-fits n can
+
   possible-spelled : (e : Event) → is_stored e ≡ true → is_possible s e ≡ true → passed_limit (apply s e) ≡ None → is_spellable e ≡ true
   unfolding is_spellable
   possible-spelled (Mkdir dir name) kept is limits = let place = place-fits dir name is in and_from (num.fits dir) (name_field.fits name) place.0 place.1
@@ -131,7 +145,7 @@ module _ (s : State) (h : IsValid s) where
   possible-spelled (Unq dir) kept is limits = semantic-fits dir is
   possible-spelled (Mark set) kept is limits =
       let parts = mark-parts s set.dir set.item set.kind is in
-      and_from (num.fits set.dir) _ (semantic-fits set.dir parts.1) (and_from (num.fits set.item) (mark_field.fits set.kind) (tested-fits set.item is_linkable parts.0) (mark-fits set.dir set.item set.kind parts.2))
+      and_from (num.fits set.dir) _ (semantic-fits set.dir parts.1) (and_from (num.fits set.item) (mark_field.fits set.kind) (marked-fits set.item set.kind parts.0) (mark-fits set.dir set.item set.kind parts.2))
   possible-spelled (Mv entry dir name) kept is limits =
       let parts = move-parts s entry dir name is in
       let place = place-fits dir name parts.1 in
@@ -176,6 +190,7 @@ stored-valid s h = record {
     limits = h.layout.limits;
   };
   queries = all-weaker (λ e. AsksWell s e.body) (λ e. AsksWell (stored s) e.body) s.entries (λ e asks. asks-stays s (stored s) e.body (λ d there. there) (λ n there. there) asks) h.queries;
+  few = h.few;
   answers = all-weaker (λ e. KeepsWell s e.number e.body) (λ e. KeepsWell (stored s) e.number e.body) s.entries (λ e keeps. keeps-stays s (stored s) e.number e.body (λ m n document. document) (λ m few. few) (λ m answers terms. terms) keeps) h.answers;
   acyclic = h.acyclic;
   sessions = record { names = tt; differ = tt; there = tt; elsewhere = tt; few = refl };
@@ -191,6 +206,12 @@ module _ (s : State) where
   moving-stored entry dir None = refl
   moving-stored entry dir (Some query) = reaching-stored entry (dir ∷ named_in query)
 
+  linking-stored : (dir item : ℕ) (kind : Kind) → cycle_of_mark (stored s) dir item kind ≡ cycle_of_mark s dir item kind
+  linking-stored dir item Permanent = ap (λ (o : Option ℕ). if is_directory_at s.entries item then o else None) (reaching-stored dir (item ∷ []))
+  linking-stored dir item Prohibited = refl
+  linking-stored dir item Unlinked = refl
+  linking-stored dir item Transient = refl
+
   rounds-stored : (n : ℕ) → rounds n (stored s) ≡ rounds n s
   unfolding path_of
   rounds-stored zero = refl
@@ -202,7 +223,7 @@ module _ (s : State) where
 
   marking-stored : (dir item : ℕ) (kind : Kind) → may_mark (stored s) dir item kind ≡ may_mark s dir item kind
   marking-stored dir item Permanent = refl
-  marking-stored dir item Prohibited = ap (λ (found : ℕ → List ℕ). is_permanent s dir item || has (found dir) item) links-stored
+  marking-stored dir item Prohibited = ap (λ (known : ℕ → DirLinks). is_permanent s dir item || has (known dir).found item) links-stored
   marking-stored dir item Unlinked = refl
   marking-stored dir item Transient = refl
 
@@ -223,10 +244,13 @@ module _ (s : State) where
 
   -- what is clear with sessions is clear without
   clear-stored : (e : Event) → is_stored e ≡ true → is_clear s e ≡ true → is_clear (stored s) e ≡ true
-  clear-stored (Setq dir query told) kept clear = ap (λ (o : Option ℕ). is_none o) (reaching-stored dir (parent_of s dir ∷ named_in query)) ∙ clear
-  clear-stored (Mark mark) kept clear = marking-stored mark.dir mark.item mark.kind ∙ clear
+  clear-stored (Smkdir dir name query told) kept clear = clear
+  clear-stored (Setq dir query told) kept clear = ap (λ (o : Option ℕ). is_none o && are_answers_few (with_told query told s).entries) (reaching-stored dir (parent_of s dir ∷ named_in query)) ∙ clear
+  clear-stored (Mark mark) kept clear = (λ i. marking-stored mark.dir mark.item mark.kind i && is_none (linking-stored mark.dir mark.item mark.kind i)) ∙ clear
   clear-stored (Mv entry dir name) kept clear = ap (λ (o : Option ℕ). is_none o) (moving-stored entry dir (query_at s entry)) ∙ clear
   clear-stored (Rmdir dir) kept clear = and_from (is_unreferenced s dir) true (and_parts (is_unreferenced s dir) (not (is_busy s.sessions dir)) clear).0 refl
+  clear-stored (Smount dir name space documents told) kept clear = clear
+  clear-stored (Ssync mount documents told) kept clear = clear
   clear-stored (Sumount mount) kept clear = and_from (is_unreferenced s mount) true (and_parts (is_unreferenced s mount) (not (is_busy s.sessions mount)) clear).0 refl
   clear-stored (Cd session dir) kept clear = absurd cc
   clear-stored other kept clear = refl

@@ -1,7 +1,7 @@
--- What is stored of a valid state has a spelling, where no mount is too large: its numbers have four bytes, so its entries
--- and marks are no more than four bytes can count; its names, texts, queries and terms are no longer than such may be; and
+-- What is stored of a valid state has a spelling: its numbers have four bytes, so its entries, marks and kept answers are no
+-- more than four bytes can count; its names, texts, queries and terms are no longer than such may be; and
 -- the names of a mount's documents rise.
-use Rattle.std.proofs.Common.{inr, ◌≡◌, ℕ, suc, ◌+◌, ◌<◌, ◌≤◌, Bool, true, false, cond, List, [], ◌∷◌, length, subst, refl, ap, sym, ◌∙◌, arith}
+use Rattle.std.proofs.Common.{inl, inr, ◌≡◌, ℕ, suc, ◌+◌, ◌<◌, ◌≤◌, Bool, true, false, cond, List, [], ◌∷◌, length, subst, refl, ap, sym, ◌∙◌, arith}
 use Rattle.std.specs.Prelude.{not, ◌&&◌, ◌==◌, if◌then◌else◌, nat_lt, nat_le, map, filter, Option, Some, None, IsTrue}
 use Rattle.std.specs.Cmp.Lexicographic.{slice_cmp, nat_list_cmp_total, nat_list_eq_equiv, texts_ties}
 use Rattle.std.specs.List.{AllByRecursion, list_all}
@@ -13,21 +13,19 @@ use Rattle.std.specs.declared.cmp.Ordering.TheVariants.{Less, Equal, Greater}
 use Rattle.std.proofs.lemmas.Bool.{and_from, and_parts, eqb-true, leb-true}
 use Rattle.std.proofs.lemmas.Bool.Decides.{nat_tests}
 use Rattle.std.proofs.lemmas.List.{length-map}
-use Rattle.std.proofs.lemmas.List.Sums.{length-filter}
 use Rattle.hac_model.specs.Payload.Fields.{items_fit, num}
 use Rattle.hac_model.specs.Payload.Payloads.{name_field, nums, rises, space_field, text_field}
 use Rattle.hac_model.specs.Payload.QueryFields.{query_field}
 use Rattle.hac_model.specs.Payload.States.{answer_field, document_field, documents_field, entry_field, is_spellable_snapshot, listed_document, no_documents, shown_field, shown_part, snapshot_of, stored_entry, stored_field, term_field}
 use Rattle.hac_model.specs.Query.Queries.{is_askable, is_term}
 use Rattle.hac_model.specs.Query.Terms.{is_term_before}
-use Rattle.hac_model.specs.Tree.Limits.{is_text}
-use Rattle.hac_model.specs.Tree.Links.{is_item}
+use Rattle.hac_model.specs.Tree.Limits.{answers_kept, documents_kept, is_text}
+use Rattle.hac_model.specs.Tree.Links.{can_be_added, is_item}
 use Rattle.hac_model.specs.Tree.Listing.{children, in_order, is_before, put_in_order}
-use Rattle.hac_model.specs.Payload.States.{are_mounts_small, document_count}
 use Rattle.hac_model.specs.Tree.Names.{is_name}
-use Rattle.hac_model.specs.Tree.{answers_in, child, entry_at, is_document, is_holder_at, is_linkable, is_mount, is_mount_at}
-use Rattle.hac_model.specs.Tree.Valid.{AreMarks, AsksWell, IsAnswer, IsSound, IsValid, KeepsWell, NamesDiffer, NumbersRise, TermsRise, is_in_place}
-use Rattle.hac_model.specs.declared.limits.TheConstants.{DOCS_LIMIT, QUERY_LIMIT}
+use Rattle.hac_model.specs.Tree.{answers_in, child, entry_at, is_directory_at, is_document, is_holder_at, is_linkable, is_mount, is_mount_at}
+use Rattle.hac_model.specs.Tree.Valid.{AreMarks, AsksWell, IsAnswer, IsSound, IsValid, KeepsWell, NamesDiffer, NumbersRise, TermsRise, has_few, is_in_place}
+use Rattle.hac_model.specs.declared.limits.TheConstants.{ANSWERS_LIMIT, DOCS_LIMIT, PAIRS_LIMIT, QUERY_LIMIT}
 use Rattle.hac_model.specs.declared.snapshots.Document as listed
 use Rattle.hac_model.specs.declared.snapshots.StoredEntry.{StoredEntry}
 use Rattle.hac_model.specs.declared.states.Answer.{Answer}
@@ -37,11 +35,13 @@ use Rattle.hac_model.specs.declared.states.Entry.{Entry}
 use Rattle.hac_model.specs.declared.states.State.{State}
 use Rattle.hac_model.specs.declared.terms.Term.{Term}
 use Rattle.hac_model.specs.declared.terms.Term.TheVariants.{Word, Prefix}
-use Rattle.hac_model.proofs.ChangeLemmas.{all-filter, all-weaker}
+use Rattle.hac_model.proofs.ChangeLemmas.{all-filter, all-weaker, or-cases}
+use Rattle.hac_model.proofs.CountLemmas.{measured, measured-removed}
 use Rattle.hac_model.proofs.MountLayoutLemmas.{tested-below}
 use Rattle.hac_model.proofs.SpellableLemmas.{documents-below, name-fits, nums-fit, small-fits, space-fits}
 use Rattle.hac_model.proofs.SpelledLemmas.{number-fits, query-fits, text-fits}
 use Rattle.hac_model.proofs.TreeLemmas.{all-entries, directory-lives, entry_at-all, place-directory}
+use Rattle.hac_model.proofs.ValidLemmas.{directory-below}
 
 -- ---- names in order
 
@@ -219,11 +219,14 @@ all-first (e ∷ es) = (refl, all-first es)
 module _ (s : State) (h : IsValid s) where
   -- ---- numbers and marks
 
-  items-below : (ns : List ℕ) → AllByRecursion (λ n. IsTrue (is_item s n)) ns → AllByRecursion (λ n. n < s.next) ns
-  items-below ns are = all-weaker (λ n. IsTrue (is_item s n)) (λ n. n < s.next) ns (λ n is. tested-below s is_linkable n h.layout.numbers is) are
+  item-below : (n : ℕ) → is_item s n ≡ true → n < s.next
+  item-below n is = tested-below s is_linkable n h.layout.numbers is
 
-  marks-fit : (ns : List ℕ) → AreMarks s ns → nums.fits ns ≡ true
-  marks-fit ns are = nums-fit s h.layout ns are.rise (items-below ns are.items)
+  added-below : (n : ℕ) → can_be_added s n ≡ true → n < s.next
+  added-below n can = elim (or-cases (is_item s n) (is_directory_at s.entries n) can) [ inl item ↦ item-below n item | inr dir ↦ directory-below s n h.layout dir ]
+
+  marks-fit : (test : ℕ → Bool) → ((n : ℕ) → test n ≡ true → n < s.next) → (ns : List ℕ) → AreMarks test ns → nums.fits ns ≡ true
+  marks-fit test below ns are = nums-fit s h.layout ns are.rise (all-weaker (λ n. test n ≡ true) (λ n. n < s.next) ns below are.there)
 
   -- ---- answers
 
@@ -262,12 +265,24 @@ module _ (s : State) (h : IsValid s) where
   abbrev documents_at : ℕ → List Entry
   documents_at n = filter (λ (e : Entry). is_document e.body) (children s n)
 
-  documents-fit : (n : ℕ) → document_count s.entries n ≤ DOCS_LIMIT → documents_field.fits (map listed_document (documents_at n)) ≡ true
+  -- no more of them than entries of the directory
+  documents-fewer : (n : ℕ) (es : List Entry) → length (filter (λ (e : Entry). is_document e.body && (e.parent == n)) es) ≤ length (filter (λ (e : Entry). e.parent == n) es)
+  documents-fewer n [] = omega arith
+  documents-fewer n (e ∷ es) = one (is_document e.body) (e.parent == n) (documents-fewer n es)
+    where
+      one : (a b : Bool) → length (filter (λ (e : Entry). is_document e.body && (e.parent == n)) es) ≤ length (filter (λ (e : Entry). e.parent == n) es)
+          → length (cond (a && b) (e ∷ filter (λ (e : Entry). is_document e.body && (e.parent == n)) es) (filter (λ (e : Entry). is_document e.body && (e.parent == n)) es)) ≤ length (cond b (e ∷ filter (λ (e : Entry). e.parent == n) es) (filter (λ (e : Entry). e.parent == n) es))
+      one true true rest = omega (arith, rest)
+      one true false rest = rest
+      one false true rest = omega (arith, rest)
+      one false false rest = rest
+
+  documents-fit : (n : ℕ) → has_few s.entries n ≡ true → documents_field.fits (map listed_document (documents_at n)) ≡ true
   documents-fit n few =
       let docs = documents_at n in
-      let count : length (map listed_document docs) ≡ document_count s.entries n =
-      length-map docs listed_document ∙ length-order (λ (e : Entry). is_document e.body) n s.entries ∙ length-filter (λ (e : Entry). is_document e.body && (e.parent == n)) s.entries in
-      let most : length (map listed_document docs) ≤ DOCS_LIMIT = omega (arith, count, few) in
+      let count : length (map listed_document docs) ≡ length (filter (λ (e : Entry). is_document e.body && (e.parent == n)) s.entries) = length-map docs listed_document ∙ length-order (λ (e : Entry). is_document e.body) n s.entries in
+      let inside : length (filter (λ (e : Entry). e.parent == n) s.entries) ≤ DOCS_LIMIT = leb-true (length (filter (λ (e : Entry). e.parent == n) s.entries)) DOCS_LIMIT few in
+      let most : length (map listed_document docs) ≤ DOCS_LIMIT = omega (arith, count, documents-fewer n s.entries, inside) in
       let listable = all-filter IsListable (λ (e : Entry). is_document e.body) (children s n) (all-children IsListable n (all-weaker (λ e. entry_at s.entries e.number ≡ Some e) IsListable s.entries entry-listable found-all)) in
       and_from _ _
       (counted (length (map listed_document docs)) most)
@@ -307,54 +322,69 @@ module _ (s : State) (h : IsValid s) where
       and_from _ (no_documents.fits docs) sound (ap (λ (ds : List listed.Document). length ds == 0) (alone refl))
   stored-fits n (Semantic query permanent prohibited) docs sound asks keeps other alone fit few =
       and_from (query_field.fits query) _ (query-fits s h query asks.fits)
-      (and_from (nums.fits permanent) _ (marks-fit permanent asks.added)
-      (and_from (nums.fits prohibited) (no_documents.fits docs) (marks-fit prohibited asks.removed) (ap (λ (ds : List listed.Document). length ds == 0) (alone refl))))
+      (and_from (nums.fits permanent) _ (marks-fit (can_be_added s) added-below permanent asks.added)
+      (and_from (nums.fits prohibited) (no_documents.fits docs) (marks-fit (is_item s) item-below prohibited asks.removed) (ap (λ (ds : List listed.Document). length ds == 0) (alone refl))))
   stored-fits n (Mount space answers) docs sound asks keeps other alone fit few =
       and_from (space_field.fits space) _ (space-fits space sound)
       (and_from (documents_field.fits docs) _ fit (and_from (num.fits (length answers)) _ few (answers-fit n None answers keeps.rise keeps.sound)))
   stored-fits n Document docs sound asks keeps other alone fit few = absurd cc
 
-  module _ (small : IsTrue (are_mounts_small s.entries)) where
-    -- each entry but a document fits behind one whose number is below
-    entry-fits : (e : Entry) (last : Option StoredEntry) → entry_at s.entries e.number ≡ Some e → is_document e.body ≡ false
-        → rises nat_lt (option_map (λ (stored : StoredEntry). stored.entry.number) last) e.number ≡ true → (entry_field last).fits (stored_entry s e) ≡ true
-    entry-fits e last found other before =
-        let all : (P : Entry → Type 0) → AllByRecursion P s.entries → P e = λ P each. entry_at-all P s.entries e.number e each found in
-        let place = all (λ e. IsTrue (is_in_place s.entries e)) h.layout.places in
-        let parent : num.fits e.parent ≡ true = number-fits s h e.parent (directory-lives s.entries e.parent (place-directory s.entries e place)) in
-        let listable = entry-listable e found in
-        let few = sizes e (all (λ e. IsTrue (nat_le (document_count s.entries e.number) DOCS_LIMIT && nat_lt (length (answers_in e.body)) 4294967296)) (all-pass _ s.entries small)) in
-        and_from _ _
-        (and_from (num.fits e.number) _ listable.0 before)
-        (and_from (num.fits e.parent) _ parent
-        (and_from (name_field.fits e.name) (stored_field.fits (e.body, map listed_document (documents_at e.number))) listable.1
-        (stored-fits e.number e.body (map listed_document (documents_at e.number)) (all (λ e. IsSound e.body) h.layout.bodies) (all (λ e. AsksWell s e.body) h.queries) (all (λ e. KeepsWell s e.number e.body) h.answers) other
-        (λ plain. ap (map listed_document) (none-listed e found plain)) (documents-fit e.number few.0) few.1)))
-      where
-        sizes : (e : Entry) → IsTrue (nat_le (document_count s.entries e.number) DOCS_LIMIT && nat_lt (length (answers_in e.body)) 4294967296) → (document_count s.entries e.number ≤ DOCS_LIMIT) × (num.fits (length (answers_in e.body)) ≡ true)
-        sizes e both =
-            let parts = and_parts (nat_le (document_count s.entries e.number) DOCS_LIMIT) (nat_lt (length (answers_in e.body)) 4294967296) both in
-            (leb-true _ _ parts.0, parts.1)
+  -- a mount keeps no more answers than all of them
+  answers-few : (e : Entry) → entry_at s.entries e.number ≡ Some e → num.fits (length (answers_in e.body)) ≡ true
+  answers-few e found =
+      let parts = and_parts (nat_le (measured documents_kept s.entries) ANSWERS_LIMIT) (nat_le (measured answers_kept s.entries) PAIRS_LIMIT) h.few in
+      let all : measured answers_kept s.entries ≤ PAIRS_LIMIT = leb-true (measured answers_kept s.entries) PAIRS_LIMIT parts.1 in
+      small (length (answers_in e.body)) (omega (arith, all, measured-removed answers_kept e.number 0 s.entries s.next e h.layout.numbers found))
+    where
+      small : (k : ℕ) → k ≤ PAIRS_LIMIT → num.fits k ≡ true
+      small k most = grind (arith, nat_tests, most)
 
-    entries-fit : (above : ℕ) (last : Option StoredEntry) (es : List Entry) → ((n : ℕ) → above < n → rises nat_lt (option_map (λ (stored : StoredEntry). stored.entry.number) last) n ≡ true)
-        → NumbersRise above es s.next → AllByRecursion (λ e. entry_at s.entries e.number ≡ Some e) es
-        → items_fit entry_field last (map (stored_entry s) (filter (λ (e : Entry). not (is_document e.body)) es)) ≡ true
-    entries-fit above last [] before rise found = refl
-    entries-fit above last (e ∷ es) before rise found =
-        elim (is_document e.body) as (λ b. is_document e.body ≡ b → items_fit entry_field last (map (stored_entry s) (cond (not b) (e ∷ filter (λ (e : Entry). not (is_document e.body)) es) (filter (λ (e : Entry). not (is_document e.body)) es))) ≡ true) [
-          | true ↦ (λ document. let above_e : above < e.number = rise.0 in entries-fit e.number last es (λ n lt. before n (omega (arith, above_e, lt))) rise.1 found.1)
-          | false ↦ (λ other. and_from _ _ (entry-fits e last found.0 other (before e.number rise.0)) (entries-fit e.number (Some (stored_entry s e)) es (λ n lt. grind (arith, nat_tests, lt)) rise.1 found.1))
-        ] refl
+  -- each entry but a document fits behind one whose number is below
+  entry-fits : (e : Entry) (last : Option StoredEntry) → entry_at s.entries e.number ≡ Some e → is_document e.body ≡ false
+      → rises nat_lt (option_map (λ (stored : StoredEntry). stored.entry.number) last) e.number ≡ true → (entry_field last).fits (stored_entry s e) ≡ true
+  entry-fits e last found other before =
+      let all : (P : Entry → Type 0) → AllByRecursion P s.entries → P e = λ P each. entry_at-all P s.entries e.number e each found in
+      let place = all (λ e. IsTrue (is_in_place s.entries e)) h.layout.places in
+      let parent : num.fits e.parent ≡ true = number-fits s h e.parent (directory-lives s.entries e.parent (place-directory s.entries e place)) in
+      let listable = entry-listable e found in
+      and_from _ _
+      (and_from (num.fits e.number) _ listable.0 before)
+      (and_from (num.fits e.parent) _ parent
+      (and_from (name_field.fits e.name) (stored_field.fits (e.body, map listed_document (documents_at e.number))) listable.1
+      (stored-fits e.number e.body (map listed_document (documents_at e.number)) (all (λ e. IsSound e.body) h.layout.bodies) (all (λ e. AsksWell s e.body) h.queries) (all (λ e. KeepsWell s e.number e.body) h.answers) other
+      (λ plain. ap (map listed_document) (none-listed e found plain)) (fit (is_mount e.body) refl) (answers-few e found))))
+    where
+      mount : (n : ℕ) (body : Body) → KeepsWell s n body → is_mount body ≡ true → documents_field.fits (map listed_document (documents_at n)) ≡ true
+      mount n (Mount space answers) keeps is = documents-fit n keeps.few
+      mount n (File text dirty shown) keeps is = absurd cc
+      mount n Dir keeps is = absurd cc
+      mount n (Symlink target) keeps is = absurd cc
+      mount n (Semantic query permanent prohibited) keeps is = absurd cc
+      mount n Document keeps is = absurd cc
 
-    valid-spelled : is_spellable_snapshot (snapshot_of s) ≡ true
-    unfolding is_spellable_snapshot snapshot_of
-    valid-spelled =
-        let kept = filter (λ (e : Entry). not (is_document e.body)) s.entries in
-        let few = entries-few 0 s.entries s.next h.layout.numbers in
-        let fewer = filter-few (λ (e : Entry). not (is_document e.body)) s.entries in
-        let count : length (map (stored_entry s) kept) ≡ length kept = length-map kept (stored_entry s) in
-        and_from (num.fits s.next) _ (small-fits s h.layout s.next (omega arith))
-        (and_from (num.fits (length (map (stored_entry s) kept))) _ (small-fits s h.layout (length (map (stored_entry s) kept)) (omega (arith, few, fewer, count))) (entries-fit 0 None s.entries (λ n lt. refl) h.layout.numbers found-all))
+      fit : (b : Bool) → is_mount e.body ≡ b → documents_field.fits (map listed_document (documents_at e.number)) ≡ true
+      fit true is = mount e.number e.body (entry_at-all (λ e. KeepsWell s e.number e.body) s.entries e.number e h.answers found) is
+      fit false is = ap (λ (docs : List Entry). documents_field.fits (map listed_document docs)) (none-listed e found is)
 
-pub valid-states-spelled : (s : State) → IsValid s → IsTrue (are_mounts_small s.entries) → IsTrue (is_spellable_snapshot (snapshot_of s))
-valid-states-spelled s h small = valid-spelled s h small
+  entries-fit : (above : ℕ) (last : Option StoredEntry) (es : List Entry) → ((n : ℕ) → above < n → rises nat_lt (option_map (λ (stored : StoredEntry). stored.entry.number) last) n ≡ true)
+      → NumbersRise above es s.next → AllByRecursion (λ e. entry_at s.entries e.number ≡ Some e) es
+      → items_fit entry_field last (map (stored_entry s) (filter (λ (e : Entry). not (is_document e.body)) es)) ≡ true
+  entries-fit above last [] before rise found = refl
+  entries-fit above last (e ∷ es) before rise found =
+      elim (is_document e.body) as (λ b. is_document e.body ≡ b → items_fit entry_field last (map (stored_entry s) (cond (not b) (e ∷ filter (λ (e : Entry). not (is_document e.body)) es) (filter (λ (e : Entry). not (is_document e.body)) es))) ≡ true) [
+        | true ↦ (λ document. let above_e : above < e.number = rise.0 in entries-fit e.number last es (λ n lt. before n (omega (arith, above_e, lt))) rise.1 found.1)
+        | false ↦ (λ other. and_from _ _ (entry-fits e last found.0 other (before e.number rise.0)) (entries-fit e.number (Some (stored_entry s e)) es (λ n lt. grind (arith, nat_tests, lt)) rise.1 found.1))
+      ] refl
+
+  valid-spelled : is_spellable_snapshot (snapshot_of s) ≡ true
+  unfolding is_spellable_snapshot snapshot_of
+  valid-spelled =
+      let kept = filter (λ (e : Entry). not (is_document e.body)) s.entries in
+      let few = entries-few 0 s.entries s.next h.layout.numbers in
+      let fewer = filter-few (λ (e : Entry). not (is_document e.body)) s.entries in
+      let count : length (map (stored_entry s) kept) ≡ length kept = length-map kept (stored_entry s) in
+      and_from (num.fits s.next) _ (small-fits s h.layout s.next (omega arith))
+      (and_from (num.fits (length (map (stored_entry s) kept))) _ (small-fits s h.layout (length (map (stored_entry s) kept)) (omega (arith, few, fewer, count))) (entries-fit 0 None s.entries (λ n lt. refl) h.layout.numbers found-all))
+
+pub valid-states-spelled : (s : State) → IsValid s → IsTrue (is_spellable_snapshot (snapshot_of s))
+valid-states-spelled s h = valid-spelled s h

@@ -1,12 +1,12 @@
 -- What stays sound where directories and items stay: what directories ask, how items are marked, and where sessions stand.
-use Rattle.std.proofs.Common.{◌≡◌, ℕ, Bool, true, false, List, [], ◌∷◌, refl, ap, sym, subst, ◌∙◌, eq-eqb}
+use Rattle.std.proofs.Common.{◌≡◌, ℕ, Bool, true, false, List, [], ◌∷◌, refl, ap, sym, subst, ◌∙◌, eq-eqb, inl, inr}
 use Rattle.std.specs.Prelude.{◌==◌, ◌||◌, IsTrue}
 use Rattle.std.specs.List.{AllByRecursion}
 use Rattle.std.proofs.lemmas.Bool.{and_from, and_parts}
 use Rattle.hac_model.specs.Tree.Depends.{named_in}
 use Rattle.hac_model.specs.Tree.Events.{are_directories, may_ask}
 use Rattle.hac_model.specs.Query.Formula.{Formula}
-use Rattle.hac_model.specs.Tree.Links.{has, is_item}
+use Rattle.hac_model.specs.Tree.Links.{can_be_added, has, is_item}
 use Rattle.hac_model.specs.Query.Queries.{is_query}
 use Rattle.hac_model.specs.Tree.Sessions.{are_few}
 use Rattle.hac_model.specs.Tree.{is_directory_at}
@@ -16,7 +16,7 @@ use Rattle.hac_model.specs.declared.states.Body.{Body}
 use Rattle.hac_model.specs.declared.states.Body.TheVariants.{Semantic}
 use Rattle.hac_model.specs.declared.states.Session.{Session}
 use Rattle.hac_model.specs.declared.states.State.{State}
-use Rattle.hac_model.proofs.ChangeLemmas.{all-weaker, or-right}
+use Rattle.hac_model.proofs.ChangeLemmas.{all-weaker, or-cases, or-left, or-right}
 
 -- the directories of one state are directories of another
 abbrev pub DirectoriesStay : State → State → Type 0
@@ -40,16 +40,23 @@ ask-stays s t query stay h =
     let parts = and_parts (is_query query) (are_directories s (named_in query)) h in
     and_from (is_query query) (are_directories t (named_in query)) parts.0 (directories-stay s t (named_in query) stay parts.1)
 
--- marks are on items where items stay
-pub marks-stay : (s t : State) (xs : List ℕ) → ItemsStay s t → AreMarks s xs → AreMarks t xs
-marks-stay s t xs items h = record { rise = h.rise; items = all-weaker (λ n. is_item s n ≡ true) (λ n. is_item t n ≡ true) xs items h.items }
+-- marks are on what can have them where that stays
+pub marks-stay : (test kept : ℕ → Bool) (xs : List ℕ) → ((n : ℕ) → test n ≡ true → kept n ≡ true) → AreMarks test xs → AreMarks kept xs
+marks-stay test kept xs stay h = record { rise = h.rise; there = all-weaker (λ n. test n ≡ true) (λ n. kept n ≡ true) xs stay h.there }
+
+-- what may be added stays so, where directories and items stay
+pub added-stays : (s t : State) (n : ℕ) → (is_directory_at s.entries n ≡ true → is_directory_at t.entries n ≡ true) → (is_item s n ≡ true → is_item t n ≡ true) → can_be_added s n ≡ true → can_be_added t n ≡ true
+added-stays s t n dirs items can = elim (or-cases (is_item s n) (is_directory_at s.entries n) can) [
+  | inl item ↦ or-left (is_item t n) (is_directory_at t.entries n) (items item)
+  | inr dir ↦ or-right (is_item t n) (is_directory_at t.entries n) (dirs dir)
+]
 
 -- what a directory asks stays sound where directories and items stay
 pub asks-stays : (s t : State) (body : Body) → DirectoriesStay s t → ItemsStay s t → AsksWell s body → AsksWell t body
 asks-stays s t (Semantic query permanent prohibited) dirs items h = record {
   fits = ask-stays s t query (λ d inside there. dirs d there) h.fits;
-  added = marks-stay s t permanent items h.added;
-  removed = marks-stay s t prohibited items h.removed;
+  added = marks-stay (can_be_added s) (can_be_added t) permanent (λ n can. added-stays s t n (dirs n) (items n) can) h.added;
+  removed = marks-stay (is_item s) (is_item t) prohibited items h.removed;
   apart = h.apart;
 }
 asks-stays s t other dirs items h = tt

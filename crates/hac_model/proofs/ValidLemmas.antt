@@ -4,11 +4,11 @@ use Rattle.std.specs.Prelude.{◌&&◌, ◌==◌, if◌then◌else◌, not, Opti
 use Rattle.std.specs.Option.{option_map, option_map_or}
 use Rattle.std.specs.List.{AllByRecursion}
 use Rattle.std.proofs.lemmas.Bool.{and_from, and_parts, eqb-false, eqb-true, not-true}
-use Rattle.hac_model.specs.Tree.Asking.{are_all_told}
-use Rattle.hac_model.specs.Tree.Events.{added, asking, changed_in, changed_at, edited, forgetting, forgotten, indexed, is_bare, is_free, is_inside, is_made_holder, is_possible, is_unreferenced, marked, may_ask, may_mark, plain_body, removed, reseated, rewritten, is_placed, is_vacant}
-use Rattle.hac_model.specs.Tree.Depends.{cycle_of_move, cycle_over}
+use Rattle.hac_model.specs.Tree.Asking.{are_all_told, with_told}
+use Rattle.hac_model.specs.Tree.Events.{added, asking, can_have_mark, changed_in, changed_at, edited, forgetting, forgotten, indexed, is_bare, is_free, is_inside, is_made_holder, is_possible, is_unreferenced, marked, may_ask, may_mark, plain_body, removed, reseated, rewritten, is_placed, is_vacant}
+use Rattle.hac_model.specs.Tree.Depends.{cycle_of_mark, cycle_of_move, cycle_over}
 use Rattle.hac_model.specs.Query.Formula.{Formula}
-use Rattle.hac_model.specs.Tree.Limits.{first_passed, is_text, passed_limit, file_bytes}
+use Rattle.hac_model.specs.Tree.Limits.{are_answers_few, first_passed, is_text, passed_limit, file_bytes}
 use Rattle.hac_model.specs.Tree.Links.{is_item, is_semantic, parent_of}
 use Rattle.hac_model.specs.Tree.Names.{is_name}
 use Rattle.hac_model.specs.Tree.Sessions.{is_busy}
@@ -338,11 +338,12 @@ passed-forgotten s n h = measures-passed (forgetting n) s (forgetting-measures n
 
 -- What an event that is possible speaks of.
 
-pub smkdir-parts : (s : State) (dir : ℕ) (name : List ℕ) (query : Formula ℕ) (told : List (List ℕ)) → is_possible s (Smkdir dir name query told) ≡ true → (is_free s dir name ≡ true) × (may_ask s query ≡ true) × (are_all_told s query told s.entries ≡ true)
+pub smkdir-parts : (s : State) (dir : ℕ) (name : List ℕ) (query : Formula ℕ) (told : List (List ℕ)) → is_possible s (Smkdir dir name query told) ≡ true → (is_free s dir name ≡ true) × (may_ask s query ≡ true) × (are_all_told s query told s.entries ≡ true) × (are_answers_few (with_told query told s).entries ≡ true)
 smkdir-parts s dir name query told h =
-    let fits = and_parts (is_free s dir name) (may_ask s query && are_all_told s query told s.entries) h in
+    let few = and_parts (are_answers_few (with_told query told s).entries) (is_placed s (Smkdir dir name query told)) h in
+    let fits = and_parts (is_free s dir name) (may_ask s query && are_all_told s query told s.entries) few.1 in
     let asks = and_parts (may_ask s query) (are_all_told s query told s.entries) fits.1 in
-    (fits.0, asks.0, asks.1)
+    (fits.0, asks.0, asks.1, few.0)
 
 -- a directory that was made and is a holder
 made-parts : (s : State) (dir : ℕ) → is_made_holder s dir ≡ true → (is_made_directory s.entries dir ≡ true) × (is_mount_at s.entries dir ≡ false)
@@ -350,19 +351,21 @@ made-parts s dir h =
     let parts = and_parts (is_made_directory s.entries dir) (not (is_mount_at s.entries dir)) h in
     (parts.0, not-true (is_mount_at s.entries dir) parts.1)
 
-pub setq-parts : (s : State) (dir : ℕ) (query : Formula ℕ) (told : List (List ℕ)) → is_possible s (Setq dir query told) ≡ true → (is_made_directory s.entries dir ≡ true) × (may_ask s query ≡ true) × (cycle_over s dir (parent_of s dir) query ≡ None) × (are_all_told s query told s.entries ≡ true) × (is_mount_at s.entries dir ≡ false)
+pub setq-parts : (s : State) (dir : ℕ) (query : Formula ℕ) (told : List (List ℕ)) → is_possible s (Setq dir query told) ≡ true → (is_made_directory s.entries dir ≡ true) × (may_ask s query ≡ true) × (cycle_over s dir (parent_of s dir) query ≡ None) × (are_all_told s query told s.entries ≡ true) × (is_mount_at s.entries dir ≡ false) × (are_answers_few (with_told query told s).entries ≡ true)
 setq-parts s dir query told h =
-    let way = and_parts (is_none (cycle_over s dir (parent_of s dir) query)) (is_placed s (Setq dir query told)) h in
-    let fits = and_parts (is_made_holder s dir) (may_ask s query && are_all_told s query told s.entries) way.1 in
+    let clear = and_parts (is_none (cycle_over s dir (parent_of s dir) query) && are_answers_few (with_told query told s).entries) (is_placed s (Setq dir query told)) h in
+    let way = and_parts (is_none (cycle_over s dir (parent_of s dir) query)) (are_answers_few (with_told query told s).entries) clear.0 in
+    let fits = and_parts (is_made_holder s dir) (may_ask s query && are_all_told s query told s.entries) clear.1 in
     let asks = and_parts (may_ask s query) (are_all_told s query told s.entries) fits.1 in
     let made = made-parts s dir fits.0 in
-    (made.0, asks.0, none_from (cycle_over s dir (parent_of s dir) query) way.0, asks.1, made.1)
+    (made.0, asks.0, none_from (cycle_over s dir (parent_of s dir) query) way.0, asks.1, made.1, way.1)
 
-pub mark-parts : (s : State) (dir item : ℕ) (kind : Kind) → is_possible s (Mark (record { dir = dir; item = item; kind = kind })) ≡ true → (is_item s item ≡ true) × (is_semantic s dir ≡ true) × (may_mark s dir item kind ≡ true)
+pub mark-parts : (s : State) (dir item : ℕ) (kind : Kind) → is_possible s (Mark (record { dir = dir; item = item; kind = kind })) ≡ true → (can_have_mark s item kind ≡ true) × (is_semantic s dir ≡ true) × (may_mark s dir item kind ≡ true) × (cycle_of_mark s dir item kind ≡ None)
 mark-parts s dir item kind h =
-    let may = and_parts (may_mark s dir item kind) (is_item s item && is_semantic s dir) h in
-    let there = and_parts (is_item s item) (is_semantic s dir) may.1 in
-    (there.0, there.1, may.0)
+    let clear = and_parts (may_mark s dir item kind && is_none (cycle_of_mark s dir item kind)) (can_have_mark s item kind && is_semantic s dir) h in
+    let may = and_parts (may_mark s dir item kind) (is_none (cycle_of_mark s dir item kind)) clear.0 in
+    let there = and_parts (can_have_mark s item kind) (is_semantic s dir) clear.1 in
+    (there.0, there.1, may.0, none_from (cycle_of_mark s dir item kind) may.1)
 
 pub move-parts : (s : State) (entry dir : ℕ) (name : List ℕ) → is_possible s (Mv entry dir name) ≡ true → (is_some (entry_at s.entries entry) ≡ true) × (is_free s dir name ≡ true) × (is_inside s dir entry ≡ false) × (cycle_of_move s entry dir ≡ None) × (is_document_at s.entries entry ≡ false)
 move-parts s entry dir name h =

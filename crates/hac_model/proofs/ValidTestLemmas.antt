@@ -13,8 +13,8 @@ use Rattle.hac_model.specs.Script.PathWords.{is_target}
 use Rattle.hac_model.specs.Script.SpaceNames.{is_space_name}
 use Rattle.hac_model.specs.Tree.Depends.{Among, IsAcyclic, Leads, depends, reaches}
 use Rattle.hac_model.specs.Tree.Events.{may_ask}
-use Rattle.hac_model.specs.Tree.Limits.{is_text, passed_limit}
-use Rattle.hac_model.specs.Tree.Links.{has, is_item}
+use Rattle.hac_model.specs.Tree.Limits.{are_answers_few, is_text, passed_limit}
+use Rattle.hac_model.specs.Tree.Links.{can_be_added, has, is_item}
 use Rattle.hac_model.specs.Tree.Names.{is_name}
 use Rattle.hac_model.specs.Tree.Sessions.{are_few}
 use Rattle.hac_model.specs.Tree.{child, is_directory_at, query_in}
@@ -106,12 +106,12 @@ from-Decides : (bound : ℕ) (numbers : List ℕ) → Decides (do_rise_from boun
 from-Decides bound [] = (λ _. tt, λ _. refl)
 from-Decides bound (n ∷ ns) = Decides-and (nat_le bound n) (do_rise_from (n + 1) ns) (Decides-within bound n) (from-Decides (n + 1) ns)
 
-marks-Decides : (s : State) (numbers : List ℕ) → Decides (are_marks s numbers) (AreMarks s numbers)
-marks-Decides s numbers =
-    Decides-like (are_marks s numbers)
-    (λ h. record { rise = h.0; items = h.1 })
-    (λ h. (h.rise, h.items))
-    (Decides-and _ _ (from-Decides 0 numbers) (Decides-all (λ n. is_item s n) (λ n. IsTrue (is_item s n)) (λ n. Decides-test (is_item s n)) numbers))
+marks-Decides : (test : ℕ → Bool) (numbers : List ℕ) → Decides (are_marks test numbers) (AreMarks test numbers)
+marks-Decides test numbers =
+    Decides-like (are_marks test numbers)
+    (λ h. record { rise = h.0; there = h.1 })
+    (λ h. (h.rise, h.there))
+    (Decides-and _ _ (from-Decides 0 numbers) (Decides-all (λ n. test n) (λ n. IsTrue (test n)) (λ n. Decides-test (test n)) numbers))
 
 query-Decides : (s : State) (query : Formula ℕ) (permanent prohibited : List ℕ) → Decides (is_sound_query s query permanent prohibited) (IsSoundQuery s query permanent prohibited)
 query-Decides s query permanent prohibited =
@@ -119,8 +119,8 @@ query-Decides s query permanent prohibited =
     (λ h. record { fits = h.0.0.0; added = h.0.0.1; removed = h.0.1; apart = h.1 })
     (λ h. (((h.fits, h.added), h.removed), h.apart))
     (Decides-and _ _ (Decides-and _ _ (Decides-and _ _ (Decides-test (may_ask s query))
-    (marks-Decides s permanent))
-    (marks-Decides s prohibited))
+    (marks-Decides (can_be_added s) permanent))
+    (marks-Decides (is_item s) prohibited))
     (Decides-all (λ n. not (has prohibited n)) (λ n. has prohibited n ≡ false) (λ n. Decides-false (has prohibited n)) permanent))
 
 asks-Decides : (s : State) (body : Body) → Decides (asks_well s body) (AsksWell s body)
@@ -238,10 +238,11 @@ pub valid-Decides : (s : State) → Decides (is_valid s) (IsValid s)
 unfolding is_valid
 valid-Decides s =
     Decides-like (is_valid s)
-    (λ h. record { layout = h.0.0.0.0; queries = h.0.0.0.1; answers = h.0.0.1; acyclic = h.0.1; sessions = h.1 })
-    (λ h. ((((h.layout, h.queries), h.answers), h.acyclic), h.sessions))
-    (Decides-and _ _ (Decides-and _ _ (Decides-and _ _ (Decides-and _ _ (layout-Decides s)
+    (λ h. record { layout = h.0.0.0.0.0; queries = h.0.0.0.0.1; answers = h.0.0.0.1; few = h.0.0.1; acyclic = h.0.1; sessions = h.1 })
+    (λ h. (((((h.layout, h.queries), h.answers), h.few), h.acyclic), h.sessions))
+    (Decides-and _ _ (Decides-and _ _ (Decides-and _ _ (Decides-and _ _ (Decides-and _ _ (layout-Decides s)
     (Decides-all (λ e. asks_well s e.body) (λ e. AsksWell s e.body) (λ e. asks-Decides s e.body) s.entries))
     (Decides-all (λ e. keeps_well s e.number e.body) (λ e. KeepsWell s e.number e.body) (λ e. keeps-Decides s e.number e.body) s.entries))
+    (Decides-test (are_answers_few s.entries)))
     (acyclic-Decides s))
     (sessions-Decides s))

@@ -1,11 +1,11 @@
 -- A small state with a mount, proved to be valid, and a run from it: what a directory that queries a mount lists, what
--- may be done in a mount, and what has to ask its space. No space is attached.
+-- may be done in a mount, and what has to ask its space, which isn't attached; and a run in which one is.
 use Rattle.std.specs.Prelude.{◌≡◌, true, false, [], ◌∷◌, codes}
 use Rattle.hac_model.specs.Tree.Events.{accepted, apply}
 use Rattle.hac_model.specs.declared.events.Event.TheVariants.{Smount, Ssync, Sumount}
 use Rattle.hac_model.specs.Laws.{lines_text}
 use Rattle.hac_model.specs.Query.Formula as query
-use Rattle.hac_model.specs.Run.Play.{new_setting, nothing_given, play, turns_text}
+use Rattle.hac_model.specs.Run.Play.{given_spaces, new_setting, nothing_given, play, turns_text}
 use Rattle.hac_model.specs.Tree.ValidTest.{is_valid}
 use Rattle.hac_model.specs.declared.states.Body.TheVariants.{Document, Mount, Semantic}
 use Rattle.hac_model.specs.declared.states.State.{State}
@@ -103,6 +103,17 @@ FirstMounts =
     ∷ codes "ok" ∷ codes "o /m/one" ∷ codes "o /m/two" ∷ codes "ok"
     ∷ codes "ok" ∷ codes "p /m/one" ∷ codes "t /m/three" ∷ codes "ok"
     ∷ codes "= files 0 documents 3 directories 0 semantic 2 mounts 1 symbolic 0 transient 2 permanent 1 prohibited 1 dirty 0 next 7" ∷ codes "ok" ∷ [])
+
+-- the space is attached: it is mounted and asked, its documents are linked, read and found, a sync that finds nothing new
+-- leaves them, and they go with their mount
+abbrev pub AttachedMounts : Type 0
+AttachedMounts =
+    turns_text (play (given_spaces ((codes "lib", (codes "one", codes "apple pie") ∷ (codes "two", codes "pear") ∷ []) ∷ [])) new_setting (lines_text (
+    codes "smkdir /s apple" ∷ codes "smount /m none" ∷ codes "smount /m lib" ∷ codes "sls /s" ∷ codes "cat /m/one" ∷ codes "find pear"
+    ∷ codes "setq /s pear" ∷ codes "sls /s" ∷ codes "ssync /m" ∷ codes "sls /s" ∷ codes "sumount /m" ∷ codes "sls /s" ∷ [])))
+    ≡ lines_text (
+    codes "ok" ∷ codes "no no-space none" ∷ codes "ok" ∷ codes "t /m/one" ∷ codes "ok" ∷ codes "= apple pie" ∷ codes "ok" ∷ codes "o /m/two" ∷ codes "ok"
+    ∷ codes "ok" ∷ codes "t /m/two" ∷ codes "ok" ∷ codes "ok" ∷ codes "t /m/two" ∷ codes "ok" ∷ codes "ok" ∷ codes "ok" ∷ [])
 
 -- nothing is put into a mount or taken out of it, and what has to ask its space is refused
 abbrev pub MountsRefuse : Type 0

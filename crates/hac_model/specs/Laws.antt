@@ -1,5 +1,5 @@
 -- Theorems over the definitions, each proved as the contract of a function of the module `laws`.
-use Rattle.std.specs.Prelude.{true, false, ◌≡◌, ⊤, ℕ, zero, suc, ◌≤◌, ◌+◌, length, nat_lt, List, [], ◌∷◌, ◌++◌, map, None, Some, Ok, IsTrue, is_some, codes}
+use Rattle.std.specs.Prelude.{true, false, ◌≡◌, ⊤, ℕ, zero, suc, ◌≤◌, ◌+◌, ◌||◌, length, nat_lt, List, [], ◌∷◌, ◌++◌, map, None, Some, Ok, IsTrue, is_some, codes}
 use Rattle.std.specs.List.{AllByRecursion, flat_map, position_or_len}
 use Rattle.hac_model.specs.Tree.Bare.{bare}
 use Rattle.hac_model.specs.Bytes.{is_line_end}
@@ -9,7 +9,7 @@ use Rattle.hac_model.specs.Tree.Events.{accepted, apply, apply_all, dirty, renam
 use Rattle.hac_model.specs.Tree.Facts.{facts_after, facts_of}
 use Rattle.hac_model.specs.Script.LineWords.{first_word, in_quotes, is_word_end, quoted_word}
 use Rattle.hac_model.specs.Script.Lines.{Item, is_spelled_line, item_of}
-use Rattle.hac_model.specs.Tree.Links.{column, found_by, has, is_below, is_permanent, is_prohibited, is_semantic, is_judged, links, provide, round}
+use Rattle.hac_model.specs.Tree.Links.{DirLinks, column, found_by, has, is_below, is_item, is_permanent, is_prohibited, is_semantic, is_judged, lenders, links, provide, round, transient_at}
 use Rattle.hac_model.specs.Tree.Kinds as kinds
 use Rattle.hac_model.specs.Tree.Looks.{look, plain, destination}
 use Rattle.hac_model.specs.Script.Printed.{ended}
@@ -22,7 +22,7 @@ use Rattle.hac_model.specs.Run.Resolving.{resolve}
 use Rattle.hac_model.specs.Script.{due, whole}
 use Rattle.hac_model.specs.Tree.Sessions.{is_stored, sessions_after, stored}
 use Rattle.hac_model.specs.Payload.Payloads.{is_spellable}
-use Rattle.hac_model.specs.Payload.States.{are_mounts_small, is_spellable_snapshot, snapshot_of}
+use Rattle.hac_model.specs.Payload.States.{is_spellable_snapshot, snapshot_of}
 use Rattle.hac_model.specs.Run.Play.{Given, Setting, all_events, end_after, given_behind, left_by, new_setting, no_answers, nothing_given, play, ticking, turns, turns_text}
 use Rattle.hac_model.specs.Script.Texts.{escaped_text, text_of}
 use Rattle.hac_model.specs.Tree.{empty, entry_at, is_symlink_at, path_of}
@@ -145,9 +145,9 @@ EventsEnd =
 abbrev pub AcceptedAreSpelled : Type 0
 AcceptedAreSpelled = (s : State) (event : Event) → IsValid s → IsTrue (is_stored event) → IsTrue (accepted s event) → IsTrue (is_spellable event)
 
--- what is stored of a valid state has a spelling, where no mount is too large
+-- what is stored of a valid state has a spelling
 abbrev pub ValidAreSpelled : Type 0
-ValidAreSpelled = (s : State) → IsValid s → IsTrue (are_mounts_small s.entries) → IsTrue (is_spellable_snapshot (snapshot_of s))
+ValidAreSpelled = (s : State) → IsValid s → IsTrue (is_spellable_snapshot (snapshot_of s))
 
 -- where sessions stand is never stored: what can happen to a state and is stored can happen to what is stored of it,
 -- and leads to what is stored of the outcome
@@ -162,7 +162,7 @@ LinksStay = (s : State) → IsAcyclic s → round s (links s) ≡ links s
 
 -- and no others stay so
 abbrev pub LinksAreOnly : Type 0
-LinksAreOnly = (s : State) → IsAcyclic s → (known : ℕ → List ℕ) → round s known ≡ known → known ≡ links s
+LinksAreOnly = (s : State) → IsAcyclic s → (known : ℕ → DirLinks) → round s known ≡ known → known ≡ links s
 
 -- in a valid state no directory depends on itself
 abbrev pub ValidIsAcyclic : Type 0
@@ -200,7 +200,7 @@ MarksGo =
 -- what is found in a directory is a document or was indexed, and the user neither added nor removed it there
 abbrev pub LinksAreUnmarked : Type 0
 LinksAreUnmarked =
-    (s : State) (dir item : ℕ) → IsValid s → has (links s dir) item ≡ true →
+    (s : State) (dir item : ℕ) → IsValid s → has (transient_at s dir) item ≡ true →
     (is_judged s item ≡ true) × (is_permanent s dir item ≡ false) × (is_prohibited s dir item ≡ false)
 
 -- what a query finds anywhere is a document or was indexed
@@ -210,12 +210,20 @@ FoundAreIndexed = (s : State) (query : Formula ℕ) (item : ℕ) → has (found_
 -- a directory provides what the user added to it
 abbrev pub AddedAreProvided : Type 0
 AddedAreProvided =
-    (s : State) (dir item : ℕ) → is_semantic s dir ≡ true → is_permanent s dir item ≡ true → provide s (column (links s) item) dir item ≡ true
+    (s : State) (dir item : ℕ) → is_semantic s dir ≡ true → is_permanent s dir item ≡ true → is_item s item ≡ true →
+    provide s (column (links s) item) dir item ≡ true
 
--- and what the user removed from it only if it is stored below it
+-- and all that a directory provides which the user added to it
+abbrev pub LentAreProvided : Type 0
+LentAreProvided =
+    (s : State) (dir lender item : ℕ) → IsValid s → is_semantic s dir ≡ true → has (lenders s dir) lender ≡ true → is_item s item ≡ true →
+    provide s (column (links s) item) lender item ≡ true → provide s (column (links s) item) dir item ≡ true
+
+-- and what the user removed from it only if it is stored below it or lent to it
 abbrev pub RemovedAreNotProvided : Type 0
 RemovedAreNotProvided =
-    (s : State) (dir item : ℕ) → IsValid s → is_prohibited s dir item ≡ true → provide s (column (links s) item) dir item ≡ is_below s dir item
+    (s : State) (dir item : ℕ) → IsValid s → is_prohibited s dir item ≡ true →
+    provide s (column (links s) item) dir item ≡ (is_below s dir item || has (links s dir).lent item)
 
 -- valid states that show the same tree, and would go on with the same number, are equal
 abbrev pub PlainTellsState : Type 0
@@ -288,6 +296,19 @@ MovedListings =
     ∷ codes "ok" ∷ codes "ok" ∷ codes "t /d/e" ∷ codes "ok" ∷ codes "ok" ∷ codes "ok"
     ∷ codes "t /d/s/g" ∷ codes "ok" ∷ codes "= red apple" ∷ codes "ok" ∷ codes "d d" ∷ codes "d h" ∷ codes "ok"
     ∷ codes "f e" ∷ codes "s s" ∷ codes "ok" ∷ codes "f g" ∷ codes "s t" ∷ codes "ok" ∷ [])
+
+-- a directory that was added to a semantic one lends it what it provides, as long as it is there, and can't be removed. None
+-- is added to one on which it depends.
+abbrev pub LentListings : Type 0
+LentListings =
+    turns_text (play nothing_given new_setting (lines_text (
+    codes "smkdir /fp apple" ∷ codes "mkdir /x" ∷ codes "write /x/y zebra" ∷ codes "index" ∷ codes "sln /x /fp"
+    ∷ codes "smkdir /fp/c zebra" ∷ codes "sls /fp" ∷ codes "sls /fp/c" ∷ codes "sln /x /fp" ∷ codes "sln /fp/c /fp" ∷ codes "rm /x/y"
+    ∷ codes "rmdir /x" ∷ codes "sforget /x /fp" ∷ codes "sls /fp/c" ∷ codes "rmdir /x" ∷ codes "srm / /fp" ∷ codes "sln / /fp" ∷ [])))
+    ≡ lines_text (
+    codes "ok" ∷ codes "ok" ∷ codes "ok" ∷ codes "ok" ∷ codes "ok"
+    ∷ codes "ok" ∷ codes "p /x" ∷ codes "ok" ∷ codes "t /x/y" ∷ codes "ok" ∷ codes "no already /x" ∷ codes "no cycle /fp/c" ∷ codes "ok"
+    ∷ codes "no referenced /fp" ∷ codes "ok" ∷ codes "ok" ∷ codes "ok" ∷ codes "no not-file /" ∷ codes "ok" ∷ [])
 
 -- a symbolic link leads on from its directory, in the middle of a path and at its end; it is moved and removed itself.
 -- Links that lead to one another are a loop.

@@ -1,7 +1,8 @@
 //! Theorems over the definitions alone. Each is the contract of a function that does nothing.
 ghost use Rattle.hac_model.specs.Laws.{MarksAreSet, MarksStay, QueriesLeaveMarks, MarksGo};
 ghost use Rattle.hac_model.specs.Laws.{LinksAreUnmarked, FoundAreIndexed, AddedAreProvided};
-ghost use Rattle.hac_model.specs.Laws.{RemovedAreNotProvided, ScriptsJoin, WholeIsLines};
+ghost use Rattle.hac_model.specs.Laws.{LentAreProvided, RemovedAreNotProvided, ScriptsJoin};
+ghost use Rattle.hac_model.specs.Laws.{WholeIsLines};
 ghost use Rattle.hac_model.specs.Laws.{WholeIsFront, WholeIsLongest, EmptyIsValid, EventsKeepValid};
 ghost use Rattle.hac_model.specs.Laws.{BareCommutes, FactsFollow, SessionsFollow, PartsTellState};
 ghost use Rattle.hac_model.specs.Laws.{LinesSpell};
@@ -12,9 +13,11 @@ ghost use Rattle.hac_model.specs.Laws.{FirstCommandLines, NoCommandLines, LinksS
 ghost use Rattle.hac_model.specs.Laws.{ValidIsAcyclic, PlainTellsState, LooksFind, LooksFollow, LooksTell};
 ghost use Rattle.hac_model.specs.Laws.{MovesRename, PrintedTextIsRead, PrintedTextIsOneLine};
 ghost use Rattle.hac_model.specs.Laws.{QuotedWordIsRead, QuotesAreOneSpelling, FirstListings};
-ghost use Rattle.hac_model.specs.FirstMounts.{FalseIsNotTold, FirstMounts, LibraryIsValid};
+ghost use Rattle.hac_model.specs.FirstMounts.{AttachedMounts, FalseIsNotTold, FirstMounts};
+ghost use Rattle.hac_model.specs.FirstMounts.{LibraryIsValid};
 ghost use Rattle.hac_model.specs.FirstMounts.{MountsCome, MountsGo, MountsRefuse, SyncsKeepNumbers};
-ghost use Rattle.hac_model.specs.Laws.{MovedListings, FirstLinks, FirstSteps, ValidityIsTested};
+ghost use Rattle.hac_model.specs.Laws.{MovedListings, LentListings, FirstLinks, FirstSteps};
+ghost use Rattle.hac_model.specs.Laws.{ValidityIsTested};
 
 /// Two joined scripts are played one after the other, where the first one consists of whole lines,
 /// each with its end and the bytes that belong to it. No line looks further ahead, and none looks
@@ -93,7 +96,7 @@ pub fn accepted_events_are_spelled()
     ensures { AcceptedAreSpelled }
 {}
 
-/// What is stored of a valid state has a spelling, where no mount is too large.
+/// What is stored of a valid state has a spelling.
 pub fn valid_states_are_spelled()
     ensures { ValidAreSpelled }
 {}
@@ -120,12 +123,14 @@ pub fn marks_are_kept()
     ensures go { MarksGo }
 {}
 
-/// What is found was indexed, and the user said nothing of it. A directory provides what the user
-/// added to it, and what the user removed from it only from below.
+/// What is found was indexed, and the user said nothing of it. A directory provides the items that
+/// the user added to it, and all that the directories provide that the user added; and what the user
+/// removed from it only if it is stored below it or lent to it.
 pub fn links_respect_marks()
     ensures unmarked { LinksAreUnmarked }
     ensures found { FoundAreIndexed }
     ensures added { AddedAreProvided }
+    ensures lent { LentAreProvided }
     ensures removed { RemovedAreNotProvided }
 {}
 
@@ -171,16 +176,23 @@ pub fn moved_listings()
     ensures { MovedListings }
 {}
 
+/// A run with a directory that a user adds to a semantic one, and removes from it again.
+pub fn lent_listings()
+    ensures { LentListings }
+{}
+
 /// A run with symbolic links: relative ones, one that is moved, one that leads nowhere, and a loop.
 pub fn first_links()
     ensures { FirstLinks }
 {}
 
 /// A valid state with a mount, and runs from it: documents are found, linked and moved with their
-/// mount, nothing is put into it, and what has to ask its space is refused.
+/// mount, nothing is put into it, and what has to ask its space is refused. And a run with a space
+/// attached, which is mounted, synced and asked.
 pub fn first_mounts()
     ensures valid { LibraryIsValid }
     ensures run { FirstMounts }
+    ensures attached { AttachedMounts }
     ensures refuse { MountsRefuse }
     ensures come { MountsCome }
     ensures sync { SyncsKeepNumbers }

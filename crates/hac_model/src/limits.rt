@@ -62,6 +62,12 @@ pub const SESSIONS_LIMIT: u64 = 64;
 /// The most documents of one mount.
 pub const DOCS_LIMIT: u64 = 10_000;
 
+/// The most documents in all kept answers together, each counted once for each answer that names it.
+pub const ANSWERS_LIMIT: u64 = 4_194_304;
+
+/// The most kept answers: pairs of a mount and a term.
+pub const PAIRS_LIMIT: u64 = 65_536;
+
 /// The most files and documents.
 pub const ITEMS_LIMIT: u64 = 65_536;
 
@@ -102,7 +108,7 @@ pub enum LimitWord {
     Mounts,
     /// Symbolic links.
     Symlinks,
-    /// Names in the path of an entry.
+    /// Names in the path of an entry. A mount counts one more, for the documents that it may get.
     Path,
     /// Sessions that are in a directory other than the root.
     Sessions,

@@ -16,7 +16,7 @@ use Rattle.hac_model.specs.declared.states.Entry.{Entry}
 use Rattle.hac_model.specs.declared.states.State.{State}
 use Rattle.hac_model.proofs.TreeLemmas.{entry_at-all, entry_at-low, entry_at-number}
 use Rattle.set_pool.specs.Rising as items
-use Rattle.link_kinds.specs.Kinds.{Lists, with_kind}
+use Rattle.link_kinds.specs.Kinds.{Lists, without_item}
 use Rattle.link_kinds.specs.Seen.{DropsItem, Known, SameLinks, lists_in}
 use Rattle.link_kinds.proofs.HasLemmas.{eqb-turned}
 use Rattle.link_kinds.proofs.PutLemmas.{removed-without}
@@ -43,8 +43,8 @@ none-without : (p : ℕ → Bool) → ((m : ℕ) → p m ≡ false) → (xs : Li
 none-without p none [] = refl
 none-without p none (x ∷ xs) = let stays = none x in rw stays (ap (λ (rest : List ℕ). x ∷ rest) (none-without p none xs))
 
-lists-fused : (n : ℕ) (p q : ℕ → Bool) → ((m : ℕ) → q m ≡ ((n == m) || p m)) → (lists : Lists) → lists_without p (with_kind Unlinked n lists) ≡ lists_without q lists
-lists-fused n p q is lists = λ i. record { transient = one lists.transient i; permanent = one lists.permanent i; prohibited = one lists.prohibited i }
+lists-fused : (n : ℕ) (p q : ℕ → Bool) → ((m : ℕ) → q m ≡ ((n == m) || p m)) → (lists : Lists) → lists_without p (without_item n lists) ≡ lists_without q lists
+lists-fused n p q is lists = λ i. record { transient = one lists.transient i; permanent = one lists.permanent i; prohibited = one lists.prohibited i; lent = one lists.lent i }
   where
     one : (xs : List ℕ) → numbers_without p (items.removed n xs) ≡ numbers_without q xs
     one xs = ap (numbers_without p) (removed-without n xs) ∙ without-fused n p q is xs
@@ -93,6 +93,7 @@ forgetting-ends s dir test old new h d =
       transient = none-without (left test []) (λ m. refl) lists.transient i;
       permanent = none-without (left test []) (λ m. refl) lists.permanent i;
       prohibited = none-without (left test []) (λ m. refl) lists.prohibited i;
+      lent = none-without (left test []) (λ m. refl) lists.lent i;
     })
     ∙ h.lists d
 

@@ -11,7 +11,7 @@ use Rattle.hac_model.specs.Tree.Facts.{Facts, facts_at, filled, filled_entry}
 use Rattle.hac_model.specs.Tree.Links.{answers_at}
 use Rattle.hac_model.specs.Tree.Mounting.{answers_to, are_told, is_told}
 use Rattle.hac_model.specs.Tree.Valid.{NumbersRise}
-use Rattle.hac_model.specs.Tree.{entry_at, is_mount, is_mount_at}
+use Rattle.hac_model.specs.Tree.{entry_at, is_directory_at, is_mount, is_mount_at}
 use Rattle.hac_model.specs.declared.states.Answer.{Answer}
 use Rattle.hac_model.specs.declared.states.Body.{Body}
 use Rattle.hac_model.specs.declared.states.Body.TheVariants.{File, Dir, Symlink, Semantic, Mount, Document}
@@ -315,7 +315,7 @@ module _ (kept : Parts) (h : IsLinked kept) (query : Formula ℕ) (told : List (
       gains more = sym (g.rest n more) ∙ ap (λ (from : ℕ). gained k' query left (rest_from from t'.entries) n) end ∙ ap (λ (es : List Entry). gained k' query left es n) (rest-none 0 t'.next t'.entries rise)
 
       keeps : number ≤ n → k' n ≡ []
-      keeps more = ap (λ (facts : Facts). facts.answers) (sym (h.own n)) ∙ ap (λ (o : Option Entry). (facts_at o).answers) (entry_at-next 0 (state_of kept).entries (state_of kept).next n h.valid.layout.numbers (omega (arith, more, end)))
+      keeps more = ap (λ (facts : Facts). facts.answers) (sym (h.own n)) ∙ ap (λ (o : Option Entry). (facts_at (is_directory_at (state_of kept).entries) o).answers) (entry_at-next 0 (state_of kept).entries (state_of kept).next n h.valid.layout.numbers (omega (arith, more, end)))
 
       none : number ≤ n → answers_then k' query told t' n ≡ []
       none more = (λ i. with_answers (gains more i) (keeps more i))

@@ -1,19 +1,22 @@
 -- The tree, the marks, the answers and the graph go on to be those of one valid state.
-use Rattle.std.proofs.Common.{◌≡◌, ℕ, Bool, true, false, cond, List, [], ◌∷◌, subst, refl, ap, sym, ◌∙◌}
-use Rattle.std.specs.Prelude.{◌==◌, ◌||◌, Option, Some, None, is_some, IsTrue}
-use Rattle.std.specs.Option.{option_map_or}
+use Rattle.std.proofs.Common.{◌≡◌, ℕ, Bool, true, false, cond, List, [], ◌∷◌, ◌++◌, subst, refl, ap, sym, ◌∙◌}
+use Rattle.std.specs.Prelude.{◌==◌, ◌||◌, Option, Some, None, filter, is_some, IsTrue}
+use Rattle.std.specs.Option.{option_map, option_map_or}
 use Rattle.std.proofs.lemmas.Bool.{eqb-true}
 use Rattle.hac_model.specs.Laws.{AllHappen}
 use Rattle.hac_model.specs.Tree.Depends.{depends, named_in}
 use Rattle.hac_model.specs.Tree.Events.{accepted, apply}
-use Rattle.hac_model.specs.Tree.Facts.{Facts, Marks, bare_after, facts_after, facts_of, joined}
+use Rattle.hac_model.specs.Tree.Facts.{Facts, Marks, bare_after, edges_to, facts_after, facts_at, facts_of, joined}
 use Rattle.hac_model.specs.Query.Formula.{Formula}
 use Rattle.hac_model.specs.Tree.Limits.{counts}
-use Rattle.hac_model.specs.Tree.Links.{is_semantic, parent_of, query_at}
+use Rattle.hac_model.specs.Tree as tree
+use Rattle.hac_model.specs.Tree.{entry_at, is_directory_at}
+use Rattle.hac_model.specs.Tree.Links.{is_semantic, lenders, parent_of, permanent_at, query_at}
 use Rattle.hac_model.specs.Tree.Sessions.{is_stored, sessions_after}
 use Rattle.hac_model.specs.Tree.Valid.{IsLayout, IsValid}
 use Rattle.hac_model.specs.declared.counts.Counts.{Counts}
 use Rattle.hac_model.specs.declared.events.Event.{Event}
+use Rattle.hac_model.specs.declared.states.Entry.{Entry}
 use Rattle.hac_model.specs.declared.states.State.{State}
 use Rattle.hac_model.proofs.AcyclicLemmas.{apply-valid}
 use Rattle.hac_model.proofs.FactLemmas.{edges-told}
@@ -25,20 +28,25 @@ use Rattle.link_kinds.specs.Kinds.{Lists}
 use Rattle.link_kinds.specs.Seen.{has_sets, lists_in, permanent_in, prohibited_in}
 use Rattle.kept_state.specs.Answers.{answers_kept}
 use Rattle.kept_state.specs.Kept.{IsKept}
-use Rattle.kept_state.specs.Parts.{AreAlike, IsLinked, facts_kept, state_of}
+use Rattle.kept_state.specs.Parts.{AreAlike, IsLinked, edges_then, facts_kept, state_of}
 use Rattle.kept_state.specs.Ready.{IsCommitted, IsReady, CanCommit, IsPreparedFor, ready_events}
 use Rattle.kept_state.specs.declared.parts.Parts.{Parts}
 use Rattle.kept_state.specs.declared.ready.Ready.{Ready}
 use Rattle.kept_state.specs.declared.ready.Ready.TheVariants.{Change}
-use Rattle.kept_state.proofs.StateLemmas.{kept-bares, same-counts, same-next-bare, same-semantic}
+use Rattle.kept_state.proofs.StateLemmas.{kept-bares, same-counts, same-directory, same-next-bare, same-parent, same-query, same-semantic}
 
--- lists of these marks, in which no link was found
+-- The marks of a state are in its facts.
+
+pub permanent-fact : (s : State) (n : ℕ) → permanent_at s n ≡ (facts_of s n).marks.permanent
+permanent-fact s n = elim (entry_at s.entries n) as (λ (o : Option Entry). option_map_or tree.permanent_in (option_map (λ (e : Entry). e.body) o) [] ≡ (facts_at (is_directory_at s.entries) o).marks.permanent) [ None ↦ refl | Some e ↦ refl ]
+
+-- lists of these marks, in which no link was found and nothing is lent
 abbrev pub unfound : Marks → Lists
-unfound marks = record { transient = []; permanent = marks.permanent; prohibited = marks.prohibited }
+unfound marks = record { transient = []; permanent = marks.permanent; prohibited = marks.prohibited; lent = [] }
 
 module _ (kept : Parts) (h : IsLinked kept) where
   pub kept-lists : (n : ℕ) → lists_in kept.marks n ≡ unfound (facts_kept kept n).marks
-  kept-lists n = λ i. record { transient = h.found n i; permanent = permanent_in kept.marks n; prohibited = prohibited_in kept.marks n }
+  kept-lists n = λ i. record { transient = h.found n i; permanent = permanent_in kept.marks n; prohibited = prohibited_in kept.marks n; lent = h.lent n i }
 
   -- the same, where one number has other facts, but no other marks
   pub lists-still : (k : ℕ) (new : Facts) (n : ℕ) → new.marks ≡ (facts_kept kept k).marks → lists_in kept.marks n ≡ unfound (cond (n == k) new (facts_kept kept n)).marks
@@ -60,6 +68,24 @@ module _ (kept : Parts) (h : IsLinked kept) where
   pub kept-edges : (n : ℕ) → edges_of kept.graph n ≡ depends (state_of kept) n
   kept-edges n = sym (edges-told (state_of kept) n ∙ ap (λ (facts : Facts). facts.edges) (h.own n))
 
+  -- the permanent items and directories are those that are kept, and so are those among them that lend
+  pub kept-permanent : (n : ℕ) → permanent_at (state_of kept) n ≡ permanent_in kept.marks n
+  kept-permanent n = permanent-fact (state_of kept) n ∙ ap (λ (facts : Facts). facts.marks.permanent) (h.own n)
+
+  same-directories : is_directory_at (state_of kept).entries ≡ is_directory_at kept.tree.state.entries
+  same-directories = λ i d. same-directory (state_of kept) kept.tree.state (kept-bares kept) d i
+
+  pub kept-lenders : (n : ℕ) → lenders (state_of kept) n ≡ filter (is_directory_at kept.tree.state.entries) (permanent_in kept.marks n)
+  kept-lenders n = λ i. filter (same-directories i) (kept-permanent n i)
+
+  -- what the graph has, by the tree and the marks
+  pub own-edges : (n : ℕ) → edges_of kept.graph n ≡ edges_then kept n (parent_of kept.tree.state n) (query_at kept.tree.state n)
+  own-edges n =
+      let s = state_of kept in
+      let t = kept.tree.state in
+      kept-edges n
+      ∙ (λ i. edges_to (same-directories i) (same-parent s t (kept-bares kept) n i) (same-query s t (kept-bares kept) n i) (kept-permanent n i))
+
 -- where only what each part is ready for changed, all else is as before
 module _ (old new : Parts) (same : AreAlike old new) where
   alike-facts : (n : ℕ) → facts_kept new n ≡ facts_kept old n
@@ -73,6 +99,7 @@ module _ (old new : Parts) (same : AreAlike old new) where
     valid = subst (λ (s : State). IsValid s) (sym alike-state) h.valid;
     own = λ n. ap (λ (s : State). facts_of s n) alike-state ∙ h.own n ∙ sym (alike-facts n);
     found = λ d. ap (λ (lists : Lists). lists.transient) (same.kinds d) ∙ h.found d;
+    lent = λ d. ap (λ (lists : Lists). lists.lent) (same.kinds d) ∙ h.lent d;
     sets = λ d has. ap (λ (s : State). is_semantic s d) alike-state ∙ either (has_sets old.marks d) d refl (same.sets d has);
     alone = ap (λ (s : State). s.sessions) same.state ∙ h.alone;
   }
@@ -91,7 +118,7 @@ has_edges (edge ∷ edges) = true
 semantic-edges : (s : State) (n : ℕ) (facts : Facts) → facts_of s n ≡ facts → is_semantic s n ≡ has_edges facts.edges
 semantic-edges s n facts are = told (query_at s n) ∙ ap has_edges (edges-told s n ∙ ap (λ (facts : Facts). facts.edges) are)
   where
-    told : (asked : Option (Formula ℕ)) → is_some asked ≡ has_edges (option_map_or (λ q. parent_of s n ∷ named_in q) asked [])
+    told : (asked : Option (Formula ℕ)) → is_some asked ≡ has_edges (option_map_or (λ q. parent_of s n ∷ named_in q ++ lenders s n) asked [])
     told None = refl
     told (Some q) = refl
 
@@ -149,6 +176,7 @@ module _ (kept new : Parts) (event : Event) (h : IsLinked kept) (ok : IsTrue (ac
       own = own;
       sets = λ n has. semantic-edges (state_of new) n (now n) (own n ∙ facts n) ∙ sets n has;
       found = λ d. ap (λ (lists : Lists). lists.transient) (marks d);
+      lent = λ d. ap (λ (lists : Lists). lists.lent) (marks d);
       alone = ap (λ (s : State). s.sessions) tree ∙ tree-sessions event kept.tree.state ∙ h.alone;
     };
   }

@@ -1,6 +1,7 @@
 pub mod KeptLemmas
 pub mod ReadyLemmas
 pub mod PutLemmas
+pub mod LenderLemmas
 pub mod MountPutLemmas
 pub mod StateLemmas
 pub mod AnswerLemmas
@@ -13,4 +14,6 @@ pub mod ToldLemmas
 pub mod NameLemmas
 pub mod ForgetLemmas
 pub mod ReachLemmas
+pub mod RoomLemmas
+pub mod FewLemmas
 pub mod ReaderLemmas

@@ -138,7 +138,7 @@ mount-put kept h dir name space documents told ok tree answered is replaces =
 mount-facts : (s : State) (n : ℕ) → is_mount_at s.entries n ≡ true → ((facts_of s n).marks ≡ no_marks) × ((facts_of s n).edges ≡ [])
 mount-facts s n h = at (entry_at s.entries n) h
   where
-    body-facts : (dir : ℕ) (body : Body) → is_mount body ≡ true → ((facts_in dir body).marks ≡ no_marks) × ((facts_in dir body).edges ≡ [])
+    body-facts : (dir : ℕ) (body : Body) → is_mount body ≡ true → ((facts_in (is_directory_at s.entries) dir body).marks ≡ no_marks) × ((facts_in (is_directory_at s.entries) dir body).edges ≡ [])
     body-facts dir (Mount space answers) h = (refl, refl)
     body-facts dir (File text dirty shown) h = absurd cc
     body-facts dir Dir h = absurd cc
@@ -146,7 +146,7 @@ mount-facts s n h = at (entry_at s.entries n) h
     body-facts dir (Semantic query permanent prohibited) h = absurd cc
     body-facts dir Document h = absurd cc
 
-    at : (o : Option Entry) → option_map_or is_mount (option_map (λ (e : Entry). e.body) o) false ≡ true → ((facts_at o).marks ≡ no_marks) × ((facts_at o).edges ≡ [])
+    at : (o : Option Entry) → option_map_or is_mount (option_map (λ (e : Entry). e.body) o) false ≡ true → ((facts_at (is_directory_at s.entries) o).marks ≡ no_marks) × ((facts_at (is_directory_at s.entries) o).edges ≡ [])
     at None h = absurd cc
     at (Some e) h = body-facts e.parent e.body h
 

@@ -4,15 +4,16 @@ use Rattle.std.specs.Prelude.{◌==◌, ◌&&◌, not, Option, Some, None, is_so
 use Rattle.std.specs.Option.{option_map, option_map_or}
 use Rattle.std.proofs.Math.Bool.{and-false, and-true}
 use Rattle.std.proofs.lemmas.Bool.{and_parts, eqb-true}
+use Rattle.std.proofs.lemmas.List.{append-nil}
 use Rattle.hac_model.specs.Tree.Depends.{named_in}
 use Rattle.hac_model.specs.Tree.Events.{accepted, added, asking, changed_at, edited, may_mark, removed, reseated}
 use Rattle.hac_model.specs.Tree.Asking.{with_answers}
-use Rattle.hac_model.specs.Tree.Facts.{Facts, Marks, bare_after, edges_to, facts_after, facts_at, facts_told, no_facts, with_mark}
+use Rattle.hac_model.specs.Tree.Facts.{Facts, Marks, bare_after, edges_to, facts_after, facts_at, facts_told, facts_with, no_facts, with_mark}
 use Rattle.hac_model.specs.Query.Formula.{Formula}
 use Rattle.hac_model.specs.Tree.Limits.{is_text}
-use Rattle.hac_model.specs.Tree.Links.{parent_of, query_at}
+use Rattle.hac_model.specs.Tree.Links.{is_semantic, parent_of, query_at}
 use Rattle.hac_model.specs.Tree.Sessions.{sessions_after}
-use Rattle.hac_model.specs.Tree.{body_at, entry_at, is_directory, is_file_at, is_leaf, is_mount, is_mount_at}
+use Rattle.hac_model.specs.Tree.{body_at, entry_at, is_directory, is_directory_at, is_file_at, is_leaf, is_mount, is_mount_at}
 use Rattle.hac_model.specs.declared.events.Event.{Event}
 use Rattle.hac_model.specs.declared.events.Event.TheVariants as event
 use Rattle.hac_model.specs.declared.marks.Kind.{Kind}
@@ -27,22 +28,21 @@ use Rattle.hac_model.proofs.TreeLemmas.{entry_at-next}
 use Rattle.hac_model.proofs.ValidLemmas.{mark-parts, move-parts, rmdir-parts, setq-parts}
 use Rattle.dep_graph.specs.Graphs as graph
 use Rattle.dep_graph.specs.Graphs.{edges_of, replaced}
-use Rattle.dep_graph.specs.declared.graph.NewEdges.{NewEdges}
 use Rattle.file_tree.specs.Seen as tree
 use Rattle.set_pool.specs.Rising as items
-use Rattle.link_kinds.specs.Kinds.{no_lists, with_kind}
+use Rattle.link_kinds.specs.Kinds.{no_lists, with_kind, without_item}
 use Rattle.link_kinds.specs.Seen.{ChangesDir, DropsItem, Known, LinkListsRise, SameLinks, has_sets, lists_in, permanent_in, prohibited_in, transient_in}
 use Rattle.link_kinds.proofs.PutLemmas.{inserted-put, removed-without}
 use Rattle.kept_state.specs.Answers.{Answered, answers_kept, answers_with}
 use Rattle.kept_state.specs.Gains.{AreGains, answers_then}
-use Rattle.kept_state.specs.Parts.{AreEdges, AreMovedEdges, IsLinked, facts_kept, state_of}
+use Rattle.kept_state.specs.Parts.{IsLinked, edges_marked, edges_then, facts_kept, state_of}
 use Rattle.kept_state.specs.Ready.{IsCommitted}
 use Rattle.kept_state.specs.declared.parts.Parts.{Parts}
 use Rattle.kept_state.proofs.AnswerLemmas.{asking-keeps_none, kept-answers, mountless}
 use Rattle.kept_state.proofs.GainLemmas.{gained-plain}
-use Rattle.kept_state.proofs.KeptLemmas.{answers-still, has_edges, kept-edges, kept-lists, lists-still, put, sets-edges, unfound}
+use Rattle.kept_state.proofs.KeptLemmas.{answers-still, has_edges, kept-lists, lists-still, own-edges, put, sets-edges, unfound}
 use Rattle.kept_state.proofs.ReadyLemmas.{possible-of}
-use Rattle.kept_state.proofs.StateLemmas.{kept-bares, same-depends, same-file, same-leaf, same-made, same-mount, same-some}
+use Rattle.kept_state.proofs.StateLemmas.{kept-bares, same-file, same-leaf, same-made, same-mount, same-semantic, same-some}
 
 -- an entry whose body passes a test is there
 tested-there : (t : State) (n : ℕ) (p : Body → Bool) → option_map_or p (body_at t.entries n) false ≡ true → is_some (entry_at t.entries n) ≡ true
@@ -83,7 +83,7 @@ module _ (kept : Parts) where
 pub next-none : (kept : Parts) → IsLinked kept → no_facts ≡ facts_kept kept kept.tree.state.next
 next-none kept h =
     let s = state_of kept in
-    sym (ap facts_at (entry_at-next 0 s.entries s.next s.next h.valid.layout.numbers (omega arith))) ∙ h.own kept.tree.state.next
+    sym (ap (facts_at (is_directory_at s.entries)) (entry_at-next 0 s.entries s.next s.next h.valid.layout.numbers (omega arith))) ∙ h.own kept.tree.state.next
 
 -- Mounts are told for a query: only what they keep changes.
 
@@ -111,13 +111,13 @@ module _ (kept : Parts) (asked : Formula ℕ) (told : List (List ℕ)) where
 
 -- A semantic directory comes.
 
-module _ (kept : Parts) (h : IsLinked kept) (dir : ℕ) (name : List ℕ) (asked : Formula ℕ) (told : List (List ℕ)) (ok : IsTrue (accepted (state_of kept) (event.Smkdir dir name asked told))) (edges : NewEdges) (are : AreEdges kept.graph kept.tree.state.next dir asked edges) (gains : AreGains (answers_kept kept.answers) asked told kept.tree.state kept.answers.told) where
-  pub semantic-put : (tree : tree.Seen) (edges_now : graph.Seen) (answered : Answered) → tree.state ≡ added kept.tree.state dir name (Semantic asked [] []) → ((q : ℕ) → edges_of edges_now q ≡ replaced (edges_of kept.graph) edges.dir edges.edges.items q) →
+module _ (kept : Parts) (h : IsLinked kept) (dir : ℕ) (name : List ℕ) (asked : Formula ℕ) (told : List (List ℕ)) (ok : IsTrue (accepted (state_of kept) (event.Smkdir dir name asked told))) (gains : AreGains (answers_kept kept.answers) asked told kept.tree.state kept.answers.told) where
+  pub semantic-put : (tree : tree.Seen) (edges_now : graph.Seen) (answered : Answered) → tree.state ≡ added kept.tree.state dir name (Semantic asked [] []) → ((q : ℕ) → edges_of edges_now q ≡ replaced (edges_of kept.graph) kept.tree.state.next (edges_then kept kept.tree.state.next dir (Some asked)) q) →
       ((n : ℕ) → answers_kept answered n ≡ answers_with (answers_kept kept.answers) kept.answers.told n) → IsCommitted (event.Smkdir dir name asked told) kept (record kept { tree = tree; graph = edges_now; answers = answered })
   semantic-put tree edges_now answered is each takes =
       put kept (record kept { tree = tree; graph = edges_now; answers = answered }) (event.Smkdir dir name asked told) h ok is
       (λ n. lists-still kept h t.next new n (ap (λ (facts : Facts). facts.marks) (next-none kept h)) ∙ ap unfound (still-marks (n == t.next) new (facts_kept kept n) (now-told kept asked told n).answers))
-      (λ n. each n ∙ (λ i. replaced (edges_of kept.graph) (are.dir_is i) (are.edges_are i) n) ∙ edges-put (n == t.next) new (now-told kept asked told n))
+      (λ n. each n ∙ (λ i. replaced (edges_of kept.graph) t.next (none-lend i) n) ∙ edges-put (n == t.next) new (now-told kept asked told n))
       (λ n. takes n ∙ gains n ∙ told-but kept asked told t.next new (plain-then kept asked told t.next plain ∙ sym (ap (λ (facts : Facts). facts.answers) (next-none kept h))) n)
       (λ n has. some-edges (n == t.next) new (now-told kept asked told n) refl (sets-edges kept h n has))
       refl
@@ -128,6 +128,12 @@ module _ (kept : Parts) (h : IsLinked kept) (dir : ℕ) (name : List ℕ) (asked
       new : Facts
       new = record no_facts { edges = dir ∷ named_in asked }
 
+      -- nothing was added to it yet
+      none-lend : edges_then kept t.next dir (Some asked) ≡ dir ∷ named_in asked
+      none-lend =
+          ap (λ (facts : Facts). edges_to (is_directory_at t.entries) dir (Some asked) facts.marks.permanent) (sym (next-none kept h))
+          ∙ ap (λ (numbers : List ℕ). dir ∷ numbers) (append-nil (named_in asked))
+
       plain : is_mount_at t.entries t.next ≡ false
       plain =
           sym (same-mount (state_of kept) t (kept-bares kept) t.next)
@@ -135,19 +141,19 @@ module _ (kept : Parts) (h : IsLinked kept) (dir : ℕ) (name : List ℕ) (asked
 
 -- A directory gets a query.
 
-module _ (kept : Parts) (h : IsLinked kept) (dir : ℕ) (asked : Formula ℕ) (told : List (List ℕ)) (ok : IsTrue (accepted (state_of kept) (event.Setq dir asked told))) (edges : NewEdges) (are : AreEdges kept.graph dir (parent_of kept.tree.state dir) asked edges) (gains : AreGains (answers_kept kept.answers) asked told kept.tree.state kept.answers.told) where
-  pub query-put : (tree : tree.Seen) (edges_now : graph.Seen) (answered : Answered) → tree.state ≡ changed_at kept.tree.state dir (edited (asking asked)) → ((q : ℕ) → edges_of edges_now q ≡ replaced (edges_of kept.graph) edges.dir edges.edges.items q) →
+module _ (kept : Parts) (h : IsLinked kept) (dir : ℕ) (asked : Formula ℕ) (told : List (List ℕ)) (ok : IsTrue (accepted (state_of kept) (event.Setq dir asked told))) (gains : AreGains (answers_kept kept.answers) asked told kept.tree.state kept.answers.told) where
+  pub query-put : (tree : tree.Seen) (edges_now : graph.Seen) (answered : Answered) → tree.state ≡ changed_at kept.tree.state dir (edited (asking asked)) → ((q : ℕ) → edges_of edges_now q ≡ replaced (edges_of kept.graph) dir (edges_then kept dir (parent_of kept.tree.state dir) (Some asked)) q) →
       ((n : ℕ) → answers_kept answered n ≡ answers_with (answers_kept kept.answers) kept.answers.told n) → IsCommitted (event.Setq dir asked told) kept (record kept { tree = tree; graph = edges_now; answers = answered })
   query-put tree edges_now answered is each takes =
       put kept (record kept { tree = tree; graph = edges_now; answers = answered }) (event.Setq dir asked told) h ok is
       (λ n. lists-still kept h dir new n refl ∙ ap unfound (still-marks (n == dir) new (facts_kept kept n) (now-told kept asked told n).answers))
-      (λ n. each n ∙ (λ i. replaced (edges_of kept.graph) (are.dir_is i) (are.edges_are i) n) ∙ edges-put (n == dir) new (now-told kept asked told n))
+      (λ n. each n ∙ edges-put (n == dir) new (now-told kept asked told n))
       (λ n. takes n ∙ gains n ∙ told-but kept asked told dir new (plain-then kept asked told dir plain) n)
       (λ n has. some-edges (n == dir) new (now-told kept asked told n) refl (sets-edges kept h n has))
       refl
     where
       new : Facts
-      new = record (facts_kept kept dir) { edges = parent_of kept.tree.state dir ∷ named_in asked }
+      new = facts_with kept.tree.state (parent_of kept.tree.state dir) (Some asked) (facts_kept kept dir).marks (facts_kept kept dir)
 
       plain : is_mount_at kept.tree.state.entries dir ≡ false
       plain =
@@ -181,28 +187,38 @@ dir-gone kept e dir h ok gone still none tree marks edges_now is each drops sets
     at true n = refl
     at false n = kept-lists kept h n
 
--- An item gets a mark, or loses it.
+-- An item or a directory gets a mark, or loses it.
 
 module _ (kept : Parts) (h : IsLinked kept) (mark : Mark) (ok : IsTrue (accepted (state_of kept) (event.Mark mark))) where
-  mark-fits : may_mark (state_of kept) mark.dir mark.item mark.kind ≡ true
+  mark-fits : (is_semantic (state_of kept) mark.dir ≡ true) × (may_mark (state_of kept) mark.dir mark.item mark.kind ≡ true)
   mark-fits =
       let s = state_of kept in
-      (mark-parts s mark.dir mark.item mark.kind (possible-of s (event.Mark mark) ok)).2
+      let parts = mark-parts s mark.dir mark.item mark.kind (possible-of s (event.Mark mark) ok) in
+      (parts.1, parts.2)
 
-  pub mark-put : (marks : Known) → LinkListsRise kept.marks → ChangesDir kept.marks marks mark.dir (with_kind mark.kind mark.item (lists_in kept.marks mark.dir)) → SameLinks kept.marks marks → IsCommitted (event.Mark mark) kept (record kept { marks = marks })
-  mark-put marks rise change sets =
-      put kept (record kept { marks = marks }) (event.Mark mark) h ok refl
+  pub mark-put : (marks : Known) (edges_now : graph.Seen) → LinkListsRise kept.marks → ChangesDir kept.marks marks mark.dir (with_kind mark.kind mark.item (lists_in kept.marks mark.dir)) → SameLinks kept.marks marks → ((q : ℕ) → edges_of edges_now q ≡ replaced (edges_of kept.graph) mark.dir (edges_marked kept mark) q) →
+      IsCommitted (event.Mark mark) kept (record kept { marks = marks; graph = edges_now })
+  mark-put marks edges_now rise change sets each =
+      put kept (record kept { marks = marks; graph = edges_now }) (event.Mark mark) h ok refl
       (λ n. change n ∙ at (n == mark.dir) n)
-      (λ n. edges-still n (n == mark.dir) refl)
+      (λ n. each n ∙ edges-put (n == mark.dir) new (facts_kept kept n))
       (λ n. answers-still kept h mark.dir new n refl)
-      (λ n has. ap has_edges (sym (edges-still n (n == mark.dir) refl)) ∙ sets-edges kept h n (sym (sets n) ∙ has))
+      (λ n has. some-edges (n == mark.dir) new (facts_kept kept n) (asked (query_at kept.tree.state mark.dir) refl) (sets-edges kept h n (sym (sets n) ∙ has)))
       refl
     where
       old : Marks
       old = (facts_kept kept mark.dir).marks
 
       new : Facts
-      new = record (facts_kept kept mark.dir) { marks = with_mark mark.kind mark.item old }
+      new = facts_with kept.tree.state (parent_of kept.tree.state mark.dir) (query_at kept.tree.state mark.dir) (with_mark mark.kind mark.item old) (facts_kept kept mark.dir)
+
+      -- it has a query
+      asked : (o : Option (Formula ℕ)) → query_at kept.tree.state mark.dir ≡ o → IsTrue (has_edges (edges_to (is_directory_at kept.tree.state.entries) (parent_of kept.tree.state mark.dir) o (with_mark mark.kind mark.item old).permanent))
+      asked (Some query) is = refl
+      asked None is =
+          let never : is_some (query_at kept.tree.state mark.dir) ≡ true = sym (same-semantic (state_of kept) kept.tree.state (kept-bares kept) mark.dir) ∙ mark-fits.0 in
+          let no : false ≡ true = ap (λ (o : Option (Formula ℕ)). is_some o) (sym is) ∙ never in
+          absurd cc
 
       none : items.removed mark.item (transient_in kept.marks mark.dir) ≡ []
       none = ap (items.removed mark.item) (h.found mark.dir)
@@ -210,74 +226,46 @@ module _ (kept : Parts) (h : IsLinked kept) (mark : Mark) (ok : IsTrue (accepted
       -- no link that is found is put
       one : (k : Kind) → may_mark (state_of kept) mark.dir mark.item k ≡ true → with_kind k mark.item (lists_in kept.marks mark.dir) ≡ unfound (with_mark k mark.item old)
       one Transient fits = absurd cc
-      one Permanent fits = λ i. record { transient = none i; permanent = inserted-put mark.item old.permanent (rise mark.dir).permanent i; prohibited = removed-without mark.item old.prohibited i }
-      one Prohibited fits = λ i. record { transient = none i; permanent = removed-without mark.item old.permanent i; prohibited = inserted-put mark.item old.prohibited (rise mark.dir).prohibited i }
-      one Unlinked fits = λ i. record { transient = none i; permanent = removed-without mark.item old.permanent i; prohibited = removed-without mark.item old.prohibited i }
+      one Permanent fits = λ i. record { transient = none i; permanent = inserted-put mark.item old.permanent (rise mark.dir).permanent i; prohibited = removed-without mark.item old.prohibited i; lent = h.lent mark.dir i }
+      one Prohibited fits = λ i. record { transient = none i; permanent = removed-without mark.item old.permanent i; prohibited = inserted-put mark.item old.prohibited (rise mark.dir).prohibited i; lent = h.lent mark.dir i }
+      one Unlinked fits = λ i. record { transient = none i; permanent = removed-without mark.item old.permanent i; prohibited = removed-without mark.item old.prohibited i; lent = h.lent mark.dir i }
 
       at : (b : Bool) (n : ℕ) → cond b (with_kind mark.kind mark.item (lists_in kept.marks mark.dir)) (lists_in kept.marks n) ≡ unfound (cond b new (facts_kept kept n)).marks
-      at true n = one mark.kind mark-fits
+      at true n = one mark.kind mark-fits.1
       at false n = kept-lists kept h n
-
-      edges-still : (n : ℕ) (b : Bool) → (n == mark.dir) ≡ b → edges_of kept.graph n ≡ (cond b new (facts_kept kept n)).edges
-      edges-still n true is = ap (edges_of kept.graph) (eqb-true n mark.dir is)
-      edges-still n false is = refl
 
 -- An entry goes elsewhere.
 
-module _ (kept : Parts) (h : IsLinked kept) (entry dir : ℕ) (name : List ℕ) (ok : IsTrue (accepted (state_of kept) (event.Mv entry dir name))) (edges : Option NewEdges) (are : AreMovedEdges kept.tree.state kept.graph entry dir edges) where
-  module _ (tree : tree.Seen) (is : tree.state ≡ changed_at kept.tree.state entry (reseated dir name)) where
-    abbrev new-facts : Facts
-    new-facts = record (facts_kept kept entry) { edges = edges_to dir (query_at kept.tree.state entry) }
+module _ (kept : Parts) (h : IsLinked kept) (entry dir : ℕ) (name : List ℕ) (ok : IsTrue (accepted (state_of kept) (event.Mv entry dir name))) where
+  pub moved-put : (tree : tree.Seen) (edges_now : graph.Seen) → tree.state ≡ changed_at kept.tree.state entry (reseated dir name) → ((q : ℕ) → edges_of edges_now q ≡ replaced (edges_of kept.graph) entry (edges_then kept entry dir (query_at kept.tree.state entry)) q) →
+      IsCommitted (event.Mv entry dir name) kept (record kept { tree = tree; graph = edges_now })
+  moved-put tree edges_now is each =
+      put kept (record kept { tree = tree; graph = edges_now }) (event.Mv entry dir name) h ok is
+      (λ n. lists-still kept h entry new n refl)
+      (λ n. each n ∙ edges-put (n == entry) new (facts_kept kept n))
+      (λ n. answers-still kept h entry new n refl)
+      (λ n has. asks n (n == entry) refl (sets-edges kept h n has))
+      refl
+    where
+      new : Facts
+      new = facts_with kept.tree.state dir (query_at kept.tree.state entry) (facts_kept kept entry).marks (facts_kept kept entry)
 
-    moved : (edges_now : graph.Seen) → ((n : ℕ) → edges_of edges_now n ≡ (cond (n == entry) new-facts (facts_kept kept n)).edges) → IsCommitted (event.Mv entry dir name) kept (record kept { tree = tree; graph = edges_now })
-    moved edges_now each =
-        put kept (record kept { tree = tree; graph = edges_now }) (event.Mv entry dir name) h ok is
-        (λ n. lists-still kept h entry new-facts n refl) each (λ n. answers-still kept h entry new-facts n refl)
-        (λ n has. asks n (n == entry) refl (sets-edges kept h n has))
-        refl
-      where
-        -- it asks what it asked
-        same : (q : Option (Formula ℕ)) (parent : ℕ) → has_edges (edges_to dir q) ≡ has_edges (option_map_or (λ q. parent ∷ named_in q) q [])
-        same None parent = refl
-        same (Some q) parent = refl
+      -- it asks what it asked
+      same : (o : Option (Formula ℕ)) (parent : ℕ) → has_edges (edges_then kept entry dir o) ≡ has_edges (edges_then kept entry parent o)
+      same None parent = refl
+      same (Some q) parent = refl
 
-        asks : (n : ℕ) (b : Bool) → (n == entry) ≡ b → IsTrue (has_edges (edges_of kept.graph n)) → IsTrue (has_edges (cond b new-facts (facts_kept kept n)).edges)
-        asks n true here has =
-            same (query_at kept.tree.state entry) (parent_of kept.tree.state entry)
-            ∙ ap has_edges (sym (kept-edges kept h entry ∙ same-depends (state_of kept) kept.tree.state (kept-bares kept) entry))
-            ∙ ap (λ (k : ℕ). has_edges (edges_of kept.graph k)) (sym (eqb-true n entry here)) ∙ has
-        asks n false here has = has
-
-    pub plain-moved : edges ≡ None → IsCommitted (event.Mv entry dir name) kept (record kept { tree = tree })
-    plain-moved none = moved kept.graph (λ n. at n (n == entry) refl)
-      where
-        asks : query_at kept.tree.state entry ≡ None
-        asks = subst (λ (o : Option NewEdges). AreMovedEdges kept.tree.state kept.graph entry dir o) none are
-
-        -- what has no query had no edges
-        old : edges_of kept.graph entry ≡ []
-        old =
-            kept-edges kept h entry ∙ same-depends (state_of kept) kept.tree.state (kept-bares kept) entry
-            ∙ ap (λ (o : Option (Formula ℕ)). option_map_or (λ q. parent_of kept.tree.state entry ∷ named_in q) o []) asks
-
-        at : (n : ℕ) (b : Bool) → (n == entry) ≡ b → edges_of kept.graph n ≡ (cond b new-facts (facts_kept kept n)).edges
-        at n true here = ap (edges_of kept.graph) (eqb-true n entry here) ∙ old ∙ sym (ap (edges_to dir) asks)
-        at n false here = refl
-
-    pub semantic-moved : (new : NewEdges) (edges_now : graph.Seen) → edges ≡ Some new → ((q : ℕ) → edges_of edges_now q ≡ replaced (edges_of kept.graph) new.dir new.edges.items q) →
-        IsCommitted (event.Mv entry dir name) kept (record kept { tree = tree; graph = edges_now })
-    semantic-moved new edges_now some each =
-        moved edges_now (λ n.
-        each n ∙ (λ i. replaced (edges_of kept.graph) (fits.2.dir_is i) ((fits.2.edges_are ∙ sym (ap (edges_to dir) fits.1)) i) n)
-        ∙ edges-put (n == entry) new-facts (facts_kept kept n))
-      where
-        fits : AreMovedEdges kept.tree.state kept.graph entry dir (Some new)
-        fits = subst (λ (o : Option NewEdges). AreMovedEdges kept.tree.state kept.graph entry dir o) some are
+      asks : (n : ℕ) (b : Bool) → (n == entry) ≡ b → IsTrue (has_edges (edges_of kept.graph n)) → IsTrue (has_edges (cond b new (facts_kept kept n)).edges)
+      asks n true here has =
+          same (query_at kept.tree.state entry) (parent_of kept.tree.state entry)
+          ∙ ap has_edges (sym (own-edges kept h entry))
+          ∙ ap (λ (k : ℕ). has_edges (edges_of kept.graph k)) (sym (eqb-true n entry here)) ∙ has
+      asks n false here has = has
 
 -- A file or a link goes.
 
 pub removed-put : (kept : Parts) (entry : ℕ) → IsLinked kept → IsTrue (accepted (state_of kept) (event.Rm entry)) → (tree : tree.Seen) (marks : Known) → tree.state ≡ removed kept.tree.state entry → DropsItem kept.marks marks entry → SameLinks kept.marks marks → IsCommitted (event.Rm entry) kept (record kept { tree = tree; marks = marks })
 removed-put kept entry h ok tree marks is drops sets =
     put kept (record kept { tree = tree; marks = marks }) (event.Rm entry) h ok is
-    (λ n. drops n ∙ ap (with_kind Unlinked entry) (kept-lists kept h n) ∙ (λ i. record { transient = []; permanent = removed-without entry (permanent_in kept.marks n) i; prohibited = removed-without entry (prohibited_in kept.marks n) i }))
+    (λ n. drops n ∙ ap (without_item entry) (kept-lists kept h n) ∙ (λ i. record { transient = []; permanent = removed-without entry (permanent_in kept.marks n) i; prohibited = removed-without entry (prohibited_in kept.marks n) i; lent = [] }))
     (λ n. refl) (λ n. refl) (λ n has. sets-edges kept h n (sym (sets n) ∙ has)) refl

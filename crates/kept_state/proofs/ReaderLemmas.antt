@@ -3,9 +3,9 @@ use Rattle.std.proofs.Common.{◌≡◌, ℕ, false, cond, List, [], refl, ap, s
 use Rattle.std.specs.Prelude.{Option, Some, None}
 use Rattle.std.specs.Option.{option_map, option_map_or}
 use Rattle.hac_model.specs.Tree.Facts.{Facts, facts_at, facts_of}
-use Rattle.hac_model.specs.Tree.Links.{has, is_permanent, is_prohibited, permanent_at, prohibited_at}
+use Rattle.hac_model.specs.Tree.Links.{has, is_permanent, is_prohibited, prohibited_at}
 use Rattle.hac_model.specs.Tree as tree
-use Rattle.hac_model.specs.Tree.{entry_at}
+use Rattle.hac_model.specs.Tree.{entry_at, is_directory_at}
 use Rattle.hac_model.specs.declared.marks.Kind.TheVariants.{Transient, Permanent, Prohibited, Unlinked}
 use Rattle.hac_model.specs.declared.states.Entry.{Entry}
 use Rattle.hac_model.specs.declared.states.State.{State}
@@ -16,15 +16,13 @@ use Rattle.link_kinds.proofs.HasLemmas.{has-among}
 use Rattle.kept_state.specs.Parts.{IsLinked, facts_kept, state_of}
 use Rattle.kept_state.specs.Readers.{AreMarksOf, IsTreeOf, mark_at}
 use Rattle.kept_state.specs.declared.parts.Parts.{Parts}
+use Rattle.kept_state.proofs.KeptLemmas.{kept-permanent}
 use Rattle.kept_state.proofs.StateLemmas.{tree-layout}
 
--- The marks of a state are in its facts.
-
-permanent-fact : (s : State) (n : ℕ) → permanent_at s n ≡ (facts_of s n).marks.permanent
-permanent-fact s n = elim (entry_at s.entries n) as (λ (o : Option Entry). option_map_or tree.permanent_in (option_map (λ (e : Entry). e.body) o) [] ≡ (facts_at o).marks.permanent) [ None ↦ refl | Some e ↦ refl ]
+-- so are the prohibited items of its directories
 
 prohibited-fact : (s : State) (n : ℕ) → prohibited_at s n ≡ (facts_of s n).marks.prohibited
-prohibited-fact s n = elim (entry_at s.entries n) as (λ (o : Option Entry). option_map_or tree.prohibited_in (option_map (λ (e : Entry). e.body) o) [] ≡ (facts_at o).marks.prohibited) [ None ↦ refl | Some e ↦ refl ]
+prohibited-fact s n = elim (entry_at s.entries n) as (λ (o : Option Entry). option_map_or tree.prohibited_in (option_map (λ (e : Entry). e.body) o) [] ≡ (facts_at (is_directory_at s.entries) o).marks.prohibited) [ None ↦ refl | Some e ↦ refl ]
 
 module _ (kept : Parts) (h : IsLinked kept) where
   pub tree-of : IsTreeOf (state_of kept) kept.tree.state
@@ -32,7 +30,7 @@ module _ (kept : Parts) (h : IsLinked kept) where
 
   pub marks-of : AreMarksOf (state_of kept) kept.marks
   marks-of = record {
-    permanent = λ dir. sym (permanent-fact (state_of kept) dir ∙ ap (λ (facts : Facts). facts.marks.permanent) (h.own dir));
+    permanent = λ dir. sym (kept-permanent kept h dir);
     prohibited = λ dir. sym (prohibited-fact (state_of kept) dir ∙ ap (λ (facts : Facts). facts.marks.prohibited) (h.own dir));
     found = h.found;
   }

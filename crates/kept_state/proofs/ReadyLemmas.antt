@@ -1,6 +1,6 @@
 -- What an event needs so that it can be prepared.
 use Rattle.std.proofs.Common.{◌≡◌, ℕ, true, List, subst, sym, ◌∙◌}
-use Rattle.std.specs.Prelude.{IsTrue}
+use Rattle.std.specs.Prelude.{Option, Result, Ok, Err, IfOk, IsTrue}
 use Rattle.std.proofs.lemmas.Bool.{and_parts}
 use Rattle.hac_model.specs.Tree.Asking.{are_all_told}
 use Rattle.hac_model.specs.Tree.Events.{accepted, apply, is_free, is_possible}
@@ -8,15 +8,21 @@ use Rattle.hac_model.specs.Tree.Facts.{Facts, joined}
 use Rattle.hac_model.specs.Query.Formula.{Formula}
 use Rattle.hac_model.specs.Tree.Limits.{is_text, passed_limit}
 use Rattle.hac_model.specs.Script.PathWords.{is_target}
-use Rattle.hac_model.specs.Tree.Links.{is_semantic}
+use Rattle.hac_model.specs.Tree.Links.{is_semantic, query_at}
 use Rattle.hac_model.specs.Tree.{is_directory_at}
 use Rattle.hac_model.specs.declared.events.Event.{Event}
 use Rattle.hac_model.specs.declared.events.Event.TheVariants as event
 use Rattle.hac_model.specs.declared.marks.Mark.{Mark}
+use Rattle.hac_model.specs.declared.memory.Memory.{Memory}
 use Rattle.hac_model.specs.declared.states.Session.{Session}
 use Rattle.hac_model.specs.declared.states.State.{State}
 use Rattle.hac_model.proofs.FillLemmas.{bare-joined}
 use Rattle.hac_model.proofs.ValidLemmas.{accepted-parts, free-parts, mark-parts, move-parts, setq-parts, smkdir-parts}
+use Rattle.dep_graph.specs.declared.graph.NewEdges.{NewEdges}
+use Rattle.file_tree.specs.declared.ready.Ready.TheVariants as tree
+use Rattle.kept_state.specs.Parts.{WillHave, edges_then}
+use Rattle.kept_state.specs.Ready.{IsPreparedFor}
+use Rattle.kept_state.specs.declared.parts.Parts.{Parts}
 use Rattle.kept_state.proofs.StateLemmas.{same-directory, same-semantic}
 
 free-directory : (facts : ℕ → Facts) (sessions : List Session) (t : State) (dir : ℕ) (name : List ℕ) → is_free (joined facts sessions t) dir name ≡ true → is_directory_at t.entries dir ≡ true
@@ -66,3 +72,9 @@ module _ (facts : ℕ → Facts) (sessions : List Session) (t : State) (e : Even
   setq-told dir query told is =
       let s = joined facts sessions t in
       (setq-parts s dir query told (possible-of s (event.Setq dir query told) (subst (λ (e : Event). IsTrue (accepted s e)) is ok))).3
+
+-- an entry that moves is ready where the tree and the graph are
+pub moved-ready : (kept : Parts) (e : Event) (entry dir : ℕ) (name : List ℕ) (result : Result (Option NewEdges) Memory) → e ≡ event.Mv entry dir name → IfOk result (λ edges. kept.tree.ready ≡ tree.Move dir) →
+    IfOk result (λ edges. WillHave kept.graph entry (edges_then kept entry dir (query_at kept.tree.state entry)) edges) → IfOk result (λ edges. IsPreparedFor e edges kept)
+moved-ready kept e entry dir name (Ok edges) is ready will = subst (λ (e : Event). IsPreparedFor e edges kept) (sym is) (ready, will)
+moved-ready kept e entry dir name (Err memory) is ready will = tt

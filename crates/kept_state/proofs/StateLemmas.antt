@@ -3,13 +3,12 @@ use Rattle.std.proofs.Common.{◌≡◌, ℕ, false, List, map, refl, ap, true, 
 use Rattle.std.specs.Prelude.{◌&&◌, ◌||◌, not, nat_lt, Option, Some, None, is_some, option_and_then}
 use Rattle.std.specs.Option.{option_map, option_map_or}
 use Rattle.hac_model.specs.Tree.Bare.{bare, bare_body}
-use Rattle.hac_model.specs.Tree.Depends.{depends, referrers}
-use Rattle.hac_model.specs.Tree.Events.{apply, dirty, edited, is_bare, is_free, is_inside, is_made_holder, may_ask}
+use Rattle.hac_model.specs.Tree.Events.{apply, can_have_mark, dirty, edited, is_bare, is_free, is_inside, is_made_holder, may_ask}
 use Rattle.hac_model.specs.Query.Formula.{Formula}
 use Rattle.hac_model.specs.Tree.Limits.{counts, is_text}
 use Rattle.hac_model.specs.Tree.Mounting.{are_documents}
 use Rattle.hac_model.specs.Tree.Mounts.{terms_to_ask}
-use Rattle.hac_model.specs.Tree.Links.{is_item, is_semantic, parent_of, query_at, shown_of}
+use Rattle.hac_model.specs.Tree.Links.{can_be_added, is_item, is_semantic, parent_of, query_at, shown_of}
 use Rattle.hac_model.specs.Run.Resolving.{resolved_for}
 use Rattle.hac_model.specs.Script.PathWords.{is_target}
 use Rattle.hac_model.specs.Script.SpaceNames.{is_space_name}
@@ -18,15 +17,16 @@ use Rattle.hac_model.specs.Tree.Valid.{IsLayout}
 use Rattle.hac_model.specs.declared.commands.Command.{Command}
 use Rattle.hac_model.specs.declared.events.Event.{Event}
 use Rattle.hac_model.specs.declared.events.Event.TheVariants.{Mkdir, NewFile, Rewrite, Ln, Smkdir, Setq, Unq, Mark, Mv, Rm, Rmdir, Smount, Ssync, Sumount, Step, Cd}
+use Rattle.hac_model.specs.declared.marks.Kind.{Kind}
+use Rattle.hac_model.specs.declared.marks.Kind.TheVariants.{Transient, Permanent, Prohibited, Unlinked}
 use Rattle.hac_model.specs.declared.states.Body.{Body}
 use Rattle.hac_model.specs.declared.states.Body.TheVariants.{File, Dir, Symlink, Semantic, Mount, Document}
 use Rattle.hac_model.specs.declared.states.Entry.{Entry}
 use Rattle.hac_model.specs.declared.states.State.{State}
-use Rattle.hac_model.proofs.AlikeLemmas.{bare-kind, counts-bare, depends-bare, directory-bare, dirty-same, document-bare, entry_at-bare, file-bare, layout-bare, layout-unbare, is_bare-bare, is_free-bare, is_inside-bare, may_ask-bare, mount-bare, parent_of-bare, path_of-bare, query_at-bare, referrers-bare, for-bare, some-bare, symlink-bare, target_at-bare}
+use Rattle.hac_model.proofs.AlikeLemmas.{bare-kind, counts-bare, directory-bare, dirty-same, document-bare, entry_at-bare, file-bare, layout-bare, layout-unbare, is_bare-bare, is_free-bare, is_inside-bare, may_ask-bare, mount-bare, parent_of-bare, path_of-bare, query_at-bare, for-bare, some-bare, symlink-bare, target_at-bare}
 use Rattle.hac_model.proofs.BareLemmas.{bare-commutes}
 use Rattle.hac_model.proofs.EventLemmas.{due}
 use Rattle.hac_model.proofs.FillLemmas.{bare-joined}
-use Rattle.hac_model.proofs.LayoutLemmas.{smount-parts, ssync-parts}
 use Rattle.hac_model.proofs.MapLemmas.{test-mapped}
 use Rattle.hac_model.proofs.MountFactLemmas.{terms-bare}
 use Rattle.std.proofs.lemmas.Bool.{and_from, and_parts}
@@ -114,9 +114,6 @@ module _ (s t : State) (bares : bare s ≡ bare t) where
   pub same-semantic : (n : ℕ) → is_semantic s n ≡ is_semantic t n
   same-semantic n = ap (λ (o : Option (Formula ℕ)). is_some o) (same-query n)
 
-  pub same-depends : (n : ℕ) → depends s n ≡ depends t n
-  same-depends n = alike (λ s. depends s n) (λ s. depends-bare s n)
-
   pub same-bare : (n : ℕ) → is_bare s.entries n ≡ is_bare t.entries n
   same-bare n = alike (λ s. is_bare s.entries n) (λ s. is_bare-bare s n)
 
@@ -125,9 +122,6 @@ module _ (s t : State) (bares : bare s ≡ bare t) where
 
   pub same-asks : (q : Formula ℕ) → may_ask s q ≡ may_ask t q
   same-asks q = alike (λ s. may_ask s q) (λ s. may_ask-bare s q)
-
-  pub same-referrers : (dir : ℕ) → map (λ (e : Entry). path_of s e.number) (referrers s dir) ≡ map (λ (e : Entry). path_of t e.number) (referrers t dir)
-  same-referrers dir = alike (λ s. map (λ (e : Entry). path_of s e.number) (referrers s dir)) (λ s. referrers-bare s dir)
 
   pub same-counts : counts s ≡ counts t
   same-counts = alike counts counts-bare
@@ -148,6 +142,16 @@ module _ (s t : State) (bares : bare s ≡ bare t) where
   pub same-holder : (n : ℕ) → is_made_holder s n ≡ is_made_holder t n
   same-holder n = λ i. same-made n i && not (same-mount n i)
 
+  -- the same marks may be on it
+  same-added : (n : ℕ) → can_be_added s n ≡ can_be_added t n
+  same-added n = λ i. same-item n i || same-directory n i
+
+  pub same-markable : (n : ℕ) (kind : Kind) → can_have_mark s n kind ≡ can_have_mark t n kind
+  same-markable n Transient = same-added n
+  same-markable n Permanent = same-added n
+  same-markable n Prohibited = same-item n
+  same-markable n Unlinked = same-added n
+
   -- what is placed in the one is in the other, what spaces are asked or have told aside
   pub same-seated : (e : Event) → is_placed s e ≡ true → is_seated t e ≡ true
   same-seated (Mkdir dir name) h = sym (same-free dir name) ∙ h
@@ -157,16 +161,19 @@ module _ (s t : State) (bares : bare s ≡ bare t) where
   same-seated (Smkdir dir name query told) h = sym (same-free dir name) ∙ (and_parts (is_free s dir name) _ h).0
   same-seated (Setq dir query told) h = sym (same-holder dir) ∙ (and_parts (is_made_holder s dir) _ h).0
   same-seated (Unq dir) h = sym (same-semantic dir) ∙ h
-  same-seated (Mark mark) h = sym (λ i. same-item mark.item i && same-semantic mark.dir i) ∙ h
+  same-seated (Mark mark) h = sym (λ i. same-markable mark.item mark.kind i && same-semantic mark.dir i) ∙ h
   same-seated (Mv entry dir name) h = sym (λ i. same-some entry i && not (same-document entry i) && same-free dir name i && not (same-inside dir entry i)) ∙ h
   same-seated (Rm entry) h = sym (same-leaf entry) ∙ h
   same-seated (Rmdir dir) h = sym (λ i. same-holder dir i && same-bare dir i) ∙ h
   same-seated (Smount dir name space documents told) h =
-      let parts = smount-parts s dir name space documents told h in
-      and_from (is_free t dir name) (are_documents documents) (sym (same-free dir name) ∙ parts.0) parts.2
+      let well = and_parts (is_free s dir name && is_space_name space && are_documents documents) _ h in
+      let named = and_parts (is_free s dir name && is_space_name space) (are_documents documents) well.0 in
+      let free = and_parts (is_free s dir name) (is_space_name space) named.0 in
+      and_from (is_free t dir name) (are_documents documents) (sym (same-free dir name) ∙ free.0) named.1
   same-seated (Ssync mount documents told) h =
-      let parts = ssync-parts s mount documents told h in
-      and_from (is_mount_at t.entries mount) (are_documents documents) (sym (same-mount mount) ∙ parts.0) parts.1
+      let well = and_parts (is_mount_at s.entries mount && are_documents documents) _ h in
+      let there = and_parts (is_mount_at s.entries mount) (are_documents documents) well.0 in
+      and_from (is_mount_at t.entries mount) (are_documents documents) (sym (same-mount mount) ∙ there.0) there.1
   same-seated (Sumount mount) h = sym (same-mount mount) ∙ h
   same-seated Step h = sym (due s.entries ∙ ap (λ (k : ℕ). nat_lt 0 k) (same-dirty) ∙ sym (due t.entries)) ∙ h
   same-seated (Cd session dir) h = sym (λ i. is_space_name session && same-directory dir i) ∙ h

@@ -10,6 +10,7 @@ lists_without test lists = record {
   transient = numbers_without test lists.transient;
   permanent = numbers_without test lists.permanent;
   prohibited = numbers_without test lists.prohibited;
+  lent = numbers_without test lists.lent;
 }
 
 -- no item that passes the test is linked anywhere, and each other item is as before

@@ -5,6 +5,7 @@ pub mod AnswersKept
 pub mod Gains
 pub mod GainsKept
 pub mod Forgetting
+pub mod Room
 pub mod Readers
 pub mod Seen
 pub mod Kept

@@ -1,15 +1,16 @@
 -- A tree with the marks of its semantic directories, the answers of its mounts, what depends on what, and its sessions.
-use Rattle.std.specs.Prelude.{◌≡◌, ℕ, ◌||◌, ◌∷◌, [], Option, Some, None, IsTrue}
-use Rattle.hac_model.specs.Tree.Depends.{named_in}
-use Rattle.hac_model.specs.Tree.Facts.{Facts, Marks, facts_of, joined}
+use Rattle.std.specs.Prelude.{◌≡◌, ℕ, ◌||◌, List, [], Option, Some, None, IsTrue}
+use Rattle.hac_model.specs.Tree.Facts.{Facts, Marks, edges_to, facts_of, joined, with_mark}
 use Rattle.hac_model.specs.Query.Formula.{Formula}
-use Rattle.hac_model.specs.Tree.Links.{is_semantic, query_at}
+use Rattle.hac_model.specs.Tree.Links.{is_semantic, parent_of, query_at}
 use Rattle.hac_model.specs.Tree.Valid.{IsValid}
+use Rattle.hac_model.specs.Tree.{is_directory_at}
+use Rattle.hac_model.specs.declared.marks.Mark.{Mark}
 use Rattle.hac_model.specs.declared.states.State.{State}
 use Rattle.dep_graph.specs.Graphs.{edges_of}
 use Rattle.dep_graph.specs.Graphs as graph
 use Rattle.dep_graph.specs.declared.graph.NewEdges.{NewEdges}
-use Rattle.link_kinds.specs.Seen.{Known, SameKinds, has_sets, permanent_in, prohibited_in, transient_in}
+use Rattle.link_kinds.specs.Seen.{Known, SameKinds, has_sets, lent_in, permanent_in, prohibited_in, transient_in}
 use Rattle.kept_state.specs.Answers.{SameAnswers, answers_kept}
 use Rattle.kept_state.specs.declared.parts.Parts.{Parts}
 
@@ -34,8 +35,9 @@ pub record IsLinked (kept : Parts) : Type 0 where
   pub valid : IsValid (state_of kept)
   -- nothing else is kept of any number
   pub own : (number : ℕ) → facts_of (state_of kept) number ≡ facts_kept kept number
-  -- found links aren't kept
+  -- found links aren't kept, nor what is lent
   pub found : (dir : ℕ) → transient_in kept.marks dir ≡ []
+  pub lent : (dir : ℕ) → lent_in kept.marks dir ≡ []
   -- only semantic directories have sets of marks
   pub sets : (dir : ℕ) → IsTrue (has_sets kept.marks dir) → IsTrue (is_semantic (state_of kept) dir)
   -- and the tree keeps no sessions
@@ -58,18 +60,23 @@ pub record KeepsTree (old new : Parts) : Type 0 where
   pub edges : (dir : ℕ) → edges_of new.graph dir ≡ edges_of old.graph dir
   pub sessions : new.sessions ≡ old.sessions
 
--- the graph is ready for the edges of a directory with this parent and this query
-pub record AreEdges (ready_for : graph.Seen) (dir parent : ℕ) (asked : Formula ℕ) (edges : NewEdges) : Type 0 where
-  pub ready : ready_for.ready ≡ Some dir
+-- the edges that a directory will have that stands in this one and has this query
+abbrev pub edges_then : Parts → ℕ → ℕ → Option (Formula ℕ) → List ℕ
+edges_then kept dir parent query = edges_to (is_directory_at kept.tree.state.entries) parent query (permanent_in kept.marks dir)
+
+-- the edges that a directory will have once the mark is set
+abbrev pub edges_marked : Parts → Mark → List ℕ
+edges_marked kept mark =
+    edges_to (is_directory_at kept.tree.state.entries) (parent_of kept.tree.state mark.dir) (query_at kept.tree.state mark.dir)
+    (with_mark mark.kind mark.item (marks_kept kept.marks mark.dir)).permanent
+
+-- the graph is ready for these edges of a directory
+pub record AreEdges (ready_for : graph.Seen) (dir : ℕ) (wanted : List ℕ) (edges : NewEdges) : Type 0 where
+  pub ready : ready_for.ready ≡ Some edges.dir
   pub dir_is : edges.dir ≡ dir
-  pub edges_are : edges.edges.items ≡ parent ∷ named_in asked
+  pub edges_are : edges.edges.items ≡ wanted
 
--- there are such edges
-abbrev pub HasEdges : graph.Seen → ℕ → ℕ → Formula ℕ → Option NewEdges → Type 0
-HasEdges ready_for dir parent asked None = ⊥
-HasEdges ready_for dir parent asked (Some edges) = AreEdges ready_for dir parent asked edges
-
--- the edges of an entry that moves, which is semantic just where there are some
-abbrev pub AreMovedEdges : State → graph.Seen → ℕ → ℕ → Option NewEdges → Type 0
-AreMovedEdges s ready_for entry dir None = query_at s entry ≡ None
-AreMovedEdges s ready_for entry dir (Some edges) = (asked : Formula ℕ) × (query_at s entry ≡ Some asked) × AreEdges ready_for entry dir asked edges
+-- the graph is ready for them, or the directory has them
+abbrev pub WillHave : graph.Seen → ℕ → List ℕ → Option NewEdges → Type 0
+WillHave ready_for dir wanted None = edges_of ready_for dir ≡ wanted
+WillHave ready_for dir wanted (Some edges) = AreEdges ready_for dir wanted edges

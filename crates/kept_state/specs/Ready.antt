@@ -5,7 +5,7 @@ use Rattle.hac_model.specs.Script.PathWords.{untested_word}
 use Rattle.hac_model.specs.Tree.Events.{accepted, apply}
 use Rattle.hac_model.specs.Tree.Facts.{bare_after}
 use Rattle.hac_model.specs.Tree.Limits as limits
-use Rattle.hac_model.specs.Tree.Links.{parent_of}
+use Rattle.hac_model.specs.Tree.Links.{parent_of, query_at}
 use Rattle.hac_model.specs.Tree.Mounting.{answers_to}
 use Rattle.hac_model.specs.Tree.Mounts.{terms_to_ask}
 use Rattle.hac_model.specs.Tree.Sessions.{is_stored, sessions_with}
@@ -20,7 +20,7 @@ use Rattle.file_tree.specs.declared.tree.EntryKind.TheVariants as kind
 use Rattle.link_kinds.specs.Seen.{has_sets}
 use Rattle.kept_state.specs.Answers.{answers_kept}
 use Rattle.kept_state.specs.Gains.{AreGains}
-use Rattle.kept_state.specs.Parts.{AreMovedEdges, HasEdges, IsLinked, state_of}
+use Rattle.kept_state.specs.Parts.{IsLinked, WillHave, edges_marked, edges_then, state_of}
 use Rattle.kept_state.specs.declared.parts.Parts.{Parts}
 use Rattle.kept_state.specs.declared.ready.Ready.{Ready}
 use Rattle.kept_state.specs.declared.ready.Ready.TheVariants.{Nothing, Change, Session, Steps}
@@ -39,10 +39,17 @@ IsPreparedFor (Mkdir dir name) edges kept = kept.tree.ready ≡ tree.Add dir kin
 IsPreparedFor (NewFile dir name text) edges kept = kept.tree.ready ≡ tree.Add dir kind.File
 IsPreparedFor (Rewrite file text) edges kept = kept.tree.ready ≡ tree.Text file
 IsPreparedFor (Ln dir name target) edges kept = kept.tree.ready ≡ tree.Link dir (untested_word target)
-IsPreparedFor (Smkdir dir name query told) edges kept = (kept.tree.ready ≡ tree.Add dir kind.Semantic) × HasEdges kept.graph kept.tree.state.next dir query edges × GainsReady kept query told
-IsPreparedFor (Setq dir query told) edges kept = HasEdges kept.graph dir (parent_of kept.tree.state dir) query edges × GainsReady kept query told
-IsPreparedFor (Mark mark) edges kept = IsTrue (has_sets kept.marks mark.dir) × (0 < kept.marks.spare)
-IsPreparedFor (Mv entry dir name) edges kept = (kept.tree.ready ≡ tree.Move dir) × AreMovedEdges kept.tree.state kept.graph entry dir edges
+IsPreparedFor (Smkdir dir name query told) edges kept =
+    (kept.tree.ready ≡ tree.Add dir kind.Semantic)
+    × WillHave kept.graph kept.tree.state.next (edges_then kept kept.tree.state.next dir (Some query)) edges
+    × GainsReady kept query told
+IsPreparedFor (Setq dir query told) edges kept =
+    WillHave kept.graph dir (edges_then kept dir (parent_of kept.tree.state dir) (Some query)) edges × GainsReady kept query told
+IsPreparedFor (Mark mark) edges kept =
+    IsTrue (has_sets kept.marks mark.dir) × (0 < kept.marks.spare) × WillHave kept.graph mark.dir (edges_marked kept mark) edges
+IsPreparedFor (Mv entry dir name) edges kept =
+    (kept.tree.ready ≡ tree.Move dir)
+    × WillHave kept.graph entry (edges_then kept entry dir (query_at kept.tree.state entry)) edges
 IsPreparedFor (Smount dir name space documents told) edges kept =
     (kept.tree.ready ≡ tree.Mount dir (length documents)) × AnswersReady kept kept.tree.state.next told
 IsPreparedFor (Ssync mount documents told) edges kept =

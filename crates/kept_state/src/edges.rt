@@ -1,21 +1,27 @@
 //! What a semantic directory depends on, and whether one would come to depend on itself.
 ghost use Rattle.std.specs.Prelude.{◌≡◌, ◌++◌, ◌∷◌, IfOk, OnOk};
-ghost use Rattle.hac_model.specs.Tree.Depends.{cycle_of_move, cycle_over, named_in};
+ghost use Rattle.hac_model.specs.Tree.Depends.{cycle_of_mark, cycle_of_move, cycle_over, named_in};
 ghost use Rattle.hac_model.specs.Tree.Links.{parent_of};
 ghost use Rattle.kept_state.specs.Parts.{IsLinked, state_of};
 
 use crate::parts::Parts;
-use hac_model::{Memory, Node, Number, Query};
+use hac_model::{Mark, Memory, Node, Number, Query};
 use std::alloc::Global;
 
-/// The edges of a directory with a parent and a query: to the parent, then to those that the query
-/// names.
-pub fn edges_of(alloc: Global, parent: Number, query: &Query<Number>) -> Result<Vec<Number>, Memory>
-    ensures { IfOk result (λ edges. edges.items ≡ parent ∷ named_in query.now) }
+/// The edges of a directory with a parent and a query, to which these directories were added: to the
+/// parent, then to those that the query names, then to these.
+pub fn edges_of(
+    alloc: Global,
+    parent: Number,
+    query: &Query<Number>,
+    lenders: &[Number],
+) -> Result<Vec<Number>, Memory>
+    ensures { IfOk result (λ edges. edges.items ≡ parent ∷ named_in query.now ++ lenders.now) }
 {
     let mut edges = Vec::new(alloc);
     edges.push(parent)?;
     push_named(&mut edges, query)?;
+    edges.extend_from_slice(lenders)?;
     Ok(edges)
 }
 
@@ -65,6 +71,20 @@ pub fn cycle_of_move(
     }
 }
 
+/// The directory to be added to another, if it is that one or depends on it. Where an item is added,
+/// nothing comes to depend on anything.
+pub fn cycle_of_mark(alloc: Global, kept: &Parts, mark: &Mark) -> Result<Option<Number>, Memory>
+    requires { IsLinked kept.now }
+    ensures { IfOk result (λ way. way
+        ≡ cycle_of_mark (state_of kept.now) mark.now.dir mark.now.item mark.now.kind) }
+{
+    if mark.kind.is_permanent() && kept.tree.is_directory(mark.item) {
+        kept.graph.would_cycle(mark.dir, &[mark.item])
+    } else {
+        Ok(None)
+    }
+}
+
 /// The first of those on which a directory would depend that depends on it, if there is any.
 fn cycle_over(
     alloc: Global,
@@ -76,6 +96,6 @@ fn cycle_over(
     requires linked { IsLinked kept.now }
     ensures { IfOk result (λ way. way ≡ cycle_over (state_of kept.now) dir parent query.now) }
 {
-    let edges = edges_of(alloc, parent, query)?;
+    let edges = edges_of(alloc, parent, query, &[])?;
     kept.graph.would_cycle(dir, edges.as_slice())
 }

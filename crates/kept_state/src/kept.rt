@@ -2,12 +2,12 @@
 ghost use Rattle.std.specs.Prelude.{◌≡◌, ◌∷◌, [], ℕ, IfOk, IsTrue, List, OnErr, OnOk, replicate};
 ghost use Rattle.hac_model.specs.Query.Formula.{Formula};
 ghost use Rattle.hac_model.specs.Tree.Asking.{are_all_told, unanswered, with_told};
-ghost use Rattle.hac_model.specs.Tree.Depends.{cycle_of_move, cycle_over};
+ghost use Rattle.hac_model.specs.Tree.Depends.{cycle_of_mark, cycle_of_move, cycle_over};
 ghost use Rattle.hac_model.specs.Tree.Events.{accepted, apply, apply_all};
 ghost use Rattle.hac_model.specs.Laws.{AllHappen};
 ghost use Rattle.hac_model.specs.Tree.Limits as limits;
-ghost use Rattle.hac_model.specs.Tree.Limits.{counts};
-ghost use Rattle.hac_model.specs.Tree.Links.{answers_at, has, kept_at, parent_of};
+ghost use Rattle.hac_model.specs.Tree.Limits.{are_answers_few, counts};
+ghost use Rattle.hac_model.specs.Tree.Links.{answers_at, has, kept_at, lenders, parent_of};
 ghost use Rattle.hac_model.specs.Tree.Mounts.{is_kept, terms_to_ask};
 ghost use Rattle.hac_model.specs.Tree.{empty, path_of};
 ghost use Rattle.hac_model.specs.Tree.Sessions.{are_few, is_busy, is_stored, least_name};
@@ -22,10 +22,10 @@ use crate::gains::{Gains, gained};
 use crate::parts::Parts;
 use crate::ready::{Ready, prepare, put};
 use crate::terms::{terms_to_ask, unanswered};
-use crate::{edges, sessions};
+use crate::{edges, lenders, room, sessions};
 use dep_graph::Graph;
 use file_tree::Tree;
-use hac_model::{Counts, Event, Kind, Memory, Name, Number, Path, Query, Seq, Term};
+use hac_model::{Counts, Event, Kind, Mark, Memory, Name, Number, Path, Query, Seq, Term};
 use link_kinds::Links;
 use std::alloc::Global;
 use std::marker::Model;
@@ -170,7 +170,7 @@ impl KeptState {
         &self.parts.marks
     }
 
-    /// The mark of an item in a directory.
+    /// The mark of an item or a directory in a directory.
     pub fn mark(&self, dir: Number, item: Number) -> Kind
         ensures { result ≡ mark_at self.now.state dir item }
     {
@@ -210,6 +210,23 @@ impl KeptState {
         edges::cycle_of_move(alloc, &self.parts, entry, dir)
     }
 
+    /// The directory to be added to another, if it is that one or depends on it. Of an item there is
+    /// none.
+    pub fn cycle_of_mark(&self, alloc: Global, mark: &Mark) -> Result<Option<Number>, Memory>
+        ensures { IfOk result (λ way. way
+            ≡ cycle_of_mark self.now.state mark.now.dir mark.now.item mark.now.kind) }
+    {
+        edges::cycle_of_mark(alloc, &self.parts, mark)
+    }
+
+    /// The directories that users added to a directory, in order of number: they lend it all that
+    /// they provide.
+    pub fn lenders(&self, dir: Number) -> &[Number]
+        ensures { result.now ≡ lenders self.now.state dir }
+    {
+        lenders::lenders(&self.parts, dir)
+    }
+
     /// The directory in which a session stands.
     pub fn stands_in(&self, session: &Name) -> Number
         ensures { result ≡ stands_in self.now.state.sessions session.now }
@@ -247,6 +264,15 @@ impl KeptState {
         ensures { result ≡ counts (apply self.now.state event.now) }
     {
         self.parts.tree.counts_after(event)
+    }
+
+    /// Whether mounts would keep no more answers than they may after an event. What it refers to is
+    /// in the state. Where something was told, this goes over all answers that are kept.
+    pub fn keeps_few_after(&self, event: &Event) -> bool
+        requires { IsTrue (is_placed self.now.state event.now) }
+        ensures { result ≡ are_answers_few (apply self.now.state event.now).entries }
+    {
+        room::keeps_few_after(&self.parts, event)
     }
 
     /// Takes the memory that an event wants that is stored, so that `commit` can apply it. How much

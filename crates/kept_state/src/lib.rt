@@ -9,8 +9,10 @@ mod edges;
 mod forgetting;
 mod gains;
 mod kept;
+mod lenders;
 mod parts;
 mod ready;
+mod room;
 mod sessions;
 mod terms;
 

@@ -4,17 +4,19 @@ ghost use Rattle.std.specs.Prelude.{◌≡◌, IfOk, IsTrue, OnOk, length};
 ghost use Rattle.hac_model.specs.Tree.{empty};
 ghost use Rattle.hac_model.specs.Tree.Asking.{are_all_told};
 ghost use Rattle.hac_model.specs.Tree.Mounts.{terms_to_ask};
-ghost use Rattle.kept_state.specs.Parts.{AreAlike, AreEdges, AreMovedEdges, IsLinked, KeepsTree};
-ghost use Rattle.kept_state.specs.Parts.{state_of};
+ghost use Rattle.hac_model.specs.Tree.Links.{query_at};
+ghost use Rattle.kept_state.specs.Parts.{AreAlike, AreEdges, IsLinked, KeepsTree, WillHave};
+ghost use Rattle.kept_state.specs.Parts.{edges_marked, edges_then, state_of};
 ghost use Rattle.kept_state.specs.Ready.{AnswersReady, GainsReady};
 
 use crate::answers::Answers;
 use crate::edges::edges_of;
 use crate::gains::gained;
+use crate::lenders::{lenders, marked};
 use crate::terms::{answers_to, terms_to_ask};
 use dep_graph::{Graph, NewEdges};
 use file_tree::Tree;
-use hac_model::{Memory, Number, Query, Seq, Session};
+use hac_model::{Mark, Memory, Number, Query, Seq, Session};
 use link_kinds::Links;
 use std::alloc::Global;
 
@@ -28,7 +30,8 @@ pub struct Parts {
     pub marks: Links,
     /// What spaces answered, as their mounts keep it.
     pub answers: Answers,
-    /// What each semantic directory depends on: its own directory, then those that its query names.
+    /// What each semantic directory depends on: its own directory, then those that its query names,
+    /// then those that users added to it.
     pub graph: Graph,
     /// The sessions that stand in a directory other than the root.
     pub sessions: Seq<Session>,
@@ -51,7 +54,7 @@ impl Parts {
         })
     }
 
-    /// Prepares the edges of a directory that has this parent and is to have this query.
+    /// Prepares the edges of a directory that is to have this parent and this query.
     pub fn prepare_edges(
         &mut self,
         alloc: Global,
@@ -59,10 +62,12 @@ impl Parts {
         parent: Number,
         query: &Query<Number>,
     ) -> Result<NewEdges, Memory>
+        requires { IsLinked self.old }
         ensures same { KeepsTree self.old self.new }
-        ensures edges { IfOk result (AreEdges self.new.graph dir parent query.now) }
+        ensures edges { IfOk result (AreEdges self.new.graph dir
+            (edges_then self.old dir parent (Some query.now))) }
     {
-        let edges = edges_of(alloc, parent, query)?;
+        let edges = edges_of(alloc, parent, query, lenders(self, dir))?;
         self.graph.prepare_edges(dir, edges)
     }
 
@@ -73,14 +78,39 @@ impl Parts {
         entry: Number,
         dir: Number,
     ) -> Result<Option<NewEdges>, Memory>
+        requires { IsLinked self.old }
         ensures same { KeepsTree self.old self.new }
-        ensures edges { IfOk result (AreMovedEdges self.old.tree.state self.new.graph entry dir) }
+        ensures edges { IfOk result (WillHave self.new.graph entry
+            (edges_then self.old entry dir (query_at self.old.tree.state entry))) }
     {
         let Some(query) = self.tree.query(entry) else {
             return Ok(None);
         };
-        let edges = edges_of(alloc, dir, query)?;
+        let edges = edges_of(alloc, dir, query, lenders(self, entry))?;
         Ok(Some(self.graph.prepare_edges(entry, edges)?))
+    }
+
+    /// Prepares the edges of a directory that gets or loses a mark, if the mark is on a directory.
+    pub fn prepare_marked_edges(
+        &mut self,
+        alloc: Global,
+        mark: &Mark,
+    ) -> Result<Option<NewEdges>, Memory>
+        requires { IsLinked self.old }
+        ensures same { KeepsTree self.old self.new }
+        ensures edges { IfOk result (WillHave self.new.graph mark.now.dir
+            (edges_marked self.old mark.now)) }
+    {
+        let Some(query) = self.tree.query(mark.dir) else {
+            return Ok(None);
+        };
+        if !self.tree.is_directory(mark.item) {
+            return Ok(None);
+        }
+        let lenders = marked(alloc, lenders(self, mark.dir), mark)?;
+        let parent = self.tree.parent(mark.dir);
+        let edges = edges_of(alloc, parent, query, lenders.as_slice())?;
+        Ok(Some(self.graph.prepare_edges(mark.dir, edges)?))
     }
 
     /// Prepares what a mount is to keep: what its space told of each term in use, in order.

@@ -1,24 +1,26 @@
 //! What a machine is ready for: memory is taken first, and the change then made without any.
-ghost use Rattle.std.specs.Prelude.{◌≡◌, ◌<◌, ◌≤◌, [], IfOk, IsTrue, None, length, replicate};
+ghost use Rattle.std.specs.Prelude.{◌≡◌, ◌<◌, ◌≤◌, [], IfOk, IfSome, IsTrue, List, None, Some, length, replicate, ℕ};
 ghost use Rattle.hac_model.specs.Laws.{AllHappen};
 ghost use Rattle.hac_model.specs.Script.PathWords.{is_target, untested_word};
 ghost use Rattle.hac_model.specs.Tree.Asking.{are_all_told};
 ghost use Rattle.hac_model.specs.Tree.Events.{accepted, apply_all};
-ghost use Rattle.hac_model.specs.Tree.Links.{is_semantic, parent_of};
+ghost use Rattle.hac_model.specs.Tree.Links.{is_semantic, parent_of, query_at};
 ghost use Rattle.hac_model.specs.Tree.Mounting.{are_documents};
 ghost use Rattle.hac_model.specs.Tree.Mounts.{terms_to_ask};
 ghost use Rattle.hac_model.specs.Tree.Sessions.{is_stored, sessions_with};
 ghost use Rattle.hac_model.specs.Tree.{is_directory_at, is_mount_at};
+ghost use Rattle.dep_graph.specs.Graphs.{edges_of, replaced};
 ghost use Rattle.file_tree.specs.Documents.{numbers_for};
 ghost use Rattle.file_tree.specs.declared.ready.Ready.TheVariants as tree;
 ghost use Rattle.link_kinds.specs.Seen.{LinkListsRise, has_sets};
-ghost use Rattle.kept_state.specs.Parts.{AreAlike, AreMovedEdges, HasEdges, IsLinked, state_of};
+ghost use Rattle.kept_state.specs.Parts.{AreAlike, IsLinked, WillHave, edges_marked, edges_then};
+ghost use Rattle.kept_state.specs.Parts.{state_of};
 ghost use Rattle.kept_state.specs.Ready.{AnswersReady, CanCommit, GainsReady, IsCommitted, IsReady};
 ghost use Rattle.kept_state.specs.Ready.{IsPreparedFor, ready_events};
 
 use crate::forgetting::{forget_gone, forget_mount};
 use crate::parts::Parts;
-use dep_graph::NewEdges;
+use dep_graph::{Graph, NewEdges};
 use file_tree::{EntryKind, NewBody};
 use hac_model::{Counts, DOCS_LIMIT, Event, Mark, Memory, Name, Number, Query, Seq, Session, Text};
 use link_kinds::Links;
@@ -34,7 +36,7 @@ pub enum Ready {
     Change {
         /// The event.
         event: Event,
-        /// What the semantic directory will depend on that the event makes, asks anew or moves.
+        /// What a semantic directory will depend on, if that changes.
         edges: Option<NewEdges>,
         /// How much the state will hold.
         counts: Counts,
@@ -81,7 +83,7 @@ pub fn prepare(alloc: Global, kept: &mut Parts, event: &Event) -> Result<Option<
             ..
         } => prepare_semantic(alloc, kept, *dir, query, told),
         Event::Setq { dir, query, told } => prepare_query(alloc, kept, *dir, query, told),
-        Event::Mark(mark) => prepare_mark(kept, mark.dir),
+        Event::Mark(mark) => prepare_mark(alloc, kept, mark),
         Event::Rewrite { file, .. } => prepare_text(kept, *file),
         Event::Mv { entry, dir, .. } => prepare_move(alloc, kept, *entry, *dir),
         Event::Smount {
@@ -131,7 +133,8 @@ fn prepare_semantic(
     requires dir { IsTrue (is_directory_at kept.old.tree.state.entries dir) }
     ensures alike { AreAlike kept.old kept.new }
     ensures ready { IfOk result (λ edges. kept.new.tree.ready ≡ tree.Add dir EntryKind.Semantic) }
-    ensures edges { IfOk result (HasEdges kept.new.graph kept.new.tree.state.next dir query.now) }
+    ensures edges { IfOk result (WillHave kept.new.graph kept.new.tree.state.next
+        (edges_then kept.new kept.new.tree.state.next dir (Some query.now))) }
     ensures gains { IfOk result (λ edges. GainsReady kept.new query.now told.now) }
 {
     kept.prepare_gains(alloc, query, told.as_slice())?;
@@ -153,8 +156,8 @@ fn prepare_query(
     requires told { IsTrue (are_all_told (state_of kept.old) query.now told.now
         (state_of kept.old).entries) }
     ensures alike { AreAlike kept.old kept.new }
-    ensures edges { IfOk result (HasEdges kept.new.graph dir
-        (parent_of kept.new.tree.state dir) query.now) }
+    ensures edges { IfOk result (WillHave kept.new.graph dir
+        (edges_then kept.new dir (parent_of kept.new.tree.state dir) (Some query.now))) }
     ensures gains { IfOk result (λ edges. GainsReady kept.new query.now told.now) }
 {
     kept.prepare_gains(alloc, query, told.as_slice())?;
@@ -163,15 +166,19 @@ fn prepare_query(
     Ok(Some(edges))
 }
 
-/// Prepares one mark in a directory.
-fn prepare_mark(kept: &mut Parts, dir: Number) -> Result<Option<NewEdges>, Memory>
-    requires { IsTrue (is_semantic kept.old.tree.state dir) }
+/// Prepares a mark, and what its directory depends on then.
+fn prepare_mark(alloc: Global, kept: &mut Parts, mark: &Mark) -> Result<Option<NewEdges>, Memory>
+    requires linked { IsLinked kept.old }
+    requires semantic { IsTrue (is_semantic kept.old.tree.state mark.now.dir) }
     ensures alike { AreAlike kept.old kept.new }
-    ensures sets { IfOk result (λ edges. IsTrue (has_sets kept.new.marks dir)) }
+    ensures sets { IfOk result (λ edges. IsTrue (has_sets kept.new.marks mark.now.dir)) }
     ensures room { IfOk result (λ edges. 0 < kept.new.marks.spare) }
+    ensures edges { IfOk result (WillHave kept.new.graph mark.now.dir
+        (edges_marked kept.new mark.now)) }
 {
-    kept.marks.prepare(dir, 1)?;
-    Ok(None)
+    let edges = kept.prepare_marked_edges(alloc, mark)?;
+    kept.marks.prepare(mark.dir, 1)?;
+    Ok(edges)
 }
 
 /// Prepares a new text of a file.
@@ -190,10 +197,12 @@ fn prepare_move(
     entry: Number,
     dir: Number,
 ) -> Result<Option<NewEdges>, Memory>
-    requires { IsTrue (is_directory_at kept.old.tree.state.entries dir) }
+    requires linked { IsLinked kept.old }
+    requires dir { IsTrue (is_directory_at kept.old.tree.state.entries dir) }
     ensures alike { AreAlike kept.old kept.new }
     ensures ready { IfOk result (λ edges. kept.new.tree.ready ≡ tree.Move dir) }
-    ensures edges { IfOk result (AreMovedEdges kept.new.tree.state kept.new.graph entry dir) }
+    ensures edges { IfOk result (WillHave kept.new.graph entry
+        (edges_then kept.new entry dir (query_at kept.new.tree.state entry))) }
 {
     let edges = kept.prepare_moved_edges(alloc, entry, dir)?;
     kept.tree.prepare_move(dir)?;
@@ -288,7 +297,7 @@ fn apply(kept: &mut Parts, event: Event, edges: Option<NewEdges>, counts: Counts
         } => put_semantic(kept, dir, name, query, told, edges, counts),
         Event::Setq { dir, query, told } => put_query(kept, dir, query, told, edges, counts),
         Event::Unq { dir } => drop_query(kept, dir, counts),
-        Event::Mark(mark) => put_mark(kept, mark),
+        Event::Mark(mark) => put_mark(kept, mark, edges),
         Event::Rewrite { file, text } => put_text(kept, file, text, counts),
         Event::Mv { entry, dir, name } => put_moved(kept, entry, dir, name, edges, counts),
         Event::Rm { entry } => drop_leaf(kept, entry, counts),
@@ -349,10 +358,9 @@ fn put_semantic(
     requires suits { IsPreparedFor (Event.Smkdir dir name query told) edges kept.old }
     ensures { IsCommitted (Event.Smkdir dir name query told) kept.old kept.new }
 {
-    let Some(edges) = edges else { unreachable!() };
     drop(told);
     kept.tree.add(dir, name, NewBody::Semantic(query), counts);
-    kept.graph.set_edges(edges);
+    put_edges(&mut kept.graph, edges);
     kept.answers.put_told();
 }
 
@@ -370,10 +378,9 @@ fn put_query(
     requires suits { IsPreparedFor (Event.Setq dir query told) edges kept.old }
     ensures { IsCommitted (Event.Setq dir query told) kept.old kept.new }
 {
-    let Some(edges) = edges else { unreachable!() };
     drop(told);
     kept.tree.set_query(dir, query, counts);
-    kept.graph.set_edges(edges);
+    put_edges(&mut kept.graph, edges);
     kept.answers.put_told();
 }
 
@@ -387,15 +394,27 @@ fn drop_query(kept: &mut Parts, dir: Number, counts: Counts)
     kept.marks.drop_dir(dir);
 }
 
-/// Sets or removes a mark.
-fn put_mark(kept: &mut Parts, mark: Mark)
+/// Sets the edges that were prepared, if any were.
+fn put_edges(graph: &mut Graph, edges: Option<NewEdges>)
+    requires { IfSome edges (λ new. graph.old.ready ≡ Some new.dir) }
+    ensures { (dir : ℕ) (wanted : List ℕ) → WillHave graph.old dir wanted edges
+        → (q : ℕ) → edges_of graph.new q ≡ replaced (edges_of graph.old) dir wanted q }
+{
+    if let Some(edges) = edges {
+        graph.set_edges(edges);
+    }
+}
+
+/// Sets or removes a mark. Where it is on a directory, the edges are set too.
+fn put_mark(kept: &mut Parts, mark: Mark, edges: Option<NewEdges>)
     requires linked { IsLinked kept.old }
     requires happens { IsTrue (accepted (state_of kept.old) (Event.Mark mark)) }
-    requires suits { IsPreparedFor (Event.Mark mark) None kept.old }
+    requires suits { IsPreparedFor (Event.Mark mark) edges kept.old }
     ensures { IsCommitted (Event.Mark mark) kept.old kept.new }
 {
     know_lists(&kept.marks);
     kept.marks.set_kind(mark.dir, mark.item, mark.kind);
+    put_edges(&mut kept.graph, edges);
 }
 
 /// What links keep: all lists rise.
@@ -428,9 +447,7 @@ fn put_moved(
     ensures { IsCommitted (Event.Mv entry dir name) kept.old kept.new }
 {
     kept.tree.move_to(entry, dir, name, counts);
-    if let Some(edges) = edges {
-        kept.graph.set_edges(edges);
-    }
+    put_edges(&mut kept.graph, edges);
 }
 
 /// Removes a file or a symbolic link, with all marks on it.

@@ -2,7 +2,7 @@
 use Rattle.std.proofs.Common.{◌≡◌, ℕ, List, [], ◌∷◌, ◌||◌, refl, sym, ◌∙◌, inl, inr}
 use Rattle.std.specs.Prelude.{◌==◌}
 use Rattle.std.proofs.lemmas.Bool.{cases_eq, eq-eqb, ne_eqb}
-use Rattle.hac_model.specs.Tree.Links.{column, has}
+use Rattle.hac_model.specs.Tree.Links.{has}
 use Rattle.set_pool.specs.Rising.{is_among}
 use Rattle.hac_model.specs.Tree.Kinds.{is_permanent, is_transient}
 use Rattle.link_kinds.specs.Seen.{AllApart, Known, kind_at, permanent_in, transient_in}
@@ -20,7 +20,7 @@ has-among (first ∷ numbers) number = λ i. eqb-turned first number i || has-am
 
 -- the kind of an item says in which list it is
 module _ (links : Known) (apart : AllApart links) (dir item : ℕ) where
-  pub transient-told : column (transient_in links) item dir ≡ is_transient (kind_at links dir item)
+  pub transient-told : has (transient_in links dir) item ≡ is_transient (kind_at links dir item)
   transient-told = has-among (transient_in links dir) item ∙ (apart dir).transient item
 
   pub permanent-told : has (permanent_in links dir) item ≡ is_permanent (kind_at links dir item)

@@ -5,31 +5,34 @@ use Rattle.std.specs.Option.{option_map, option_map_or}
 use Rattle.std.proofs.lemmas.Bool.{cases_eq, eq-eqb, eqb-true, ne_eqb}
 use Rattle.indexmap.specs.IndexMap.{get}
 use Rattle.hac_model.specs.declared.marks.Kind.{Kind}
-use Rattle.hac_model.specs.declared.marks.Kind.TheVariants.{Unlinked}
 use Rattle.set_pool.specs.Rising.{removed}
 use Rattle.set_pool.specs.Sets as pool
 use Rattle.set_pool.specs.Sets.{AllListsRise, SameLive, Sets, is_live, list_of, members_of}
 use Rattle.std.specs.List.Sorted.{IsStrictlyIncreasing}
 use Rattle.std.specs.Map.{lookup}
 use Rattle.link_kinds.specs.Kept.{AreDistinct, AreFresh, AreLinksKept, AreLive, ChangesAll, OthersStay, dir_lists, has_set, is_one_of, is_owner, seen_of}
-use Rattle.link_kinds.specs.Kinds.{AreApart, Lists, kind_in, no_lists, with_kind}
+use Rattle.link_kinds.specs.Kinds.{AreApart, Lists, kind_in, no_lists, with_kind, with_lent, without_item}
 use Rattle.link_kinds.specs.Seen.{AllApart, ChangesDir, DropsItem, Known, SameKinds, SameLinks, has_sets, kind_at, lists_in}
 use Rattle.link_kinds.specs.declared.links.Links.TheInside.{Inside}
 use Rattle.link_kinds.specs.declared.sets.DirSets.{DirSets}
-use Rattle.link_kinds.proofs.KindLemmas.{apart-none, apart-with, kind-with}
+use Rattle.link_kinds.proofs.KindLemmas.{apart-none, kind-with}
 use Rattle.link_kinds.proofs.SeenLemmas.{empty-rises, has-seen, lists-seen, lists_under}
 
 or-true : (b : Bool) → (b || true) ≡ true
 or-true true = refl
 or-true false = refl
 
--- each of the three sets is one of them
-pub own : (sets : DirSets) → IsTrue (is_one_of sets sets.transient) × IsTrue (is_one_of sets sets.permanent) × IsTrue (is_one_of sets sets.prohibited)
+-- each of the four sets is one of them
+pub own : (sets : DirSets) → IsTrue (is_one_of sets sets.transient) × IsTrue (is_one_of sets sets.permanent) × IsTrue (is_one_of sets sets.prohibited) × IsTrue (is_one_of sets sets.lent)
 own sets = (
   (let e = eq-eqb sets.transient sets.transient refl in rw e refl),
   (let e = eq-eqb sets.permanent sets.permanent refl in rw e (or-true (sets.permanent == sets.transient))),
-  (let e = eq-eqb sets.prohibited sets.prohibited refl in rw e (ap (λ b. sets.prohibited == sets.transient || b) (or-true (sets.prohibited == sets.permanent)) ∙ or-true (sets.prohibited == sets.transient))),
+  (let e = eq-eqb sets.prohibited sets.prohibited refl in rw e (past (sets.prohibited == sets.transient) (or-true (sets.prohibited == sets.permanent)))),
+  (let e = eq-eqb sets.lent sets.lent refl in rw e (past (sets.lent == sets.transient) (past (sets.lent == sets.permanent) (or-true (sets.lent == sets.prohibited))))),
 )
+  where
+    past : (a : Bool) {b : Bool} → b ≡ true → (a || b) ≡ true
+    past a is = ap (λ b. a || b) is ∙ or-true a
 
 -- whether a set is one of those that a directory has
 abbrev has_in : ℕ → Option DirSets → Bool
@@ -40,7 +43,7 @@ under-stay : (p q : Sets) (o : Option DirSets) → ((set : ℕ) → IsTrue (has_
 under-stay p q None stay = refl
 under-stay p q (Some sets) stay =
     let o = own sets in
-    λ i. record { transient = unwrap_or (stay sets.transient o.0 i) []; permanent = unwrap_or (stay sets.permanent o.1 i) []; prohibited = unwrap_or (stay sets.prohibited o.2 i) [] }
+    λ i. record { transient = unwrap_or (stay sets.transient o.0 i) []; permanent = unwrap_or (stay sets.permanent o.1 i) []; prohibited = unwrap_or (stay sets.prohibited o.2 i) []; lent = unwrap_or (stay sets.lent o.3 i) [] }
 
 module _ (links : Inside) (kept : AreLinksKept links) (dir : ℕ) (sets : DirSets) (there : Some sets ≡ get nat_eq links.dirs dir) where
   of-dir : (set : ℕ) → is_one_of sets set ≡ is_owner (kept.owner set) dir
@@ -48,7 +51,7 @@ module _ (links : Inside) (kept : AreLinksKept links) (dir : ℕ) (sets : DirSet
 
   -- the sets of a directory are live, and no two of them are one
   pub are-live : AreLive links.pool sets
-  are-live = let o = own sets in (alive sets.transient o.0, alive sets.permanent o.1, alive sets.prohibited o.2)
+  are-live = let o = own sets in (alive sets.transient o.0, alive sets.permanent o.1, alive sets.prohibited o.2, alive sets.lent o.3)
     where
       some : (o : Option ℕ) → IsTrue (is_owner o dir) → IsTrue (is_some o)
       some None is = is
@@ -133,7 +136,7 @@ module _ (old new : Inside) (seen : Known) (view_is : seen_of old ≡ seen) wher
         lists-seen new (seen_of new) refl d
         ∙ ap (lists_under new.pool) (dirs d)
         ∙ under-drop (get nat_eq old.dirs d)
-        ∙ ap (with_kind Unlinked item) (sym (lists-seen old seen view_is d))
+        ∙ ap (without_item item) (sym (lists-seen old seen view_is d))
       where
         thin : (list : Option (List ℕ)) → unwrap_or (option_map (removed item) list) [] ≡ removed item (unwrap_or list [])
         thin None = refl
@@ -142,9 +145,9 @@ module _ (old new : Inside) (seen : Known) (view_is : seen_of old ≡ seen) wher
         thinned : (set : ℕ) → members_of new.pool set ≡ removed item (members_of old.pool set)
         thinned set = ap (λ list. unwrap_or list []) (drops set) ∙ thin (list_of old.pool set)
 
-        under-drop : (o : Option DirSets) → lists_under new.pool o ≡ with_kind Unlinked item (lists_under old.pool o)
+        under-drop : (o : Option DirSets) → lists_under new.pool o ≡ without_item item (lists_under old.pool o)
         under-drop None = refl
-        under-drop (Some sets) = λ i. record { transient = thinned sets.transient i; permanent = thinned sets.permanent i; prohibited = thinned sets.prohibited i }
+        under-drop (Some sets) = λ i. record { transient = thinned sets.transient i; permanent = thinned sets.permanent i; prohibited = thinned sets.prohibited i; lent = thinned sets.lent i }
 
   -- one directory gets sets, or loses those that it has
   module _ (dir : ℕ) (now : Option DirSets) (dirs : (d : ℕ) → get nat_eq new.dirs d ≡ cond (d == dir) now (get nat_eq old.dirs d)) where
@@ -191,17 +194,17 @@ module _ (old new : Inside) (seen : Known) (view_is : seen_of old ≡ seen) wher
             kinds = apart-changed seen (seen_of new) dir no_lists changes-all apart-none kinds;
           }
 
--- an item gets a kind in one directory
-module _ (links : Inside) (kept : AreLinksKept links) (dir : ℕ) (sets : DirSets) (there : Some sets ≡ get nat_eq links.dirs dir) (kind : Kind) (item : ℕ) (q : Sets) (others : OthersStay links.pool q sets) (lists : dir_lists q sets ≡ with_kind kind item (dir_lists links.pool sets)) where
-  pub changes-kind : (seen : Known) → seen_of links ≡ seen → ChangesDir seen (seen_of (record links { pool = q })) dir (with_kind kind item (lists_in seen dir))
-  changes-kind seen view_is =
-      changes links (record links { pool = q }) seen view_is dir (λ d differ. refl) (λ d set differ is. others set (apart-set links kept dir sets there d set differ is)) (with_kind kind item (lists_in seen dir))
-      (ap (lists_under q) (sym there) ∙ lists ∙ ap (with_kind kind item) (ap (lists_under links.pool) there ∙ sym (lists-seen links seen view_is dir)))
+-- the sets of one directory change
+module _ (links : Inside) (kept : AreLinksKept links) (dir : ℕ) (sets : DirSets) (there : Some sets ≡ get nat_eq links.dirs dir) (change : Lists → Lists) (q : Sets) (others : OthersStay links.pool q sets) (lists : dir_lists q sets ≡ change (dir_lists links.pool sets)) where
+  pub changes-own : (seen : Known) → seen_of links ≡ seen → ChangesDir seen (seen_of (record links { pool = q })) dir (change (lists_in seen dir))
+  changes-own seen view_is =
+      changes links (record links { pool = q }) seen view_is dir (λ d differ. refl) (λ d set differ is. others set (apart-set links kept dir sets there d set differ is)) (change (lists_in seen dir))
+      (ap (lists_under q) (sym there) ∙ lists ∙ ap change (ap (lists_under links.pool) there ∙ sym (lists-seen links seen view_is dir)))
 
-  pub kept-kind : SameLive links.pool q → AllListsRise q → AreLinksKept (record links { pool = q })
-  kept-kind live rise =
+  pub kept-own : SameLive links.pool q → AllListsRise q → ((lists : Lists) → AreApart lists → AreApart (change lists)) → AreLinksKept (record links { pool = q })
+  kept-own live rise apart =
       kept-still links (record links { pool = q }) (seen_of links) refl (λ d. refl) kept live rise
-      (apart-changed (seen_of links) (seen_of (record links { pool = q })) dir (with_kind kind item (lists_in (seen_of links) dir)) (changes-kind (seen_of links) refl) (apart-with kind item (lists_in (seen_of links) dir) (kept.kinds dir)) kept.kinds)
+      (apart-changed (seen_of links) (seen_of (record links { pool = q })) dir (change (lists_in (seen_of links) dir)) (changes-own (seen_of links) refl) (apart (lists_in (seen_of links) dir) (kept.kinds dir)) kept.kinds)
 
 module _ (old new : Inside) (kept : AreLinksKept old) (dir : ℕ) (sets : DirSets) where
   -- a directory gets sets, which are new
@@ -221,7 +224,7 @@ module _ (old new : Inside) (kept : AreLinksKept old) (dir : ℕ) (sets : DirSet
         by_one false one = refl
 
     empty : dir_lists new.pool sets ≡ no_lists
-    empty = let o = own sets in λ i. record { transient = members sets.transient o.0 i; permanent = members sets.permanent o.1 i; prohibited = members sets.prohibited o.2 i }
+    empty = let o = own sets in λ i. record { transient = members sets.transient o.0 i; permanent = members sets.permanent o.1 i; prohibited = members sets.prohibited o.2 i; lent = members sets.lent o.3 i }
       where
         members : (set : ℕ) → IsTrue (is_one_of sets set) → members_of new.pool set ≡ []
         members set one = ap (λ list. unwrap_or list []) (made set ∙ ap (λ b. cond b (Some []) (list_of old.pool set)) one)
@@ -288,6 +291,14 @@ kinds-set old new dir item kind change d i = ap (λ lists. kind_in lists i) (cha
   where
     by_dir : (b : Bool) → (d == dir) ≡ b → kind_in (cond b (with_kind kind item (lists_in old dir)) (lists_in old d)) i ≡ cond (b && i == item) kind (kind_at old d i)
     by_dir true is = kind-with kind item i (lists_in old dir) ∙ ap (λ d. cond (i == item) kind (kind_at old d i)) (sym (eqb-true d dir is))
+    by_dir false is = refl
+
+-- the kinds of items, after one was lent or is no longer
+pub kinds-lent : (old new : Known) (dir item : ℕ) (on : Bool) → ChangesDir old new dir (with_lent on item (lists_in old dir)) → (d i : ℕ) → kind_at new d i ≡ kind_at old d i
+kinds-lent old new dir item on change d i = ap (λ lists. kind_in lists i) (change d) ∙ by_dir (d == dir) refl
+  where
+    by_dir : (b : Bool) → (d == dir) ≡ b → kind_in (cond b (with_lent on item (lists_in old dir)) (lists_in old d)) i ≡ kind_at old d i
+    by_dir true is = ap (λ d. kind_at old d i) (sym (eqb-true d dir is))
     by_dir false is = refl
 
 -- whether a directory has its sets

@@ -5,7 +5,7 @@ use Rattle.set_pool.proofs.PoolLemmas.{among-inserted, among-removed}
 use Rattle.hac_model.specs.declared.marks.Kind.{Kind}
 use Rattle.hac_model.specs.declared.marks.Kind.TheVariants.{Transient, Permanent, Prohibited, Unlinked}
 use Rattle.hac_model.specs.Tree.Kinds.{is_permanent, is_prohibited, is_transient}
-use Rattle.link_kinds.specs.Kinds.{AreApart, Lists, kind_in, no_lists, with_kind}
+use Rattle.link_kinds.specs.Kinds.{AreApart, Lists, kind_in, no_lists, with_kind, with_lent, without_item}
 
 -- whether an item is in a list after a change of another or of the same: the list is that of the kind, the item was in
 -- it, it is the one that changes
@@ -77,6 +77,13 @@ apart-with kind item lists apart =
         ∙ ap (cond (eqb i item) (test kind)) same
         ∙ (elim (eqb i item) as (λ here. cond here (test kind) (test (kind_in lists i)) ≡ test (cond here kind (kind_in lists i))) [ true ↦ refl | false ↦ refl ])
         ∙ ap test (sym (kind-with kind item i lists))
+
+-- who is lent tells nothing of kinds
+pub apart-lent : (on : Bool) (item : ℕ) (lists : Lists) → AreApart lists → AreApart (with_lent on item lists)
+apart-lent on item lists apart = record { transient = apart.transient; permanent = apart.permanent; prohibited = apart.prohibited }
+
+pub apart-without : (item : ℕ) (lists : Lists) → AreApart lists → AreApart (without_item item lists)
+apart-without item lists apart = apart-lent false item (with_kind Unlinked item lists) (apart-with Unlinked item lists apart)
 
 pub apart-none : AreApart no_lists
 apart-none = record { transient = λ item. refl; permanent = λ item. refl; prohibited = λ item. refl }

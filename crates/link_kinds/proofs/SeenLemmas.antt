@@ -44,8 +44,8 @@ module _ (links : Inside) (seen : Known) (view_is : seen_of links ≡ seen) wher
   lists-told tell dir sets is = ap tell (ap (lists_under links.pool) is ∙ sym (lists-seen dir))
 
   rise-under : AreLinksKept links → (sets : Option DirSets) → AreRising (lists_under links.pool sets)
-  rise-under kept None = record { transient = empty-rises; permanent = empty-rises; prohibited = empty-rises }
-  rise-under kept (Some sets) = record { transient = kept.rise sets.transient; permanent = kept.rise sets.permanent; prohibited = kept.rise sets.prohibited }
+  rise-under kept None = record { transient = empty-rises; permanent = empty-rises; prohibited = empty-rises; lent = empty-rises }
+  rise-under kept (Some sets) = record { transient = kept.rise sets.transient; permanent = kept.rise sets.permanent; prohibited = kept.rise sets.prohibited; lent = kept.rise sets.lent }
 
   pub rise-seen : AreLinksKept links → LinkListsRise seen
   rise-seen kept dir = subst AreRising (sym (lists-seen dir)) (rise-under kept (get nat_eq links.dirs dir))

@@ -1,4 +1,4 @@
--- How links are kept: three sets of a pool for each directory.
+-- How links are kept: four sets of a pool for each directory.
 use Rattle.std.specs.Prelude.{◌≡◌, ◌≢◌, ◌==◌, ◌||◌, ℕ, Bool, false, IsTrue, List, Option, Some, if◌then◌else◌, is_some, map, nat_eq}
 use Rattle.std.specs.Option.{option_map_or}
 use Rattle.indexmap.specs.IndexMap.{get}
@@ -8,31 +8,33 @@ use Rattle.link_kinds.specs.Seen.{AllApart, Known}
 use Rattle.link_kinds.specs.declared.links.Links.TheInside.{Inside}
 use Rattle.link_kinds.specs.declared.sets.DirSets.{DirSets}
 
--- what the three sets of a directory hold
+-- what the four sets of a directory hold
 abbrev pub dir_lists : Sets → DirSets → Lists
-dir_lists pool sets = record { transient = members_of pool sets.transient; permanent = members_of pool sets.permanent; prohibited = members_of pool sets.prohibited }
+dir_lists pool sets = record { transient = members_of pool sets.transient; permanent = members_of pool sets.permanent; prohibited = members_of pool sets.prohibited; lent = members_of pool sets.lent }
 
--- the set is one of the three
+-- the set is one of the four
 abbrev pub is_one_of : DirSets → ℕ → Bool
-is_one_of sets set = set == sets.transient || (set == sets.permanent || set == sets.prohibited)
+is_one_of sets set = set == sets.transient || (set == sets.permanent || (set == sets.prohibited || set == sets.lent))
 
--- the three sets are live
+-- the four sets are live
 abbrev pub AreLive : Sets → DirSets → Type 0
-AreLive pool sets = IsTrue (is_live pool sets.transient) × IsTrue (is_live pool sets.permanent) × IsTrue (is_live pool sets.prohibited)
+AreLive pool sets = IsTrue (is_live pool sets.transient) × IsTrue (is_live pool sets.permanent) × IsTrue (is_live pool sets.prohibited) × IsTrue (is_live pool sets.lent)
 
--- none of the three sets was live
+-- none of the four sets was live
 abbrev pub AreFresh : Sets → DirSets → Type 0
 AreFresh pool sets = (set : ℕ) → IsTrue (is_one_of sets set) → is_live pool set ≡ false
 
--- no two of the three sets are one
+-- no two of the four sets are one
 abbrev pub AreDistinct : DirSets → Type 0
-AreDistinct sets = (sets.transient ≢ sets.permanent) × (sets.transient ≢ sets.prohibited) × (sets.permanent ≢ sets.prohibited)
+AreDistinct sets =
+    (sets.transient ≢ sets.permanent) × (sets.transient ≢ sets.prohibited) × (sets.transient ≢ sets.lent)
+    × (sets.permanent ≢ sets.prohibited) × (sets.permanent ≢ sets.lent) × (sets.prohibited ≢ sets.lent)
 
--- each set but these three is as before
+-- each set but these four is as before
 abbrev pub OthersStay : Sets → Sets → DirSets → Type 0
 OthersStay old new sets = (set : ℕ) → is_one_of sets set ≡ false → list_of new set ≡ list_of old set
 
--- each of the three sets has that list, or isn't live, and each other set is as before
+-- each of the four sets has that list, or isn't live, and each other set is as before
 abbrev pub ChangesAll : Sets → Sets → DirSets → Option (List ℕ) → Type 0
 ChangesAll old new sets list = (set : ℕ) → list_of new set ≡ (if is_one_of sets set then list else list_of old set)
 

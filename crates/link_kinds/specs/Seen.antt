@@ -2,9 +2,10 @@
 use Rattle.std.specs.Prelude.{◌≡◌, ℕ, ◌+◌, ◌≤◌, Bool, ◌==◌, is_some, if◌then◌else◌, List, Option, unwrap_or}
 use Rattle.std.specs.Map.{lookup}
 use Rattle.hac_model.specs.declared.marks.Kind.{Kind}
-use Rattle.link_kinds.specs.Kinds.{AreApart, AreRising, Lists, kind_in, no_lists, with_kind}
+use Rattle.link_kinds.specs.Kinds.{AreApart, AreRising, Lists, kind_in, no_lists, without_item}
 
--- the lists of the directories that have their sets, and how many calls may still give a kind without memory
+-- the lists of the directories that have their sets, and how many calls may still give a kind, or say whether an item is
+-- lent, without memory
 pub record Known : Type 0 where
   pub dirs : List (ℕ × Lists)
   pub spare : ℕ
@@ -33,6 +34,10 @@ permanent_in links dir = (lists_in links dir).permanent
 abbrev pub prohibited_in : Known → ℕ → List ℕ
 prohibited_in links dir = (lists_in links dir).prohibited
 
+-- the items that linked directories lend a directory, in order of number
+abbrev pub lent_in : Known → ℕ → List ℕ
+lent_in links dir = (lists_in links dir).lent
+
 -- how an item is linked in a directory
 abbrev pub kind_at : Known → ℕ → ℕ → Kind
 kind_at links dir item = kind_in (lists_in links dir) item
@@ -45,11 +50,11 @@ LinkListsRise links = (dir : ℕ) → AreRising (lists_in links dir)
 abbrev pub AllApart : Known → Type 0
 AllApart links = (dir : ℕ) → AreApart (lists_in links dir)
 
--- nothing is linked anywhere
+-- nothing is linked or lent anywhere
 abbrev pub IsEmpty : Known → Type 0
 IsEmpty links = (dir : ℕ) → lists_in links dir ≡ no_lists
 
--- each item has the kinds that it had
+-- each item has the kinds that it had, and is lent where it was
 abbrev pub SameKinds : Known → Known → Type 0
 SameKinds old new = (dir : ℕ) → lists_in new dir ≡ lists_in old dir
 
@@ -61,9 +66,9 @@ SameLinks old new = (dir : ℕ) → has_sets new dir ≡ has_sets old dir
 abbrev pub ChangesDir : Known → Known → ℕ → Lists → Type 0
 ChangesDir old new dir lists = (d : ℕ) → lists_in new d ≡ (if d == dir then lists else lists_in old d)
 
--- the item isn't linked in any directory, and each other item is as before
+-- the item isn't linked in any directory, nor lent to one, and each other item is as before
 abbrev pub DropsItem : Known → Known → ℕ → Type 0
-DropsItem old new item = (dir : ℕ) → lists_in new dir ≡ with_kind Kind.Unlinked item (lists_in old dir)
+DropsItem old new item = (dir : ℕ) → lists_in new dir ≡ without_item item (lists_in old dir)
 
 -- it falls by one at most, and doesn't rise
 abbrev pub LosesOneAtMost : ℕ → ℕ → Type 0

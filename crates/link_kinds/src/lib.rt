@@ -1,5 +1,5 @@
-//! Which items are linked in which semantic directories, and how. It knows no tree and no query: a
-//! directory and an item are numbers.
+//! Which items are linked in which semantic directories, and how, and which are lent to them. It
+//! knows no tree and no query: a directory and an item are numbers.
 #![tactic(auto)]
 
 mod links;

@@ -1,14 +1,16 @@
-//! Links: the kind of each item in each semantic directory. It knows nothing of what makes an item
-//! a link.
+//! Links: the kind of each item in each semantic directory, and the items that are lent to it. It
+//! knows nothing of what makes an item a link, or lends it.
 ghost use Rattle.std.specs.Prelude.{◌≡◌, ◌==◌, ◌&&◌, ◌||◌, ◌<◌, ◌+◌, length, max, ℕ, IfOk, IsTrue};
-ghost use Rattle.std.specs.Prelude.{None, Some, OnErr, OnOk, false, if◌then◌else◌, nat_eq, not};
+ghost use Rattle.std.specs.Prelude.{None, Some, OnErr, OnOk, false, if◌then◌else◌, is_some, nat_eq};
+ghost use Rattle.std.specs.Prelude.{not};
 ghost use Rattle.indexmap.specs.IndexMap.{get, spare};
-ghost use Rattle.set_pool.specs.Rising.{first_from};
+ghost use Rattle.set_pool.specs.Rising.{first_from, is_among};
 ghost use Rattle.set_pool.specs.Sets as pool_sets;
-ghost use Rattle.link_kinds.specs.Kinds.{items_of, no_lists, with_kind};
+ghost use Rattle.link_kinds.specs.Kinds.{items_of, no_lists, with_kind, with_lent};
 ghost use Rattle.link_kinds.specs.Seen.{AllApart, ChangesDir, DropsItem, IsEmpty, LinkListsRise};
 ghost use Rattle.link_kinds.specs.Seen.{LosesOneAtMost, SameKinds, SameLinks, has_sets, kind_at};
-ghost use Rattle.link_kinds.specs.Seen.{lists_in, permanent_in, prohibited_in, transient_in};
+ghost use Rattle.link_kinds.specs.Seen.{lent_in, lists_in, permanent_in, prohibited_in};
+ghost use Rattle.link_kinds.specs.Seen.{transient_in};
 
 use crate::sets::DirSets;
 use hac_model::{Kind, Memory, Number};
@@ -20,8 +22,8 @@ use std::marker::Model;
 /// The sets of each directory that has some.
 type Dirs = IndexMap<u64, DirSets>;
 
-/// How items are linked in semantic directories. Room comes first: after `prepare(dir, n)`, `n`
-/// calls of `set_kind` take no memory.
+/// How items are linked in semantic directories, and which are lent to them. Room comes first:
+/// after `prepare(dir, n)`, `n` calls of `set_kind` or `set_lent` take no memory.
 #[derive(Drop)]
 pub struct Links {
     dirs: Dirs,
@@ -41,7 +43,7 @@ impl Model for Links {
 }
 
 impl Links {
-    /// No item is linked anywhere.
+    /// No item is linked or lent anywhere.
     pub fn new(alloc: Global) -> Result<Links, Memory>
         ensures empty { IfOk result (λ links. IsEmpty links) }
         ensures sets { IfOk result (λ links. (dir : ℕ) → has_sets links dir ≡ false) }
@@ -55,7 +57,7 @@ impl Links {
     }
 
     /// Ensures that a directory has its sets, and that there is memory for `count` calls of
-    /// `set_kind`. What is left of earlier calls counts.
+    /// `set_kind` or `set_lent`. What is left of earlier calls counts.
     pub fn prepare(&mut self, dir: Number, count: u64) -> Result<(), Memory>
         ensures room { OnOk result (self.new.spare ≡ max self.old.spare count) }
         ensures sets { OnOk result
@@ -86,6 +88,16 @@ impl Links {
         match sets_at(&self.dirs, dir) {
             Some(sets) => sets.kind(&self.pool, item),
             None => Kind::Unlinked,
+        }
+    }
+
+    /// Whether linked directories lend an item to a directory.
+    pub fn lent(&self, dir: Number, item: Number) -> bool
+        ensures { result ≡ is_among item (lent_in self.now dir) }
+    {
+        match sets_at(&self.dirs, dir) {
+            Some(sets) => sets.lent(&self.pool, item),
+            None => false,
         }
     }
 
@@ -130,7 +142,8 @@ impl Links {
         }
     }
 
-    /// Gives an item a kind in a directory, in place of the one that it has there.
+    /// Gives an item a kind in a directory, in place of the one that it has there. An item that is
+    /// lent stays so.
     pub fn set_kind(&mut self, dir: Number, item: Number, kind: Kind)
         requires sets { IsTrue (has_sets self.old dir) }
         requires room { 0 < self.old.spare }
@@ -141,13 +154,23 @@ impl Links {
         ensures sets { SameLinks self.old self.new }
         ensures spare { LosesOneAtMost self.old.spare self.new.spare }
     {
-        let Some(sets) = sets_at(&self.dirs, dir) else {
-            unreachable!()
-        };
-        sets.set_kind(&mut self.pool, item, kind);
+        sets_of(&self.dirs, dir).set_kind(&mut self.pool, item, kind);
     }
 
-    /// No item is linked in the directory any more, and it has no sets.
+    /// An item is lent to a directory, or no longer is. It keeps the kind that it has there.
+    pub fn set_lent(&mut self, dir: Number, item: Number, on: bool)
+        requires sets { IsTrue (has_sets self.old dir) }
+        requires room { 0 < self.old.spare }
+        ensures lists { ChangesDir self.old self.new dir
+            (with_lent on item (lists_in self.old dir)) }
+        ensures kinds { (d i : ℕ) → kind_at self.new d i ≡ kind_at self.old d i }
+        ensures sets { SameLinks self.old self.new }
+        ensures spare { LosesOneAtMost self.old.spare self.new.spare }
+    {
+        sets_of(&self.dirs, dir).set_lent(&mut self.pool, item, on);
+    }
+
+    /// No item is linked in the directory or lent to it any more, and it has no sets.
     pub fn drop_dir(&mut self, dir: Number)
         ensures lists { ChangesDir self.old self.new dir no_lists }
         ensures sets { (d : ℕ) → has_sets self.new d ≡ (has_sets self.old d && not (d == dir)) }
@@ -158,7 +181,7 @@ impl Links {
         }
     }
 
-    /// The item isn't linked in any directory any more.
+    /// The item isn't linked in any directory or lent to one any more.
     pub fn drop_item(&mut self, item: Number)
         ensures lists { DropsItem self.old self.new item }
         ensures sets { SameLinks self.old self.new }
@@ -168,13 +191,13 @@ impl Links {
     }
 }
 
-/// Sets aside what three new sets want, beside `count` calls and what is spare already.
+/// Sets aside what four new sets want, beside `count` calls and what is spare already.
 fn reserve_more(pool: &mut SetPool, count: u64) -> Result<(), Memory>
-    ensures room { OnOk result (pool.new.spare ≡ max pool.old.spare count + 3) }
+    ensures room { OnOk result (pool.new.spare ≡ max pool.old.spare count + 4) }
     ensures err { OnErr result (pool.new.spare ≡ pool.old.spare) }
     ensures same { pool_sets.SameSets pool.old pool.new }
 {
-    let Some(all) = count.max(pool.spare()).checked_add(3) else {
+    let Some(all) = count.max(pool.spare()).checked_add(4) else {
         return Err(Memory);
     };
     pool.reserve(all)?;
@@ -186,6 +209,17 @@ fn sets_at(dirs: &Dirs, dir: Number) -> Option<DirSets>
     ensures { result ≡ get nat_eq dirs.now dir }
 {
     dirs.get(&dir.get()).copied()
+}
+
+/// The sets of a directory that has some.
+fn sets_of(dirs: &Dirs, dir: Number) -> DirSets
+    requires { IsTrue (is_some (get nat_eq dirs.now dir)) }
+    ensures { Some result ≡ get nat_eq dirs.now dir }
+{
+    let Some(sets) = sets_at(dirs, dir) else {
+        unreachable!()
+    };
+    sets
 }
 
 /// Gives a directory its sets, in a map that has room for them.

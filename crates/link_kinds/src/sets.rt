@@ -1,21 +1,23 @@
-//! The three sets of one directory, within the pool that all directories share.
+//! The four sets of one directory, within the pool that all directories share.
 ghost use Rattle.std.specs.Prelude.{◌≡◌, ◌+◌, ◌<◌, ◌≤◌, [], length, None, Some};
-ghost use Rattle.set_pool.specs.Rising.{first_from};
+ghost use Rattle.set_pool.specs.Rising.{first_from, is_among};
 ghost use Rattle.set_pool.specs.Sets.{AllListsRise, SameLive};
 ghost use Rattle.link_kinds.specs.Kept.{AreDistinct, AreFresh, AreLive, ChangesAll, OthersStay};
 ghost use Rattle.link_kinds.specs.Kept.{dir_lists};
-ghost use Rattle.link_kinds.specs.Kinds.{items_of, kind_in, with_kind};
+ghost use Rattle.link_kinds.specs.Kinds.{items_of, kind_in, with_kind, with_lent};
 ghost use Rattle.link_kinds.specs.Seen.{LosesOneAtMost};
 
 use hac_model::{Kind, Number};
 use set_pool::{SetId, SetPool};
 
-/// The sets of a directory's items, one for each kind of link.
+/// The sets of a directory's items: one for each kind of link, and one for those that linked
+/// directories lend it.
 #[derive(Clone, Copy)]
 pub(crate) struct DirSets {
     pub(crate) transient: SetId,
     pub(crate) permanent: SetId,
     pub(crate) prohibited: SetId,
+    pub(crate) lent: SetId,
 }
 
 impl DirSets {
@@ -34,6 +36,14 @@ impl DirSets {
         } else {
             Kind::Unlinked
         }
+    }
+
+    /// Whether an item is lent to the directory.
+    pub(crate) fn lent(&self, pool: &SetPool, item: Number) -> bool
+        requires { AreLive pool.now self.now }
+        ensures { result ≡ is_among item (dir_lists pool.now self.now).lent }
+    {
+        pool.contains(self.lent, item.get())
     }
 
     /// How many items have a kind.
@@ -100,26 +110,48 @@ impl DirSets {
         }
     }
 
-    /// Three new sets, which are empty.
+    /// The item is lent to the directory, or no longer is.
+    pub(crate) fn set_lent(&self, pool: &mut SetPool, item: Number, on: bool)
+        requires live { AreLive pool.old self.now }
+        requires differ { AreDistinct self.now }
+        requires room { 0 < pool.old.spare }
+        ensures lists { dir_lists pool.new self.now
+            ≡ with_lent on item (dir_lists pool.old self.now) }
+        ensures others { OthersStay pool.old pool.new self.now }
+        ensures live { SameLive pool.old pool.new }
+        ensures spare { LosesOneAtMost pool.old.spare pool.new.spare }
+        ensures rise { AllListsRise pool.new }
+    {
+        let item = item.get();
+        if on {
+            pool.insert(self.lent, item);
+        } else {
+            pool.remove(self.lent, item);
+        }
+    }
+
+    /// Four new sets, which are empty.
     pub(crate) fn make(pool: &mut SetPool) -> DirSets
-        requires { 3 ≤ pool.old.spare }
+        requires { 4 ≤ pool.old.spare }
         ensures made { ChangesAll pool.old pool.new result (Some []) }
         ensures fresh { AreFresh pool.old result }
         ensures differ { AreDistinct result }
-        ensures spare { pool.new.spare + 3 ≡ pool.old.spare }
+        ensures spare { pool.new.spare + 4 ≡ pool.old.spare }
         ensures rise { AllListsRise pool.new }
     {
         let transient = pool.make();
         let permanent = pool.make();
         let prohibited = pool.make();
+        let lent = pool.make();
         DirSets {
             transient,
             permanent,
             prohibited,
+            lent,
         }
     }
 
-    /// Frees the three sets.
+    /// Frees the four sets.
     pub(crate) fn free(&self, pool: &mut SetPool)
         requires live { AreLive pool.old self.now }
         requires differ { AreDistinct self.now }
@@ -130,5 +162,6 @@ impl DirSets {
         pool.free(self.transient);
         pool.free(self.permanent);
         pool.free(self.prohibited);
+        pool.free(self.lent);
     }
 }

@@ -14,7 +14,7 @@ use Rattle.hac_model.specs.Script.PathWords.{word_of}
 use Rattle.hac_model.specs.Tree.Paths.{are_names, path_text, slashed}
 use Rattle.hac_model.specs.Query.QueryReading.{read_on, fresh_reader, parsed, named, worded, limited_query, spelled_query, read_query}
 use Rattle.hac_model.specs.Query.Queries.{are_terms, term_count}
-use Rattle.hac_model.specs.Query.QueryText.{named_by}
+use Rattle.hac_model.specs.Query.QueryText.{referred_by}
 use Rattle.hac_model.specs.declared.limits.LimitWord.{LimitWord}
 use Rattle.hac_model.specs.declared.limits.TheConstants.{QUERY_LIMIT, TERMS_LIMIT, NESTING_LIMIT}
 use Rattle.hac_model.specs.declared.paths.PathWord.{PathWord}
@@ -73,7 +73,7 @@ module _ (paths : List NamedDir) (all : list_all (λ told. are_names told.path) 
   record Known (q : Formula ℕ) : Type 0 where
     terms : are_terms (pathed paths q) ≡ are_terms q
     dirs : ArePaths (pathed paths q)
-    words : worded (pathed paths q) ≡ Ok (named_by (word_to paths) q)
+    words : worded (pathed paths q) ≡ Ok (referred_by (word_to paths) q)
 
   known : (q : Formula ℕ) → are_known paths q ≡ true → Known q
   known (formula.Term asked) h = record { terms = refl; dirs = tt; words = refl }
@@ -91,7 +91,7 @@ module _ (paths : List NamedDir) (all : list_all (λ told. are_names told.path) 
         terms = ap (λ (b : Bool). b && are_terms (pathed paths r)) left.terms ∙ ap (λ (b : Bool). are_terms l && b) right.terms;
         dirs = (left.dirs, right.dirs);
         words = ap (λ (x : Result (Formula PathWord) Refusal). and_then (λ v. and_then (λ w. Ok (formula.And v w)) (worded (pathed paths r))) x) left.words
-            ∙ ap (and_then (λ w. Ok (formula.And (named_by (word_to paths) l) w))) right.words;
+            ∙ ap (and_then (λ w. Ok (formula.And (referred_by (word_to paths) l) w))) right.words;
       }
   known (formula.Or l r) h =
       let both = and_parts (are_known paths l) (are_known paths r) h in
@@ -101,7 +101,7 @@ module _ (paths : List NamedDir) (all : list_all (λ told. are_names told.path) 
         terms = ap (λ (b : Bool). b && are_terms (pathed paths r)) left.terms ∙ ap (λ (b : Bool). are_terms l && b) right.terms;
         dirs = (left.dirs, right.dirs);
         words = ap (λ (x : Result (Formula PathWord) Refusal). and_then (λ v. and_then (λ w. Ok (formula.Or v w)) (worded (pathed paths r))) x) left.words
-            ∙ ap (and_then (λ w. Ok (formula.Or (named_by (word_to paths) l) w))) right.words;
+            ∙ ap (and_then (λ w. Ok (formula.Or (referred_by (word_to paths) l) w))) right.words;
       }
 
 -- Limits.
@@ -116,12 +116,12 @@ long_read q true x r is = tt
 long_read q false x r is = is
 
 pub read_back : (paths : List NamedDir) (q : Formula ℕ) → list_all (λ told. are_names told.path) paths ≡ true → are_known paths q ≡ true → are_terms q ≡ true
-    → IsReadBack (named_by (word_to paths) q) (read_query (printed_query paths q))
+    → IsReadBack (referred_by (word_to paths) q) (read_query (printed_query paths q))
 unfolding read_query
 read_back paths q all knows word =
     let k = known paths all q knows in
     let text = text_read (pathed paths q) (k.terms ∙ word) k.dirs in
-    let wanted = named_by (word_to paths) q in
+    let wanted = referred_by (word_to paths) q in
     let found : read_on 1 (printed_query paths q) fresh_reader ≡ Ok text.0 = is_found (printed_query paths q) text.0 text.1 in
     let words : worded text.0.query ≡ Ok wanted = ap worded text.2 ∙ k.words in
     let spelled : spelled_query (printed_query paths q) ≡ limited_query text.0.nesting wanted =

@@ -8,7 +8,7 @@ use Rattle.hac_model.specs.Query.Grammar.{Token, Open, Tree, query, tokens, mean
 use Rattle.hac_model.specs.Tree.Paths.{are_names}
 use Rattle.hac_model.specs.Query.Queries.{are_terms}
 use Rattle.hac_model.specs.Query.QueryReading.{read_on, fresh_reader, read_query, is_spelled_query}
-use Rattle.hac_model.specs.Query.QueryText.{query_text, named_by}
+use Rattle.hac_model.specs.Query.QueryText.{query_text, referred_by}
 use Rattle.hac_model.specs.declared.paths.PathWord.{PathWord}
 use Rattle.hac_model.specs.declared.replies.Refusal.{Refusal}
 use Rattle.hac_model.specs.declared.replies.Refusal.TheVariants.{Limit}
@@ -78,4 +78,4 @@ word_to paths dir = record { absolute = true; ups = 0; names = option_map_or (λ
 abbrev pub PrintedQueryIsReadBack : Type 0
 PrintedQueryIsReadBack =
     (paths : List NamedDir) (asked : Formula ℕ) → list_all (λ named. are_names named.path) paths ≡ true → are_known paths asked ≡ true → are_terms asked ≡ true
-    → IsReadBack (named_by (word_to paths) asked) (read_query (printed_query paths asked))
+    → IsReadBack (referred_by (word_to paths) asked) (read_query (printed_query paths asked))

@@ -4,7 +4,7 @@ use Rattle.std.specs.Option.{option_map_or}
 use Rattle.hac_model.specs.Query.Formula.{Formula}
 use Rattle.hac_model.specs.Tree.Paths.{path_text}
 use Rattle.hac_model.specs.Query.Queries.{all_leaves}
-use Rattle.hac_model.specs.Query.QueryText.{query_text, named_by}
+use Rattle.hac_model.specs.Query.QueryText.{query_text, referred_by}
 use Rattle.query_text.specs.declared.paths.NamedDir.{NamedDir}
 
 -- the path that a directory was given, the first of them
@@ -22,7 +22,7 @@ dir_path paths dir = option_map_or path_text (path_at paths dir) []
 
 -- the query with the paths of its directories
 abbrev pub pathed : List NamedDir → Formula ℕ → Formula (List ℕ)
-pathed paths asked = named_by (dir_path paths) asked
+pathed paths asked = referred_by (dir_path paths) asked
 
 -- the query as it is printed
 abbrev pub printed_query : List NamedDir → Formula ℕ → List ℕ

@@ -8,8 +8,8 @@ use Rattle.hac_model.specs.Tree.{body_at, extends, is_document, is_document_at, 
 use Rattle.hac_model.specs.declared.states.Body.{Body}
 use Rattle.hac_model.specs.declared.states.State.{State}
 use Rattle.hac_model.proofs.AlikeLemmas.{directory-bare, document-bare, file-bare, path_of-bare, query_at-bare}
-use Rattle.link_kinds.specs.Seen.{Known, permanent_in, transient_in}
-use Rattle.scope_rules.specs.Made.{IsMadeOf}
+use Rattle.link_kinds.specs.Seen.{Known, permanent_in}
+use Rattle.scope_rules.specs.Made.{IsMadeOf, found_in}
 
 -- an item is a file or a document
 item-told : (s : State) (n : ℕ) → is_item s n ≡ (is_file_at s.entries n || is_document_at s.entries n)
@@ -29,10 +29,13 @@ module _ (s tree : State) (marks found : Known) (made : IsMadeOf s tree marks) (
   semantic : is_semantic tree dir ≡ is_semantic s dir
   semantic = alike (λ s. is_semantic s dir) (λ s. ap is_some (query_at-bare s dir))
 
+  is-item : is_item tree item ≡ is_item s item
+  is-item = alike (λ s. is_item s item) (λ s. item-bare s item)
+
   -- what isn't semantic has no links
-  linked : (b t : Bool) → is_semantic s dir ≡ b → (b && (t || has (permanent_in marks dir) item)) ≡ (b && (t || has (permanent_at s dir) item))
-  linked true t is = ap (λ numbers. t || has numbers item) (sym (made.permanent dir is))
+  linked : (b t : Bool) → is_semantic s dir ≡ b → (b && (t || (has (permanent_in marks dir) item && is_item tree item))) ≡ (b && (t || (has (permanent_at s dir) item && is_item s item)))
+  linked true t is = λ i. t || (has (sym (made.permanent dir is) i) item && is-item i)
   linked false t is = refl
 
-  pub provided : (b : Bool) → is_below tree dir item ≡ b → (b || (is_semantic tree dir && (column (transient_in found) item dir || has (permanent_in marks dir) item))) ≡ provide s (column (transient_in found) item) dir item
-  provided b is = (λ i. (sym is ∙ below) i || (semantic i && (column (transient_in found) item dir || has (permanent_in marks dir) item))) ∙ ap (λ b. is_below s dir item || b) (linked (is_semantic s dir) (column (transient_in found) item dir) refl)
+  pub provided : (b : Bool) → is_below tree dir item ≡ b → (b || (is_semantic tree dir && (column (found_in found) item dir || (has (permanent_in marks dir) item && is_item tree item)))) ≡ provide s (column (found_in found) item) dir item
+  provided b is = (λ i. (sym is ∙ below) i || (semantic i && (column (found_in found) item dir || (has (permanent_in marks dir) item && is_item tree item)))) ∙ ap (λ b. is_below s dir item || b) (linked (is_semantic s dir) (column (found_in found) item dir) refl)

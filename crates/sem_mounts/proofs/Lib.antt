@@ -1,6 +1,8 @@
 pub mod AddLemmas
 pub mod GatherLemmas
+pub mod GatheredLemmas
 pub mod LineLemmas
+pub mod SpelledLemmas
 pub mod SplitLemmas
 pub mod TurnLemmas
 pub mod SpaceLemmas

@@ -8,7 +8,7 @@ use Rattle.memchr.specs.Find.{Nowhere, NoneBefore, Passes}
 use Rattle.hac_model.specs.Spaces.Catalogue.{split_once}
 
 -- what isn't true is false
-not_true : (b : Bool) → ¬ (b ≡ true) → b ≡ false
+pub not_true : (b : Bool) → ¬ (b ≡ true) → b ≡ false
 not_true true no_way = absurd (no_way refl)
 not_true false no_way = refl
 

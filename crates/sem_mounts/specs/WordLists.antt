@@ -2,7 +2,10 @@
 -- order of their names.
 use Rattle.std.specs.Prelude.{◌≡◌, ◌<◌, ◌+◌, ℕ, Bool, false, ◌&&◌, ◌||◌, nat_eq, slice_index_or}
 use Rattle.std.specs.Prelude.{if◌then◌else◌, List, [], ◌∷◌, length}
+use Rattle.std.specs.Cmp.Lexicographic.{slice_cmp}
 use Rattle.std.specs.List.{list_any}
+use Rattle.std.specs.List.Sorted.{IsSortedBy}
+use Rattle.std.specs.Ordering.{is_lt, nat_cmp}
 use Rattle.hac_model.specs.Query.Words.{has_term, is_asked}
 use Rattle.hac_model.specs.declared.terms.Term.{Term}
 use Rattle.hac_model.specs.Spaces.Catalogue.{Document}
@@ -10,6 +13,16 @@ use Rattle.hac_model.specs.Spaces.Catalogue.{Document}
 -- words, each with the numbers of the documents that have it
 abbrev pub Lists : Type 0
 Lists = List (List ℕ × List ℕ)
+
+-- the list at this place is that of the word
+abbrev pub IsListOf : Lists → List ℕ → ℕ → Type 0
+IsListOf lists word place =
+    (place < length lists)
+    × ((other : List ℕ × List ℕ) → (slice_index_or lists place other).0 ≡ word)
+
+-- no word stands behind one that it is before
+abbrev pub AreInOrder : Lists → Type 0
+AreInOrder lists = IsSortedBy (λ list other. is_lt (slice_cmp nat_cmp list.0 other.0)) lists
 
 -- the document of this number stands under a word that the term asks for
 abbrev pub is_listed : Lists → ℕ → Term → Bool

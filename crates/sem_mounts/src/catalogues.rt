@@ -6,11 +6,12 @@ ghost use Rattle.hac_model.specs.Spaces.Catalogue.{catalogue, content, with_line
 ghost use Rattle.sem_mounts.specs.Reading.{Adds, ReadsCatalogue, with_spelled};
 
 use crate::documents::Docs;
+use crate::spelled::spelled_text;
 use crate::splitting::split_once;
 use crate::texts::Texts;
 use bstr::ByteSlice;
 use hac_model::{CATALOGUE_LIMIT, Memory, Name, TEXT_LIMIT, Text};
-use hac_names::{is_name, parse_text};
+use hac_names::is_name;
 use std::alloc::Global;
 use thiserror::Error;
 
@@ -44,6 +45,14 @@ impl From<Memory> for CatalogueFault {
 pub fn read_catalogue(alloc: Global, bytes: &[u8]) -> Result<Docs, CatalogueFault>
     ensures { ReadsCatalogue result (catalogue bytes.now) }
 {
+    let texts = read_texts(alloc, bytes)?;
+    Ok(Docs::new(alloc, texts)?)
+}
+
+/// The names and texts of a catalogue. The bytes are needed no longer than they are read.
+pub(crate) fn read_texts(alloc: Global, bytes: &[u8]) -> Result<Texts, CatalogueFault>
+    ensures { ReadsCatalogue result (catalogue bytes.now) }
+{
     let mut documents = Texts::new(alloc);
     let mut room = CATALOGUE_LIMIT;
     let mut number = 1;
@@ -54,7 +63,7 @@ pub fn read_catalogue(alloc: Global, bytes: &[u8]) -> Result<Docs, CatalogueFaul
         room -= line.len();
         number += 1;
     }
-    Ok(Docs::new(alloc, documents)?)
+    Ok(documents)
 }
 
 /// A line without its end.
@@ -102,7 +111,7 @@ fn take_document(
     if !is_name(name) {
         return Ok(false);
     }
-    match parse_text(alloc, bytes)? {
+    match spelled_text(alloc, bytes)? {
         Some(text) if text.len() as u64 <= TEXT_LIMIT => {
             let name = Name::new(name.to_vec(alloc)?);
             documents.add(name, Text::new(text))

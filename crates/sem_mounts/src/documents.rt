@@ -5,10 +5,9 @@ ghost use Rattle.hac_model.specs.Spaces.Answering.{AreRisingNames, names_with, t
 ghost use Rattle.hac_model.specs.Spaces.Catalogue.{names};
 
 use crate::texts::Texts;
-use crate::word_lists::{Numbers, marks_of};
+use crate::word_lists::WordLists;
 use hac_model::{Memory, Name, Term};
 use std::alloc::Global;
-use std::collections::BTreeMap;
 use std::marker::Model;
 
 /// The documents of a space, no two of one name. For each word it keeps the documents that have it,
@@ -17,7 +16,7 @@ use std::marker::Model;
 pub struct Docs {
     alloc: Global,
     texts: Texts,
-    lists: BTreeMap<Name, Numbers>,
+    lists: WordLists,
 }
 
 impl Model for Docs {
@@ -29,7 +28,7 @@ impl Model for Docs {
 
     ghost view = { λ documents. documents.texts };
 
-    ghost invariant = { λ documents. AreListed documents.texts documents.lists.entries };
+    ghost invariant = { λ documents. AreListed documents.texts documents.lists };
 }
 
 impl Docs {
@@ -56,7 +55,7 @@ impl Docs {
     pub fn names_with(&self, term: &Term) -> Result<Vec<Name>, Memory>
         ensures { IfOk result (λ found. found.items ≡ names_with self.now term.now) }
     {
-        let marks = marks_of(self.alloc, &self.lists, self.texts.len(), term)?;
+        let marks = self.lists.marks(self.alloc, self.texts.len(), term)?;
         self.texts.names_marked(marks.as_slice())
     }
 

@@ -2,7 +2,7 @@
 ghost use Rattle.std.specs.Prelude.{◌≡◌, [], IfOk, false, map, not};
 ghost use Rattle.sem_mounts.specs.Seen.{has_entry, is_absent, is_failed};
 
-use crate::catalogues::read_catalogue;
+use crate::catalogues::read_texts;
 use crate::documents::Docs;
 use crate::entries::{copy_of, find, push};
 use crate::faults::{AttachFault, SpaceFault};
@@ -51,7 +51,10 @@ impl Spaces for CatalogueSpaces<'_> {
             self.faults = self.faults.saturating_add(1);
             return Err(AttachFault::Failed);
         };
-        let documents = read_catalogue(self.rt.alloc(), &bytes)?;
+        let texts = read_texts(self.rt.alloc(), &bytes)?;
+        // Before the words are listed, so that they take the memory of the bytes.
+        drop(bytes);
+        let documents = Docs::new(self.rt.alloc(), texts)?;
         push(&mut self.spaces, (copy_of(name)?, documents))?;
         Ok(())
     }

@@ -7,7 +7,7 @@ ghost use Rattle.hac_model.specs.Spaces.Catalogue.{names, with_document};
 ghost use Rattle.sem_mounts.specs.Reading.{Adds};
 ghost use Rattle.sem_mounts.specs.WordLists.{AreListed, marked};
 
-use crate::word_lists::{Numbers, lists_of};
+use crate::word_lists::WordLists;
 use hac_model::{Memory, Name, Text};
 use std::alloc::Global;
 use std::collections::BTreeMap;
@@ -97,9 +97,9 @@ impl Texts {
     }
 
     /// For each word the documents that have it.
-    pub(crate) fn lists(&self) -> Result<BTreeMap<Name, Numbers>, Memory>
-        ensures { IfOk result (λ lists. AreListed self.now lists.entries) }
+    pub(crate) fn lists(&self) -> Result<WordLists, Memory>
+        ensures { IfOk result (AreListed self.now) }
     {
-        lists_of(self.alloc, &self.texts)
+        WordLists::of(self.alloc, &self.texts)
     }
 }

@@ -1,145 +1,97 @@
 //! For each word the documents whose texts have it. The documents are known by their numbers alone,
 //! from 0 in the order of their names.
-ghost use Rattle.std.specs.Prelude.{◌≡◌, ◌<◌, ◌+◌, ◌++◌, ◌∷◌, ◌&&◌, ◌||◌, ℕ, [], IfOk, None, OnOk};
-ghost use Rattle.std.specs.Prelude.{false, length, nat_eq};
-ghost use Rattle.std.specs.BTreeMap.{is_at};
+ghost use Rattle.std.specs.Prelude.{◌≡◌, ◌<◌, ◌+◌, ◌||◌, ℕ, All, IfOk, false, length, nat_eq, true};
 ghost use Rattle.std.specs.Cmp.Lexicographic.{slice_cmp};
 ghost use Rattle.std.specs.List.{list_any};
-ghost use Rattle.std.specs.Map.{lookup};
-ghost use Rattle.std.specs.Ordering.{nat_cmp};
+ghost use Rattle.std.specs.Ordering.{is_le, nat_cmp};
 ghost use Rattle.hac_model.specs.Query.Terms.{letters_in};
-ghost use Rattle.hac_model.specs.Query.Words.{has_term, is_asked};
+ghost use Rattle.hac_model.specs.Query.Words.{is_asked};
 ghost use Rattle.hac_model.specs.declared.terms.Term.{Term};
-ghost use Rattle.sem_mounts.specs.WordLists.{AreListed, AreMarked, is_listed, is_marked};
+ghost use Rattle.sem_mounts.specs.WordLists.{AreInOrder, AreListed, AreMarked, is_listed};
+ghost use Rattle.sem_mounts.specs.WordLists.{is_marked};
 
+use crate::gathered::Gathered;
+use crate::numbers::Numbers;
 use hac_model::{Memory, Name, Term, Text};
-use hac_words::words_of;
 use std::alloc::Global;
 use std::collections::BTreeMap;
 use std::marker::Model;
 
-/// Some numbers, in the order in which they were added.
+/// Words in their order, each with the numbers of the documents that have it.
 #[derive(Drop)]
-pub(crate) struct Numbers(Vec<u32>);
+pub(crate) struct WordLists(Vec<(Name, Numbers)>);
 
-impl Model for Numbers {
-    ghost use Rattle.std.specs.Prelude.{ℕ, List};
+impl Model for WordLists {
+    ghost use Rattle.sem_mounts.specs.WordLists.{AreInOrder, Lists};
 
-    ghost Value = { List ℕ };
+    ghost Value = { Lists };
 
-    ghost view = { λ numbers. numbers.0.items };
+    ghost view = { λ lists. lists.0.items };
+
+    ghost invariant = { λ lists. AreInOrder lists.0.items };
 }
 
-impl Numbers {
-    /// One number.
-    fn one(alloc: Global, number: u32) -> Result<Numbers, Memory>
-        ensures { IfOk result (λ numbers. numbers ≡ number ∷ []) }
+impl WordLists {
+    /// The lists of the words of these texts. Of more texts than there are numbers of 32 bits it
+    /// says that memory ran out.
+    pub(crate) fn of(alloc: Global, texts: &BTreeMap<Name, Text>) -> Result<WordLists, Memory>
+        ensures { IfOk result (AreListed texts.now.entries) }
     {
-        Ok(Numbers(vec![in alloc; number]?))
+        let mut gathered = Gathered::new(alloc);
+        let mut number = 0;
+        for (_, text) in texts.iter() {
+            gathered.put_text(text.as_slice(), number)?;
+            number = next(number)?;
+        }
+        Ok(WordLists::in_order(gathered.into_lists()))
     }
 
-    fn push(&mut self, number: u32) -> Result<(), Memory>
-        ensures { OnOk result (self.new ≡ self.old ++ number ∷ []) }
+    // These lists, in the order of their words.
+    fn in_order(mut lists: Vec<(Name, Numbers)>) -> WordLists
+        ensures { (n : ℕ) (term : Term) → is_listed result n term ≡ is_listed lists.items n term }
     {
-        self.0.push(number)?;
-        Ok(())
+        lists.sort_unstable_by(|a, b| a.0.cmp(&b.0));
+        WordLists(lists)
     }
 
-    fn as_slice(&self) -> &[u32]
-        ensures { result.now ≡ self.now }
+    /// Of so many documents which ones have what the term asks for.
+    pub(crate) fn marks(
+        &self,
+        alloc: Global,
+        count: usize,
+        term: &Term,
+    ) -> Result<Vec<bool>, Memory>
+        ensures { IfOk result (λ marks.
+            AreMarked (λ n. is_listed self.now n term.now) count marks.items) }
     {
-        self.0.as_slice()
+        let mut marks = unmarked(alloc, count)?;
+        for (word, numbers) in self.lists_from(term) {
+            if !is_asked(word, term) {
+                break;
+            }
+            mark(&mut marks, numbers.as_slice());
+        }
+        Ok(marks)
     }
-}
 
-/// The lists of the words of these texts. Of more texts than there are numbers of 32 bits it
-/// says that memory ran out.
-pub(crate) fn lists_of(
-    alloc: Global,
-    texts: &BTreeMap<Name, Text>,
-) -> Result<BTreeMap<Name, Numbers>, Memory>
-    ensures { IfOk result (λ lists. AreListed texts.now.entries lists.entries) }
-{
-    let mut lists = BTreeMap::new(alloc);
-    let mut number = 0;
-    for (_, text) in texts.iter() {
-        put_text(alloc, &mut lists, text.as_slice(), number)?;
-        number = next(number)?;
+    // The lists of the words that aren't before the letters of a term.
+    fn lists_from(&self, term: &Term) -> &[(Name, Numbers)]
+        ensures order { AreInOrder result.now }
+        ensures from { All (λ list. is_le (slice_cmp nat_cmp (letters_in term.now) list.0) ≡ true)
+            result.now }
+        ensures asked { (n : ℕ) →
+            is_listed result.now n term.now ≡ is_listed self.now n term.now }
+    {
+        let letters = letters(term);
+        let first = self.0.partition_point(|list| list.0 < *letters);
+        &self.0[first..]
     }
-    Ok(lists)
 }
 
 fn next(number: u32) -> Result<u32, Memory>
     ensures { IfOk result (λ next. next ≡ number + 1) }
 {
     number.checked_add(1).ok_or(Memory)
-}
-
-// Lists a document under each word of its text.
-fn put_text(
-    alloc: Global,
-    lists: &mut BTreeMap<Name, Numbers>,
-    text: &[u8],
-    number: u32,
-) -> Result<(), Memory>
-    ensures { OnOk result ((n : ℕ) (term : Term) → is_listed lists.new.entries n term
-        ≡ ((has_term text.now term && nat_eq n number) || is_listed lists.old.entries n term)) }
-{
-    for word in words_of(alloc, text)?.into_vec() {
-        put(alloc, lists, word, number)?;
-    }
-    Ok(())
-}
-
-// Lists a document under a word.
-fn put(
-    alloc: Global,
-    lists: &mut BTreeMap<Name, Numbers>,
-    word: Name,
-    number: u32,
-) -> Result<(), Memory>
-    ensures { OnOk result ((n : ℕ) (term : Term) → is_listed lists.new.entries n term
-        ≡ ((is_asked term word && nat_eq n number) || is_listed lists.old.entries n term)) }
-{
-    match lists.get_mut(&word) {
-        Some(numbers) => numbers.push(number),
-        None => put_first(alloc, lists, word, number),
-    }
-}
-
-// Lists a document under a word that had no list.
-fn put_first(
-    alloc: Global,
-    lists: &mut BTreeMap<Name, Numbers>,
-    word: Name,
-    number: u32,
-) -> Result<(), Memory>
-    requires { lookup (is_at (slice_cmp nat_cmp word)) lists.old.entries ≡ None }
-    ensures { OnOk result ((n : ℕ) (term : Term) → is_listed lists.new.entries n term
-        ≡ ((is_asked term word && nat_eq n number) || is_listed lists.old.entries n term)) }
-{
-    lists.insert(word, Numbers::one(alloc, number)?)?;
-    Ok(())
-}
-
-/// Of so many documents which ones have what the term asks for, by the lists.
-pub(crate) fn marks_of(
-    alloc: Global,
-    lists: &BTreeMap<Name, Numbers>,
-    count: usize,
-    term: &Term,
-) -> Result<Vec<bool>, Memory>
-    ensures { IfOk result (λ marks.
-        AreMarked (λ n. is_listed lists.now.entries n term.now) count marks.items) }
-{
-    let mut marks = unmarked(alloc, count)?;
-    for (word, numbers) in lists.range(letters(term)..) {
-        if !is_asked(word, term) {
-            break;
-        }
-        mark(&mut marks, numbers.as_slice());
-    }
-    Ok(marks)
 }
 
 // So many documents, none of them marked.

@@ -10,7 +10,7 @@ use Rattle.hac_model.specs.Query.Formula as formula
 use Rattle.hac_model.specs.Query.Grammar.{AllPathBytes, IsPath, Reads, escape, escaped, is_control, meaning}
 use Rattle.hac_model.specs.Query.Queries.{are_terms, is_query, letter_count, not_count, term_count}
 use Rattle.hac_model.specs.Query.QueryReading.{are_rooted, dir_word, fresh_reader, limited_query, named, parsed, read_on, read_query, spelled_query, worded}
-use Rattle.hac_model.specs.Query.QueryText.{around, is_joined, is_or, named_by, query_text}
+use Rattle.hac_model.specs.Query.QueryText.{around, is_joined, is_or, referred_by, query_text}
 use Rattle.hac_model.specs.Query.Words.{has_bytes, is_lower_word_byte, is_word, is_word_byte}
 use Rattle.hac_model.specs.Script.CommandTexts.{query_part, steps, word_text}
 use Rattle.hac_model.specs.Script.PathWords.{word_of}
@@ -133,7 +133,7 @@ around-one_line false bytes h = h
 -- The text of a query that is read.
 
 abbrev printed : Formula PathWord → Formula (List ℕ)
-printed q = named_by word_text q
+printed q = referred_by word_text q
 
 record Asked (q : Formula PathWord) : Type 0 where
   terms : are_terms (printed q) ≡ true

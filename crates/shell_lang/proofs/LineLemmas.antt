@@ -16,7 +16,7 @@ use Rattle.hac_model.specs.Bytes.{is_quote, is_space}
 use Rattle.hac_model.specs.Query.Formula.{Formula}
 use Rattle.hac_model.specs.Script.LineWords.{in_quotes}
 use Rattle.hac_model.specs.Query.QueryReading.{read_query}
-use Rattle.hac_model.specs.Query.QueryText.{named_by, query_text}
+use Rattle.hac_model.specs.Query.QueryText.{referred_by, query_text}
 use Rattle.hac_model.specs.Script.CommandTexts.{number_part, path_part, query_part, quoted_part, word_text}
 use Rattle.hac_model.specs.Script.LineWords.{after_first_run, after_space, first_run, first_word, is_word_end, quoted_word, skip_spaces, word_at}
 use Rattle.hac_model.specs.Script.Lines.{each_path, find_of, limited_target, ln_of, mount_named, of_two_paths, one_path, only_word, path_and_query, put_words, smount_of, tick_of, two_paths}
@@ -209,7 +209,7 @@ pub asking-read : (command : PathWord → Formula PathWord → Command) (word : 
 unfolding path_and_query
 asking-read command word query limits known read =
     ap (λ (r : Result (List ℕ × List ℕ) Refusal). r >>= λ w. word_of w.0 >>= λ path. read_query (after_space w.1) >>= λ q. Ok (command path q))
-    (path-first word (query_part query) (space-ends (query_text (named_by word_text query))))
+    (path-first word (query_part query) (space-ends (query_text (referred_by word_text query))))
     ∙ ap (λ (r : Result PathWord Refusal). r >>= λ path. read_query (after_space (query_part query)) >>= λ q. Ok (command path q)) (word_text-read word known)
     ∙ ap (λ (r : Result (Formula PathWord) Refusal). r >>= λ q. Ok (command word q)) read
     ∙ told (command word) query limits

@@ -13,7 +13,7 @@ use Rattle.hac_model.specs.Run.Answers.{◌>>=◌}
 use Rattle.hac_model.specs.Bytes.{is_line_end, is_quote, is_space}
 use Rattle.hac_model.specs.Query.Formula.{Formula}
 use Rattle.hac_model.specs.Script.LineWords.{in_quotes}
-use Rattle.hac_model.specs.Query.QueryText.{named_by, query_text}
+use Rattle.hac_model.specs.Query.QueryText.{referred_by, query_text}
 use Rattle.hac_model.specs.Script.{due, first_items, script}
 use Rattle.hac_model.specs.Script.CommandTexts.{command_text, line_text, number_part, path_part, put_bytes, query_part, quoted_part, session_line, word_text}
 use Rattle.hac_model.specs.Script.LineWords.{first_word, is_word_end}
@@ -185,12 +185,12 @@ printed (Readlink path) spelled is =
     (named 114 (codes "eadlink") (path_part path) (Ok (Readlink path)) refl refl refl refl (path-only_ends path) (one-read Readlink path (word-parts path is)))
 printed (Smkdir path query) spelled is =
     of_named (Smkdir path query) refl (asking-one_line path query is.0 is.1) refl refl
-    (named 115 (codes "mkdir") (path_part path ++ query_part query) (told_as (Smkdir path query) (past_query (length (query_text (named_by word_text query))))) refl refl refl refl (path-ends path (query_part query))
-    (asking-read Smkdir path query (past_query (length (query_text (named_by word_text query)))) (word-parts path is.0) (query-read query is.1)))
+    (named 115 (codes "mkdir") (path_part path ++ query_part query) (told_as (Smkdir path query) (past_query (length (query_text (referred_by word_text query))))) refl refl refl refl (path-ends path (query_part query))
+    (asking-read Smkdir path query (past_query (length (query_text (referred_by word_text query)))) (word-parts path is.0) (query-read query is.1)))
 printed (Setq path query) spelled is =
     of_named (Setq path query) refl (asking-one_line path query is.0 is.1) refl refl
-    (named 115 (codes "etq") (path_part path ++ query_part query) (told_as (Setq path query) (past_query (length (query_text (named_by word_text query))))) refl refl refl refl (path-ends path (query_part query))
-    (asking-read Setq path query (past_query (length (query_text (named_by word_text query)))) (word-parts path is.0) (query-read query is.1)))
+    (named 115 (codes "etq") (path_part path ++ query_part query) (told_as (Setq path query) (past_query (length (query_text (referred_by word_text query))))) refl refl refl refl (path-ends path (query_part query))
+    (asking-read Setq path query (past_query (length (query_text (referred_by word_text query)))) (word-parts path is.0) (query-read query is.1)))
 printed (Unq path) spelled is =
     of_named (Unq path) refl (part-one_line path is) refl refl
     (named 117 (codes "nq") (path_part path) (Ok (Unq path)) refl refl refl refl (path-only_ends path) (one-read Unq path (word-parts path is)))
@@ -212,7 +212,7 @@ printed (Sforget item dir) spelled is =
     (named 115 (codes "forget") (path_part item ++ path_part dir) (Ok (Sforget item dir)) refl refl refl refl (path-ends item (path_part dir)) (two-read Sforget item dir (word-parts item is.0) (word-parts dir is.1)))
 printed (Find query) spelled is =
     of_named (Find query) refl (query-one_line query is) refl refl
-    (named 102 (codes "ind") (query_part query) (told_as (Find query) (past_query (length (query_text (named_by word_text query))))) refl refl refl refl (space-ends (query_text (named_by word_text query))) (find-read query (past_query (length (query_text (named_by word_text query)))) (query-read query is)))
+    (named 102 (codes "ind") (query_part query) (told_as (Find query) (past_query (length (query_text (referred_by word_text query))))) refl refl refl refl (space-ends (query_text (referred_by word_text query))) (find-read query (past_query (length (query_text (referred_by word_text query)))) (query-read query is)))
 printed (Smount path space) spelled is =
     let parts = and_parts (is_spelled_word path) (is_space_name space) spelled in
     of_named (Smount path space) refl (one_line-join (path_part path) (quoted_part space) (part-one_line path is) (quoted_part-one_line space (name-one_line space parts.1))) refl refl

@@ -2,7 +2,7 @@
 ghost use Rattle.std.specs.Prelude.{◌≡◌, ◌++◌, codes, IfOk};
 ghost use Rattle.hac_model.specs.Query.Grammar.{escaped};
 ghost use Rattle.hac_model.specs.Query.QueryText as text;
-ghost use Rattle.hac_model.specs.Query.QueryText.{named_by};
+ghost use Rattle.hac_model.specs.Query.QueryText.{referred_by};
 ghost use Rattle.hac_model.specs.Script.CommandTexts.{word_text};
 
 use crate::word_texts::word_text;
@@ -12,7 +12,7 @@ use std::alloc::Global;
 
 /// The text of a query. It goes down as deep as the query does.
 pub fn query_text(alloc: Global, query: &RawQuery) -> Result<Vec<u8>, Memory>
-    ensures { IfOk result (λ bytes. bytes.items ≡ text.query_text (named_by word_text query.now)) }
+    ensures { IfOk result (λ bytes. bytes.items ≡ text.query_text (referred_by word_text query.now)) }
 {
     match &query.node {
         Node::Term(term) => term_text(alloc, term),
@@ -40,7 +40,7 @@ pub fn query_text(alloc: Global, query: &RawQuery) -> Result<Vec<u8>, Memory>
 
 /// Whether the query is two that `OR` joins.
 fn is_or(query: &RawQuery) -> bool
-    ensures { result ≡ text.is_or (named_by word_text query.now) }
+    ensures { result ≡ text.is_or (referred_by word_text query.now) }
 {
     match &query.node {
         Node::Or(_, _) => true,
@@ -50,7 +50,7 @@ fn is_or(query: &RawQuery) -> bool
 
 /// Whether the query is two that are joined.
 fn is_joined(query: &RawQuery) -> bool
-    ensures { result ≡ text.is_joined (named_by word_text query.now) }
+    ensures { result ≡ text.is_joined (referred_by word_text query.now) }
 {
     match &query.node {
         Node::And(_, _) => true,

@@ -8,9 +8,9 @@ use Rattle.std.proofs.lemmas.List.FromFn.{length-range_with_len}
 use Rattle.std.proofs.lemmas.List.Sums.{count_by-le-length, length-filter}
 use Rattle.hac_model.specs.Tree.Depends.{Among, depends}
 use Rattle.hac_model.specs.Tree.Limits.{counts}
-use Rattle.hac_model.specs.Tree.Links.{column, is_item, is_semantic, items, links, over_directories, permanent_at, permanent_count, prohibited_at, prohibited_count, transient_count}
+use Rattle.hac_model.specs.Tree.Links.{can_be_added, has, is_item, is_semantic, items, over_directories, permanent_at, permanent_count, prohibited_at, prohibited_count, transient_at, transient_count}
 use Rattle.hac_model.specs.Run.Play.{counts_line}
-use Rattle.hac_model.specs.Tree.{entry_at, permanent_in, prohibited_in, query_in}
+use Rattle.hac_model.specs.Tree.{entry_at, is_directory_at, permanent_in, prohibited_in, query_in}
 use Rattle.hac_model.specs.Tree.Valid.{AreMarks, AsksWell, IsValid, RiseFrom}
 use Rattle.hac_model.specs.declared.counts.Counts.{Counts}
 use Rattle.hac_model.specs.declared.limits.TheConstants.{NUMBERS_LIMIT}
@@ -20,7 +20,9 @@ use Rattle.hac_model.specs.declared.states.Body.{Body}
 use Rattle.hac_model.specs.declared.states.Body.TheVariants.{Semantic}
 use Rattle.hac_model.specs.declared.states.Entry.{Entry}
 use Rattle.hac_model.specs.declared.states.State.{State}
-use Rattle.hac_model.proofs.ListedLemmas.{links-listed}
+use Rattle.hac_model.proofs.ChangeLemmas.{or-cases}
+use Rattle.hac_model.proofs.ListedLemmas.{found-listed}
+use Rattle.hac_model.proofs.ValidLemmas.{directory-below}
 use Rattle.hac_model.proofs.TreeLemmas.{entry_at-all, entry_at-next}
 use Rattle.dep_graph.specs.Searches.{AnyReaches}
 use Rattle.link_kinds.specs.Kinds.{items_of}
@@ -68,27 +70,34 @@ module _ (s : State) (h : IsValid s) where
     | inr high ↦ (let none : false ≡ true = ap (λ (o : Option Entry). is_some (option_and_then query_in (option_map (λ (e : Entry). e.body) o))) (sym (entry_at-next 0 s.entries s.next n h.layout.numbers high)) ∙ is in absurd cc)
   ]
 
-  links-rise : (dir : ℕ) → RiseFrom 0 (links s dir)
-  links-rise dir = subst (RiseFrom 0) (sym (links-listed s dir h.acyclic)) (rise-filter (λ item. column (links s) item dir) 0 (items s) (rise-filter (is_item s) 0 (range_with_len 0 s.next) (range-rise 0 s.next)))
+  links-rise : (dir : ℕ) → RiseFrom 0 (transient_at s dir)
+  links-rise dir = subst (RiseFrom 0) (sym (found-listed s dir h.acyclic)) (rise-filter (λ item. has (transient_at s dir) item) 0 (items s) (rise-filter (is_item s) 0 (range_with_len 0 s.next) (range-rise 0 s.next)))
 
-  links-few : (dir : ℕ) → length (links s dir) ≤ NUMBERS_LIMIT
+  links-few : (dir : ℕ) → length (transient_at s dir) ≤ NUMBERS_LIMIT
   links-few dir =
-      omega (arith, ap (λ (ns : List ℕ). length ns) (links-listed s dir h.acyclic), length-filter (λ item. column (links s) item dir) (items s), count_by-le-length (λ item. column (links s) item dir) (items s), length-filter (is_item s) (range_with_len 0 s.next), count_by-le-length (is_item s) (range_with_len 0 s.next), length-range_with_len 0 s.next, next-few s h.layout)
+      omega (arith, ap (λ (ns : List ℕ). length ns) (found-listed s dir h.acyclic), length-filter (λ item. has (transient_at s dir) item) (items s), count_by-le-length (λ item. has (transient_at s dir) item) (items s), length-filter (is_item s) (range_with_len 0 s.next), count_by-le-length (is_item s) (range_with_len 0 s.next), length-range_with_len 0 s.next, next-few s h.layout)
 
   -- there are no more marks than numbers
-  few-from : (low : ℕ) (ns : List ℕ) → RiseFrom low ns → AllByRecursion (λ n. IsTrue (is_item s n)) ns → low ≤ s.next → low + length ns ≤ s.next
-  few-from low [] rise items least = omega (arith, least)
-  few-from low (n ∷ ns) rise items least = omega (arith, rise.0, few-from (n + 1) ns rise.1 items.1 (omega (arith, file-below s n h.layout items.0)))
+  module _ (test : ℕ → Bool) (below : (n : ℕ) → test n ≡ true → n < s.next) where
+    few-from : (low : ℕ) (ns : List ℕ) → RiseFrom low ns → AllByRecursion (λ n. IsTrue (test n)) ns → low ≤ s.next → low + length ns ≤ s.next
+    few-from low [] rise there least = omega (arith, least)
+    few-from low (n ∷ ns) rise there least = omega (arith, rise.0, few-from (n + 1) ns rise.1 there.1 (omega (arith, below n there.0)))
 
-  few-marks : (ns : List ℕ) → AreMarks s ns → length ns ≤ NUMBERS_LIMIT
-  few-marks ns marks = omega (arith, few-from 0 ns marks.rise marks.items (omega arith), next-few s h.layout)
+    few-marks : (ns : List ℕ) → AreMarks test ns → length ns ≤ NUMBERS_LIMIT
+    few-marks ns marks = omega (arith, few-from 0 ns marks.rise marks.there (omega arith), next-few s h.layout)
+
+  item-below : (n : ℕ) → is_item s n ≡ true → n < s.next
+  item-below n is = file-below s n h.layout is
+
+  markable-below : (n : ℕ) → can_be_added s n ≡ true → n < s.next
+  markable-below n is = elim (or-cases (is_item s n) (is_directory_at s.entries n) is) [ inl item ↦ item-below n item | inr dir ↦ directory-below s n h.layout dir ]
 
   -- what is marked in a directory are marks: those of a semantic one, and none of any other
   pub marks-few : (dir : ℕ) → (length (permanent_at s dir) ≤ NUMBERS_LIMIT) × (length (prohibited_at s dir) ≤ NUMBERS_LIMIT)
   marks-few dir = by_entry (entry_at s.entries dir) refl
     where
       by_body : (b : Body) → AsksWell s b → (length (permanent_in b) ≤ NUMBERS_LIMIT) × (length (prohibited_in b) ≤ NUMBERS_LIMIT)
-      by_body (Semantic query permanent prohibited) asks = (few-marks permanent asks.added, few-marks prohibited asks.removed)
+      by_body (Semantic query permanent prohibited) asks = (few-marks (can_be_added s) markable-below permanent asks.added, few-marks (is_item s) item-below prohibited asks.removed)
       by_body other asks = (omega arith, omega arith)
 
       by_entry : (o : Option Entry) → entry_at s.entries dir ≡ o → (length (option_map_or permanent_in (option_map (λ (e : Entry). e.body) o) []) ≤ NUMBERS_LIMIT) × (length (option_map_or prohibited_in (option_map (λ (e : Entry). e.body) o) []) ≤ NUMBERS_LIMIT)
@@ -112,9 +121,9 @@ line-counted s k transient permanent prohibited line same t p x told =
 
 module _ (s : State) (valid : IsValid s) (dirs : List ℕ) (are : (dir : ℕ) → IsTrue (is_semantic s dir) → Among dirs dir) (found : Known) (all : AreFound s dirs 0 s.next found) (rise : LinkListsRise found) where
   -- the links that were found are all links
-  transient-same : (dir : ℕ) → transient_in found dir ≡ links s dir
+  transient-same : (dir : ℕ) → transient_in found dir ≡ transient_at s dir
   transient-same dir =
-      rising-one 0 0 (transient_in found dir) (links s dir)
+      rising-one 0 0 (transient_in found dir) (transient_at s dir)
       (steps-rise 0 (transient_in found dir) (λ n more is. omega arith) (rise dir).transient)
       (links-rise s valid dir)
       same
@@ -122,17 +131,17 @@ module _ (s : State) (valid : IsValid s) (dirs : List ℕ) (are : (dir : ℕ) �
       reach : is_semantic s dir ≡ true → AnyReaches (depends s) dirs dir
       reach is = alone-reaches (depends s) dirs dir (are dir is)
 
-      none : (n : ℕ) → is_within 0 s.next n ≡ false → (b : Bool) → is_item s n ≡ b → column (links s) n dir ≡ false
+      none : (n : ℕ) → is_within 0 s.next n ≡ false → (b : Bool) → is_item s n ≡ b → has (transient_at s dir) n ≡ false
       none n out true is = let never : true ≡ false = sym (within-below s.next n (file-below s n valid.layout is)) ∙ out in absurd cc
-      none n out false other = links-items s valid.acyclic dir n other
+      none n out false other = (links-items s valid.acyclic dir n other).found
 
-      same : (n : ℕ) → column (transient_in found) n dir ≡ column (links s) n dir
+      same : (n : ℕ) → has (transient_in found dir) n ≡ has (transient_at s dir) n
       same n = by_within (is_within 0 s.next n) refl
         where
-          by_within : (b : Bool) → is_within 0 s.next n ≡ b → column (transient_in found) n dir ≡ column (links s) n dir
-          by_within true within = all.links dir n reach within
-          by_within false out = all.others dir n out ∙ sym (none n out (is_item s n) refl)
+          by_within : (b : Bool) → is_within 0 s.next n ≡ b → has (transient_in found dir) n ≡ has (transient_at s dir) n
+          by_within true within = (all.links dir n reach within).found
+          by_within false out = (all.others dir n out).found ∙ sym (none n out (is_item s n) refl)
 
   pub all-links : HasAllLinks s found
   unfolding transient_count
-  all-links = record { can = can-count s valid Transient found (links s) transient-same (links-few s valid); all = count-told s valid Transient found (links s) transient-same }
+  all-links = record { can = can-count s valid Transient found (transient_at s) transient-same (links-few s valid); all = count-told s valid Transient found (transient_at s) transient-same }

@@ -7,7 +7,7 @@ use Rattle.hac_model.specs.Tree.Depends.{Among, named_in}
 use Rattle.hac_model.specs.Query.Formula.{Formula}
 use Rattle.hac_model.specs.Query.Formula as query
 use Rattle.hac_model.specs.Tree.Paths.{path_text}
-use Rattle.hac_model.specs.Query.QueryText.{query_text, named_by}
+use Rattle.hac_model.specs.Query.QueryText.{query_text, referred_by}
 use Rattle.hac_model.specs.Tree.{path_of}
 use Rattle.hac_model.specs.declared.states.State.{State}
 use Rattle.hac_model.proofs.AmongLemmas.{among-left, among-right}
@@ -32,7 +32,7 @@ module _ (s : State) (dirs : List ℕ) where
   known (query.And p q) told = λ i. known p (λ dir among. told dir (among-left (named_in p) (named_in q) dir among)) i && known q (λ dir among. told dir (among-right (named_in p) (named_in q) dir among)) i
   known (query.Or p q) told = λ i. known p (λ dir among. told dir (among-left (named_in p) (named_in q) dir among)) i && known q (λ dir among. told dir (among-right (named_in p) (named_in q) dir among)) i
 
-  named : (asked : Formula ℕ) → ((dir : ℕ) → Among (named_in asked) dir → Among dirs dir) → named_by (dir_path (map (named_dir s) dirs)) asked ≡ named_by (λ dir. path_text (path_of s dir)) asked
+  named : (asked : Formula ℕ) → ((dir : ℕ) → Among (named_in asked) dir → Among dirs dir) → referred_by (dir_path (map (named_dir s) dirs)) asked ≡ referred_by (λ dir. path_text (path_of s dir)) asked
   named (query.Term term) told = refl
   named (query.Dir dir) told = ap (λ (o : Option (List (List ℕ))). query.Dir (option_map_or path_text o [])) (path-told s dirs dir (told dir (inl refl)))
   named (query.Not q) told = ap query.Not (named q told)
@@ -43,5 +43,5 @@ module _ (s : State) (dirs : List ℕ) where
 pub paths-known : (s : State) (asked : Formula ℕ) (paths : List NamedDir) → paths ≡ map (named_dir s) (named_in asked) → are_known paths asked ≡ true
 paths-known s asked paths are = ap (λ (ps : List NamedDir). are_known ps asked) are ∙ known s (named_in asked) asked (λ dir among. among)
 
-pub query-told : (s : State) (asked : Formula ℕ) (paths : List NamedDir) → paths ≡ map (named_dir s) (named_in asked) → printed_query paths asked ≡ query_text (named_by (λ dir. path_text (path_of s dir)) asked)
+pub query-told : (s : State) (asked : Formula ℕ) (paths : List NamedDir) → paths ≡ map (named_dir s) (named_in asked) → printed_query paths asked ≡ query_text (referred_by (λ dir. path_text (path_of s dir)) asked)
 query-told s asked paths are = ap (λ (ps : List NamedDir). printed_query ps asked) are ∙ ap query_text (named s (named_in asked) asked (λ dir among. among))

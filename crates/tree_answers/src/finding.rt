@@ -1,14 +1,17 @@
 //! The links that queries give to directories, found anew where a command asks for them.
-ghost use Rattle.std.specs.Prelude.{◌≡◌, ◌≤◌, false, IfOk, IsTrue, OnOk};
+ghost use Rattle.std.specs.Prelude.{◌≡◌, ◌==◌, ◌&&◌, ◌≤◌, false, IfOk, IsTrue, OnOk};
+ghost use Rattle.std.specs.List.{list_any};
 ghost use Rattle.std.specs.Option.{option_map_or};
 ghost use Rattle.hac_model.specs.Query.Words.{has_term};
 ghost use Rattle.hac_model.specs.Tree.Links.{atom, column, has, holds, is_item, is_unmarked};
-ghost use Rattle.hac_model.specs.Tree.Links.{kept_at};
-ghost use Rattle.hac_model.specs.Tree.Links.{links, parent_of, provide, satisfies, shown_of};
-ghost use Rattle.link_kinds.specs.Seen.{LinkListsRise, transient_in};
-ghost use Rattle.tree_answers.specs.Finding.{AreFound, GetsFound, GetsOne, finds};
+ghost use Rattle.hac_model.specs.Tree.Links.{kept_at, lenders, parent_of, provide, satisfies};
+ghost use Rattle.hac_model.specs.Tree.Links.{shown_of, transient_at};
+ghost use Rattle.link_kinds.specs.Seen.{LinkListsRise};
+ghost use Rattle.scope_rules.specs.Made.{found_in};
+ghost use Rattle.tree_answers.specs.Finding.{AreFound, Gets, GetsFound, GetsOne, Keeps, finds};
+ghost use Rattle.tree_answers.specs.Finding.{found_part, lent_part};
 
-use crate::lookups::{is_document, is_judged_item, parent_of, query_at, shown_of};
+use crate::lookups::{is_document, is_item, is_judged_item, parent_of, query_at, shown_of};
 use hac_model::{Kind, Member, Memory, Number, Query, Term};
 use hac_words::has_term;
 use kept_state::KeptState;
@@ -60,15 +63,15 @@ pub fn text_has(kept: &KeptState, term: &Term, item: Number) -> bool
 
 impl<'a> Member for Sight<'a> {
     ghost provides = { λ sight dir item.
-        provide sight.kept.now.state (column (transient_in sight.found.now) item) dir item };
+        provide sight.kept.now.state (column (found_in sight.found.now) item) dir item };
 
     fn within(&self, dir: Number, item: Number) -> bool {
         is_provided(self.kept, self.found, dir, item)
     }
 }
 
-/// The links that directories find, and all on which they depend: those of the items whose numbers
-/// are from `first` to below `end`. Each directory is looked at once, behind all on which it
+/// The links that directories find, and all on which they depend, and what is lent to each: those of
+/// the items whose numbers are from `first` to below `end`. Each directory is looked at once, behind all on which it
 /// depends.
 pub fn find_links(
     alloc: Global,
@@ -88,7 +91,7 @@ pub fn find_links(
     Ok(found)
 }
 
-/// Adds the links that a directory finds.
+/// Adds the links that a directory finds, and the items that are lent to it.
 fn find_in(
     kept: &KeptState,
     found: &mut Links,
@@ -99,21 +102,73 @@ fn find_in(
     requires { first ≤ end }
     ensures { OnOk result (GetsFound kept.now.state dir first end found.old found.new) }
 {
+    let added = kept.lenders(dir);
     for number in first..end {
-        find_one(kept, found, dir, Number::new(number))?;
+        find_one(kept, found, dir, added, Number::new(number))?;
     }
     Ok(())
 }
 
-/// Adds an item to the links of a directory, if it finds it.
-fn find_one(kept: &KeptState, found: &mut Links, dir: Number, item: Number) -> Result<(), Memory>
+/// Adds an item to the links of a directory, if it finds it, and to what is lent to it, if one of
+/// the directories that users added to it provides it.
+fn find_one(
+    kept: &KeptState,
+    found: &mut Links,
+    dir: Number,
+    added: &[Number],
+    item: Number,
+) -> Result<(), Memory>
+    requires { added.now ≡ lenders kept.now.state dir }
     ensures { OnOk result (GetsOne kept.now.state dir item found.old found.new) }
 {
-    if passes(kept, found, dir, item) {
+    let finds = passes(kept, found, dir, item);
+    let lends = is_lent(kept, found, added, item);
+    put_found(found, dir, item, finds)?;
+    put_lent(found, dir, item, lends)
+}
+
+/// Adds an item to what a directory found, if it finds it.
+fn put_found(found: &mut Links, dir: Number, item: Number, finds: bool) -> Result<(), Memory>
+    ensures gets { OnOk result
+        (Gets found_part dir (λ other. other == item && finds) found.old found.new) }
+    ensures keeps { OnOk result (Keeps lent_part found.old found.new) }
+{
+    if finds {
         found.prepare(dir, 1)?;
         found.set_kind(dir, item, Kind::Transient);
     }
     Ok(())
+}
+
+/// Adds an item to what is lent to a directory, if it is lent.
+fn put_lent(found: &mut Links, dir: Number, item: Number, lends: bool) -> Result<(), Memory>
+    ensures gets { OnOk result
+        (Gets lent_part dir (λ other. other == item && lends) found.old found.new) }
+    ensures keeps { OnOk result (Keeps found_part found.old found.new) }
+{
+    if lends {
+        found.prepare(dir, 1)?;
+        found.set_lent(dir, item, true);
+    }
+    Ok(())
+}
+
+/// Whether one of these directories provides an item. Most directories have none: then nothing is
+/// asked of the item.
+fn is_lent(kept: &KeptState, found: &Links, dirs: &[Number], item: Number) -> bool
+    ensures { result ≡ (list_any
+        (λ dir. provide kept.now.state (column (found_in found.now) item) dir item) dirs.now
+        && is_item kept.now.state item) }
+{
+    does_any_provide(kept, found, dirs, item) && is_item(kept, item)
+}
+
+/// Whether one of these directories provides what has a number.
+fn does_any_provide(kept: &KeptState, found: &Links, dirs: &[Number], item: Number) -> bool
+    ensures { result ≡ list_any
+        (λ dir. provide kept.now.state (column (found_in found.now) item) dir item) dirs.now }
+{
+    dirs.iter().any(|dir| is_provided(kept, found, *dir, item))
 }
 
 /// Whether a directory finds an item: queries judge it, the user says nothing of it there, the
@@ -137,7 +192,7 @@ fn is_unmarked(kept: &KeptState, dir: Number, item: Number) -> bool
 
 /// Whether the directory above a directory provides an item.
 fn is_provided_above(kept: &KeptState, found: &Links, dir: Number, item: Number) -> bool
-    ensures { result ≡ provide kept.now.state (column (transient_in found.now) item)
+    ensures { result ≡ provide kept.now.state (column (found_in found.now) item)
         (parent_of kept.now.state dir) item }
 {
     is_provided(kept, found, parent_of(kept, dir), item)
@@ -145,14 +200,14 @@ fn is_provided_above(kept: &KeptState, found: &Links, dir: Number, item: Number)
 
 /// Whether a directory provides an item.
 fn is_provided(kept: &KeptState, found: &Links, dir: Number, item: Number) -> bool
-    ensures { result ≡ provide kept.now.state (column (transient_in found.now) item) dir item }
+    ensures { result ≡ provide kept.now.state (column (found_in found.now) item) dir item }
 {
     provides(kept.tree(), kept.marks(), found, dir, item)
 }
 
 /// Whether an item satisfies the query of a directory.
 fn satisfies(kept: &KeptState, found: &Links, dir: Number, item: Number) -> bool
-    ensures { result ≡ satisfies kept.now.state (column (transient_in found.now) item) dir item }
+    ensures { result ≡ satisfies kept.now.state (column (found_in found.now) item) dir item }
 {
     match query_at(kept, dir) {
         Some(query) => satisfies_query(kept, found, query, item),
@@ -162,7 +217,7 @@ fn satisfies(kept: &KeptState, found: &Links, dir: Number, item: Number) -> bool
 
 /// Whether an item satisfies a query.
 pub fn satisfies_query(kept: &KeptState, found: &Links, query: &Query<Number>, item: Number) -> bool
-    ensures { result ≡ holds kept.now.state (column (transient_in found.now) item) query.now item }
+    ensures { result ≡ holds kept.now.state (column (found_in found.now) item) query.now item }
 {
     let sight = Sight { kept, found };
     judge(query, &sight, &sight, item)
@@ -171,7 +226,7 @@ pub fn satisfies_query(kept: &KeptState, found: &Links, query: &Query<Number>, i
 /// Whether an item is found by a directory. No other item is looked at.
 pub fn is_found(alloc: Global, kept: &KeptState, dir: Number, item: Number) -> Result<bool, Memory>
     requires { IsTrue (is_item kept.now.state item) }
-    ensures { IfOk result (λ is_found. is_found ≡ has (links kept.now.state dir) item) }
+    ensures { IfOk result (λ is_found. is_found ≡ has (transient_at kept.now.state dir) item) }
 {
     kept.know_valid();
     let found = find_links(alloc, kept, &[dir], item.get(), item.get() + 1)?;

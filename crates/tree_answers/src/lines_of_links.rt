@@ -2,7 +2,7 @@
 ghost use Rattle.std.specs.Prelude.{◌≡◌, ◌∷◌, ◌++◌, [], length, map, if◌then◌else◌, IfOk, OnOk};
 ghost use Rattle.std.specs.List.{flat_map, range_with_len};
 ghost use Rattle.hac_model.specs.Tree.Asking.{with_told};
-ghost use Rattle.hac_model.specs.Tree.Links.{column, found_as, is_item};
+ghost use Rattle.hac_model.specs.Tree.Links.{found_as, has};
 ghost use Rattle.hac_model.specs.Tree.Paths.{path_text};
 ghost use Rattle.hac_model.specs.Run.Asks.{query_asks, told_for};
 ghost use Rattle.hac_model.specs.Run.Play.{found_line, kind_lines, link_lines};
@@ -13,7 +13,7 @@ ghost use Rattle.tree_answers.specs.Told.{is_found_told};
 
 use crate::asking::{questions_answered, told_by};
 use crate::finding::find_links;
-use crate::lookups::{is_document, is_item, is_judged_item, next_number};
+use crate::lookups::{is_document, is_judged_item, next_number};
 use crate::telling::{Told, satisfies_told};
 use hac_model::{Kind, Memory, Name, Number, Query, Seq};
 use hac_names::print_path;
@@ -22,7 +22,8 @@ use link_kinds::Links;
 use scope_rules::has_found;
 use std::alloc::Global;
 
-/// The items of a semantic directory, each with the letter of its kind, in order of number.
+/// The items and directories that are linked in a semantic directory, each with the letter of its
+/// kind, in order of number.
 pub fn link_lines(alloc: Global, kept: &KeptState, dir: Number) -> Result<Vec<Name>, Memory>
     ensures { IfOk result (λ lines. lines.items ≡ link_lines kept.now.state dir) }
 {
@@ -31,7 +32,7 @@ pub fn link_lines(alloc: Global, kept: &KeptState, dir: Number) -> Result<Vec<Na
     lines_by_kind(alloc, kept, &found, dir)
 }
 
-/// The lines of a directory's items, given the links that it finds.
+/// The lines of what is linked in a directory, given the links that it finds.
 #[tactic(auto, using(crate::proofs::RangeLemmas::flat_next))]
 fn lines_by_kind(
     alloc: Global,
@@ -40,20 +41,19 @@ fn lines_by_kind(
     dir: Number,
 ) -> Result<Vec<Name>, Memory>
     ensures { IfOk result (λ lines. lines.items ≡ flat_map
-        (λ item. if is_item kept.now.state item
-        then kind_lines (path_of kept.now.state item) (kind_given kept.now.state found.now dir item)
-        else [])
+        (λ number. kind_lines (path_of kept.now.state number)
+        (kind_given kept.now.state found.now dir number))
         (range_with_len 0 kept.now.state.next)) }
 {
     let mut lines = Vec::new(alloc);
     for number in 0..next_number(kept) {
-        push_item(alloc, &mut lines, kept, found, dir, number)?;
+        push_number(alloc, &mut lines, kept, found, dir, number)?;
     }
     Ok(lines)
 }
 
-/// Adds the line of a number, if it is that of an item that is linked in the directory.
-fn push_item(
+/// Adds the line of a number, if it is that of something that is linked in the directory.
+fn push_number(
     alloc: Global,
     lines: &mut Vec<Name>,
     kept: &KeptState,
@@ -61,21 +61,16 @@ fn push_item(
     dir: Number,
     number: u64,
 ) -> Result<(), Memory>
-    ensures { OnOk result (lines.new.items ≡ lines.old.items ++
-        (if is_item kept.now.state number
-        then kind_lines (path_of kept.now.state number)
-        (kind_given kept.now.state found.now dir number)
-        else [])) }
+    ensures { OnOk result (lines.new.items ≡ lines.old.items
+        ++ kind_lines (path_of kept.now.state number)
+        (kind_given kept.now.state found.now dir number)) }
 {
     let item = Number::new(number);
-    if is_item(kept, item) {
-        let kind = kind_given(kept, found, dir, item);
-        push_link(alloc, lines, kept, item, kind)?;
-    }
-    Ok(())
+    let kind = kind_given(kept, found, dir, item);
+    push_link(alloc, lines, kept, item, kind)
 }
 
-/// How an item is linked in a directory, given the links that it finds.
+/// How an item or a directory is linked in a directory, given the links that it finds.
 fn kind_given(kept: &KeptState, found: &Links, dir: Number, item: Number) -> Kind
     ensures { result ≡ kind_given kept.now.state found.now dir item }
 {
@@ -88,7 +83,7 @@ fn kind_given(kept: &KeptState, found: &Links, dir: Number, item: Number) -> Kin
 /// The kind of a link that was found, or that of what isn't linked.
 fn found_kind(found: &Links, dir: Number, item: Number) -> Kind
     ensures { result
-        ≡ (if column (transient_in found.now) item dir then Kind.Transient else Kind.Unlinked) }
+        ≡ (if has (transient_in found.now dir) item then Kind.Transient else Kind.Unlinked) }
 {
     if has_found(found, dir, item) {
         Kind::Transient

@@ -2,7 +2,7 @@
 ghost use Rattle.std.specs.Prelude.{◌≡◌, IfOk, OnOk};
 ghost use Rattle.hac_model.specs.Run.Play.{query_line, query_lines};
 ghost use Rattle.hac_model.specs.Tree.Paths.{path_text};
-ghost use Rattle.hac_model.specs.Query.QueryText.{query_text, named_by};
+ghost use Rattle.hac_model.specs.Query.QueryText.{query_text, referred_by};
 ghost use Rattle.hac_model.specs.Tree.{path_of};
 ghost use Rattle.tree_answers.specs.Paths.{AddsPaths};
 
@@ -35,7 +35,7 @@ fn query_line(alloc: Global, kept: &KeptState, query: &Query<Number>) -> Result<
 /// A query as it is written, with the present paths.
 fn printed(alloc: Global, kept: &KeptState, query: &Query<Number>) -> Result<Name, Memory>
     ensures { IfOk result (λ text. text
-        ≡ query_text (named_by (λ dir. path_text (path_of kept.now.state dir)) query.now)) }
+        ≡ query_text (referred_by (λ dir. path_text (path_of kept.now.state dir)) query.now)) }
 {
     let mut paths = Paths::new(alloc);
     add_paths(&mut paths, kept, query)?;

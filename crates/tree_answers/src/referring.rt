@@ -1,10 +1,10 @@
-//! Which directories name another one in their queries.
-ghost use Rattle.std.specs.Prelude.{◌≡◌, map, IfOk};
+//! Which directories refer to another one: by their queries, or since it was added to them.
+ghost use Rattle.std.specs.Prelude.{◌≡◌, map, IfOk, IsTrue};
 ghost use Rattle.hac_model.specs.Tree.Depends.{referrers};
 ghost use Rattle.hac_model.specs.Tree.Events.{is_unreferenced};
 ghost use Rattle.hac_model.specs.Tree.Listing.{is_before};
 ghost use Rattle.hac_model.specs.Run.Refusals.{least_path, lesser_path};
-ghost use Rattle.hac_model.specs.Tree.{path_of};
+ghost use Rattle.hac_model.specs.Tree.{is_directory_at, path_of};
 
 use hac_model::{Memory, Number, Path};
 use hac_names::print_path;
@@ -12,8 +12,9 @@ use kept_state::KeptState;
 use std::alloc::Global;
 use std::cmp::Ordering;
 
-/// The least of the paths of directories whose queries name a directory, if there are any.
+/// The least of the paths of directories that refer to a directory, if there are any.
 pub fn least_referrer(alloc: Global, kept: &KeptState, dir: Number) -> Result<Option<Path>, Memory>
+    requires { IsTrue (is_directory_at kept.now.state.entries dir) }
     ensures { IfOk result (λ least. least
         ≡ least_path (map (λ entry. path_of kept.now.state entry.number)
         (referrers kept.now.state dir))) }
@@ -23,8 +24,9 @@ pub fn least_referrer(alloc: Global, kept: &KeptState, dir: Number) -> Result<Op
     least_path(alloc, kept, referrers.as_slice())
 }
 
-/// Whether no query names a directory.
+/// Whether no directory refers to a directory.
 pub fn is_unreferenced(kept: &KeptState, dir: Number) -> Result<bool, Memory>
+    requires { IsTrue (is_directory_at kept.now.state.entries dir) }
     ensures { IfOk result (λ is. is ≡ is_unreferenced kept.now.state dir) }
 {
     let referrers = kept.graph().referrers(dir)?;

@@ -3,7 +3,7 @@ ghost use Rattle.std.specs.Prelude.{◌≡◌, ◌<◌, drop, length};
 ghost use Rattle.hac_model.specs.Query.Queries.{query_meaning};
 ghost use Rattle.hac_model.specs.Query.Terms.{is_same_term};
 ghost use Rattle.hac_model.specs.Tree.Links.{column, provide};
-ghost use Rattle.link_kinds.specs.Seen.{transient_in};
+ghost use Rattle.scope_rules.specs.Made.{found_in};
 ghost use Rattle.tree_answers.specs.Asked.{atom_told, first_tells, tells, was_told};
 
 use crate::asking::Question;
@@ -116,7 +116,7 @@ fn is_same_term(one: &Term, other: &Term) -> bool
 pub fn satisfies_told(told: &Told<'_>, found: &Links, query: &Query<Number>, item: Number) -> bool
     ensures { result ≡ query_meaning
         (atom_told told.now.kept.now.state told.now.questions.now told.now.documents.now)
-        (provide told.now.kept.now.state (column (transient_in found.now) item)) query.now item }
+        (provide told.now.kept.now.state (column (found_in found.now) item)) query.now item }
 {
     let sight = Sight {
         kept: told.kept,

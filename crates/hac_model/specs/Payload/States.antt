@@ -165,12 +165,3 @@ snapshot_of s = record {
   next = s.next;
   entries = map (stored_entry s) (filter (λ entry. not (is_document entry.body)) s.entries);
 }
-
--- how many documents a mount has
-abbrev pub document_count : List Entry → ℕ → ℕ
-document_count entries mount = count_by (λ entry. is_document entry.body && (entry.parent == mount)) entries
-
--- the documents and the kept answers of each mount can be counted as they are spelled
-abbrev pub are_mounts_small : List Entry → Bool
-are_mounts_small entries =
-    list_all (λ entry. nat_le (document_count entries entry.number) DOCS_LIMIT && nat_lt (length (answers_in entry.body)) (4294967296)) entries

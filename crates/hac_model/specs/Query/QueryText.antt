@@ -36,9 +36,9 @@ query_text (formula.And left right) =
 query_text (formula.Or left right) = query_text left ++ (codes " OR " ++ around (is_or right) (query_text right))
 
 -- a query whose directories are named by others
-abbrev pub named_by : {D E : Type 0} → (D → E) → Formula D → Formula E
-named_by name (formula.Term asked) = formula.Term asked
-named_by name (formula.Dir dir) = formula.Dir (name dir)
-named_by name (formula.Not query) = formula.Not (named_by name query)
-named_by name (formula.And left right) = formula.And (named_by name left) (named_by name right)
-named_by name (formula.Or left right) = formula.Or (named_by name left) (named_by name right)
+abbrev pub referred_by : {D E : Type 0} → (D → E) → Formula D → Formula E
+referred_by name (formula.Term asked) = formula.Term asked
+referred_by name (formula.Dir dir) = formula.Dir (name dir)
+referred_by name (formula.Not query) = formula.Not (referred_by name query)
+referred_by name (formula.And left right) = formula.And (referred_by name left) (referred_by name right)
+referred_by name (formula.Or left right) = formula.Or (referred_by name left) (referred_by name right)

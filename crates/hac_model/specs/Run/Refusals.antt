@@ -3,11 +3,11 @@ use Rattle.std.specs.Prelude.{ℕ, ◌==◌, ◌||◌, if◌then◌else◌, List
 use Rattle.std.specs.Option.{option_map, option_map_or}
 use Rattle.hac_model.specs.Run.Answers.{first_cause}
 use Rattle.hac_model.specs.Run.Given.{no_answers}
-use Rattle.hac_model.specs.Tree.Depends.{cycle_of_move, cycle_over, referrers}
+use Rattle.hac_model.specs.Tree.Depends.{cycle_of_mark, cycle_of_move, cycle_over, referrers}
 use Rattle.hac_model.specs.Tree.Events.{apply_all, dirty, is_bare, is_inside}
-use Rattle.hac_model.specs.Tree.Limits.{counts, first_passed, layout_limits, passed_limit}
+use Rattle.hac_model.specs.Tree.Limits.{are_answers_few, counts, first_passed, layout_limits, passed_limit}
 use Rattle.hac_model.specs.Tree.Mounting.{mounted, synced}
-use Rattle.hac_model.specs.Tree.Links.{has, is_permanent, is_prohibited, is_semantic, links, parent_of}
+use Rattle.hac_model.specs.Tree.Links.{has, is_permanent, is_prohibited, is_semantic, parent_of, transient_at}
 use Rattle.hac_model.specs.Tree.Listing.{is_before}
 use Rattle.hac_model.specs.Tree.Paths.{path_text}
 use Rattle.hac_model.specs.Tree.Sessions.{are_few, least_name, sessions_with, visitors}
@@ -17,7 +17,7 @@ use Rattle.hac_model.specs.Tree.{is_directory_at, is_document_at, is_mount_at, i
 use Rattle.hac_model.specs.declared.commands.Line.{Line}
 use Rattle.hac_model.specs.declared.events.Event.{Event}
 use Rattle.hac_model.specs.declared.events.Event.TheVariants as event
-use Rattle.hac_model.specs.declared.limits.LimitWord.TheVariants.{Docs, Sessions}
+use Rattle.hac_model.specs.declared.limits.LimitWord.TheVariants.{Answers as AnswersWord, Docs, Sessions}
 use Rattle.hac_model.specs.declared.limits.TheConstants.{DOCS_LIMIT}
 use Rattle.hac_model.specs.declared.marks.Kind.{Kind}
 use Rattle.hac_model.specs.declared.marks.Kind.TheVariants.{Permanent, Prohibited, Unlinked}
@@ -78,7 +78,7 @@ least_path (path ∷ paths) = Some (option_map_or (lesser_path path) (least_path
 abbrev pub not_mount_cause : State → ℕ → Option Refusal
 not_mount_cause s dir = if is_mount_at s.entries dir then None else Some (NotMount (path_of s dir))
 
--- a query names the directory to be removed: the least path of a directory with such a query
+-- a query names the directory to be removed, or it was added to a directory: the least path of such a directory
 abbrev pub referenced_cause : State → ℕ → Option Refusal
 referenced_cause s dir = option_map Referenced (least_path (map (λ entry. path_of s entry.number) (referrers s dir)))
 
@@ -90,15 +90,15 @@ busy_cause s dir = option_map Busy (least_name (visitors s.sessions dir))
 abbrev pub session_cause : State → List ℕ → ℕ → Option Refusal
 session_cause s session dir = if are_few (sessions_with session dir s.sessions) then None else Some (Limit Sessions)
 
--- an item to be added is already a permanent link
+-- what is to be added is already a permanent link
 abbrev pub already_cause : State → ℕ → ℕ → Option Refusal
 already_cause s item dir = if is_permanent s dir item then Some (Already (path_of s item)) else None
 
 -- an item to be removed isn't a link
 abbrev pub unlinked_cause : State → ℕ → ℕ → Option Refusal
-unlinked_cause s item dir = if is_permanent s dir item || has (links s dir) item then None else Some (NotLinked (path_of s item))
+unlinked_cause s item dir = if is_permanent s dir item || has (transient_at s dir) item then None else Some (NotLinked (path_of s item))
 
--- an item to be unmarked has no mark
+-- what is to be unmarked has no mark
 abbrev pub unmarked_cause : State → ℕ → ℕ → Option Refusal
 unmarked_cause s item dir = if is_permanent s dir item || is_prohibited s dir item then None else Some (NoMark (path_of s item))
 
@@ -120,9 +120,9 @@ blocking_cause s (Setq dir query) = root_cause dir
 blocking_cause s (Unq dir) = plain_cause s dir
 blocking_cause s (Query dir) = plain_cause s dir
 blocking_cause s (Sls dir) = plain_cause s dir
-blocking_cause s (Sln item dir) = first_cause (directory_cause s item ∷ plain_cause s dir ∷ already_cause s item dir ∷ [])
+blocking_cause s (Sln item dir) = first_cause (plain_cause s dir ∷ already_cause s item dir ∷ [])
 blocking_cause s (Srm item dir) = first_cause (directory_cause s item ∷ plain_cause s dir ∷ unlinked_cause s item dir ∷ [])
-blocking_cause s (Sforget item dir) = first_cause (directory_cause s item ∷ plain_cause s dir ∷ unmarked_cause s item dir ∷ [])
+blocking_cause s (Sforget item dir) = first_cause (plain_cause s dir ∷ unmarked_cause s item dir ∷ [])
 blocking_cause s (Find query) = None
 blocking_cause s (Smount place space) = taken_cause s place
 blocking_cause s (Ssync mount) = not_mount_cause s mount
@@ -141,7 +141,7 @@ abbrev pub writes : Place → List ℕ → Event
 writes (There number) text = event.Rewrite number text
 writes (Free dir name) text = event.NewFile dir name text
 
--- an item gets a mark in a directory
+-- an item or a directory gets a mark in a directory
 abbrev pub marks : ℕ → ℕ → Kind → Event
 marks item dir kind = event.Mark (record { dir = dir; item = item; kind = kind })
 
@@ -198,11 +198,12 @@ answer_cause answers s command = option_map Limit (passed_limit (led_to answers 
 abbrev pub cycle_by : State → Option ℕ → Option Refusal
 cycle_by s way = option_map (λ dir. Cycle (path_of s dir)) way
 
--- the event would let a directory depend on itself, once it has a query or another place. A new one can't, as nothing
--- depends on it yet.
+-- the event would let a directory depend on itself, once it has a query or another place, or another directory was added to
+-- it. A new one can't, as nothing depends on it yet.
 abbrev pub cycle_against : State → Event → Option Refusal
 cycle_against s (event.Setq dir query told) = cycle_by s (cycle_over s dir (parent_of s dir) query)
 cycle_against s (event.Mv entry dir name) = cycle_by s (cycle_of_move s entry dir)
+cycle_against s (event.Mark mark) = cycle_by s (cycle_of_mark s mark.dir mark.item mark.kind)
 cycle_against s other = None
 
 -- so does the event of a command, whatever spaces answer
@@ -223,9 +224,14 @@ gone_cause answers s other = None
 abbrev pub docs_cause : Answers → Option Refusal
 docs_cause answers = if nat_le (length answers.list) DOCS_LIMIT then None else Some (Limit Docs)
 
+-- mounts would come to keep more answers than they may
+abbrev pub kept_cause : Answers → State → Resolved → Option Refusal
+kept_cause answers s command = if are_answers_few (led_to answers s command).entries then None else Some (Limit AnswersWord)
+
 -- the causes that depend on what spaces answer
 abbrev pub late_cause : Answers → State → Resolved → Option Refusal
-late_cause answers s command = first_cause (gone_cause answers s command ∷ docs_cause answers ∷ answer_cause answers s command ∷ [])
+late_cause answers s command =
+    first_cause (gone_cause answers s command ∷ docs_cause answers ∷ answer_cause answers s command ∷ kept_cause answers s command ∷ [])
 
 -- the first cause of all, where the spaces answer so
 abbrev pub cause : Answers → State → Resolved → Option Refusal

@@ -1,15 +1,15 @@
 -- What commands that read show.
 use Rattle.std.specs.Prelude.{ℕ, ◌-◌, if◌then◌else◌, List, [], ◌∷◌, ◌++◌, map, codes, decimal, Option, option_and_then}
-use Rattle.std.specs.List.{flat_map}
+use Rattle.std.specs.List.{flat_map, range_with_len}
 use Rattle.std.specs.Option.{option_map_or}
 use Rattle.hac_model.specs.Query.Formula.{Formula}
 use Rattle.hac_model.specs.Run.Asks.{told_for}
 use Rattle.hac_model.specs.Tree.Asking.{with_told}
 use Rattle.hac_model.specs.Tree.Limits.{counts, plain_count}
-use Rattle.hac_model.specs.Tree.Links.{found_as, items, kind, permanent_count, prohibited_count, query_at, transient_count}
+use Rattle.hac_model.specs.Tree.Links.{found_as, kind, permanent_count, prohibited_count, query_at, transient_count}
 use Rattle.hac_model.specs.Tree.Listing.{children, entry_line}
 use Rattle.hac_model.specs.Tree.Paths.{path_text}
-use Rattle.hac_model.specs.Query.QueryText.{query_text, named_by}
+use Rattle.hac_model.specs.Query.QueryText.{query_text, referred_by}
 use Rattle.hac_model.specs.Script.Texts.{escaped_text}
 use Rattle.hac_model.specs.Tree.{body_at, is_document_at, path_of, target_in, text_in}
 use Rattle.hac_model.specs.declared.marks.Kind.{Kind}
@@ -20,20 +20,20 @@ use Rattle.hac_model.specs.declared.spaces.Answers.{Answers}
 use Rattle.hac_model.specs.declared.states.State.{State}
 use Rattle.hac_model.specs.declared.counts.Counts.{Counts}
 
--- an item of a kind, as `sls` lists it
+-- an item or a directory of a kind, as `sls` lists it
 abbrev pub kind_lines : List (List ℕ) → Kind → List (List ℕ)
 kind_lines path Transient = (codes "t " ++ path_text path) ∷ []
 kind_lines path Permanent = (codes "p " ++ path_text path) ∷ []
 kind_lines path Prohibited = (codes "x " ++ path_text path) ∷ []
 kind_lines path Unlinked = []
 
--- the items of a semantic directory, in order of number
+-- what is linked in a semantic directory, in order of number
 abbrev pub link_lines : State → ℕ → List (List ℕ)
-link_lines s dir = flat_map (λ item. kind_lines (path_of s item) (kind s dir item)) (items s)
+link_lines s dir = flat_map (λ number. kind_lines (path_of s number) (kind s dir number)) (range_with_len 0 s.next)
 
 -- a query with the present paths of its directories
 abbrev pub query_line : State → Formula ℕ → List ℕ
-query_line s query = codes "= " ++ query_text (named_by (λ dir. path_text (path_of s dir)) query)
+query_line s query = codes "= " ++ query_text (referred_by (λ dir. path_text (path_of s dir)) query)
 
 -- the query of a directory
 abbrev pub query_lines : State → ℕ → List (List ℕ)

@@ -5,7 +5,7 @@ use Rattle.std.specs.Option.{option_map_or}
 use Rattle.std.specs.Str.{bytes_eq}
 use Rattle.hac_model.specs.Script.LineWords.{in_quotes}
 use Rattle.hac_model.specs.Query.Formula.{Formula}
-use Rattle.hac_model.specs.Query.QueryText.{named_by, query_text}
+use Rattle.hac_model.specs.Query.QueryText.{referred_by, query_text}
 use Rattle.hac_model.specs.Script.Printed.{ended}
 use Rattle.hac_model.specs.Script.SessionWords.{main_session}
 use Rattle.hac_model.specs.Tree.Paths.{path_text, slashed}
@@ -40,7 +40,7 @@ number_part number = codes " " ++ decimal number
 
 -- a query, behind a space: it is the rest of its line
 abbrev pub query_part : Formula PathWord → List ℕ
-query_part query = codes " " ++ query_text (named_by word_text query)
+query_part query = codes " " ++ query_text (referred_by word_text query)
 
 -- the command on its line. A text is that of a `put`, so its bytes stand behind the line.
 abbrev pub line_text : Command → List ℕ

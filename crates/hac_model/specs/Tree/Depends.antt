@@ -1,19 +1,21 @@
 -- Which directories depend on which.
-use Rattle.std.specs.Prelude.{◌≡◌, ◌⊎◌, ℕ, zero, suc, ◌==◌, ◌||◌, Bool, if◌then◌else◌, List, [], ◌∷◌, false, filter, Option, None, Some, option_and_then}
+use Rattle.std.specs.Prelude.{◌≡◌, ◌⊎◌, ℕ, zero, suc, ◌==◌, ◌||◌, ◌++◌, Bool, if◌then◌else◌, List, [], ◌∷◌, false, filter, Option, None, Some, option_and_then}
 use Rattle.std.specs.List.{list_any}
 use Rattle.std.specs.Option.{option_map_or}
 use Rattle.hac_model.specs.Query.Formula.{Formula}
 use Rattle.hac_model.specs.Tree.Limits.{semantic_count}
-use Rattle.hac_model.specs.Tree.Links.{has, parent_of, query_at}
+use Rattle.hac_model.specs.Tree.Links.{has, lenders, parent_of, query_at}
 pub use Rattle.hac_model.specs.Query.Queries.{named_in}
-use Rattle.hac_model.specs.Tree.{query_in}
+use Rattle.hac_model.specs.Tree.{is_directory_at, permanent_in, query_in}
+use Rattle.hac_model.specs.declared.marks.Kind.{Kind}
+use Rattle.hac_model.specs.declared.marks.Kind.TheVariants.{Permanent}
 use Rattle.hac_model.specs.declared.states.Entry.{Entry}
 use Rattle.hac_model.specs.declared.states.State.{State}
 
--- the directories that a directory depends on: a semantic one on its parent, and on those that its query
--- names
+-- the directories that a directory depends on: a semantic one on its parent, on those that its query names, and on those
+-- that the user added to it
 abbrev pub depends : State → ℕ → List ℕ
-depends s dir = option_map_or (λ query. parent_of s dir ∷ named_in query) (query_at s dir) []
+depends s dir = option_map_or (λ query. parent_of s dir ∷ named_in query ++ lenders s dir) (query_at s dir) []
 
 -- the number is one of these, by cases
 abbrev pub Among : List ℕ → ℕ → Type 0
@@ -60,10 +62,19 @@ cycle_over s dir parent query = first_reaching s dir (parent ∷ named_in query)
 abbrev pub cycle_of_move : State → ℕ → ℕ → Option ℕ
 cycle_of_move s entry dir = option_and_then (cycle_over s entry dir) (query_at s entry)
 
+-- the directory to be added to another one that is that one or depends on it: where an item is added, nothing depends on it
+abbrev pub cycle_of_mark : State → ℕ → ℕ → Kind → Option ℕ
+cycle_of_mark s dir number Permanent = if is_directory_at s.entries number then first_reaching s dir (number ∷ []) else None
+cycle_of_mark s dir number other = None
+
 -- the query of an entry names the directory
 abbrev pub names_directory : ℕ → Entry → Bool
 names_directory dir entry = option_map_or (λ query. has (named_in query) dir) (query_in entry.body) false
 
--- the entries whose queries name the directory
+-- the entry refers to the directory: its query names it, or the user added it there
+abbrev pub refers_to : ℕ → Entry → Bool
+refers_to dir entry = names_directory dir entry || has (permanent_in entry.body) dir
+
+-- the entries that refer to the directory
 abbrev pub referrers : State → ℕ → List Entry
-referrers s dir = filter (names_directory dir) s.entries
+referrers s dir = filter (refers_to dir) s.entries

@@ -3,10 +3,10 @@ use Rattle.std.specs.Prelude.{ℕ, Bool, true, false, ◌==◌, ◌&&◌, ◌||�
 use Rattle.std.specs.List.{list_all}
 use Rattle.std.specs.Option.{option_map_or}
 pub use Rattle.hac_model.specs.Tree.Changes.{added, asking, changed_at, changed_in, edited, forgetting, forgotten, indexed, marked, marking, plain_body, put_in, removed, reseated, rewritten, without}
-use Rattle.hac_model.specs.Tree.Depends.{cycle_of_move, cycle_over, named_in, names_directory}
+use Rattle.hac_model.specs.Tree.Depends.{cycle_of_mark, cycle_of_move, cycle_over, named_in, refers_to}
 use Rattle.hac_model.specs.Query.Formula.{Formula}
-use Rattle.hac_model.specs.Tree.Limits.{dirty_count, is_text, passed_limit}
-use Rattle.hac_model.specs.Tree.Links.{has, is_item, is_permanent, is_prohibited, is_semantic, links, parent_of}
+use Rattle.hac_model.specs.Tree.Limits.{are_answers_few, dirty_count, is_text, passed_limit}
+use Rattle.hac_model.specs.Tree.Links.{can_be_added, has, is_item, is_permanent, is_prohibited, is_semantic, parent_of, transient_at}
 use Rattle.hac_model.specs.Tree.Names.{is_name}
 use Rattle.hac_model.specs.Tree.Sessions.{are_few, is_busy, sessions_with}
 use Rattle.hac_model.specs.Script.PathWords.{is_target}
@@ -61,14 +61,19 @@ are_directories s dirs = list_all (λ dir. is_directory_at s.entries dir) dirs
 abbrev pub may_ask : State → Formula ℕ → Bool
 may_ask s query = is_query query && are_directories s (named_in query)
 
--- no query names the directory
+-- no query names the directory, and it was added to none
 abbrev pub is_unreferenced : State → ℕ → Bool
-is_unreferenced s dir = list_all (λ entry. not (names_directory dir entry)) s.entries
+is_unreferenced s dir = list_all (λ entry. not (refers_to dir entry)) s.entries
 
--- an item may become permanent where it isn't yet, prohibited where it is a link, and unmarked where it has a mark
+-- an item can have any mark, a directory only that it was added
+abbrev pub can_have_mark : State → ℕ → Kind → Bool
+can_have_mark s number Prohibited = is_item s number
+can_have_mark s number other = can_be_added s number
+
+-- what isn't permanent yet may become so, a link may become prohibited, and what has a mark may lose it
 abbrev pub may_mark : State → ℕ → ℕ → Kind → Bool
 may_mark s dir item Permanent = not (is_permanent s dir item)
-may_mark s dir item Prohibited = is_permanent s dir item || has (links s dir) item
+may_mark s dir item Prohibited = is_permanent s dir item || has (transient_at s dir) item
 may_mark s dir item Unlinked = is_permanent s dir item || is_prohibited s dir item
 may_mark s dir item Transient = false
 
@@ -85,8 +90,8 @@ may_sync s mount documents told =
     is_mount_at s.entries mount && are_documents documents
     && are_told (synced s mount (answers_to (terms_to_ask s.entries) told) documents) mount (terms_to_ask s.entries) told
 
--- what the event refers to is in the tree. Marks, links, the queries of other directories and where sessions stand are
--- left out.
+-- what the event refers to is in the tree. Marks, links, the queries of other directories, how much mounts keep and where
+-- sessions stand are left out.
 abbrev pub is_placed : State → Event → Bool
 is_placed s (Mkdir dir name) = is_free s dir name
 is_placed s (NewFile dir name text) = is_free s dir name && is_text text
@@ -95,7 +100,7 @@ is_placed s (Ln dir name target) = is_free s dir name && is_target target
 is_placed s (Smkdir dir name query told) = is_free s dir name && (may_ask s query && are_all_told s query told s.entries)
 is_placed s (Setq dir query told) = is_made_holder s dir && (may_ask s query && are_all_told s query told s.entries)
 is_placed s (Unq dir) = is_semantic s dir
-is_placed s (Mark mark) = is_item s mark.item && is_semantic s mark.dir
+is_placed s (Mark mark) = can_have_mark s mark.item mark.kind && is_semantic s mark.dir
 is_placed s (Mv entry dir name) =
     is_some (entry_at s.entries entry) && not (is_document_at s.entries entry) && is_free s dir name && not (is_inside s dir entry)
 is_placed s (Rm entry) = is_leaf_at s.entries entry
@@ -106,12 +111,19 @@ is_placed s (Smount dir name space documents told) = may_mount s dir name space 
 is_placed s (Ssync mount documents told) = may_sync s mount documents told
 is_placed s (Sumount mount) = is_mount_at s.entries mount
 
--- no mark, no link, no query of another directory and no session stands against the event
+-- no mark, no link, no query of another directory and no session stands against the event, and mounts don't come to keep
+-- too many answers
 abbrev pub is_clear : State → Event → Bool
-is_clear s (Setq dir query told) = is_none (cycle_over s dir (parent_of s dir) query)
-is_clear s (Mark mark) = may_mark s mark.dir mark.item mark.kind
+is_clear s (Smkdir dir name query told) = are_answers_few (with_told query told s).entries
+is_clear s (Setq dir query told) =
+    is_none (cycle_over s dir (parent_of s dir) query) && are_answers_few (with_told query told s).entries
+is_clear s (Mark mark) = may_mark s mark.dir mark.item mark.kind && is_none (cycle_of_mark s mark.dir mark.item mark.kind)
 is_clear s (Mv entry dir name) = is_none (cycle_of_move s entry dir)
 is_clear s (Rmdir dir) = is_unreferenced s dir && not (is_busy s.sessions dir)
+is_clear s (Smount dir name space documents told) =
+    are_answers_few (mounted s dir name space (answers_to (terms_to_ask s.entries) told) documents).entries
+is_clear s (Ssync mount documents told) =
+    are_answers_few (synced s mount (answers_to (terms_to_ask s.entries) told) documents).entries
 is_clear s (Sumount mount) = is_unreferenced s mount && not (is_busy s.sessions mount)
 is_clear s (Cd session dir) = are_few (sessions_with session dir s.sessions)
 is_clear s other = true

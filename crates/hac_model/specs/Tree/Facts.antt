@@ -1,6 +1,6 @@
 -- A state as its bare tree, its sessions and the facts of each number: what is kept of it beside the tree, and what it
 -- depends on.
-use Rattle.std.specs.Prelude.{ℕ, Bool, ◌==◌, List, [], ◌∷◌, map, Option, Some, None, if◌then◌else◌}
+use Rattle.std.specs.Prelude.{ℕ, Bool, ◌==◌, ◌++◌, List, [], ◌∷◌, filter, map, Option, Some, None, if◌then◌else◌}
 use Rattle.std.specs.Option.{option_map_or}
 use Rattle.hac_model.specs.Tree.Depends.{named_in}
 use Rattle.hac_model.specs.Tree.Asking.{gained, with_answers}
@@ -9,7 +9,7 @@ use Rattle.hac_model.specs.Tree.Mounting.{answers_to, fresh, is_gone, is_of_moun
 use Rattle.hac_model.specs.Tree.Mounts.{terms_to_ask}
 use Rattle.hac_model.specs.Query.Formula.{Formula}
 use Rattle.hac_model.specs.Tree.Links.{parent_of, query_at}
-use Rattle.hac_model.specs.Tree.{answers_in, entry_at, permanent_in, prohibited_in, query_in}
+use Rattle.hac_model.specs.Tree.{answers_in, entry_at, is_directory_at, permanent_in, prohibited_in, query_in}
 use Rattle.hac_model.specs.declared.events.Event.{Event}
 use Rattle.hac_model.specs.declared.events.Event.TheVariants.{Smkdir, Setq, Unq, Mark, Mv, Rm, Rmdir, Smount, Ssync, Sumount, Cd}
 use Rattle.hac_model.specs.declared.marks.Kind.{Kind}
@@ -21,7 +21,7 @@ use Rattle.hac_model.specs.declared.states.Entry.{Entry}
 use Rattle.hac_model.specs.declared.states.Session.{Session}
 use Rattle.hac_model.specs.declared.states.State.{State}
 
--- the items that users added to a directory, and those that they removed from it
+-- the items and directories that users added to a directory, and the items that they removed from it
 pub record Marks : Type 0 where
   pub permanent : List ℕ
   pub prohibited : List ℕ
@@ -42,21 +42,26 @@ no_facts = record { marks = no_marks; answers = []; edges = [] }
 abbrev pub marks_in : Body → Marks
 marks_in body = record { permanent = permanent_in body; prohibited = prohibited_in body }
 
--- what depends on a directory and on those that its query names, if it has one
-abbrev pub edges_to : ℕ → Option (Formula ℕ) → List ℕ
-edges_to dir query = option_map_or (λ asked. dir ∷ named_in asked) query []
+-- what an entry in a directory depends on that has a query and to which these were added, given which numbers are those of
+-- directories: on its own directory, on those that the query names, and on those that were added
+abbrev pub edges_to : (ℕ → Bool) → ℕ → Option (Formula ℕ) → List ℕ → List ℕ
+edges_to is_dir dir query permanent = option_map_or (λ asked. dir ∷ named_in asked ++ filter is_dir permanent) query []
 
 -- what an entry in this directory tells by its body
-abbrev pub facts_in : ℕ → Body → Facts
-facts_in dir body = record { marks = marks_in body; answers = answers_in body; edges = edges_to dir (query_in body) }
+abbrev pub facts_in : (ℕ → Bool) → ℕ → Body → Facts
+facts_in is_dir dir body = record {
+  marks = marks_in body;
+  answers = answers_in body;
+  edges = edges_to is_dir dir (query_in body) (permanent_in body);
+}
 
-abbrev pub facts_at : Option Entry → Facts
-facts_at None = no_facts
-facts_at (Some entry) = facts_in entry.parent entry.body
+abbrev pub facts_at : (ℕ → Bool) → Option Entry → Facts
+facts_at is_dir None = no_facts
+facts_at is_dir (Some entry) = facts_in is_dir entry.parent entry.body
 
 -- the facts of each number
 abbrev pub facts_of : State → ℕ → Facts
-facts_of s number = facts_at (entry_at s.entries number)
+facts_of s number = facts_at (is_directory_at s.entries) (entry_at s.entries number)
 
 -- a body with the marks and answers of these facts
 abbrev pub filled : Facts → Body → Body
@@ -102,17 +107,25 @@ facts_told query told tree facts number = record (facts number) {
   answers = with_answers (gained (λ mount. (facts mount).answers) query told tree.entries number) (facts number).answers;
 }
 
+-- the facts of an entry that is in this directory, has this query and has these marks
+abbrev pub facts_with : State → ℕ → Option (Formula ℕ) → Marks → Facts → Facts
+facts_with tree dir query marks facts = record facts {
+  marks = marks;
+  edges = edges_to (is_directory_at tree.entries) dir query marks.permanent;
+}
+
 -- the facts after an event, of which only the tree is asked what else it needs
 abbrev pub facts_after : Event → State → (ℕ → Facts) → ℕ → Facts
 facts_after (Smkdir dir name query told) tree facts =
     put_at (facts_told query told tree facts) tree.next (record no_facts { edges = dir ∷ named_in query })
 facts_after (Setq dir query told) tree facts =
-    put_at (facts_told query told tree facts) dir (record (facts dir) { edges = parent_of tree dir ∷ named_in query })
+    put_at (facts_told query told tree facts) dir (facts_with tree (parent_of tree dir) (Some query) (facts dir).marks (facts dir))
 facts_after (Unq dir) tree facts = put_at facts dir no_facts
 facts_after (Mark mark) tree facts =
-    put_at facts mark.dir (record (facts mark.dir) { marks = with_mark mark.kind mark.item (facts mark.dir).marks })
+    put_at facts mark.dir
+    (facts_with tree (parent_of tree mark.dir) (query_at tree mark.dir) (with_mark mark.kind mark.item (facts mark.dir).marks) (facts mark.dir))
 facts_after (Mv entry dir name) tree facts =
-    put_at facts entry (record (facts entry) { edges = edges_to dir (query_at tree entry) })
+    put_at facts entry (facts_with tree dir (query_at tree entry) (facts entry).marks (facts entry))
 facts_after (Rm item) tree facts = λ number. record (facts number) { marks = without_item item (facts number).marks }
 facts_after (Rmdir dir) tree facts = put_at facts dir no_facts
 facts_after (Smount dir name space documents told) tree facts =

@@ -1,13 +1,13 @@
 -- How much a state holds, and which limit it exceeds.
-use Rattle.std.specs.Prelude.{ℕ, Bool, ◌+◌, if◌then◌else◌, nat_lt, nat_le, max, List, [], ◌∷◌, ◌++◌, length, sum_by, count_by, Option, Some, None, is_some}
+use Rattle.std.specs.Prelude.{ℕ, Bool, ◌+◌, ◌&&◌, if◌then◌else◌, nat_lt, nat_le, max, List, [], ◌∷◌, ◌++◌, length, sum_by, count_by, Option, Some, None, is_some}
 use Rattle.std.specs.List.{list_all}
 use Rattle.std.specs.Option.{option_map_or}
-use Rattle.hac_model.specs.Tree.{is_directory, is_dirty, is_file, is_linkable, is_mount, is_path_short, is_plain, is_symlink, query_in}
+use Rattle.hac_model.specs.Tree.{answers_in, is_directory, is_dirty, is_file, is_linkable, is_mount, is_plain, is_symlink, lineage, query_in}
 use Rattle.hac_model.specs.declared.counts.Counts.{Counts}
 use Rattle.hac_model.specs.declared.limits.Limit.{Limit}
 use Rattle.hac_model.specs.declared.limits.LimitWord.{LimitWord}
 use Rattle.hac_model.specs.declared.limits.LimitWord.TheVariants.{Texts, Dirs, Semantics, Mounts, Symlinks, Path, Items, Numbers}
-use Rattle.hac_model.specs.declared.limits.TheConstants.{TEXT_LIMIT, TEXTS_LIMIT, DIRS_LIMIT, SEMANTICS_LIMIT, MOUNTS_LIMIT, SYMLINKS_LIMIT, ITEMS_LIMIT, NUMBERS_LIMIT}
+use Rattle.hac_model.specs.declared.limits.TheConstants.{ANSWERS_LIMIT, PAIRS_LIMIT, PATH_LIMIT, TEXT_LIMIT, TEXTS_LIMIT, DIRS_LIMIT, SEMANTICS_LIMIT, MOUNTS_LIMIT, SYMLINKS_LIMIT, ITEMS_LIMIT, NUMBERS_LIMIT}
 use Rattle.hac_model.specs.declared.states.Body.{Body}
 use Rattle.hac_model.specs.declared.states.Body.TheVariants.{File}
 use Rattle.hac_model.specs.declared.states.Entry.{Entry}
@@ -54,9 +54,17 @@ dirty_count entries = count_by (λ entry. is_dirty entry.body) entries
 abbrev pub plain_count : List Entry → ℕ
 plain_count entries = count_by (λ entry. is_plain entry.body) entries
 
+-- how many names have to fit into a path below an entry: one for the documents of a mount
+abbrev pub names_below : Body → ℕ
+names_below body = if is_mount body then 1 else 0
+
+-- the path of an entry has no more names than a path may have, also with those below it
+abbrev pub has_short_path : List Entry → Entry → Bool
+has_short_path entries entry = nat_le (length (lineage entries entry.number) + names_below entry.body) PATH_LIMIT
+
 -- no path has more names than a path may have
 abbrev pub are_paths_short : List Entry → Bool
-are_paths_short entries = list_all (λ entry. is_path_short entries entry.number) entries
+are_paths_short entries = list_all (has_short_path entries) entries
 
 -- how many paths have more names than a path may have: 1 where there is any
 abbrev pub long_paths : List Entry → ℕ
@@ -76,6 +84,20 @@ counts s = record {
   long_paths = long_paths s.entries;
   next = s.next;
 }
+
+-- how many documents the kept answers of a mount name
+abbrev pub documents_kept : Body → ℕ
+documents_kept body = sum_by (λ answer. length answer.documents) (answers_in body)
+
+-- how many answers a mount keeps
+abbrev pub answers_kept : Body → ℕ
+answers_kept body = length (answers_in body)
+
+-- mounts keep no more answers than they may
+abbrev pub are_answers_few : List Entry → Bool
+are_answers_few entries =
+    nat_le (sum_by (λ entry. documents_kept entry.body) entries) ANSWERS_LIMIT
+    && nat_le (sum_by (λ entry. answers_kept entry.body) entries) PAIRS_LIMIT
 
 -- a limit: how much there is, the most that there may be, and the word
 abbrev pub limit : ℕ → ℕ → LimitWord → Limit

@@ -1,4 +1,5 @@
--- What directories provide, and the links that their queries give them.
+-- What directories provide: what is stored in them, the links that their queries and the user give them, and what other
+-- directories lend them.
 use Rattle.std.specs.Prelude.{ℕ, zero, suc, Bool, false, ◌==◌, ◌&&◌, ◌||◌, not, if◌then◌else◌, List, [], filter, length, sum_by, Option, is_some, option_and_then}
 use Rattle.std.specs.List.{list_any, range_with_len}
 use Rattle.std.specs.Option.{option_map_or, unwrap_or}
@@ -57,7 +58,7 @@ is_semantic s dir = is_some (query_at s dir)
 abbrev pub is_below : State → ℕ → ℕ → Bool
 is_below s dir item = is_item s item && is_directory_at s.entries dir && extends (path_of s item) (path_of s dir)
 
--- the items that the user added to a directory
+-- the items and directories that the user added to a directory
 abbrev pub permanent_at : State → ℕ → List ℕ
 permanent_at s dir = option_map_or permanent_in (body_at s.entries dir) []
 
@@ -69,9 +70,17 @@ prohibited_at s dir = option_map_or prohibited_in (body_at s.entries dir) []
 abbrev pub has : List ℕ → ℕ → Bool
 has numbers number = list_any (λ other. other == number) numbers
 
--- the item is a permanent link of the directory
+-- the item or directory is a permanent link of the directory
 abbrev pub is_permanent : State → ℕ → ℕ → Bool
 is_permanent s dir item = has (permanent_at s dir) item
+
+-- users may add it to a semantic directory: it is an item, or a directory
+abbrev pub can_be_added : State → ℕ → Bool
+can_be_added s number = is_item s number || is_directory_at s.entries number
+
+-- the directories that the user added to a directory, in order of number: they lend it all that they provide
+abbrev pub lenders : State → ℕ → List ℕ
+lenders s dir = filter (is_directory_at s.entries) (permanent_at s dir)
 
 -- the item is prohibited in the directory
 abbrev pub is_prohibited : State → ℕ → ℕ → Bool
@@ -84,11 +93,16 @@ atom s term item =
     if is_document_at s.entries item then has (kept_at s (parent_of s item) term) item
     else option_map_or (λ text. has_term text term) (shown_of s item) false
 
--- Below, `linked` says of each directory whether the item is linked in it.
+-- Below, `linked` says of each directory whether the item was found by it or is lent to it.
 
--- the directory provides the item: it is stored below it, or is a link of it, found or added
+-- the directory provides the item: it is stored below it, was found by it, is lent to it, or was added to it
 abbrev pub provide : State → (ℕ → Bool) → ℕ → ℕ → Bool
-provide s linked dir item = is_below s dir item || (is_semantic s dir && (linked dir || is_permanent s dir item))
+provide s linked dir item =
+    is_below s dir item || (is_semantic s dir && (linked dir || (is_permanent s dir item && is_item s item)))
+
+-- a directory that the user added to this one provides the item
+abbrev pub is_lent : State → (ℕ → Bool) → ℕ → ℕ → Bool
+is_lent s linked dir item = list_any (λ lender. provide s linked lender item) (lenders s dir)
 
 -- the item satisfies the query
 abbrev pub holds : State → (ℕ → Bool) → Formula ℕ → ℕ → Bool
@@ -108,22 +122,40 @@ abbrev pub passes : State → (ℕ → Bool) → ℕ → ℕ → Bool
 passes s linked dir item =
     provide s linked (parent_of s dir) item && is_judged s item && satisfies s linked dir item && is_unmarked s dir item
 
--- the directories in which an item is linked, given the links of each
-abbrev pub column : (ℕ → List ℕ) → ℕ → ℕ → Bool
-column known item dir = has (known dir) item
+-- what a directory has beside what is stored in it and what the user added, items in order of number: those that it found,
+-- and those that are lent to it
+pub record DirLinks : Type 0 where
+  pub found : List ℕ
+  pub lent : List ℕ
+
+abbrev pub no_links : DirLinks
+no_links = record { found = []; lent = [] }
+
+-- the directories that found an item or to which it is lent, given the links of each
+abbrev pub column : (ℕ → DirLinks) → ℕ → ℕ → Bool
+column known item dir = has (known dir).found item || has (known dir).lent item
 
 -- the links of each directory, found anew from known ones
-abbrev pub round : State → (ℕ → List ℕ) → ℕ → List ℕ
-round s known dir = if is_semantic s dir then filter (λ item. passes s (column known item) dir item) (items s) else []
+abbrev pub round : State → (ℕ → DirLinks) → ℕ → DirLinks
+round s known dir =
+    if is_semantic s dir then record {
+      found = filter (λ item. passes s (column known item) dir item) (items s);
+      lent = filter (λ item. is_lent s (column known item) dir item) (items s);
+    }
+    else no_links
 
 -- the links after n rounds that begin with none
-abbrev pub rounds : ℕ → State → ℕ → List ℕ
-rounds zero s = λ dir. []
+abbrev pub rounds : ℕ → State → ℕ → DirLinks
+rounds zero s = λ dir. no_links
 rounds (suc n) s = round s (rounds n s)
 
--- the links of each directory, the items in order of number: as many rounds as there are semantic directories
-unfoldable pub links : State → ℕ → List ℕ
+-- the links of each directory: as many rounds as there are semantic directories
+unfoldable pub links : State → ℕ → DirLinks
 links s = rounds (semantic_count s.entries) s
+
+-- the transient links of a directory: the items that it found
+abbrev pub transient_at : State → ℕ → List ℕ
+transient_at s dir = (links s dir).found
 
 -- the items that a query finds anywhere, given the links: those that it judges and that satisfy it. Which terms an item
 -- has is told by a state in which mounts may keep more.
@@ -134,12 +166,12 @@ found_as told s query = filter (λ item. is_judged s item && query_meaning (atom
 abbrev pub found_by : State → Formula ℕ → List ℕ
 found_by s query = found_as s s query
 
--- how an item is linked in a directory
+-- how an item or a directory is linked in a directory
 unfoldable pub kind : State → ℕ → ℕ → Kind
 kind s dir item =
     if is_permanent s dir item then Permanent
     else (if is_prohibited s dir item then Prohibited
-    else (if has (links s dir) item then Transient
+    else (if has (transient_at s dir) item then Transient
     else Unlinked))
 
 -- how many links of a kind there are, over all directories, given those of each
@@ -148,9 +180,9 @@ over_directories s numbers = sum_by (λ dir. length (numbers dir)) (range_with_l
 
 -- how many found links there are
 unfoldable pub transient_count : State → ℕ
-transient_count s = over_directories s (links s)
+transient_count s = over_directories s (transient_at s)
 
--- how many items users added to directories
+-- how many items and directories users added to directories
 unfoldable pub permanent_count : State → ℕ
 permanent_count s = over_directories s (permanent_at s)
 

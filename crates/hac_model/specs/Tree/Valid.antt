@@ -5,7 +5,7 @@ use Rattle.std.specs.Option.{option_map_or}
 use Rattle.std.specs.Str.{bytes_eq}
 use Rattle.hac_model.specs.Tree.Depends.{IsAcyclic}
 use Rattle.hac_model.specs.Query.Formula.{Formula}
-use Rattle.hac_model.specs.Tree.Limits.{is_text, passed_limit}
+use Rattle.hac_model.specs.Tree.Limits.{are_answers_few, is_text, passed_limit}
 pub use Rattle.hac_model.specs.Tree.Mounting.{is_document_of}
 use Rattle.hac_model.specs.Tree.Mounts.{is_kept, terms_in_use}
 use Rattle.hac_model.specs.Tree.Names.{is_name}
@@ -15,7 +15,7 @@ use Rattle.hac_model.specs.Script.SpaceNames.{is_space_name}
 use Rattle.hac_model.specs.Tree.Events.{may_ask}
 use Rattle.hac_model.specs.Query.Queries.{is_askable}
 use Rattle.hac_model.specs.Query.Terms.{is_term_before}
-use Rattle.hac_model.specs.Tree.Links.{has, is_item}
+use Rattle.hac_model.specs.Tree.Links.{can_be_added, has, is_item}
 use Rattle.hac_model.specs.Tree.{child, is_directory_at, is_document, is_holder_at, is_mount_at}
 use Rattle.hac_model.specs.declared.states.Answer.{Answer}
 use Rattle.hac_model.specs.declared.states.Body.{Body}
@@ -70,16 +70,16 @@ abbrev pub RiseFrom : ℕ → List ℕ → Type 0
 RiseFrom bound [] = Unit {0}
 RiseFrom bound (number ∷ numbers) = (bound ≤ number) × RiseFrom (number + 1) numbers
 
--- marks are on items, each once
-pub record AreMarks (s : State) (numbers : List ℕ) : Type 0 where
+-- marks are on what can have them, each once
+pub record AreMarks (test : ℕ → Bool) (numbers : List ℕ) : Type 0 where
   pub rise : RiseFrom 0 numbers
-  pub items : AllByRecursion (λ number. IsTrue (is_item s number)) numbers
+  pub there : AllByRecursion (λ number. IsTrue (test number)) numbers
 
--- a directory may ask its query, and no item is both added and removed
+-- a directory may ask its query, items and directories were added, items were removed, and none is both
 pub record IsSoundQuery (s : State) (query : Formula ℕ) (permanent prohibited : List ℕ) : Type 0 where
   pub fits : IsTrue (may_ask s query)
-  pub added : AreMarks s permanent
-  pub removed : AreMarks s prohibited
+  pub added : AreMarks (can_be_added s) permanent
+  pub removed : AreMarks (is_item s) prohibited
   pub apart : AllByRecursion (λ number. has prohibited number ≡ false) permanent
 
 abbrev pub AsksWell : State → Body → Type 0
@@ -132,5 +132,6 @@ pub record IsValid (s : State) : Type 0 where
   pub layout : IsLayout s
   pub queries : AllByRecursion (λ entry. AsksWell s entry.body) s.entries
   pub answers : AllByRecursion (λ entry. KeepsWell s entry.number entry.body) s.entries
+  pub few : IsTrue (are_answers_few s.entries)
   pub acyclic : IsAcyclic s
   pub sessions : AreSessions s

@@ -10,11 +10,11 @@ use Rattle.hac_model.specs.Tree.Depends.{depends, reaches}
 use Rattle.hac_model.specs.Tree.Events.{may_ask}
 use Rattle.hac_model.specs.Query.Queries.{is_askable}
 use Rattle.hac_model.specs.Query.Terms.{is_term_before}
-use Rattle.hac_model.specs.Tree.Limits.{is_text, passed_limit}
+use Rattle.hac_model.specs.Tree.Limits.{are_answers_few, is_text, passed_limit}
 pub use Rattle.hac_model.specs.Tree.Mounting.{do_rise_from}
 use Rattle.hac_model.specs.Tree.Mounts.{is_kept, terms_in_use}
 use Rattle.hac_model.specs.Tree.Valid.{has_few, is_document_of, is_in_place}
-use Rattle.hac_model.specs.Tree.Links.{has, is_item}
+use Rattle.hac_model.specs.Tree.Links.{can_be_added, has, is_item}
 use Rattle.hac_model.specs.Tree.Names.{is_name}
 use Rattle.hac_model.specs.Tree.Sessions.{are_few}
 use Rattle.hac_model.specs.Tree.{child, is_directory_at}
@@ -60,14 +60,14 @@ is_layout s =
     && list_all (λ entry. is_sound entry.body) s.entries
     && is_none (passed_limit s)
 
--- marks are on items, each once
-abbrev pub are_marks : State → List ℕ → Bool
-are_marks s numbers = do_rise_from 0 numbers && list_all (λ number. is_item s number) numbers
+-- marks are on what can have them, each once
+abbrev pub are_marks : (ℕ → Bool) → List ℕ → Bool
+are_marks test numbers = do_rise_from 0 numbers && list_all (λ number. test number) numbers
 
--- a directory may ask its query, and no item is both added and removed
+-- a directory may ask its query, items and directories were added, items were removed, and none is both
 abbrev pub is_sound_query : State → Formula ℕ → List ℕ → List ℕ → Bool
 is_sound_query s query permanent prohibited =
-    may_ask s query && are_marks s permanent && are_marks s prohibited
+    may_ask s query && are_marks (can_be_added s) permanent && are_marks (is_item s) prohibited
     && list_all (λ number. not (has prohibited number)) permanent
 
 abbrev pub asks_well : State → Body → Bool
@@ -123,5 +123,5 @@ are_sessions s =
 unfoldable pub is_valid : State → Bool
 is_valid s =
     is_layout s && list_all (λ entry. asks_well s entry.body) s.entries
-    && list_all (λ entry. keeps_well s entry.number entry.body) s.entries
+    && list_all (λ entry. keeps_well s entry.number entry.body) s.entries && are_answers_few s.entries
     && is_acyclic s && are_sessions s

@@ -10,7 +10,7 @@ use Rattle.hac_model.proofs.laws.facts_follow.Goals as goal
 
 pub returns-clause-follow : goal.returns-clause-follow
 returns-clause-follow c = λ s event valid ok number.
-    facts-law s event valid.layout (accepted-parts (is_possible s event) (passed_limit (apply s event)) ok).0 number
+    facts-law s valid event ok number
     ∙ sym (facts-bare event s (facts_of s) number)
 
 pub returns-clause-tell : goal.returns-clause-tell

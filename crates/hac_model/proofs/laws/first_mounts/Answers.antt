@@ -2,7 +2,7 @@ use Rattle.std.proofs.Common.{refl}
 use Rattle.std.specs.Fmt.{digits}
 use Rattle.hac_model.specs.Tree.Limits.{first_passed, passed_limit}
 use Rattle.hac_model.specs.Script.LineWords.{quoted}
-use Rattle.hac_model.specs.Script.Lines.{find_of, ln_of, alone, maybe_path, of_two_paths, one_path, path_and_query, write_of}
+use Rattle.hac_model.specs.Script.Lines.{find_of, ln_of, alone, maybe_path, of_two_paths, one_path, path_and_query, smount_of, write_of}
 use Rattle.hac_model.specs.Tree.Depends.{first_reaching, reaches}
 use Rattle.hac_model.specs.Tree.Links.{found_as, kind, links, permanent_count, prohibited_count, transient_count}
 use Rattle.hac_model.specs.Tree.ValidTest.{are_sessions, is_acyclic, is_layout, is_valid}
@@ -24,6 +24,10 @@ returns-clause-valid c = refl
 pub returns-clause-run : goal.returns-clause-run
 unfolding find_of after_run alone digits escaped_byte event_text first_passed found_as has_term first_reaching is_lower_word_byte is_path_short is_word reaches is_word_byte kind kind_of lineage links look destination next_path maybe_path of_two_paths one_path passed_limit path_and_query path_of permanent_count prohibited_count quoted read_on read_query script text_of transient_count word_of words write_of
 returns-clause-run c = refl
+
+pub returns-clause-attached : goal.returns-clause-attached
+unfolding find_of after_run alone digits escaped_byte event_text first_passed found_as has_term first_reaching is_lower_word_byte is_path_short is_word reaches is_word_byte is_space_name is_space_byte kind kind_of lineage links look destination next_path maybe_path of_two_paths one_path passed_limit path_and_query path_of quoted read_on read_query script smount_of text_of word_of words write_of
+returns-clause-attached c = refl
 
 pub returns-clause-refuse : goal.returns-clause-refuse
 unfolding find_of ln_of after_run alone digits escaped_byte event_text first_passed found_as has_term first_reaching is_lower_word_byte is_path_short is_word reaches is_word_byte kind kind_of lineage links look destination next_path maybe_path of_two_paths one_path passed_limit path_and_query path_of quoted read_on read_query script text_of word_of words write_of

@@ -4,7 +4,7 @@ use Rattle.hac_model.specs.Tree.Events.{accepted}
 use Rattle.hac_model.specs.declared.events.Event.{Event}
 use Rattle.kept_state.specs.Parts.{facts_kept, state_of}
 use Rattle.kept_state.proofs.MountPutLemmas.{mount-directory, mount-even, mount-few, sync-documents, sync-even, sync-mount}
-use Rattle.kept_state.proofs.ReadyLemmas.{file-directory, link-parts, mark-directory, mkdir-directory, move-directory, setq-told, smkdir-directory, smkdir-told}
+use Rattle.kept_state.proofs.ReadyLemmas.{file-directory, link-parts, mark-directory, mkdir-directory, move-directory, moved-ready, setq-told, smkdir-directory, smkdir-told}
 use Rattle.kept_state.proofs.ready.prepare.Goals as goal
 
 pub prepare_entry-requires : goal.prepare_entry-requires
@@ -22,11 +22,11 @@ prepare_link-requires-clause-target c = (link-parts (facts_kept c.args.kept.now)
 pub prepare_semantic-requires-clause-dir : goal.prepare_semantic-requires-clause-dir
 prepare_semantic-requires-clause-dir c = smkdir-directory (facts_kept c.args.kept.now) c.args.kept.now.sessions c.args.kept.now.tree.state c.args.event.now c.requires.accepted c.in-Smkdir.dir c.in-Smkdir.name c.in-Smkdir.query c.in-Smkdir.told c.in-Smkdir.is
 
-pub prepare_move-requires : goal.prepare_move-requires
-prepare_move-requires c = move-directory (facts_kept c.args.kept.now) c.args.kept.now.sessions c.args.kept.now.tree.state c.args.event.now c.requires.accepted c.in-Mv.entry c.in-Mv.dir c.in-Mv.name c.in-Mv.is
+pub prepare_move-requires-clause-dir : goal.prepare_move-requires-clause-dir
+prepare_move-requires-clause-dir c = move-directory (facts_kept c.args.kept.now) c.args.kept.now.sessions c.args.kept.now.tree.state c.args.event.now c.requires.accepted c.in-Mv.entry c.in-Mv.dir c.in-Mv.name c.in-Mv.is
 
-pub prepare_mark-requires : goal.prepare_mark-requires
-prepare_mark-requires c = mark-directory (facts_kept c.args.kept.now) c.args.kept.now.sessions c.args.kept.now.tree.state c.args.event.now c.requires.accepted c.in-Mark.mark c.in-Mark.is
+pub prepare_mark-requires-clause-semantic : goal.prepare_mark-requires-clause-semantic
+prepare_mark-requires-clause-semantic c = mark-directory (facts_kept c.args.kept.now) c.args.kept.now.sessions c.args.kept.now.tree.state c.args.event.now c.requires.accepted c.in-Mark.mark c.in-Mark.is
 
 pub prepare_mount-requires-clause-dir : goal.prepare_mount-requires-clause-dir
 prepare_mount-requires-clause-dir c = mount-directory c.args.kept.now c.in-Smount.dir c.in-Smount.name c.in-Smount.space c.in-Smount.docs c.in-Smount.told (subst (λ (e : Event). IsTrue (accepted (state_of c.args.kept.now) e)) c.in-Smount.is c.requires.accepted)
@@ -51,3 +51,6 @@ prepare_semantic-requires-clause-told c = smkdir-told (facts_kept c.args.kept.no
 
 pub prepare_query-requires-clause-told : goal.prepare_query-requires-clause-told
 prepare_query-requires-clause-told c = setq-told (facts_kept c.args.kept.now) c.args.kept.now.sessions c.args.kept.now.tree.state c.args.event.now c.requires.accepted c.in-Setq.dir c.in-Setq.query c.in-Setq.told c.in-Setq.is
+
+pub returns-in-Mv-clause-suits : goal.returns-in-Mv-clause-suits
+returns-in-Mv-clause-suits c = moved-ready c.prepare_move.new.kept c.args.event.now c.in-Mv.entry c.in-Mv.dir c.in-Mv.name c.prepare_move.result c.in-Mv.is c.prepare_move.ensures.ready c.prepare_move.ensures.edges

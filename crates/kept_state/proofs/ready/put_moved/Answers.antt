@@ -1,15 +1,19 @@
 use Rattle.std.proofs.Common.{ap}
+use Rattle.hac_model.specs.Tree.Links.{query_at}
 use Rattle.file_tree.specs.Seen.{Seen}
-use Rattle.kept_state.proofs.PutLemmas.{moved-there, plain-moved, semantic-moved}
+use Rattle.kept_state.specs.Parts.{edges_then}
+use Rattle.kept_state.proofs.LenderLemmas.{will-ready}
+use Rattle.kept_state.proofs.PutLemmas.{moved-put, moved-there}
 use Rattle.kept_state.proofs.ready.put_moved.Goals as goal
 
 pub move_to-requires-clause-there : goal.move_to-requires-clause-there
 move_to-requires-clause-there c = moved-there c.args.kept.now c.args.entry c.args.dir c.args.name c.requires.may.happens
 
-pub returns-in-Some : goal.returns-in-Some
-returns-in-Some c =
-    semantic-moved c.args.kept.now c.requires.may.linked c.args.entry c.args.dir c.args.name c.requires.may.happens c.args.edges c.requires.suits.1 c.move_to.new.self (ap (λ (t : Seen). t.state) c.move_to.ensures)
-    c.in-Some.edges c.set_edges.new.self c.in-Some.is c.set_edges.ensures.edges
+pub put_edges-requires : goal.put_edges-requires
+put_edges-requires c = let kept = c.args.kept.now in will-ready kept.graph c.args.entry (edges_then kept c.args.entry c.args.dir (query_at kept.tree.state c.args.entry)) c.args.edges c.requires.suits.1
 
-pub returns-in_default : goal.returns-in_default
-returns-in_default c = plain-moved c.args.kept.now c.requires.may.linked c.args.entry c.args.dir c.args.name c.requires.may.happens c.args.edges c.requires.suits.1 c.move_to.new.self (ap (λ (t : Seen). t.state) c.move_to.ensures) c.in_default.is
+pub returns : goal.returns
+returns c =
+    let kept = c.args.kept.now in
+    moved-put kept c.requires.may.linked c.args.entry c.args.dir c.args.name c.requires.may.happens c.move_to.new.self c.put_edges.new.graph (ap (λ (t : Seen). t.state) c.move_to.ensures)
+    (c.put_edges.ensures c.args.entry (edges_then kept c.args.entry c.args.dir (query_at kept.tree.state c.args.entry)) c.requires.suits.1)

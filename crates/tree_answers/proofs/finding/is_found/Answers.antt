@@ -9,5 +9,5 @@ overflow_add-get c = omega (arith, file-fits c.args.kept.now.state c.args.item c
 pub returns : goal.returns
 returns c =
     c.has_found.ensures
-    ∙ c.in_ok-found.ensures.links c.args.dir c.args.item (λ is. alone-reaches (depends c.args.kept.now.state) (c.args.dir ∷ []) c.args.dir (inl refl))
-    (within-one c.get.result (c.get-2.result + 1) c.args.item c.get.ensures (ap (λ n. n + 1) c.get-2.ensures))
+    ∙ (c.in_ok-found.ensures.links c.args.dir c.args.item (λ is. alone-reaches (depends c.args.kept.now.state) (c.args.dir ∷ []) c.args.dir (inl refl))
+    (within-one c.get.result (c.get-2.result + 1) c.args.item c.get.ensures (ap (λ n. n + 1) c.get-2.ensures))).found

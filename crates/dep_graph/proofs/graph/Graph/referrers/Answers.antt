@@ -6,10 +6,10 @@ use Rattle.dep_graph.proofs.ReferLemmas.{each-node-once, names, naming, naming-e
 use Rattle.dep_graph.proofs.graph.Graph.referrers.Goals as goal
 
 pub loop-number-preserved-in-Continue-1 : goal.loop-number-preserved-in-Continue-1
-loop-number-preserved-in-Continue-1 c = naming-found c.args.dir c.loop-number.numbers.items c.push.new.self.items (c.in-Some.number.now, c.in-Some.edges.now) c.loop-number.number-iterator c.next.new.self (naming c.args.dir c.args.self.now.nodes) c.loop-number.invariant c.in-Some.ensures.steps (ap (λ (es : List ℕ). names c.args.dir es) (sym c.as_slice.ensures.value) ∙ sym c.names.ensures ∙ c.if-names.true) (c.in_ok-push.ensures.items ∙ ap (λ (k : ℕ). c.loop-number.numbers.items ++ k ∷ []) c.new.ensures)
+loop-number-preserved-in-Continue-1 c = naming-found c.args.dir c.loop-number.numbers.items c.push.new.self.items (c.in-Some.number.now, c.in-Some.edges.now) c.loop-number.number-iterator c.next.new.self (naming c.args.dir c.args.self.now.nodes) c.loop-number.invariant c.in-Some.ensures.steps (ap (λ (es : List ℕ). names c.args.dir es) (sym c.as_slice.ensures.value) ∙ sym c.refers.ensures ∙ c.if-refers.true) (c.in_ok-push.ensures.items ∙ ap (λ (k : ℕ). c.loop-number.numbers.items ++ k ∷ []) c.new.ensures)
 
 pub loop-number-preserved : goal.loop-number-preserved
-loop-number-preserved c = naming-passed c.args.dir c.loop-number.numbers.items (c.in-Some.number.now, c.in-Some.edges.now) c.loop-number.number-iterator c.next.new.self (naming c.args.dir c.args.self.now.nodes) c.loop-number.invariant c.in-Some.ensures.steps (ap (λ (es : List ℕ). names c.args.dir es) (sym c.as_slice.ensures.value) ∙ sym c.names.ensures ∙ c.if-names.false)
+loop-number-preserved c = naming-passed c.args.dir c.loop-number.numbers.items (c.in-Some.number.now, c.in-Some.edges.now) c.loop-number.number-iterator c.next.new.self (naming c.args.dir c.args.self.now.nodes) c.loop-number.invariant c.in-Some.ensures.steps (ap (λ (es : List ℕ). names c.args.dir es) (sym c.as_slice.ensures.value) ∙ sym c.refers.ensures ∙ c.if-refers.false)
 
 pub returns-clause-all : goal.returns-clause-all
 returns-clause-all c q =

@@ -6,13 +6,11 @@ use Rattle.std.proofs.lemmas.List.{length-map}
 use Rattle.hac_model.specs.Tree.Listing.{children}
 use Rattle.hac_model.specs.Tree.Mounting.{do_names_rise, fresh}
 use Rattle.hac_model.specs.Tree.Names.{is_name}
-use Rattle.hac_model.specs.Tree.{is_linkable, path_of}
+use Rattle.hac_model.specs.Tree.{is_linkable}
 use Rattle.hac_model.specs.declared.counts.Counts.{Counts}
 use Rattle.hac_model.specs.declared.limits.TheConstants.{DOCS_LIMIT}
 use Rattle.hac_model.specs.declared.states.Entry.{Entry}
 use Rattle.hac_model.proofs.CountLemmas.{measured, one_if}
-use Rattle.file_tree.specs.Counting as counting
-use Rattle.file_tree.specs.Depths.{is_deep_in}
 use Rattle.file_tree.proofs.LongLemmas.{counts-synced, were, were-items}
 use Rattle.file_tree.proofs.TallyLemmas.{order-length}
 use Rattle.file_tree.proofs.tree.Tree.counts_synced.Goals as goal
@@ -36,12 +34,9 @@ returns c =
     let old : length c.children.result.now ≡ were s h c.args.mount c.requires.mount names =
     ap length c.children.ensures.numbers ∙ length-map (children s c.args.mount) (λ (e : Entry). e.number) ∙ order-length (filter (λ (e : Entry). e.parent == c.args.mount) s.entries) in
     let come : c.count_fresh-fresh.result ≡ length (fresh s c.args.mount names) = c.count_fresh-fresh.ensures.count ∙ ap (λ (xs : List (List ℕ)). length (fresh s c.args.mount xs)) c.as_slice-names.ensures in
-    let deep : c.is_deep_in-is_long.result ≡ is_deep_in (length (path_of s c.args.mount)) (length (fresh s c.args.mount names)) =
-    c.is_deep_in-is_long.ensures ∙ (λ i. is_deep_in (c.depth.ensures.depth i) (come i)) in
     c.synced.ensures
     ∙ (λ i. record (c.small_counts.ensures.counts i) {
       items = (c.small_counts.ensures.counts i).items - old i + length (c.as_slice-names.ensures i);
-      long_paths = counting.one_if (deep i);
       next = (c.small_counts.ensures.counts i).next + come i;
     })
     ∙ sym (counts-synced s h c.args.mount c.requires.mount names rise)

@@ -9,7 +9,7 @@ replaced-requires-clause-part c =
     part-told s c.small_counts.ensures.layout c.args.entry entry.0 entry.1 c.small_counts.result c.share.result c.small_counts.ensures.counts (c.share.ensures entry.0 entry.1)
 
 pub returns : goal.returns
-returns c = λ edit each.
+returns c = λ edit kind each.
     let s = c.args.self.now.state in
     let entry = some-found s.entries c.args.entry c.requires.there in
-    told-edited s c.small_counts.ensures.layout c.args.entry entry.0 entry.1 c.small_counts.result c.share.result c.small_counts.ensures.counts (c.share.ensures entry.0 entry.1) edit c.replaced.result c.args.new (each entry.0 entry.1) c.replaced.ensures
+    told-edited s c.small_counts.ensures.layout c.args.entry entry.0 entry.1 c.small_counts.result c.share.result c.small_counts.ensures.counts (c.share.ensures entry.0 entry.1) edit c.replaced.result c.args.new kind (each entry.0 entry.1) c.replaced.ensures

@@ -8,7 +8,7 @@ use Rattle.hac_model.specs.declared.spaces.Asks.{Asks}
 use Rattle.hac_core.specs.Drafts.{IsDraft, IsDraftFor, IsKnownOf, Settles}
 use Rattle.hac_core.specs.Seen.{Seen}
 use Rattle.hac_core.specs.declared.drafts.Settled.TheVariants as settled
-use Rattle.hac_core.proofs.DraftLemmas.{asks-made, known-seated, settles-changed, settles-steps}
+use Rattle.hac_core.proofs.DraftLemmas.{asks-made, known-placed, known-seated, settles-changed, settles-steps}
 use Rattle.hac_core.proofs.machine.Machine.settle.Goals as goal
 
 pub settled-requires-clause-seated : goal.settled-requires-clause-seated
@@ -26,6 +26,12 @@ settled-requires-clause-answered c =
     let made = subst (λ (seen : Seen). IsDraft seen.state c.args.draft) (sym c.self.view_is) c.requires.made in
     let own = subst (IsKnownOf c.self.inside.kept.state made.0) (sym c.in-Changes.ensures) made.1.known in
     subst (λ (asked : Asks). AreAnswersTo asked c.args.answers) (made.1.asks ∙ asks-made c.self.inside.kept.state made.0 c.in-Changes.change.event own.known.0) c.requires.answered
+
+pub settled-requires-clause-placed : goal.settled-requires-clause-placed
+settled-requires-clause-placed c = λ few.
+    let made = subst (λ (seen : Seen). IsDraft seen.state c.args.draft) (sym c.self.view_is) c.requires.made in
+    known-placed c.self.inside.kept.state c.know_valid.ensures.layout c.args.answers made.0 c.in-Changes.change c.args.draft.known c.in-Changes.ensures made.1.known
+    (subst (λ (asked : Asks). AreAnswersTo asked c.args.answers) made.1.asks c.requires.answered) few
 
 pub returns-in-Changes-clause-settled : goal.returns-in-Changes-clause-settled
 returns-in-Changes-clause-settled c =

@@ -1,10 +1,9 @@
 use Rattle.std.proofs.Common.{◌≡◌, refl, subst, sym}
 use Rattle.set_pool.specs.Sets as pool
-use Rattle.hac_model.specs.declared.marks.Kind.TheVariants.{Unlinked}
 use Rattle.link_kinds.specs.Kept.{seen_of}
 use Rattle.link_kinds.specs.Kinds.{AreApart}
 use Rattle.link_kinds.specs.Seen.{DropsItem, Known, lists_in}
-use Rattle.link_kinds.proofs.KindLemmas.{apart-with}
+use Rattle.link_kinds.proofs.KindLemmas.{apart-without}
 use Rattle.link_kinds.proofs.KeptLemmas.{drops-item, kept-still, sets-kept}
 use Rattle.link_kinds.proofs.links.Links.drop_item.Goals as goal
 
@@ -15,7 +14,7 @@ module _ (c : goal.After-remove_everywhere) where
 pub invariant_of-self : goal.invariant_of-self
 invariant_of-self c =
     kept-still c.self.inside (record c.self.inside { pool = c.remove_everywhere.new.self }) (seen_of c.self.inside) refl (λ d. refl) c.self.invariant c.remove_everywhere.ensures.live c.remove_everywhere.ensures.rise
-    (λ d. subst AreApart (sym (drops c (seen_of c.self.inside) refl d)) (apart-with Unlinked c.args.item (lists_in (seen_of c.self.inside) d) (c.self.invariant.kinds d)))
+    (λ d. subst AreApart (sym (drops c (seen_of c.self.inside) refl d)) (apart-without c.args.item (lists_in (seen_of c.self.inside) d) (c.self.invariant.kinds d)))
 
 pub returns-clause-lists : goal.returns-clause-lists
 returns-clause-lists c = drops c c.args.self.now c.self.view_is

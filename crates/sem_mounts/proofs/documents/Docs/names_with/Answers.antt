@@ -11,7 +11,7 @@ pub returns : goal.returns
 returns c =
     let texts = c.self.inside.texts in
     let marks = rw c.len.ensures at c.in_ok-marks.ensures in
-    let same = marked-names c.args.term.now texts c.self.inside.lists.entries
+    let same = marked-names c.args.term.now texts c.self.inside.lists
     c.in_ok-marks.marks.items c.self.invariant marks in
     rw (← c.self.view_is) (IfOk-weaker c.names_marked.result
     (λ found. found.items ≡ marked (names texts) c.as_slice.result.now)

@@ -1,0 +1,10 @@
+use Rattle.std.proofs.Common.{ap, sym, ◌∙◌}
+use Rattle.std.specs.Prelude.{is_none, not}
+use Rattle.hac_core.proofs.FittingLemmas.{clear-asking}
+use Rattle.hac_core.proofs.fitting.is_clear.Goals as goal
+
+pub returns-then-is_none : goal.returns-then-is_none
+returns-then-is_none c =
+    c.keeps_few_after.ensures
+    ∙ clear-asking c.args.kept.now.state c.args.event.now c.in-Setq.dir c.in-Setq.query c.in-Setq.told c.in-Setq.is
+    (ap (λ o. is_none o) (sym c.in_ok-way-in-Setq.ensures) ∙ ap not (c.is_none.ensures ∙ ap not c.if-is_none.true))
