@@ -1,1 +1,4 @@
+pub mod AfterLemmas
+pub mod CarryLemmas
+pub mod EntryLemmas
 pub mod ProvideLemmas

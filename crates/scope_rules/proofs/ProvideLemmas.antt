@@ -15,7 +15,7 @@ use Rattle.scope_rules.specs.Made.{IsMadeOf, found_in}
 item-told : (s : State) (n : ℕ) → is_item s n ≡ (is_file_at s.entries n || is_document_at s.entries n)
 item-told s n = elim (body_at s.entries n) as (λ (o : Option Body). option_map_or is_linkable o false ≡ (option_map_or is_file o false || option_map_or is_document o false)) [ None ↦ refl | Some body ↦ refl ]
 
-item-bare : (s : State) (n : ℕ) → is_item (bare s) n ≡ is_item s n
+pub item-bare : (s : State) (n : ℕ) → is_item (bare s) n ≡ is_item s n
 item-bare s n = item-told (bare s) n ∙ (λ i. file-bare s n i || document-bare s n i) ∙ sym (item-told s n)
 
 module _ (s tree : State) (marks found : Known) (made : IsMadeOf s tree marks) (dir item : ℕ) where

@@ -1,6 +1,11 @@
-//! What directories provide, by the tree and the links. It knows no text, and asks no query.
+//! What directories provide, by the tree and the links, and what the tree will be after an event. It
+//! knows no text, and asks no query.
 #![tactic(auto)]
 
+mod after;
+mod comings;
+mod fates;
 mod providing;
 
+pub use after::Scope;
 pub use providing::{has_found, provides};

@@ -1,0 +1,383 @@
+-- What is asked of the tree after an event, from the tree before it.
+use Rattle.std.proofs.Common.{◌≡◌, ℕ, ◌<◌, Bool, true, false, cond, List, [], ◌∷◌, subst, refl, ap, sym, ◌∙◌, arith, eq-eqb}
+use Rattle.std.specs.Prelude.{◌==◌, ◌&&◌, ◌||◌, not, Option, Some, None, is_some, option_and_then}
+use Rattle.std.specs.Option.{option_map, option_map_or}
+use Rattle.std.proofs.lemmas.Bool.{and_parts, eqb-false, eqb-true, ne_eqb}
+use Rattle.hac_model.specs.Query.Formula.{Formula}
+use Rattle.hac_model.specs.Tree.Changes.{asking, edited, indexed, plain_body, reseated, rewritten}
+use Rattle.hac_model.specs.Tree.Events.{is_made_holder, next_dirty}
+use Rattle.hac_model.specs.Tree.Facts.{bare_after}
+use Rattle.hac_model.specs.Tree.Links.{is_item, is_judged, parent_of, query_at}
+use Rattle.hac_model.specs.Tree.Valid.{IsLayout, NumbersRise}
+use Rattle.hac_model.specs.Tree.{body_at, entry_at, is_directory, is_dirty, is_document, is_linkable, is_made_directory, is_mount, is_mount_at, query_in, shown_text}
+use Rattle.hac_model.specs.declared.events.Event.{Event}
+use Rattle.hac_model.specs.declared.events.Event.TheVariants.{Rewrite, Setq, Unq, Mv, Smount, Step}
+use Rattle.hac_model.specs.declared.states.Body.{Body}
+use Rattle.hac_model.specs.declared.states.Body.TheVariants.{File, Dir, Symlink, Semantic, Mount, Document}
+use Rattle.hac_model.specs.declared.states.Entry.{Entry}
+use Rattle.hac_model.specs.declared.states.State.{State}
+use Rattle.hac_model.proofs.ChangeLemmas.{touched, touched-keeps}
+use Rattle.hac_model.proofs.TreeLemmas.{entry_at-above, entry_at-behind, entry_at-first, entry_at-number}
+use Rattle.scope_rules.specs.After.{SuitsTree, goes, is_indexed, left_parent, left_query, new_body, new_parent}
+use Rattle.scope_rules.proofs.EntryLemmas.{IsNew, left_at, stayed}
+
+-- Bodies that are edited.
+
+-- the test of bodies gives the same after each edit of a text or a query
+record Keeps (test : Body → Bool) : Type 0 where
+  rewrites : (text : List ℕ) (body : Body) → test (rewritten text body) ≡ test body
+  asks : (query : Formula ℕ) (body : Body) → test (asking query body) ≡ test body
+  plains : (body : Body) → test (plain_body body) ≡ test body
+
+linkable-keeps : Keeps is_linkable
+linkable-keeps = record { rewrites = rewrites; asks = asks; plains = plains }
+  where
+    rewrites : (text : List ℕ) (body : Body) → is_linkable (rewritten text body) ≡ is_linkable body
+    rewrites text (File old dirty shown) = refl
+    rewrites text other = refl
+
+    asks : (query : Formula ℕ) (body : Body) → is_linkable (asking query body) ≡ is_linkable body
+    asks query Dir = refl
+    asks query (Semantic old permanent prohibited) = refl
+    asks query other = refl
+
+    plains : (body : Body) → is_linkable (plain_body body) ≡ is_linkable body
+    plains (Semantic query permanent prohibited) = refl
+    plains other = refl
+
+directory-keeps : Keeps is_directory
+directory-keeps = record { rewrites = rewrites; asks = asks; plains = plains }
+  where
+    rewrites : (text : List ℕ) (body : Body) → is_directory (rewritten text body) ≡ is_directory body
+    rewrites text (File old dirty shown) = refl
+    rewrites text other = refl
+
+    asks : (query : Formula ℕ) (body : Body) → is_directory (asking query body) ≡ is_directory body
+    asks query Dir = refl
+    asks query (Semantic old permanent prohibited) = refl
+    asks query other = refl
+
+    plains : (body : Body) → is_directory (plain_body body) ≡ is_directory body
+    plains (Semantic query permanent prohibited) = refl
+    plains other = refl
+
+-- queries judge what has the body
+abbrev pub judged_in : Body → Bool
+judged_in body = is_document body || is_some (shown_text body)
+
+judged-keeps : Keeps judged_in
+judged-keeps = record { rewrites = rewrites; asks = asks; plains = plains }
+  where
+    rewrites : (text : List ℕ) (body : Body) → judged_in (rewritten text body) ≡ judged_in body
+    rewrites text (File old dirty shown) = refl
+    rewrites text other = refl
+
+    asks : (query : Formula ℕ) (body : Body) → judged_in (asking query body) ≡ judged_in body
+    asks query Dir = refl
+    asks query (Semantic old permanent prohibited) = refl
+    asks query other = refl
+
+    plains : (body : Body) → judged_in (plain_body body) ≡ judged_in body
+    plains (Semantic query permanent prohibited) = refl
+    plains other = refl
+
+-- an entry stays what it is, a step aside
+stays-but : (test : Body → Bool) → Keeps test → (e : Event) (es : List Entry) (x : Entry) → (e ≡ Step → ⊥) → test (stayed e es x).body ≡ test x.body
+stays-but test keeps (Rewrite file text) es x no-step = touched-keeps (λ x. test x.body) file (edited (rewritten text)) x (keeps.rewrites text x.body)
+stays-but test keeps (Setq dir query told) es x no-step = touched-keeps (λ x. test x.body) dir (edited (asking query)) x (keeps.asks query x.body)
+stays-but test keeps (Unq dir) es x no-step = touched-keeps (λ x. test x.body) dir (edited plain_body) x (keeps.plains x.body)
+stays-but test keeps (Mv entry dir name) es x no-step = touched-keeps (λ x. test x.body) entry (reseated dir name) x refl
+stays-but test keeps Step es x no-step = absurd (no-step refl)
+stays-but test keeps other es x no-step = refl
+
+-- also by a step, where indexing keeps it
+stays : (test : Body → Bool) → Keeps test → ((body : Body) → test (indexed body) ≡ test body) → (e : Event) (es : List Entry) (x : Entry) → test (stayed e es x).body ≡ test x.body
+stays test keeps indexes Step es x = elim (next_dirty es) as (λ o. test (option_map_or (λ file. touched file (edited indexed)) o (λ e. e) x).body ≡ test x.body) [
+  | None ↦ refl
+  | Some file ↦ touched-keeps (λ x. test x.body) file (edited indexed) x (indexes x.body)
+]
+stays test keeps indexes (Rewrite file text) es x = stays-but test keeps (Rewrite file text) es x (λ same. absurd cc)
+stays test keeps indexes (Setq dir query told) es x = stays-but test keeps (Setq dir query told) es x (λ same. absurd cc)
+stays test keeps indexes (Unq dir) es x = stays-but test keeps (Unq dir) es x (λ same. absurd cc)
+stays test keeps indexes (Mv entry dir name) es x = stays-but test keeps (Mv entry dir name) es x (λ same. absurd cc)
+stays test keeps indexes other es x = refl
+
+indexed-linkable : (body : Body) → is_linkable (indexed body) ≡ is_linkable body
+indexed-linkable (File text dirty shown) = refl
+indexed-linkable other = refl
+
+indexed-directory : (body : Body) → is_directory (indexed body) ≡ is_directory body
+indexed-directory (File text dirty shown) = refl
+indexed-directory other = refl
+
+-- Tests of what has a number.
+
+-- whether an entry passes a test
+abbrev tested : (Body → Bool) → Option Entry → Bool
+tested test found = option_map_or test (option_map (λ (x : Entry). x.body) found) false
+
+pub judged-told : (s : State) (n : ℕ) → is_judged s n ≡ tested judged_in (entry_at s.entries n)
+judged-told s n = at (entry_at s.entries n)
+  where
+    at : (o : Option Entry) → (tested is_document o || is_some (option_and_then shown_text (option_map (λ (x : Entry). x.body) o))) ≡ tested judged_in o
+    at None = refl
+    at (Some x) = refl
+
+-- of what is left after the event
+tested-left : (test : Body → Bool) (e : Event) (t : State) (n : ℕ) (more : Bool) → ((x : Entry) → entry_at t.entries n ≡ Some x → test (stayed e t.entries x).body ≡ (test x.body || more)) → (entry_at t.entries n ≡ None → more ≡ false) →
+    tested test (left_at e t n) ≡ ((tested test (entry_at t.entries n) || more) && not (goes e t n))
+tested-left test e t n more same none = elim (goes e t n) as (λ b. tested test (cond b None (option_map (stayed e t.entries) (entry_at t.entries n))) ≡ ((tested test (entry_at t.entries n) || more) && not b)) [
+  | true ↦ sym (and-false (tested test (entry_at t.entries n) || more))
+  | false ↦ at (entry_at t.entries n) refl ∙ sym (and-true (tested test (entry_at t.entries n) || more))
+]
+  where
+    and-false : (b : Bool) → (b && false) ≡ false
+    and-false true = refl
+    and-false false = refl
+
+    and-true : (b : Bool) → (b && true) ≡ b
+    and-true true = refl
+    and-true false = refl
+
+    at : (o : Option Entry) → entry_at t.entries n ≡ o → tested test (option_map (stayed e t.entries) o) ≡ (tested test o || more)
+    at None there = sym (none there)
+    at (Some x) there = same x there
+
+or-false : (b : Bool) → (b || false) ≡ b
+or-false true = refl
+or-false false = refl
+
+tested-kept : (test : Body → Bool) (e : Event) (t : State) (n : ℕ) → ((x : Entry) → test (stayed e t.entries x).body ≡ test x.body) →
+    tested test (left_at e t n) ≡ (tested test (entry_at t.entries n) && not (goes e t n))
+tested-kept test e t n same =
+    tested-left test e t n false (λ x there. same x ∙ sym (or-false (test x.body))) (λ there. refl)
+    ∙ ap (λ (b : Bool). b && not (goes e t n)) (or-false (tested test (entry_at t.entries n)))
+
+module _ (e : Event) (t : State) (n : ℕ) (is : entry_at (bare_after e t).entries n ≡ left_at e t n) where
+  pub item-left : is_item (bare_after e t) n ≡ (is_item t n && not (goes e t n))
+  item-left = ap (tested is_linkable) is ∙ tested-kept is_linkable e t n (stays is_linkable linkable-keeps indexed-linkable e t.entries)
+
+  pub directory-left : is_made_directory (bare_after e t).entries n ≡ (is_made_directory t.entries n && not (goes e t n))
+  directory-left = ap (tested is_directory) is ∙ tested-kept is_directory e t n (stays is_directory directory-keeps indexed-directory e t.entries)
+
+module _ (e : Event) (t : State) (n : ℕ) (x : Entry) (is : IsNew e t n x) where
+  new-tested : (test : Body → Bool) → tested test (entry_at (bare_after e t).entries n) ≡ option_map_or test (new_body e t.next n) false
+  new-tested test = ap (tested test) is.found ∙ ap (λ (o : Option Body). option_map_or test o false) is.body
+
+  pub new-item : is_item (bare_after e t) n ≡ option_map_or is_linkable (new_body e t.next n) false
+  new-item = new-tested is_linkable
+
+  pub new-directory : is_made_directory (bare_after e t).entries n ≡ option_map_or is_directory (new_body e t.next n) false
+  new-directory = new-tested is_directory
+
+  pub new-parent : parent_of (bare_after e t) n ≡ new_parent e t.next n
+  new-parent = ap (λ (o : Option Entry). option_map_or (λ (x : Entry). x.parent) o 0) is.found ∙ is.parent
+
+  pub new-query : query_at (bare_after e t) n ≡ option_and_then query_in (new_body e t.next n)
+  new-query = ap (λ (o : Option Entry). option_and_then query_in (option_map (λ (x : Entry). x.body) o)) is.found ∙ ap (λ (o : Option Body). option_and_then query_in o) is.body
+
+-- Which are judged.
+
+-- the file that a step indexes
+next-file : (above : ℕ) (es : List Entry) (next n : ℕ) → NumbersRise above es next → next_dirty es ≡ Some n → (x : Entry) × (entry_at es n ≡ Some x) × (is_dirty x.body ≡ true)
+next-file above [] next n rise found = absurd cc
+next-file above (e ∷ es) next n rise found =
+    elim (is_dirty e.body) as (λ b. is_dirty e.body ≡ b → cond b (Some e.number) (next_dirty es) ≡ Some n → (x : Entry) × (entry_at (e ∷ es) n ≡ Some x) × (is_dirty x.body ≡ true)) [
+      | true ↦ (λ dirty found. let same : e.number ≡ n = cc in (e, subst (λ (k : ℕ). entry_at (e ∷ es) k ≡ Some e) same (entry_at-first e es), dirty))
+      | false ↦ (λ clean found.
+          let rest = next-file e.number es next n rise.1 found in
+          let more : e.number < n = entry_at-above e.number es next n rest.0 rise.1 rest.1 in
+          (rest.0, entry_at-behind e es n (λ same. omega arith) ∙ rest.1, rest.2))
+    ] refl found
+
+or-true : (b : Bool) → (b || true) ≡ true
+or-true true = refl
+or-true false = refl
+
+-- a dirty file is judged once it is indexed
+judged-indexed : (body : Body) → is_dirty body ≡ true → judged_in (indexed body) ≡ true
+judged-indexed (File text dirty shown) h = refl
+judged-indexed Dir h = absurd cc
+judged-indexed (Symlink target) h = absurd cc
+judged-indexed (Semantic query permanent prohibited) h = absurd cc
+judged-indexed (Mount space answers) h = absurd cc
+judged-indexed Document h = absurd cc
+
+module _ (t : State) (n : ℕ) (h : IsLayout t) where
+  -- a step makes one file more be judged
+  step-judges : (o : Option ℕ) → next_dirty t.entries ≡ o → (x : Entry) → entry_at t.entries n ≡ Some x → judged_in (option_map_or (λ file. touched file (edited indexed)) o (λ e. e) x).body ≡ (judged_in x.body || option_map_or (λ file. file == n) o false)
+  step-judges None next x there = sym (or-false (judged_in x.body))
+  step-judges (Some file) next x there = elim (file == n) as (λ b. (file == n) ≡ b → judged_in (touched file (edited indexed) x).body ≡ (judged_in x.body || b)) [
+    | true ↦ (λ here.
+        let own : file ≡ n = eqb-true file n here in
+        let found = next-file 0 t.entries t.next file h.numbers next in
+        let same : Some found.0 ≡ Some x = sym found.1 ∙ ap (entry_at t.entries) own ∙ there in
+        let one : found.0 ≡ x = cc in
+        let dirty : is_dirty x.body ≡ true = subst (λ (x : Entry). is_dirty x.body ≡ true) one found.2 in
+        ap (λ (b : Bool). judged_in (cond b (edited indexed x) x).body) (eq-eqb x.number file (entry_at-number t.entries n x there ∙ sym own))
+        ∙ judged-indexed x.body dirty ∙ sym (or-true (judged_in x.body)))
+    | false ↦ (λ other.
+        ap (λ (b : Bool). judged_in (cond b (edited indexed x) x).body) (ne_eqb x.number file (λ same. eqb-false file n other (sym same ∙ entry_at-number t.entries n x there)))
+        ∙ sym (or-false (judged_in x.body)))
+  ] refl
+
+  judges : (e : Event) (x : Entry) → entry_at t.entries n ≡ Some x → judged_in (stayed e t.entries x).body ≡ (judged_in x.body || is_indexed e t n)
+  judges Step x there = step-judges (next_dirty t.entries) refl x there
+  judges (Rewrite file text) x there = stays-but judged_in judged-keeps (Rewrite file text) t.entries x (λ same. absurd cc) ∙ sym (or-false (judged_in x.body))
+  judges (Setq dir query told) x there = stays-but judged_in judged-keeps (Setq dir query told) t.entries x (λ same. absurd cc) ∙ sym (or-false (judged_in x.body))
+  judges (Unq dir) x there = stays-but judged_in judged-keeps (Unq dir) t.entries x (λ same. absurd cc) ∙ sym (or-false (judged_in x.body))
+  judges (Mv entry dir name) x there = stays-but judged_in judged-keeps (Mv entry dir name) t.entries x (λ same. absurd cc) ∙ sym (or-false (judged_in x.body))
+  judges other x there = sym (or-false (judged_in x.body))
+
+  -- what has no entry isn't indexed
+  never-indexed : (e : Event) → entry_at t.entries n ≡ None → is_indexed e t n ≡ false
+  never-indexed Step none = step (next_dirty t.entries) refl
+    where
+      step : (o : Option ℕ) → next_dirty t.entries ≡ o → option_map_or (λ file. file == n) o false ≡ false
+      step None next = refl
+      step (Some file) next = ne_eqb file n (λ same.
+          let found = next-file 0 t.entries t.next file h.numbers next in
+          let never : Some found.0 ≡ None = sym found.1 ∙ ap (entry_at t.entries) same ∙ none in absurd cc)
+  never-indexed other none = refl
+
+  pub judged-left : (e : Event) → entry_at (bare_after e t).entries n ≡ left_at e t n → is_judged (bare_after e t) n ≡ ((is_judged t n || is_indexed e t n) && not (goes e t n))
+  judged-left e is =
+      judged-told (bare_after e t) n ∙ ap (tested judged_in) is ∙ tested-left judged_in e t n (is_indexed e t n) (judges e) (never-indexed e)
+      ∙ ap (λ (b : Bool). (b || is_indexed e t n) && not (goes e t n)) (sym (judged-told t n))
+
+-- of what is new, documents are judged
+judged-new : (e : Event) (first n : ℕ) → option_map_or judged_in (new_body e first n) false ≡ option_map_or is_document (new_body e first n) false
+judged-new (Smount dir name space documents told) first n = elim (n == first) as (λ b. judged_in (cond b (Mount space []) Document) ≡ is_document (cond b (Mount space []) Document)) [ true ↦ refl | false ↦ refl ]
+judged-new other first n = refl
+
+pub new-judged : (e : Event) (t : State) (n : ℕ) (x : Entry) → IsNew e t n x → is_judged (bare_after e t) n ≡ option_map_or is_document (new_body e t.next n) false
+new-judged e t n x is = judged-told (bare_after e t) n ∙ new-tested e t n x is judged_in ∙ judged-new e t.next n
+
+-- Where entries are, and what they ask.
+
+module _ (t : State) (n : ℕ) where
+  -- an entry that moves is there
+  moved-parent : (entry dir : ℕ) (name : List ℕ) → is_some (entry_at t.entries entry) ≡ true → option_map_or (λ (x : Entry). x.parent) (option_map (touched entry (reseated dir name)) (entry_at t.entries n)) 0 ≡ cond (n == entry) dir (parent_of t n)
+  moved-parent entry dir name some = at (entry_at t.entries n) refl
+    where
+      at : (o : Option Entry) → entry_at t.entries n ≡ o → option_map_or (λ (x : Entry). x.parent) (option_map (touched entry (reseated dir name)) o) 0 ≡ cond (n == entry) dir (option_map_or (λ (x : Entry). x.parent) o 0)
+      at None there = ap (λ (b : Bool). cond b dir 0) (sym (ne_eqb n entry (λ same.
+          let never : false ≡ true = ap (λ (o : Option Entry). is_some o) (sym there) ∙ ap (λ (k : ℕ). is_some (entry_at t.entries k)) same ∙ some in absurd cc)))
+      at (Some x) there =
+          ap (λ (k : ℕ). (cond (k == entry) (reseated dir name x) x).parent) (entry_at-number t.entries n x there)
+          ∙ (elim (n == entry) as (λ b. (cond b (reseated dir name x) x).parent ≡ cond b dir x.parent) [ true ↦ refl | false ↦ refl ])
+
+  edited-parent : (k : ℕ) (edit : Body → Body) (o : Option Entry) → option_map_or (λ (x : Entry). x.parent) (option_map (touched k (edited edit)) o) 0 ≡ option_map_or (λ (x : Entry). x.parent) o 0
+  edited-parent k edit None = refl
+  edited-parent k edit (Some x) = touched-keeps (λ x. x.parent) k (edited edit) x refl
+
+  same-parent : (o : Option Entry) → option_map_or (λ (x : Entry). x.parent) (option_map (λ (x : Entry). x) o) 0 ≡ option_map_or (λ (x : Entry). x.parent) o 0
+  same-parent None = refl
+  same-parent (Some x) = refl
+
+  parents : (e : Event) → SuitsTree e t → option_map_or (λ (x : Entry). x.parent) (option_map (stayed e t.entries) (entry_at t.entries n)) 0 ≡ left_parent e t n
+  parents (Mv entry dir name) seated = moved-parent entry dir name seated
+  parents (Rewrite file text) seated = edited-parent file (rewritten text) (entry_at t.entries n)
+  parents (Setq dir query told) seated = edited-parent dir (asking query) (entry_at t.entries n)
+  parents (Unq dir) seated = edited-parent dir plain_body (entry_at t.entries n)
+  parents Step seated = elim (next_dirty t.entries) as (λ o. option_map_or (λ (x : Entry). x.parent) (option_map (option_map_or (λ file. touched file (edited indexed)) o (λ e. e)) (entry_at t.entries n)) 0 ≡ parent_of t n) [
+    | None ↦ same-parent (entry_at t.entries n)
+    | Some file ↦ edited-parent file indexed (entry_at t.entries n)
+  ]
+  parents other seated = same-parent (entry_at t.entries n)
+
+  pub parent-left : (e : Event) → SuitsTree e t → entry_at (bare_after e t).entries n ≡ left_at e t n → parent_of (bare_after e t) n ≡ cond (goes e t n) 0 (left_parent e t n)
+  parent-left e seated is =
+      ap (λ (o : Option Entry). option_map_or (λ (x : Entry). x.parent) o 0) is
+      ∙ (elim (goes e t n) as (λ b. option_map_or (λ (x : Entry). x.parent) (cond b None (option_map (stayed e t.entries) (entry_at t.entries n))) 0 ≡ cond b 0 (left_parent e t n)) [
+        | true ↦ refl
+        | false ↦ parents e seated
+      ])
+
+  -- the query of what was found
+  abbrev asked : Option Entry → Option (Formula ℕ)
+  asked found = option_and_then query_in (option_map (λ (x : Entry). x.body) found)
+
+  -- a directory that isn't a mount can ask
+  asking-asks : (query : Formula ℕ) (body : Body) → is_directory body ≡ true → is_mount body ≡ false → query_in (asking query body) ≡ Some query
+  asking-asks query Dir made holds = refl
+  asking-asks query (Semantic old permanent prohibited) made holds = refl
+  asking-asks query (File text dirty shown) made holds = absurd cc
+  asking-asks query (Symlink target) made holds = absurd cc
+  asking-asks query (Mount space answers) made holds = absurd cc
+  asking-asks query Document made holds = absurd cc
+
+  plain-asks : (body : Body) → query_in (plain_body body) ≡ None
+  plain-asks (Semantic query permanent prohibited) = refl
+  plain-asks (File text dirty shown) = refl
+  plain-asks Dir = refl
+  plain-asks (Symlink target) = refl
+  plain-asks (Mount space answers) = refl
+  plain-asks Document = refl
+
+  -- the entry with the number is edited
+  edited-asks : (k : ℕ) (edit : Body → Body) (now : Option (Formula ℕ)) → ((x : Entry) → entry_at t.entries k ≡ Some x → query_in (edit x.body) ≡ now) → (entry_at t.entries k ≡ None → now ≡ None) → asked (option_map (touched k (edited edit)) (entry_at t.entries n)) ≡ cond (n == k) now (query_at t n)
+  edited-asks k edit now same none = elim (n == k) as (λ b. (n == k) ≡ b → asked (option_map (touched k (edited edit)) (entry_at t.entries n)) ≡ cond b now (query_at t n)) [
+    | true ↦ (λ here. own (eqb-true n k here) (entry_at t.entries n) refl)
+    | false ↦ (λ other. others (eqb-false n k other) (entry_at t.entries n) refl)
+  ] refl
+    where
+      own : n ≡ k → (o : Option Entry) → entry_at t.entries n ≡ o → asked (option_map (touched k (edited edit)) o) ≡ now
+      own here None there = sym (none (ap (entry_at t.entries) (sym here) ∙ there))
+      own here (Some x) there =
+          ap (λ (b : Bool). query_in (cond b (edited edit x) x).body) (eq-eqb x.number k (entry_at-number t.entries n x there ∙ here))
+          ∙ same x (ap (entry_at t.entries) (sym here) ∙ there)
+
+      others : (n ≡ k → ⊥) → (o : Option Entry) → entry_at t.entries n ≡ o → asked (option_map (touched k (edited edit)) o) ≡ asked o
+      others apart None there = refl
+      others apart (Some x) there = ap (λ (b : Bool). query_in (cond b (edited edit x) x).body) (ne_eqb x.number k (λ same. apart (sym (entry_at-number t.entries n x there) ∙ same)))
+
+  kept-asks : (k : ℕ) (edit : Body → Body) → ((body : Body) → query_in (edit body) ≡ query_in body) → (o : Option Entry) → asked (option_map (touched k (edited edit)) o) ≡ asked o
+  kept-asks k edit same None = refl
+  kept-asks k edit same (Some x) = touched-keeps (λ x. query_in x.body) k (edited edit) x (same x.body)
+
+  same-asks : (o : Option Entry) → asked (option_map (λ (x : Entry). x) o) ≡ asked o
+  same-asks None = refl
+  same-asks (Some x) = refl
+
+  rewritten-asks : (text : List ℕ) (body : Body) → query_in (rewritten text body) ≡ query_in body
+  rewritten-asks text (File old dirty shown) = refl
+  rewritten-asks text other = refl
+
+  indexed-asks : (body : Body) → query_in (indexed body) ≡ query_in body
+  indexed-asks (File text dirty shown) = refl
+  indexed-asks other = refl
+
+  moved-asks : (entry dir : ℕ) (name : List ℕ) (o : Option Entry) → asked (option_map (touched entry (reseated dir name)) o) ≡ asked o
+  moved-asks entry dir name None = refl
+  moved-asks entry dir name (Some x) = touched-keeps (λ x. query_in x.body) entry (reseated dir name) x refl
+
+  holder-asks : (dir : ℕ) (query : Formula ℕ) → is_made_holder t dir ≡ true → asked (option_map (touched dir (edited (asking query))) (entry_at t.entries n)) ≡ cond (n == dir) (Some query) (query_at t n)
+  holder-asks dir query held =
+      let parts = and_parts (is_made_directory t.entries dir) (not (is_mount_at t.entries dir)) held in
+      edited-asks dir (asking query) (Some query)
+      (λ x there. asking-asks query x.body (sym (ap (tested is_directory) there) ∙ parts.0) (not-true (is_mount x.body) (sym (ap (λ (o : Option Entry). not (tested is_mount o)) there) ∙ parts.1)))
+      (λ none. let never : false ≡ true = sym (ap (tested is_directory) none) ∙ parts.0 in absurd cc)
+    where
+      not-true : (b : Bool) → not b ≡ true → b ≡ false
+      not-true true h = absurd cc
+      not-true false h = refl
+
+  asks : (e : Event) → SuitsTree e t → asked (option_map (stayed e t.entries) (entry_at t.entries n)) ≡ left_query e t n
+  asks (Setq dir query told) seated = holder-asks dir query seated
+  asks (Unq dir) seated = edited-asks dir plain_body None (λ x there. plain-asks x.body) (λ none. refl)
+  asks (Rewrite file text) seated = kept-asks file (rewritten text) (rewritten-asks text) (entry_at t.entries n)
+  asks (Mv entry dir name) seated = moved-asks entry dir name (entry_at t.entries n)
+  asks Step seated = elim (next_dirty t.entries) as (λ o. asked (option_map (option_map_or (λ file. touched file (edited indexed)) o (λ e. e)) (entry_at t.entries n)) ≡ query_at t n) [
+    | None ↦ same-asks (entry_at t.entries n)
+    | Some file ↦ kept-asks file indexed indexed-asks (entry_at t.entries n)
+  ]
+  asks other seated = same-asks (entry_at t.entries n)
+
+  pub query-left : (e : Event) → SuitsTree e t → entry_at (bare_after e t).entries n ≡ left_at e t n → query_at (bare_after e t) n ≡ cond (goes e t n) None (left_query e t n)
+  query-left e seated is =
+      ap asked is
+      ∙ (elim (goes e t n) as (λ b. asked (cond b None (option_map (stayed e t.entries) (entry_at t.entries n))) ≡ cond b None (left_query e t n)) [
+        | true ↦ refl
+        | false ↦ asks e seated
+      ])

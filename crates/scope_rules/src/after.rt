@@ -1,0 +1,166 @@
+//! The tree as it will be after an event, told by the tree before it. Nothing changes, and no memory
+//! is taken.
+ghost use Rattle.std.specs.Prelude.{◌≡◌, ◌==◌, ◌&&◌, ◌||◌, not, nat_le, nat_lt, IsTrue};
+ghost use Rattle.std.specs.List.{list_any};
+ghost use Rattle.std.specs.Option.{option_copied};
+ghost use Rattle.hac_model.specs.Tree.Events.{apply};
+ghost use Rattle.hac_model.specs.Tree.Links.{is_below, is_item, is_judged, parent_of, query_at};
+ghost use Rattle.hac_model.specs.Tree.{ancestors, is_directory_at, is_live, is_made_directory};
+ghost use Rattle.hac_model.specs.declared.states.State.{State};
+ghost use Rattle.scope_rules.specs.After.{IsBefore, IsScopeOf, is_indexed};
+
+use crate::comings::{
+    is_new_directory, is_new_document, is_new_item, new_parent, new_query, next_after,
+};
+use crate::fates::{goes, is_indexed, left_parent, left_query};
+use file_tree::Tree;
+use hac_model::{Event, Number, PATH_LIMIT, Query};
+
+/// What the tree will be after an event. It tells so while the tree is still the one before it.
+#[derive(Clone, Copy)]
+pub struct Scope<'a> {
+    /// The tree before the event.
+    pub tree: &'a Tree,
+    /// The event.
+    pub event: &'a Event,
+    /// The number that the next entry will take.
+    pub next: Number,
+}
+
+impl<'a> Scope<'a> {
+    /// The tree after an event that a state with this tree accepts.
+    pub fn new(tree: &'a Tree, event: &'a Event) -> Scope<'a>
+        ensures tree { result.tree.now ≡ tree.now }
+        ensures event { result.event.now ≡ event.now }
+        ensures scope { (s : State) → IsBefore s tree.now.state event.now → IsScopeOf s result }
+    {
+        Scope {
+            tree,
+            event,
+            next: next_after(tree, event),
+        }
+    }
+
+    /// The number that the next entry takes after the event.
+    pub fn next_number(&self) -> Number
+        ensures { (s : State) → IsScopeOf s self.now → result ≡ (apply s self.now.event.now).next }
+    {
+        self.next
+    }
+
+    /// Whether what can be linked will have the number: a file or a document.
+    pub fn is_item(&self, number: Number) -> bool
+        ensures { (s : State) → IsScopeOf s self.now →
+            result ≡ is_item (apply s self.now.event.now) number }
+    {
+        if self.is_new(number) {
+            is_new_item(self.tree, self.event, number)
+        } else {
+            self.tree.is_item(number) && !goes(self.tree, self.event, number)
+        }
+    }
+
+    /// Whether queries will judge what has the number: a document, or a file that was indexed.
+    pub fn is_judged(&self, number: Number) -> bool
+        ensures { (s : State) → IsScopeOf s self.now →
+            result ≡ is_judged (apply s self.now.event.now) number }
+    {
+        if self.is_new(number) {
+            is_new_document(self.tree, self.event, number)
+        } else {
+            self.is_judged_then(number) && !goes(self.tree, self.event, number)
+        }
+    }
+
+    /// Whether queries will judge what has the number, unless it goes.
+    fn is_judged_then(&self, number: Number) -> bool
+        ensures { result ≡ (is_judged self.now.tree.now.state number
+            || is_indexed self.now.event.now self.now.tree.now.state number) }
+    {
+        is_judged(self.tree, number) || is_indexed(self.tree, self.event, number)
+    }
+
+    /// Whether a directory will have the number.
+    pub fn is_directory(&self, number: Number) -> bool
+        ensures { (s : State) → IsScopeOf s self.now →
+            result ≡ is_directory_at (apply s self.now.event.now).entries number }
+    {
+        number == Number::ROOT || self.is_made_directory(number)
+    }
+
+    /// Whether an entry of the number will be a directory.
+    fn is_made_directory(&self, number: Number) -> bool
+        ensures { (s : State) → IsScopeOf s self.now →
+            result ≡ is_made_directory (apply s self.now.event.now).entries number }
+    {
+        if self.is_new(number) {
+            is_new_directory(self.tree, self.event, number)
+        } else {
+            self.tree.is_made_directory(number) && !goes(self.tree, self.event, number)
+        }
+    }
+
+    /// The directory that an entry will be in. The root is in itself.
+    pub fn parent(&self, number: Number) -> Number
+        ensures { (s : State) → IsScopeOf s self.now →
+            result ≡ parent_of (apply s self.now.event.now) number }
+    {
+        if self.is_new(number) {
+            new_parent(self.tree, self.event, number)
+        } else if goes(self.tree, self.event, number) {
+            Number::ROOT
+        } else {
+            left_parent(self.tree, self.event, number)
+        }
+    }
+
+    /// The query that a directory will have.
+    pub fn query(&self, number: Number) -> Option<&'a Query<Number>>
+        ensures { (s : State) → IsScopeOf s self.now →
+            option_copied result ≡ query_at (apply s self.now.event.now) number }
+    {
+        if self.is_new(number) {
+            new_query(self.event)
+        } else if goes(self.tree, self.event, number) {
+            None
+        } else {
+            left_query(self.tree, self.event, number)
+        }
+    }
+
+    /// Whether an item will be stored below a directory, at any depth.
+    pub fn is_below(&self, item: Number, dir: Number) -> bool
+        ensures { (s : State) → IsScopeOf s self.now →
+            result ≡ is_below (apply s self.now.event.now) dir item }
+    {
+        self.is_item(item) && self.is_directory(dir) && self.leads_up(PATH_LIMIT + 1, item, dir)
+    }
+
+    /// Whether at most `steps` steps over parents will lead from an entry to a directory.
+    fn leads_up(&self, steps: u64, entry: Number, dir: Number) -> bool
+        ensures { (s : State) → IsScopeOf s self.now →
+            IsTrue (is_live (apply s self.now.event.now).entries entry) →
+            result ≡ list_any (λ entry. entry.parent == dir)
+            (ancestors steps (apply s self.now.event.now).entries entry) }
+    {
+        if steps == 0 || entry == Number::ROOT {
+            return false;
+        }
+        let parent = self.parent(entry);
+        parent == dir || self.leads_up(steps - 1, parent, dir)
+    }
+
+    /// Whether the event brings the entry of a number.
+    fn is_new(&self, number: Number) -> bool
+        ensures { result ≡ (nat_le self.now.tree.now.state.next number && nat_lt number self.now.next) }
+    {
+        self.tree.next_number() <= number && number < self.next
+    }
+}
+
+/// Whether queries judge what has the number: a document, or a file that was indexed.
+fn is_judged(tree: &Tree, number: Number) -> bool
+    ensures { result ≡ is_judged tree.now.state number }
+{
+    tree.is_document(number) || tree.shown(number).is_some()
+}
