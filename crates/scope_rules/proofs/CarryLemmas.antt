@@ -45,7 +45,7 @@ module _ (s t : State) (e : Event) (before : IsBefore s t e) where
   pub layout-before : IsLayout t
   layout-before = layout-unbare t (subst IsLayout before.bares (layout-bare s before.valid.layout))
 
-  layout-next : IsLayout (apply s e)
+  pub layout-next : IsLayout (apply s e)
   layout-next = (apply-valid s e before.valid before.accepts).layout
 
   pub layout-after : IsLayout (bare_after e t)

@@ -1,4 +1,7 @@
 pub mod AfterLemmas
+pub mod BelowLemmas
 pub mod CarryLemmas
 pub mod EntryLemmas
+pub mod NamesLemmas
 pub mod ProvideLemmas
+pub mod ScopeLemmas
