@@ -9,7 +9,7 @@ use Rattle.hac_model.specs.Tree.Events.{is_made_holder, next_dirty}
 use Rattle.hac_model.specs.Tree.Facts.{bare_after}
 use Rattle.hac_model.specs.Tree.Links.{is_item, is_judged, parent_of, query_at}
 use Rattle.hac_model.specs.Tree.Valid.{IsLayout, NumbersRise}
-use Rattle.hac_model.specs.Tree.{body_at, entry_at, is_directory, is_dirty, is_document, is_linkable, is_made_directory, is_mount, is_mount_at, query_in, shown_text}
+use Rattle.hac_model.specs.Tree.{entry_at, is_directory, is_dirty, is_document, is_linkable, is_made_directory, is_mount, is_mount_at, query_in, shown_text}
 use Rattle.hac_model.specs.declared.events.Event.{Event}
 use Rattle.hac_model.specs.declared.events.Event.TheVariants.{Rewrite, Setq, Unq, Mv, Smount, Step}
 use Rattle.hac_model.specs.declared.states.Body.{Body}
@@ -18,7 +18,7 @@ use Rattle.hac_model.specs.declared.states.Entry.{Entry}
 use Rattle.hac_model.specs.declared.states.State.{State}
 use Rattle.hac_model.proofs.ChangeLemmas.{touched, touched-keeps}
 use Rattle.hac_model.proofs.TreeLemmas.{entry_at-above, entry_at-behind, entry_at-first, entry_at-number}
-use Rattle.scope_rules.specs.After.{SuitsTree, goes, is_indexed, left_parent, left_query, new_body, new_parent}
+use Rattle.scope_rules.specs.Fates.{SuitsTree, goes, is_indexed, left_parent, left_query, new_body, new_parent}
 use Rattle.scope_rules.proofs.EntryLemmas.{IsNew, left_at, stayed}
 
 -- Bodies that are edited.

@@ -1,16 +1,15 @@
 -- What the tree after an event says of the state after it.
-use Rattle.std.proofs.Common.{◌≡◌, ℕ, Bool, true, List, subst, refl, ap, sym, ◌∙◌}
-use Rattle.std.specs.Prelude.{◌==◌, ◌&&◌, ◌||◌, not, Option, IsTrue, is_none, is_some}
+use Rattle.std.proofs.Common.{◌≡◌, ℕ, true, subst, refl, ap, sym, ◌∙◌}
+use Rattle.std.specs.Prelude.{◌&&◌, not, is_none, is_some}
 use Rattle.std.proofs.lemmas.Bool.{and_parts}
-use Rattle.hac_model.specs.Query.Formula.{Formula}
 use Rattle.hac_model.specs.Tree.Bare.{bare, bare_body}
-use Rattle.hac_model.specs.Tree.Events.{accepted, apply, is_clear, is_made_holder, is_placed, is_possible, may_ask}
+use Rattle.hac_model.specs.Tree.Events.{apply, is_clear, is_made_holder, is_placed, is_possible}
 use Rattle.hac_model.specs.Tree.Facts.{bare_after}
 use Rattle.hac_model.specs.Tree.Limits.{passed_limit}
 use Rattle.hac_model.specs.Tree.Links.{is_item, is_judged, parent_of, query_at}
-use Rattle.hac_model.specs.Tree.Mounting.{are_documents, do_names_rise}
+use Rattle.hac_model.specs.Tree.Mounting.{are_documents}
 use Rattle.hac_model.specs.Tree.Valid.{IsLayout}
-use Rattle.hac_model.specs.Tree.{entry_at, is_directory, is_made_directory, is_mount, is_mount_at}
+use Rattle.hac_model.specs.Tree.{entry_at, is_directory, is_made_directory, is_mount_at}
 use Rattle.hac_model.specs.declared.events.Event.{Event}
 use Rattle.hac_model.specs.declared.events.Event.TheVariants.{Setq, Mv, Ssync}
 use Rattle.hac_model.specs.declared.states.Body.{Body}
@@ -22,7 +21,8 @@ use Rattle.hac_model.proofs.BareLemmas.{bare-commutes}
 use Rattle.hac_model.proofs.FillLemmas.{tree-law}
 use Rattle.hac_model.proofs.MapLemmas.{test-mapped}
 use Rattle.hac_model.proofs.MountLayoutLemmas.{documents-parts}
-use Rattle.scope_rules.specs.After.{IsBefore, SuitsTree}
+use Rattle.scope_rules.specs.After.{IsBefore}
+use Rattle.scope_rules.specs.Fates.{SuitsTree}
 use Rattle.scope_rules.proofs.AfterLemmas.{judged-told, judged_in}
 use Rattle.scope_rules.proofs.ProvideLemmas.{item-bare}
 

@@ -4,10 +4,10 @@ use Rattle.std.specs.Prelude.{◌==◌, ◌&&◌, nat_le, nat_lt, not, filter, O
 use Rattle.std.specs.Option.{option_map, option_map_or}
 use Rattle.std.proofs.lemmas.Bool.{and_parts, cases_lt, eqb-true, eqb-false, leb-true}
 use Rattle.std.proofs.lemmas.Bool.Decides.{nat_tests}
-use Rattle.hac_model.specs.Tree.Changes.{added, asking, changed_at, changed_in, edited, indexed, plain_body, removed, reseated, rewritten}
+use Rattle.hac_model.specs.Tree.Changes.{added, asking, changed_at, edited, indexed, plain_body, removed, reseated, rewritten}
 use Rattle.hac_model.specs.Tree.Events.{next_dirty}
 use Rattle.hac_model.specs.Tree.Facts.{bare_after}
-use Rattle.hac_model.specs.Tree.Mounting.{documents_from, fresh, is_gone, is_of_mount, is_such_at, mounted, with_documents, without_such}
+use Rattle.hac_model.specs.Tree.Mounting.{documents_from, fresh, is_gone, is_of_mount, is_such_at, mounted, without_such}
 use Rattle.hac_model.specs.Tree.Valid.{IsLayout, NumbersRise}
 use Rattle.hac_model.specs.Tree.{entry_at}
 use Rattle.hac_model.specs.declared.events.Event.{Event}
@@ -16,10 +16,10 @@ use Rattle.hac_model.specs.declared.states.Body.{Body}
 use Rattle.hac_model.specs.declared.states.Body.TheVariants.{File, Dir, Symlink, Semantic, Mount, Document}
 use Rattle.hac_model.specs.declared.states.Entry.{Entry}
 use Rattle.hac_model.specs.declared.states.State.{State}
-use Rattle.hac_model.proofs.ChangeLemmas.{KeepsNumbers, entry_at-changed, entry_at-gone, entry_at-kept, entry_at-new, entry_at-other, is_kept, numbers-filter, touched}
+use Rattle.hac_model.proofs.ChangeLemmas.{entry_at-changed, entry_at-gone, entry_at-kept, entry_at-new, entry_at-other, is_kept, numbers-filter, touched}
 use Rattle.hac_model.proofs.MountLayoutLemmas.{entry_at-documents}
 use Rattle.hac_model.proofs.TreeLemmas.{entry_at-low, entry_at-next}
-use Rattle.scope_rules.specs.After.{goes, new_body, new_parent}
+use Rattle.scope_rules.specs.Fates.{goes, new_body, new_parent}
 
 -- what the event makes of an entry that stays
 abbrev pub stayed : Event → List Entry → Entry → Entry
@@ -121,22 +121,26 @@ module _ (t : State) (h : IsLayout t) where
   new-mounted n dir name space documents told low high =
       elim (n == t.next) as (λ b. (n == t.next) ≡ b → (x : Entry) × IsNew (Smount dir name space documents told) t n x) [
         | true ↦ (λ here.
-            let same : n ≡ t.next = eqb-true n t.next here in
-            (mount, record {
-              found = entry_at-documents (t.entries ++ mount ∷ []) (t.next + 1) t.next n documents (omega arith) ∙ ap (entry_at (t.entries ++ mount ∷ [])) same ∙ entry_at-new t.entries mount (none-above t.next (omega arith));
-              parent = ap (λ (b : Bool). cond b dir t.next) (sym here);
-              body = ap (λ (b : Bool). Some (cond b (Mount space []) Document)) (sym here);
-            }))
+            let same : n ≡ t.next = eqb-true n t.next here in (
+              mount,
+              record {
+                found = entry_at-documents (t.entries ++ mount ∷ []) (t.next + 1) t.next n documents (omega arith) ∙ ap (entry_at (t.entries ++ mount ∷ [])) same ∙ entry_at-new t.entries mount (none-above t.next (omega arith));
+                parent = ap (λ (b : Bool). cond b dir t.next) (sym here);
+                body = ap (λ (b : Bool). Some (cond b (Mount space []) Document)) (sym here);
+              },
+            ))
         | false ↦ (λ other.
             let apart : n ≡ t.next → ⊥ = eqb-false n t.next other in
             let more : t.next + 1 ≤ n = (elim (cases_lt t.next n) [ inl less ↦ omega arith | inr less ↦ absurd (apart (omega arith)) ]) in
             let none : entry_at (t.entries ++ mount ∷ []) n ≡ None = entry_at-other t.entries mount n (λ same. apart (sym same)) ∙ none-above n low in
-            let found = document-behind (t.entries ++ mount ∷ []) (t.next + 1) t.next n documents none more high in
-            (found.0, record {
-              found = found.1;
-              parent = found.2 ∙ ap (λ (b : Bool). cond b dir t.next) (sym other);
-              body = ap (λ (b : Body). Some b) found.3 ∙ ap (λ (b : Bool). Some (cond b (Mount space []) Document)) (sym other);
-            }))
+            let found = document-behind (t.entries ++ mount ∷ []) (t.next + 1) t.next n documents none more high in (
+              found.0,
+              record {
+                found = found.1;
+                parent = found.2 ∙ ap (λ (b : Bool). cond b dir t.next) (sym other);
+                body = ap (λ (b : Body). Some b) found.3 ∙ ap (λ (b : Bool). Some (cond b (Mount space []) Document)) (sym other);
+              },
+            ))
       ] refl
     where
       mount : Entry

@@ -1,8 +1,7 @@
 -- What a scope is asked, by whether the number is new.
 use Rattle.std.proofs.Common.{◌≡◌, ℕ, Bool, true, false, cond, ap, sym, ◌∙◌}
-use Rattle.std.specs.Prelude.{◌&&◌, ◌||◌, nat_le, nat_lt, not, Option, None, option_and_then}
+use Rattle.std.specs.Prelude.{◌&&◌, ◌||◌, nat_le, nat_lt, not, None, option_and_then}
 use Rattle.std.specs.Option.{option_map_or}
-use Rattle.hac_model.specs.Query.Formula.{Formula}
 use Rattle.hac_model.specs.Tree.Events.{apply}
 use Rattle.hac_model.specs.Tree.Facts.{bare_after}
 use Rattle.hac_model.specs.Tree.Links.{is_item, is_judged, parent_of, query_at}
@@ -10,7 +9,8 @@ use Rattle.hac_model.specs.Tree.{entry_at, is_directory, is_document, is_linkabl
 use Rattle.hac_model.specs.declared.events.Event.{Event}
 use Rattle.hac_model.specs.declared.states.Entry.{Entry}
 use Rattle.hac_model.specs.declared.states.State.{State}
-use Rattle.scope_rules.specs.After.{IsScopeOf, SuitsTree, goes, is_indexed, left_parent, left_query, new_body, new_parent}
+use Rattle.scope_rules.specs.After.{IsScopeOf}
+use Rattle.scope_rules.specs.Fates.{SuitsTree, goes, is_indexed, left_parent, left_query, new_body, new_parent}
 use Rattle.scope_rules.specs.declared.after.Scope.{Scope}
 use Rattle.scope_rules.proofs.AfterLemmas.{directory-left, item-left, judged-left, new-directory, new-item, new-judged, new-parent, new-query, parent-left, query-left}
 use Rattle.scope_rules.proofs.CarryLemmas.{directory-carried, item-carried, judged-carried, layout-after, layout-before, next-carried, parent-carried, query-carried, suits}

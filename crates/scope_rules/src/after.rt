@@ -7,9 +7,10 @@ ghost use Rattle.hac_model.specs.Tree.Events.{apply};
 ghost use Rattle.hac_model.specs.Tree.Links.{is_below, is_item, is_judged, parent_of, query_at};
 ghost use Rattle.hac_model.specs.Tree.{ancestors, is_directory_at, is_live, is_made_directory};
 ghost use Rattle.hac_model.specs.declared.states.State.{State};
-ghost use Rattle.scope_rules.specs.After.{IsBefore, IsScopeOf, is_indexed};
+ghost use Rattle.scope_rules.specs.After.{IsBefore, IsScopeOf};
+ghost use Rattle.scope_rules.specs.Fates.{is_indexed};
 
-use crate::comings::{
+use crate::arrivals::{
     is_new_directory, is_new_document, is_new_item, new_parent, new_query, next_after,
 };
 use crate::fates::{goes, is_indexed, left_parent, left_query};

@@ -5,7 +5,7 @@ ghost use Rattle.hac_model.specs.Tree.Events.{next_dirty};
 ghost use Rattle.hac_model.specs.Tree.Links.{parent_of, query_at};
 ghost use Rattle.hac_model.specs.Tree.Mounting.{do_names_rise, is_among, is_gone, is_of_mount};
 ghost use Rattle.hac_model.specs.Tree.Mounting.{is_such_at};
-ghost use Rattle.scope_rules.specs.After.{SuitsTree, goes, is_indexed, left_parent, left_query};
+ghost use Rattle.scope_rules.specs.Fates.{SuitsTree, goes, is_indexed, left_parent, left_query};
 
 use file_tree::Tree;
 use hac_model::{Event, Name, Number, Query};

@@ -3,7 +3,7 @@
 #![tactic(auto)]
 
 mod after;
-mod comings;
+mod arrivals;
 mod fates;
 mod providing;
 

@@ -1,6 +1,6 @@
 use Rattle.std.proofs.Common.{Bool, ap, sym, ◌∙◌}
 use Rattle.std.specs.Prelude.{◌&&◌, not}
-use Rattle.scope_rules.specs.After.{goes}
+use Rattle.scope_rules.specs.Fates.{goes}
 use Rattle.scope_rules.proofs.ScopeLemmas.{judged-new, judged-old, suits-scope}
 use Rattle.scope_rules.proofs.after.Scope.is_judged.Goals as goal
 

@@ -1,6 +1,6 @@
 use Rattle.std.proofs.Common.{◌≡◌, ◌+◌, ◌≤◌, length, drop}
 use Rattle.hac_model.specs.Tree.Mounting.{fresh}
-use Rattle.scope_rules.proofs.comings.count_fresh.Given as goal
+use Rattle.scope_rules.proofs.arrivals.count_fresh.Given as goal
 
 -- the names so far, and those that are left
 abbrev pub invariant-loop-name : goal.invariant-loop-name

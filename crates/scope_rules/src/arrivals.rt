@@ -4,7 +4,7 @@ ghost use Rattle.std.specs.Option.{option_copied, option_map_or};
 ghost use Rattle.hac_model.specs.Tree.Facts.{bare_after};
 ghost use Rattle.hac_model.specs.Tree.Mounting.{fresh};
 ghost use Rattle.hac_model.specs.Tree.{is_directory, is_document, is_linkable, query_in};
-ghost use Rattle.scope_rules.specs.After.{new_body, new_parent};
+ghost use Rattle.scope_rules.specs.Fates.{new_body, new_parent};
 
 use file_tree::Tree;
 use hac_model::{Event, Name, Number, Query};
@@ -15,10 +15,9 @@ pub(crate) fn next_after(tree: &Tree, event: &Event) -> Number
 {
     let next = first_number(tree);
     match event {
-        Event::Mkdir { .. } => Number::new(next + 1),
-        Event::NewFile { .. } => Number::new(next + 1),
-        Event::Ln { .. } => Number::new(next + 1),
-        Event::Smkdir { .. } => Number::new(next + 1),
+        Event::Mkdir { .. } | Event::NewFile { .. } | Event::Ln { .. } | Event::Smkdir { .. } => {
+            Number::new(next + 1)
+        }
         Event::Smount { docs, .. } => Number::new(next + 1 + docs.as_slice().len() as u64),
         Event::Ssync { mount, docs, .. } => {
             Number::new(next + count_fresh(tree, *mount, docs.as_slice()))
@@ -55,9 +54,8 @@ pub(crate) fn is_new_item(tree: &Tree, event: &Event, number: Number) -> bool
         (new_body event.now tree.now.state.next number) false }
 {
     match event {
-        Event::NewFile { .. } => true,
+        Event::NewFile { .. } | Event::Ssync { .. } => true,
         Event::Smount { .. } => number != tree.next_number(),
-        Event::Ssync { .. } => true,
         _ => false,
     }
 }
@@ -80,8 +78,7 @@ pub(crate) fn is_new_directory(tree: &Tree, event: &Event, number: Number) -> bo
         (new_body event.now tree.now.state.next number) false }
 {
     match event {
-        Event::Mkdir { .. } => true,
-        Event::Smkdir { .. } => true,
+        Event::Mkdir { .. } | Event::Smkdir { .. } => true,
         Event::Smount { .. } => number == tree.next_number(),
         _ => false,
     }
@@ -103,10 +100,10 @@ pub(crate) fn new_parent(tree: &Tree, event: &Event, number: Number) -> Number
     ensures { result ≡ new_parent event.now tree.now.state.next number }
 {
     match event {
-        Event::Mkdir { dir, .. } => *dir,
-        Event::NewFile { dir, .. } => *dir,
-        Event::Ln { dir, .. } => *dir,
-        Event::Smkdir { dir, .. } => *dir,
+        Event::Mkdir { dir, .. }
+        | Event::NewFile { dir, .. }
+        | Event::Ln { dir, .. }
+        | Event::Smkdir { dir, .. } => *dir,
         Event::Smount { dir, .. } => mount_or_document(tree.next_number(), *dir, number),
         Event::Ssync { mount, .. } => *mount,
         _ => Number::ROOT,
