@@ -1,0 +1,12 @@
+//! Theorems over the definitions alone. Each is the contract of a function that does nothing.
+ghost use Rattle.reeval.specs.Laws.{LinksAreJudged, VerdictsAreOnly};
+
+/// The links of a state are its judgements by these links, item by item.
+pub fn links_are_judged()
+    ensures { LinksAreJudged }
+{}
+
+/// What is its own judgement on an item is what the links say of it.
+pub fn verdicts_are_only()
+    ensures { VerdictsAreOnly }
+{}
