@@ -1,1 +1,4 @@
 pub mod JudgeLemmas
+pub mod MeaningLemmas
+pub mod ToldLemmas
+pub mod SettleLemmas

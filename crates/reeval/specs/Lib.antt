@@ -1,2 +1,4 @@
 pub mod Judging
+pub mod Told
+pub mod Routes
 pub mod Laws

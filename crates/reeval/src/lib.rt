@@ -2,7 +2,14 @@
 //! were known before. It knows no tree and no index: its caller says what the next state tells.
 #![tactic(auto)]
 
+mod before;
+mod judging;
 pub mod laws;
+mod layout;
+mod settling;
 mod verdicts;
 
-pub use verdicts::Verdict;
+pub use before::Before;
+pub use layout::Layout;
+pub use settling::{Stop, settle};
+pub use verdicts::{Change, Verdict};

@@ -1,4 +1,8 @@
 //! What is known of an item in a directory.
+ghost use Rattle.std.specs.Prelude.{◌≡◌, ◌||◌};
+ghost use Rattle.reeval.specs.Told.{are_same};
+
+use hac_model::Number;
 
 /// Whether a directory finds an item, and whether the item is lent to it.
 #[derive(Clone, Copy, Debug)]
@@ -7,4 +11,29 @@ pub struct Verdict {
     pub found: bool,
     /// A directory that was added to it provides the item.
     pub lent: bool,
+}
+
+/// A new verdict of a directory on an item.
+#[derive(Clone, Copy, Debug)]
+pub struct Change {
+    /// The directory.
+    pub dir: Number,
+    /// What it says now.
+    pub verdict: Verdict,
+}
+
+impl Verdict {
+    /// Whether the item is linked by it, in one way or both.
+    pub fn is_linked(self) -> bool
+        ensures { result ≡ (self.found || self.lent) }
+    {
+        self.found || self.lent
+    }
+
+    /// Whether both say the same.
+    pub fn is_same(self, other: Verdict) -> bool
+        ensures { result ≡ are_same self other }
+    {
+        self.found == other.found && self.lent == other.lent
+    }
 }
