@@ -1,11 +1,11 @@
 //! The new verdicts on one item.
-ghost use Rattle.std.specs.Prelude.{◌≡◌, ◌||◌, ◌&&◌, ◌==◌, ℕ, IfOk, OnOk, if◌then◌else◌, not};
-ghost use Rattle.std.specs.List.{list_any};
+ghost use Rattle.std.specs.Prelude.{◌≡◌, ◌||◌, ◌&&◌, ◌==◌, ℕ, IfOk, OnOk, if◌then◌else◌, not, true};
+ghost use Rattle.std.specs.List.{list_all, list_any};
 ghost use Rattle.std.proofs.Math.Bool.{beq};
 ghost use Rattle.hac_model.specs.Tree.Links.{atom, column, has, links, provide};
 ghost use Rattle.reeval.specs.Judging.{is_linked, judgement, verdict_of};
 ghost use Rattle.reeval.specs.Routes.{Covers};
-ghost use Rattle.reeval.specs.Told.{told};
+ghost use Rattle.reeval.specs.Told.{is_on, told};
 
 use crate::before::Before;
 use crate::judging::Sight;
@@ -35,7 +35,8 @@ pub fn settle<Y: Layout, A: Atoms, B: Before>(
     stops: &[Stop],
     item: Number,
 ) -> Result<Vec<Change>, Memory>
-    ensures { A.atoms atoms.now ≡ atom (Y.state layout.now)
+    ensures own { IfOk result (λ news. list_all (is_on item) news.items ≡ true) }
+    ensures news { A.atoms atoms.now ≡ atom (Y.state layout.now)
         → Covers (B.state before.now) (Y.state layout.now) stops.now item
         → IfOk result (λ news. (dir : ℕ) → told news.items (verdict_of (B.state before.now) item) dir
         ≡ verdict_of (Y.state layout.now) item dir) }
@@ -67,7 +68,9 @@ fn judge_anew<Y: Layout, A: Atoms, B: Before>(
     item: Number,
     news: &mut Vec<Change>,
 ) -> Result<(), Memory>
-    ensures { OnOk result (A.atoms atoms.now ≡ atom (Y.state layout.now)
+    ensures own { OnOk result (list_all (is_on item) news.old.items ≡ true
+        → list_all (is_on item) news.new.items ≡ true) }
+    ensures news { OnOk result (A.atoms atoms.now ≡ atom (Y.state layout.now)
         → (d : ℕ) → told news.new.items (verdict_of (B.state before.now) item) d
         ≡ (if d == dir then judgement (Y.state layout.now)
             (is_linked (told news.old.items (verdict_of (B.state before.now) item))) item dir
@@ -81,7 +84,7 @@ fn judge_anew<Y: Layout, A: Atoms, B: Before>(
     };
     let verdict = sight.judge(dir, item);
     if !verdict.is_same(sight.verdict(dir, item)) {
-        news.push(Change { dir, verdict })?;
+        news.push(Change { dir, item, verdict })?;
     }
     Ok(())
 }

@@ -18,7 +18,9 @@ pub struct Verdict {
 pub struct Change {
     /// The directory.
     pub dir: Number,
-    /// What it says now.
+    /// The item.
+    pub item: Number,
+    /// What the directory says of it now.
     pub verdict: Verdict,
 }
 
