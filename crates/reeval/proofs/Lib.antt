@@ -2,3 +2,5 @@ pub mod JudgeLemmas
 pub mod MeaningLemmas
 pub mod ToldLemmas
 pub mod SettleLemmas
+pub mod ApplyLemmas
+pub mod SeveralLemmas

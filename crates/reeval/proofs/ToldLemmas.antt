@@ -9,7 +9,7 @@ use Rattle.reeval.specs.Told.{are_same, is_on, latest, news_on, told}
 use Rattle.reeval.specs.declared.verdicts.Change.{Change}
 use Rattle.reeval.specs.declared.verdicts.Verdict.{Verdict}
 
-flipped : (a b : ℕ) → (a == b) ≡ (b == a)
+pub flipped : (a b : ℕ) → (a == b) ≡ (b == a)
 flipped a b = elim (a == b) as (λ t. (a == b) ≡ t → t ≡ (b == a)) [
   | true ↦ (λ same. sym (eq-eqb b a (sym (eqb-true a b same))))
   | false ↦ (λ other. elim (b == a) as (λ t. (b == a) ≡ t → false ≡ t) [

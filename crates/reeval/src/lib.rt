@@ -2,6 +2,7 @@
 //! were known before. It knows no tree and no index: its caller says what the next state tells.
 #![tactic(auto)]
 
+mod applying;
 mod before;
 mod judging;
 pub mod laws;
@@ -9,7 +10,8 @@ mod layout;
 mod settling;
 mod verdicts;
 
+pub use applying::{apply, reserve};
 pub use before::Before;
 pub use layout::Layout;
-pub use settling::{Stop, settle};
+pub use settling::{Stop, settle, settle_all};
 pub use verdicts::{Change, Verdict};

@@ -2,9 +2,11 @@
 ghost use Rattle.std.specs.Prelude.{◌≡◌, ◌||◌, ◌&&◌, ◌==◌, ℕ, IfOk, OnOk, if◌then◌else◌, not, true};
 ghost use Rattle.std.specs.List.{list_all, list_any};
 ghost use Rattle.std.proofs.Math.Bool.{beq};
+ghost use Rattle.dep_graph.specs.Searches.{EachOnce};
 ghost use Rattle.hac_model.specs.Tree.Links.{atom, column, has, links, provide};
 ghost use Rattle.reeval.specs.Judging.{is_linked, judgement, verdict_of};
 ghost use Rattle.reeval.specs.Routes.{Covers};
+ghost use Rattle.reeval.specs.Settled.{SettlesAll};
 ghost use Rattle.reeval.specs.Told.{is_on, told};
 
 use crate::before::Before;
@@ -50,6 +52,29 @@ pub fn settle<Y: Layout, A: Atoms, B: Before>(
         }
     }
     Ok(news)
+}
+
+/// Settles several items, each by itself and each once: adds what is new of them to the changes. No
+/// links of an item depend on those of another.
+pub fn settle_all<Y: Layout, A: Atoms, B: Before>(
+    alloc: Global,
+    layout: &Y,
+    atoms: &A,
+    before: &B,
+    stops: &[Stop],
+    items: &[Number],
+    delta: &mut Vec<Change>,
+) -> Result<(), Memory>
+    requires { EachOnce items.now }
+    ensures { OnOk result (A.atoms atoms.now ≡ atom (Y.state layout.now)
+        → SettlesAll (B.state before.now) (Y.state layout.now) stops.now items.now
+        delta.old.items delta.new.items) }
+{
+    for item in items {
+        let news = settle(alloc, layout, atoms, before, stops, *item)?;
+        delta.extend_from_slice(news.as_slice())?;
+    }
+    Ok(())
 }
 
 /// Whether one of these directories is among those that moved.

@@ -1,8 +1,9 @@
 //! What is known of an item in a directory.
-ghost use Rattle.std.specs.Prelude.{◌≡◌, ◌||◌};
+ghost use Rattle.std.specs.Prelude.{◌≡◌, ◌||◌, if◌then◌else◌};
+ghost use Rattle.hac_model.specs.declared.marks.Kind.TheVariants.{Transient, Unlinked};
 ghost use Rattle.reeval.specs.Told.{are_same};
 
-use hac_model::Number;
+use hac_model::{Kind, Number};
 
 /// Whether a directory finds an item, and whether the item is lent to it.
 #[derive(Clone, Copy, Debug)]
@@ -30,6 +31,17 @@ impl Verdict {
         ensures { result ≡ (self.found || self.lent) }
     {
         self.found || self.lent
+    }
+
+    /// The kind of the link that the directory finds, if it finds the item.
+    pub fn kind(self) -> Kind
+        ensures { result ≡ (if self.found then Transient else Unlinked) }
+    {
+        if self.found {
+            Kind::Transient
+        } else {
+            Kind::Unlinked
+        }
     }
 
     /// Whether both say the same.
