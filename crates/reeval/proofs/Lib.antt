@@ -4,3 +4,4 @@ pub mod ToldLemmas
 pub mod SettleLemmas
 pub mod ApplyLemmas
 pub mod SeveralLemmas
+pub mod LinkedLemmas

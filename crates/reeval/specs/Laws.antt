@@ -2,6 +2,8 @@
 use Rattle.std.specs.Prelude.{◌≡◌, ℕ}
 use Rattle.hac_model.specs.Tree.Valid.{IsValid}
 use Rattle.hac_model.specs.declared.states.State.{State}
+use Rattle.link_kinds.specs.Seen.{Known, LinkListsRise}
+use Rattle.reeval.specs.Settled.{AreLinksOf, verdict_in}
 use Rattle.reeval.specs.Judging.{is_linked, judgement, verdict_of}
 use Rattle.reeval.specs.declared.verdicts.Verdict.{Verdict}
 
@@ -14,3 +16,8 @@ abbrev pub VerdictsAreOnly : Type 0
 VerdictsAreOnly =
     (s : State) → IsValid s → (item : ℕ) (verdicts : ℕ → Verdict) → ((dir : ℕ) → verdicts dir ≡ judgement s (is_linked verdicts) item dir)
     → (dir : ℕ) → verdicts dir ≡ verdict_of s item dir
+
+-- links that say of each item what those of a valid state do are those of the state
+abbrev pub ToldLinksAreKept : Type 0
+ToldLinksAreKept =
+    (s : State) (known : Known) → IsValid s → LinkListsRise known → ((item dir : ℕ) → verdict_in known item dir ≡ verdict_of s item dir) → AreLinksOf s known

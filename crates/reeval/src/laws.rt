@@ -1,5 +1,5 @@
 //! Theorems over the definitions alone. Each is the contract of a function that does nothing.
-ghost use Rattle.reeval.specs.Laws.{LinksAreJudged, VerdictsAreOnly};
+ghost use Rattle.reeval.specs.Laws.{LinksAreJudged, ToldLinksAreKept, VerdictsAreOnly};
 
 /// The links of a state are its judgements by these links, item by item.
 pub fn links_are_judged()
@@ -9,4 +9,9 @@ pub fn links_are_judged()
 /// What is its own judgement on an item is what the links say of it.
 pub fn verdicts_are_only()
     ensures { VerdictsAreOnly }
+{}
+
+/// Links whose lists rise are those of a state if they say of each item what its links do.
+pub fn told_links_are_kept()
+    ensures { ToldLinksAreKept }
 {}
