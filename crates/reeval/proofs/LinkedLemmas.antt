@@ -39,9 +39,9 @@ same-rising (x ∷ xs) (y ∷ ys) up climb same = elim (cases_order x y) [
     rest : (x ≡ y) → (n : ℕ) → is_among n xs ≡ is_among n ys
     rest is n = elim (n == x) as (λ b. (n == x) ≡ b → is_among n xs ≡ is_among n ys) [
       | true ↦ (λ here. let at : n ≡ x = eqb-true n x here in
-        is_among-above n xs (subst (λ (k : ℕ). AllAbove k xs) (sym at) up.0) ∙ sym (is_among-above n ys (subst (λ (k : ℕ). AllAbove k ys) (sym (at ∙ is)) climb.0)))
+          is_among-above n xs (subst (λ (k : ℕ). AllAbove k xs) (sym at) up.0) ∙ sym (is_among-above n ys (subst (λ (k : ℕ). AllAbove k ys) (sym (at ∙ is)) climb.0)))
       | false ↦ (λ other.
-        sym (ap (λ (b : Bool). b || is_among n xs) other) ∙ same n ∙ ap (λ (b : Bool). b || is_among n ys) (ap (λ (k : ℕ). n == k) (sym is) ∙ other))
+          sym (ap (λ (b : Bool). b || is_among n xs) other) ∙ same n ∙ ap (λ (b : Bool). b || is_among n ys) (ap (λ (k : ℕ). n == k) (sym is) ∙ other))
     ] refl
 
 -- numbers in order rise
@@ -63,13 +63,13 @@ has-among (x ∷ xs) n = λ i. flipped x n i || has-among xs n i
 pub links-told : (s : State) (known : Known) → IsValid s → LinkListsRise known → ((item dir : ℕ) → verdict_in known item dir ≡ verdict_of s item dir) → AreLinksOf s known
 links-told s known valid rise same = record {
   found = λ dir. same-rising (transient_in known dir) (links s dir).found
-    (sorted-rise (transient_in known dir) (sorted_from_strictly_increasing (transient_in known dir) (rise dir).transient))
-    (subst (λ (numbers : List ℕ). Rises numbers) (sym (found-listed s dir valid.acyclic)) (rises-filter (λ item. has (transient_at s dir) item) (items s) (items-rise s)))
-    (λ n. ap (λ (v : Verdict). v.found) (same n dir) ∙ has-among (links s dir).found n);
+      (sorted-rise (transient_in known dir) (sorted_from_strictly_increasing (transient_in known dir) (rise dir).transient))
+      (subst (λ (numbers : List ℕ). Rises numbers) (sym (found-listed s dir valid.acyclic)) (rises-filter (λ item. has (transient_at s dir) item) (items s) (items-rise s)))
+      (λ n. ap (λ (v : Verdict). v.found) (same n dir) ∙ has-among (links s dir).found n);
   lent = λ dir. same-rising (lent_in known dir) (links s dir).lent
-    (sorted-rise (lent_in known dir) (sorted_from_strictly_increasing (lent_in known dir) (rise dir).lent))
-    (subst (λ (numbers : List ℕ). Rises numbers) (sym (lent-listed s dir valid.acyclic)) (rises-filter (λ item. has (links s dir).lent item) (items s) (items-rise s)))
-    (λ n. ap (λ (v : Verdict). v.lent) (same n dir) ∙ has-among (links s dir).lent n);
+      (sorted-rise (lent_in known dir) (sorted_from_strictly_increasing (lent_in known dir) (rise dir).lent))
+      (subst (λ (numbers : List ℕ). Rises numbers) (sym (lent-listed s dir valid.acyclic)) (rises-filter (λ item. has (links s dir).lent item) (items s) (items-rise s)))
+      (λ n. ap (λ (v : Verdict). v.lent) (same n dir) ∙ has-among (links s dir).lent n);
 }
 
 -- and those of a state do

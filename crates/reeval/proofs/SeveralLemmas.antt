@@ -46,7 +46,7 @@ partly-more s t stops items item left old new more h own news = record {
   settled = λ x inside out none covers dir. elim (item == x) as (λ b. (item == x) ≡ b → told (news_on x (new ++ more)) (verdict_of s x) dir ≡ verdict_of t x dir) [
     | true ↦ (λ same. here x (eqb-true item x same) none covers dir)
     | false ↦ (λ other. let apart = differ x other in
-      ap (λ (all : List Change). told all (verdict_of s x) dir) (news-there new more item x own apart) ∙ h.settled x inside (past x apart out) none covers dir)
+        ap (λ (all : List Change). told all (verdict_of s x) dir) (news-there new more item x own apart) ∙ h.settled x inside (past x apart out) none covers dir)
   ] refl;
   others = λ x out. elim (item == x) as (λ b. (item == x) ≡ b → news_on x (new ++ more) ≡ news_on x old) [
     | true ↦ (λ same. absurd (inside-left x (eqb-true item x same) out))

@@ -41,8 +41,8 @@ impl<'a, Y: Layout, A: Atoms, B: Before> Sight<'a, Y, A, B> {
     fn is_link(&self, dir: Number, item: Number) -> bool
         ensures { result ≡ (is_semantic (Y.state self.now.layout.now) dir
             && (is_linked (told self.now.news.now (verdict_of (B.state self.now.before.now) item))
-                dir || (is_permanent (Y.state self.now.layout.now) dir item
-                && is_item (Y.state self.now.layout.now) item))) }
+            dir || (is_permanent (Y.state self.now.layout.now) dir item
+            && is_item (Y.state self.now.layout.now) item))) }
     {
         self.layout.query(dir).is_some()
             && (self.verdict(dir, item).is_linked() || self.layout.is_added(dir, item))

@@ -48,7 +48,15 @@ pub fn settle<Y: Layout, A: Atoms, B: Before>(
     for stop in stops {
         if stop.begins || leans_on(layout.depends(stop.dir), moved.as_slice()) {
             judge_anew(layout, atoms, before, stop.dir, item, &mut news)?;
-            note_move(layout, atoms, before, news.as_slice(), stop.dir, item, &mut moved)?;
+            note_move(
+                layout,
+                atoms,
+                before,
+                news.as_slice(),
+                stop.dir,
+                item,
+                &mut moved,
+            )?;
         }
     }
     Ok(news)
@@ -98,7 +106,7 @@ fn judge_anew<Y: Layout, A: Atoms, B: Before>(
     ensures news { OnOk result (A.atoms atoms.now ≡ atom (Y.state layout.now)
         → (d : ℕ) → told news.new.items (verdict_of (B.state before.now) item) d
         ≡ (if d == dir then judgement (Y.state layout.now)
-            (is_linked (told news.old.items (verdict_of (B.state before.now) item))) item dir
+        (is_linked (told news.old.items (verdict_of (B.state before.now) item))) item dir
         else told news.old.items (verdict_of (B.state before.now) item) d)) }
 {
     let sight = Sight {
@@ -128,7 +136,7 @@ fn note_move<Y: Layout, A: Atoms, B: Before>(
     ensures { OnOk result ((d : ℕ) → has moved.new.items d ≡ (has moved.old.items d || (dir == d
         && not (beq (provide (B.state before.now) (column (links (B.state before.now)) item) dir item)
         (provide (Y.state layout.now)
-            (is_linked (told news.now (verdict_of (B.state before.now) item))) dir item))))) }
+        (is_linked (told news.now (verdict_of (B.state before.now) item))) dir item))))) }
 {
     let sight = Sight {
         layout,

@@ -13,11 +13,10 @@ loop-change-preserved c =
     let rest : List Change = drop (c.loop-change.change-index + 1) news in
     let first : Change = c.change-item.result in
     let left : drop c.loop-change.change-index news ≡ first ∷ rest =
-    drop_more news c.loop-change.change-index first c.loop-change-test.true ∙ ap (λ (change : Change). change ∷ rest) (sym c.change-item.is) in
-    (
+    drop_more news c.loop-change.change-index first c.loop-change-test.true ∙ ap (λ (change : Change). change ∷ rest) (sym c.change-item.is) in (
       (λ item dir.
-        told-first item first rest (verdict_in c.loop-change.found item) (verdict_in c.put.new.found item) (λ d. c.put.ensures.verdicts item d) dir
-        ∙ ap (λ (all : List Change). told (news_on item all) (verdict_in c.loop-change.found item) dir) (sym left)
-        ∙ c.loop-change.invariant.0 item dir),
-      room-left c.loop-change.found c.put.new.found first rest (subst (HasRoom c.loop-change.found) left c.loop-change.invariant.1) c.put.ensures.sets c.put.ensures.spare
+          told-first item first rest (verdict_in c.loop-change.found item) (verdict_in c.put.new.found item) (λ d. c.put.ensures.verdicts item d) dir
+          ∙ ap (λ (all : List Change). told (news_on item all) (verdict_in c.loop-change.found item) dir) (sym left)
+          ∙ c.loop-change.invariant.0 item dir),
+      room-left c.loop-change.found c.put.new.found first rest (subst (HasRoom c.loop-change.found) left c.loop-change.invariant.1) c.put.ensures.sets c.put.ensures.spare,
     )
