@@ -1,5 +1,5 @@
 //! Theorems over the definitions alone. Each is the contract of a function that does nothing.
-ghost use Rattle.reeval.specs.Laws.{LinksAreJudged, VerdictsAreOnly};
+ghost use Rattle.reeval.specs.Laws.{LinksAreJudged, TouchedLeaveAlike, VerdictsAreOnly};
 
 /// The links of a state are its judgements by these links, item by item.
 pub fn links_are_judged()
@@ -9,4 +9,9 @@ pub fn links_are_judged()
 /// What is its own judgement on an item is what the links say of it.
 pub fn verdicts_are_only()
     ensures { VerdictsAreOnly }
+{}
+
+/// What is semantic neither before nor after says nothing of any item.
+pub fn touched_leave_alike()
+    ensures { TouchedLeaveAlike }
 {}
