@@ -140,8 +140,7 @@ pub record IsAlike (s t : State) (begins : ℕ → Bool) (item : ℕ) : Type 0 w
   pub removed : (dir : ℕ) → begins dir ≡ false → is_prohibited s dir item ≡ is_prohibited t dir item
   pub below : (e : ℕ) → is_directory_at s.entries e ≡ true → is_directory_at t.entries e ≡ true → is_item s item ≡ true → is_item t item ≡ true → extends (path_of s item) (path_of s e) ≡ extends (path_of t item) (path_of t e)
 
-first_of_list : List ℕ → ℕ
-unfolding first_of_list
+abbrev first_of_list : List ℕ → ℕ
 first_of_list [] = 0
 first_of_list (x ∷ xs) = x
 
@@ -177,7 +176,6 @@ module _ (s t : State) (h : IsValid s) (k : IsValid t) (begins : ℕ → Bool) (
 
   -- parents and lenders are told by what is depended on
   parts-same : (dir : ℕ) (asked : Formula ℕ) → begins dir ≡ false → query_at s dir ≡ Some asked → query_at t dir ≡ Some asked → (parent_of s dir ≡ parent_of t dir) × (lenders s dir ≡ lenders t dir)
-  unfolding first_of_list
   parts-same dir asked still before after =
       let all : parent_of s dir ∷ (named_in asked ++ lenders s dir) ≡ parent_of t dir ∷ (named_in asked ++ lenders t dir) =
       sym (depends-asked s dir asked before) ∙ same.edges dir still ∙ depends-asked t dir asked after in

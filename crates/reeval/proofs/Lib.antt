@@ -1,3 +1,5 @@
 pub mod JudgeLemmas
 pub mod AlikeLemmas
 pub mod LeaveLemmas
+pub mod StayLemmas
+pub mod EventLemmas
