@@ -33,9 +33,13 @@ pub record ItemSeen : Type 0 where
   pub text : Option (List ℕ)
   pub parent : ℕ
 
+-- in a directory
+abbrev pub item_of : ℕ → Body → Option ItemSeen
+item_of dir body = if is_linkable body then Some (record { document = is_document body; text = shown_text body; parent = dir }) else None
+
 abbrev pub item_in : Option Entry → Option ItemSeen
 item_in None = None
-item_in (Some e) = if is_linkable e.body then Some (record { document = is_document e.body; text = shown_text e.body; parent = e.parent }) else None
+item_in (Some e) = item_of e.parent e.body
 
 -- the query of an entry
 abbrev pub query_of : Option Entry → Option (Formula ℕ)

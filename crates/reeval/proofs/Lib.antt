@@ -3,3 +3,5 @@ pub mod AlikeLemmas
 pub mod LeaveLemmas
 pub mod StayLemmas
 pub mod EventLemmas
+pub mod OweLemmas
+pub mod TreeOwes
