@@ -111,7 +111,7 @@ same-facts item f g same = record {
   removed = ap (λ (x : Facts). has x.marks.prohibited item) same;
 }
 
-permanent-told : (s : State) (n : ℕ) → permanent_at s n ≡ (facts_of s n).marks.permanent
+pub permanent-told : (s : State) (n : ℕ) → permanent_at s n ≡ (facts_of s n).marks.permanent
 permanent-told s n = elim (entry_at s.entries n) as (λ o. option_map_or permanent_in (option_map (λ (e : Entry). e.body) o) [] ≡ (facts_at (is_directory_at s.entries) o).marks.permanent) [ None ↦ refl | Some e ↦ refl ]
 
 prohibited-told : (s : State) (n : ℕ) → prohibited_at s n ≡ (facts_of s n).marks.prohibited

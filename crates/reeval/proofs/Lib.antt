@@ -5,3 +5,4 @@ pub mod StayLemmas
 pub mod EventLemmas
 pub mod OweLemmas
 pub mod TreeOwes
+pub mod AskOwes

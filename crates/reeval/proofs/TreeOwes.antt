@@ -43,7 +43,7 @@ same-stay : (s : State) → AllStayIn s s
 same-stay s n e found = record { entry = e; found = found; parent = refl }
 
 module _ (s : State) (item : ℕ) (h : IsValid s) where
-  mkdir-owes : (dir : ℕ) (name : List ℕ) → IsTrue (accepted s (event.Mkdir dir name)) → Owes s (event.Mkdir dir name) item
+  pub mkdir-owes : (dir : ℕ) (name : List ℕ) → IsTrue (accepted s (event.Mkdir dir name)) → Owes s (event.Mkdir dir name) item
   mkdir-owes dir name ok =
       let new : Entry = record { number = s.next; parent = dir; name = name; body = Dir } in
       record {
@@ -54,7 +54,7 @@ module _ (s : State) (item : ℕ) (h : IsValid s) where
         below = owed-below s (added s dir name Dir) item h (apply-valid s (event.Mkdir dir name) h ok) (all-parents s (added s dir name Dir) (added-stay s dir name Dir));
       }
 
-  new_file-owes : (dir : ℕ) (name text : List ℕ) → IsTrue (accepted s (event.NewFile dir name text)) → touches s (event.NewFile dir name text) item ≡ false → Owes s (event.NewFile dir name text) item
+  pub new_file-owes : (dir : ℕ) (name text : List ℕ) → IsTrue (accepted s (event.NewFile dir name text)) → touches s (event.NewFile dir name text) item ≡ false → Owes s (event.NewFile dir name text) item
   new_file-owes dir name text ok other =
       let new : Entry = record { number = s.next; parent = dir; name = name; body = File text true None } in
       record {
@@ -65,7 +65,7 @@ module _ (s : State) (item : ℕ) (h : IsValid s) where
         below = owed-below s (added s dir name new.body) item h (apply-valid s (event.NewFile dir name text) h ok) (all-parents s (added s dir name new.body) (added-stay s dir name new.body));
       }
 
-  rewrite-owes : (file : ℕ) (text : List ℕ) → IsTrue (accepted s (event.Rewrite file text)) → Owes s (event.Rewrite file text) item
+  pub rewrite-owes : (file : ℕ) (text : List ℕ) → IsTrue (accepted s (event.Rewrite file text)) → Owes s (event.Rewrite file text) item
   rewrite-owes file text ok = record {
     sight = sym (seen-kept item_in s.entries file (edited (rewritten text)) (λ e. refl) (λ e. rewritten-item text e.parent e.body) item);
     queries = λ d still. sym (seen-kept query_of s.entries file (edited (rewritten text)) (λ e. refl) (λ e. rewritten-query text e.body) d);
@@ -75,7 +75,7 @@ module _ (s : State) (item : ℕ) (h : IsValid s) where
         (all-parents s (changed_at s file (edited (rewritten text))) (edited-stay s file (rewritten text)));
   }
 
-  ln-owes : (dir : ℕ) (name target : List ℕ) → IsTrue (accepted s (event.Ln dir name target)) → Owes s (event.Ln dir name target) item
+  pub ln-owes : (dir : ℕ) (name target : List ℕ) → IsTrue (accepted s (event.Ln dir name target)) → Owes s (event.Ln dir name target) item
   ln-owes dir name target ok =
       let new : Entry = record { number = s.next; parent = dir; name = name; body = Symlink target } in
       record {
@@ -86,7 +86,7 @@ module _ (s : State) (item : ℕ) (h : IsValid s) where
         below = owed-below s (added s dir name new.body) item h (apply-valid s (event.Ln dir name target) h ok) (all-parents s (added s dir name new.body) (added-stay s dir name new.body));
       }
 
-  cd-owes : (session : List ℕ) (dir : ℕ) → IsTrue (accepted s (event.Cd session dir)) → Owes s (event.Cd session dir) item
+  pub cd-owes : (session : List ℕ) (dir : ℕ) → IsTrue (accepted s (event.Cd session dir)) → Owes s (event.Cd session dir) item
   cd-owes session dir ok = record {
     sight = refl;
     queries = λ d still. refl;
@@ -114,7 +114,7 @@ module _ (s : State) (item : ℕ) (h : IsValid s) where
   step-stay None = same-stay s
   step-stay (Some file) = edited-stay s file indexed
 
-  step-owes : IsTrue (accepted s event.Step) → touches s event.Step item ≡ false → Owes s event.Step item
+  pub step-owes : IsTrue (accepted s event.Step) → touches s event.Step item ≡ false → Owes s event.Step item
   step-owes ok other = record {
     sight = step-sight (next_dirty s.entries) other;
     queries = λ d still. step-queries (next_dirty s.entries) d;
@@ -175,11 +175,11 @@ mapped-stay u t edit is n e found = record {
 }
 
 -- other numbers stay in a list without one
-has-other : (k : ℕ) (xs : List ℕ) (n : ℕ) → (n == k) ≡ false → has xs n ≡ has (without k xs) n
+pub has-other : (k : ℕ) (xs : List ℕ) (n : ℕ) → (n == k) ≡ false → has xs n ≡ has (without k xs) n
 has-other k xs n other = sym (has-filter (λ x. not (x == k)) xs n ∙ ap (λ (b : Bool). not b && has xs n) other)
 
 module _ (s : State) (item : ℕ) (h : IsValid s) where
-  rm-owes : (leaf : ℕ) → IsTrue (accepted s (event.Rm leaf)) → touches s (event.Rm leaf) item ≡ false → Owes s (event.Rm leaf) item
+  pub rm-owes : (leaf : ℕ) → IsTrue (accepted s (event.Rm leaf)) → touches s (event.Rm leaf) item ≡ false → Owes s (event.Rm leaf) item
   rm-owes leaf ok other = record {
     sight =
         put-other (λ n. item_in (entry_at s.entries n)) leaf None item other
@@ -213,10 +213,10 @@ module _ (s : State) (item : ℕ) (h : IsValid s) where
           at (Some e) = same e
 
   -- a mount is another number than what is none
-  apart-mount : (mount d : ℕ) → is_document_of s mount item ≡ true → is_mount_at s.entries d ≡ false → (mount == d) ≡ false
+  pub apart-mount : (mount d : ℕ) → is_document_of s mount item ≡ true → is_mount_at s.entries d ≡ false → (mount == d) ≡ false
   apart-mount mount d own plain = ne_eqb mount d (λ same. let never : true ≡ false = sym (own-mount s mount item h own) ∙ ap (is_mount_at s.entries) same ∙ plain in cc)
 
-  rmdir-owes : (dir : ℕ) → IsTrue (accepted s (event.Rmdir dir)) → Owes s (event.Rmdir dir) item
+  pub rmdir-owes : (dir : ℕ) → IsTrue (accepted s (event.Rmdir dir)) → Owes s (event.Rmdir dir) item
   rmdir-owes dir ok =
       let parts = rmdir-parts s dir (accepted-parts (is_possible s (event.Rmdir dir)) (passed_limit (apply s (event.Rmdir dir))) ok).0 in
       record {
@@ -243,7 +243,7 @@ module _ (s : State) (item : ℕ) (h : IsValid s) where
       at None is = absurd cc
       at (Some e) is = body e.body is
 
-  unq-owes : (dir : ℕ) → IsTrue (accepted s (event.Unq dir)) → Owes s (event.Unq dir) item
+  pub unq-owes : (dir : ℕ) → IsTrue (accepted s (event.Unq dir)) → Owes s (event.Unq dir) item
   unq-owes dir ok =
       let semantic = (accepted-parts (is_semantic s dir) (passed_limit (apply s (event.Unq dir))) ok).0 in
       record {
