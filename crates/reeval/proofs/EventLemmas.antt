@@ -130,7 +130,7 @@ pub record Owes (s : State) (event : Event) (item : ℕ) : Type 0 where
   pub answers : (mount : ℕ) → is_document_of s mount item ≡ true → (term : Term) → is_kept (facts_of s mount).answers term ≡ true → kept_for (facts_of s mount).answers term ≡ kept_for (facts_after event s (facts_of s) mount).answers term
   pub below : (d : ℕ) → is_directory_at s.entries d ≡ true → is_directory_at (apply s event).entries d ≡ true → is_item s item ≡ true → is_item (apply s event) item ≡ true → extends (path_of s item) (path_of s d) ≡ extends (path_of (apply s event) item) (path_of (apply s event) d)
 
-item-lives : (s : State) (item : ℕ) → is_item s item ≡ true → Lives s.entries item
+pub item-lives : (s : State) (item : ℕ) → is_item s item ≡ true → Lives s.entries item
 item-lives s item is = let e = body-entry is_linkable s.entries item is in inr (e.0, e.1)
 
 -- what is below directories stays there, where the directories of entries stay

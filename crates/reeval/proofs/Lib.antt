@@ -6,3 +6,4 @@ pub mod EventLemmas
 pub mod OweLemmas
 pub mod TreeOwes
 pub mod AskOwes
+pub mod MoveOwes
