@@ -140,7 +140,7 @@ module _ (s : State) (item : ℕ) (h : IsValid s) where
         record {
           sight = sym (seen-kept item_in s.entries mark.dir (edited edit) (λ e. refl) (λ e. marked-item mark.item mark.kind e.parent e.body) item);
           queries = λ d still. sym (seen-kept query_of s.entries mark.dir (edited edit) (λ e. refl) (λ e. marked-query mark.item mark.kind e.body) d);
-          facts = mark-facts;
+          facts = λ is. mark-facts;
           answers = λ mount own term known. put-answers (facts_of s) mark.dir new mount term refl;
           below = owed-below s (changed_at s mark.dir (edited edit)) item h (apply-valid s (event.Mark mark) h ok) (all-parents s (changed_at s mark.dir (edited edit)) (edited-stay s mark.dir edit));
         }
@@ -193,7 +193,7 @@ module _ (s : State) (item : ℕ) (h : IsValid s) where
           sight = told-sight ∙ sym (seen-kept item_in u.entries dir (edited (asking asked)) (λ e. refl) (λ e. asking-item asked e.parent e.body) item);
           queries = λ d still. told-query d ∙ put-other (query_at u) dir (query_of (option_map (edited (asking asked)) (entry_at u.entries dir))) d (none-of (d == dir) false false still).0
               ∙ sym (seen-changed query_of u.entries dir (edited (asking asked)) (λ e. refl) d);
-          facts = λ d still. told-facts dir new d (none-of (d == dir) false false still).0;
+          facts = λ is d still. told-facts dir new d (none-of (d == dir) false false still).0;
           answers = λ mount own term known. told-answers dir new mount term (apart-mount s item h mount dir own parts.4) known;
           below = owed-below s (changed_at u dir (edited (asking asked))) item h (apply-valid s (event.Setq dir asked told) h ok)
               (all-parents s (changed_at u dir (edited (asking asked))) (all-then s u (changed_at u dir (edited (asking asked))) told-stay (edited-stay u dir (asking asked))));
@@ -207,7 +207,7 @@ module _ (s : State) (item : ℕ) (h : IsValid s) where
         record {
           sight = told-sight ∙ sym (seen-plain item_in u.entries entry rise refl item);
           queries = λ d still. told-query d ∙ put-other (query_at u) s.next (query_of (Some entry)) d (none-of (d == s.next) false false still).0 ∙ sym (seen-added query_of u.entries entry rise d);
-          facts = λ d still. told-facts s.next new d (none-of (d == s.next) false false still).0;
+          facts = λ is d still. told-facts s.next new d (none-of (d == s.next) false false still).0;
           answers = λ mount own term known. told-answers s.next new mount term (mount-other s mount h (own-mount s mount item h own)) known;
           below = owed-below s (added u dir name entry.body) item h (apply-valid s (event.Smkdir dir name asked told) h ok)
               (all-parents s (added u dir name entry.body) (all-then s u (added u dir name entry.body) told-stay (added-stay u dir name entry.body)));

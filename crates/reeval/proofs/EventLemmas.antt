@@ -22,7 +22,7 @@ use Rattle.hac_model.proofs.AcyclicLemmas.{apply-valid}
 use Rattle.hac_model.proofs.FactLemmas.{edges-told, facts-law}
 use Rattle.hac_model.proofs.TreeLemmas.{Lives}
 use Rattle.reeval.specs.Judging.{LeavesAlike}
-use Rattle.reeval.proofs.LeaveLemmas.{IsAlike, body-entry, leaves-alike}
+use Rattle.reeval.proofs.LeaveLemmas.{IsAlike, body-entry, leaves-alike, none-alike}
 use Rattle.reeval.proofs.StayLemmas.{ParentsStay, below-live}
 
 -- What is seen of entries.
@@ -45,14 +45,14 @@ item_in (Some e) = item_of e.parent e.body
 abbrev pub query_of : Option Entry → Option (Formula ℕ)
 query_of o = option_and_then query_in (option_map (λ (e : Entry). e.body) o)
 
-abbrev is_seen : Option ItemSeen → Bool
+abbrev pub is_seen : Option ItemSeen → Bool
 is_seen o = is_some o
 
-items-seen : (o : Option Entry) → option_map_or is_linkable (option_map (λ (e : Entry). e.body) o) false ≡ is_seen (item_in o)
+pub items-seen : (o : Option Entry) → option_map_or is_linkable (option_map (λ (e : Entry). e.body) o) false ≡ is_seen (item_in o)
 items-seen None = refl
 items-seen (Some e) = elim (is_linkable e.body) as (λ b. b ≡ is_seen (if b then Some (record { document = is_document e.body; text = shown_text e.body; parent = e.parent }) else None)) [ true ↦ refl | false ↦ refl ]
 
-documents-seen : (o : Option Entry) → option_map_or is_document (option_map (λ (e : Entry). e.body) o) false ≡ option_map_or (λ (i : ItemSeen). i.document) (item_in o) false
+pub documents-seen : (o : Option Entry) → option_map_or is_document (option_map (λ (e : Entry). e.body) o) false ≡ option_map_or (λ (i : ItemSeen). i.document) (item_in o) false
 documents-seen None = refl
 documents-seen (Some e) = body e.body
   where
@@ -76,7 +76,7 @@ texts-seen (Some e) = body e.body
     body (Mount space answers) = refl
     body Document = refl
 
-homes-seen : (o : Option Entry) → option_map_or is_linkable (option_map (λ (e : Entry). e.body) o) false ≡ true → option_map_or (λ (e : Entry). e.parent) o 0 ≡ option_map_or (λ (i : ItemSeen). i.parent) (item_in o) 0
+pub homes-seen : (o : Option Entry) → option_map_or is_linkable (option_map (λ (e : Entry). e.body) o) false ≡ true → option_map_or (λ (e : Entry). e.parent) o 0 ≡ option_map_or (λ (i : ItemSeen). i.parent) (item_in o) 0
 homes-seen None is = refl
 homes-seen (Some e) is = ap (λ (b : Bool). option_map_or (λ (i : ItemSeen). i.parent) (if b then Some (record { document = is_document e.body; text = shown_text e.body; parent = e.parent }) else None) 0) (sym is)
 
@@ -126,7 +126,7 @@ answers-told s n = elim (entry_at s.entries n) as (λ o. option_map_or answers_i
 pub record Owes (s : State) (event : Event) (item : ℕ) : Type 0 where
   pub sight : item_in (entry_at s.entries item) ≡ item_in (entry_at (apply s event).entries item)
   pub queries : (dir : ℕ) → begins s event dir ≡ false → query_at s dir ≡ query_at (apply s event) dir
-  pub facts : (dir : ℕ) → begins s event dir ≡ false → FactsAlike item (facts_of s dir) (facts_after event s (facts_of s) dir)
+  pub facts : is_item s item ≡ true → (dir : ℕ) → begins s event dir ≡ false → FactsAlike item (facts_of s dir) (facts_after event s (facts_of s) dir)
   pub answers : (mount : ℕ) → is_document_of s mount item ≡ true → (term : Term) → is_kept (facts_of s mount).answers term ≡ true → kept_for (facts_of s mount).answers term ≡ kept_for (facts_after event s (facts_of s) mount).answers term
   pub below : (d : ℕ) → is_directory_at s.entries d ≡ true → is_directory_at (apply s event).entries d ≡ true → is_item s item ≡ true → is_item (apply s event) item ≡ true → extends (path_of s item) (path_of s d) ≡ extends (path_of (apply s event) item) (path_of (apply s event) d)
 
@@ -142,8 +142,8 @@ module _ (s : State) (event : Event) (item : ℕ) (h : IsValid s) (ok : IsTrue (
   abbrev t : State
   t = apply s event
 
-  facts-same : (dir : ℕ) → begins s event dir ≡ false → FactsAlike item (facts_of s dir) (facts_of t dir)
-  facts-same dir still = subst (FactsAlike item (facts_of s dir)) (sym (facts-law s h event ok dir)) (owes.facts dir still)
+  facts-same : is_item s item ≡ true → (dir : ℕ) → begins s event dir ≡ false → FactsAlike item (facts_of s dir) (facts_of t dir)
+  facts-same is dir still = subst (FactsAlike item (facts_of s dir)) (sym (facts-law s h event ok dir)) (owes.facts is dir still)
 
   home-same : is_document_at s.entries item ≡ true → parent_of s item ≡ parent_of t item
   home-same is =
@@ -160,20 +160,27 @@ module _ (s : State) (event : Event) (item : ℕ) (h : IsValid s) (ok : IsTrue (
       ∙ ap (λ (o : Option (List ℕ)). unwrap_or o []) (owes.answers m own term (ap (λ (answers : List Answer). is_kept answers term) (sym (answers-told s m)) ∙ known))
       ∙ ap (λ (answers : List Answer). unwrap_or (kept_for answers term) []) (sym (ap (λ (f : Facts). f.answers) (facts-law s h event ok m)) ∙ sym (answers-told t m))
 
-  alike : IsAlike s t (begins s event) item
-  alike = record {
-    items = items-seen (entry_at s.entries item) ∙ ap is_seen owes.sight ∙ sym (items-seen (entry_at t.entries item));
+  items-same : is_item s item ≡ is_item t item
+  items-same = items-seen (entry_at s.entries item) ∙ ap is_seen owes.sight ∙ sym (items-seen (entry_at t.entries item))
+
+  alike : is_item s item ≡ true → IsAlike s t (begins s event) item
+  alike is = record {
+    items = items-same;
     documents = documents-seen (entry_at s.entries item) ∙ ap (λ (o : Option ItemSeen). option_map_or (λ (i : ItemSeen). i.document) o false) owes.sight ∙ sym (documents-seen (entry_at t.entries item));
     texts = texts-seen (entry_at s.entries item) ∙ ap (λ (o : Option ItemSeen). option_and_then (λ (i : ItemSeen). i.text) o) owes.sight ∙ sym (texts-seen (entry_at t.entries item));
     homes = home-same;
     answers = kept-same;
     queries = owes.queries;
-    edges = λ dir still. edges-told s dir ∙ (facts-same dir still).edges ∙ sym (edges-told t dir);
-    added = λ dir still. ap (λ (ks : List ℕ). has ks item) (permanent-told s dir) ∙ (facts-same dir still).added ∙ ap (λ (ks : List ℕ). has ks item) (sym (permanent-told t dir));
-    removed = λ dir still. ap (λ (ks : List ℕ). has ks item) (prohibited-told s dir) ∙ (facts-same dir still).removed ∙ ap (λ (ks : List ℕ). has ks item) (sym (prohibited-told t dir));
+    edges = λ dir still. edges-told s dir ∙ (facts-same is dir still).edges ∙ sym (edges-told t dir);
+    added = λ dir still. ap (λ (ks : List ℕ). has ks item) (permanent-told s dir) ∙ (facts-same is dir still).added ∙ ap (λ (ks : List ℕ). has ks item) (sym (permanent-told t dir));
+    removed = λ dir still. ap (λ (ks : List ℕ). has ks item) (prohibited-told s dir) ∙ (facts-same is dir still).removed ∙ ap (λ (ks : List ℕ). has ks item) (sym (prohibited-told t dir));
     below = owes.below;
   }
 
   -- so it leaves them alone
   pub owed-leaves : LeavesAlike s t (begins s event) item
-  owed-leaves = leaves-alike s t h (apply-valid s event h ok) (begins s event) item alike
+  owed-leaves = at (is_item s item) refl
+    where
+      at : (b : Bool) → is_item s item ≡ b → LeavesAlike s t (begins s event) item
+      at true is = leaves-alike s t h (apply-valid s event h ok) (begins s event) item (alike is)
+      at false none = none-alike s t (begins s event) item none (sym items-same ∙ none) owes.queries

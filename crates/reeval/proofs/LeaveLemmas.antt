@@ -10,7 +10,7 @@ use Rattle.hac_model.specs.Query.Queries.{is_query, terms_of}
 use Rattle.hac_model.specs.Query.Words.{has_term}
 use Rattle.hac_model.specs.Tree.Depends.{Among, depends, named_in}
 use Rattle.hac_model.specs.Tree.Events.{are_directories}
-use Rattle.hac_model.specs.Tree.Links.{answers_at, atom, has, is_below, is_item, is_judged, is_permanent, is_prohibited, is_semantic, kept_at, lenders, parent_of, permanent_at, provide, query_at, shown_of}
+use Rattle.hac_model.specs.Tree.Links.{answers_at, atom, has, is_below, is_item, is_judged, is_lent, is_permanent, is_prohibited, is_semantic, kept_at, lenders, parent_of, passes, permanent_at, provide, query_at, shown_of}
 use Rattle.hac_model.specs.Tree.Mounts.{is_kept, terms_in, terms_in_use}
 use Rattle.hac_model.specs.Tree.Valid.{AsksWell, IsValid, KeepsWell, is_in_place}
 use Rattle.hac_model.specs.Tree.{answers_in, body_at, entry_at, extends, is_directory_at, is_document, is_document_at, is_holder_at, is_mount, is_mount_at, path_of, query_in}
@@ -25,7 +25,7 @@ use Rattle.hac_model.proofs.ChangeLemmas.{all-weaker}
 use Rattle.hac_model.proofs.KeepingLemmas.{AreKept, EachKept, each-kept}
 use Rattle.hac_model.proofs.MarkLemmas.{all-passes}
 use Rattle.hac_model.proofs.TreeLemmas.{entry_at-all, entry_at-number, place-directory}
-use Rattle.reeval.specs.Judging.{JudgesAlike, LeavesAlike, ProvidesAlike}
+use Rattle.reeval.specs.Judging.{JudgesAlike, LeavesAlike, ProvidesAlike, judgement}
 use Rattle.reeval.proofs.AlikeLemmas.{SameInputs, depends-asked, judge-across, none-across}
 
 pub always : {X : Type 0} (P : X → Type 0) → ((x : X) → P x) → (xs : List X) → AllByRecursion P xs
@@ -125,7 +125,37 @@ edge-directory s dir e h edge = at (query_at s dir) refl edge
       | inr lending ↦ passed (is_directory_at s.entries) (lenders s dir) (all-passes (is_directory_at s.entries) (permanent_at s dir)) lending
     ]
 
--- What stays alike.
+-- What is no item.
+
+and-false : (b : Bool) → (b && false) ≡ false
+and-false true = refl
+and-false false = refl
+
+none-judged : (s : State) (linked : ℕ → Bool) (item dir : ℕ) → is_item s item ≡ false → judgement s linked item dir ≡ record { found = false; lent = false }
+none-judged s linked item dir none = λ i. record { found = guard i && passes s linked dir item; lent = guard i && is_lent s linked dir item }
+  where
+    guard : (is_semantic s dir && is_item s item) ≡ false
+    guard = ap (λ (b : Bool). is_semantic s dir && b) none ∙ and-false (is_semantic s dir)
+
+-- nothing is said of what is no item
+pub none-alike : (s t : State) (begins : ℕ → Bool) (item : ℕ) → is_item s item ≡ false → is_item t item ≡ false → ((dir : ℕ) → begins dir ≡ false → query_at s dir ≡ query_at t dir) → LeavesAlike s t begins item
+none-alike s t begins item before after queries = record {
+  judges = λ dir still a b same. none-judged s a item dir before ∙ sym (none-judged t b item dir after);
+  provides = λ dir e still edge apart a b linked.
+      λ i. below e i || (is_some (queries e apart i) && (linked i || added e i));
+}
+  where
+    below : (e : ℕ) → is_below s e item ≡ is_below t e item
+    below e =
+        ap (λ (b : Bool). b && is_directory_at s.entries e && extends (path_of s item) (path_of s e)) before
+        ∙ sym (ap (λ (b : Bool). b && is_directory_at t.entries e && extends (path_of t item) (path_of t e)) after)
+
+    added : (e : ℕ) → (is_permanent s e item && is_item s item) ≡ (is_permanent t e item && is_item t item)
+    added e =
+        ap (λ (b : Bool). is_permanent s e item && b) before ∙ and-false (is_permanent s e item)
+        ∙ sym (ap (λ (b : Bool). is_permanent t e item && b) after ∙ and-false (is_permanent t e item))
+
+-- What stays alike of an item.
 
 -- what is asked of an item, of directories at which judging doesn't begin, and of where these are
 pub record IsAlike (s t : State) (begins : ℕ → Bool) (item : ℕ) : Type 0 where

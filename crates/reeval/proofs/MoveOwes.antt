@@ -106,7 +106,7 @@ module _ (s : State) (item : ℕ) (h : IsValid s) (entry dir : ℕ) (name : List
   move-owes = record {
     sight = move-sight;
     queries = λ d still. sym (seen-kept query_of s.entries entry (reseated dir name) (λ e. refl) (λ e. refl) d);
-    facts = move-facts;
+    facts = λ is. move-facts;
     answers = λ mount own term known. put-answers (facts_of s) entry new mount term refl;
     below = λ d before after is still.
         below-stays s t h.layout (apply-valid s (event.Mv entry dir name) h ok).layout (λ n. is_inside s n entry ≡ false) move-up d before after item (item-lives s item is) (outside is);

@@ -49,7 +49,7 @@ module _ (s : State) (item : ℕ) (h : IsValid s) where
       record {
         sight = sym (seen-plain item_in s.entries new h.layout.numbers refl item);
         queries = λ d still. sym (seen-plain query_of s.entries new h.layout.numbers refl d);
-        facts = λ d still. same-facts item (facts_of s d) (facts_of s d) refl;
+        facts = λ is d still. same-facts item (facts_of s d) (facts_of s d) refl;
         answers = λ mount own term known. refl;
         below = owed-below s (added s dir name Dir) item h (apply-valid s (event.Mkdir dir name) h ok) (all-parents s (added s dir name Dir) (added-stay s dir name Dir));
       }
@@ -60,7 +60,7 @@ module _ (s : State) (item : ℕ) (h : IsValid s) where
       record {
         sight = put-other (λ n. item_in (entry_at s.entries n)) s.next (item_in (Some new)) item other ∙ sym (seen-added item_in s.entries new h.layout.numbers item);
         queries = λ d still. sym (seen-plain query_of s.entries new h.layout.numbers refl d);
-        facts = λ d still. same-facts item (facts_of s d) (facts_of s d) refl;
+        facts = λ is d still. same-facts item (facts_of s d) (facts_of s d) refl;
         answers = λ mount own term known. refl;
         below = owed-below s (added s dir name new.body) item h (apply-valid s (event.NewFile dir name text) h ok) (all-parents s (added s dir name new.body) (added-stay s dir name new.body));
       }
@@ -69,7 +69,7 @@ module _ (s : State) (item : ℕ) (h : IsValid s) where
   rewrite-owes file text ok = record {
     sight = sym (seen-kept item_in s.entries file (edited (rewritten text)) (λ e. refl) (λ e. rewritten-item text e.parent e.body) item);
     queries = λ d still. sym (seen-kept query_of s.entries file (edited (rewritten text)) (λ e. refl) (λ e. rewritten-query text e.body) d);
-    facts = λ d still. same-facts item (facts_of s d) (facts_of s d) refl;
+    facts = λ is d still. same-facts item (facts_of s d) (facts_of s d) refl;
     answers = λ mount own term known. refl;
     below = owed-below s (changed_at s file (edited (rewritten text))) item h (apply-valid s (event.Rewrite file text) h ok)
         (all-parents s (changed_at s file (edited (rewritten text))) (edited-stay s file (rewritten text)));
@@ -81,7 +81,7 @@ module _ (s : State) (item : ℕ) (h : IsValid s) where
       record {
         sight = sym (seen-plain item_in s.entries new h.layout.numbers refl item);
         queries = λ d still. sym (seen-plain query_of s.entries new h.layout.numbers refl d);
-        facts = λ d still. same-facts item (facts_of s d) (facts_of s d) refl;
+        facts = λ is d still. same-facts item (facts_of s d) (facts_of s d) refl;
         answers = λ mount own term known. refl;
         below = owed-below s (added s dir name new.body) item h (apply-valid s (event.Ln dir name target) h ok) (all-parents s (added s dir name new.body) (added-stay s dir name new.body));
       }
@@ -90,7 +90,7 @@ module _ (s : State) (item : ℕ) (h : IsValid s) where
   cd-owes session dir ok = record {
     sight = refl;
     queries = λ d still. refl;
-    facts = λ d still. same-facts item (facts_of s d) (facts_of s d) refl;
+    facts = λ is d still. same-facts item (facts_of s d) (facts_of s d) refl;
     answers = λ mount own term known. refl;
     below = owed-below s (apply s (event.Cd session dir)) item h (apply-valid s (event.Cd session dir) h ok) (all-parents s (apply s (event.Cd session dir)) (λ n e found. record { entry = e; found = found; parent = refl }));
   }
@@ -118,7 +118,7 @@ module _ (s : State) (item : ℕ) (h : IsValid s) where
   step-owes ok other = record {
     sight = step-sight (next_dirty s.entries) other;
     queries = λ d still. step-queries (next_dirty s.entries) d;
-    facts = λ d still. same-facts item (facts_of s d) (facts_of s d) refl;
+    facts = λ is d still. same-facts item (facts_of s d) (facts_of s d) refl;
     answers = λ mount own term known. refl;
     below = owed-below s (apply s event.Step) item h (apply-valid s event.Step h ok) (all-parents s (apply s event.Step) (step-stay (next_dirty s.entries)));
   }
@@ -126,7 +126,7 @@ module _ (s : State) (item : ℕ) (h : IsValid s) where
 -- Entries that go.
 
 -- what is a directory is no item
-directory-hidden : (s : State) (d : ℕ) → is_made_directory s.entries d ≡ true → item_in (entry_at s.entries d) ≡ None
+pub directory-hidden : (s : State) (d : ℕ) → is_made_directory s.entries d ≡ true → item_in (entry_at s.entries d) ≡ None
 directory-hidden s d is = at (entry_at s.entries d) is
   where
     body : (dir : ℕ) (b : Body) → is_directory b ≡ true → item_of dir b ≡ None
@@ -157,7 +157,7 @@ leaf-asks_nothing s n is = at (entry_at s.entries n) is
     at None is = refl
     at (Some e) is = body e.body is
 
-removed-parents : (s : State) (k : ℕ) → ParentsStay s (removed s k)
+pub removed-parents : (s : State) (k : ℕ) → ParentsStay s (removed s k)
 removed-parents s k n e f before after = at (n == k) refl (sym (seen-removed (λ (o : Option Entry). o) s.entries k n) ∙ after)
   where
     at : (b : Bool) → (n == k) ≡ b → (if n == k then None else entry_at s.entries n) ≡ Some f → f.parent ≡ e.parent
@@ -189,7 +189,7 @@ module _ (s : State) (item : ℕ) (h : IsValid s) where
         sym (put-same (query_at s) leaf None d (sym (leaf-asks_nothing s leaf (accepted-parts (is_leaf_at s.entries leaf) (passed_limit (apply s (event.Rm leaf))) ok).0)))
         ∙ sym (seen-removed query_of s.entries leaf d)
         ∙ sym (kept query_of (λ e. forgetting-query leaf e.body) d);
-    facts = λ d still. record {
+    facts = λ is d still. record {
       edges = refl;
       added = has-other leaf (facts_of s d).marks.permanent item other;
       removed = has-other leaf (facts_of s d).marks.prohibited item other;
@@ -222,7 +222,7 @@ module _ (s : State) (item : ℕ) (h : IsValid s) where
       record {
         sight = sym (put-same (λ n. item_in (entry_at s.entries n)) dir None item (sym (directory-hidden s dir parts.0))) ∙ sym (seen-removed item_in s.entries dir item);
         queries = λ d still. put-other (query_at s) dir None d (none-of false false (d == dir) still).2 ∙ sym (seen-removed query_of s.entries dir d);
-        facts = λ d still. same-facts item (facts_of s d) (facts_after (event.Rmdir dir) s (facts_of s) d) (put-other (facts_of s) dir no_facts d (none-of false false (d == dir) still).2);
+        facts = λ is d still. same-facts item (facts_of s d) (facts_after (event.Rmdir dir) s (facts_of s) d) (put-other (facts_of s) dir no_facts d (none-of false false (d == dir) still).2);
         answers = λ mount own term known. ap (λ (f : Facts). kept_for f.answers term) (put-other (facts_of s) dir no_facts mount (apart-mount mount dir own parts.4));
         below = owed-below s (removed s dir) item h (apply-valid s (event.Rmdir dir) h ok) (removed-parents s dir);
       }
@@ -250,7 +250,7 @@ module _ (s : State) (item : ℕ) (h : IsValid s) where
         sight = sym (seen-kept item_in s.entries dir (edited plain_body) (λ e. refl) (λ e. plain-item e.parent e.body) item);
         queries = λ d still. put-other (query_at s) dir (query_of (option_map (edited plain_body) (entry_at s.entries dir))) d (none-of (d == dir) false false still).0
             ∙ sym (seen-changed query_of s.entries dir (edited plain_body) (λ e. refl) d);
-        facts = λ d still. same-facts item (facts_of s d) (facts_after (event.Unq dir) s (facts_of s) d) (put-other (facts_of s) dir no_facts d (none-of (d == dir) false false still).0);
+        facts = λ is d still. same-facts item (facts_of s d) (facts_after (event.Unq dir) s (facts_of s) d) (put-other (facts_of s) dir no_facts d (none-of (d == dir) false false still).0);
         answers = λ mount own term known. ap (λ (f : Facts). kept_for f.answers term) (put-other (facts_of s) dir no_facts mount (apart-mount mount dir own (asking-no_mount dir semantic)));
         below = owed-below s (changed_at s dir (edited plain_body)) item h (apply-valid s (event.Unq dir) h ok) (all-parents s (changed_at s dir (edited plain_body)) (edited-stay s dir plain_body));
       }
