@@ -7,3 +7,4 @@ pub mod OweLemmas
 pub mod TreeOwes
 pub mod AskOwes
 pub mod MoveOwes
+pub mod MountOwes
