@@ -8,3 +8,4 @@ pub mod TreeOwes
 pub mod AskOwes
 pub mod MoveOwes
 pub mod MountOwes
+pub mod EventsLeave

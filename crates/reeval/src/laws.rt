@@ -1,5 +1,5 @@
 //! Theorems over the definitions alone. Each is the contract of a function that does nothing.
-ghost use Rattle.reeval.specs.Laws.{LinksAreJudged, TouchedLeaveAlike, VerdictsAreOnly};
+ghost use Rattle.reeval.specs.Laws.{EventsLeaveAlike, LinksAreJudged, TouchedLeaveAlike, VerdictsAreOnly};
 
 /// The links of a state are its judgements by these links, item by item.
 pub fn links_are_judged()
@@ -14,4 +14,10 @@ pub fn verdicts_are_only()
 /// What is semantic neither before nor after says nothing of any item.
 pub fn touched_leave_alike()
     ensures { TouchedLeaveAlike }
+{}
+
+/// An event changes what a directory says of an item only where it touches the item, where judging
+/// begins, or where a directory on which that one depends provides another item.
+pub fn events_leave_alike()
+    ensures { EventsLeaveAlike }
 {}
