@@ -1,24 +1,18 @@
 -- What a directory says of an item, and provides of it, from one state to another that tells alike what this needs.
-use Rattle.std.proofs.Common.{◌≡◌, ℕ, Bool, true, false, List, [], ◌∷◌, subst, refl, ap, sym, ◌∙◌, inl, inr}
-use Rattle.std.specs.Prelude.{◌&&◌, ◌||◌, ◌++◌, drop, if◌then◌else◌, length, not, Option, Some, None, IsTrue, is_some}
+use Rattle.std.proofs.Common.{◌≡◌, ℕ, Bool, false, List, [], ◌∷◌, subst, refl, ap, sym, ◌∙◌, inl, inr}
+use Rattle.std.specs.Prelude.{◌&&◌, ◌||◌, ◌++◌, not, Option, Some, None, is_some}
 use Rattle.std.specs.List.{AllByRecursion, list_any}
-use Rattle.std.specs.Option.{option_map_or, unwrap_or}
-use Rattle.std.proofs.Math.Seq.{drop-append_seam}
+use Rattle.std.specs.Option.{option_map_or}
 use Rattle.std.proofs.lemmas.Bool.{or_parts}
 use Rattle.hac_model.specs.Query.Formula.{Formula}
 use Rattle.hac_model.specs.Query.Formula as query
 use Rattle.hac_model.specs.Query.Queries.{terms_of}
-use Rattle.hac_model.specs.Query.Words.{has_term}
 use Rattle.hac_model.specs.Tree.Depends.{Among, depends, named_in}
-use Rattle.hac_model.specs.Tree.Links.{answers_at, atom, has, holds, is_below, is_item, is_judged, is_lent, is_permanent, is_prohibited, is_semantic, is_unmarked, kept_at, lenders, parent_of, passes, provide, query_at, satisfies, shown_of}
-use Rattle.hac_model.specs.Tree.Mounts.{is_kept}
-use Rattle.hac_model.specs.Tree.Valid.{IsValid}
-use Rattle.hac_model.specs.Tree.{extends, is_directory_at, is_document_at, path_of}
+use Rattle.hac_model.specs.Tree.Links.{atom, holds, is_item, is_judged, is_lent, is_permanent, is_prohibited, is_semantic, lenders, parent_of, passes, provide, query_at, satisfies}
 use Rattle.hac_model.specs.declared.states.State.{State}
-use Rattle.hac_model.specs.declared.terms.Term.{Term}
 use Rattle.hac_model.proofs.AmongLemmas.{among-left, among-right}
 use Rattle.hac_model.proofs.KeepingLemmas.{all-parted}
-use Rattle.reeval.specs.Judging.{JudgesAlike, LeavesAlike, ProvidesAlike, judgement}
+use Rattle.reeval.specs.Judging.{JudgesAlike, LeavesAlike, judgement}
 use Rattle.reeval.specs.declared.verdicts.Verdict.{Verdict}
 
 -- What is semantic neither before nor after.

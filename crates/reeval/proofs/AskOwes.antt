@@ -1,16 +1,15 @@
 -- What events owe that mark an item, or give a directory a query.
-use Rattle.std.proofs.Common.{◌≡◌, ℕ, Bool, true, false, List, [], ◌∷◌, ◌++◌, subst, refl, ap, sym, ◌∙◌, eq-eqb}
+use Rattle.std.proofs.Common.{◌≡◌, ℕ, Bool, true, false, List, [], ◌∷◌, ◌++◌, subst, refl, ap, sym, ◌∙◌}
 use Rattle.std.specs.Prelude.{◌==◌, ◌&&◌, ◌||◌, filter, if◌then◌else◌, nat_lt, not, Option, Some, None, IsTrue}
 use Rattle.std.specs.Option.{option_map, option_map_or}
 use Rattle.std.proofs.lemmas.Bool.{eqb-false, eqb-true, ne_eqb}
 use Rattle.hac_model.specs.Query.Formula.{Formula}
 use Rattle.hac_model.specs.Tree.Asking.{gained, gaining, with_told}
-use Rattle.hac_model.specs.Tree.Depends.{depends, named_in}
+use Rattle.hac_model.specs.Tree.Depends.{named_in}
 use Rattle.hac_model.specs.Tree.Events.{accepted, added, apply, asking, changed_at, edited, is_possible, marked, put_in, without}
 use Rattle.hac_model.specs.Tree.Facts.{Facts, Marks, facts_after, facts_of, facts_told, facts_with, no_facts, put_at, with_mark}
 use Rattle.hac_model.specs.Tree.Limits.{passed_limit}
 use Rattle.hac_model.specs.Tree.Links.{answers_at, has, is_item, parent_of, query_at}
-use Rattle.hac_model.specs.Tree.Mounting.{is_document_of}
 use Rattle.hac_model.specs.Tree.Mounts.{is_kept, kept_for}
 use Rattle.hac_model.specs.Tree.Touched.{begins, is_the, touches}
 use Rattle.hac_model.specs.Tree.Valid.{IsValid, NumbersRise}

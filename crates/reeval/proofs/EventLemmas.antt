@@ -1,16 +1,16 @@
 -- From what an event does to single entries and facts to what it leaves alone.
-use Rattle.std.proofs.Common.{◌≡◌, ℕ, Bool, true, false, List, [], ◌∷◌, subst, refl, ap, sym, ◌∙◌, eq-eqb, inl, inr}
-use Rattle.std.specs.Prelude.{◌==◌, ◌&&◌, ◌||◌, if◌then◌else◌, Option, Some, None, IsTrue, is_some, option_and_then}
+use Rattle.std.proofs.Common.{◌≡◌, ℕ, Bool, true, false, List, [], subst, refl, ap, sym, ◌∙◌, eq-eqb, inr}
+use Rattle.std.specs.Prelude.{◌==◌, ◌&&◌, if◌then◌else◌, Option, Some, None, IsTrue, is_some, option_and_then}
 use Rattle.std.specs.Option.{option_map, option_map_or, unwrap_or}
 use Rattle.hac_model.specs.Query.Formula.{Formula}
 use Rattle.hac_model.specs.Tree.Events.{accepted, apply}
-use Rattle.hac_model.specs.Tree.Facts.{Facts, facts_after, facts_at, facts_in, facts_of}
-use Rattle.hac_model.specs.Tree.Links.{answers_at, has, is_item, is_permanent, is_prohibited, kept_at, parent_of, permanent_at, prohibited_at, query_at, shown_of}
+use Rattle.hac_model.specs.Tree.Facts.{Facts, facts_after, facts_at, facts_of}
+use Rattle.hac_model.specs.Tree.Links.{answers_at, has, is_item, kept_at, parent_of, permanent_at, prohibited_at, query_at}
 use Rattle.hac_model.specs.Tree.Mounting.{is_document_of}
 use Rattle.hac_model.specs.Tree.Mounts.{is_kept, kept_for}
 use Rattle.hac_model.specs.Tree.Touched.{begins}
 use Rattle.hac_model.specs.Tree.Valid.{IsValid}
-use Rattle.hac_model.specs.Tree.{answers_in, body_at, entry_at, extends, is_directory_at, is_document, is_document_at, is_linkable, path_of, permanent_in, prohibited_in, query_in, shown_text}
+use Rattle.hac_model.specs.Tree.{answers_in, entry_at, extends, is_directory_at, is_document, is_document_at, is_linkable, path_of, permanent_in, prohibited_in, query_in, shown_text}
 use Rattle.hac_model.specs.declared.events.Event.{Event}
 use Rattle.hac_model.specs.declared.states.Answer.{Answer}
 use Rattle.hac_model.specs.declared.states.Body.{Body}
@@ -79,6 +79,11 @@ texts-seen (Some e) = body e.body
 pub homes-seen : (o : Option Entry) → option_map_or is_linkable (option_map (λ (e : Entry). e.body) o) false ≡ true → option_map_or (λ (e : Entry). e.parent) o 0 ≡ option_map_or (λ (i : ItemSeen). i.parent) (item_in o) 0
 homes-seen None is = refl
 homes-seen (Some e) is = ap (λ (b : Bool). option_map_or (λ (i : ItemSeen). i.parent) (if b then Some (record { document = is_document e.body; text = shown_text e.body; parent = e.parent }) else None) 0) (sym is)
+
+-- what can't be linked isn't seen
+pub unseen : (o : Option Entry) → option_map_or is_linkable (option_map (λ (e : Entry). e.body) o) false ≡ false → item_in o ≡ None
+unseen None plain = refl
+unseen (Some e) plain = ap (λ (b : Bool). if b then Some (record { document = is_document e.body; text = shown_text e.body; parent = e.parent }) else None) plain
 
 -- a document can be linked
 pub document-item : (s : State) (item : ℕ) → is_document_at s.entries item ≡ true → is_item s item ≡ true

@@ -1,5 +1,5 @@
 -- What each event leaves alone.
-use Rattle.std.proofs.Common.{◌≡◌, ℕ, Bool, false}
+use Rattle.std.proofs.Common.{◌≡◌, ℕ, false}
 use Rattle.std.specs.Prelude.{IsTrue}
 use Rattle.hac_model.specs.Tree.Events.{accepted, apply}
 use Rattle.hac_model.specs.Tree.Touched.{begins, touches}

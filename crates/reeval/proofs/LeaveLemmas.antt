@@ -1,16 +1,17 @@
 -- From what stays alike of an item and of directories to what all directories say of the item.
 use Rattle.std.proofs.Common.{◌≡◌, ℕ, Bool, true, false, List, [], ◌∷◌, subst, refl, ap, sym, ◌∙◌, inl, inr}
-use Rattle.std.specs.Prelude.{◌==◌, ◌&&◌, ◌||◌, ◌++◌, drop, filter, if◌then◌else◌, length, not, Option, Some, None, IsTrue, is_some, option_and_then}
+use Rattle.std.specs.Prelude.{◌&&◌, ◌||◌, ◌++◌, drop, if◌then◌else◌, length, Option, Some, None, IsTrue, is_some, option_and_then}
 use Rattle.std.specs.List.{AllByRecursion, list_all}
-use Rattle.std.specs.Option.{option_map, option_map_or, unwrap_or}
+use Rattle.std.specs.Option.{option_map, option_map_or}
+use Rattle.std.proofs.Math.Bool.{and-false}
 use Rattle.std.proofs.Math.Seq.{drop-append_seam}
-use Rattle.std.proofs.lemmas.Bool.{and_parts, eqb-true}
+use Rattle.std.proofs.lemmas.Bool.{and_parts}
 use Rattle.hac_model.specs.Query.Formula.{Formula}
 use Rattle.hac_model.specs.Query.Queries.{is_query, terms_of}
 use Rattle.hac_model.specs.Query.Words.{has_term}
 use Rattle.hac_model.specs.Tree.Depends.{Among, depends, named_in}
 use Rattle.hac_model.specs.Tree.Events.{are_directories}
-use Rattle.hac_model.specs.Tree.Links.{answers_at, atom, has, is_below, is_item, is_judged, is_lent, is_permanent, is_prohibited, is_semantic, kept_at, lenders, parent_of, passes, permanent_at, provide, query_at, shown_of}
+use Rattle.hac_model.specs.Tree.Links.{answers_at, atom, has, is_below, is_item, is_judged, is_lent, is_permanent, is_prohibited, is_semantic, kept_at, lenders, parent_of, passes, permanent_at, query_at, shown_of}
 use Rattle.hac_model.specs.Tree.Mounts.{is_kept, terms_in, terms_in_use}
 use Rattle.hac_model.specs.Tree.Valid.{AsksWell, IsValid, KeepsWell, is_in_place}
 use Rattle.hac_model.specs.Tree.{answers_in, body_at, entry_at, extends, is_directory_at, is_document, is_document_at, is_holder_at, is_mount, is_mount_at, path_of, query_in}
@@ -24,7 +25,7 @@ use Rattle.hac_model.proofs.AmongLemmas.{among-append}
 use Rattle.hac_model.proofs.ChangeLemmas.{all-weaker}
 use Rattle.hac_model.proofs.KeepingLemmas.{AreKept, EachKept, each-kept}
 use Rattle.hac_model.proofs.MarkLemmas.{all-passes}
-use Rattle.hac_model.proofs.TreeLemmas.{entry_at-all, entry_at-number, place-directory}
+use Rattle.hac_model.proofs.TreeLemmas.{entry_at-all, place-directory}
 use Rattle.reeval.specs.Judging.{JudgesAlike, LeavesAlike, ProvidesAlike, judgement}
 use Rattle.reeval.proofs.AlikeLemmas.{SameInputs, depends-asked, judge-across, none-across}
 
@@ -61,7 +62,7 @@ document-home s item h is =
     let x = body-entry is_document s.entries item is in
     ap (is_mount_at s.entries) (parent-found s item x.0 x.1)
     ∙ ap (λ (b : Bool). if b then is_mount_at s.entries x.0.parent else is_holder_at s.entries x.0.parent) (sym x.2)
-      ∙ entry_at-all (λ e. IsTrue (is_in_place s.entries e)) s.entries item x.0 h.layout.places x.1
+    ∙ entry_at-all (λ e. IsTrue (is_in_place s.entries e)) s.entries item x.0 h.layout.places x.1
 
 -- a mount keeps an answer for each term in use
 mount-knows : (s : State) (mount : ℕ) → IsValid s → is_mount_at s.entries mount ≡ true → AreKept (answers_at s mount) (terms_in_use s.entries)
@@ -127,12 +128,8 @@ edge-directory s dir e h edge = at (query_at s dir) refl edge
 
 -- What is no item.
 
-and-false : (b : Bool) → (b && false) ≡ false
-and-false true = refl
-and-false false = refl
-
-none-judged : (s : State) (linked : ℕ → Bool) (item dir : ℕ) → is_item s item ≡ false → judgement s linked item dir ≡ record { found = false; lent = false }
-none-judged s linked item dir none = λ i. record { found = guard i && passes s linked dir item; lent = guard i && is_lent s linked dir item }
+no_item-judged : (s : State) (linked : ℕ → Bool) (item dir : ℕ) → is_item s item ≡ false → judgement s linked item dir ≡ record { found = false; lent = false }
+no_item-judged s linked item dir none = λ i. record { found = guard i && passes s linked dir item; lent = guard i && is_lent s linked dir item }
   where
     guard : (is_semantic s dir && is_item s item) ≡ false
     guard = ap (λ (b : Bool). is_semantic s dir && b) none ∙ and-false (is_semantic s dir)
@@ -140,7 +137,7 @@ none-judged s linked item dir none = λ i. record { found = guard i && passes s 
 -- nothing is said of what is no item
 pub none-alike : (s t : State) (begins : ℕ → Bool) (item : ℕ) → is_item s item ≡ false → is_item t item ≡ false → ((dir : ℕ) → begins dir ≡ false → query_at s dir ≡ query_at t dir) → LeavesAlike s t begins item
 none-alike s t begins item before after queries = record {
-  judges = λ dir still a b same. none-judged s a item dir before ∙ sym (none-judged t b item dir after);
+  judges = λ dir still a b same. no_item-judged s a item dir before ∙ sym (no_item-judged t b item dir after);
   provides = λ dir e still edge apart a b linked.
       λ i. below e i || (is_some (queries e apart i) && (linked i || added e i));
 }

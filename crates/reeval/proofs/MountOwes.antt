@@ -1,39 +1,38 @@
 -- What the events of mounts owe.
-use Rattle.std.proofs.Common.{◌≡◌, ℕ, ◌+◌, ◌<◌, Bool, true, false, List, [], ◌∷◌, ◌++◌, length, map, subst, refl, ap, sym, ◌∙◌, arith, eq-eqb, inl, inr}
-use Rattle.std.specs.Prelude.{◌⊎◌, ◌==◌, ◌&&◌, ◌||◌, filter, if◌then◌else◌, not, Option, Some, None, IsTrue, option_and_then}
+use Rattle.std.proofs.Common.{◌≡◌, ℕ, ◌+◌, Bool, true, false, List, [], ◌∷◌, ◌++◌, subst, refl, ap, sym, ◌∙◌, arith, eq-eqb, inl, inr}
+use Rattle.std.specs.Prelude.{◌⊎◌, ◌==◌, ◌&&◌, ◌||◌, if◌then◌else◌, not, Option, Some, None, IsTrue, option_and_then}
 use Rattle.std.specs.Option.{option_map, option_map_or}
 use Rattle.std.proofs.lemmas.Bool.{and_parts, eqb-true, not-true, or_parts}
-use Rattle.hac_model.specs.Tree.Events.{accepted, added, apply, changed_at, edited, is_possible}
-use Rattle.hac_model.specs.Tree.Facts.{Facts, facts_after, facts_at, facts_in, facts_of, facts_without, no_facts, put_at}
+use Rattle.hac_model.specs.Tree.Events.{accepted, added, edited, is_possible}
+use Rattle.hac_model.specs.Tree.Facts.{Facts, facts_at, facts_in, facts_of, facts_without, no_facts, put_at}
 use Rattle.hac_model.specs.Tree.Limits.{passed_limit}
 use Rattle.hac_model.specs.Tree.Links.{has, is_item, parent_of, query_at}
 use Rattle.hac_model.specs.Tree.Mounting.{answers_to, cleared, documents_from, forgetting_such, fresh, is_among, is_document_of, is_gone, is_of_mount, is_such_at, keeping, mounted, numbers_without, redocumented, synced, unmounted, with_documents, without_such}
 use Rattle.hac_model.specs.Tree.Mounts.{kept_for, terms_to_ask}
-use Rattle.hac_model.specs.Tree.Touched.{begins, touches}
+use Rattle.hac_model.specs.Tree.Touched.{touches}
 use Rattle.hac_model.specs.Tree.Valid.{IsLayout, IsValid, is_in_place}
-use Rattle.hac_model.specs.Tree.{body_at, entry_at, is_directory, is_directory_at, is_document, is_document_at, is_holder_at, is_made_directory, is_mount, is_mount_at, query_in}
+use Rattle.hac_model.specs.Tree.{entry_at, is_directory_at, is_document, is_document_at, is_holder_at, is_mount, is_mount_at, query_in}
 use Rattle.hac_model.specs.declared.events.Event.TheVariants as event
 use Rattle.hac_model.specs.declared.states.Answer.{Answer}
 use Rattle.hac_model.specs.declared.states.Body.{Body}
 use Rattle.hac_model.specs.declared.states.Body.TheVariants.{File, Dir, Symlink, Semantic, Mount, Document}
 use Rattle.hac_model.specs.declared.states.Entry.{Entry}
 use Rattle.hac_model.specs.declared.states.State.{State}
-use Rattle.hac_model.specs.declared.terms.Term.{Term}
 use Rattle.hac_model.proofs.AcyclicLemmas.{apply-valid}
 use Rattle.hac_model.proofs.ChangeLemmas.{entry_at-changed, touched}
-use Rattle.hac_model.proofs.LayoutLemmas.{smount-parts, ssync-parts, sumount-parts}
+use Rattle.hac_model.proofs.LayoutLemmas.{ssync-parts, sumount-parts}
 use Rattle.hac_model.proofs.MapLemmas.{entry_at-mapped}
 use Rattle.hac_model.proofs.MarkLemmas.{has-filter}
 use Rattle.hac_model.proofs.MountAskLemmas.{entry_at-filter, passing}
 use Rattle.hac_model.proofs.MountLayoutLemmas.{entry_at-documents}
-use Rattle.hac_model.proofs.TreeLemmas.{entry_at-all, entry_at-next, entry_at-number}
+use Rattle.hac_model.proofs.TreeLemmas.{entry_at-all, entry_at-next, entry_at-number, mount-directory}
 use Rattle.hac_model.proofs.ValidLemmas.{accepted-parts}
 use Rattle.hac_model.proofs.ViewLemmas.{seen-kept, seen-plain}
 use Rattle.reeval.proofs.AskOwes.{put-alike}
-use Rattle.reeval.proofs.EventLemmas.{FactsAlike, ItemSeen, Owes, documents-seen, homes-seen, is_seen, item_in, item_of, items-seen, owed-below, query_of, same-facts}
+use Rattle.reeval.proofs.EventLemmas.{FactsAlike, ItemSeen, Owes, documents-seen, homes-seen, is_seen, item_in, item_of, items-seen, owed-below, query_of}
 use Rattle.reeval.proofs.OweLemmas.{AllStayIn, added-stay, all-parents, all-then, edited-stay, keeping-item, keeping-query, mount-other, own-mount, parents-then, put-other, such-item, such-query}
-use Rattle.reeval.proofs.StayLemmas.{ParentsStay, StaysIn}
-use Rattle.reeval.proofs.TreeOwes.{directory-hidden, mapped-stay}
+use Rattle.reeval.proofs.StayLemmas.{ParentsStay}
+use Rattle.reeval.proofs.TreeOwes.{directory-unseen, mapped-stay}
 
 -- Documents come.
 
@@ -127,21 +126,6 @@ mount-asks_nothing (Symlink target) is = refl
 mount-asks_nothing (Semantic asked permanent prohibited) is = absurd cc
 mount-asks_nothing (Mount space answers) is = refl
 mount-asks_nothing Document is = refl
-
-mount-made : (s : State) (mount : ℕ) → is_mount_at s.entries mount ≡ true → is_made_directory s.entries mount ≡ true
-mount-made s mount is = at (entry_at s.entries mount) is
-  where
-    body : (b : Body) → is_mount b ≡ true → is_directory b ≡ true
-    body (File text dirty shown) is = absurd cc
-    body Dir is = refl
-    body (Symlink target) is = absurd cc
-    body (Semantic asked permanent prohibited) is = refl
-    body (Mount space answers) is = refl
-    body Document is = absurd cc
-
-    at : (o : Option Entry) → option_map_or is_mount (option_map (λ (e : Entry). e.body) o) false ≡ true → option_map_or is_directory (option_map (λ (e : Entry). e.body) o) false ≡ true
-    at None is = absurd cc
-    at (Some e) is = body e.body is
 
 -- What is known of a mount beside its answers.
 
@@ -362,7 +346,7 @@ module _ (s : State) (item : ℕ) (h : IsValid s) where
     -- so no item that isn't touched
     leaves-hidden : (e : Entry) → entry_at s.entries item ≡ Some e → leaves e ≡ true → item_in (Some e) ≡ None
     leaves-hidden e found leaving = elim (leaves-own item e found leaving) [
-      | inl here ↦ ap item_in (sym found) ∙ ap (λ (n : ℕ). item_in (entry_at s.entries n)) here ∙ directory-hidden s mount (mount-made s mount stands)
+      | inl here ↦ ap item_in (sym found) ∙ ap (λ (n : ℕ). item_in (entry_at s.entries n)) here ∙ directory-unseen s mount h.layout (mount-directory s.entries mount stands)
       | inr own ↦ (let never : true ≡ false = sym own.1 ∙ untouched in absurd cc)
     ]
 

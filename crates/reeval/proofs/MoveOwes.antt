@@ -1,19 +1,18 @@
 -- What a move owes.
-use Rattle.std.proofs.Common.{◌≡◌, ℕ, Bool, true, false, List, [], ◌∷◌, ◌++◌, refl, ap, sym, ◌∙◌, eq-eqb, inl, inr}
-use Rattle.std.specs.Prelude.{◌==◌, ◌&&◌, ◌||◌, filter, if◌then◌else◌, Option, Some, None, IsTrue, is_some}
+use Rattle.std.proofs.Common.{◌≡◌, ℕ, Bool, true, false, List, [], ◌∷◌, ◌++◌, refl, ap, sym, ◌∙◌, inr}
+use Rattle.std.specs.Prelude.{◌==◌, ◌&&◌, ◌||◌, if◌then◌else◌, Option, Some, None, IsTrue, is_some}
 use Rattle.std.specs.Option.{option_map, option_map_or}
-use Rattle.std.proofs.lemmas.Bool.{eqb-false, eqb-true, ne_eqb, or_parts}
+use Rattle.std.proofs.lemmas.Bool.{eqb-true, or_parts}
 use Rattle.hac_model.specs.Query.Formula.{Formula}
 use Rattle.hac_model.specs.Tree.Depends.{named_in}
-use Rattle.hac_model.specs.Tree.Events.{accepted, apply, changed_at, is_inside, is_possible, reseated}
+use Rattle.hac_model.specs.Tree.Events.{accepted, changed_at, is_inside, is_possible, reseated}
 use Rattle.hac_model.specs.Tree.Facts.{Facts, edges_to, facts_of, facts_with, put_at}
 use Rattle.hac_model.specs.Tree.Limits.{passed_limit}
 use Rattle.hac_model.specs.Tree.Links.{is_item, is_semantic, lenders, parent_of, query_at}
 use Rattle.hac_model.specs.Tree.Touched.{begins, is_the, touches}
 use Rattle.hac_model.specs.Tree.Valid.{IsValid}
-use Rattle.hac_model.specs.Tree.{entry_at, extends, is_directory_at, is_document, is_linkable, path_of, shown_text}
+use Rattle.hac_model.specs.Tree.{entry_at, extends, is_directory_at, is_linkable, path_of}
 use Rattle.hac_model.specs.declared.events.Event.TheVariants as event
-use Rattle.hac_model.specs.declared.states.Body.{Body}
 use Rattle.hac_model.specs.declared.states.Entry.{Entry}
 use Rattle.hac_model.specs.declared.states.State.{State}
 use Rattle.hac_model.proofs.AcyclicLemmas.{apply-valid}
@@ -25,18 +24,14 @@ use Rattle.hac_model.proofs.TreeLemmas.{Lives, entry_at-number}
 use Rattle.hac_model.proofs.ValidLemmas.{accepted-parts, move-parts}
 use Rattle.hac_model.proofs.ViewLemmas.{seen-changed, seen-kept}
 use Rattle.reeval.proofs.AskOwes.{put-alike, put-answers}
-use Rattle.reeval.proofs.EventLemmas.{FactsAlike, ItemSeen, Owes, item-lives, item_in, query_of, same-facts}
+use Rattle.reeval.proofs.EventLemmas.{FactsAlike, ItemSeen, Owes, item-lives, item_in, query_of, same-facts, unseen}
 use Rattle.reeval.proofs.OweLemmas.{none-of, put-other}
-use Rattle.reeval.proofs.StayLemmas.{StayUp, StaysIn, below-stays}
+use Rattle.reeval.proofs.StayLemmas.{StayUp, below-stays}
 
--- what can't be linked is no item, wherever it is
-hidden : (dir : ℕ) (name : List ℕ) (o : Option Entry) → option_map_or is_linkable (option_map (λ (e : Entry). e.body) o) false ≡ false → item_in o ≡ item_in (option_map (reseated dir name) o)
-hidden dir name None plain = refl
-hidden dir name (Some e) plain =
-    none e plain ∙ sym (none (reseated dir name e) plain)
-  where
-    none : (x : Entry) → is_linkable x.body ≡ false → item_in (Some x) ≡ None
-    none x plain = ap (λ (b : Bool). if b then Some (record { document = is_document x.body; text = shown_text x.body; parent = x.parent }) else None) plain
+-- what can't be linked isn't seen, wherever it is
+moved-unseen : (dir : ℕ) (name : List ℕ) (o : Option Entry) → option_map_or is_linkable (option_map (λ (e : Entry). e.body) o) false ≡ false → item_in o ≡ item_in (option_map (reseated dir name) o)
+moved-unseen dir name None plain = refl
+moved-unseen dir name (Some e) plain = unseen (Some e) plain ∙ sym (unseen (Some (reseated dir name e)) plain)
 
 module _ (s : State) (item : ℕ) (h : IsValid s) (entry dir : ℕ) (name : List ℕ) (ok : IsTrue (accepted s (event.Mv entry dir name))) (untouched : touches s (event.Mv entry dir name) item ≡ false) where
   abbrev t : State
@@ -64,7 +59,7 @@ module _ (s : State) (item : ℕ) (h : IsValid s) (entry dir : ℕ) (name : List
       at : (b : Bool) → (item == entry) ≡ b → item_in (entry_at s.entries item) ≡ put_at (λ n. item_in (entry_at s.entries n)) entry moved item
       at false other = put-other (λ n. item_in (entry_at s.entries n)) entry moved item other
       at true here =
-          hidden dir name (entry_at s.entries item) (plain (is_item s item) here refl)
+          moved-unseen dir name (entry_at s.entries item) (plain (is_item s item) here refl)
           ∙ ap (λ (n : ℕ). item_in (option_map (reseated dir name) (entry_at s.entries n))) (eqb-true item entry here)
           ∙ sym (ap (λ (b : Bool). if b then moved else item_in (entry_at s.entries item)) here)
 
@@ -92,8 +87,7 @@ module _ (s : State) (item : ℕ) (h : IsValid s) (entry dir : ℕ) (name : List
   move-up : StayUp s t (λ n. is_inside s n entry ≡ false)
   move-up n e stays found =
       let parts = or_parts (n == entry) (extends (path_of s n) (path_of s entry)) stays in
-      let other : (e.number == entry) ≡ false = ap (λ (m : ℕ). m == entry) (entry_at-number s.entries n e found) ∙ parts.0 in
-      (
+      let other : (e.number == entry) ≡ false = ap (λ (m : ℕ). m == entry) (entry_at-number s.entries n e found) ∙ parts.0 in (
         record {
           entry = touched entry (reseated dir name) e;
           found = entry_at-changed entry (reseated dir name) s.entries n (λ e. refl) ∙ ap (option_map (touched entry (reseated dir name))) found;

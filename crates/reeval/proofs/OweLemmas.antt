@@ -1,8 +1,8 @@
 -- What entries and facts are after changes, where they stay as they were.
-use Rattle.std.proofs.Common.{◌≡◌, ℕ, ◌<◌, Bool, true, false, List, [], ◌∷◌, ◌++◌, length, map, subst, refl, ap, sym, ◌∙◌, arith, eq-eqb, inl, inr}
-use Rattle.std.specs.Prelude.{◌==◌, ◌||◌, drop, filter, if◌then◌else◌, not, Option, Some, None, is_some, option_and_then}
+use Rattle.std.proofs.Common.{◌≡◌, ℕ, ◌<◌, Bool, true, false, List, [], ◌∷◌, length, subst, refl, ap, sym, ◌∙◌, arith}
+use Rattle.std.specs.Prelude.{◌==◌, ◌||◌, drop, filter, if◌then◌else◌, not, Option, Some, None}
 use Rattle.std.specs.List.{AllByRecursion}
-use Rattle.std.specs.Option.{option_map, option_map_or}
+use Rattle.std.specs.Option.{option_map}
 use Rattle.std.proofs.lemmas.Bool.{and_parts, eqb-true, ne_eqb}
 use Rattle.hac_model.specs.Query.Formula.{Formula}
 use Rattle.hac_model.specs.Query.Queries.{terms_of}
@@ -14,18 +14,18 @@ use Rattle.hac_model.specs.Tree.Links.{parent_of}
 use Rattle.hac_model.specs.Tree.Mounting.{answers_to, forgetting_such, is_document_of, keeping}
 use Rattle.hac_model.specs.Tree.Mounts.{in_order, is_kept, kept_for}
 use Rattle.hac_model.specs.Tree.Valid.{IsLayout, IsValid}
-use Rattle.hac_model.specs.Tree.{body_at, entry_at, is_document_at, is_mount, is_mount_at, query_in}
+use Rattle.hac_model.specs.Tree.{entry_at, is_document_at, is_mount, is_mount_at, query_in}
 use Rattle.hac_model.specs.declared.marks.Kind.{Kind}
 use Rattle.hac_model.specs.declared.marks.Kind.TheVariants.{Transient, Permanent, Prohibited, Unlinked}
 use Rattle.hac_model.specs.declared.states.Answer.{Answer}
 use Rattle.hac_model.specs.declared.states.Body.{Body}
-use Rattle.hac_model.specs.declared.states.Body.TheVariants.{File, Dir, Symlink, Semantic, Mount, Document}
+use Rattle.hac_model.specs.declared.states.Body.TheVariants.{File, Dir, Semantic, Mount}
 use Rattle.hac_model.specs.declared.states.Entry.{Entry}
 use Rattle.hac_model.specs.declared.states.State.{State}
 use Rattle.hac_model.specs.declared.terms.Term.{Term}
 use Rattle.hac_model.proofs.ChangeLemmas.{entry_at-append, entry_at-changed, touched, touched-keeps}
 use Rattle.hac_model.proofs.TermLemmas.{same-even}
-use Rattle.hac_model.proofs.TreeLemmas.{entry_at-below, entry_at-next}
+use Rattle.hac_model.proofs.TreeLemmas.{entry_at-below}
 use Rattle.reeval.proofs.EventLemmas.{item_of}
 use Rattle.reeval.proofs.LeaveLemmas.{body-entry, document-home}
 use Rattle.reeval.proofs.StayLemmas.{ParentsStay, StaysIn}
@@ -204,9 +204,6 @@ unanswered-new answers (term ∷ terms) told =
     first none rest [] = tt
     first none rest (numbers ∷ told) = (none, rest told)
 
-none-told : (answers : List Answer) (told : List (List ℕ)) → AreNew answers (answers_to [] told)
-none-told answers told = tt
-
 gained-new : (kept : ℕ → List Answer) (asked : Formula ℕ) (told : List (List ℕ)) (es : List Entry) (n : ℕ) → AreNew (kept n) (gained kept asked told es n)
 gained-new kept asked told [] n = tt
 gained-new kept asked told (e ∷ es) n =
@@ -218,7 +215,7 @@ gained-new kept asked told (e ∷ es) n =
     own : AreNew (kept e.number) (answers_to (asked_by kept asked e) told)
     own = elim (is_mount e.body) as (λ b. AreNew (kept e.number) (answers_to (if b then unanswered asked (kept e.number) else []) told)) [
       | true ↦ unanswered-new (kept e.number) (in_order (terms_of asked)) told
-      | false ↦ none-told (kept e.number) told
+      | false ↦ tt
     ]
 
 pub told-kept : (kept : ℕ → List Answer) (asked : Formula ℕ) (told : List (List ℕ)) (es : List Entry) (n : ℕ) (term : Term) → is_kept (kept n) term ≡ true →

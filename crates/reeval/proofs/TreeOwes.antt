@@ -1,42 +1,33 @@
 -- What events owe that add, edit or remove one entry.
-use Rattle.std.proofs.Common.{◌≡◌, ℕ, ◌<◌, Bool, true, false, List, [], ◌∷◌, ◌++◌, map, subst, refl, ap, sym, ◌∙◌, eq-eqb, inl, inr}
-use Rattle.std.specs.Prelude.{◌==◌, ◌&&◌, ◌||◌, filter, if◌then◌else◌, nat_lt, not, Option, Some, None, IsTrue, is_some, option_and_then}
+use Rattle.std.proofs.Common.{◌≡◌, ℕ, Bool, true, false, List, map, refl, ap, sym, ◌∙◌}
+use Rattle.std.specs.Prelude.{◌==◌, ◌&&◌, if◌then◌else◌, not, Option, Some, None, IsTrue, is_some}
 use Rattle.std.specs.Option.{option_map, option_map_or}
-use Rattle.std.proofs.lemmas.Bool.{eqb-false, eqb-true, ne_eqb}
-use Rattle.hac_model.specs.Query.Formula.{Formula}
-use Rattle.hac_model.specs.Tree.Asking.{gained, gaining, with_answers, with_told}
-use Rattle.hac_model.specs.Tree.Depends.{depends, named_in}
-use Rattle.hac_model.specs.Tree.Events.{accepted, added, apply, asking, changed_at, edited, forgetting, forgotten, indexed, is_possible, marked, next_dirty, plain_body, put_in, removed, rewritten, without}
-use Rattle.hac_model.specs.Tree.Facts.{Facts, Marks, edges_to, facts_after, facts_of, facts_told, facts_with, no_facts, put_at, with_mark, without_item}
+use Rattle.std.proofs.lemmas.Bool.{ne_eqb}
+use Rattle.hac_model.specs.Tree.Events.{accepted, added, apply, changed_at, edited, forgetting, forgotten, indexed, is_possible, next_dirty, plain_body, removed, rewritten, without}
+use Rattle.hac_model.specs.Tree.Facts.{Facts, facts_after, facts_of, no_facts}
 use Rattle.hac_model.specs.Tree.Limits.{passed_limit}
-use Rattle.hac_model.specs.Tree.Links.{answers_at, has, is_item, is_semantic, parent_of, query_at}
+use Rattle.hac_model.specs.Tree.Links.{has, is_semantic, query_at}
 use Rattle.hac_model.specs.Tree.Mounting.{is_document_of}
-use Rattle.hac_model.specs.Tree.Mounts.{is_kept, kept_for}
-use Rattle.hac_model.specs.Tree.Touched.{begins, touches}
-use Rattle.hac_model.specs.Tree.Valid.{IsValid}
-use Rattle.hac_model.specs.Tree.{body_at, entry_at, is_directory, is_directory_at, is_leaf, is_leaf_at, is_made_directory, is_mount, is_mount_at, query_in}
-use Rattle.hac_model.specs.declared.events.Event.{Event}
+use Rattle.hac_model.specs.Tree.Mounts.{kept_for}
+use Rattle.hac_model.specs.Tree.Touched.{touches}
+use Rattle.hac_model.specs.Tree.Valid.{IsLayout, IsValid}
+use Rattle.hac_model.specs.Tree.{entry_at, is_directory_at, is_leaf, is_leaf_at, is_made_directory, is_mount, is_mount_at, query_in}
 use Rattle.hac_model.specs.declared.events.Event.TheVariants as event
-use Rattle.hac_model.specs.declared.marks.Kind.{Kind}
-use Rattle.hac_model.specs.declared.marks.Kind.TheVariants.{Transient, Permanent, Prohibited, Unlinked}
-use Rattle.hac_model.specs.declared.marks.Mark.{Mark}
-use Rattle.hac_model.specs.declared.states.Answer.{Answer}
 use Rattle.hac_model.specs.declared.states.Body.{Body}
 use Rattle.hac_model.specs.declared.states.Body.TheVariants.{File, Dir, Symlink, Semantic, Mount, Document}
 use Rattle.hac_model.specs.declared.states.Entry.{Entry}
-use Rattle.hac_model.specs.declared.states.Session.{Session}
 use Rattle.hac_model.specs.declared.states.State.{State}
-use Rattle.hac_model.specs.declared.terms.Term.{Term}
 use Rattle.hac_model.proofs.AcyclicLemmas.{apply-valid}
-
+use Rattle.hac_model.proofs.ChangeLemmas.{or-right}
+use Rattle.hac_model.proofs.PathLemmas.{root-none}
+use Rattle.hac_model.proofs.TreeLemmas.{directory-no_item}
 use Rattle.hac_model.proofs.MapLemmas.{entry_at-mapped}
-use Rattle.hac_model.proofs.MarkLemmas.{has-filter, has-put_in}
+use Rattle.hac_model.proofs.MarkLemmas.{has-filter}
 use Rattle.hac_model.proofs.ValidLemmas.{accepted-parts, rmdir-parts}
 use Rattle.hac_model.proofs.ViewLemmas.{put-same, seen-added, seen-changed, seen-kept, seen-plain, seen-removed}
-use Rattle.reeval.proofs.EventLemmas.{FactsAlike, Owes, item_in, item_of, owed-below, query_of, same-facts}
-use Rattle.reeval.proofs.LeaveLemmas.{body-entry}
-use Rattle.reeval.proofs.OweLemmas.{AllStayIn, added-stay, all-parents, all-then, edited-stay, forgetting-item, forgetting-query, gaining-item, gaining-query, indexed-query, marked-item, marked-query, mount-other, none-of, own-mount, parents-then, plain-item, put-other, rewritten-item, rewritten-query, told-kept, asking-item}
-use Rattle.reeval.proofs.StayLemmas.{ParentsStay, StaysIn}
+use Rattle.reeval.proofs.EventLemmas.{Owes, item_in, owed-below, query_of, same-facts, unseen}
+use Rattle.reeval.proofs.OweLemmas.{AllStayIn, added-stay, all-parents, edited-stay, forgetting-item, forgetting-query, indexed-query, none-of, own-mount, parents-then, plain-item, put-other, rewritten-item, rewritten-query}
+use Rattle.reeval.proofs.StayLemmas.{ParentsStay}
 
 -- all entries stay where nothing changes
 same-stay : (s : State) → AllStayIn s s
@@ -125,21 +116,9 @@ module _ (s : State) (item : ℕ) (h : IsValid s) where
 
 -- Entries that go.
 
--- what is a directory is no item
-pub directory-hidden : (s : State) (d : ℕ) → is_made_directory s.entries d ≡ true → item_in (entry_at s.entries d) ≡ None
-directory-hidden s d is = at (entry_at s.entries d) is
-  where
-    body : (dir : ℕ) (b : Body) → is_directory b ≡ true → item_of dir b ≡ None
-    body dir (File text dirty shown) is = absurd cc
-    body dir Dir is = refl
-    body dir (Symlink target) is = absurd cc
-    body dir (Semantic asked permanent prohibited) is = refl
-    body dir (Mount space answers) is = refl
-    body dir Document is = absurd cc
-
-    at : (o : Option Entry) → option_map_or is_directory (option_map (λ (e : Entry). e.body) o) false ≡ true → item_in o ≡ None
-    at None is = refl
-    at (Some e) is = body e.parent e.body is
+-- a directory isn't seen as an item
+pub directory-unseen : (s : State) (d : ℕ) → IsLayout s → is_directory_at s.entries d ≡ true → item_in (entry_at s.entries d) ≡ None
+directory-unseen s d h there = unseen (entry_at s.entries d) (directory-no_item s.entries d (root-none s h) there)
 
 -- a leaf has no query
 leaf-asks_nothing : (s : State) (n : ℕ) → is_leaf_at s.entries n ≡ true → query_at s n ≡ None
@@ -220,7 +199,7 @@ module _ (s : State) (item : ℕ) (h : IsValid s) where
   rmdir-owes dir ok =
       let parts = rmdir-parts s dir (accepted-parts (is_possible s (event.Rmdir dir)) (passed_limit (apply s (event.Rmdir dir))) ok).0 in
       record {
-        sight = sym (put-same (λ n. item_in (entry_at s.entries n)) dir None item (sym (directory-hidden s dir parts.0))) ∙ sym (seen-removed item_in s.entries dir item);
+        sight = sym (put-same (λ n. item_in (entry_at s.entries n)) dir None item (sym (directory-unseen s dir h.layout (or-right (dir == 0) (is_made_directory s.entries dir) parts.0)))) ∙ sym (seen-removed item_in s.entries dir item);
         queries = λ d still. put-other (query_at s) dir None d (none-of false false (d == dir) still).2 ∙ sym (seen-removed query_of s.entries dir d);
         facts = λ is d still. same-facts item (facts_of s d) (facts_after (event.Rmdir dir) s (facts_of s) d) (put-other (facts_of s) dir no_facts d (none-of false false (d == dir) still).2);
         answers = λ mount own term known. ap (λ (f : Facts). kept_for f.answers term) (put-other (facts_of s) dir no_facts mount (apart-mount mount dir own parts.4));
