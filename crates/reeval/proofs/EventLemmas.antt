@@ -86,7 +86,7 @@ unseen None plain = refl
 unseen (Some e) plain = ap (λ (b : Bool). if b then Some (record { document = is_document e.body; text = shown_text e.body; parent = e.parent }) else None) plain
 
 -- a document can be linked
-pub document-item : (s : State) (item : ℕ) → is_document_at s.entries item ≡ true → is_item s item ≡ true
+document-item : (s : State) (item : ℕ) → is_document_at s.entries item ≡ true → is_item s item ≡ true
 document-item s item is = at (entry_at s.entries item) is
   where
     body : (b : Body) → is_document b ≡ true → is_linkable b ≡ true

@@ -29,7 +29,7 @@ use Rattle.hac_model.proofs.TreeLemmas.{entry_at-all, place-directory}
 use Rattle.reeval.specs.Judging.{JudgesAlike, LeavesAlike, ProvidesAlike, judgement}
 use Rattle.reeval.proofs.AlikeLemmas.{SameInputs, depends-asked, judge-across, none-across}
 
-pub always : {X : Type 0} (P : X → Type 0) → ((x : X) → P x) → (xs : List X) → AllByRecursion P xs
+always : {X : Type 0} (P : X → Type 0) → ((x : X) → P x) → (xs : List X) → AllByRecursion P xs
 always P each [] = tt
 always P each (x ∷ xs) = (each x, always P each xs)
 
@@ -44,7 +44,7 @@ body-entry test es n h = at (entry_at es n) refl h
     at (Some e) found h = (e, found, h)
 
 -- the entry of a directory with a query
-pub query-entry : (s : State) (dir : ℕ) (asked : Formula ℕ) → query_at s dir ≡ Some asked → (e : Entry) × (entry_at s.entries dir ≡ Some e) × (query_in e.body ≡ Some asked)
+query-entry : (s : State) (dir : ℕ) (asked : Formula ℕ) → query_at s dir ≡ Some asked → (e : Entry) × (entry_at s.entries dir ≡ Some e) × (query_in e.body ≡ Some asked)
 query-entry s dir asked h = at (entry_at s.entries dir) refl h
   where
     at : (o : Option Entry) → entry_at s.entries dir ≡ o → option_and_then query_in (option_map (λ (e : Entry). e.body) o) ≡ Some asked → (e : Entry) × (entry_at s.entries dir ≡ Some e) × (query_in e.body ≡ Some asked)

@@ -136,7 +136,7 @@ leaf-asks_nothing s n is = at (entry_at s.entries n) is
     at None is = refl
     at (Some e) is = body e.body is
 
-pub removed-parents : (s : State) (k : ℕ) → ParentsStay s (removed s k)
+removed-parents : (s : State) (k : ℕ) → ParentsStay s (removed s k)
 removed-parents s k n e f before after = at (n == k) refl (sym (seen-removed (λ (o : Option Entry). o) s.entries k n) ∙ after)
   where
     at : (b : Bool) → (n == k) ≡ b → (if n == k then None else entry_at s.entries n) ≡ Some f → f.parent ≡ e.parent
