@@ -5,3 +5,13 @@ pub mod SettleLemmas
 pub mod ApplyLemmas
 pub mod SeveralLemmas
 pub mod LinkedLemmas
+pub mod AlikeLemmas
+pub mod LeaveLemmas
+pub mod StayLemmas
+pub mod EventLemmas
+pub mod OweLemmas
+pub mod TreeOwes
+pub mod AskOwes
+pub mod MoveOwes
+pub mod MountOwes
+pub mod EventsLeave
