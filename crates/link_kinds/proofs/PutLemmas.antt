@@ -19,7 +19,7 @@ nat-less x y e =
       | inr (inr more) ↦ absurd (let not_it = nat_cmp_is x y Greater more in cc)
     ]
 
-sorted-rise : (xs : List ℕ) → IsStrictlySortedBy nat_cmp xs → Rises xs
+pub sorted-rise : (xs : List ℕ) → IsStrictlySortedBy nat_cmp xs → Rises xs
 unfolding IsStrictlySortedBy
 sorted-rise [] h = tt
 sorted-rise (x ∷ xs) h = (all-weaker (λ y. nat_cmp x y ≡ Less) (λ y. x < y) (λ y less. nat-less x y less) xs h.0, sorted-rise xs h.1)

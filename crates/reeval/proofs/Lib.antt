@@ -1,0 +1,17 @@
+pub mod JudgeLemmas
+pub mod MeaningLemmas
+pub mod ToldLemmas
+pub mod SettleLemmas
+pub mod ApplyLemmas
+pub mod SeveralLemmas
+pub mod LinkedLemmas
+pub mod AlikeLemmas
+pub mod LeaveLemmas
+pub mod StayLemmas
+pub mod EventLemmas
+pub mod OweLemmas
+pub mod TreeOwes
+pub mod AskOwes
+pub mod MoveOwes
+pub mod MountOwes
+pub mod EventsLeave

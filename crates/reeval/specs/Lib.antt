@@ -1,0 +1,5 @@
+pub mod Judging
+pub mod Told
+pub mod Routes
+pub mod Settled
+pub mod Laws

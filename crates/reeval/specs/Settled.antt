@@ -1,0 +1,34 @@
+-- What is known once several items are settled, and links once all that is new is put.
+use Rattle.std.specs.Prelude.{◌≡◌, ◌+◌, ◌≤◌, ℕ, IsTrue, List, [], ◌∷◌, length}
+use Rattle.std.specs.List.{AllByRecursion}
+use Rattle.hac_model.specs.Tree.Depends.{Among}
+use Rattle.hac_model.specs.Tree.Links.{links}
+use Rattle.hac_model.specs.declared.states.State.{State}
+use Rattle.link_kinds.specs.Seen.{Known, has_sets, lent_in, transient_in}
+use Rattle.set_pool.specs.Rising.{is_among}
+use Rattle.reeval.specs.Judging.{verdict_of}
+use Rattle.reeval.specs.Routes.{Covers}
+use Rattle.reeval.specs.Told.{news_on, told}
+use Rattle.reeval.specs.declared.settling.Stop.{Stop}
+use Rattle.reeval.specs.declared.verdicts.Change.{Change}
+use Rattle.reeval.specs.declared.verdicts.Verdict.{Verdict}
+
+-- from one list of news to the next these items are settled, and nothing is new of any other
+pub record SettlesAll (s t : State) (stops : List Stop) (items : List ℕ) (old new : List Change) : Type 0 where
+  pub settled : (item : ℕ) → Among items item → news_on item old ≡ [] → Covers s t stops item →
+      (dir : ℕ) → told (news_on item new) (verdict_of s item) dir ≡ verdict_of t item dir
+  pub others : (item : ℕ) → ¬ Among items item → news_on item new ≡ news_on item old
+
+-- what is kept of an item in a directory
+abbrev pub verdict_in : Known → ℕ → ℕ → Verdict
+verdict_in known item dir = record { found = is_among item (transient_in known dir); lent = is_among item (lent_in known dir) }
+
+-- the links of the state are kept
+pub record AreLinksOf (s : State) (known : Known) : Type 0 where
+  pub found : (dir : ℕ) → transient_in known dir ≡ (links s dir).found
+  pub lent : (dir : ℕ) → lent_in known dir ≡ (links s dir).lent
+
+-- all of the news can be put without memory: two calls for each
+pub record HasRoom (known : Known) (news : List Change) : Type 0 where
+  pub sets : AllByRecursion (λ change. IsTrue (has_sets known change.dir)) news
+  pub spare : length news + length news ≤ known.spare

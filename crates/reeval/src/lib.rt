@@ -1,0 +1,17 @@
+//! How links change: which verdicts on an item a change of the state calls for, given the links that
+//! were known before. It knows no tree and no index: its caller says what the next state tells.
+#![tactic(auto)]
+
+mod applying;
+mod before;
+mod judging;
+pub mod laws;
+mod layout;
+mod settling;
+mod verdicts;
+
+pub use applying::{apply, reserve};
+pub use before::Before;
+pub use layout::Layout;
+pub use settling::{Stop, settle, settle_all};
+pub use verdicts::{Change, Verdict};

@@ -1,0 +1,151 @@
+//! The new verdicts on one item.
+ghost use Rattle.std.specs.Prelude.{◌≡◌, ◌||◌, ◌&&◌, ◌==◌, ℕ, IfOk, OnOk, if◌then◌else◌, not, true};
+ghost use Rattle.std.specs.List.{list_all, list_any};
+ghost use Rattle.std.proofs.Math.Bool.{beq};
+ghost use Rattle.dep_graph.specs.Searches.{EachOnce};
+ghost use Rattle.hac_model.specs.Tree.Links.{atom, column, has, links, provide};
+ghost use Rattle.reeval.specs.Judging.{is_linked, judgement, verdict_of};
+ghost use Rattle.reeval.specs.Routes.{Covers};
+ghost use Rattle.reeval.specs.Settled.{SettlesAll};
+ghost use Rattle.reeval.specs.Told.{is_on, told};
+
+use crate::before::Before;
+use crate::judging::Sight;
+use crate::layout::Layout;
+use crate::verdicts::Change;
+use hac_model::{Member, Memory, Number};
+use query_eval::Atoms;
+use std::alloc::Global;
+
+/// A directory at which an item may have to be judged again.
+#[derive(Clone, Copy, Debug)]
+pub struct Stop {
+    /// The directory.
+    pub dir: Number,
+    /// It has to be in any case, and not only if one on which it depends provides the item now and
+    /// didn't before, or the other way round.
+    pub begins: bool,
+}
+
+/// The verdicts on an item that are new in the next state. The stops come in an order in which each
+/// is behind those on which it depends; wherever judging may change, it stops.
+pub fn settle<Y: Layout, A: Atoms, B: Before>(
+    alloc: Global,
+    layout: &Y,
+    atoms: &A,
+    before: &B,
+    stops: &[Stop],
+    item: Number,
+) -> Result<Vec<Change>, Memory>
+    ensures own { IfOk result (λ news. list_all (is_on item) news.items ≡ true) }
+    ensures news { A.atoms atoms.now ≡ atom (Y.state layout.now)
+        → Covers (B.state before.now) (Y.state layout.now) stops.now item
+        → IfOk result (λ news. (dir : ℕ) → told news.items (verdict_of (B.state before.now) item) dir
+        ≡ verdict_of (Y.state layout.now) item dir) }
+{
+    let mut news = Vec::new(alloc);
+    let mut moved = Vec::new(alloc);
+    for stop in stops {
+        if stop.begins || leans_on(layout.depends(stop.dir), moved.as_slice()) {
+            judge_anew(layout, atoms, before, stop.dir, item, &mut news)?;
+            note_move(
+                layout,
+                atoms,
+                before,
+                news.as_slice(),
+                stop.dir,
+                item,
+                &mut moved,
+            )?;
+        }
+    }
+    Ok(news)
+}
+
+/// Settles several items, each by itself and each once: adds what is new of them to the changes. No
+/// links of an item depend on those of another.
+pub fn settle_all<Y: Layout, A: Atoms, B: Before>(
+    alloc: Global,
+    layout: &Y,
+    atoms: &A,
+    before: &B,
+    stops: &[Stop],
+    items: &[Number],
+    delta: &mut Vec<Change>,
+) -> Result<(), Memory>
+    requires { EachOnce items.now }
+    ensures { OnOk result (A.atoms atoms.now ≡ atom (Y.state layout.now)
+        → SettlesAll (B.state before.now) (Y.state layout.now) stops.now items.now
+        delta.old.items delta.new.items) }
+{
+    for item in items {
+        let news = settle(alloc, layout, atoms, before, stops, *item)?;
+        delta.extend_from_slice(news.as_slice())?;
+    }
+    Ok(())
+}
+
+/// Whether one of these directories is among those that moved.
+fn leans_on(dirs: &[Number], moved: &[Number]) -> bool
+    ensures { result ≡ list_any (has moved.now) dirs.now }
+{
+    dirs.iter().any(|dir| moved.contains(dir))
+}
+
+/// Judges an item in a directory, and adds what it says to the news if that is new.
+fn judge_anew<Y: Layout, A: Atoms, B: Before>(
+    layout: &Y,
+    atoms: &A,
+    before: &B,
+    dir: Number,
+    item: Number,
+    news: &mut Vec<Change>,
+) -> Result<(), Memory>
+    ensures own { OnOk result (list_all (is_on item) news.old.items ≡ true
+        → list_all (is_on item) news.new.items ≡ true) }
+    ensures news { OnOk result (A.atoms atoms.now ≡ atom (Y.state layout.now)
+        → (d : ℕ) → told news.new.items (verdict_of (B.state before.now) item) d
+        ≡ (if d == dir then judgement (Y.state layout.now)
+        (is_linked (told news.old.items (verdict_of (B.state before.now) item))) item dir
+        else told news.old.items (verdict_of (B.state before.now) item) d)) }
+{
+    let sight = Sight {
+        layout,
+        atoms,
+        before,
+        news: news.as_slice(),
+    };
+    let verdict = sight.judge(dir, item);
+    if !verdict.is_same(sight.verdict(dir, item)) {
+        news.push(Change { dir, item, verdict })?;
+    }
+    Ok(())
+}
+
+/// Adds a directory to those that moved, if it provides the item now and didn't before, or the other
+/// way round.
+fn note_move<Y: Layout, A: Atoms, B: Before>(
+    layout: &Y,
+    atoms: &A,
+    before: &B,
+    news: &[Change],
+    dir: Number,
+    item: Number,
+    moved: &mut Vec<Number>,
+) -> Result<(), Memory>
+    ensures { OnOk result ((d : ℕ) → has moved.new.items d ≡ (has moved.old.items d || (dir == d
+        && not (beq (provide (B.state before.now) (column (links (B.state before.now)) item) dir item)
+        (provide (Y.state layout.now)
+        (is_linked (told news.now (verdict_of (B.state before.now) item))) dir item))))) }
+{
+    let sight = Sight {
+        layout,
+        atoms,
+        before,
+        news,
+    };
+    if before.provides(dir, item) != sight.within(dir, item) {
+        moved.push(dir)?;
+    }
+    Ok(())
+}
