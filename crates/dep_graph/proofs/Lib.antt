@@ -4,3 +4,5 @@ pub mod OwedLemmas
 pub mod ReachLemmas
 pub mod StepLemmas
 pub mod ReferLemmas
+pub mod NextLemmas
+pub mod ConeLemmas

@@ -257,7 +257,7 @@ ordering-ends edges dirs done seen steps given none = record {
 
 -- ---- visits
 
-pub visits-on : (edges : ℕ → List ℕ) (dirs done : List ℕ) (old new : ℕ → Bool) (n : ℕ) (before after : List Step) → NeverReturns edges → Ordering edges dirs done old (Enter n ∷ before) → Visits edges n old new before after → Ordering edges dirs done new after
+pub visits-on : (edges : ℕ → List ℕ) (dirs done : List ℕ) (old new : ℕ → Bool) (n : ℕ) (before after : List Step) → NeverReturns edges → Ordering edges dirs done old (Enter n ∷ before) → Visits (edges n) n old new before after → Ordering edges dirs done new after
 visits-on edges dirs done old new n before after never h (inl passed) = subst (λ (s : List Step). Ordering edges dirs done new s) (sym passed.2) (passes-by edges dirs done old new n before never h passed.0 passed.1)
 visits-on edges dirs done old new n before after never h (inr opened) = subst (λ (s : List Step). Ordering edges dirs done new s) (sym opened.3) (opens-on edges dirs done old new n before h opened.0 opened.1 opened.2)
 
@@ -266,7 +266,7 @@ length-entering [] steps = omega arith
 length-entering (n ∷ ns) steps = length-entering ns (Enter n ∷ steps) ∙ omega arith
 
 -- what is put onto the stack was owed
-pub visits-less : (nodes : List (ℕ × List ℕ)) (old new : ℕ → Bool) (n : ℕ) (before after : List Step) → Visits (λ q. edges_at nodes q) n old new before after → owed nodes new + length after ≤ owed nodes old + length before
+pub visits-less : (nodes : List (ℕ × List ℕ)) (old new : ℕ → Bool) (n : ℕ) (before after : List Step) → Visits (edges_at nodes n) n old new before after → owed nodes new + length after ≤ owed nodes old + length before
 visits-less nodes old new n before after (inl passed) = omega (arith, owed-less nodes old new (λ q is. passed.1 q ∙ is), ap (λ (s : List Step). length s) passed.2)
 visits-less nodes old new n before after (inr opened) =
     elim (owed-marked nodes n old new opened.2 opened.1) as (λ _. owed nodes new + length after ≤ owed nodes old + length before) [

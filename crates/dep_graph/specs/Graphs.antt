@@ -1,6 +1,7 @@
 -- What callers see of a graph.
-use Rattle.std.specs.Prelude.{ℕ, ◌==◌, if◌then◌else◌, List, [], ◌∷◌, Option, drop, refl}
+use Rattle.std.specs.Prelude.{ℕ, ◌==◌, if◌then◌else◌, List, [], ◌∷◌, Option, None, Some, drop, refl}
 use Rattle.std.specs.Coded.{Coded, code_by, coded×, coded_list, coded_option, coded_ℕ}
+use Rattle.dep_graph.specs.declared.graph.NewEdges.{NewEdges}
 
 -- the directories with the edges of each, and which of them is ready for new ones
 pub record Seen : Type 0 where
@@ -26,3 +27,8 @@ referred_by graph dir = drop 1 (edges_of graph dir)
 -- the edges, but for those of one directory
 abbrev pub replaced : (ℕ → List ℕ) → ℕ → List ℕ → ℕ → List ℕ
 replaced edges dir new from = if from == dir then new else edges from
+
+-- the edges as they will be once the new ones are set, if there are any
+abbrev pub edges_with : Seen → Option NewEdges → ℕ → List ℕ
+edges_with graph None = edges_of graph
+edges_with graph (Some next) = replaced (edges_of graph) next.dir next.edges.items

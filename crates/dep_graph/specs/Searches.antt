@@ -11,6 +11,10 @@ IsFirstToReach edges to (first ∷ numbers) found = ((found ≡ Some first) × R
 abbrev pub AnyReaches : (ℕ → List ℕ) → List ℕ → ℕ → Type 0
 AnyReaches edges numbers to = (from : ℕ) × (Among numbers from) × (Reaches edges from to)
 
+-- the number reaches some of the others
+abbrev pub ReachesAny : (ℕ → List ℕ) → ℕ → List ℕ → Type 0
+ReachesAny edges from numbers = (to : ℕ) × (Among numbers to) × (Reaches edges from to)
+
 -- no number comes twice
 abbrev pub EachOnce : List ℕ → Type 0
 EachOnce [] = Unit {0}
@@ -25,4 +29,10 @@ IsOrdered edges (first ∷ numbers) = ¬ Among numbers first × ((next : ℕ) �
 pub record AreSources (edges : ℕ → List ℕ) (dirs numbers : List ℕ) : Type 0 where
   pub reached : (number : ℕ) → Among numbers number → (edges number ≢ []) × AnyReaches edges dirs number
   pub all : (number : ℕ) → edges number ≢ [] → AnyReaches edges dirs number → Among numbers number
+  pub ordered : IsOrdered edges numbers
+
+-- the numbers are those with edges that reach some of the directories, in order; so one of these that has no edges, as a plain directory, isn't among them
+pub record IsCone (edges : ℕ → List ℕ) (dirs numbers : List ℕ) : Type 0 where
+  pub reached : (number : ℕ) → Among numbers number → (edges number ≢ []) × ReachesAny edges number dirs
+  pub all : (number : ℕ) → edges number ≢ [] → ReachesAny edges number dirs → Among numbers number
   pub ordered : IsOrdered edges numbers

@@ -1,7 +1,8 @@
 //! The graph itself, what it says of a directory, and its changes. Those that may want memory are
 //! prepared.
 ghost use Rattle.std.specs.Prelude.{◌≡◌, ℕ, [], Some, None, IfOk, OnOk, OnErr};
-ghost use Rattle.dep_graph.specs.Graphs.{edges_of, replaced};
+ghost use Rattle.std.specs.Option.{option_copied};
+ghost use Rattle.dep_graph.specs.Graphs.{edges_of, edges_with, replaced};
 
 use crate::nodes::{self, Nodes};
 use hac_model::{Memory, Number};
@@ -61,6 +62,16 @@ impl Graph {
         ensures { result.now ≡ edges_of self.now dir }
     {
         nodes::edges_at(&self.nodes, dir)
+    }
+
+    /// The edges of a directory as they will be once the next ones are set, if there are any.
+    pub(crate) fn edges_with<'a>(&'a self, next: Option<&'a NewEdges>, dir: Number) -> &'a [Number]
+        ensures { result.now ≡ edges_with self.now (option_copied next.entry) dir }
+    {
+        match next {
+            Some(next) if next.dir == dir => next.edges.as_slice(),
+            _ => self.edges(dir),
+        }
     }
 
     /// Prepares new edges of a directory. No edge changes, whatever the answer.

@@ -1,8 +1,9 @@
 //! Which directories depend on which, as numbers with lists of edges: which edges would close a
-//! cycle, which directories refer to one, and in what order links are found. It knows no tree, no
-//! query and no link, and not why a directory has its edges.
+//! cycle, which directories refer to one, and in what order links are found or found anew. It knows
+//! no tree, no query and no link, and not why a directory has its edges.
 #![tactic(auto)]
 
+mod cones;
 mod cycles;
 mod graph;
 pub mod laws;

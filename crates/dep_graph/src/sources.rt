@@ -1,12 +1,13 @@
 //! What directories depend on, in an order in which each can be looked at once.
 ghost use Rattle.std.specs.Prelude.{◌≡◌, nat_eq, IfOk, OnOk};
+ghost use Rattle.std.specs.Option.{option_copied};
 ghost use Rattle.hac_model.specs.Tree.Depends.{NeverReturns};
 ghost use Rattle.indexmap.specs.IndexSet.{contains};
-ghost use Rattle.dep_graph.specs.Graphs.{edges_of};
+ghost use Rattle.dep_graph.specs.Graphs.{edges_of, edges_with};
 ghost use Rattle.dep_graph.specs.Searches.{AreSources};
 ghost use Rattle.dep_graph.specs.Steps.{Visits, entering};
 
-use crate::graph::Graph;
+use crate::graph::{Graph, NewEdges};
 use hac_model::{Memory, Number, Pile};
 use indexmap::IndexSet;
 
@@ -26,36 +27,51 @@ impl Graph {
         requires { NeverReturns (edges_of self.now) }
         ensures { IfOk result (λ numbers. AreSources (edges_of self.now) dirs.now numbers.items) }
     {
+        self.sources_with(None, dirs)
+    }
+
+    /// The same as it will be once the next edges are set, if there are any.
+    pub(crate) fn sources_with(
+        &self,
+        next: Option<&NewEdges>,
+        dirs: &[Number],
+    ) -> Result<Vec<Number>, Memory>
+        requires { NeverReturns (edges_with self.now (option_copied next)) }
+        ensures { IfOk result (λ numbers.
+            AreSources (edges_with self.now (option_copied next.entry)) dirs.now numbers.items) }
+    {
         let mut done = Vec::new(self.alloc);
         let mut seen = IndexSet::new(self.alloc);
         let mut stack = Pile::new(self.alloc);
         enter(&mut stack, dirs)?;
         'stack: while let Some(step) = stack.pop() {
             match step {
-                Step::Enter(number) => self.visit(&mut seen, &mut stack, number)?,
+                Step::Enter(number) => {
+                    visit(&mut seen, &mut stack, number, self.edges_with(next, number))?
+                }
                 Step::Leave(number) => done.push(number)?,
             }
         }
         Ok(done)
     }
+}
 
-    /// Enters all to which a number leads, and leaves it behind them, if it wasn't seen before.
-    fn visit(
-        &self,
-        seen: &mut IndexSet<u64>,
-        stack: &mut Pile<Step>,
-        number: Number,
-    ) -> Result<(), Memory>
-        ensures { OnOk result (Visits (edges_of self.now) number (contains nat_eq seen.old)
-            (contains nat_eq seen.new) stack.old stack.new) }
-    {
-        let edges = self.edges(number);
-        if !edges.is_empty() && seen.insert(number.get())? {
-            stack.push(Step::Leave(number))?;
-            enter(stack, edges)?;
-        }
-        Ok(())
+/// Enters all to which the edges of a number lead, and leaves it behind them, if it has edges and
+/// wasn't seen before.
+fn visit(
+    seen: &mut IndexSet<u64>,
+    stack: &mut Pile<Step>,
+    number: Number,
+    edges: &[Number],
+) -> Result<(), Memory>
+    ensures { OnOk result (Visits edges.now number (contains nat_eq seen.old)
+        (contains nat_eq seen.new) stack.old stack.new) }
+{
+    if !edges.is_empty() && seen.insert(number.get())? {
+        stack.push(Step::Leave(number))?;
+        enter(stack, edges)?;
     }
+    Ok(())
 }
 
 /// Puts numbers onto a stack that are to be entered.
