@@ -15,3 +15,4 @@ pub mod AskOwes
 pub mod MoveOwes
 pub mod MountOwes
 pub mod EventsLeave
+pub mod PlanLemmas

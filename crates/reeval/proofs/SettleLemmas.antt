@@ -20,17 +20,17 @@ use Rattle.reeval.specs.declared.verdicts.Verdict.{Verdict}
 use Rattle.reeval.proofs.JudgeLemmas.{links-judged, verdicts-only}
 
 -- who is among numbers, as a test
-among-has : (ns : List ℕ) (n : ℕ) → Among ns n → has ns n ≡ true
+pub among-has : (ns : List ℕ) (n : ℕ) → Among ns n → has ns n ≡ true
 among-has ns n inside = any-among (λ other. other == n) ns n inside (eq-eqb n n refl)
 
-has-among : (ns : List ℕ) (n : ℕ) → has ns n ≡ true → Among ns n
+pub has-among : (ns : List ℕ) (n : ℕ) → has ns n ≡ true → Among ns n
 has-among [] n is = absurd cc
 has-among (m ∷ ns) n is = elim (m == n) as (λ b. (m == n) ≡ b → (b || has ns n) ≡ true → (m ≡ n) ⊎ Among ns n) [
   | true ↦ (λ same is. inl (eqb-true m n same))
   | false ↦ (λ other is. inr (has-among ns n is))
 ] refl is
 
-absent : (ns : List ℕ) (n : ℕ) → ¬ Among ns n → has ns n ≡ false
+pub absent : (ns : List ℕ) (n : ℕ) → ¬ Among ns n → has ns n ≡ false
 absent ns n out = elim (has ns n) as (λ b. has ns n ≡ b → b ≡ false) [ true ↦ (λ is. absurd (out (has-among ns n is))) | false ↦ (λ _. refl) ] refl
 
 -- what a directory says of an item looks at those on which it depends

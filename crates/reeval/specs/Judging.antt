@@ -9,6 +9,10 @@ use Rattle.reeval.specs.declared.verdicts.Verdict.{Verdict}
 abbrev pub verdict_of : State → ℕ → ℕ → Verdict
 verdict_of s item dir = record { found = has (links s dir).found item; lent = has (links s dir).lent item }
 
+-- the directory doesn't find the item, and it isn't lent to it
+abbrev pub no_verdict : Verdict
+no_verdict = record { found = false; lent = false }
+
 -- the item is found by the directory or lent to it, by verdicts on it in each directory
 abbrev pub is_linked : (ℕ → Verdict) → ℕ → Bool
 is_linked verdicts dir = (verdicts dir).found || (verdicts dir).lent

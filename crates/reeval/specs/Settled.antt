@@ -9,6 +9,7 @@ use Rattle.set_pool.specs.Rising.{is_among}
 use Rattle.reeval.specs.Judging.{verdict_of}
 use Rattle.reeval.specs.Routes.{Covers}
 use Rattle.reeval.specs.Told.{news_on, told}
+use Rattle.reeval.specs.declared.planning.Task.{Task}
 use Rattle.reeval.specs.declared.settling.Stop.{Stop}
 use Rattle.reeval.specs.declared.verdicts.Change.{Change}
 use Rattle.reeval.specs.declared.verdicts.Verdict.{Verdict}
@@ -18,6 +19,12 @@ pub record SettlesAll (s t : State) (stops : List Stop) (items : List ℕ) (old 
   pub settled : (item : ℕ) → Among items item → news_on item old ≡ [] → Covers s t stops item →
       (dir : ℕ) → told (news_on item new) (verdict_of s item) dir ≡ verdict_of t item dir
   pub others : (item : ℕ) → ¬ Among items item → news_on item new ≡ news_on item old
+
+-- the task has all items of which a directory may say something else in the second state, each with its way
+pub record IsPlanned (s t : State) (task : Task) : Type 0 where
+  pub touched : (item : ℕ) → Among task.touched.items item → Covers s t task.everywhere.items item
+  pub others : (item : ℕ) → Among task.others.items item → Covers s t task.along.items item
+  pub rest : (item : ℕ) → ¬ Among task.touched.items item → ¬ Among task.others.items item → (dir : ℕ) → verdict_of s item dir ≡ verdict_of t item dir
 
 -- what is kept of an item in a directory
 abbrev pub verdict_in : Known → ℕ → ℕ → Verdict

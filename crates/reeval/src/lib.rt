@@ -7,11 +7,13 @@ mod before;
 mod judging;
 pub mod laws;
 mod layout;
+mod planning;
 mod settling;
 mod verdicts;
 
 pub use applying::{apply, reserve};
 pub use before::Before;
 pub use layout::Layout;
+pub use planning::{Task, plan};
 pub use settling::{Stop, settle, settle_all};
 pub use verdicts::{Change, Verdict};
