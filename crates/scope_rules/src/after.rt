@@ -1,5 +1,5 @@
-//! The tree as it will be after an event, told by the tree before it. Nothing changes, and no memory
-//! is taken.
+//! The tree as it will be after an event, told by the tree before it. Nothing changes, and no
+//! memory is taken.
 ghost use Rattle.std.specs.Prelude.{◌≡◌, ◌==◌, ◌&&◌, ◌||◌, not, nat_le, nat_lt, IsTrue};
 ghost use Rattle.std.specs.List.{list_any};
 ghost use Rattle.std.specs.Option.{option_copied};
@@ -24,8 +24,8 @@ pub struct Scope<'a> {
     pub tree: &'a Tree,
     /// The event.
     pub event: &'a Event,
-    /// The number that the next entry will take.
-    pub next: Number,
+    // The number that the next entry will take.
+    next: Number,
 }
 
 impl<'a> Scope<'a> {
@@ -153,7 +153,8 @@ impl<'a> Scope<'a> {
 
     /// Whether the event brings the entry of a number.
     fn is_new(&self, number: Number) -> bool
-        ensures { result ≡ (nat_le self.now.tree.now.state.next number && nat_lt number self.now.next) }
+        ensures { result ≡
+            (nat_le self.now.tree.now.state.next number && nat_lt number self.now.next) }
     {
         self.tree.next_number() <= number && number < self.next
     }
