@@ -81,13 +81,13 @@ module _ (s t : State) (e : Event) (before : IsBefore s t e) where
 
 -- what the event changes is in the tree
 pub suits : (s t : State) (e : Event) → IsBefore s t e → SuitsTree e t
-suits s t e before = of e refl (placed s t e before)
+suits s t e before = of e (placed s t e before)
   where
     told : {X : Type 0} (tell : State → X) → ((s : State) → tell (bare s) ≡ tell s) → tell t ≡ tell s
     told tell same = told-before s t e before tell same
 
-    of : (f : Event) → f ≡ e → is_placed s f ≡ true → SuitsTree f t
-    of (Mv entry dir name) same placed = told (λ s. is_some (entry_at s.entries entry)) (λ s. some-bare s entry) ∙ (and_parts (is_some (entry_at s.entries entry)) _ (and_parts _ _ (and_parts _ _ placed).0).0).0
-    of (Setq dir query asked) same placed = (λ i. told (λ s. is_made_directory s.entries dir) (λ s. made-bare s dir) i && not (told (λ s. is_mount_at s.entries dir) (λ s. mount-bare s dir) i)) ∙ (and_parts (is_made_holder s dir) _ placed).0
-    of (Ssync mount documents asked) same placed = (documents-parts documents (and_parts (is_mount_at s.entries mount) (are_documents documents) (and_parts (is_mount_at s.entries mount && are_documents documents) _ placed).0).1).1
-    of other same placed = tt
+    of : (f : Event) → is_placed s f ≡ true → SuitsTree f t
+    of (Mv entry dir name) is = told (λ s. is_some (entry_at s.entries entry)) (λ s. some-bare s entry) ∙ (and_parts (is_some (entry_at s.entries entry)) _ (and_parts _ _ (and_parts _ _ is).0).0).0
+    of (Setq dir query asked) is = (λ i. told (λ s. is_made_directory s.entries dir) (λ s. made-bare s dir) i && not (told (λ s. is_mount_at s.entries dir) (λ s. mount-bare s dir) i)) ∙ (and_parts (is_made_holder s dir) _ is).0
+    of (Ssync mount documents asked) is = (documents-parts documents (and_parts (is_mount_at s.entries mount) (are_documents documents) (and_parts (is_mount_at s.entries mount && are_documents documents) _ is).0).1).1
+    of other is = tt

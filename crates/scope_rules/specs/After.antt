@@ -1,4 +1,4 @@
--- What a scope has to do with a state.
+-- Which state a scope tells.
 use Rattle.std.specs.Prelude.{◌≡◌, IsTrue}
 use Rattle.hac_model.specs.Tree.Bare.{bare}
 use Rattle.hac_model.specs.Tree.Events.{accepted, apply}
@@ -13,7 +13,9 @@ pub record IsBefore (s tree : State) (event : Event) : Type 0 where
   pub bares : bare s ≡ bare tree
   pub accepts : IsTrue (accepted s event)
 
--- the scope tells what comes behind the state by its event
-pub record IsScopeOf (s : State) (scope : Scope) : Type 0 where
-  pub before : IsBefore s scope.tree.now.state scope.event.now
-  pub next : scope.next ≡ (apply s scope.event.now).next
+-- the scope tells this state: it is what the event makes of one with the tree
+pub record Tells (scope : Scope) (after : State) : Type 0 where
+  pub old : State
+  pub before : IsBefore old scope.tree.now.state scope.event.now
+  pub is : after ≡ apply old scope.event.now
+  pub next : scope.next ≡ after.next

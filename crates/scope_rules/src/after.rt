@@ -1,5 +1,5 @@
-//! The tree as it will be after an event, told by the tree before it. Nothing changes, and no memory
-//! is taken.
+//! The tree as it will be after an event, told by the tree before it. Nothing changes, and no
+//! memory is taken.
 ghost use Rattle.std.specs.Prelude.{◌≡◌, ◌==◌, ◌&&◌, ◌||◌, not, nat_le, nat_lt, IsTrue};
 ghost use Rattle.std.specs.List.{list_any};
 ghost use Rattle.std.specs.Option.{option_copied};
@@ -7,7 +7,7 @@ ghost use Rattle.hac_model.specs.Tree.Events.{apply};
 ghost use Rattle.hac_model.specs.Tree.Links.{is_below, is_item, is_judged, parent_of, query_at};
 ghost use Rattle.hac_model.specs.Tree.{ancestors, is_directory_at, is_live, is_made_directory};
 ghost use Rattle.hac_model.specs.declared.states.State.{State};
-ghost use Rattle.scope_rules.specs.After.{IsBefore, IsScopeOf};
+ghost use Rattle.scope_rules.specs.After.{IsBefore, Tells};
 ghost use Rattle.scope_rules.specs.Fates.{is_indexed};
 
 use crate::arrivals::{
@@ -24,8 +24,8 @@ pub struct Scope<'a> {
     pub tree: &'a Tree,
     /// The event.
     pub event: &'a Event,
-    /// The number that the next entry will take.
-    pub next: Number,
+    // The number that the next entry will take.
+    next: Number,
 }
 
 impl<'a> Scope<'a> {
@@ -33,7 +33,8 @@ impl<'a> Scope<'a> {
     pub fn new(tree: &'a Tree, event: &'a Event) -> Scope<'a>
         ensures tree { result.tree.now ≡ tree.now }
         ensures event { result.event.now ≡ event.now }
-        ensures scope { (s : State) → IsBefore s tree.now.state event.now → IsScopeOf s result }
+        ensures tells { (s : State) → IsBefore s tree.now.state event.now →
+            Tells result (apply s event.now) }
     {
         Scope {
             tree,
@@ -44,15 +45,14 @@ impl<'a> Scope<'a> {
 
     /// The number that the next entry takes after the event.
     pub fn next_number(&self) -> Number
-        ensures { (s : State) → IsScopeOf s self.now → result ≡ (apply s self.now.event.now).next }
+        ensures { (after : State) → Tells self.now after → result ≡ after.next }
     {
         self.next
     }
 
     /// Whether what can be linked will have the number: a file or a document.
     pub fn is_item(&self, number: Number) -> bool
-        ensures { (s : State) → IsScopeOf s self.now →
-            result ≡ is_item (apply s self.now.event.now) number }
+        ensures { (after : State) → Tells self.now after → result ≡ is_item after number }
     {
         if self.is_new(number) {
             is_new_item(self.tree, self.event, number)
@@ -63,8 +63,7 @@ impl<'a> Scope<'a> {
 
     /// Whether queries will judge what has the number: a document, or a file that was indexed.
     pub fn is_judged(&self, number: Number) -> bool
-        ensures { (s : State) → IsScopeOf s self.now →
-            result ≡ is_judged (apply s self.now.event.now) number }
+        ensures { (after : State) → Tells self.now after → result ≡ is_judged after number }
     {
         if self.is_new(number) {
             is_new_document(self.tree, self.event, number)
@@ -83,16 +82,16 @@ impl<'a> Scope<'a> {
 
     /// Whether a directory will have the number.
     pub fn is_directory(&self, number: Number) -> bool
-        ensures { (s : State) → IsScopeOf s self.now →
-            result ≡ is_directory_at (apply s self.now.event.now).entries number }
+        ensures { (after : State) → Tells self.now after →
+            result ≡ is_directory_at after.entries number }
     {
         number == Number::ROOT || self.is_made_directory(number)
     }
 
     /// Whether an entry of the number will be a directory.
     fn is_made_directory(&self, number: Number) -> bool
-        ensures { (s : State) → IsScopeOf s self.now →
-            result ≡ is_made_directory (apply s self.now.event.now).entries number }
+        ensures { (after : State) → Tells self.now after →
+            result ≡ is_made_directory after.entries number }
     {
         if self.is_new(number) {
             is_new_directory(self.tree, self.event, number)
@@ -103,8 +102,7 @@ impl<'a> Scope<'a> {
 
     /// The directory that an entry will be in. The root is in itself.
     pub fn parent(&self, number: Number) -> Number
-        ensures { (s : State) → IsScopeOf s self.now →
-            result ≡ parent_of (apply s self.now.event.now) number }
+        ensures { (after : State) → Tells self.now after → result ≡ parent_of after number }
     {
         if self.is_new(number) {
             new_parent(self.tree, self.event, number)
@@ -117,8 +115,8 @@ impl<'a> Scope<'a> {
 
     /// The query that a directory will have.
     pub fn query(&self, number: Number) -> Option<&'a Query<Number>>
-        ensures { (s : State) → IsScopeOf s self.now →
-            option_copied result ≡ query_at (apply s self.now.event.now) number }
+        ensures { (after : State) → Tells self.now after →
+            option_copied result ≡ query_at after number }
     {
         if self.is_new(number) {
             new_query(self.event)
@@ -131,18 +129,16 @@ impl<'a> Scope<'a> {
 
     /// Whether an item will be stored below a directory, at any depth.
     pub fn is_below(&self, item: Number, dir: Number) -> bool
-        ensures { (s : State) → IsScopeOf s self.now →
-            result ≡ is_below (apply s self.now.event.now) dir item }
+        ensures { (after : State) → Tells self.now after → result ≡ is_below after dir item }
     {
         self.is_item(item) && self.is_directory(dir) && self.leads_up(PATH_LIMIT + 1, item, dir)
     }
 
     /// Whether at most `steps` steps over parents will lead from an entry to a directory.
     fn leads_up(&self, steps: u64, entry: Number, dir: Number) -> bool
-        ensures { (s : State) → IsScopeOf s self.now →
-            IsTrue (is_live (apply s self.now.event.now).entries entry) →
-            result ≡ list_any (λ entry. entry.parent == dir)
-            (ancestors steps (apply s self.now.event.now).entries entry) }
+        ensures { (after : State) → Tells self.now after →
+            IsTrue (is_live after.entries entry) → result ≡
+            list_any (λ entry. entry.parent == dir) (ancestors steps after.entries entry) }
     {
         if steps == 0 || entry == Number::ROOT {
             return false;
@@ -153,7 +149,8 @@ impl<'a> Scope<'a> {
 
     /// Whether the event brings the entry of a number.
     fn is_new(&self, number: Number) -> bool
-        ensures { result ≡ (nat_le self.now.tree.now.state.next number && nat_lt number self.now.next) }
+        ensures { result ≡
+            (nat_le self.now.tree.now.state.next number && nat_lt number self.now.next) }
     {
         self.tree.next_number() <= number && number < self.next
     }

@@ -1,5 +1,6 @@
 //! The entries that an event brings. They take the numbers from the next one on.
-ghost use Rattle.std.specs.Prelude.{◌≡◌, ◌==◌, ◌<◌, ◌^◌, if◌then◌else◌, ℕ, false, length, option_and_then};
+ghost use Rattle.std.specs.Prelude.{◌≡◌, ◌==◌, ◌<◌, ◌^◌, if◌then◌else◌, ℕ, false, length};
+ghost use Rattle.std.specs.Prelude.{option_and_then};
 ghost use Rattle.std.specs.Option.{option_copied, option_map_or};
 ghost use Rattle.hac_model.specs.Tree.Facts.{bare_after};
 ghost use Rattle.hac_model.specs.Tree.Mounting.{fresh};

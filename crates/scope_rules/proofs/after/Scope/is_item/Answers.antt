@@ -5,18 +5,18 @@ use Rattle.scope_rules.proofs.ScopeLemmas.{item-new, item-old, suits-scope}
 use Rattle.scope_rules.proofs.after.Scope.is_item.Goals as goal
 
 pub returns-then-is_new : goal.returns-then-is_new
-returns-then-is_new c = λ s of. c.is_new_item.ensures ∙ item-new s c.args.self.now of c.args.number (sym c.is_new.ensures ∙ c.if-is_new.true)
+returns-then-is_new c = λ after of. c.is_new_item.ensures ∙ item-new c.args.self.now after of c.args.number (sym c.is_new.ensures ∙ c.if-is_new.true)
 
 pub returns-then-is_item : goal.returns-then-is_item
-returns-then-is_item c = λ s of.
+returns-then-is_item c = λ after of.
     let scope = c.args.self.now in
-    ap not (c.goes.ensures (suits-scope s scope of c.args.number))
+    ap not (c.goes.ensures (suits-scope scope after of c.args.number))
     ∙ ap (λ (b : Bool). b && not (goes scope.event.now scope.tree.now.state c.args.number)) (sym c.if-is_item.true ∙ c.is_item.ensures)
-    ∙ item-old s scope of c.args.number (sym c.is_new.ensures ∙ c.if-is_new.false)
+    ∙ item-old scope after of c.args.number (sym c.is_new.ensures ∙ c.if-is_new.false)
 
 pub returns-else-is_item : goal.returns-else-is_item
-returns-else-is_item c = λ s of.
+returns-else-is_item c = λ after of.
     let scope = c.args.self.now in
     c.if-is_item.false
     ∙ ap (λ (b : Bool). b && not (goes scope.event.now scope.tree.now.state c.args.number)) (sym c.if-is_item.false ∙ c.is_item.ensures)
-    ∙ item-old s scope of c.args.number (sym c.is_new.ensures ∙ c.if-is_new.false)
+    ∙ item-old scope after of c.args.number (sym c.is_new.ensures ∙ c.if-is_new.false)

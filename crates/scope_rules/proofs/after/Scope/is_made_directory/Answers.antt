@@ -5,18 +5,18 @@ use Rattle.scope_rules.proofs.ScopeLemmas.{directory-new, directory-old, suits-s
 use Rattle.scope_rules.proofs.after.Scope.is_made_directory.Goals as goal
 
 pub returns-then-is_new : goal.returns-then-is_new
-returns-then-is_new c = λ s of. c.is_new_directory.ensures ∙ directory-new s c.args.self.now of c.args.number (sym c.is_new.ensures ∙ c.if-is_new.true)
+returns-then-is_new c = λ after of. c.is_new_directory.ensures ∙ directory-new c.args.self.now after of c.args.number (sym c.is_new.ensures ∙ c.if-is_new.true)
 
 pub returns-then-is_made_directory : goal.returns-then-is_made_directory
-returns-then-is_made_directory c = λ s of.
+returns-then-is_made_directory c = λ after of.
     let scope = c.args.self.now in
-    ap not (c.goes.ensures (suits-scope s scope of c.args.number))
+    ap not (c.goes.ensures (suits-scope scope after of c.args.number))
     ∙ ap (λ (b : Bool). b && not (goes scope.event.now scope.tree.now.state c.args.number)) (sym c.if-is_made_directory.true ∙ c.is_made_directory.ensures)
-    ∙ directory-old s scope of c.args.number (sym c.is_new.ensures ∙ c.if-is_new.false)
+    ∙ directory-old scope after of c.args.number (sym c.is_new.ensures ∙ c.if-is_new.false)
 
 pub returns-else-is_made_directory : goal.returns-else-is_made_directory
-returns-else-is_made_directory c = λ s of.
+returns-else-is_made_directory c = λ after of.
     let scope = c.args.self.now in
     c.if-is_made_directory.false
     ∙ ap (λ (b : Bool). b && not (goes scope.event.now scope.tree.now.state c.args.number)) (sym c.if-is_made_directory.false ∙ c.is_made_directory.ensures)
-    ∙ directory-old s scope of c.args.number (sym c.is_new.ensures ∙ c.if-is_new.false)
+    ∙ directory-old scope after of c.args.number (sym c.is_new.ensures ∙ c.if-is_new.false)
