@@ -8,6 +8,7 @@ mod fault;
 mod memory;
 mod sinks;
 mod sources;
+mod steps;
 
 pub use adapters::{StdSink, StdSource};
 pub use calls::Calls;
@@ -15,3 +16,4 @@ pub use fault::Failed;
 pub use memory::{MemorySink, MemorySource};
 pub use sinks::{Sink, write_all};
 pub use sources::Source;
+pub use steps::Steps;

@@ -1,7 +1,9 @@
 //! Which terms items have, as a caller of queries knows it.
-ghost use Rattle.std.specs.Prelude.{◌≡◌, ℕ, Bool};
+ghost use Rattle.std.specs.Prelude.{◌≡◌, ◌+◌, ℕ, Bool};
 
 use hac_model::{Number, Term};
+use hac_outside::Steps;
+use std::sync::ledger::Ledger;
 
 /// Knows which terms items have.
 pub trait Atoms {
@@ -13,4 +15,17 @@ pub trait Atoms {
     /// Whether the item has the term.
     fn has(&self, term: &Term, item: Number) -> bool
         ensures { result ≡ atoms self.now term.now item };
+}
+
+/// Knows which terms items have, and counts each question.
+pub trait CountedAtoms {
+    ghost use Rattle.hac_model.specs.declared.terms.Term.{Term};
+
+    /// That the item has the term.
+    ghost atoms: { Self → Term → ℕ → Bool };
+
+    /// Whether the item has the term. That is one probe.
+    fn has<L: Ledger>(&self, term: &Term, item: Number, probes: &mut Steps<L>) -> bool
+        ensures answer { result ≡ atoms self.now term.now item }
+        ensures probe { probes.new ≡ probes.old + 1 };
 }

@@ -3,8 +3,10 @@
 #![tactic(auto)]
 
 mod atoms;
+mod counting;
 mod judging;
 pub mod laws;
 
-pub use atoms::Atoms;
+pub use atoms::{Atoms, CountedAtoms};
+pub use counting::judge_counted;
 pub use judging::judge;
