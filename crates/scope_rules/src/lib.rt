@@ -8,4 +8,4 @@ mod fates;
 mod providing;
 
 pub use after::Scope;
-pub use providing::{has_found, provides};
+pub use providing::{has_found, has_lent, provides};
