@@ -17,3 +17,4 @@ pub mod ReachLemmas
 pub mod RoomLemmas
 pub mod FewLemmas
 pub mod ReaderLemmas
+pub mod AfterLemmas

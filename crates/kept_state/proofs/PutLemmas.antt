@@ -53,7 +53,7 @@ tested-there t n p h = elim (entry_at t.entries n) as (λ (o : Option Entry). op
 
 -- What is seen of facts that one number gets in place of others.
 
-edges-put : (b : Bool) (new old : Facts) → cond b new.edges old.edges ≡ (cond b new old).edges
+pub edges-put : (b : Bool) (new old : Facts) → cond b new.edges old.edges ≡ (cond b new old).edges
 edges-put true new old = refl
 edges-put false new old = refl
 

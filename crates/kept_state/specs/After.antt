@@ -1,0 +1,31 @@
+-- What a state will be after the events that it is ready for.
+use Rattle.std.specs.Prelude.{ℕ, List, [], Option, Some, None}
+use Rattle.hac_model.specs.Tree.Events.{apply_all}
+use Rattle.hac_model.specs.declared.events.Event.{Event}
+use Rattle.hac_model.specs.declared.events.Event.TheVariants.{Smkdir, Setq, Unq, Mark, Mv, Rmdir}
+use Rattle.hac_model.specs.declared.states.State.{State}
+use Rattle.dep_graph.specs.Graphs as graph
+use Rattle.dep_graph.specs.Graphs.{edges_of, edges_with, replaced}
+use Rattle.dep_graph.specs.declared.graph.NewEdges.{NewEdges}
+use Rattle.kept_state.specs.Seen.{Seen}
+use Rattle.kept_state.specs.declared.ready.Ready.{Ready}
+use Rattle.kept_state.specs.declared.ready.Ready.TheVariants.{Change}
+
+-- the next state: that after the events
+abbrev pub next_state : Seen → State
+next_state kept = apply_all kept.state kept.ready
+
+-- the edges of each directory after an event, by those that were prepared for it
+abbrev pub edges_after : Event → Option NewEdges → graph.Seen → ℕ → List ℕ
+edges_after (Smkdir dir name query told) edges known = edges_with known edges
+edges_after (Setq dir query told) edges known = edges_with known edges
+edges_after (Mark mark) edges known = edges_with known edges
+edges_after (Mv entry dir name) edges known = edges_with known edges
+edges_after (Unq dir) edges known = replaced (edges_of known) dir []
+edges_after (Rmdir dir) edges known = replaced (edges_of known) dir []
+edges_after other edges known = edges_of known
+
+-- the same after all that is ready
+abbrev pub edges_next : Ready → graph.Seen → ℕ → List ℕ
+edges_next (Change event edges counts) known = edges_after event edges known
+edges_next other known = edges_of known

@@ -1,0 +1,156 @@
+//! What a state will be after the events that it is ready for. It asks what was prepared, and
+//! changes nothing.
+ghost use Rattle.std.specs.Prelude.{◌≡◌, ◌==◌, ◌∷◌, [], IfOk, IfSome, IsTrue, if◌then◌else◌};
+ghost use Rattle.std.specs.Option.{option_copied};
+ghost use Rattle.hac_model.specs.Tree.Depends.{NeverReturns, depends};
+ghost use Rattle.hac_model.specs.Tree.Events.{accepted};
+ghost use Rattle.hac_model.specs.Tree.Sessions.{is_stored};
+ghost use Rattle.dep_graph.specs.Graphs.{edges_of, edges_with, replaced};
+ghost use Rattle.dep_graph.specs.Searches.{IsCone};
+ghost use Rattle.kept_state.specs.After.{edges_after, edges_next, next_state};
+
+use crate::kept::KeptState;
+use crate::ready::Ready;
+use dep_graph::{Graph, NewEdges};
+use hac_model::{Event, Memory, Number};
+use std::alloc::Global;
+
+impl KeptState {
+    /// The event that was prepared, if it was prepared by `prepare`: not a session's, and no steps.
+    pub fn event(&self) -> Option<&Event>
+        ensures ready { IfSome (option_copied result) (λ event. self.now.ready ≡ event ∷ []) }
+        ensures accepted { IfSome (option_copied result)
+            (λ event. IsTrue (accepted self.now.state event)) }
+        ensures stored { IfSome (option_copied result) (λ event. IsTrue (is_stored event)) }
+    {
+        match &self.ready {
+            Ready::Change { event, .. } => Some(event),
+            _ => None,
+        }
+    }
+
+    /// What a directory will depend on.
+    pub fn depends_next(&self, dir: Number) -> &[Number]
+        ensures { result.now ≡ depends (next_state self.now) dir }
+    {
+        edges_next(&self.parts.graph, &self.ready, dir)
+    }
+
+    /// The directories that will reach some of these, in an order in which each comes behind those
+    /// on which it will depend.
+    pub fn cone_next(&self, alloc: Global, dirs: &[Number]) -> Result<Vec<Number>, Memory>
+        ensures { IfOk result (λ numbers.
+            IsCone (depends (next_state self.now)) dirs.now numbers.items) }
+    {
+        cone_next(alloc, &self.parts.graph, &self.ready, dirs)
+    }
+}
+
+/// The edges of a directory after all that is ready.
+fn edges_next<'a>(graph: &'a Graph, ready: &'a Ready, dir: Number) -> &'a [Number]
+    ensures { result.now ≡ edges_next ready.now graph.now dir }
+{
+    match ready {
+        Ready::Change { event, edges, .. } => edges_after(graph, event, edges, dir),
+        _ => graph.edges(dir),
+    }
+}
+
+/// The edges of a directory after an event.
+fn edges_after<'a>(
+    graph: &'a Graph,
+    event: &Event,
+    edges: &'a Option<NewEdges>,
+    dir: Number,
+) -> &'a [Number]
+    ensures { result.now ≡ edges_after event.now edges.now graph.now dir }
+{
+    match event {
+        Event::Smkdir { .. } | Event::Setq { .. } | Event::Mark(_) | Event::Mv { .. } => {
+            edges_with(graph, edges, dir)
+        }
+        Event::Unq { dir: bared } | Event::Rmdir { dir: bared } => {
+            edges_without(graph, *bared, dir)
+        }
+        _ => graph.edges(dir),
+    }
+}
+
+/// The edges of a directory once the new ones are set, if there are any.
+fn edges_with<'a>(graph: &'a Graph, edges: &'a Option<NewEdges>, dir: Number) -> &'a [Number]
+    ensures { result.now ≡ edges_with graph.now edges.now dir }
+{
+    match edges {
+        Some(new) if new.dir == dir => new.edges.as_slice(),
+        _ => graph.edges(dir),
+    }
+}
+
+/// The edges of a directory once one has none.
+fn edges_without(graph: &Graph, bared: Number, dir: Number) -> &[Number]
+    ensures { result.now ≡ replaced (edges_of graph.now) bared [] dir }
+{
+    if dir == bared {
+        &[]
+    } else {
+        graph.edges(dir)
+    }
+}
+
+/// The cone of some directories after all that is ready.
+fn cone_next(
+    alloc: Global,
+    graph: &Graph,
+    ready: &Ready,
+    dirs: &[Number],
+) -> Result<Vec<Number>, Memory>
+    requires { NeverReturns (edges_next ready.now graph.now) }
+    ensures { IfOk result (λ numbers.
+        IsCone (edges_next ready.now graph.now) dirs.now numbers.items) }
+{
+    match ready {
+        Ready::Change { event, edges, .. } => cone_after(alloc, graph, event, edges, dirs),
+        _ => graph.cone(dirs, None),
+    }
+}
+
+/// The cone of some directories after an event.
+fn cone_after(
+    alloc: Global,
+    graph: &Graph,
+    event: &Event,
+    edges: &Option<NewEdges>,
+    dirs: &[Number],
+) -> Result<Vec<Number>, Memory>
+    requires { NeverReturns (edges_after event.now edges.now graph.now) }
+    ensures { IfOk result (λ numbers.
+        IsCone (edges_after event.now edges.now graph.now) dirs.now numbers.items) }
+{
+    match event {
+        Event::Smkdir { .. } | Event::Setq { .. } | Event::Mark(_) | Event::Mv { .. } => {
+            graph.cone(dirs, edges.as_ref())
+        }
+        Event::Unq { dir: bared } | Event::Rmdir { dir: bared } => {
+            cone_without(alloc, graph, *bared, dirs)
+        }
+        _ => graph.cone(dirs, None),
+    }
+}
+
+/// The cone of some directories once one has no edges.
+fn cone_without(
+    alloc: Global,
+    graph: &Graph,
+    bared: Number,
+    dirs: &[Number],
+) -> Result<Vec<Number>, Memory>
+    requires { NeverReturns (replaced (edges_of graph.now) bared []) }
+    ensures { IfOk result (λ numbers.
+        IsCone (replaced (edges_of graph.now) bared []) dirs.now numbers.items) }
+{
+    let none = NewEdges {
+        dir: bared,
+        edges: Vec::new(alloc),
+    };
+    graph.cone(dirs, Some(&none))
+}
