@@ -23,7 +23,7 @@ use Rattle.hac_model.proofs.NextLemmas.{next-own, next-state}
 use Rattle.dep_graph.specs.Graphs as graph
 use Rattle.dep_graph.specs.Graphs.{edges_of, edges_with, replaced}
 use Rattle.dep_graph.specs.declared.graph.NewEdges.{NewEdges}
-use Rattle.kept_state.specs.After.{edges_after, edges_next, next_state}
+use Rattle.kept_state.specs.After.{edges_after, edges_next, next_state, query_next}
 use Rattle.kept_state.specs.Kept.{IsKept, seen_of}
 use Rattle.kept_state.specs.Parts.{IsLinked, WillHave, edges_marked, edges_then, facts_kept, state_of}
 use Rattle.kept_state.specs.Ready.{IsPreparedFor, IsReady, ready_events}
@@ -31,9 +31,11 @@ use Rattle.kept_state.specs.declared.kept.KeptState.TheInside.{Inside}
 use Rattle.kept_state.specs.declared.parts.Parts.{Parts}
 use Rattle.kept_state.specs.declared.ready.Ready.{Ready}
 use Rattle.kept_state.specs.declared.ready.Ready.TheVariants.{Nothing, Change, Session, Steps}
+use Rattle.kept_state.proofs.AskedLemmas.{event-asks, stepped-asks}
 use Rattle.kept_state.proofs.LenderLemmas.{will-put, will-stay}
 use Rattle.kept_state.proofs.MountPutLemmas.{going-mount, no-edges, sync-there}
 use Rattle.kept_state.proofs.PutLemmas.{edges-put, next-none}
+use Rattle.kept_state.proofs.StateLemmas.{kept-bares, same-query}
 
 -- The facts after events.
 
@@ -53,6 +55,11 @@ abbrev pub facts_next : Ready → Parts → ℕ → Facts
 facts_next (Change event edges counts) kept = facts_after event kept.tree.state (facts_kept kept)
 facts_next other kept = facts_kept kept
 
+-- nor do they ask anything
+steps-ask : (s : State) (count : ℕ) (n : ℕ) → query_at (apply_all s (replicate count event.Step)) n ≡ query_at s n
+steps-ask s zero n = refl
+steps-ask s (suc count) n = steps-ask (apply s event.Step) count n ∙ stepped-asks s n
+
 module _ (kept : Parts) (h : IsLinked kept) where
   one-facts : (e : Event) → IsTrue (accepted (state_of kept) e) → (n : ℕ) → facts_of (apply (state_of kept) e) n ≡ facts_after e kept.tree.state (facts_kept kept) n
   one-facts e ok n =
@@ -67,6 +74,12 @@ module _ (kept : Parts) (h : IsLinked kept) where
   all-facts (Change e edges counts) happen n = one-facts e happen.0 n
   all-facts (Session session dir sessions) happen n = one-facts (event.Cd session dir) happen.0 n
   all-facts (Steps count) happen n = steps-facts (state_of kept) count h.valid happen n ∙ h.own n
+
+  all-asks : (ready : Ready) → AllHappen (state_of kept) (ready_events ready) → (n : ℕ) → query_at (apply_all (state_of kept) (ready_events ready)) n ≡ query_next ready kept.tree.state n
+  all-asks Nothing happen n = same-query (state_of kept) kept.tree.state (kept-bares kept) n
+  all-asks (Change e edges counts) happen n = event-asks kept h n e happen.0
+  all-asks (Session session dir sessions) happen n = event-asks kept h n (event.Cd session dir) happen.0
+  all-asks (Steps count) happen n = steps-ask (state_of kept) count n ∙ same-query (state_of kept) kept.tree.state (kept-bares kept) n
 
 -- Edges.
 
@@ -156,3 +169,6 @@ module _ (inside : Inside) (h : IsKept inside) where
 
   pub next-returns : NeverReturns (edges_next inside.ready inside.parts.graph)
   next-returns = subst (λ (edges : ℕ → List ℕ). NeverReturns edges) (λ i n. sym (next-edges n) i) next-valid.acyclic
+
+  pub next-asks : (n : ℕ) → query_next inside.ready inside.parts.tree.state n ≡ query_at next n
+  next-asks n = sym (all-asks inside.parts h.linked inside.ready h.happen n)

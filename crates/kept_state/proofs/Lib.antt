@@ -17,4 +17,5 @@ pub mod ReachLemmas
 pub mod RoomLemmas
 pub mod FewLemmas
 pub mod ReaderLemmas
+pub mod AskedLemmas
 pub mod AfterLemmas

@@ -1,6 +1,9 @@
 -- What a state will be after the events that it is ready for.
 use Rattle.std.specs.Prelude.{ℕ, List, [], Option, Some, None}
+use Rattle.hac_model.specs.Query.Formula.{Formula}
 use Rattle.hac_model.specs.Tree.Events.{apply_all}
+use Rattle.hac_model.specs.Tree.Facts.{put_at}
+use Rattle.hac_model.specs.Tree.Links.{query_at}
 use Rattle.hac_model.specs.declared.events.Event.{Event}
 use Rattle.hac_model.specs.declared.events.Event.TheVariants.{Smkdir, Setq, Unq, Mark, Mv, Rmdir}
 use Rattle.hac_model.specs.declared.states.State.{State}
@@ -29,3 +32,16 @@ edges_after other edges known = edges_of known
 abbrev pub edges_next : Ready → graph.Seen → ℕ → List ℕ
 edges_next (Change event edges counts) known = edges_after event edges known
 edges_next other known = edges_of known
+
+-- the query of each directory after an event, by the tree before it
+abbrev pub query_after : Event → State → ℕ → Option (Formula ℕ)
+query_after (Smkdir dir name query told) tree = put_at (query_at tree) tree.next (Some query)
+query_after (Setq dir query told) tree = put_at (query_at tree) dir (Some query)
+query_after (Unq dir) tree = put_at (query_at tree) dir None
+query_after (Rmdir dir) tree = put_at (query_at tree) dir None
+query_after other tree = query_at tree
+
+-- the same after all that is ready
+abbrev pub query_next : Ready → State → ℕ → Option (Formula ℕ)
+query_next (Change event edges counts) tree = query_after event tree
+query_next other tree = query_at tree

@@ -4,15 +4,20 @@ ghost use Rattle.std.specs.Prelude.{◌≡◌, ◌==◌, ◌∷◌, [], IfOk, If
 ghost use Rattle.std.specs.Option.{option_copied};
 ghost use Rattle.hac_model.specs.Tree.Depends.{NeverReturns, depends};
 ghost use Rattle.hac_model.specs.Tree.Events.{accepted};
+ghost use Rattle.hac_model.specs.Tree.Facts.{put_at};
+ghost use Rattle.hac_model.specs.Tree.Links.{lenders, query_at};
 ghost use Rattle.hac_model.specs.Tree.Sessions.{is_stored};
 ghost use Rattle.dep_graph.specs.Graphs.{edges_of, edges_with, replaced};
 ghost use Rattle.dep_graph.specs.Searches.{IsCone};
 ghost use Rattle.kept_state.specs.After.{edges_after, edges_next, next_state};
+ghost use Rattle.kept_state.specs.After.{query_after, query_next};
 
 use crate::kept::KeptState;
+use crate::lenders::{behind_first, behind_named};
 use crate::ready::Ready;
 use dep_graph::{Graph, NewEdges};
-use hac_model::{Event, Memory, Number};
+use file_tree::Tree;
+use hac_model::{Event, Memory, Number, Query};
 use std::alloc::Global;
 
 impl KeptState {
@@ -34,6 +39,16 @@ impl KeptState {
         ensures { result.now ≡ depends (next_state self.now) dir }
     {
         edges_next(&self.parts.graph, &self.ready, dir)
+    }
+
+    /// The directories that users will have added to a directory, in order of number.
+    pub fn lenders_next(&self, dir: Number) -> &[Number]
+        ensures { result.now ≡ lenders (next_state self.now) dir }
+    {
+        match query_next(&self.parts.tree, &self.ready, dir) {
+            Some(query) => behind_named(behind_first(self.depends_next(dir)), query),
+            None => &[],
+        }
     }
 
     /// The directories that will reach some of these, in an order in which each comes behind those
@@ -153,4 +168,47 @@ fn cone_without(
         edges: Vec::new(alloc),
     };
     graph.cone(dirs, Some(&none))
+}
+
+/// The query of a directory after all that is ready.
+fn query_next<'a>(tree: &'a Tree, ready: &'a Ready, dir: Number) -> Option<&'a Query<Number>>
+    ensures { option_copied result ≡ query_next ready.now tree.now.state dir }
+{
+    match ready {
+        Ready::Change { event, .. } => query_after(tree, event, dir),
+        _ => tree.query(dir),
+    }
+}
+
+/// The query of a directory after an event.
+fn query_after<'a>(tree: &'a Tree, event: &'a Event, dir: Number) -> Option<&'a Query<Number>>
+    ensures { option_copied result ≡ query_after event.now tree.now.state dir }
+{
+    match event {
+        Event::Smkdir { query, .. } => query_with(tree, tree.next_number(), Some(query), dir),
+        Event::Setq {
+            dir: asking, query, ..
+        } => query_with(tree, *asking, Some(query), dir),
+        Event::Unq { dir: bared } | Event::Rmdir { dir: bared } => {
+            query_with(tree, *bared, None, dir)
+        }
+        _ => tree.query(dir),
+    }
+}
+
+/// The query of a directory once one has another query, or none.
+fn query_with<'a>(
+    tree: &'a Tree,
+    asking: Number,
+    query: Option<&'a Query<Number>>,
+    dir: Number,
+) -> Option<&'a Query<Number>>
+    ensures { option_copied result ≡
+        put_at (query_at tree.now.state) asking (option_copied query.entry) dir }
+{
+    if dir == asking {
+        query
+    } else {
+        tree.query(dir)
+    }
 }
