@@ -8,7 +8,7 @@ use Rattle.hac_model.specs.Tree.Depends.{NeverReturns, depends, named_in}
 use Rattle.hac_model.specs.Tree.Events.{accepted, apply, apply_all}
 use Rattle.hac_model.specs.Tree.Facts.{Facts, bare_after, edges_to, facts_after, facts_of, facts_told, facts_with, facts_without, no_facts, with_mark}
 use Rattle.hac_model.specs.Query.Formula.{Formula}
-use Rattle.hac_model.specs.Tree.Links.{parent_of, query_at}
+use Rattle.hac_model.specs.Tree.Links.{is_item, parent_of, query_at}
 use Rattle.hac_model.specs.Tree.Mounting.{answers_to, is_gone, is_of_mount, is_such_at}
 use Rattle.hac_model.specs.Tree.Mounts.{terms_to_ask}
 use Rattle.hac_model.specs.Tree.Sessions.{sessions_after}
@@ -23,9 +23,10 @@ use Rattle.hac_model.proofs.NextLemmas.{next-own, next-state}
 use Rattle.dep_graph.specs.Graphs as graph
 use Rattle.dep_graph.specs.Graphs.{edges_of, edges_with, replaced}
 use Rattle.dep_graph.specs.declared.graph.NewEdges.{NewEdges}
-use Rattle.kept_state.specs.After.{edges_after, edges_next, next_state, query_next}
+use Rattle.kept_state.specs.After.{edges_after, edges_next, mark_next, next_state, query_next}
 use Rattle.kept_state.specs.Kept.{IsKept, seen_of}
 use Rattle.kept_state.specs.Parts.{IsLinked, WillHave, edges_marked, edges_then, facts_kept, state_of}
+use Rattle.kept_state.specs.Readers.{mark_at}
 use Rattle.kept_state.specs.Ready.{IsPreparedFor, IsReady, ready_events}
 use Rattle.kept_state.specs.declared.kept.KeptState.TheInside.{Inside}
 use Rattle.kept_state.specs.declared.parts.Parts.{Parts}
@@ -33,6 +34,7 @@ use Rattle.kept_state.specs.declared.ready.Ready.{Ready}
 use Rattle.kept_state.specs.declared.ready.Ready.TheVariants.{Nothing, Change, Session, Steps}
 use Rattle.kept_state.proofs.AskedLemmas.{event-asks, stepped-asks}
 use Rattle.kept_state.proofs.LenderLemmas.{will-put, will-stay}
+use Rattle.kept_state.proofs.MarkedLemmas.{event-mark, kept-mark, mark-fact, mark_in}
 use Rattle.kept_state.proofs.MountPutLemmas.{going-mount, no-edges, sync-there}
 use Rattle.kept_state.proofs.PutLemmas.{edges-put, next-none}
 use Rattle.kept_state.proofs.StateLemmas.{kept-bares, same-query}
@@ -149,6 +151,14 @@ module _ (kept : Parts) (h : IsLinked kept) where
   ready-edges (Session session dir sessions) fits happen n = refl
   ready-edges (Steps count) fits happen n = refl
 
+-- Marks.
+
+ready-mark : (kept : Parts) → IsLinked kept → (dir item : ℕ) (ready : Ready) → AllHappen (state_of kept) (ready_events ready) → is_item (apply_all (state_of kept) (ready_events ready)) item ≡ true → mark_next ready kept.marks dir item ≡ mark_in (facts_next ready kept dir).marks item
+ready-mark kept h dir item Nothing happen there = kept-mark kept h dir item
+ready-mark kept h dir item (Change e edges counts) happen there = event-mark kept h dir item e happen.0 there
+ready-mark kept h dir item (Session session n sessions) happen there = kept-mark kept h dir item
+ready-mark kept h dir item (Steps count) happen there = kept-mark kept h dir item
+
 -- All that is ready is made.
 
 module _ (inside : Inside) (h : IsKept inside) where
@@ -172,3 +182,9 @@ module _ (inside : Inside) (h : IsKept inside) where
 
   pub next-asks : (n : ℕ) → query_next inside.ready inside.parts.tree.state n ≡ query_at next n
   next-asks n = sym (all-asks inside.parts h.linked inside.ready h.happen n)
+
+  pub next-mark : (dir item : ℕ) → IsTrue (is_item next item) → mark_next inside.ready inside.parts.marks dir item ≡ mark_at next dir item
+  next-mark dir item there =
+      ready-mark inside.parts h.linked dir item inside.ready h.happen there
+      ∙ ap (λ (facts : Facts). mark_in facts.marks item) (sym (next-facts dir))
+      ∙ sym (mark-fact next dir item)

@@ -18,4 +18,5 @@ pub mod RoomLemmas
 pub mod FewLemmas
 pub mod ReaderLemmas
 pub mod AskedLemmas
+pub mod MarkedLemmas
 pub mod AfterLemmas

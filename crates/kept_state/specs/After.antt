@@ -1,15 +1,18 @@
 -- What a state will be after the events that it is ready for.
-use Rattle.std.specs.Prelude.{ℕ, List, [], Option, Some, None}
+use Rattle.std.specs.Prelude.{ℕ, ◌==◌, ◌&&◌, if◌then◌else◌, List, [], Option, Some, None}
 use Rattle.hac_model.specs.Query.Formula.{Formula}
 use Rattle.hac_model.specs.Tree.Events.{apply_all}
 use Rattle.hac_model.specs.Tree.Facts.{put_at}
 use Rattle.hac_model.specs.Tree.Links.{query_at}
 use Rattle.hac_model.specs.declared.events.Event.{Event}
 use Rattle.hac_model.specs.declared.events.Event.TheVariants.{Smkdir, Setq, Unq, Mark, Mv, Rmdir}
+use Rattle.hac_model.specs.declared.marks.Kind.{Kind}
+use Rattle.hac_model.specs.declared.marks.Kind.TheVariants.{Unlinked}
 use Rattle.hac_model.specs.declared.states.State.{State}
 use Rattle.dep_graph.specs.Graphs as graph
 use Rattle.dep_graph.specs.Graphs.{edges_of, edges_with, replaced}
 use Rattle.dep_graph.specs.declared.graph.NewEdges.{NewEdges}
+use Rattle.link_kinds.specs.Seen.{Known, kind_at}
 use Rattle.kept_state.specs.Seen.{Seen}
 use Rattle.kept_state.specs.declared.ready.Ready.{Ready}
 use Rattle.kept_state.specs.declared.ready.Ready.TheVariants.{Change}
@@ -45,3 +48,15 @@ query_after other tree = query_at tree
 abbrev pub query_next : Ready → State → ℕ → Option (Formula ℕ)
 query_next (Change event edges counts) tree = query_after event tree
 query_next other tree = query_at tree
+
+-- the mark of an item in a directory after an event, where the item is still there
+abbrev pub mark_after : Event → Known → ℕ → ℕ → Kind
+mark_after (Mark mark) marks dir item = if dir == mark.dir && item == mark.item then mark.kind else kind_at marks dir item
+mark_after (Unq bared) marks dir item = if dir == bared then Unlinked else kind_at marks dir item
+mark_after (Rmdir bared) marks dir item = if dir == bared then Unlinked else kind_at marks dir item
+mark_after other marks dir item = kind_at marks dir item
+
+-- the same after all that is ready
+abbrev pub mark_next : Ready → Known → ℕ → ℕ → Kind
+mark_next (Change event edges counts) marks dir item = mark_after event marks dir item
+mark_next other marks dir item = kind_at marks dir item

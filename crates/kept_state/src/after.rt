@@ -1,23 +1,26 @@
 //! What a state will be after the events that it is ready for. It asks what was prepared, and
 //! changes nothing.
-ghost use Rattle.std.specs.Prelude.{◌≡◌, ◌==◌, ◌∷◌, [], IfOk, IfSome, IsTrue, if◌then◌else◌};
+ghost use Rattle.std.specs.Prelude.{◌≡◌, ◌==◌, ◌&&◌, ◌∷◌, [], IfOk, IfSome, IsTrue, if◌then◌else◌};
 ghost use Rattle.std.specs.Option.{option_copied};
 ghost use Rattle.hac_model.specs.Tree.Depends.{NeverReturns, depends};
 ghost use Rattle.hac_model.specs.Tree.Events.{accepted};
 ghost use Rattle.hac_model.specs.Tree.Facts.{put_at};
-ghost use Rattle.hac_model.specs.Tree.Links.{lenders, query_at};
+ghost use Rattle.hac_model.specs.Tree.Links.{is_item, lenders, query_at};
 ghost use Rattle.hac_model.specs.Tree.Sessions.{is_stored};
 ghost use Rattle.dep_graph.specs.Graphs.{edges_of, edges_with, replaced};
 ghost use Rattle.dep_graph.specs.Searches.{IsCone};
 ghost use Rattle.kept_state.specs.After.{edges_after, edges_next, next_state};
-ghost use Rattle.kept_state.specs.After.{query_after, query_next};
+ghost use Rattle.link_kinds.specs.Seen.{kind_at};
+ghost use Rattle.kept_state.specs.After.{mark_after, mark_next, query_after, query_next};
+ghost use Rattle.kept_state.specs.Readers.{mark_at};
 
 use crate::kept::KeptState;
 use crate::lenders::{behind_first, behind_named};
 use crate::ready::Ready;
 use dep_graph::{Graph, NewEdges};
 use file_tree::Tree;
-use hac_model::{Event, Memory, Number, Query};
+use hac_model::{Event, Kind, Mark, Memory, Number, Query};
+use link_kinds::Links;
 use std::alloc::Global;
 
 impl KeptState {
@@ -58,6 +61,15 @@ impl KeptState {
             IsCone (depends (next_state self.now)) dirs.now numbers.items) }
     {
         cone_next(alloc, &self.parts.graph, &self.ready, dirs)
+    }
+
+    /// The mark that an item will have in a directory. What will be no item is told a mark that it
+    /// may lose.
+    pub fn mark_next(&self, dir: Number, item: Number) -> Kind
+        ensures { IsTrue (is_item (next_state self.now) item) →
+            result ≡ mark_at (next_state self.now) dir item }
+    {
+        mark_next(&self.parts.marks, &self.ready, dir, item)
     }
 }
 
@@ -210,5 +222,51 @@ fn query_with<'a>(
         query
     } else {
         tree.query(dir)
+    }
+}
+
+/// The mark of an item in a directory after all that is ready.
+fn mark_next(marks: &Links, ready: &Ready, dir: Number, item: Number) -> Kind
+    ensures { result ≡ mark_next ready.now marks.now dir item }
+{
+    match ready {
+        Ready::Change { event, .. } => mark_after(marks, event, dir, item),
+        _ => marks.kind(dir, item),
+    }
+}
+
+/// The mark of an item in a directory after an event.
+fn mark_after(marks: &Links, event: &Event, dir: Number, item: Number) -> Kind
+    ensures { result ≡ mark_after event.now marks.now dir item }
+{
+    match event {
+        Event::Mark(mark) => mark_with(marks, mark, dir, item),
+        Event::Unq { dir: bared } | Event::Rmdir { dir: bared } => {
+            mark_without(marks, *bared, dir, item)
+        }
+        _ => marks.kind(dir, item),
+    }
+}
+
+/// The mark of an item in a directory once a mark is set.
+fn mark_with(marks: &Links, mark: &Mark, dir: Number, item: Number) -> Kind
+    ensures { result ≡ if dir == mark.now.dir && item == mark.now.item then mark.now.kind
+        else kind_at marks.now dir item }
+{
+    if dir == mark.dir && item == mark.item {
+        mark.kind
+    } else {
+        marks.kind(dir, item)
+    }
+}
+
+/// The mark of an item in a directory once one directory has none.
+fn mark_without(marks: &Links, bared: Number, dir: Number, item: Number) -> Kind
+    ensures { result ≡ if dir == bared then Kind.Unlinked else kind_at marks.now dir item }
+{
+    if dir == bared {
+        Kind::Unlinked
+    } else {
+        marks.kind(dir, item)
     }
 }
