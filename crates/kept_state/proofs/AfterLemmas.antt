@@ -1,6 +1,6 @@
 -- What a state will be after the events that it is ready for, by what was prepared.
 use Rattle.std.proofs.Common.{◌≡◌, ℕ, zero, suc, Bool, true, false, cond, List, [], ◌∷◌, subst, refl, ap, sym, ◌∙◌}
-use Rattle.std.specs.Prelude.{◌==◌, Option, Some, None, IsTrue, replicate}
+use Rattle.std.specs.Prelude.{◌==◌, Option, Some, None, IsTrue, replicate, unwrap_or}
 use Rattle.std.proofs.lemmas.Bool.{eqb-true}
 use Rattle.std.proofs.lemmas.List.{append-nil}
 use Rattle.hac_model.specs.Laws.{AllHappen}
@@ -8,22 +8,25 @@ use Rattle.hac_model.specs.Tree.Depends.{NeverReturns, depends, named_in}
 use Rattle.hac_model.specs.Tree.Events.{accepted, apply, apply_all}
 use Rattle.hac_model.specs.Tree.Facts.{Facts, bare_after, edges_to, facts_after, facts_of, facts_told, facts_with, facts_without, no_facts, with_mark}
 use Rattle.hac_model.specs.Query.Formula.{Formula}
-use Rattle.hac_model.specs.Tree.Links.{is_item, parent_of, query_at}
+use Rattle.hac_model.specs.Tree.Links.{answers_at, has, is_item, kept_at, parent_of, query_at}
 use Rattle.hac_model.specs.Tree.Mounting.{answers_to, is_gone, is_of_mount, is_such_at}
-use Rattle.hac_model.specs.Tree.Mounts.{terms_to_ask}
+use Rattle.hac_model.specs.Tree.Mounts.{kept_for, terms_to_ask}
 use Rattle.hac_model.specs.Tree.Sessions.{sessions_after}
 use Rattle.hac_model.specs.Tree.Valid.{IsValid}
 use Rattle.hac_model.specs.Tree.{is_directory_at}
 use Rattle.hac_model.specs.declared.events.Event.{Event}
 use Rattle.hac_model.specs.declared.events.Event.TheVariants as event
+use Rattle.hac_model.specs.declared.states.Answer.{Answer}
 use Rattle.hac_model.specs.declared.states.State.{State}
+use Rattle.hac_model.specs.declared.terms.Term.{Term}
 use Rattle.hac_model.proofs.AcyclicLemmas.{apply-valid}
 use Rattle.hac_model.proofs.FactLemmas.{edges-told, facts-law}
 use Rattle.hac_model.proofs.NextLemmas.{next-own, next-state}
 use Rattle.dep_graph.specs.Graphs as graph
 use Rattle.dep_graph.specs.Graphs.{edges_of, edges_with, replaced}
 use Rattle.dep_graph.specs.declared.graph.NewEdges.{NewEdges}
-use Rattle.kept_state.specs.After.{edges_after, edges_next, mark_next, next_state, query_next}
+use Rattle.kept_state.specs.After.{answers_next, edges_after, edges_next, mark_next, next_state, query_next}
+use Rattle.kept_state.specs.Answers.{AreInOrder}
 use Rattle.kept_state.specs.Kept.{IsKept, seen_of}
 use Rattle.kept_state.specs.Parts.{IsLinked, WillHave, edges_marked, edges_then, facts_kept, state_of}
 use Rattle.kept_state.specs.Readers.{mark_at}
@@ -32,12 +35,14 @@ use Rattle.kept_state.specs.declared.kept.KeptState.TheInside.{Inside}
 use Rattle.kept_state.specs.declared.parts.Parts.{Parts}
 use Rattle.kept_state.specs.declared.ready.Ready.{Ready}
 use Rattle.kept_state.specs.declared.ready.Ready.TheVariants.{Nothing, Change, Session, Steps}
+use Rattle.kept_state.proofs.AnswerLemmas.{answers-fact, valid-order}
 use Rattle.kept_state.proofs.AskedLemmas.{event-asks, stepped-asks}
 use Rattle.kept_state.proofs.LenderLemmas.{will-put, will-stay}
 use Rattle.kept_state.proofs.MarkedLemmas.{event-mark, kept-mark, mark-fact, mark_in}
 use Rattle.kept_state.proofs.MountPutLemmas.{going-mount, no-edges, sync-there}
 use Rattle.kept_state.proofs.PutLemmas.{edges-put, next-none}
 use Rattle.kept_state.proofs.StateLemmas.{kept-bares, same-query}
+use Rattle.kept_state.proofs.ToldNextLemmas.{event-answers}
 
 -- The facts after events.
 
@@ -159,6 +164,14 @@ ready-mark kept h dir item (Change e edges counts) happen there = event-mark kep
 ready-mark kept h dir item (Session session n sessions) happen there = kept-mark kept h dir item
 ready-mark kept h dir item (Steps count) happen there = kept-mark kept h dir item
 
+-- Answers.
+
+ready-answers : (kept : Parts) → IsLinked kept → (ready : Ready) → IsReady ready kept → AllHappen (state_of kept) (ready_events ready) → (n : ℕ) → answers_next ready kept.answers n ≡ (facts_next ready kept n).answers
+ready-answers kept h Nothing fits happen n = refl
+ready-answers kept h (Change e edges counts) fits happen n = event-answers kept h e edges happen.0 fits.0 n
+ready-answers kept h (Session session dir sessions) fits happen n = refl
+ready-answers kept h (Steps count) fits happen n = refl
+
 -- All that is ready is made.
 
 module _ (inside : Inside) (h : IsKept inside) where
@@ -188,3 +201,15 @@ module _ (inside : Inside) (h : IsKept inside) where
       ready-mark inside.parts h.linked dir item inside.ready h.happen there
       ∙ ap (λ (facts : Facts). mark_in facts.marks item) (sym (next-facts dir))
       ∙ sym (mark-fact next dir item)
+
+  next-answers : (n : ℕ) → answers_next inside.ready inside.parts.answers n ≡ answers_at next n
+  next-answers n =
+      ready-answers inside.parts h.linked inside.ready h.ready h.happen n
+      ∙ ap (λ (facts : Facts). facts.answers) (sym (next-facts n))
+      ∙ sym (answers-fact next n)
+
+  pub next-order : (n : ℕ) → AreInOrder (answers_next inside.ready inside.parts.answers n)
+  next-order n = subst AreInOrder (sym (next-answers n)) (valid-order next next-valid n)
+
+  pub next-has : (n : ℕ) (term : Term) (document : ℕ) → has (unwrap_or (kept_for (answers_next inside.ready inside.parts.answers n) term) []) document ≡ has (kept_at next n term) document
+  next-has n term document = ap (λ (answers : List Answer). has (unwrap_or (kept_for answers term) []) document) (next-answers n)

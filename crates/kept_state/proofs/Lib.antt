@@ -19,4 +19,5 @@ pub mod FewLemmas
 pub mod ReaderLemmas
 pub mod AskedLemmas
 pub mod MarkedLemmas
+pub mod ToldNextLemmas
 pub mod AfterLemmas

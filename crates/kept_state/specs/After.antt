@@ -5,14 +5,16 @@ use Rattle.hac_model.specs.Tree.Events.{apply_all}
 use Rattle.hac_model.specs.Tree.Facts.{put_at}
 use Rattle.hac_model.specs.Tree.Links.{query_at}
 use Rattle.hac_model.specs.declared.events.Event.{Event}
-use Rattle.hac_model.specs.declared.events.Event.TheVariants.{Smkdir, Setq, Unq, Mark, Mv, Rmdir}
+use Rattle.hac_model.specs.declared.events.Event.TheVariants.{Smkdir, Setq, Unq, Mark, Mv, Rmdir, Smount, Ssync, Sumount}
 use Rattle.hac_model.specs.declared.marks.Kind.{Kind}
 use Rattle.hac_model.specs.declared.marks.Kind.TheVariants.{Unlinked}
+use Rattle.hac_model.specs.declared.states.Answer.{Answer}
 use Rattle.hac_model.specs.declared.states.State.{State}
 use Rattle.dep_graph.specs.Graphs as graph
 use Rattle.dep_graph.specs.Graphs.{edges_of, edges_with, replaced}
 use Rattle.dep_graph.specs.declared.graph.NewEdges.{NewEdges}
 use Rattle.link_kinds.specs.Seen.{Known, kind_at}
+use Rattle.kept_state.specs.Answers.{Answered, answers_kept, answers_put, answers_with}
 use Rattle.kept_state.specs.Seen.{Seen}
 use Rattle.kept_state.specs.declared.ready.Ready.{Ready}
 use Rattle.kept_state.specs.declared.ready.Ready.TheVariants.{Change}
@@ -60,3 +62,17 @@ mark_after other marks dir item = kind_at marks dir item
 abbrev pub mark_next : Ready → Known → ℕ → ℕ → Kind
 mark_next (Change event edges counts) marks dir item = mark_after event marks dir item
 mark_next other marks dir item = kind_at marks dir item
+
+-- the answers of each mount after an event, by those that were prepared for it
+abbrev pub answers_after : Event → Answered → ℕ → List Answer
+answers_after (Smkdir dir name query told) known = answers_with (answers_kept known) known.told
+answers_after (Setq dir query told) known = answers_with (answers_kept known) known.told
+answers_after (Smount dir name space documents told) known = answers_put (answers_kept known) known.ready
+answers_after (Ssync mount documents told) known = answers_put (answers_kept known) known.ready
+answers_after (Sumount gone) known = put_at (answers_kept known) gone []
+answers_after other known = answers_kept known
+
+-- the same after all that is ready
+abbrev pub answers_next : Ready → Answered → ℕ → List Answer
+answers_next (Change event edges counts) known = answers_after event known
+answers_next other known = answers_kept known

@@ -5,21 +5,23 @@ ghost use Rattle.std.specs.Option.{option_copied};
 ghost use Rattle.hac_model.specs.Tree.Depends.{NeverReturns, depends};
 ghost use Rattle.hac_model.specs.Tree.Events.{accepted};
 ghost use Rattle.hac_model.specs.Tree.Facts.{put_at};
-ghost use Rattle.hac_model.specs.Tree.Links.{is_item, lenders, query_at};
+ghost use Rattle.hac_model.specs.Tree.Links.{has, is_item, kept_at, lenders, query_at};
 ghost use Rattle.hac_model.specs.Tree.Sessions.{is_stored};
 ghost use Rattle.dep_graph.specs.Graphs.{edges_of, edges_with, replaced};
 ghost use Rattle.dep_graph.specs.Searches.{IsCone};
-ghost use Rattle.kept_state.specs.After.{edges_after, edges_next, next_state};
+ghost use Rattle.kept_state.specs.After.{answers_after, answers_next, edges_after, edges_next};
 ghost use Rattle.link_kinds.specs.Seen.{kind_at};
-ghost use Rattle.kept_state.specs.After.{mark_after, mark_next, query_after, query_next};
+ghost use Rattle.kept_state.specs.After.{mark_after, mark_next, next_state, query_after, query_next};
+ghost use Rattle.kept_state.specs.Answers.{answers_kept};
 ghost use Rattle.kept_state.specs.Readers.{mark_at};
 
+use crate::answers::{Answers, had};
 use crate::kept::KeptState;
 use crate::lenders::{behind_first, behind_named};
 use crate::ready::Ready;
 use dep_graph::{Graph, NewEdges};
 use file_tree::Tree;
-use hac_model::{Event, Kind, Mark, Memory, Number, Query};
+use hac_model::{Answer, Event, Kind, Mark, Memory, Number, Query, Term};
 use link_kinds::Links;
 use std::alloc::Global;
 
@@ -70,6 +72,13 @@ impl KeptState {
             result ≡ mark_at (next_state self.now) dir item }
     {
         mark_next(&self.parts.marks, &self.ready, dir, item)
+    }
+
+    /// Whether a document of a mount had a term, by the answer that the mount will keep for it.
+    pub fn has_answer_next(&self, mount: Number, term: &Term, document: Number) -> bool
+        ensures { result ≡ has (kept_at (next_state self.now) mount term.now) document }
+    {
+        had(answers_next(&self.parts.answers, &self.ready, mount), term, document)
     }
 }
 
@@ -268,5 +277,38 @@ fn mark_without(marks: &Links, bared: Number, dir: Number, item: Number) -> Kind
         Kind::Unlinked
     } else {
         marks.kind(dir, item)
+    }
+}
+
+/// The answers of a mount after all that is ready.
+fn answers_next<'a>(answers: &'a Answers, ready: &'a Ready, mount: Number) -> &'a [Answer]
+    ensures { result.now ≡ answers_next ready.now answers.now mount }
+{
+    match ready {
+        Ready::Change { event, .. } => answers_after(answers, event, mount),
+        _ => answers.kept_by(mount),
+    }
+}
+
+/// The answers of a mount after an event.
+fn answers_after<'a>(answers: &'a Answers, event: &Event, mount: Number) -> &'a [Answer]
+    ensures { result.now ≡ answers_after event.now answers.now mount }
+{
+    match event {
+        Event::Smkdir { .. } | Event::Setq { .. } => answers.told_to(mount),
+        Event::Smount { .. } | Event::Ssync { .. } => answers.put_for(mount),
+        Event::Sumount { mount: gone } => answers_without(answers, *gone, mount),
+        _ => answers.kept_by(mount),
+    }
+}
+
+/// The answers of a mount once one mount keeps none.
+fn answers_without(answers: &Answers, gone: Number, mount: Number) -> &[Answer]
+    ensures { result.now ≡ put_at (answers_kept answers.now) gone [] mount }
+{
+    if mount == gone {
+        &[]
+    } else {
+        answers.kept_by(mount)
     }
 }
