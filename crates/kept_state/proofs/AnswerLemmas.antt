@@ -5,7 +5,7 @@ use Rattle.std.specs.List.{AllByRecursion}
 use Rattle.std.specs.Option.{option_map, option_map_or}
 use Rattle.hac_model.specs.Tree.Facts.{Facts, facts_at, facts_of}
 use Rattle.hac_model.specs.Tree.Links.{answers_at, is_semantic}
-use Rattle.hac_model.specs.Tree.Valid.{IsAnswer, KeepsWell, RiseFrom}
+use Rattle.hac_model.specs.Tree.Valid.{IsAnswer, IsValid, KeepsWell, RiseFrom}
 use Rattle.hac_model.specs.Tree.{answers_in, body_at, entry_at, is_directory_at, is_mount, is_mount_at, query_in}
 use Rattle.hac_model.specs.declared.states.Answer.{Answer}
 use Rattle.hac_model.specs.declared.states.Body.{Body}
@@ -18,7 +18,7 @@ use Rattle.kept_state.specs.declared.parts.Parts.{Parts}
 
 -- The answers of a number are in its facts.
 
-answers-fact : (s : State) (n : ℕ) → answers_at s n ≡ (facts_of s n).answers
+pub answers-fact : (s : State) (n : ℕ) → answers_at s n ≡ (facts_of s n).answers
 answers-fact s n = elim (entry_at s.entries n) as (λ (o : Option Entry). option_map_or answers_in (option_map (λ (e : Entry). e.body) o) [] ≡ (facts_at (is_directory_at s.entries) o).answers) [ None ↦ refl | Some e ↦ refl ]
 
 pub kept-answers : (kept : Parts) → IsLinked kept → (n : ℕ) → answers_kept kept.answers n ≡ answers_at (state_of kept) n
@@ -79,5 +79,8 @@ order-at s (e ∷ es) n h =
       | false ↦ order-at s es n h.1
     ]
 
+pub valid-order : (s : State) → IsValid s → (n : ℕ) → AreInOrder (answers_at s n)
+valid-order s valid n = order-at s s.entries n valid.answers
+
 pub kept-order : (kept : Parts) → IsLinked kept → (n : ℕ) → AreInOrder (answers_kept kept.answers n)
-kept-order kept h n = subst AreInOrder (sym (kept-answers kept h n)) (order-at (state_of kept) (state_of kept).entries n h.valid.answers)
+kept-order kept h n = subst AreInOrder (sym (kept-answers kept h n)) (valid-order (state_of kept) h.valid n)

@@ -17,3 +17,7 @@ pub mod ReachLemmas
 pub mod RoomLemmas
 pub mod FewLemmas
 pub mod ReaderLemmas
+pub mod AskedLemmas
+pub mod MarkedLemmas
+pub mod ToldNextLemmas
+pub mod AfterLemmas

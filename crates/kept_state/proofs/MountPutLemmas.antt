@@ -81,6 +81,9 @@ module _ (kept : Parts) where
           told-even (synced s mount (answers_to (terms_to_ask s.entries) told) documents) mount (terms_to_ask s.entries) told parts.2 ∙ ap (λ (ts : List Term). length ts) terms-kept,
         )
 
+    pub sync-there : is_mount_at s.entries mount ≡ true
+    sync-there = sync-parts.0
+
     pub sync-mount : is_mount_at t.entries mount ≡ true
     sync-mount = sym (same-mount s t (kept-bares kept) mount) ∙ sync-parts.0
 
@@ -94,7 +97,7 @@ module _ (kept : Parts) where
     sync-even = sync-parts.2
 
   module _ (mount : ℕ) (ok : IsTrue (accepted s (event.Sumount mount))) where
-    going-mount : is_mount_at s.entries mount ≡ true
+    pub going-mount : is_mount_at s.entries mount ≡ true
     going-mount = (sumount-parts s mount (possible-of s (event.Sumount mount) ok)).0
 
     pub gone-mount : is_mount_at t.entries mount ≡ true
@@ -151,10 +154,10 @@ mount-facts s n h = at (entry_at s.entries n) h
     at (Some e) h = body-facts e.parent e.body h
 
 module _ (kept : Parts) (h : IsLinked kept) (mount : ℕ) (there : is_mount_at (state_of kept).entries mount ≡ true) where
-  no-marks : (facts_kept kept mount).marks ≡ no_marks
+  pub no-marks : (facts_kept kept mount).marks ≡ no_marks
   no-marks = ap (λ (facts : Facts). facts.marks) (sym (h.own mount)) ∙ (mount-facts (state_of kept) mount there).0
 
-  no-edges : edges_of kept.graph mount ≡ []
+  pub no-edges : edges_of kept.graph mount ≡ []
   no-edges = ap (λ (facts : Facts). facts.edges) (sym (h.own mount)) ∙ (mount-facts (state_of kept) mount there).1
 
   mount-changed : (e : Event) (test : ℕ → Bool) (answers : List Answer) → IsTrue (accepted (state_of kept) e) →

@@ -53,7 +53,7 @@ tested-there t n p h = elim (entry_at t.entries n) as (λ (o : Option Entry). op
 
 -- What is seen of facts that one number gets in place of others.
 
-edges-put : (b : Bool) (new old : Facts) → cond b new.edges old.edges ≡ (cond b new old).edges
+pub edges-put : (b : Bool) (new old : Facts) → cond b new.edges old.edges ≡ (cond b new old).edges
 edges-put true new old = refl
 edges-put false new old = refl
 
@@ -99,10 +99,10 @@ module _ (kept : Parts) (asked : Formula ℕ) (told : List (List ℕ)) where
   now-told = facts_told asked told kept.tree.state (facts_kept kept)
 
   -- what is no mount keeps what it kept
-  plain-then : (n : ℕ) → is_mount_at kept.tree.state.entries n ≡ false → answers_then keeps asked told kept.tree.state n ≡ keeps n
+  pub plain-then : (n : ℕ) → is_mount_at kept.tree.state.entries n ≡ false → answers_then keeps asked told kept.tree.state n ≡ keeps n
   plain-then n plain = ap (λ (more : List Answer). with_answers more (keeps n)) (gained-plain keeps asked told kept.tree.state.entries n plain)
 
-  told-but : (m : ℕ) (new : Facts) → answers_then keeps asked told kept.tree.state m ≡ new.answers → (n : ℕ) → answers_then keeps asked told kept.tree.state n ≡ (cond (n == m) new (now-told n)).answers
+  pub told-but : (m : ℕ) (new : Facts) → answers_then keeps asked told kept.tree.state m ≡ new.answers → (n : ℕ) → answers_then keeps asked told kept.tree.state n ≡ (cond (n == m) new (now-told n)).answers
   told-but m new same n = at (n == m) refl
     where
       at : (b : Bool) → (n == m) ≡ b → answers_then keeps asked told kept.tree.state n ≡ (cond b new (now-told n)).answers

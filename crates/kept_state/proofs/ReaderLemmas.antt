@@ -21,7 +21,7 @@ use Rattle.kept_state.proofs.StateLemmas.{tree-layout}
 
 -- so are the prohibited items of its directories
 
-prohibited-fact : (s : State) (n : ℕ) → prohibited_at s n ≡ (facts_of s n).marks.prohibited
+pub prohibited-fact : (s : State) (n : ℕ) → prohibited_at s n ≡ (facts_of s n).marks.prohibited
 prohibited-fact s n = elim (entry_at s.entries n) as (λ (o : Option Entry). option_map_or tree.prohibited_in (option_map (λ (e : Entry). e.body) o) [] ≡ (facts_at (is_directory_at s.entries) o).marks.prohibited) [ None ↦ refl | Some e ↦ refl ]
 
 module _ (kept : Parts) (h : IsLinked kept) where

@@ -24,6 +24,11 @@ abbrev pub answers_with : (ℕ → List Answer) → Option (List (ℕ × List An
 answers_with kept None mount = kept mount
 answers_with kept (Some lists) mount = unwrap_or (lookup (nat_eq mount) lists) []
 
+-- the answers of a mount by those that one is ready for, or, where none is, what it keeps
+abbrev pub answers_put : (ℕ → List Answer) → Option NewAnswers → ℕ → List Answer
+answers_put kept None mount = kept mount
+answers_put kept (Some new) mount = if mount == new.mount then new.answers else kept mount
+
 -- each mount keeps what it kept
 abbrev pub SameAnswers : Answered → Answered → Type 0
 SameAnswers old new = (mount : ℕ) → answers_kept new mount ≡ answers_kept old mount

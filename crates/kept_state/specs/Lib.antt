@@ -9,3 +9,4 @@ pub mod Room
 pub mod Readers
 pub mod Seen
 pub mod Kept
+pub mod After

@@ -8,7 +8,7 @@ ghost use Rattle.hac_model.specs.Tree.Links.{has};
 ghost use Rattle.hac_model.specs.Tree.Mounts.{is_kept, kept_for};
 ghost use Rattle.hac_model.specs.Tree.Valid.{RiseFrom, TermsRise};
 ghost use Rattle.kept_state.specs.Answers.{AreInOrder, Replaces, SameAnswers, answers_kept};
-ghost use Rattle.kept_state.specs.Answers.{answers_with};
+ghost use Rattle.kept_state.specs.Answers.{answers_put, answers_with};
 ghost use Rattle.kept_state.specs.AnswersKept.{has_list, list_at, told_of};
 
 use hac_model::{Answer, Memory, Number, Seq, Term};
@@ -129,6 +129,26 @@ impl Answers {
         if let Some(lists) = self.told.take() {
             self.ready = None;
             self.lists = lists;
+        }
+    }
+
+    /// The answers that a mount will keep once those are put that were prepared for one mount.
+    pub fn put_for(&self, mount: Number) -> &[Answer]
+        ensures { result.now ≡ answers_put (answers_kept self.now) self.now.ready mount }
+    {
+        match &self.ready {
+            Some(new) if new.mount == mount => new.answers.as_slice(),
+            _ => self.kept_by(mount),
+        }
+    }
+
+    /// The answers that a mount will keep once those are put that were prepared for all mounts.
+    pub fn told_to(&self, mount: Number) -> &[Answer]
+        ensures { result.now ≡ answers_with (answers_kept self.now) self.now.told mount }
+    {
+        match &self.told {
+            Some(lists) => list_of(lists, mount),
+            None => self.kept_by(mount),
         }
     }
 

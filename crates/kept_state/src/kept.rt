@@ -34,8 +34,8 @@ use std::mem;
 /// A state, seen as that state and as the events for which memory was taken.
 #[derive(Drop)]
 pub struct KeptState {
-    parts: Parts,
-    ready: Ready,
+    pub(crate) parts: Parts,
+    pub(crate) ready: Ready,
 }
 
 impl Model for KeptState {

@@ -23,7 +23,7 @@ pub fn lenders(kept: &Parts, dir: Number) -> &[Number]
 }
 
 /// All but the first of the edges.
-fn behind_first(edges: &[Number]) -> &[Number]
+pub fn behind_first(edges: &[Number]) -> &[Number]
     ensures { result.now ≡ drop 1 edges.now }
 {
     match edges.split_first() {
@@ -34,7 +34,7 @@ fn behind_first(edges: &[Number]) -> &[Number]
 
 /// The edges that come behind those to the directories that a query names. It goes down as deep as
 /// the query does.
-fn behind_named<'a>(edges: &'a [Number], query: &Query<Number>) -> &'a [Number]
+pub fn behind_named<'a>(edges: &'a [Number], query: &Query<Number>) -> &'a [Number]
     ensures { (rest : List ℕ) → edges.now ≡ named_in query.now ++ rest → result.now ≡ rest }
 {
     match &query.node {

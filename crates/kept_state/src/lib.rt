@@ -4,6 +4,7 @@
 //! applied without any. It knows no command, no path and no link that a query finds.
 #![tactic(auto)]
 
+mod after;
 mod answers;
 mod edges;
 mod forgetting;
