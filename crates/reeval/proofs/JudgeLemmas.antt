@@ -1,9 +1,8 @@
 -- The links of a state, item by item: they are its judgements by these links, and nothing else is.
-use Rattle.std.proofs.Common.{◌≡◌, ℕ, Bool, true, false, cond, List, [], ◌∷◌, refl, ap, sym, ◌∙◌, eq-eqb}
+use Rattle.std.proofs.Common.{◌≡◌, ℕ, Bool, true, false, List, [], ◌∷◌, refl, ap, sym, ◌∙◌, eq-eqb}
 use Rattle.std.proofs.lemmas.Bool.{eqb-true}
 use Rattle.std.specs.Prelude.{◌&&◌, ◌||◌, ◌==◌, if◌then◌else◌, filter}
 use Rattle.std.specs.List.{range_with_len}
-use Rattle.hac_model.specs.Tree.Depends.{IsAcyclic}
 use Rattle.hac_model.specs.Tree.Links.{DirLinks, column, has, is_item, is_lent, is_semantic, items, links, no_links, passes, round}
 use Rattle.hac_model.specs.Tree.Valid.{IsLayout, IsValid}
 use Rattle.hac_model.specs.declared.states.State.{State}

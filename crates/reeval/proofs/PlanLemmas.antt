@@ -1,18 +1,16 @@
 -- The new verdicts on all items, from those that are touched and those that aren't.
-use Rattle.std.proofs.Common.{◌≡◌, ℕ, Bool, true, false, List, [], ◌∷◌, refl, ap, sym, ◌∙◌, subst, inl, inr}
+use Rattle.std.proofs.Common.{◌≡◌, ℕ, Bool, true, false, List, [], refl, ap, ◌∙◌}
 use Rattle.std.specs.Prelude.{◌&&◌}
-use Rattle.dep_graph.specs.Searches.{IsOrdered}
-use Rattle.hac_model.specs.Tree.Depends.{Among, depends}
+use Rattle.hac_model.specs.Tree.Depends.{Among}
 use Rattle.hac_model.specs.Tree.Links.{has, is_item, is_lent, is_semantic, passes}
 use Rattle.hac_model.specs.Tree.Valid.{IsValid}
 use Rattle.hac_model.specs.declared.states.State.{State}
-use Rattle.reeval.specs.Judging.{LeavesAlike, judgement, is_linked, no_verdict, verdict_of}
-use Rattle.reeval.specs.Routes.{Covers, begins_at}
+use Rattle.reeval.specs.Judging.{LeavesAlike, is_linked, no_verdict, verdict_of}
+use Rattle.reeval.specs.Routes.{Covers}
 use Rattle.reeval.specs.Settled.{IsPlanned, SettlesAll}
 use Rattle.reeval.specs.Told.{news_on, told}
 use Rattle.reeval.specs.declared.planning.Task.{Task}
 use Rattle.reeval.specs.declared.verdicts.Change.{Change}
-use Rattle.reeval.specs.declared.verdicts.Verdict.{Verdict}
 use Rattle.reeval.proofs.JudgeLemmas.{links-judged}
 use Rattle.reeval.proofs.SettleLemmas.{among-has, has-among, settled-all, settled-none}
 
@@ -41,12 +39,12 @@ module _ (s t : State) (task : Task) (planned : IsPlanned s t task) (apart : (it
   pub all-told : (item dir : ℕ) → told (news_on item second) (verdict_of s item) dir ≡ verdict_of t item dir
   all-told item dir = elim (has task.touched.items item) as (λ b. has task.touched.items item ≡ b → told (news_on item second) (verdict_of s item) dir ≡ verdict_of t item dir) [
     | true ↦ (λ is. let inside = has-among task.touched.items item is in
-      ap (λ (news : List Change). told news (verdict_of s item) dir) (more.others item (apart item inside)) ∙ some.settled item inside refl (planned.touched item inside) dir)
+        ap (λ (news : List Change). told news (verdict_of s item) dir) (more.others item (apart item inside)) ∙ some.settled item inside refl (planned.touched item inside) dir)
     | false ↦ (λ not_it. elim (has task.others.items item) as (λ b. has task.others.items item ≡ b → told (news_on item second) (verdict_of s item) dir ≡ verdict_of t item dir) [
       | true ↦ (λ is. let inside = has-among task.others.items item is in
-        more.settled item inside (some.others item (outside task.touched.items not_it)) (planned.others item inside) dir)
+          more.settled item inside (some.others item (outside task.touched.items not_it)) (planned.others item inside) dir)
       | false ↦ (λ nor. let none : news_on item second ≡ [] = more.others item (outside task.others.items nor) ∙ some.others item (outside task.touched.items not_it) in
-        ap (λ (news : List Change). told news (verdict_of s item) dir) none ∙ planned.rest item (outside task.touched.items not_it) (outside task.others.items nor) dir)
+          ap (λ (news : List Change). told news (verdict_of s item) dir) none ∙ planned.rest item (outside task.touched.items not_it) (outside task.others.items nor) dir)
     ] refl)
   ] refl
     where

@@ -1,7 +1,7 @@
 -- Several items, settled one after the other.
-use Rattle.std.proofs.Common.{◌≡◌, ℕ, Bool, true, false, List, [], ◌∷◌, ◌++◌, refl, ap, sym, ◌∙◌, subst, eq-eqb, inl, inr}
+use Rattle.std.proofs.Common.{◌≡◌, ℕ, true, false, List, [], ◌∷◌, ◌++◌, refl, ap, sym, ◌∙◌, subst, eq-eqb, inl, inr}
 use Rattle.std.proofs.lemmas.Bool.{eqb-true}
-use Rattle.std.specs.Prelude.{◌&&◌, ◌||◌, ◌==◌, ◌⊎◌, if◌then◌else◌}
+use Rattle.std.specs.Prelude.{◌==◌, ◌⊎◌}
 use Rattle.std.specs.List.{list_all}
 use Rattle.dep_graph.specs.Searches.{EachOnce}
 use Rattle.hac_model.specs.Tree.Depends.{Among}
@@ -12,7 +12,6 @@ use Rattle.reeval.specs.Settled.{SettlesAll}
 use Rattle.reeval.specs.Told.{is_on, news_on, told}
 use Rattle.reeval.specs.declared.settling.Stop.{Stop}
 use Rattle.reeval.specs.declared.verdicts.Change.{Change}
-use Rattle.reeval.specs.declared.verdicts.Verdict.{Verdict}
 use Rattle.reeval.proofs.ToldLemmas.{news-here, news-there}
 
 -- all items but those that are left are settled

@@ -49,7 +49,9 @@ pub fn plan<Y: Layout, A: Atoms, B: Before>(
     let everywhere = task.everywhere.as_slice();
     let touched = task.touched.as_slice();
     let mut delta = Vec::new(alloc);
-    settle_all(alloc, layout, atoms, before, everywhere, touched, &mut delta)?;
+    settle_all(
+        alloc, layout, atoms, before, everywhere, touched, &mut delta,
+    )?;
     let along = task.along.as_slice();
     let others = task.others.as_slice();
     settle_all(alloc, layout, atoms, before, along, others, &mut delta)?;

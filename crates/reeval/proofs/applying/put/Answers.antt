@@ -1,4 +1,4 @@
-use Rattle.std.proofs.Common.{◌≡◌, ap, sym, subst}
+use Rattle.std.proofs.Common.{subst}
 use Rattle.hac_model.specs.declared.marks.Kind.{Kind}
 use Rattle.link_kinds.specs.Kinds.{with_kind}
 use Rattle.link_kinds.specs.Seen.{ChangesDir, lists_in}

@@ -1,4 +1,4 @@
-use Rattle.std.specs.Prelude.{◌≡◌, ◌<◌, ◌≤◌, IsTrue, take}
+use Rattle.std.specs.Prelude.{◌<◌, ◌≤◌, IsTrue, take}
 use Rattle.std.specs.List.{AllByRecursion}
 use Rattle.link_kinds.specs.Seen.{SameKinds, has_sets}
 use Rattle.reeval.proofs.applying.reserve.Given as goal

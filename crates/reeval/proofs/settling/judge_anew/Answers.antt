@@ -1,8 +1,8 @@
-use Rattle.std.proofs.Common.{◌≡◌, ℕ, Bool, true, false, List, refl, ap, sym, ◌∙◌}
-use Rattle.std.specs.Prelude.{◌==◌, if◌then◌else◌, not}
+use Rattle.std.proofs.Common.{◌≡◌, ℕ, List, refl, ap, sym, ◌∙◌}
+use Rattle.std.specs.Prelude.{◌==◌, if◌then◌else◌}
 use Rattle.std.specs.List.{list_all}
 use Rattle.reeval.specs.Judging.{is_linked, judgement, verdict_of}
-use Rattle.reeval.specs.Told.{are_same, is_on, told}
+use Rattle.reeval.specs.Told.{is_on, told}
 use Rattle.reeval.specs.declared.verdicts.Change.{Change}
 use Rattle.reeval.specs.declared.verdicts.Verdict.{Verdict}
 use Rattle.reeval.proofs.ToldLemmas.{own-pushed, same-verdict, told-pushed, told-same}

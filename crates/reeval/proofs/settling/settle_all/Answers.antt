@@ -1,9 +1,6 @@
 use Rattle.std.proofs.Common.{◌≡◌, ℕ, List, [], ◌∷◌, ◌++◌, ◌+◌, ap, sym, subst, ◌∙◌}
 use Rattle.std.specs.Prelude.{drop}
-use Rattle.std.specs.List.{list_all}
 use Rattle.std.proofs.lemmas.List.{drop_all, drop_more}
-use Rattle.reeval.specs.Judging.{verdict_of}
-use Rattle.reeval.specs.Told.{is_on, told}
 use Rattle.reeval.specs.declared.verdicts.Change.{Change}
 use Rattle.reeval.proofs.SeveralLemmas.{PartlySettled, partly-all, partly-more}
 use Rattle.reeval.proofs.settling.settle_all.Goals as goal

@@ -1,4 +1,4 @@
-use Rattle.std.proofs.Common.{◌≡◌, ℕ, Bool, refl, ap, ◌∙◌}
+use Rattle.std.proofs.Common.{ℕ, Bool, refl, ap, ◌∙◌}
 use Rattle.hac_model.specs.Query.Queries.{query_meaning}
 use Rattle.hac_model.specs.Tree.Links.{provide}
 use Rattle.hac_model.specs.declared.terms.Term.{Term}
