@@ -14,6 +14,7 @@ use Rattle.hac_model.specs.Tree.Mounts.{kept_for, terms_to_ask}
 use Rattle.hac_model.specs.Tree.Sessions.{sessions_after}
 use Rattle.hac_model.specs.Tree.Valid.{IsValid}
 use Rattle.hac_model.specs.Tree.{is_directory_at}
+use Rattle.hac_model.specs.declared.counts.Counts.{Counts}
 use Rattle.hac_model.specs.declared.events.Event.{Event}
 use Rattle.hac_model.specs.declared.events.Event.TheVariants as event
 use Rattle.hac_model.specs.declared.states.Answer.{Answer}
@@ -25,7 +26,7 @@ use Rattle.hac_model.proofs.NextLemmas.{next-own, next-state}
 use Rattle.dep_graph.specs.Graphs as graph
 use Rattle.dep_graph.specs.Graphs.{edges_of, edges_with, replaced}
 use Rattle.dep_graph.specs.declared.graph.NewEdges.{NewEdges}
-use Rattle.kept_state.specs.After.{answers_next, edges_after, edges_next, mark_next, next_state, query_next}
+use Rattle.kept_state.specs.After.{answers_next, are_quiet, edges_after, edges_next, mark_next, next_state, query_next}
 use Rattle.kept_state.specs.Answers.{AreInOrder}
 use Rattle.kept_state.specs.Kept.{IsKept, seen_of}
 use Rattle.kept_state.specs.Parts.{IsLinked, WillHave, edges_marked, edges_then, facts_kept, state_of}
@@ -37,12 +38,24 @@ use Rattle.kept_state.specs.declared.ready.Ready.{Ready}
 use Rattle.kept_state.specs.declared.ready.Ready.TheVariants.{Nothing, Change, Session, Steps}
 use Rattle.kept_state.proofs.AnswerLemmas.{answers-fact, valid-order}
 use Rattle.kept_state.proofs.AskedLemmas.{event-asks, stepped-asks}
-use Rattle.kept_state.proofs.LenderLemmas.{will-put, will-stay}
+use Rattle.kept_state.proofs.LenderLemmas.{will-stay}
 use Rattle.kept_state.proofs.MarkedLemmas.{event-mark, kept-mark, mark-fact, mark_in}
 use Rattle.kept_state.proofs.MountPutLemmas.{going-mount, no-edges, sync-there}
 use Rattle.kept_state.proofs.PutLemmas.{edges-put, next-none}
 use Rattle.kept_state.proofs.StateLemmas.{kept-bares, same-query}
 use Rattle.kept_state.proofs.ToldNextLemmas.{event-answers}
+
+-- What isn't an event that was prepared by itself is steps or a session's, or nothing.
+
+quiet-steps : (count : ℕ) → are_quiet (replicate count event.Step) ≡ true
+quiet-steps zero = refl
+quiet-steps (suc count) = quiet-steps count
+
+pub quiet-ready : (ready : Ready) → ((e : Event) (edges : Option NewEdges) (counts : Counts) → ready ≡ Change e edges counts → ⊥) → are_quiet (ready_events ready) ≡ true
+quiet-ready (Change e edges counts) other = absurd (other e edges counts refl)
+quiet-ready Nothing other = refl
+quiet-ready (Session session dir sessions) other = refl
+quiet-ready (Steps count) other = quiet-steps count
 
 -- The facts after events.
 

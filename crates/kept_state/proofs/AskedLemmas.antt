@@ -1,6 +1,6 @@
 -- The query of each directory after an event, by the tree before it.
 use Rattle.std.proofs.Common.{◌≡◌, ℕ, ◌+◌, Bool, true, false, cond, List, [], ◌∷◌, ◌++◌, refl, ap, sym, ◌∙◌}
-use Rattle.std.specs.Prelude.{◌==◌, ◌||◌, ◌&&◌, filter, not, Option, Some, None, IsTrue, is_some, option_and_then}
+use Rattle.std.specs.Prelude.{◌==◌, ◌&&◌, not, Option, Some, None, IsTrue, option_and_then}
 use Rattle.std.specs.Option.{option_map, option_map_or}
 use Rattle.std.proofs.lemmas.Bool.{and_parts, eqb-false, eqb-true}
 use Rattle.hac_model.specs.Query.Formula.{Formula}
@@ -9,7 +9,7 @@ use Rattle.hac_model.specs.Tree.Facts.{bare_after, put_at}
 use Rattle.hac_model.specs.Tree.Links.{query_at}
 use Rattle.hac_model.specs.Tree.Mounting.{documents_from, fresh, is_among, is_gone, is_of_mount, is_such_at, without_such}
 use Rattle.hac_model.specs.Tree.Valid.{IsLayout, NumbersRise}
-use Rattle.hac_model.specs.Tree.{body_at, entry_at, is_directory, is_directory_at, is_document, is_leaf, is_leaf_at, is_made_directory, is_mount, is_mount_at, query_in}
+use Rattle.hac_model.specs.Tree.{entry_at, is_directory, is_directory_at, is_document, is_leaf, is_made_directory, is_mount, is_mount_at, query_in}
 use Rattle.hac_model.specs.declared.events.Event.{Event}
 use Rattle.hac_model.specs.declared.events.Event.TheVariants.{Mkdir, NewFile, Rewrite, Ln, Smkdir, Setq, Unq, Mark, Mv, Rm, Rmdir, Smount, Ssync, Sumount, Step, Cd}
 use Rattle.hac_model.specs.declared.states.Body.{Body}

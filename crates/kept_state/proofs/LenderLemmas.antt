@@ -1,7 +1,7 @@
 -- The directories that users added to a directory, as they stand among its edges.
-use Rattle.std.proofs.Common.{◌≡◌, ℕ, zero, suc, ◌+◌, ◌≤◌, Bool, true, false, cond, List, [], ◌∷◌, ◌++◌, drop, one-add, subst, refl, ap, sym, ◌∙◌, arith, ◌<◌}
-use Rattle.std.specs.Prelude.{◌==◌, not, filter, nat_le, nat_lt, Option, Some, None, Result, Ok, Err, IfOk, IfSome, IsTrue, OnOk, option_and_then}
-use Rattle.std.specs.List.{AllByRecursion, insert, prefix_len}
+use Rattle.std.proofs.Common.{◌≡◌, ℕ, ◌+◌, ◌≤◌, Bool, true, false, cond, List, [], ◌∷◌, ◌++◌, drop, one-add, subst, refl, ap, sym, ◌∙◌, arith, ◌<◌}
+use Rattle.std.specs.Prelude.{◌==◌, not, filter, nat_le, nat_lt, Option, Some, None, Result, Ok, Err, IfOk, IfSome, OnOk, option_and_then}
+use Rattle.std.specs.List.{insert, prefix_len}
 use Rattle.std.specs.Option.{option_map, option_map_or}
 use Rattle.std.proofs.lemmas.Bool.{eqb-true, le-leb, lt-leb, lt-ltb, ltb-false, ltb-true}
 use Rattle.hac_model.specs.Query.Formula.{Formula}

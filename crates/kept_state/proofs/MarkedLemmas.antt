@@ -1,13 +1,12 @@
 -- The mark of each item in a directory after an event, by the marks before it.
-use Rattle.std.proofs.Common.{◌≡◌, ℕ, Bool, true, false, cond, List, [], ◌∷◌, refl, ap, sym, subst, ◌∙◌, eq-eqb}
+use Rattle.std.proofs.Common.{◌≡◌, ℕ, Bool, true, false, cond, List, ◌∷◌, refl, ap, sym, ◌∙◌, eq-eqb}
 use Rattle.std.specs.Prelude.{◌==◌, ◌&&◌, ◌||◌, not, Option, Some, None, IsTrue, option_and_then}
 use Rattle.std.specs.Option.{option_map, option_map_or}
 use Rattle.std.proofs.lemmas.Bool.{eqb-false, eqb-true, ne_eqb}
 use Rattle.hac_model.specs.Tree.Depends.{named_in}
 use Rattle.hac_model.specs.Tree.Events.{accepted, apply, may_mark, put_in, without}
-use Rattle.hac_model.specs.Tree.Facts.{Facts, Marks, bare_after, edges_to, facts_after, facts_of, facts_told, facts_with, facts_without, marks_without, no_facts, no_marks, with_mark, without_item}
-use Rattle.hac_model.specs.Query.Formula.{Formula}
-use Rattle.hac_model.specs.Tree.Links.{has, is_item, parent_of, permanent_at, prohibited_at, query_at}
+use Rattle.hac_model.specs.Tree.Facts.{Facts, Marks, bare_after, facts_after, facts_of, facts_told, facts_with, facts_without, marks_without, no_facts, no_marks, with_mark}
+use Rattle.hac_model.specs.Tree.Links.{has, is_item, parent_of, query_at}
 use Rattle.hac_model.specs.Tree.Mounting.{answers_to, fresh, is_gone, is_of_mount, is_such_at, numbers_without, without_such}
 use Rattle.hac_model.specs.Tree.Mounts.{terms_to_ask}
 use Rattle.hac_model.specs.Tree.Valid.{IsLayout}
@@ -193,8 +192,8 @@ module _ (kept : Parts) (h : IsLinked kept) (dir item : ℕ) where
   event-mark (event.Mv entry parent name) ok there = same-put entry (facts_with t parent (query_at t entry) (facts entry).marks (facts entry)) facts refl refl
   event-mark (event.Rm entry) ok there =
       kept-mark ∙ (λ i. kind_by
-          (sym (without-other entry item (facts dir).marks.permanent (not-removed t entry item (item-told (event.Rm entry) there))) i)
-          (sym (without-other entry item (facts dir).marks.prohibited (not-removed t entry item (item-told (event.Rm entry) there))) i))
+      (sym (without-other entry item (facts dir).marks.permanent (not-removed t entry item (item-told (event.Rm entry) there))) i)
+      (sym (without-other entry item (facts dir).marks.prohibited (not-removed t entry item (item-told (event.Rm entry) there))) i))
   event-mark (event.Rmdir n) ok there = none-put n
   event-mark (event.Smount parent name space documents told) ok there = same-put t.next (record no_facts { answers = answers_to (terms_to_ask t.entries) told }) facts next-bare refl
   event-mark (event.Ssync mount documents told) ok there =

@@ -1,5 +1,5 @@
 -- What a linked tree says of its state: all but marks is in the tree alone.
-use Rattle.std.proofs.Common.{◌≡◌, ℕ, false, List, map, refl, ap, true, subst, sym, ◌∙◌}
+use Rattle.std.proofs.Common.{◌≡◌, ℕ, false, List, refl, ap, true, subst, sym, ◌∙◌}
 use Rattle.std.specs.Prelude.{◌&&◌, ◌||◌, not, nat_lt, Option, Some, None, is_some, option_and_then}
 use Rattle.std.specs.Option.{option_map, option_map_or}
 use Rattle.hac_model.specs.Tree.Bare.{bare, bare_body}

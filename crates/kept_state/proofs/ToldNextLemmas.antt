@@ -1,15 +1,14 @@
 -- What each mount keeps after an event, by what was prepared for it.
-use Rattle.std.proofs.Common.{◌≡◌, ℕ, Bool, true, false, cond, List, [], ◌∷◌, refl, ap, sym, ◌∙◌, arith}
-use Rattle.std.specs.Prelude.{◌==◌, Option, Some, None, IsTrue}
+use Rattle.std.proofs.Common.{◌≡◌, ℕ, Bool, true, false, cond, List, ◌∷◌, refl, ap, sym, ◌∙◌, arith}
+use Rattle.std.specs.Prelude.{◌==◌, Option, Some, IsTrue}
 use Rattle.std.specs.Option.{option_map, option_map_or}
-use Rattle.hac_model.specs.Query.Formula.{Formula}
 use Rattle.hac_model.specs.Tree.Depends.{named_in}
 use Rattle.hac_model.specs.Tree.Events.{accepted}
 use Rattle.hac_model.specs.Tree.Facts.{Facts, facts_after, facts_with, facts_without, no_facts, with_mark}
 use Rattle.hac_model.specs.Tree.Links.{parent_of, query_at}
 use Rattle.hac_model.specs.Tree.Mounting.{answers_to, is_gone, is_of_mount, is_such_at}
 use Rattle.hac_model.specs.Tree.Mounts.{terms_to_ask}
-use Rattle.hac_model.specs.Tree.{entry_at, is_mount, is_mount_at}
+use Rattle.hac_model.specs.Tree.{is_mount, is_mount_at}
 use Rattle.hac_model.specs.declared.events.Event.{Event}
 use Rattle.hac_model.specs.declared.events.Event.TheVariants as event
 use Rattle.hac_model.specs.declared.states.Answer.{Answer}

@@ -1,11 +1,12 @@
 -- What a state will be after the events that it is ready for.
-use Rattle.std.specs.Prelude.{ℕ, ◌==◌, ◌&&◌, if◌then◌else◌, List, [], Option, Some, None}
+use Rattle.std.specs.Prelude.{ℕ, Bool, true, false, ◌==◌, ◌&&◌, if◌then◌else◌, List, [], Option, Some, None}
+use Rattle.std.specs.List.{list_all}
 use Rattle.hac_model.specs.Query.Formula.{Formula}
 use Rattle.hac_model.specs.Tree.Events.{apply_all}
 use Rattle.hac_model.specs.Tree.Facts.{put_at}
 use Rattle.hac_model.specs.Tree.Links.{query_at}
 use Rattle.hac_model.specs.declared.events.Event.{Event}
-use Rattle.hac_model.specs.declared.events.Event.TheVariants.{Smkdir, Setq, Unq, Mark, Mv, Rmdir, Smount, Ssync, Sumount}
+use Rattle.hac_model.specs.declared.events.Event.TheVariants.{Smkdir, Setq, Unq, Mark, Mv, Rmdir, Smount, Ssync, Sumount, Step, Cd}
 use Rattle.hac_model.specs.declared.marks.Kind.{Kind}
 use Rattle.hac_model.specs.declared.marks.Kind.TheVariants.{Unlinked}
 use Rattle.hac_model.specs.declared.states.Answer.{Answer}
@@ -22,6 +23,16 @@ use Rattle.kept_state.specs.declared.ready.Ready.TheVariants.{Change}
 -- the next state: that after the events
 abbrev pub next_state : Seen → State
 next_state kept = apply_all kept.state kept.ready
+
+-- the event is a step, or moves a session
+abbrev pub is_quiet : Event → Bool
+is_quiet Step = true
+is_quiet (Cd session dir) = true
+is_quiet other = false
+
+-- all of them do no more
+abbrev pub are_quiet : List Event → Bool
+are_quiet events = list_all is_quiet events
 
 -- the edges of each directory after an event, by those that were prepared for it
 abbrev pub edges_after : Event → Option NewEdges → graph.Seen → ℕ → List ℕ

@@ -1,6 +1,7 @@
 //! What a state will be after the events that it is ready for. It asks what was prepared, and
 //! changes nothing.
-ghost use Rattle.std.specs.Prelude.{◌≡◌, ◌==◌, ◌&&◌, ◌∷◌, [], IfOk, IfSome, IsTrue, if◌then◌else◌};
+ghost use Rattle.std.specs.Prelude.{◌≡◌, ◌==◌, ◌&&◌, ◌∷◌, [], IfNone, IfOk, IfSome, IsTrue};
+ghost use Rattle.std.specs.Prelude.{if◌then◌else◌};
 ghost use Rattle.std.specs.Option.{option_copied};
 ghost use Rattle.hac_model.specs.Tree.Depends.{NeverReturns, depends};
 ghost use Rattle.hac_model.specs.Tree.Events.{accepted};
@@ -11,7 +12,8 @@ ghost use Rattle.dep_graph.specs.Graphs.{edges_of, edges_with, replaced};
 ghost use Rattle.dep_graph.specs.Searches.{IsCone};
 ghost use Rattle.kept_state.specs.After.{answers_after, answers_next, edges_after, edges_next};
 ghost use Rattle.link_kinds.specs.Seen.{kind_at};
-ghost use Rattle.kept_state.specs.After.{mark_after, mark_next, next_state, query_after, query_next};
+ghost use Rattle.kept_state.specs.After.{are_quiet, mark_after, mark_next, next_state};
+ghost use Rattle.kept_state.specs.After.{query_after, query_next};
 ghost use Rattle.kept_state.specs.Answers.{answers_kept};
 ghost use Rattle.kept_state.specs.Readers.{mark_at};
 
@@ -32,6 +34,7 @@ impl KeptState {
         ensures accepted { IfSome (option_copied result)
             (λ event. IsTrue (accepted self.now.state event)) }
         ensures stored { IfSome (option_copied result) (λ event. IsTrue (is_stored event)) }
+        ensures none { IfNone (option_copied result) (IsTrue (are_quiet self.now.ready)) }
     {
         match &self.ready {
             Ready::Change { event, .. } => Some(event),
@@ -78,7 +81,11 @@ impl KeptState {
     pub fn has_answer_next(&self, mount: Number, term: &Term, document: Number) -> bool
         ensures { result ≡ has (kept_at (next_state self.now) mount term.now) document }
     {
-        had(answers_next(&self.parts.answers, &self.ready, mount), term, document)
+        had(
+            answers_next(&self.parts.answers, &self.ready, mount),
+            term,
+            document,
+        )
     }
 }
 
@@ -126,11 +133,7 @@ fn edges_with<'a>(graph: &'a Graph, edges: &'a Option<NewEdges>, dir: Number) ->
 fn edges_without(graph: &Graph, bared: Number, dir: Number) -> &[Number]
     ensures { result.now ≡ replaced (edges_of graph.now) bared [] dir }
 {
-    if dir == bared {
-        &[]
-    } else {
-        graph.edges(dir)
-    }
+    if dir == bared { &[] } else { graph.edges(dir) }
 }
 
 /// The cone of some directories after all that is ready.
@@ -208,7 +211,9 @@ fn query_after<'a>(tree: &'a Tree, event: &'a Event, dir: Number) -> Option<&'a 
     match event {
         Event::Smkdir { query, .. } => query_with(tree, tree.next_number(), Some(query), dir),
         Event::Setq {
-            dir: asking, query, ..
+            dir: asking,
+            query,
+            ..
         } => query_with(tree, *asking, Some(query), dir),
         Event::Unq { dir: bared } | Event::Rmdir { dir: bared } => {
             query_with(tree, *bared, None, dir)

@@ -1,9 +1,7 @@
-use Rattle.std.proofs.Common.{◌≡◌, ℕ, List, [], subst, sym, rules}
-use Rattle.std.specs.Prelude.{IfOk}
+use Rattle.std.proofs.Common.{◌≡◌, ℕ, List, [], subst, rules}
 use Rattle.std.specs.Option.{option_copied}
 use Rattle.hac_model.specs.Tree.Depends.{NeverReturns}
 use Rattle.dep_graph.specs.Graphs.{edges_of, edges_with, replaced}
-use Rattle.dep_graph.specs.Searches.{IsCone}
 use Rattle.kept_state.specs.After.{edges_after}
 use Rattle.kept_state.proofs.after.cone_after.Goals as goal
 

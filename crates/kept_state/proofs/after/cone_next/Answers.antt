@@ -1,4 +1,4 @@
-use Rattle.std.proofs.Common.{◌≡◌, ℕ, List, subst, sym, rules}
+use Rattle.std.proofs.Common.{◌≡◌, ℕ, List, subst, rules}
 use Rattle.hac_model.specs.Tree.Depends.{NeverReturns}
 use Rattle.dep_graph.specs.Graphs.{edges_of}
 use Rattle.kept_state.specs.After.{edges_after, edges_next}

@@ -1,7 +1,6 @@
 use Rattle.std.proofs.Common.{◌≡◌, ℕ, None, Some, List, ap, drop, sym, ◌∙◌}
-use Rattle.std.specs.Prelude.{Option, filter}
+use Rattle.std.specs.Prelude.{filter}
 use Rattle.std.specs.Option.{option_copied}
-use Rattle.hac_model.specs.Query.Formula.{Formula}
 use Rattle.hac_model.specs.Tree.Links.{lenders, query_at}
 use Rattle.hac_model.specs.Tree.{is_directory_at}
 use Rattle.hac_model.specs.declared.states.State.{State}
