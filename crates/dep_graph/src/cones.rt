@@ -4,7 +4,7 @@ ghost use Rattle.std.specs.List.{list_any};
 ghost use Rattle.std.specs.Option.{option_copied};
 ghost use Rattle.hac_model.specs.Tree.Depends.{Among, NeverReturns};
 ghost use Rattle.indexmap.specs.IndexSet.{contains};
-ghost use Rattle.dep_graph.specs.Graphs.{edges_with};
+ghost use Rattle.dep_graph.specs.Graphs.{edges_of, edges_with};
 ghost use Rattle.dep_graph.specs.Searches.{IsCone, IsOrdered};
 
 use crate::graph::{Graph, NewEdges};
@@ -24,6 +24,14 @@ impl Graph {
     {
         let ordered = self.all_in_order(next)?;
         self.reaching(dirs, next, ordered.as_slice())
+    }
+
+    /// All directories that have edges, and the one that is ready for some, if there is one.
+    pub fn directories(&self) -> Result<Vec<Number>, Memory>
+        ensures { IfOk result (λ numbers. (q : ℕ)
+            → edges_of self.now q ≢ [] → Among numbers.items q) }
+    {
+        self.numbers(None)
     }
 
     /// All directories, each behind all on which it depends.

@@ -1,5 +1,5 @@
 -- How much more mounts may keep, counted number by number; and that events which tell nothing leave few answers.
-use Rattle.std.proofs.Common.{◌≡◌, ℕ, ◌+◌, ◌<◌, ◌≤◌, Bool, true, false, cond, List, [], ◌∷◌, length, map, refl, ap, sym, ◌∙◌, arith, inl, inr}
+use Rattle.std.proofs.Common.{◌≡◌, ℕ, ◌+◌, ◌<◌, ◌≤◌, Bool, true, false, List, [], ◌∷◌, length, refl, ap, sym, ◌∙◌, arith, inl, inr}
 use Rattle.std.specs.Prelude.{◌==◌, ◌&&◌, not, filter, nat_le, Option, Some, None}
 use Rattle.std.specs.List.{list_all}
 use Rattle.std.specs.Option.{option_map, option_map_or}
@@ -8,7 +8,7 @@ use Rattle.hac_model.specs.Query.Formula.{Formula}
 use Rattle.hac_model.specs.Tree.Events.{apply, asking, changed_at, edited, forgetting, indexed, is_free, is_made_holder, is_placed, marked, may_ask, next_dirty, plain_body, reseated, rewritten}
 use Rattle.hac_model.specs.Script.SpaceNames.{is_space_name}
 use Rattle.hac_model.specs.Tree.Asking.{with_told}
-use Rattle.hac_model.specs.Tree.Limits.{answers_kept, are_answers_few, documents_kept}
+use Rattle.hac_model.specs.Tree.Limits.{are_answers_few}
 use Rattle.hac_model.specs.Tree.Links.{answers_at}
 use Rattle.hac_model.specs.Tree.Mounting.{answers_to, are_documents, are_told, forgetting_such, is_of_mount, is_such_at, is_told, mounted, synced, without_such}
 use Rattle.hac_model.specs.Tree.Mounts.{terms_to_ask}
@@ -17,17 +17,14 @@ use Rattle.hac_model.specs.Tree.{answers_in, entry_at, is_mount_at}
 use Rattle.hac_model.specs.declared.events.Event.{Event}
 use Rattle.hac_model.specs.declared.events.Event.TheVariants.{Mkdir, NewFile, Rewrite, Ln, Mark, Mv, Rm, Rmdir, Setq, Smkdir, Smount, Ssync, Sumount, Step, Unq, Cd}
 use Rattle.hac_model.specs.declared.limits.TheConstants.{ANSWERS_LIMIT, PAIRS_LIMIT}
-use Rattle.hac_model.specs.declared.marks.Kind.{Kind}
-use Rattle.hac_model.specs.declared.marks.Kind.TheVariants.{Transient, Permanent, Prohibited, Unlinked}
 use Rattle.hac_model.specs.declared.states.Answer.{Answer}
 use Rattle.hac_model.specs.declared.states.Body.{Body}
 use Rattle.hac_model.specs.declared.states.Body.TheVariants.{File, Dir, Symlink, Semantic}
 use Rattle.hac_model.specs.declared.states.Entry.{Entry}
 use Rattle.hac_model.specs.declared.states.State.{State}
 use Rattle.hac_model.proofs.ChangeLemmas.{is_kept}
-use Rattle.hac_model.proofs.CountLemmas.{measured, measured-cons, measured-fewer, measured-holds, measured-reseated}
+use Rattle.hac_model.proofs.CountLemmas.{measured, measured-cons, measured-holds, measured-reseated}
 use Rattle.hac_model.proofs.FewLemmas.{asking-keeps, few-added, few-edited, few-same, forgetting-keeps, forgetting_such-keeps, indexed-keeps, mapped-few, marked-keeps, plain-keeps, removed-few, rewritten-keeps, without-few}
-use Rattle.hac_model.proofs.MapLemmas.{measured-mapped}
 use Rattle.hac_model.proofs.TreeLemmas.{entry_at-low}
 use Rattle.kept_state.specs.Room.{AreKept, IsLess, IsRoom, all_answers, all_documents, are_few_then, documents_in, fits, numbers_in}
 use Rattle.kept_state.specs.declared.room.Room.{Room}

@@ -11,7 +11,6 @@ use Rattle.hac_model.specs.Tree.Listing.{children, in_order, is_before, put_in_o
 use Rattle.hac_model.specs.Tree.Mounting.{is_among, is_gone, is_of_mount, is_such_at, numbers_without}
 use Rattle.hac_model.specs.Tree.Valid.{IsLayout, NumbersRise, is_in_place}
 use Rattle.hac_model.specs.Tree.{entry_at, is_directory_at, is_document, is_holder_at, is_mount, is_mount_at}
-use Rattle.hac_model.specs.declared.marks.Kind.TheVariants.{Unlinked}
 use Rattle.hac_model.specs.declared.states.Entry.{Entry}
 use Rattle.hac_model.specs.declared.states.State.{State}
 use Rattle.hac_model.proofs.TreeLemmas.{entry_at-all, entry_at-low, entry_at-number}

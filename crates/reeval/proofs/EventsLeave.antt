@@ -14,7 +14,7 @@ use Rattle.reeval.proofs.MountOwes.{smount-owes, ssync-owes, sumount-owes}
 use Rattle.reeval.proofs.MoveOwes.{move-owes}
 use Rattle.reeval.proofs.TreeOwes.{cd-owes, ln-owes, mkdir-owes, new_file-owes, rewrite-owes, rm-owes, rmdir-owes, step-owes, unq-owes}
 
-event-owes : (s : State) (event : Event) → IsValid s → IsTrue (accepted s event) → (item : ℕ) → touches s event item ≡ false → Owes s event item
+pub event-owes : (s : State) (event : Event) → IsValid s → IsTrue (accepted s event) → (item : ℕ) → touches s event item ≡ false → Owes s event item
 event-owes s (Mkdir dir name) h ok item untouched = mkdir-owes s item h dir name ok
 event-owes s (NewFile dir name text) h ok item untouched = new_file-owes s item h dir name text ok untouched
 event-owes s (Rewrite file text) h ok item untouched = rewrite-owes s item h file text ok

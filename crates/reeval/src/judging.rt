@@ -1,5 +1,5 @@
 //! What a directory says of an item in the next state.
-ghost use Rattle.std.specs.Prelude.{◌≡◌, ◌&&◌, ◌||◌, ℕ, Bool, is_some};
+ghost use Rattle.std.specs.Prelude.{◌≡◌, ◌&&◌, ◌||◌, ℕ, Bool, IsTrue, is_some};
 ghost use Rattle.std.specs.List.{list_any};
 ghost use Rattle.hac_model.specs.Query.Queries.{query_meaning};
 ghost use Rattle.hac_model.specs.Tree.Links.{atom, holds, is_item, is_lent, is_permanent, is_semantic};
@@ -84,7 +84,7 @@ impl<'a, Y: Layout, A: Atoms, B: Before> Sight<'a, Y, A, B> {
     /// Whether a directory finds an item: queries judge it, the user says nothing of it there, the
     /// directory above provides it, and it satisfies the query. What costs least comes first.
     fn passes(&self, dir: Number, item: Number) -> bool
-        ensures { A.atoms self.now.atoms.now ≡ atom (Y.state self.now.layout.now) →
+        ensures { IsTrue (is_item (Y.state self.now.layout.now) item) → A.atoms self.now.atoms.now ≡ atom (Y.state self.now.layout.now) →
             result ≡ passes (Y.state self.now.layout.now)
             (is_linked (told self.now.news.now (verdict_of (B.state self.now.before.now) item)))
             dir item }

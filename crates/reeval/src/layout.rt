@@ -1,5 +1,5 @@
 //! What judging asks of a state, but for terms and links.
-ghost use Rattle.std.specs.Prelude.{◌≡◌, ◌&&◌, ℕ, Bool};
+ghost use Rattle.std.specs.Prelude.{◌≡◌, ◌&&◌, ℕ, Bool, IsTrue};
 ghost use Rattle.std.specs.Option.{option_copied};
 ghost use Rattle.hac_model.specs.Tree.Depends.{depends};
 ghost use Rattle.hac_model.specs.Tree.Links.{is_below, is_item, is_judged, is_permanent};
@@ -40,9 +40,10 @@ pub trait Layout {
         ensures { result ≡ (is_permanent (state self.now) dir item
             && is_item (state self.now) item) };
 
-    /// Whether the user says nothing of an item in a directory.
+    /// Whether the user says nothing of an item in a directory. It is asked of items alone.
     fn is_unmarked(&self, dir: Number, item: Number) -> bool
-        ensures { result ≡ is_unmarked (state self.now) dir item };
+        ensures { IsTrue (is_item (state self.now) item) →
+            result ≡ is_unmarked (state self.now) dir item };
 
     /// The directories that the user added to a directory, in order of number.
     fn lenders(&self, dir: Number) -> &[Number]

@@ -1,15 +1,14 @@
 -- What is asked of the tree after an event, from the tree before it.
-use Rattle.std.proofs.Common.{◌≡◌, ℕ, ◌<◌, Bool, true, false, cond, List, [], ◌∷◌, subst, refl, ap, sym, ◌∙◌, arith, eq-eqb}
-use Rattle.std.specs.Prelude.{◌==◌, ◌&&◌, ◌||◌, not, Option, Some, None, is_some, option_and_then}
+use Rattle.std.proofs.Common.{◌≡◌, ℕ, Bool, true, false, cond, List, [], refl, ap, sym, ◌∙◌, eq-eqb}
+use Rattle.std.specs.Prelude.{◌==◌, ◌&&◌, not, Option, Some, None, is_some, option_and_then}
 use Rattle.std.specs.Option.{option_map, option_map_or}
 use Rattle.std.proofs.lemmas.Bool.{and_parts, eqb-false, eqb-true, ne_eqb}
 use Rattle.hac_model.specs.Query.Formula.{Formula}
 use Rattle.hac_model.specs.Tree.Changes.{asking, edited, indexed, plain_body, reseated, rewritten}
 use Rattle.hac_model.specs.Tree.Events.{is_made_holder, next_dirty}
 use Rattle.hac_model.specs.Tree.Facts.{bare_after}
-use Rattle.hac_model.specs.Tree.Links.{is_item, is_judged, parent_of, query_at}
-use Rattle.hac_model.specs.Tree.Valid.{IsLayout, NumbersRise}
-use Rattle.hac_model.specs.Tree.{entry_at, is_directory, is_dirty, is_document, is_linkable, is_made_directory, is_mount, is_mount_at, query_in, shown_text}
+use Rattle.hac_model.specs.Tree.Links.{is_item, parent_of, query_at, shown_of}
+use Rattle.hac_model.specs.Tree.{entry_at, is_directory, is_document, is_document_at, is_linkable, is_made_directory, is_mount, is_mount_at, query_in, shown_text, text_in}
 use Rattle.hac_model.specs.declared.events.Event.{Event}
 use Rattle.hac_model.specs.declared.events.Event.TheVariants.{Rewrite, Setq, Unq, Mv, Smount, Step}
 use Rattle.hac_model.specs.declared.states.Body.{Body}
@@ -17,17 +16,17 @@ use Rattle.hac_model.specs.declared.states.Body.TheVariants.{File, Dir, Symlink,
 use Rattle.hac_model.specs.declared.states.Entry.{Entry}
 use Rattle.hac_model.specs.declared.states.State.{State}
 use Rattle.hac_model.proofs.ChangeLemmas.{touched, touched-keeps}
-use Rattle.hac_model.proofs.TreeLemmas.{entry_at-above, entry_at-behind, entry_at-first, entry_at-number}
-use Rattle.scope_rules.specs.Fates.{SuitsTree, goes, is_indexed, left_parent, left_query, new_body, new_parent}
+use Rattle.hac_model.proofs.TreeLemmas.{entry_at-number}
+use Rattle.scope_rules.specs.Fates.{SuitsTree, goes, is_indexed, left_parent, left_query, left_shown, new_body, new_parent}
 use Rattle.scope_rules.proofs.EntryLemmas.{IsNew, left_at, stayed}
 
 -- Bodies that are edited.
 
--- the test of bodies gives the same after each edit of a text or a query
-record Keeps (test : Body → Bool) : Type 0 where
-  rewrites : (text : List ℕ) (body : Body) → test (rewritten text body) ≡ test body
-  asks : (query : Formula ℕ) (body : Body) → test (asking query body) ≡ test body
-  plains : (body : Body) → test (plain_body body) ≡ test body
+-- what is told of bodies is the same after each edit of a text or a query
+record Keeps {X : Type 0} (tell : Body → X) : Type 0 where
+  rewrites : (text : List ℕ) (body : Body) → tell (rewritten text body) ≡ tell body
+  asks : (query : Formula ℕ) (body : Body) → tell (asking query body) ≡ tell body
+  plains : (body : Body) → tell (plain_body body) ≡ tell body
 
 linkable-keeps : Keeps is_linkable
 linkable-keeps = record { rewrites = rewrites; asks = asks; plains = plains }
@@ -61,46 +60,58 @@ directory-keeps = record { rewrites = rewrites; asks = asks; plains = plains }
     plains (Semantic query permanent prohibited) = refl
     plains other = refl
 
--- queries judge what has the body
-abbrev pub judged_in : Body → Bool
-judged_in body = is_document body || is_some (shown_text body)
-
-judged-keeps : Keeps judged_in
-judged-keeps = record { rewrites = rewrites; asks = asks; plains = plains }
+document-keeps : Keeps is_document
+document-keeps = record { rewrites = rewrites; asks = asks; plains = plains }
   where
-    rewrites : (text : List ℕ) (body : Body) → judged_in (rewritten text body) ≡ judged_in body
+    rewrites : (text : List ℕ) (body : Body) → is_document (rewritten text body) ≡ is_document body
     rewrites text (File old dirty shown) = refl
     rewrites text other = refl
 
-    asks : (query : Formula ℕ) (body : Body) → judged_in (asking query body) ≡ judged_in body
+    asks : (query : Formula ℕ) (body : Body) → is_document (asking query body) ≡ is_document body
     asks query Dir = refl
     asks query (Semantic old permanent prohibited) = refl
     asks query other = refl
 
-    plains : (body : Body) → judged_in (plain_body body) ≡ judged_in body
+    plains : (body : Body) → is_document (plain_body body) ≡ is_document body
+    plains (Semantic query permanent prohibited) = refl
+    plains other = refl
+
+shown-keeps : Keeps shown_text
+shown-keeps = record { rewrites = rewrites; asks = asks; plains = plains }
+  where
+    rewrites : (text : List ℕ) (body : Body) → shown_text (rewritten text body) ≡ shown_text body
+    rewrites text (File old dirty shown) = refl
+    rewrites text other = refl
+
+    asks : (query : Formula ℕ) (body : Body) → shown_text (asking query body) ≡ shown_text body
+    asks query Dir = refl
+    asks query (Semantic old permanent prohibited) = refl
+    asks query other = refl
+
+    plains : (body : Body) → shown_text (plain_body body) ≡ shown_text body
     plains (Semantic query permanent prohibited) = refl
     plains other = refl
 
 -- an entry stays what it is, a step aside
-stays-but : (test : Body → Bool) → Keeps test → (e : Event) (es : List Entry) (x : Entry) → (e ≡ Step → ⊥) → test (stayed e es x).body ≡ test x.body
-stays-but test keeps (Rewrite file text) es x no-step = touched-keeps (λ x. test x.body) file (edited (rewritten text)) x (keeps.rewrites text x.body)
-stays-but test keeps (Setq dir query told) es x no-step = touched-keeps (λ x. test x.body) dir (edited (asking query)) x (keeps.asks query x.body)
-stays-but test keeps (Unq dir) es x no-step = touched-keeps (λ x. test x.body) dir (edited plain_body) x (keeps.plains x.body)
-stays-but test keeps (Mv entry dir name) es x no-step = touched-keeps (λ x. test x.body) entry (reseated dir name) x refl
-stays-but test keeps Step es x no-step = absurd (no-step refl)
-stays-but test keeps other es x no-step = refl
+stays-but : {X : Type 0} (tell : Body → X) → Keeps tell → (e : Event) (es : List Entry) (x : Entry) → (e ≡ Step → ⊥) → tell (stayed e es x).body ≡ tell x.body
+stays-but tell keeps (Rewrite file text) es x no-step = touched-keeps (λ x. tell x.body) file (edited (rewritten text)) x (keeps.rewrites text x.body)
+stays-but tell keeps (Setq dir query told) es x no-step = touched-keeps (λ x. tell x.body) dir (edited (asking query)) x (keeps.asks query x.body)
+stays-but tell keeps (Unq dir) es x no-step = touched-keeps (λ x. tell x.body) dir (edited plain_body) x (keeps.plains x.body)
+stays-but tell keeps (Mv entry dir name) es x no-step = touched-keeps (λ x. tell x.body) entry (reseated dir name) x refl
+stays-but tell keeps Step es x no-step = absurd (no-step refl)
+stays-but tell keeps other es x no-step = refl
 
 -- also by a step, where indexing keeps it
-stays : (test : Body → Bool) → Keeps test → ((body : Body) → test (indexed body) ≡ test body) → (e : Event) (es : List Entry) (x : Entry) → test (stayed e es x).body ≡ test x.body
-stays test keeps indexes Step es x = elim (next_dirty es) as (λ o. test (option_map_or (λ file. touched file (edited indexed)) o (λ e. e) x).body ≡ test x.body) [
+stays : {X : Type 0} (tell : Body → X) → Keeps tell → ((body : Body) → tell (indexed body) ≡ tell body) → (e : Event) (es : List Entry) (x : Entry) → tell (stayed e es x).body ≡ tell x.body
+stays tell keeps indexes Step es x = elim (next_dirty es) as (λ o. tell (option_map_or (λ file. touched file (edited indexed)) o (λ e. e) x).body ≡ tell x.body) [
   | None ↦ refl
-  | Some file ↦ touched-keeps (λ x. test x.body) file (edited indexed) x (indexes x.body)
+  | Some file ↦ touched-keeps (λ x. tell x.body) file (edited indexed) x (indexes x.body)
 ]
-stays test keeps indexes (Rewrite file text) es x = stays-but test keeps (Rewrite file text) es x (λ same. absurd cc)
-stays test keeps indexes (Setq dir query told) es x = stays-but test keeps (Setq dir query told) es x (λ same. absurd cc)
-stays test keeps indexes (Unq dir) es x = stays-but test keeps (Unq dir) es x (λ same. absurd cc)
-stays test keeps indexes (Mv entry dir name) es x = stays-but test keeps (Mv entry dir name) es x (λ same. absurd cc)
-stays test keeps indexes other es x = refl
+stays tell keeps indexes (Rewrite file text) es x = stays-but tell keeps (Rewrite file text) es x (λ same. absurd cc)
+stays tell keeps indexes (Setq dir query told) es x = stays-but tell keeps (Setq dir query told) es x (λ same. absurd cc)
+stays tell keeps indexes (Unq dir) es x = stays-but tell keeps (Unq dir) es x (λ same. absurd cc)
+stays tell keeps indexes (Mv entry dir name) es x = stays-but tell keeps (Mv entry dir name) es x (λ same. absurd cc)
+stays tell keeps indexes other es x = refl
 
 indexed-linkable : (body : Body) → is_linkable (indexed body) ≡ is_linkable body
 indexed-linkable (File text dirty shown) = refl
@@ -110,25 +121,22 @@ indexed-directory : (body : Body) → is_directory (indexed body) ≡ is_directo
 indexed-directory (File text dirty shown) = refl
 indexed-directory other = refl
 
+indexed-document : (body : Body) → is_document (indexed body) ≡ is_document body
+indexed-document (File text dirty shown) = refl
+indexed-document other = refl
+
 -- Tests of what has a number.
 
 -- whether an entry passes a test
 abbrev tested : (Body → Bool) → Option Entry → Bool
 tested test found = option_map_or test (option_map (λ (x : Entry). x.body) found) false
 
-pub judged-told : (s : State) (n : ℕ) → is_judged s n ≡ tested judged_in (entry_at s.entries n)
-judged-told s n = at (entry_at s.entries n)
-  where
-    at : (o : Option Entry) → (tested is_document o || is_some (option_and_then shown_text (option_map (λ (x : Entry). x.body) o))) ≡ tested judged_in o
-    at None = refl
-    at (Some x) = refl
-
 -- of what is left after the event
-tested-left : (test : Body → Bool) (e : Event) (t : State) (n : ℕ) (more : Bool) → ((x : Entry) → entry_at t.entries n ≡ Some x → test (stayed e t.entries x).body ≡ (test x.body || more)) → (entry_at t.entries n ≡ None → more ≡ false) →
-    tested test (left_at e t n) ≡ ((tested test (entry_at t.entries n) || more) && not (goes e t n))
-tested-left test e t n more same none = elim (goes e t n) as (λ b. tested test (cond b None (option_map (stayed e t.entries) (entry_at t.entries n))) ≡ ((tested test (entry_at t.entries n) || more) && not b)) [
-  | true ↦ sym (and-false (tested test (entry_at t.entries n) || more))
-  | false ↦ at (entry_at t.entries n) refl ∙ sym (and-true (tested test (entry_at t.entries n) || more))
+tested-kept : (test : Body → Bool) (e : Event) (t : State) (n : ℕ) → ((x : Entry) → test (stayed e t.entries x).body ≡ test x.body) →
+    tested test (left_at e t n) ≡ (tested test (entry_at t.entries n) && not (goes e t n))
+tested-kept test e t n same = elim (goes e t n) as (λ b. tested test (cond b None (option_map (stayed e t.entries) (entry_at t.entries n))) ≡ (tested test (entry_at t.entries n) && not b)) [
+  | true ↦ sym (and-false (tested test (entry_at t.entries n)))
+  | false ↦ at (entry_at t.entries n) ∙ sym (and-true (tested test (entry_at t.entries n)))
 ]
   where
     and-false : (b : Bool) → (b && false) ≡ false
@@ -139,19 +147,9 @@ tested-left test e t n more same none = elim (goes e t n) as (λ b. tested test 
     and-true true = refl
     and-true false = refl
 
-    at : (o : Option Entry) → entry_at t.entries n ≡ o → tested test (option_map (stayed e t.entries) o) ≡ (tested test o || more)
-    at None there = sym (none there)
-    at (Some x) there = same x there
-
-or-false : (b : Bool) → (b || false) ≡ b
-or-false true = refl
-or-false false = refl
-
-tested-kept : (test : Body → Bool) (e : Event) (t : State) (n : ℕ) → ((x : Entry) → test (stayed e t.entries x).body ≡ test x.body) →
-    tested test (left_at e t n) ≡ (tested test (entry_at t.entries n) && not (goes e t n))
-tested-kept test e t n same =
-    tested-left test e t n false (λ x there. same x ∙ sym (or-false (test x.body))) (λ there. refl)
-    ∙ ap (λ (b : Bool). b && not (goes e t n)) (or-false (tested test (entry_at t.entries n)))
+    at : (o : Option Entry) → tested test (option_map (stayed e t.entries) o) ≡ tested test o
+    at None = refl
+    at (Some x) = same x
 
 module _ (e : Event) (t : State) (n : ℕ) (is : entry_at (bare_after e t).entries n ≡ left_at e t n) where
   pub item-left : is_item (bare_after e t) n ≡ (is_item t n && not (goes e t n))
@@ -159,6 +157,9 @@ module _ (e : Event) (t : State) (n : ℕ) (is : entry_at (bare_after e t).entri
 
   pub directory-left : is_made_directory (bare_after e t).entries n ≡ (is_made_directory t.entries n && not (goes e t n))
   directory-left = ap (tested is_directory) is ∙ tested-kept is_directory e t n (stays is_directory directory-keeps indexed-directory e t.entries)
+
+  pub document-left : is_document_at (bare_after e t).entries n ≡ (is_document_at t.entries n && not (goes e t n))
+  document-left = ap (tested is_document) is ∙ tested-kept is_document e t n (stays is_document document-keeps indexed-document e t.entries)
 
 module _ (e : Event) (t : State) (n : ℕ) (x : Entry) (is : IsNew e t n x) where
   new-tested : (test : Body → Bool) → tested test (entry_at (bare_after e t).entries n) ≡ option_map_or test (new_body e t.next n) false
@@ -170,88 +171,66 @@ module _ (e : Event) (t : State) (n : ℕ) (x : Entry) (is : IsNew e t n x) wher
   pub new-directory : is_made_directory (bare_after e t).entries n ≡ option_map_or is_directory (new_body e t.next n) false
   new-directory = new-tested is_directory
 
+  pub new-document : is_document_at (bare_after e t).entries n ≡ option_map_or is_document (new_body e t.next n) false
+  new-document = new-tested is_document
+
   pub new-parent : parent_of (bare_after e t) n ≡ new_parent e t.next n
   new-parent = ap (λ (o : Option Entry). option_map_or (λ (x : Entry). x.parent) o 0) is.found ∙ is.parent
 
   pub new-query : query_at (bare_after e t) n ≡ option_and_then query_in (new_body e t.next n)
   new-query = ap (λ (o : Option Entry). option_and_then query_in (option_map (λ (x : Entry). x.body) o)) is.found ∙ ap (λ (o : Option Body). option_and_then query_in o) is.body
 
--- Which are judged.
+-- The text by which a file is judged.
 
--- the file that a step indexes
-next-file : (above : ℕ) (es : List Entry) (next n : ℕ) → NumbersRise above es next → next_dirty es ≡ Some n → (x : Entry) × (entry_at es n ≡ Some x) × (is_dirty x.body ≡ true)
-next-file above [] next n rise found = absurd cc
-next-file above (e ∷ es) next n rise found =
-    elim (is_dirty e.body) as (λ b. is_dirty e.body ≡ b → cond b (Some e.number) (next_dirty es) ≡ Some n → (x : Entry) × (entry_at (e ∷ es) n ≡ Some x) × (is_dirty x.body ≡ true)) [
-      | true ↦ (λ dirty found. let same : e.number ≡ n = cc in (e, subst (λ (k : ℕ). entry_at (e ∷ es) k ≡ Some e) same (entry_at-first e es), dirty))
-      | false ↦ (λ clean found.
-          let rest = next-file e.number es next n rise.1 found in
-          let more : e.number < n = entry_at-above e.number es next n rest.0 rise.1 rest.1 in
-          (rest.0, entry_at-behind e es n (λ same. omega arith) ∙ rest.1, rest.2))
-    ] refl found
+-- the text that was last indexed of what was found
+abbrev shown-in : Option Entry → Option (List ℕ)
+shown-in found = option_and_then shown_text (option_map (λ (x : Entry). x.body) found)
 
-or-true : (b : Bool) → (b || true) ≡ true
-or-true true = refl
-or-true false = refl
+-- what is indexed shows its own text
+indexed-shows : (body : Body) → shown_text (indexed body) ≡ text_in body
+indexed-shows (File text dirty shown) = refl
+indexed-shows other = refl
 
--- a dirty file is judged once it is indexed
-judged-indexed : (body : Body) → is_dirty body ≡ true → judged_in (indexed body) ≡ true
-judged-indexed (File text dirty shown) h = refl
-judged-indexed Dir h = absurd cc
-judged-indexed (Symlink target) h = absurd cc
-judged-indexed (Semantic query permanent prohibited) h = absurd cc
-judged-indexed (Mount space answers) h = absurd cc
-judged-indexed Document h = absurd cc
-
-module _ (t : State) (n : ℕ) (h : IsLayout t) where
-  -- a step makes one file more be judged
-  step-judges : (o : Option ℕ) → next_dirty t.entries ≡ o → (x : Entry) → entry_at t.entries n ≡ Some x → judged_in (option_map_or (λ file. touched file (edited indexed)) o (λ e. e) x).body ≡ (judged_in x.body || option_map_or (λ file. file == n) o false)
-  step-judges None next x there = sym (or-false (judged_in x.body))
-  step-judges (Some file) next x there = elim (file == n) as (λ b. (file == n) ≡ b → judged_in (touched file (edited indexed) x).body ≡ (judged_in x.body || b)) [
+module _ (t : State) (n : ℕ) where
+  step-shows : (o : Option ℕ) (x : Entry) → entry_at t.entries n ≡ Some x →
+      shown_text (option_map_or (λ file. touched file (edited indexed)) o (λ e. e) x).body ≡ cond (option_map_or (λ file. file == n) o false) (text_in x.body) (shown_text x.body)
+  step-shows None x there = refl
+  step-shows (Some file) x there = elim (file == n) as (λ b. (file == n) ≡ b → shown_text (touched file (edited indexed) x).body ≡ cond b (text_in x.body) (shown_text x.body)) [
     | true ↦ (λ here.
-        let own : file ≡ n = eqb-true file n here in
-        let found = next-file 0 t.entries t.next file h.numbers next in
-        let same : Some found.0 ≡ Some x = sym found.1 ∙ ap (entry_at t.entries) own ∙ there in
-        let one : found.0 ≡ x = cc in
-        let dirty : is_dirty x.body ≡ true = subst (λ (x : Entry). is_dirty x.body ≡ true) one found.2 in
-        ap (λ (b : Bool). judged_in (cond b (edited indexed x) x).body) (eq-eqb x.number file (entry_at-number t.entries n x there ∙ sym own))
-        ∙ judged-indexed x.body dirty ∙ sym (or-true (judged_in x.body)))
+        ap (λ (b : Bool). shown_text (cond b (edited indexed x) x).body) (eq-eqb x.number file (entry_at-number t.entries n x there ∙ sym (eqb-true file n here)))
+        ∙ indexed-shows x.body)
     | false ↦ (λ other.
-        ap (λ (b : Bool). judged_in (cond b (edited indexed x) x).body) (ne_eqb x.number file (λ same. eqb-false file n other (sym same ∙ entry_at-number t.entries n x there)))
-        ∙ sym (or-false (judged_in x.body)))
+        ap (λ (b : Bool). shown_text (cond b (edited indexed x) x).body) (ne_eqb x.number file (λ same. eqb-false file n other (sym same ∙ entry_at-number t.entries n x there))))
   ] refl
 
-  judges : (e : Event) (x : Entry) → entry_at t.entries n ≡ Some x → judged_in (stayed e t.entries x).body ≡ (judged_in x.body || is_indexed e t n)
-  judges Step x there = step-judges (next_dirty t.entries) refl x there
-  judges (Rewrite file text) x there = stays-but judged_in judged-keeps (Rewrite file text) t.entries x (λ same. absurd cc) ∙ sym (or-false (judged_in x.body))
-  judges (Setq dir query told) x there = stays-but judged_in judged-keeps (Setq dir query told) t.entries x (λ same. absurd cc) ∙ sym (or-false (judged_in x.body))
-  judges (Unq dir) x there = stays-but judged_in judged-keeps (Unq dir) t.entries x (λ same. absurd cc) ∙ sym (or-false (judged_in x.body))
-  judges (Mv entry dir name) x there = stays-but judged_in judged-keeps (Mv entry dir name) t.entries x (λ same. absurd cc) ∙ sym (or-false (judged_in x.body))
-  judges other x there = sym (or-false (judged_in x.body))
+  shows : (e : Event) (x : Entry) → entry_at t.entries n ≡ Some x → shown_text (stayed e t.entries x).body ≡ cond (is_indexed e t n) (text_in x.body) (shown_text x.body)
+  shows Step x there = step-shows (next_dirty t.entries) x there
+  shows (Rewrite file text) x there = stays-but shown_text shown-keeps (Rewrite file text) t.entries x (λ same. absurd cc)
+  shows (Setq dir query told) x there = stays-but shown_text shown-keeps (Setq dir query told) t.entries x (λ same. absurd cc)
+  shows (Unq dir) x there = stays-but shown_text shown-keeps (Unq dir) t.entries x (λ same. absurd cc)
+  shows (Mv entry dir name) x there = stays-but shown_text shown-keeps (Mv entry dir name) t.entries x (λ same. absurd cc)
+  shows other x there = refl
 
-  -- what has no entry isn't indexed
-  never-indexed : (e : Event) → entry_at t.entries n ≡ None → is_indexed e t n ≡ false
-  never-indexed Step none = step (next_dirty t.entries) refl
-    where
-      step : (o : Option ℕ) → next_dirty t.entries ≡ o → option_map_or (λ file. file == n) o false ≡ false
-      step None next = refl
-      step (Some file) next = ne_eqb file n (λ same.
-          let found = next-file 0 t.entries t.next file h.numbers next in
-          let never : Some found.0 ≡ None = sym found.1 ∙ ap (entry_at t.entries) same ∙ none in absurd cc)
-  never-indexed other none = refl
+  shown-stays : (e : Event) (o : Option Entry) → entry_at t.entries n ≡ o →
+      shown-in (option_map (stayed e t.entries) o) ≡ cond (is_indexed e t n) (option_and_then text_in (option_map (λ (x : Entry). x.body) o)) (shown-in o)
+  shown-stays e None there = elim (is_indexed e t n) as (λ b. None ≡ cond {A = Option (List ℕ)} b None None) [ true ↦ refl | false ↦ refl ]
+  shown-stays e (Some x) there = shows e x there
 
-  pub judged-left : (e : Event) → entry_at (bare_after e t).entries n ≡ left_at e t n → is_judged (bare_after e t) n ≡ ((is_judged t n || is_indexed e t n) && not (goes e t n))
-  judged-left e is =
-      judged-told (bare_after e t) n ∙ ap (tested judged_in) is ∙ tested-left judged_in e t n (is_indexed e t n) (judges e) (never-indexed e)
-      ∙ ap (λ (b : Bool). (b || is_indexed e t n) && not (goes e t n)) (sym (judged-told t n))
+  pub shown-left : (e : Event) → entry_at (bare_after e t).entries n ≡ left_at e t n → shown_of (bare_after e t) n ≡ cond (goes e t n) None (left_shown e t n)
+  shown-left e is =
+      ap shown-in is
+      ∙ (elim (goes e t n) as (λ b. shown-in (cond b None (option_map (stayed e t.entries) (entry_at t.entries n))) ≡ cond b None (left_shown e t n)) [
+        | true ↦ refl
+        | false ↦ shown-stays e (entry_at t.entries n) refl
+      ])
 
--- of what is new, documents are judged
-judged-new : (e : Event) (first n : ℕ) → option_map_or judged_in (new_body e first n) false ≡ option_map_or is_document (new_body e first n) false
-judged-new (Smount dir name space documents told) first n = elim (n == first) as (λ b. judged_in (cond b (Mount space []) Document) ≡ is_document (cond b (Mount space []) Document)) [ true ↦ refl | false ↦ refl ]
-judged-new other first n = refl
+-- nothing new was indexed
+unshown-new : (e : Event) (first n : ℕ) → option_and_then shown_text (new_body e first n) ≡ None
+unshown-new (Smount dir name space documents told) first n = elim (n == first) as (λ b. shown_text (cond b (Mount space []) Document) ≡ None) [ true ↦ refl | false ↦ refl ]
+unshown-new other first n = refl
 
-pub new-judged : (e : Event) (t : State) (n : ℕ) (x : Entry) → IsNew e t n x → is_judged (bare_after e t) n ≡ option_map_or is_document (new_body e t.next n) false
-new-judged e t n x is = judged-told (bare_after e t) n ∙ new-tested e t n x is judged_in ∙ judged-new e t.next n
+pub new-shown : (e : Event) (t : State) (n : ℕ) (x : Entry) → IsNew e t n x → shown_of (bare_after e t) n ≡ None
+new-shown e t n x is = ap shown-in is.found ∙ ap (λ (o : Option Body). option_and_then shown_text o) is.body ∙ unshown-new e t.next n
 
 -- Where entries are, and what they ask.
 

@@ -1,41 +1,46 @@
 -- What the tree after an event says of the state after it.
 use Rattle.std.proofs.Common.{◌≡◌, ℕ, true, subst, refl, ap, sym, ◌∙◌}
-use Rattle.std.specs.Prelude.{◌&&◌, not, is_none, is_some}
+use Rattle.std.specs.Prelude.{◌&&◌, not, Option, Some, None, is_none, is_some, option_and_then}
+use Rattle.std.specs.Option.{option_map}
 use Rattle.std.proofs.lemmas.Bool.{and_parts}
 use Rattle.hac_model.specs.Tree.Bare.{bare, bare_body}
-use Rattle.hac_model.specs.Tree.Events.{apply, is_clear, is_made_holder, is_placed, is_possible}
+use Rattle.hac_model.specs.Tree.Events.{apply, edited, is_clear, is_made_holder, is_placed, is_possible}
 use Rattle.hac_model.specs.Tree.Facts.{bare_after}
 use Rattle.hac_model.specs.Tree.Limits.{passed_limit}
-use Rattle.hac_model.specs.Tree.Links.{is_item, is_judged, parent_of, query_at}
+use Rattle.hac_model.specs.Tree.Links.{is_item, parent_of, query_at, shown_of}
 use Rattle.hac_model.specs.Tree.Mounting.{are_documents}
 use Rattle.hac_model.specs.Tree.Valid.{IsLayout}
-use Rattle.hac_model.specs.Tree.{entry_at, is_directory, is_made_directory, is_mount_at}
+use Rattle.hac_model.specs.Tree.{entry_at, is_directory, is_document_at, is_made_directory, is_mount_at, shown_text}
 use Rattle.hac_model.specs.declared.events.Event.{Event}
 use Rattle.hac_model.specs.declared.events.Event.TheVariants.{Setq, Mv, Ssync}
 use Rattle.hac_model.specs.declared.states.Body.{Body}
 use Rattle.hac_model.specs.declared.states.Body.TheVariants.{Semantic, Mount}
+use Rattle.hac_model.specs.declared.states.Entry.{Entry}
 use Rattle.hac_model.specs.declared.states.State.{State}
 use Rattle.hac_model.proofs.AcyclicLemmas.{apply-valid}
-use Rattle.hac_model.proofs.AlikeLemmas.{bare-kind, layout-bare, layout-unbare, mount-bare, parent_of-bare, query_at-bare, some-bare}
+use Rattle.hac_model.proofs.AlikeLemmas.{bare-kind, document-bare, entry_at-bare, layout-bare, layout-unbare, mount-bare, parent_of-bare, query_at-bare, some-bare}
 use Rattle.hac_model.proofs.BareLemmas.{bare-commutes}
 use Rattle.hac_model.proofs.FillLemmas.{tree-law}
 use Rattle.hac_model.proofs.MapLemmas.{test-mapped}
 use Rattle.hac_model.proofs.MountLayoutLemmas.{documents-parts}
 use Rattle.scope_rules.specs.After.{IsBefore}
 use Rattle.scope_rules.specs.Fates.{SuitsTree}
-use Rattle.scope_rules.proofs.AfterLemmas.{judged-told, judged_in}
 use Rattle.scope_rules.proofs.ProvideLemmas.{item-bare}
 
 made-bare : (s : State) (n : ℕ) → is_made_directory (bare s).entries n ≡ is_made_directory s.entries n
 made-bare s n = test-mapped is_directory bare_body s.entries n bare-kind
 
-judged-bare : (s : State) (n : ℕ) → is_judged (bare s) n ≡ is_judged s n
-judged-bare s n = judged-told (bare s) n ∙ test-mapped judged_in bare_body s.entries n bodies ∙ sym (judged-told s n)
+shown-bare : (s : State) (n : ℕ) → shown_of (bare s) n ≡ shown_of s n
+shown-bare s n = ap (λ (o : Option Entry). option_and_then shown_text (option_map (λ (x : Entry). x.body) o)) (entry_at-bare s n) ∙ at (entry_at s.entries n)
   where
-    bodies : (body : Body) → judged_in (bare_body body) ≡ judged_in body
+    bodies : (body : Body) → shown_text (bare_body body) ≡ shown_text body
     bodies (Semantic query permanent prohibited) = refl
     bodies (Mount space answers) = refl
     bodies other = refl
+
+    at : (o : Option Entry) → option_and_then shown_text (option_map (λ (x : Entry). x.body) (option_map (edited bare_body) o)) ≡ option_and_then shown_text (option_map (λ (x : Entry). x.body) o)
+    at None = refl
+    at (Some x) = bodies x.body
 
 module _ (s t : State) (e : Event) (before : IsBefore s t e) where
   -- both are of one tree
@@ -58,8 +63,11 @@ module _ (s t : State) (e : Event) (before : IsBefore s t e) where
   pub item-carried : (n : ℕ) → is_item (bare_after e t) n ≡ is_item (apply s e) n
   item-carried n = alike (λ s. is_item s n) (λ s. item-bare s n)
 
-  pub judged-carried : (n : ℕ) → is_judged (bare_after e t) n ≡ is_judged (apply s e) n
-  judged-carried n = alike (λ s. is_judged s n) (λ s. judged-bare s n)
+  pub document-carried : (n : ℕ) → is_document_at (bare_after e t).entries n ≡ is_document_at (apply s e).entries n
+  document-carried n = alike (λ s. is_document_at s.entries n) (λ s. document-bare s n)
+
+  pub shown-carried : (n : ℕ) → shown_of (bare_after e t) n ≡ shown_of (apply s e) n
+  shown-carried n = alike (λ s. shown_of s n) (λ s. shown-bare s n)
 
   pub directory-carried : (n : ℕ) → is_made_directory (bare_after e t).entries n ≡ is_made_directory (apply s e).entries n
   directory-carried n = alike (λ s. is_made_directory s.entries n) (λ s. made-bare s n)

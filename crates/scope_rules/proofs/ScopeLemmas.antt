@@ -1,20 +1,20 @@
 -- What a scope is asked, by whether the number is new.
 use Rattle.std.proofs.Common.{◌≡◌, ℕ, Bool, true, false, cond, ap, subst, sym, ◌∙◌}
-use Rattle.std.specs.Prelude.{◌&&◌, ◌||◌, nat_le, nat_lt, not, None, option_and_then}
+use Rattle.std.specs.Prelude.{◌&&◌, nat_le, nat_lt, not, None, option_and_then}
 use Rattle.std.specs.Option.{option_map_or}
 use Rattle.hac_model.specs.Tree.Events.{apply}
 use Rattle.hac_model.specs.Tree.Facts.{bare_after}
-use Rattle.hac_model.specs.Tree.Links.{is_item, is_judged, parent_of, query_at}
+use Rattle.hac_model.specs.Tree.Links.{is_item, parent_of, query_at, shown_of}
 use Rattle.hac_model.specs.Tree.Valid.{IsLayout}
-use Rattle.hac_model.specs.Tree.{entry_at, is_directory, is_document, is_linkable, is_made_directory, query_in}
+use Rattle.hac_model.specs.Tree.{entry_at, is_directory, is_document, is_document_at, is_linkable, is_made_directory, query_in}
 use Rattle.hac_model.specs.declared.events.Event.{Event}
 use Rattle.hac_model.specs.declared.states.Entry.{Entry}
 use Rattle.hac_model.specs.declared.states.State.{State}
 use Rattle.scope_rules.specs.After.{Tells}
-use Rattle.scope_rules.specs.Fates.{SuitsTree, goes, is_indexed, left_parent, left_query, new_body, new_parent}
+use Rattle.scope_rules.specs.Fates.{SuitsTree, goes, left_parent, left_query, left_shown, new_body, new_parent}
 use Rattle.scope_rules.specs.declared.after.Scope.{Scope}
-use Rattle.scope_rules.proofs.AfterLemmas.{directory-left, item-left, judged-left, new-directory, new-item, new-judged, new-parent, new-query, parent-left, query-left}
-use Rattle.scope_rules.proofs.CarryLemmas.{directory-carried, item-carried, judged-carried, layout-after, layout-before, layout-next, next-carried, parent-carried, query-carried, suits}
+use Rattle.scope_rules.proofs.AfterLemmas.{directory-left, document-left, item-left, new-directory, new-document, new-item, new-parent, new-query, new-shown, parent-left, query-left, shown-left}
+use Rattle.scope_rules.proofs.CarryLemmas.{directory-carried, document-carried, item-carried, layout-after, layout-before, layout-next, next-carried, parent-carried, query-carried, shown-carried, suits}
 use Rattle.scope_rules.proofs.EntryLemmas.{IsNew, left, left_at, new}
 
 module _ (scope : Scope) (after : State) (of : Tells scope after) (n : ℕ) where
@@ -45,8 +45,11 @@ module _ (scope : Scope) (after : State) (of : Tells scope after) (n : ℕ) wher
     pub item-new : option_map_or is_linkable (new_body event tree.next n) false ≡ is_item after n
     item-new = sym (new-item event tree n one.0 one.1) ∙ behind (λ x. is_item x n) (item-carried of.old tree event of.before n)
 
-    pub judged-new : option_map_or is_document (new_body event tree.next n) false ≡ is_judged after n
-    judged-new = sym (new-judged event tree n one.0 one.1) ∙ behind (λ x. is_judged x n) (judged-carried of.old tree event of.before n)
+    pub document-new : option_map_or is_document (new_body event tree.next n) false ≡ is_document_at after.entries n
+    document-new = sym (new-document event tree n one.0 one.1) ∙ behind (λ x. is_document_at x.entries n) (document-carried of.old tree event of.before n)
+
+    pub shown-new : None ≡ shown_of after n
+    shown-new = sym (new-shown event tree n one.0 one.1) ∙ behind (λ x. shown_of x n) (shown-carried of.old tree event of.before n)
 
     pub directory-new : option_map_or is_directory (new_body event tree.next n) false ≡ is_made_directory after.entries n
     directory-new = sym (new-directory event tree n one.0 one.1) ∙ behind (λ x. is_made_directory x.entries n) (directory-carried of.old tree event of.before n)
@@ -64,8 +67,11 @@ module _ (scope : Scope) (after : State) (of : Tells scope after) (n : ℕ) wher
     pub item-old : (is_item tree n && not (goes event tree n)) ≡ is_item after n
     item-old = sym (item-left event tree n found) ∙ behind (λ x. is_item x n) (item-carried of.old tree event of.before n)
 
-    pub judged-old : ((is_judged tree n || is_indexed event tree n) && not (goes event tree n)) ≡ is_judged after n
-    judged-old = sym (judged-left tree n (layout-before of.old tree event of.before) event found) ∙ behind (λ x. is_judged x n) (judged-carried of.old tree event of.before n)
+    pub document-old : (is_document_at tree.entries n && not (goes event tree n)) ≡ is_document_at after.entries n
+    document-old = sym (document-left event tree n found) ∙ behind (λ x. is_document_at x.entries n) (document-carried of.old tree event of.before n)
+
+    pub shown-old : (b : Bool) → goes event tree n ≡ b → cond b None (left_shown event tree n) ≡ shown_of after n
+    shown-old b is = ap (λ (b : Bool). cond b None (left_shown event tree n)) (sym is) ∙ sym (shown-left tree n event found) ∙ behind (λ x. shown_of x n) (shown-carried of.old tree event of.before n)
 
     pub directory-old : (is_made_directory tree.entries n && not (goes event tree n)) ≡ is_made_directory after.entries n
     directory-old = sym (directory-left event tree n found) ∙ behind (λ x. is_made_directory x.entries n) (directory-carried of.old tree event of.before n)

@@ -1,11 +1,11 @@
 -- What becomes of the entry of one number by an event, told by the tree before it.
-use Rattle.std.specs.Prelude.{ℕ, Bool, false, true, ◌==◌, if◌then◌else◌, [], Option, Some, None, IsTrue, is_some}
+use Rattle.std.specs.Prelude.{ℕ, Bool, false, true, ◌==◌, if◌then◌else◌, List, [], Option, Some, None, IsTrue, is_some, option_and_then}
 use Rattle.std.specs.Option.{option_map_or}
 use Rattle.hac_model.specs.Query.Formula.{Formula}
 use Rattle.hac_model.specs.Tree.Events.{is_made_holder, next_dirty}
-use Rattle.hac_model.specs.Tree.Links.{parent_of, query_at}
+use Rattle.hac_model.specs.Tree.Links.{parent_of, query_at, shown_of}
 use Rattle.hac_model.specs.Tree.Mounting.{do_names_rise, is_gone, is_of_mount, is_such_at}
-use Rattle.hac_model.specs.Tree.{entry_at}
+use Rattle.hac_model.specs.Tree.{body_at, entry_at, text_in}
 use Rattle.hac_model.specs.declared.events.Event.{Event}
 use Rattle.hac_model.specs.declared.events.Event.TheVariants.{Mkdir, NewFile, Ln, Smkdir, Setq, Unq, Mv, Rm, Rmdir, Smount, Ssync, Sumount, Step}
 use Rattle.hac_model.specs.declared.states.Body.{Body}
@@ -55,6 +55,11 @@ abbrev pub left_query : Event → State → ℕ → Option (Formula ℕ)
 left_query (Setq dir query told) tree number = if number == dir then Some query else query_at tree number
 left_query (Unq dir) tree number = if number == dir then None else query_at tree number
 left_query other tree number = query_at tree number
+
+-- and the text that it shows: the file that is indexed shows its own
+abbrev pub left_shown : Event → State → ℕ → Option (List ℕ)
+left_shown event tree number =
+    if is_indexed event tree number then option_and_then text_in (body_at tree.entries number) else shown_of tree number
 
 -- the event changes what is there, and names of documents rise
 abbrev pub SuitsTree : Event → State → Type 0

@@ -1,19 +1,20 @@
 //! The tree as it will be after an event, told by the tree before it. Nothing changes, and no
 //! memory is taken.
-ghost use Rattle.std.specs.Prelude.{◌≡◌, ◌==◌, ◌&&◌, ◌||◌, not, nat_le, nat_lt, IsTrue};
+ghost use Rattle.std.specs.Prelude.{◌≡◌, ◌==◌, ◌&&◌, nat_le, nat_lt, IsTrue};
 ghost use Rattle.std.specs.List.{list_any};
 ghost use Rattle.std.specs.Option.{option_copied};
 ghost use Rattle.hac_model.specs.Tree.Events.{apply};
 ghost use Rattle.hac_model.specs.Tree.Links.{is_below, is_item, is_judged, parent_of, query_at};
-ghost use Rattle.hac_model.specs.Tree.{ancestors, is_directory_at, is_live, is_made_directory};
+ghost use Rattle.hac_model.specs.Tree.Links.{shown_of};
+ghost use Rattle.hac_model.specs.Tree.{ancestors, is_directory_at, is_document_at, is_live};
+ghost use Rattle.hac_model.specs.Tree.{is_made_directory};
 ghost use Rattle.hac_model.specs.declared.states.State.{State};
 ghost use Rattle.scope_rules.specs.After.{IsBefore, Tells};
-ghost use Rattle.scope_rules.specs.Fates.{is_indexed};
 
 use crate::arrivals::{
     is_new_directory, is_new_document, is_new_item, new_parent, new_query, next_after,
 };
-use crate::fates::{goes, is_indexed, left_parent, left_query};
+use crate::fates::{goes, left_parent, left_query, left_shown};
 use file_tree::Tree;
 use hac_model::{Event, Number, PATH_LIMIT, Query};
 
@@ -61,23 +62,36 @@ impl<'a> Scope<'a> {
         }
     }
 
-    /// Whether queries will judge what has the number: a document, or a file that was indexed.
-    pub fn is_judged(&self, number: Number) -> bool
-        ensures { (after : State) → Tells self.now after → result ≡ is_judged after number }
+    /// Whether a document will have the number.
+    pub fn is_document(&self, number: Number) -> bool
+        ensures { (after : State) → Tells self.now after →
+            result ≡ is_document_at after.entries number }
     {
         if self.is_new(number) {
             is_new_document(self.tree, self.event, number)
         } else {
-            self.is_judged_then(number) && !goes(self.tree, self.event, number)
+            self.tree.is_document(number) && !goes(self.tree, self.event, number)
         }
     }
 
-    /// Whether queries will judge what has the number, unless it goes.
-    fn is_judged_then(&self, number: Number) -> bool
-        ensures { result ≡ (is_judged self.now.tree.now.state number
-            || is_indexed self.now.event.now self.now.tree.now.state number) }
+    /// The text of a file as it will have been indexed last: the one by which queries judge it. A
+    /// new file has none.
+    pub fn shown(&self, number: Number) -> Option<&'a [u8]>
+        ensures { (after : State) → Tells self.now after →
+            option_copied result ≡ shown_of after number }
     {
-        is_judged(self.tree, number) || is_indexed(self.tree, self.event, number)
+        if self.is_new(number) || goes(self.tree, self.event, number) {
+            None
+        } else {
+            left_shown(self.tree, self.event, number)
+        }
+    }
+
+    /// Whether queries will judge what has the number: a document, or a file that was indexed.
+    pub fn is_judged(&self, number: Number) -> bool
+        ensures { (after : State) → Tells self.now after → result ≡ is_judged after number }
+    {
+        self.is_document(number) || self.shown(number).is_some()
     }
 
     /// Whether a directory will have the number.
@@ -154,11 +168,4 @@ impl<'a> Scope<'a> {
     {
         self.tree.next_number() <= number && number < self.next
     }
-}
-
-/// Whether queries judge what has the number: a document, or a file that was indexed.
-fn is_judged(tree: &Tree, number: Number) -> bool
-    ensures { result ≡ is_judged tree.now.state number }
-{
-    tree.is_document(number) || tree.shown(number).is_some()
 }

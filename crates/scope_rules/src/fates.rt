@@ -5,7 +5,9 @@ ghost use Rattle.hac_model.specs.Tree.Events.{next_dirty};
 ghost use Rattle.hac_model.specs.Tree.Links.{parent_of, query_at};
 ghost use Rattle.hac_model.specs.Tree.Mounting.{do_names_rise, is_among, is_gone, is_of_mount};
 ghost use Rattle.hac_model.specs.Tree.Mounting.{is_such_at};
+ghost use Rattle.hac_model.specs.Tree.{is_file_at};
 ghost use Rattle.scope_rules.specs.Fates.{SuitsTree, goes, is_indexed, left_parent, left_query};
+ghost use Rattle.scope_rules.specs.Fates.{left_shown};
 
 use file_tree::Tree;
 use hac_model::{Event, Name, Number, Query};
@@ -48,9 +50,21 @@ fn is_of_mount(tree: &Tree, mount: Number, number: Number) -> bool
     tree.has_entry(number) && (number == mount || tree.parent(number) == mount)
 }
 
+/// The text by which a file will be judged, unless it goes.
+pub(crate) fn left_shown<'a>(tree: &'a Tree, event: &Event, number: Number) -> Option<&'a [u8]>
+    ensures { option_copied result ≡ left_shown event.now tree.now.state number }
+{
+    if is_indexed(tree, event, number) {
+        Some(tree.text(number))
+    } else {
+        tree.shown(number)
+    }
+}
+
 /// Whether the event indexes the file of a number.
-pub(crate) fn is_indexed(tree: &Tree, event: &Event, number: Number) -> bool
-    ensures { result ≡ is_indexed event.now tree.now.state number }
+fn is_indexed(tree: &Tree, event: &Event, number: Number) -> bool
+    ensures indexed { result ≡ is_indexed event.now tree.now.state number }
+    ensures file { IsTrue result → IsTrue (is_file_at tree.now.state.entries number) }
 {
     match event {
         Event::Step => is_next_dirty(tree, number),
@@ -60,8 +74,9 @@ pub(crate) fn is_indexed(tree: &Tree, event: &Event, number: Number) -> bool
 
 /// Whether the dirty file of the least number has this one.
 fn is_next_dirty(tree: &Tree, number: Number) -> bool
-    ensures { result ≡ option_map_or (λ file. file == number)
+    ensures next { result ≡ option_map_or (λ file. file == number)
         (next_dirty tree.now.state.entries) false }
+    ensures file { IsTrue result → IsTrue (is_file_at tree.now.state.entries number) }
 {
     match tree.next_dirty() {
         Some(file) => file == number,

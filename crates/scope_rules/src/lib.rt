@@ -1,5 +1,5 @@
 //! What directories provide, by the tree and the links, and what the tree will be after an event.
-//! It knows no text, and asks no query.
+//! It reads no text, and asks no query.
 #![tactic(auto)]
 
 mod after;

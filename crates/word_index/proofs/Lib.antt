@@ -1,6 +1,7 @@
-pub mod KeptLemmas
-pub mod OwnerLemmas
-pub mod PostingLemmas
-pub mod SweepLemmas
-pub mod AnswerLemmas
-pub mod IndexLemmas
+pub mod ListLemmas
+pub mod NewsLemmas
+pub mod NumberLemmas
+pub mod PlaceLemmas
+pub mod TermLemmas
+pub mod ToldLemmas
+pub mod WordLemmas

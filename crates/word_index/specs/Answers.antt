@@ -1,72 +1,44 @@
--- The answers that mounts keep.
-use Rattle.std.specs.Prelude.{◌≡◌, ℕ, ◌+◌, length, nat_eq, ◌==◌, ◌&&◌, Bool, false, is_some, List, [], ◌∷◌, Option, None, unwrap_or}
-use Rattle.std.specs.BTreeMap.{is_at}
-use Rattle.std.specs.Cmp.Lexicographic.{slice_cmp}
-use Rattle.std.specs.Map.{lookup}
-use Rattle.std.specs.Option.{option_map_or}
-use Rattle.std.specs.Ordering.{nat_cmp}
-use Rattle.hac_model.specs.declared.terms.Term.{Term}
-use Rattle.hac_model.specs.declared.terms.Term.TheVariants.{Word, Prefix}
-use Rattle.set_pool.specs.Rising.{inserted, is_among}
+-- Answers of mounts, and what becomes of them as mounts are told more.
+use Rattle.std.specs.Prelude.{ℕ, ◌==◌, if◌then◌else◌, List, [], ◌∷◌, length, Option, None, Some, sum_by}
+use Rattle.std.specs.List.{AllByRecursion}
+use Rattle.hac_model.specs.Query.Terms.{is_term_before}
+use Rattle.hac_model.specs.Tree.Valid.{RiseFrom, TermsRise}
+use Rattle.hac_model.specs.declared.states.Answer.{Answer}
+use Rattle.word_index.specs.declared.told.Told.{Told}
 
--- one mount's answers by the letters of their terms, with their documents. One that is only prepared has none
-pub record Answers : Type 0 where
-  pub words : List (List ℕ × Option (List ℕ))
-  pub prefixes : List (List ℕ × Option (List ℕ))
+-- the terms rise, and so do the documents of each
+pub record AreInOrder (answers : List Answer) : Type 0 where
+  pub terms : TermsRise None answers
+  pub documents : AllByRecursion (λ answer. RiseFrom 0 answer.documents) answers
 
--- what is in a term's place, if it has one
-abbrev pub place_in : Answers → Term → Option (Option (List ℕ))
-place_in answers (Word letters) = lookup (is_at (slice_cmp nat_cmp letters)) answers.words
-place_in answers (Prefix letters) = lookup (is_at (slice_cmp nat_cmp letters)) answers.prefixes
+-- the answers with one more in the order of their terms, in place of one to the same term
+abbrev pub with_answer : Answer → List Answer → List Answer
+with_answer new [] = new ∷ []
+with_answer new (answer ∷ answers) =
+    if is_term_before new.term answer.term then new ∷ answer ∷ answers
+    else (if is_term_before answer.term new.term then answer ∷ with_answer new answers else new ∷ answers)
 
--- what is in the place of a mount's answer to a term, if it has one
-abbrev pub place_of : List (ℕ × Answers) → ℕ → Term → Option (Option (List ℕ))
-place_of kept mount term = option_map_or (λ answers. place_in answers term) (lookup (nat_eq mount) kept) None
+-- the answers with more of them
+abbrev pub with_answers : List Answer → List Answer → List Answer
+with_answers [] answers = answers
+with_answers (new ∷ more) answers = with_answer new (with_answers more answers)
 
--- a mount's answer to a term has a place
-abbrev pub has_place : List (ℕ × Answers) → ℕ → Term → Bool
-has_place kept mount term = is_some (place_of kept mount term)
+-- the answers of each mount after mounts were told some: where two tell of one mount and term, the first of them counts
+abbrev pub told_after : List Told → (ℕ → List Answer) → ℕ → List Answer
+told_after [] answers mount = answers mount
+told_after (told ∷ rest) answers mount =
+    if mount == told.mount then with_answers told.answers (told_after rest answers mount) else told_after rest answers mount
 
--- the documents of a mount's answer to a term, if it is kept
-abbrev pub answer_of : List (ℕ × Answers) → ℕ → Term → Option (List ℕ)
-answer_of kept mount term = unwrap_or (place_of kept mount term) None
+-- the answers of each mount, but for one that has just these, if there is one
+abbrev pub anew : Option Told → (ℕ → List Answer) → ℕ → List Answer
+anew None answers mount = answers mount
+anew (Some told) answers mount = if mount == told.mount then told.answers else answers mount
 
--- a mount keeps an answer to a term
-abbrev pub is_kept : List (ℕ × Answers) → ℕ → Term → Bool
-is_kept kept mount term = is_some (answer_of kept mount term)
+-- how many documents the answers name, all together
+abbrev pub numbers_in : List Answer → ℕ
+numbers_in answers = sum_by (λ answer. length answer.documents) answers
 
--- a mount keeps an answer to a term that has the document
-abbrev pub has_answer : List (ℕ × Answers) → ℕ → Term → ℕ → Bool
-has_answer kept mount term document = is_among document (unwrap_or (answer_of kept mount term) [])
-
--- how many places a mount's answers have
-abbrev pub count_places : List (ℕ × Answers) → ℕ → ℕ
-count_places kept mount = option_map_or (λ answers. length answers.words + length answers.prefixes) (lookup (nat_eq mount) kept) 0
-
--- each mount keeps the answers that it kept
-abbrev pub SameAnswers : List (ℕ × Answers) → List (ℕ × Answers) → Type 0
-SameAnswers old new = (mount : ℕ) (term : Term) → answer_of new mount term ≡ answer_of old mount term
-
--- the same answers have a place
-abbrev pub SamePlaces : List (ℕ × Answers) → List (ℕ × Answers) → Type 0
-SamePlaces old new = (mount : ℕ) (term : Term) → has_place new mount term ≡ has_place old mount term
-
--- the letters are the same
-abbrev pub same_letters : List ℕ → List ℕ → Bool
-same_letters letters others = is_at (slice_cmp nat_cmp others) letters
-
--- the terms are one
-abbrev pub same_term : Term → Term → Bool
-same_term (Word letters) (Word others) = same_letters letters others
-same_term (Prefix letters) (Prefix others) = same_letters letters others
-same_term (Word letters) (Prefix others) = false
-same_term (Prefix letters) (Word others) = false
-
--- the answers are one: one mount's, to one term
-abbrev pub same_answer : ℕ → Term → ℕ → Term → Bool
-same_answer mount term other asked = mount == other && same_term term asked
-
--- the members, with these numbers put in one by one
-abbrev pub filled : List ℕ → List ℕ → List ℕ
-filled members [] = members
-filled members (number ∷ numbers) = filled (inserted number members) numbers
+-- the first of two, if it is there, and else the second
+abbrev pub first_of : Option (List ℕ) → Option (List ℕ) → Option (List ℕ)
+first_of None documents = documents
+first_of (Some documents) other = Some documents

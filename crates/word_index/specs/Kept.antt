@@ -1,47 +1,49 @@
--- How an index is kept: the words of each item, postings that agree with them, and answers.
-use Rattle.std.specs.Prelude.{◌≡◌, ◌≤◌, ◌⊎◌, ℕ, IfSome, IsTrue, List, [], None, Option, Some, length}
-use Rattle.std.specs.Option.{option_map}
+-- The places of each mount's answers, in a map by its number.
+use Rattle.std.specs.Prelude.{◌≡◌, ℕ, Bool, ◌==◌, ◌&&◌, is_some, nat_eq, List, [], map, unwrap_or}
+use Rattle.std.specs.List.{list_any}
+use Rattle.hac_model.specs.Tree.Mounts.{is_kept}
+use Rattle.hac_model.specs.declared.states.Answer.{Answer}
 use Rattle.hac_model.specs.declared.terms.Term.{Term}
-use Rattle.word_index.specs.Answers.{has_place as has_answer_place}
-use Rattle.word_index.specs.Items.{has_place, is_bare, words_in}
-use Rattle.word_index.specs.Posted.{IsPosted, has_set, is_posted}
-use Rattle.word_index.specs.Seen.{Seen}
-use Rattle.word_index.specs.Told.{is_told, room_for}
-use Rattle.word_index.specs.Words.{has_word}
-use Rattle.word_index.specs.declared.answers.Told.{Told}
-use Rattle.word_index.specs.declared.index.Index.TheInside.{Inside}
-use Rattle.word_index.specs.declared.index.Pending.{Pending}
+use Rattle.indexmap.specs.IndexMap.{IndexMap, get}
+use Rattle.word_index.specs.Places.{answers_in, has_term}
+use Rattle.word_index.specs.declared.kept.NewAnswers.{NewAnswers}
+use Rattle.word_index.specs.declared.places.Place.{Place}
+use Rattle.word_index.specs.declared.told.Told.{Told}
 
--- what is seen of an index: the words of items, the answers of mounts, and what is ready
-abbrev pub seen_of : Inside → Seen
-seen_of index = record {
-  items = index.items.entries;
-  kept = index.postings.kept;
-  ready = option_map (λ next. (next.item, next.words)) index.ready;
-  told = index.told;
-}
+module _ {S : Type 0} where
+  -- the mount has places, which may be none
+  abbrev pub is_mount : IndexMap ℕ (List Place) S → ℕ → Bool
+  is_mount kept mount = is_some (get nat_eq kept mount)
 
--- the item has a place, and each of its words to come has a set, with room for the item
-pub record IsReady (index : Inside) (next : Pending) : Type 0 where
-  pub place : IsTrue (has_place index.items next.item)
-  pub sets : (word : List ℕ) → IsTrue (has_word next.words word) → IsTrue (has_set index.postings word)
-  pub room : length next.words ≤ index.postings.spare
+  -- the places of a mount's answers
+  abbrev pub places_at : IndexMap ℕ (List Place) S → ℕ → List Place
+  places_at kept mount = unwrap_or (get nat_eq kept mount) []
 
--- each answer to come has a place, with room for its documents
-pub record AreReady (index : Inside) (told : List Told) : Type 0 where
-  pub places : (mount : ℕ) (term : Term) → IsTrue (is_told told mount term) → IsTrue (has_answer_place index.postings.kept mount term)
-  pub room : room_for told ≤ index.postings.spare
+  -- the answers that a mount keeps
+  abbrev pub answers_at : IndexMap ℕ (List Place) S → ℕ → List Answer
+  answers_at kept mount = answers_in (places_at kept mount)
 
--- the words that the item is to have that is ready, if there is one
-abbrev pub words_to_come : Option Pending → List (List ℕ)
-words_to_come None = []
-words_to_come (Some next) = next.words
+  -- a mount's answer to a term has a place
+  abbrev pub has_place : IndexMap ℕ (List Place) S → ℕ → Term → Bool
+  has_place kept mount term = has_term (places_at kept mount) term
 
--- just the items that have a word are in its set, and what is ready can be put. No word has a set but those of items and
--- those to come, and no item has a place but those with words and the one that is ready
-pub record IsIndexKept (index : Inside) : Type 0 where
-  pub posted : (word : List ℕ) (item : ℕ) → is_posted index.postings word item ≡ has_word (words_in index.items item) word
-  pub ready : IfSome index.ready (IsReady index)
-  pub told : IfSome index.told (AreReady index)
-  pub lean : (word : List ℕ) → IsTrue (has_set index.postings word) → IsTrue (has_word (words_to_come index.ready) word) ⊎ IsPosted index.postings word
-  pub places : (item : ℕ) → IsTrue (is_bare index.items item) → option_map (λ next. next.item) index.ready ≡ Some item
+  -- each mount keeps the answers that it kept
+  abbrev pub SameAnswers : IndexMap ℕ (List Place) S → IndexMap ℕ (List Place) S → Type 0
+  SameAnswers old new = (mount : ℕ) → answers_at new mount ≡ answers_at old mount
+
+  -- the same mounts have places, for answers to the same terms
+  pub record SamePlaces (old new : IndexMap ℕ (List Place) S) : Type 0 where
+    pub mounts : (mount : ℕ) → is_mount new mount ≡ is_mount old mount
+    pub places : (mount : ℕ) (term : Term) → has_place new mount term ≡ has_place old mount term
+
+-- what a mount is told
+abbrev pub told_of : NewAnswers → Told
+told_of new = record { mount = new.mount; answers = answers_in new.places }
+
+-- what mounts are told
+abbrev pub all_told : List NewAnswers → List Told
+all_told told = map told_of told
+
+-- a mount is told its answer to a term
+abbrev pub is_told : List Told → ℕ → Term → Bool
+is_told told mount term = list_any (λ other. mount == other.mount && is_kept other.answers term) told

@@ -1,10 +1,8 @@
-pub mod Words
 pub mod Answers
-pub mod Owners
-pub mod Told
-pub mod Places
 pub mod Items
-pub mod Posted
-pub mod Sets
-pub mod Seen
 pub mod Kept
+pub mod Laws
+pub mod Next
+pub mod Places
+pub mod Seen
+pub mod Words

@@ -1,73 +1,53 @@
--- The sets of kept answers, in a map by mount of maps by the letters of terms.
-use Rattle.std.specs.Prelude.{◌≡◌, ◌<◌, ◌+◌, ℕ, nat_eq, Bool, List, is_some, Option, None, Some, if◌then◌else◌, unwrap_or}
-use Rattle.std.specs.BTreeMap.{BTreeMap, btree_map_len, get as get_ordered}
-use Rattle.std.specs.Cmp.Lexicographic.{slice_cmp}
+-- The places of a mount's answers.
+use Rattle.std.specs.Prelude.{◌≡◌, Bool, true, if◌then◌else◌, List, [], ◌∷◌, IfSome, Option, None, Some}
+use Rattle.std.specs.List.{AllByRecursion, list_any}
 use Rattle.std.specs.Option.{option_map_or}
-use Rattle.std.specs.Ordering.{nat_cmp}
+use Rattle.hac_model.specs.Query.Terms.{is_same_term, is_term_before}
+use Rattle.hac_model.specs.Tree.Valid.{RiseFrom}
+use Rattle.hac_model.specs.declared.states.Answer.{Answer}
 use Rattle.hac_model.specs.declared.terms.Term.{Term}
-use Rattle.hac_model.specs.declared.terms.Term.TheVariants.{Word, Prefix}
-use Rattle.indexmap.specs.IndexMap.{IndexMap, get}
-use Rattle.word_index.specs.Answers.{same_answer, same_term}
-use Rattle.word_index.specs.declared.kept.Terms.{Terms}
+use Rattle.word_index.specs.declared.places.Place.{Place}
 
--- what is in the place of these letters, if they have one
-abbrev pub letters_place : BTreeMap (List ℕ) (Option ℕ) → List ℕ → Option (Option ℕ)
-letters_place asked letters = get_ordered (slice_cmp nat_cmp) asked letters
+-- the answers with that in a place before them, if it has one
+abbrev pub with_place : Place → List Answer → List Answer
+with_place place answers = option_map_or (λ documents. record { term = place.term; documents = documents } ∷ answers) place.documents answers
 
--- the letters have a place
-abbrev pub has_letters_place : BTreeMap (List ℕ) (Option ℕ) → List ℕ → Bool
-has_letters_place asked letters = is_some (letters_place asked letters)
+-- the answers that are in places, in order
+abbrev pub answers_in : List Place → List Answer
+answers_in [] = []
+answers_in (place ∷ places) = with_place place (answers_in places)
 
--- the set of the answer to these letters, if it is kept
-abbrev pub letters_set : BTreeMap (List ℕ) (Option ℕ) → List ℕ → Option ℕ
-letters_set asked letters = unwrap_or (letters_place asked letters) None
+-- the place of an answer
+abbrev pub place_filled : Answer → Place
+place_filled answer = record { term = answer.term; documents = Some answer.documents }
 
--- what is in a term's place, if it has one
-abbrev pub term_place : Terms → Term → Option (Option ℕ)
-term_place terms (Word letters) = letters_place terms.words letters
-term_place terms (Prefix letters) = letters_place terms.prefixes letters
+-- the place of an answer to a term that is only prepared
+abbrev pub bare_place : Term → Place
+bare_place term = record { term = term; documents = None }
 
--- a term has a place
-abbrev pub has_term_place : Terms → Term → Bool
-has_term_place terms term = is_some (term_place terms term)
+-- the answer to a term has a place
+abbrev pub has_term : List Place → Term → Bool
+has_term places term = list_any (λ place. is_same_term place.term term) places
 
--- the set of a term's answer, if it is kept
-abbrev pub term_set : Terms → Term → Option ℕ
-term_set terms term = unwrap_or (term_place terms term) None
+-- the place of the answer to a term, if it has one
+abbrev pub found_place : List Place → Term → Option Place
+found_place [] term = None
+found_place (place ∷ places) term = if is_same_term place.term term then Some place else found_place places term
 
--- how many places there are
-abbrev pub count_places : Terms → ℕ
-count_places terms = btree_map_len terms.words + btree_map_len terms.prefixes
+-- the term of the place is before the term
+abbrev pub is_place_before : Term → Place → Bool
+is_place_before term place = is_term_before place.term term
 
--- a term loses its place, in which that was
-pub record TakesTerm (old new : Terms) (term : Term) (set : Option ℕ) : Type 0 where
-  pub there : term_place old term ≡ Some set
-  pub taken : (t : Term) → term_place new t ≡ (if same_term t term then None else term_place old t)
-  pub fewer : count_places new < count_places old
+-- the term of each place comes before those of all later ones
+abbrev pub DoPlacesRise : List Place → Type 0
+DoPlacesRise [] = Unit {0}
+DoPlacesRise (place ∷ places) = AllByRecursion (λ later. is_term_before place.term later.term ≡ true) places × DoPlacesRise places
 
-module _ {S : Type 0} where
-  -- the mount has its maps
-  abbrev pub is_mount : IndexMap ℕ Terms S → ℕ → Bool
-  is_mount kept mount = is_some (get nat_eq kept mount)
+-- the documents in a place rise
+abbrev pub DoDocumentsRise : Place → Type 0
+DoDocumentsRise place = IfSome place.documents (RiseFrom 0)
 
-  -- what is in the place of a mount's answer to a term, if it has one
-  abbrev pub set_place : IndexMap ℕ Terms S → ℕ → Term → Option (Option ℕ)
-  set_place kept mount term = option_map_or (λ terms. term_place terms term) (get nat_eq kept mount) None
-
-  -- a mount's answer to a term has a place
-  abbrev pub has_set_place : IndexMap ℕ Terms S → ℕ → Term → Bool
-  has_set_place kept mount term = is_some (set_place kept mount term)
-
-  -- the set of a mount's answer to a term, if it is kept
-  abbrev pub answer_set : IndexMap ℕ Terms S → ℕ → Term → Option ℕ
-  answer_set kept mount term = unwrap_or (set_place kept mount term) None
-
-  -- how many places a mount's answers have
-  abbrev pub places_of_mount : IndexMap ℕ Terms S → ℕ → ℕ
-  places_of_mount kept mount = option_map_or count_places (get nat_eq kept mount) 0
-
-  -- a mount's answer to a term loses its place, in which that was
-  pub record TakesPlace (old new : IndexMap ℕ Terms S) (mount : ℕ) (term : Term) (set : Option ℕ) : Type 0 where
-    pub there : set_place old mount term ≡ Some set
-    pub taken : (m : ℕ) (t : Term) → set_place new m t ≡ (if same_answer m t mount term then None else set_place old m t)
-    pub fewer : places_of_mount new mount < places_of_mount old mount
+-- the terms rise, and so do the documents in each place
+pub record ArePlacesInOrder (places : List Place) : Type 0 where
+  pub terms : DoPlacesRise places
+  pub documents : AllByRecursion DoDocumentsRise places

@@ -1,44 +1,33 @@
-//! The index: the words of items, and which items have a word. Changes that may want memory are
-//! prepared.
-ghost use Rattle.std.specs.Prelude.{◌≡◌, ℕ, [], None, Some, IfOk, OnErr, OnOk};
-ghost use Rattle.std.specs.Prelude.{if◌then◌else◌, nat_eq, unwrap_or};
-ghost use Rattle.set_pool.specs.Rising.{is_among};
+//! The index: the words of items and the answers of mounts.
+ghost use Rattle.std.specs.Prelude.{◌≡◌, ◌==◌, ◌+◌, ◌≤◌, ℕ, [], IfOk, IfSome, OnOk, if◌then◌else◌};
+ghost use Rattle.std.specs.Prelude.{unwrap_or};
 ghost use Rattle.std.specs.List.{list_any};
+ghost use Rattle.std.specs.Option.{option_copied};
 ghost use Rattle.hac_model.specs.Query.Words.{is_asked};
-ghost use Rattle.hac_model.specs.declared.terms.Term.TheVariants.{Prefix, Word};
-ghost use Rattle.hac_model.specs.declared.terms.Term.{Term as TheTerm};
-ghost use Rattle.word_index.specs.Answers.{SameAnswers, answer_of, has_answer, is_kept};
-ghost use Rattle.word_index.specs.Seen.{words_of};
-ghost use Rattle.word_index.specs.Told.{told_after};
-ghost use Rattle.word_index.specs.Words.{with_words, words_after};
+ghost use Rattle.hac_model.specs.Tree.Links.{has};
+ghost use Rattle.hac_model.specs.Tree.Mounts.{is_kept, kept_for};
+ghost use Rattle.hac_model.specs.Tree.Valid.{RiseFrom};
+ghost use Rattle.word_index.specs.Answers.{numbers_in};
+ghost use Rattle.word_index.specs.Next.{answers_after, words_after};
+ghost use Rattle.word_index.specs.Seen.{IsReady, SameAnswers, SameWords, answers_of, words_of};
 
-use crate::answers::{self, Told};
+use crate::copying::copied;
 use crate::items::{self, Items};
-use crate::postings::Postings;
-use hac_model::{Memory, Name, Number, Seq, Term, Words};
+use crate::kept::{self, Kept};
+use crate::pending::Pending;
+use hac_model::{Answer, Memory, Number, Seq, Term};
+use hac_outside::Steps;
 use indexmap::IndexMap;
 use std::alloc::Global;
 use std::marker::Model;
+use std::sync::ledger::Ledger;
 
-/// The words that an item is to have.
-#[derive(Drop)]
-pub(crate) struct Pending {
-    pub(crate) item: Number,
-    pub(crate) words: Words,
-}
-
-/// The words of items, seen as a list of the items that have words, and as what it is ready for: an
-/// item and the words that it is to have.
+/// The words of items and the answers of mounts.
 #[derive(Drop)]
 pub struct Index {
     alloc: Global,
-    // An item has its words here, and is in the set of each of them in the postings.
     items: Items,
-    postings: Postings,
-    // The item has a place, and the words have their sets, with room for the item.
-    ready: Option<Pending>,
-    // Each of these answers has a place, with room for its documents.
-    told: Option<Seq<Told>>,
+    kept: Kept,
 }
 
 impl Model for Index {
@@ -46,227 +35,156 @@ impl Model for Index {
 
     ghost Value = { Seen };
 
-    ghost use Rattle.word_index.specs.Kept.{IsIndexKept, seen_of};
-
-    ghost view = { seen_of };
-
-    ghost invariant = { IsIndexKept };
+    ghost view = { λ index. record { items = index.items.entries; kept = index.kept.entries } };
 }
 
 impl Index {
-    /// No item has words.
-    pub fn new(alloc: Global) -> Result<Index, Memory>
-        ensures words { IfOk result (λ index. (item : ℕ) → words_of index item ≡ []) }
-        ensures answers { IfOk result (λ index. index.kept ≡ []) }
-        ensures ready { IfOk result (λ index. index.ready ≡ None) }
-        ensures told { IfOk result (λ index. index.told ≡ None) }
+    /// No item has words, and no mount keeps an answer.
+    pub fn new(alloc: Global) -> Index
+        ensures { result ≡ record { items = []; kept = [] } }
     {
-        let postings = Postings::new(alloc)?;
-        Ok(Index {
+        Index {
             alloc,
             items: IndexMap::new(alloc),
-            postings,
-            ready: None,
-            told: None,
-        })
-    }
-
-    /// Whether the item has the term: a word, or a word that begins with a prefix. It looks into no
-    /// text and takes no memory.
-    pub fn has(&self, term: &Term, item: Number) -> bool
-        ensures { result ≡ list_any (is_asked term.now) (words_of self.now item) }
-    {
-        match term {
-            Term::Word(word) => self.postings.contains(word, item),
-            Term::Prefix(letters) => begins_any(items::words_at(&self.items, item), letters),
+            kept: IndexMap::new(alloc),
         }
     }
 
-    /// Whether the item has the term once the words that are ready are put.
-    pub fn has_after(&self, term: &Term, item: Number) -> bool
-        ensures { result ≡ list_any (is_asked term.now)
-            (words_after self.now.ready (words_of self.now) item) }
+    /// Whether the item has the term by its words, once what is pending is put: a word, or a word
+    /// that begins with a prefix. It takes the time of the logarithm of how many words the item
+    /// has.
+    pub fn has<L: Ledger>(
+        &self,
+        next: &Pending,
+        term: &Term,
+        item: Number,
+        probes: &mut Steps<L>,
+    ) -> bool
+        ensures answer { result ≡ list_any (is_asked term.now)
+            (words_after next.now.words (words_of self.now) item) }
+        ensures probe { probes.new ≡ probes.old + 1 }
     {
-        if let Some(next) = &self.ready {
-            if next.item == item {
-                return has_any(next.words.as_slice(), term);
-            }
-        }
-        self.has(term, item)
-    }
-
-    /// Takes the memory that it wants to give an item these words. No item's words change, whatever
-    /// the answer.
-    pub fn prepare(&mut self, item: Number, words: Words) -> Result<(), Memory>
-        ensures ok { OnOk result (self.new.ready ≡ Some (item, words)) }
-        ensures err { OnErr result (self.new.ready ≡ None) }
-        ensures words { (q : ℕ) → words_of self.new q ≡ words_of self.old q }
-        ensures answers { SameAnswers self.old.kept self.new.kept }
-        ensures told { self.new.told ≡ None }
-    {
-        self.forget();
-        items::make_place(self.alloc, &mut self.items, item)?;
-        match self.postings.make_room(words.as_slice()) {
-            Ok(()) => {
-                self.ready = Some(Pending { item, words });
-                Ok(())
-            }
-            Err(error) => {
-                items::take_out_bare(&mut self.items, item);
-                Err(error)
-            }
+        probes.tick();
+        match next.words_for(item) {
+            Some(words) => words.has(term),
+            None => items::has(&self.items, term, item),
         }
     }
 
-    /// Gives the item that is ready the words that were prepared, in place of those that it had. It
-    /// takes no memory. Where no item is ready no words change.
-    pub fn put(&mut self)
-        ensures words { (q : ℕ) → words_of self.new q
-            ≡ words_after self.old.ready (words_of self.old) q }
-        ensures answers { SameAnswers self.old.kept self.new.kept }
-        ensures ready { self.new.ready ≡ None }
-        ensures told { self.new.told ≡ None }
+    /// Whether a mount keeps an answer to the term that has the document, once what is pending is
+    /// put. It takes the time of the logarithm of how many answers the mount keeps, and of how many
+    /// documents that one has.
+    pub fn has_answer<L: Ledger>(
+        &self,
+        next: &Pending,
+        mount: Number,
+        term: &Term,
+        document: Number,
+        probes: &mut Steps<L>,
+    ) -> bool
+        ensures answer { result ≡ has (unwrap_or (kept_for
+            (answers_after next.now (answers_of self.now) mount) term.now) []) document }
+        ensures probe { probes.new ≡ probes.old + 1 }
     {
-        self.told = None;
-        if let Some(next) = self.ready.take() {
-            let old = items::words_at(&self.items, next.item);
-            self.postings.withdraw_all(old, next.item);
-            self.postings.post_all(next.words.as_slice(), next.item);
-            self.postings.sweep_all(old);
-            items::put_words(&mut self.items, next.item, next.words);
+        probes.tick();
+        match self.documents_after(next, mount, term) {
+            Some(documents) => is_among(documents, document),
+            None => false,
         }
+    }
+
+    /// Whether a mount keeps an answer to the term.
+    pub fn is_kept(&self, mount: Number, term: &Term) -> bool
+        ensures { result ≡ is_kept (answers_of self.now mount) term.now }
+    {
+        kept::documents_for(&self.kept, mount, term).is_some()
+    }
+
+    /// The answers that a mount keeps, their terms rising. Each number of a document is a probe.
+    pub fn answers_of<L: Ledger>(
+        &self,
+        mount: Number,
+        probes: &mut Steps<L>,
+    ) -> Result<Seq<Answer>, Memory>
+        ensures answers { IfOk result (λ answers. answers ≡ answers_of self.now mount) }
+        ensures probes { OnOk result
+            (probes.new ≡ probes.old + numbers_in (answers_of self.now mount)) }
+        ensures most { probes.new ≤ probes.old + numbers_in (answers_of self.now mount) }
+    {
+        let places = kept::places_of(&self.kept, mount);
+        Ok(Seq::new(copied(self.alloc, places, probes)?))
+    }
+
+    /// Takes the memory that it wants to hold what is pending. No words and no answers change,
+    /// whatever the answer. A place that is prepared and not put goes with its item or its mount,
+    /// or as the mount gets other answers in place of all.
+    pub fn prepare(&mut self, next: &Pending) -> Result<(), Memory>
+        ensures ready { OnOk result (IsReady self.new next.now) }
+        ensures words { SameWords self.old self.new }
+        ensures answers { SameAnswers self.old self.new }
+    {
+        items::make_room(self.alloc, &mut self.items, &next.words)?;
+        kept::make_room(self.alloc, &mut self.kept, &next.anew, next.told.as_slice())
+    }
+
+    /// Puts what is pending. It takes no memory.
+    pub fn put(&mut self, next: Pending)
+        requires { IsReady self.old next }
+        ensures words { (item : ℕ) → words_of self.new item
+            ≡ words_after next.words (words_of self.old) item }
+        ensures answers { (mount : ℕ) → answers_of self.new mount
+            ≡ answers_after next (answers_of self.old) mount }
+    {
+        items::put(&mut self.items, next.words);
+        kept::put_told(&mut self.kept, next.told);
+        kept::put_anew(&mut self.kept, next.anew);
     }
 
     /// The item has no words any more. It takes no memory.
     pub fn drop_item(&mut self, item: Number)
         ensures words { (q : ℕ) → words_of self.new q
-            ≡ with_words (words_of self.old) item [] q }
-        ensures answers { SameAnswers self.old.kept self.new.kept }
-        ensures ready { self.new.ready ≡ None }
-        ensures told { self.new.told ≡ None }
+            ≡ (if q == item then [] else words_of self.old q) }
+        ensures answers { SameAnswers self.old self.new }
     {
-        self.forget();
-        let old = items::words_at(&self.items, item);
-        self.postings.withdraw_all(old, item);
-        self.postings.sweep_all(old);
         items::take_out(&mut self.items, item);
     }
 
-    /// Whether a mount keeps an answer to the term.
-    pub fn is_kept(&self, mount: Number, term: &Term) -> bool
-        ensures { result ≡ is_kept self.now.kept mount term.now }
-    {
-        self.postings.keeps(mount, term)
-    }
-
-    /// Whether a mount keeps an answer to the term that has the document.
-    pub fn has_answer(&self, mount: Number, term: &Term, document: Number) -> bool
-        ensures { result ≡ has_answer self.now.kept mount term.now document }
-    {
-        self.postings.answer_has(mount, term, document)
-    }
-
-    /// Whether a mount keeps an answer to the term that has the document, once the answers that are
-    /// ready are put.
-    pub fn has_answer_after(&self, mount: Number, term: &Term, document: Number) -> bool
-        ensures { result ≡ is_among document (unwrap_or
-            (told_after self.now.told (answer_of self.now.kept) mount term.now) []) }
-    {
-        let kept = self.has_answer(mount, term, document);
-        match &self.told {
-            Some(told) => answers::has_after(kept, told.as_slice(), mount, term, document),
-            None => kept,
-        }
-    }
-
-    /// Takes the memory that it wants to keep these answers. No answer changes, whatever it says.
-    pub fn prepare_answers(&mut self, told: Seq<Told>) -> Result<(), Memory>
-        ensures ok { OnOk result (self.new.told ≡ Some told) }
-        ensures err { OnErr result (self.new.told ≡ None) }
-        ensures words { (q : ℕ) → words_of self.new q ≡ words_of self.old q }
-        ensures answers { SameAnswers self.old.kept self.new.kept }
-        ensures ready { self.new.ready ≡ None }
-    {
-        self.forget();
-        self.postings.make_answers(self.alloc, told.as_slice())?;
-        self.told = Some(told);
-        Ok(())
-    }
-
-    /// Keeps the answers that were prepared, each in place of what its mount answered to the term.
-    /// It takes no memory. Where none are ready no answer changes.
-    pub fn put_answers(&mut self)
-        ensures words { (q : ℕ) → words_of self.new q ≡ words_of self.old q }
-        ensures answers { (m : ℕ) (t : TheTerm) → answer_of self.new.kept m t
-            ≡ told_after self.old.told (answer_of self.old.kept) m t }
-        ensures ready { self.new.ready ≡ None }
-        ensures told { self.new.told ≡ None }
-    {
-        self.forget_words();
-        if let Some(told) = self.told.take() {
-            self.postings.keep_all(told.as_slice());
-        }
-    }
-
-    /// A mount keeps no answer any more. It takes no memory.
+    /// The mount keeps no answer any more. It takes no memory.
     pub fn drop_mount(&mut self, mount: Number)
-        ensures words { (q : ℕ) → words_of self.new q ≡ words_of self.old q }
-        ensures answers { (m : ℕ) (t : TheTerm) → answer_of self.new.kept m t
-            ≡ (if nat_eq m mount then None else answer_of self.old.kept m t) }
-        ensures ready { self.new.ready ≡ None }
-        ensures told { self.new.told ≡ None }
+        ensures words { SameWords self.old self.new }
+        ensures answers { (m : ℕ) → answers_of self.new m
+            ≡ (if m == mount then [] else answers_of self.old m) }
     {
-        self.forget();
-        self.postings.drop_mount(mount);
+        kept::take_out(&mut self.kept, mount);
     }
 
-    /// Forgets what was prepared.
-    fn forget(&mut self)
-        ensures words { (q : ℕ) → words_of self.new q ≡ words_of self.old q }
-        ensures answers { SameAnswers self.old.kept self.new.kept }
-        ensures ready { self.new.ready ≡ None }
-        ensures told { self.new.told ≡ None }
+    /// The documents of a mount's answer to a term, if it is kept once what is pending is put.
+    fn documents_after<'a>(
+        &'a self,
+        next: &'a Pending,
+        mount: Number,
+        term: &Term,
+    ) -> Option<&'a [Number]>
+        ensures found { option_copied result ≡ kept_for
+            (answers_after next.now (answers_of self.now) mount) term.now }
+        ensures rise { IfSome result (λ documents. RiseFrom 0 documents.now) }
     {
-        self.told = None;
-        self.forget_words();
-    }
-
-    /// Forgets the words that were prepared, with the place and the words that no item needs.
-    fn forget_words(&mut self)
-        ensures words { (q : ℕ) → words_of self.new q ≡ words_of self.old q }
-        ensures answers { SameAnswers self.old.kept self.new.kept }
-        ensures ready { self.new.ready ≡ None }
-        ensures told { self.new.told ≡ self.old.told }
-    {
-        if let Some(next) = self.ready.take() {
-            self.postings.sweep_all(next.words.as_slice());
-            items::take_out_bare(&mut self.items, next.item);
+        if let Some(new) = &next.anew {
+            if new.mount == mount {
+                return new.places.documents_for(term);
+            }
+        }
+        match kept::told_documents(next.told.as_slice(), mount, term) {
+            Some(documents) => Some(documents),
+            None => kept::documents_for(&self.kept, mount, term),
         }
     }
 }
 
-/// Whether one of the words is what the term asks for.
-fn has_any(words: &[Name], term: &Term) -> bool
-    ensures { result ≡ list_any (is_asked term.now) words.now }
+/// Whether a number is one of those that rise.
+fn is_among(numbers: &[Number], number: Number) -> bool
+    requires { RiseFrom 0 numbers.now }
+    ensures { result ≡ has numbers.now number }
 {
-    match term {
-        Term::Word(letters) => contains_any(words, letters),
-        Term::Prefix(letters) => begins_any(words, letters),
-    }
-}
-
-/// Whether one of the words is these letters.
-fn contains_any(words: &[Name], letters: &Name) -> bool
-    ensures { result ≡ list_any (is_asked (Word letters.now)) words.now }
-{
-    words.iter().any(|word| letters == word)
-}
-
-/// Whether one of the words begins with the letters.
-fn begins_any(words: &[Name], letters: &Name) -> bool
-    ensures { result ≡ list_any (is_asked (Prefix letters.now)) words.now }
-{
-    words
-        .iter()
-        .any(|word| word.as_bytes().starts_with(letters.as_bytes()))
+    numbers.binary_search(&number).is_ok()
 }

@@ -1,222 +1,271 @@
-//! The sets of kept answers, in a map by mount of maps by the letters of terms. It knows nothing of
-//! what a set has.
-ghost use Rattle.std.specs.Prelude.{◌≡◌, ◌<◌, ℕ, IfNone, IfSome, IsTrue, List, None, OnErr, OnOk};
-ghost use Rattle.std.specs.Prelude.{Some, if◌then◌else◌, nat_eq};
-ghost use Rattle.std.specs.BTreeMap.{IsUnchanged, btree_map_len};
+//! The places of each mount's answers, in a map by its number.
+ghost use Rattle.std.specs.Prelude.{◌≡◌, ◌==◌, ℕ, List, None, IfSome, IsTrue, OnOk, is_some};
+ghost use Rattle.std.specs.Prelude.{[], if◌then◌else◌};
+ghost use Rattle.std.specs.Option.{option_copied, option_map};
+ghost use Rattle.hac_model.specs.Tree.Mounts.{is_kept, kept_for};
+ghost use Rattle.hac_model.specs.Tree.Valid.{RiseFrom};
+ghost use Rattle.hac_model.specs.declared.states.Answer.{Answer as TheAnswer};
 ghost use Rattle.hac_model.specs.declared.terms.Term.{Term as TheTerm};
-ghost use Rattle.word_index.specs.Answers.{same_answer, same_letters, same_term};
-ghost use Rattle.word_index.specs.Places.{TakesPlace, TakesTerm, answer_set};
-ghost use Rattle.word_index.specs.Places.{has_letters_place, has_set_place};
-ghost use Rattle.word_index.specs.Places.{has_term_place, is_mount, letters_place};
-ghost use Rattle.word_index.specs.Places.{letters_set, set_place, term_place, term_set};
+ghost use Rattle.word_index.specs.Answers.{anew, first_of, told_after, with_answer, with_answers};
+ghost use Rattle.word_index.specs.Kept.{SameAnswers, SamePlaces, all_told, answers_at, has_place};
+ghost use Rattle.word_index.specs.Kept.{is_mount, is_told, places_at, told_of};
+ghost use Rattle.word_index.specs.Places.{DoDocumentsRise, answers_in, has_term, with_place};
 
-use hac_model::{Memory, Name, Number, Term};
+use crate::places::{Place, Places};
+use hac_model::{Answer, Memory, Number, Term};
 use indexmap::IndexMap;
-use set_pool::SetId;
 use std::alloc::Global;
-use std::collections::BTreeMap;
 
-/// The answers to terms of one kind, each with its set. One that is only prepared has none.
-type Asked = BTreeMap<Name, Option<SetId>>;
-
-/// The answers of one mount: to words, and to beginnings of words.
+/// Answers that a mount is to keep.
 #[derive(Drop)]
-pub(crate) struct Terms {
-    pub(crate) words: Asked,
-    pub(crate) prefixes: Asked,
+pub(crate) struct NewAnswers {
+    pub(crate) mount: Number,
+    pub(crate) places: Places,
 }
 
-/// The answers of each mount that keeps some.
-pub(crate) type Kept = IndexMap<u64, Terms>;
+/// The places by the numbers of their mounts.
+pub(crate) type Kept = IndexMap<u64, Places>;
 
-/// The set of a mount's answer to a term, if it is kept.
-pub(crate) fn set_of(kept: &Kept, mount: Number, term: &Term) -> Option<SetId>
-    ensures { result ≡ answer_set kept.now mount term.now }
+/// The documents of a mount's answer to a term, if it is kept.
+pub(crate) fn documents_for<'a>(kept: &'a Kept, mount: Number, term: &Term) -> Option<&'a [Number]>
+    ensures found { option_copied result ≡ kept_for (answers_at kept.now mount) term.now }
+    ensures rise { IfSome result (λ documents. RiseFrom 0 documents.now) }
 {
     match kept.get(&mount.get()) {
-        Some(terms) => terms.set_of(term),
+        Some(places) => places.documents_for(term),
         None => None,
     }
 }
 
-/// Ensures that a mount's answer to a term has a place. A new one has no set.
-pub(crate) fn make_place(
+/// The places of a mount's answers.
+pub(crate) fn places_of(kept: &Kept, mount: Number) -> &[Place]
+    ensures { result.now ≡ places_at kept.now mount }
+{
+    match kept.get(&mount.get()) {
+        Some(places) => places.as_slice(),
+        None => &[],
+    }
+}
+
+/// Ensures that a mount has places.
+fn make_mount(alloc: Global, kept: &mut Kept, mount: Number) -> Result<(), Memory>
+    ensures there { OnOk result (IsTrue (is_mount kept.new mount)) }
+    ensures places { (m : ℕ) → places_at kept.new m ≡ places_at kept.old m }
+{
+    if !kept.contains_key(&mount.get()) {
+        kept.insert(mount.get(), Places::new(alloc))?;
+    }
+    Ok(())
+}
+
+/// Ensures that all answers to come have places: those of the mount that is to keep just these, and
+/// those that mounts are told.
+pub(crate) fn make_room(
     alloc: Global,
     kept: &mut Kept,
-    mount: Number,
-    term: &Term,
+    new: &Option<NewAnswers>,
+    told: &[NewAnswers],
 ) -> Result<(), Memory>
-    ensures there { OnOk result (IsTrue (has_set_place kept.new mount term.now)) }
-    ensures stay { (m : ℕ) (t : TheTerm) → IsTrue (has_set_place kept.old m t)
-        → IsTrue (has_set_place kept.new m t) }
-    ensures sets { (m : ℕ) (t : TheTerm) → answer_set kept.new m t ≡ answer_set kept.old m t }
+    ensures anew { OnOk result (IfSome new.now (λ new. IsTrue (is_mount kept.new new.mount))) }
+    ensures told { OnOk result ((m : ℕ) (t : TheTerm) → IsTrue (is_told (all_told told.now) m t)
+        → IsTrue (has_place kept.new m t)) }
+    ensures answers { SameAnswers kept.old kept.new }
 {
-    make_mount(alloc, kept, mount)?;
-    match kept.get_mut(&mount.get()) {
-        Some(terms) => terms.make_place(term),
+    make_told(alloc, kept, told)?;
+    make_anew(alloc, kept, new)
+}
+
+/// Ensures that the mount that is to keep just these answers has places.
+fn make_anew(alloc: Global, kept: &mut Kept, new: &Option<NewAnswers>) -> Result<(), Memory>
+    ensures there { OnOk result (IfSome new.now (λ new. IsTrue (is_mount kept.new new.mount))) }
+    ensures places { (m : ℕ) → places_at kept.new m ≡ places_at kept.old m }
+{
+    match new {
+        Some(new) => make_mount(alloc, kept, new.mount),
         None => Ok(()),
     }
 }
 
-/// Ensures that a mount has its maps.
-fn make_mount(alloc: Global, kept: &mut Kept, mount: Number) -> Result<(), Memory>
-    ensures there { OnOk result (IsTrue (is_mount kept.new mount)) }
-    ensures places { (m : ℕ) (t : TheTerm) → set_place kept.new m t ≡ set_place kept.old m t }
+/// Ensures that each of the answers that mounts are told has a place.
+fn make_told(alloc: Global, kept: &mut Kept, told: &[NewAnswers]) -> Result<(), Memory>
+    ensures there { OnOk result ((m : ℕ) (t : TheTerm) → IsTrue (is_told (all_told told.now) m t)
+        → IsTrue (has_place kept.new m t)) }
+    ensures answers { SameAnswers kept.old kept.new }
 {
-    if !kept.contains_key(&mount.get()) {
-        let terms = Terms {
-            words: BTreeMap::new(alloc),
-            prefixes: BTreeMap::new(alloc),
-        };
-        kept.insert(mount.get(), terms)?;
+    'told: for new in told {
+        make_list(alloc, kept, new)?;
     }
     Ok(())
 }
 
-/// Gives a mount's answer to a term that set, or none, in its place.
-pub(crate) fn put_set(kept: &mut Kept, mount: Number, term: &Term, set: Option<SetId>)
-    requires { IsTrue (has_set_place kept.old mount term.now) }
-    ensures sets { (m : ℕ) (t : TheTerm) → answer_set kept.new m t
-        ≡ (if same_answer m t mount term.now then set else answer_set kept.old m t) }
-    ensures places { (m : ℕ) (t : TheTerm) → has_set_place kept.new m t
-        ≡ has_set_place kept.old m t }
+/// Ensures that each of the answers that a mount is told has a place.
+fn make_list(alloc: Global, kept: &mut Kept, new: &NewAnswers) -> Result<(), Memory>
+    ensures there { OnOk result ((t : TheTerm) → IsTrue (has_term new.now.places t)
+        → IsTrue (has_place kept.new new.now.mount t)) }
+    ensures stay { (m : ℕ) (t : TheTerm) → IsTrue (has_place kept.old m t)
+        → IsTrue (has_place kept.new m t) }
+    ensures answers { SameAnswers kept.old kept.new }
 {
-    if let Some(terms) = kept.get_mut(&mount.get()) {
-        terms.put_set(term, set);
-    }
+    make_all(alloc, kept, new.mount, new.places.as_slice())
 }
 
-/// Takes out one of a mount's answers, if any has a place.
-pub(crate) fn take_any(kept: &mut Kept, mount: Number) -> Option<(Term, Option<SetId>)>
-    ensures some { IfSome result (λ taken.
-        TakesPlace kept.old kept.new mount taken.0 taken.1) }
-    ensures none { IfNone result ((t : TheTerm) → set_place kept.old mount t ≡ None) }
-    ensures same { IfNone result ((m : ℕ) (t : TheTerm) → set_place kept.new m t
-        ≡ set_place kept.old m t) }
+/// Ensures that the answers to the terms of these places have places of a mount.
+fn make_all(alloc: Global, kept: &mut Kept, mount: Number, places: &[Place]) -> Result<(), Memory>
+    ensures there { OnOk result ((t : TheTerm) → IsTrue (has_term places.now t)
+        → IsTrue (has_place kept.new mount t)) }
+    ensures stay { (m : ℕ) (t : TheTerm) → IsTrue (has_place kept.old m t)
+        → IsTrue (has_place kept.new m t) }
+    ensures answers { SameAnswers kept.old kept.new }
+{
+    'places: for place in places {
+        make_place(alloc, kept, mount, &place.term)?;
+    }
+    Ok(())
+}
+
+/// Ensures that a mount's answer to a term has a place.
+fn make_place(alloc: Global, kept: &mut Kept, mount: Number, term: &Term) -> Result<(), Memory>
+    ensures there { OnOk result (IsTrue (has_place kept.new mount term.now)) }
+    ensures stay { (m : ℕ) (t : TheTerm) → IsTrue (has_place kept.old m t)
+        → IsTrue (has_place kept.new m t) }
+    ensures answers { SameAnswers kept.old kept.new }
+{
+    make_mount(alloc, kept, mount)?;
+    make_term(kept, mount, term)
+}
+
+/// The same for a mount that has places.
+fn make_term(kept: &mut Kept, mount: Number, term: &Term) -> Result<(), Memory>
+    requires { IsTrue (is_mount kept.old mount) }
+    ensures there { OnOk result (IsTrue (has_place kept.new mount term.now)) }
+    ensures stay { (m : ℕ) (t : TheTerm) → IsTrue (has_place kept.old m t)
+        → IsTrue (has_place kept.new m t) }
+    ensures answers { SameAnswers kept.old kept.new }
 {
     match kept.get_mut(&mount.get()) {
-        Some(terms) => terms.take_any(),
-        None => None,
+        Some(places) => places.make_place(term),
+        None => Ok(()),
     }
 }
 
-/// Takes out the maps of a mount.
-pub(crate) fn take_mount(kept: &mut Kept, mount: Number)
-    ensures { (m : ℕ) (t : TheTerm) → set_place kept.new m t
-        ≡ (if nat_eq m mount then None else set_place kept.old m t) }
+/// Keeps the answers that mounts are told, the last ones first.
+pub(crate) fn put_told(kept: &mut Kept, mut told: Vec<NewAnswers>)
+    requires { (m : ℕ) (t : TheTerm) → IsTrue (is_told (all_told told.items) m t)
+        → IsTrue (has_place kept.old m t) }
+    ensures answers { (m : ℕ) → answers_at kept.new m
+        ≡ told_after (all_told told.items) (answers_at kept.old) m }
+    ensures places { SamePlaces kept.old kept.new }
+{
+    'told: while let Some(new) = told.pop() {
+        put_list(kept, new.mount, new.places);
+    }
+}
+
+/// Keeps the answers that a mount is told, the last ones first.
+fn put_list(kept: &mut Kept, mount: Number, mut places: Places)
+    requires { (t : TheTerm) → IsTrue (is_kept (answers_in places) t)
+        → IsTrue (has_place kept.old mount t) }
+    ensures answers { (m : ℕ) → answers_at kept.new m ≡ (if m == mount
+        then with_answers (answers_in places) (answers_at kept.old m)
+        else answers_at kept.old m) }
+    ensures places { SamePlaces kept.old kept.new }
+{
+    'places: while let Some(place) = places.pop() {
+        put_place(kept, mount, place);
+    }
+}
+
+/// Keeps the answer in this place, if it has one.
+fn put_place(kept: &mut Kept, mount: Number, place: Place)
+    requires there { IsTrue (is_some place.documents)
+        → IsTrue (has_place kept.old mount place.term) }
+    requires rise { DoDocumentsRise place }
+    ensures answers { (m : ℕ) → answers_at kept.new m ≡ (if m == mount
+        then with_answers (with_place place []) (answers_at kept.old m)
+        else answers_at kept.old m) }
+    ensures places { SamePlaces kept.old kept.new }
+{
+    let Place { term, documents } = place;
+    if let Some(documents) = documents {
+        fill(kept, mount, Answer { term, documents });
+    }
+}
+
+/// Puts an answer into its place, in place of what was there.
+fn fill(kept: &mut Kept, mount: Number, answer: Answer)
+    requires there { IsTrue (has_place kept.old mount answer.term) }
+    requires rise { RiseFrom 0 answer.documents }
+    ensures answers { (m : ℕ) → answers_at kept.new m ≡ (if m == mount
+        then with_answer answer (answers_at kept.old m)
+        else answers_at kept.old m) }
+    ensures places { SamePlaces kept.old kept.new }
+{
+    if let Some(places) = kept.get_mut(&mount.get()) {
+        places.fill(answer);
+    }
+}
+
+/// Keeps just these answers of a mount, if there are some for one.
+pub(crate) fn put_anew(kept: &mut Kept, new: Option<NewAnswers>)
+    requires { IfSome new (λ new. IsTrue (is_mount kept.old new.mount)) }
+    ensures { (m : ℕ) → answers_at kept.new m
+        ≡ anew (option_map told_of new) (answers_at kept.old) m }
+{
+    if let Some(new) = new {
+        replace(kept, new.mount, new.places);
+    }
+}
+
+/// Gives a mount these places in place of its own.
+fn replace(kept: &mut Kept, mount: Number, places: Places)
+    requires { IsTrue (is_mount kept.old mount) }
+    ensures { (m : ℕ) → places_at kept.new m ≡
+        (if m == mount then places else places_at kept.old m) }
+{
+    if let Some(place) = kept.get_mut(&mount.get()) {
+        *place = places;
+    }
+}
+
+/// Takes out the places of a mount.
+pub(crate) fn take_out(kept: &mut Kept, mount: Number)
+    ensures { (m : ℕ) → places_at kept.new m ≡ (if m == mount then [] else places_at kept.old m) }
 {
     kept.swap_remove(&mount.get());
 }
 
-impl Terms {
-    /// The set of the answer to a term, if it is kept.
-    fn set_of(&self, term: &Term) -> Option<SetId>
-        ensures { result ≡ term_set self.now term.now }
+/// The documents of the first answer to a term that a mount is told, if there is one. With the
+/// answers that are kept before it says what is kept then.
+pub(crate) fn told_documents<'a>(
+    told: &'a [NewAnswers],
+    mount: Number,
+    term: &Term,
+) -> Option<&'a [Number]>
+    ensures found { (answers : ℕ → List TheAnswer) →
+        kept_for (told_after (all_told told.now) answers mount) term.now
+        ≡ first_of (option_copied result) (kept_for (answers mount) term.now) }
+    ensures rise { IfSome result (λ documents. RiseFrom 0 documents.now) }
+{
+    'told: for new in told {
+        match new.documents_for(mount, term) {
+            Some(documents) => return Some(documents),
+            None => {}
+        }
+    }
+    None
+}
+
+impl NewAnswers {
+    /// The documents of a mount's answer to a term, if this has it.
+    fn documents_for(&self, mount: Number, term: &Term) -> Option<&[Number]>
+        ensures found { option_copied result ≡ (if mount == self.now.mount
+            then kept_for (answers_in self.now.places) term.now else None) }
+        ensures rise { IfSome result (λ documents. RiseFrom 0 documents.now) }
     {
-        match term {
-            Term::Word(letters) => set_at(&self.words, letters),
-            Term::Prefix(letters) => set_at(&self.prefixes, letters),
+        if mount == self.mount {
+            self.places.documents_for(term)
+        } else {
+            None
         }
     }
-
-    /// Ensures that a term has a place.
-    fn make_place(&mut self, term: &Term) -> Result<(), Memory>
-        ensures there { OnOk result (IsTrue (has_term_place self.new term.now)) }
-        ensures stay { (t : TheTerm) → IsTrue (has_term_place self.old t)
-            → IsTrue (has_term_place self.new t) }
-        ensures sets { (t : TheTerm) → term_set self.new t ≡ term_set self.old t }
-    {
-        match term {
-            Term::Word(letters) => make_at(&mut self.words, letters),
-            Term::Prefix(letters) => make_at(&mut self.prefixes, letters),
-        }
-    }
-
-    /// Gives the answer to a term that set, or none, in its place.
-    fn put_set(&mut self, term: &Term, set: Option<SetId>)
-        requires { IsTrue (has_term_place self.old term.now) }
-        ensures sets { (t : TheTerm) → term_set self.new t
-            ≡ (if same_term t term.now then set else term_set self.old t) }
-        ensures places { (t : TheTerm) → has_term_place self.new t ≡ has_term_place self.old t }
-    {
-        match term {
-            Term::Word(letters) => put_at(&mut self.words, letters, set),
-            Term::Prefix(letters) => put_at(&mut self.prefixes, letters, set),
-        }
-    }
-
-    /// Takes out one of the answers, if any has a place.
-    fn take_any(&mut self) -> Option<(Term, Option<SetId>)>
-        ensures some { IfSome result (λ taken. TakesTerm self.old self.new taken.0 taken.1) }
-        ensures none { IfNone result ((t : TheTerm) → term_place self.old t ≡ None) }
-        ensures same { IfNone result ((t : TheTerm) → term_place self.new t
-            ≡ term_place self.old t) }
-    {
-        if let Some((letters, set)) = take_first(&mut self.words) {
-            return Some((Term::Word(letters), set));
-        }
-        match take_first(&mut self.prefixes) {
-            Some((letters, set)) => Some((Term::Prefix(letters), set)),
-            None => None,
-        }
-    }
-}
-
-/// The set of the answer to these letters, if it is kept.
-fn set_at(asked: &Asked, letters: &Name) -> Option<SetId>
-    ensures { result ≡ letters_set asked.now letters.now }
-{
-    match asked.get(letters) {
-        Some(set) => *set,
-        None => None,
-    }
-}
-
-/// Ensures that these letters have a place.
-fn make_at(asked: &mut Asked, letters: &Name) -> Result<(), Memory>
-    ensures there { OnOk result (IsTrue (has_letters_place asked.new letters.now)) }
-    ensures stay { (l : List ℕ) → IsTrue (has_letters_place asked.old l)
-        → IsTrue (has_letters_place asked.new l) }
-    ensures sets { (l : List ℕ) → letters_set asked.new l ≡ letters_set asked.old l }
-{
-    if asked.contains_key(letters) {
-        return Ok(());
-    }
-    insert_bare(asked, letters)?;
-    Ok(())
-}
-
-/// Gives these letters a place without a set.
-fn insert_bare(asked: &mut Asked, letters: &Name) -> Result<(), Memory>
-    ensures ok { OnOk result ((l : List ℕ) → letters_place asked.new l
-        ≡ (if same_letters l letters.now then Some None else letters_place asked.old l)) }
-    ensures err { OnErr result ((l : List ℕ) → letters_place asked.new l
-        ≡ letters_place asked.old l) }
-{
-    asked.insert(letters.clone()?, None)?;
-    Ok(())
-}
-
-/// Gives the answer to these letters that set, or none, in its place.
-fn put_at(asked: &mut Asked, letters: &Name, set: Option<SetId>)
-    requires { IsTrue (has_letters_place asked.old letters.now) }
-    ensures sets { (l : List ℕ) → letters_set asked.new l
-        ≡ (if same_letters l letters.now then set else letters_set asked.old l) }
-    ensures places { (l : List ℕ) → has_letters_place asked.new l ≡ has_letters_place asked.old l }
-{
-    if let Some(place) = asked.get_mut(letters) {
-        *place = set;
-    }
-}
-
-/// Takes out the first of the answers, if any has a place.
-fn take_first(asked: &mut Asked) -> Option<(Name, Option<SetId>)>
-    ensures there { IfSome result (λ taken. letters_place asked.old taken.0 ≡ Some taken.1) }
-    ensures taken { IfSome result (λ taken. (l : List ℕ) → letters_place asked.new l
-        ≡ (if same_letters l taken.0 then None else letters_place asked.old l)) }
-    ensures fewer { IfSome result (λ _. btree_map_len asked.new < btree_map_len asked.old) }
-    ensures none { IfNone result ((l : List ℕ) → letters_place asked.old l ≡ None) }
-    ensures same { IfNone result (IsUnchanged asked.old asked.new) }
-{
-    asked.pop_first()
 }

@@ -1,4 +1,4 @@
-use Rattle.std.proofs.Common.{◌≡◌, false, sym, ◌∙◌, inl, inr}
+use Rattle.std.proofs.Common.{sym, ◌∙◌, inl, inr}
 use Rattle.kept_state.proofs.ReachLemmas.{mark-none, mark-way}
 use Rattle.kept_state.proofs.edges.cycle_of_mark.Goals as goal
 use Rattle.kept_state.proofs.edges.cycle_of_mark.Goals.{else-is_permanent-via-then-is_permanent+else-is_directory, else-is_permanent-via-else-is_permanent}

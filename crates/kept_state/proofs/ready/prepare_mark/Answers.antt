@@ -4,7 +4,7 @@ use Rattle.hac_model.specs.Tree.Links.{parent_of, query_at}
 use Rattle.hac_model.specs.Tree.{is_directory_at}
 use Rattle.file_tree.specs.Seen as tree
 use Rattle.link_kinds.specs.Seen.{Known}
-use Rattle.kept_state.specs.Parts.{WillHave, edges_marked, marks_kept}
+use Rattle.kept_state.specs.Parts.{WillHave, marks_kept}
 use Rattle.kept_state.proofs.ready.prepare_mark.Goals as goal
 
 pub returns-clause-edges : goal.returns-clause-edges

@@ -1,4 +1,4 @@
-use Rattle.std.proofs.Common.{◌≡◌, ◌∷◌, ◌++◌, ℕ, List, None, Some, ap, refl, sym, true, ◌∙◌}
+use Rattle.std.proofs.Common.{◌≡◌, ◌∷◌, ◌++◌, ℕ, List, ap, refl, sym, true, ◌∙◌}
 use Rattle.std.specs.Option.{option_copied}
 use Rattle.hac_model.specs.Tree.Depends.{named_in}
 use Rattle.hac_model.specs.Tree.Facts.{edges_to, with_mark}

@@ -1,0 +1,300 @@
+//! The items that are judged again after an event: those that it touches, and the others, of which
+//! it may change the links at one directory and at what depends on that one.
+ghost use Rattle.std.specs.Prelude.{◌≡◌, ◌==◌, ◌&&◌, ◌||◌, ◌++◌, ◌∷◌, [], ℕ, None, Some, false};
+ghost use Rattle.std.specs.Prelude.{IfOk, IsTrue, OnOk, if◌then◌else◌};
+ghost use Rattle.std.specs.Option.{option_map_or};
+ghost use Rattle.hac_model.specs.Tree.{is_directory_at, is_live};
+ghost use Rattle.hac_model.specs.Tree.Events.{accepted, apply, is_inside, next_dirty};
+ghost use Rattle.hac_model.specs.Tree.Links.{is_item, is_semantic};
+ghost use Rattle.hac_model.specs.Tree.Mounting.{is_document_of};
+ghost use Rattle.hac_model.specs.Tree.Touched.{begins, is_the, touched, touches};
+ghost use Rattle.kept_links.specs.Items.{is_other, others, reach_of};
+
+use crate::lookups::{
+    is_directory, is_document, is_inside, is_item, is_semantic, next_dirty, next_number, parent_of,
+};
+use crate::outlook::Outlook;
+use hac_model::{Event, Mark, Memory, Number};
+use kept_state::KeptState;
+use reeval::Layout;
+use std::alloc::Global;
+
+/// The items that an event may touch.
+pub(crate) enum Reach {
+    /// It touches none.
+    Nothing,
+    /// It touches none but this one.
+    One(Number),
+    /// It may touch any.
+    Any,
+}
+
+/// The items that the event touches, in order of number.
+pub(crate) fn touched_items(
+    alloc: Global,
+    kept: &KeptState,
+    outlook: &Outlook<'_>,
+    event: &Event,
+) -> Result<Vec<Number>, Memory>
+    requires accepted { IsTrue (accepted kept.now.state event.now) }
+    requires after { outlook.now ≡ apply kept.now.state event.now }
+    ensures { IfOk result (λ items. items.items ≡ touched kept.now.state event.now) }
+{
+    kept.know_valid();
+    match reach_of(kept, event) {
+        Reach::Nothing => Ok(Vec::new(alloc)),
+        Reach::One(item) => touched_of_one(alloc, kept, outlook, event, item),
+        Reach::Any => touched_of_all(alloc, kept, outlook, event),
+    }
+}
+
+/// The items that the event may touch.
+fn reach_of(kept: &KeptState, event: &Event) -> Reach
+    ensures { result ≡ reach_of kept.now.state event.now }
+{
+    match event {
+        Event::NewFile { .. } => Reach::One(next_number(kept)),
+        Event::Rm { entry } => Reach::One(*entry),
+        Event::Mv { entry, .. } => reach_of_move(kept, *entry),
+        Event::Mark(mark) => Reach::One(mark.item),
+        Event::Step => reach_of_step(kept),
+        Event::Smount { .. } | Event::Ssync { .. } | Event::Sumount { .. } => Reach::Any,
+        _ => Reach::Nothing,
+    }
+}
+
+/// The items that may move with an entry: all that are below a directory.
+fn reach_of_move(kept: &KeptState, entry: Number) -> Reach
+    ensures { result ≡
+        if is_directory_at kept.now.state.entries entry then Reach.Any else Reach.One entry }
+{
+    if is_directory(kept, entry) {
+        Reach::Any
+    } else {
+        Reach::One(entry)
+    }
+}
+
+/// The file that the next step indexes.
+fn reach_of_step(kept: &KeptState) -> Reach
+    ensures { result ≡ option_map_or (λ file. Reach.One file)
+        (next_dirty kept.now.state.entries) Reach.Nothing }
+{
+    match next_dirty(kept) {
+        Some(file) => Reach::One(file),
+        None => Reach::Nothing,
+    }
+}
+
+/// The same of an event that touches no more than one item. It goes over no others.
+fn touched_of_one(
+    alloc: Global,
+    kept: &KeptState,
+    outlook: &Outlook<'_>,
+    event: &Event,
+    item: Number,
+) -> Result<Vec<Number>, Memory>
+    requires accepted { IsTrue (accepted kept.now.state event.now) }
+    requires after { outlook.now ≡ apply kept.now.state event.now }
+    requires reach { reach_of kept.now.state event.now ≡ Reach.One item }
+    ensures { IfOk result (λ items. items.items ≡ touched kept.now.state event.now) }
+{
+    kept.know_valid();
+    let mut items = Vec::new(alloc);
+    if outlook.next_number() <= item {
+        return Ok(items);
+    }
+    push_touched(&mut items, kept, outlook, event, item)?;
+    Ok(items)
+}
+
+/// The same of any event.
+#[tactic(auto, using(crate::proofs::ItemLemmas::filter_next))]
+fn touched_of_all(
+    alloc: Global,
+    kept: &KeptState,
+    outlook: &Outlook<'_>,
+    event: &Event,
+) -> Result<Vec<Number>, Memory>
+    requires accepted { IsTrue (accepted kept.now.state event.now) }
+    requires after { outlook.now ≡ apply kept.now.state event.now }
+    ensures { IfOk result (λ items. items.items ≡ touched kept.now.state event.now) }
+{
+    let mut items = Vec::new(alloc);
+    for number in 0..outlook.next_number().get() {
+        push_touched(&mut items, kept, outlook, event, Number::new(number))?;
+    }
+    Ok(items)
+}
+
+/// Adds an item to others, if the event touches it.
+fn push_touched(
+    items: &mut Vec<Number>,
+    kept: &KeptState,
+    outlook: &Outlook<'_>,
+    event: &Event,
+    item: Number,
+) -> Result<(), Memory>
+    requires accepted { IsTrue (accepted kept.now.state event.now) }
+    requires after { outlook.now ≡ apply kept.now.state event.now }
+    ensures { OnOk result (items.new.items ≡ items.old.items
+        ++ (if touches kept.now.state event.now item then item ∷ [] else [])) }
+{
+    if touches(kept, outlook, event, item) {
+        items.push(item)?;
+    }
+    Ok(())
+}
+
+/// The items that the event doesn't touch, in order of number.
+#[tactic(auto, using(crate::proofs::ItemLemmas::filter_next))]
+pub(crate) fn other_items(
+    alloc: Global,
+    kept: &KeptState,
+    outlook: &Outlook<'_>,
+    event: &Event,
+) -> Result<Vec<Number>, Memory>
+    requires accepted { IsTrue (accepted kept.now.state event.now) }
+    requires after { outlook.now ≡ apply kept.now.state event.now }
+    ensures { IfOk result (λ items. items.items ≡ others kept.now.state event.now) }
+{
+    let mut items = Vec::new(alloc);
+    for number in 0..outlook.next_number().get() {
+        push_other(&mut items, kept, outlook, event, Number::new(number))?;
+    }
+    Ok(items)
+}
+
+/// Adds an item to others, if the event doesn't touch it.
+fn push_other(
+    items: &mut Vec<Number>,
+    kept: &KeptState,
+    outlook: &Outlook<'_>,
+    event: &Event,
+    item: Number,
+) -> Result<(), Memory>
+    requires accepted { IsTrue (accepted kept.now.state event.now) }
+    requires after { outlook.now ≡ apply kept.now.state event.now }
+    ensures { OnOk result (items.new.items ≡ items.old.items
+        ++ (if is_other kept.now.state event.now item then item ∷ [] else [])) }
+{
+    if is_other(kept, outlook, event, item) {
+        items.push(item)?;
+    }
+    Ok(())
+}
+
+/// Whether the number is that of an item that the event doesn't touch.
+fn is_other(kept: &KeptState, outlook: &Outlook<'_>, event: &Event, item: Number) -> bool
+    requires accepted { IsTrue (accepted kept.now.state event.now) }
+    requires after { outlook.now ≡ apply kept.now.state event.now }
+    ensures { result ≡ is_other kept.now.state event.now item }
+{
+    outlook.is_item(item) && !touches(kept, outlook, event, item)
+}
+
+/// Whether the event touches the item of a number.
+fn touches(kept: &KeptState, outlook: &Outlook<'_>, event: &Event, item: Number) -> bool
+    requires accepted { IsTrue (accepted kept.now.state event.now) }
+    requires after { outlook.now ≡ apply kept.now.state event.now }
+    ensures { result ≡ touches kept.now.state event.now item }
+{
+    match event {
+        Event::NewFile { .. } => item == next_number(kept),
+        Event::Rm { entry } => item == *entry,
+        Event::Mv { entry, .. } => is_moved(kept, *entry, item),
+        Event::Mark(mark) => is_marked(kept, mark, item),
+        Event::Step => is_stepped(kept, item),
+        Event::Smount { .. } => is_mounted(kept, outlook, item),
+        Event::Ssync { mount, .. } => is_synced(kept, outlook, *mount, item),
+        Event::Sumount { mount } => is_document_of(kept, *mount, item),
+        _ => false,
+    }
+}
+
+/// Whether an item is an entry that moves, or below it.
+fn is_moved(kept: &KeptState, entry: Number, item: Number) -> bool
+    requires { IsTrue (is_live kept.now.state.entries entry) }
+    ensures { result ≡ (is_item kept.now.state item && is_inside kept.now.state item entry) }
+{
+    is_item(kept, item) && is_inside(kept, item, entry)
+}
+
+/// Whether the mark is one of an item, which has the number.
+fn is_marked(kept: &KeptState, mark: &Mark, item: Number) -> bool
+    ensures { result ≡ (item == mark.now.item && is_item kept.now.state item) }
+{
+    item == mark.item && is_item(kept, item)
+}
+
+/// Whether the next step indexes the file of the number.
+fn is_stepped(kept: &KeptState, item: Number) -> bool
+    ensures { result ≡
+        option_map_or (λ file. item == file) (next_dirty kept.now.state.entries) false }
+{
+    match next_dirty(kept) {
+        Some(file) => item == file,
+        None => false,
+    }
+}
+
+/// Whether the number will be that of a document of a mount that comes.
+fn is_mounted(kept: &KeptState, outlook: &Outlook<'_>, item: Number) -> bool
+    ensures { result ≡ is_document_of outlook.now kept.now.state.next item }
+{
+    outlook.is_document_of(next_number(kept), item)
+}
+
+/// Whether a document of a mount has the number, or will have it.
+fn is_synced(kept: &KeptState, outlook: &Outlook<'_>, mount: Number, item: Number) -> bool
+    ensures { result ≡
+        (is_document_of kept.now.state mount item || is_document_of outlook.now mount item) }
+{
+    is_document_of(kept, mount, item) || outlook.is_document_of(mount, item)
+}
+
+/// Whether a document of a mount has the number.
+fn is_document_of(kept: &KeptState, mount: Number, item: Number) -> bool
+    ensures { result ≡ is_document_of kept.now.state mount item }
+{
+    is_document(kept, item) && parent_of(kept, item) == mount
+}
+
+/// The directory at which judging begins of the items that the event doesn't touch, if it changes
+/// their links anywhere.
+pub(crate) fn begin(kept: &KeptState, event: &Event) -> Option<Number>
+    ensures { (dir : ℕ) → begins kept.now.state event.now dir ≡ is_the result dir }
+{
+    match event {
+        Event::Smkdir { .. } => Some(next_number(kept)),
+        Event::Setq { dir, .. } => Some(*dir),
+        Event::Unq { dir } => Some(*dir),
+        Event::Mv { entry, .. } => begin_of_move(kept, *entry),
+        Event::Mark(mark) => begin_of_mark(kept, mark),
+        Event::Rmdir { dir } => Some(*dir),
+        _ => None,
+    }
+}
+
+/// The directory that moves, if it has a query.
+fn begin_of_move(kept: &KeptState, entry: Number) -> Option<Number>
+    ensures { result ≡ if is_semantic kept.now.state entry then Some entry else None }
+{
+    if is_semantic(kept, entry) {
+        Some(entry)
+    } else {
+        None
+    }
+}
+
+/// The directory to which another is added, or from which it is taken.
+fn begin_of_mark(kept: &KeptState, mark: &Mark) -> Option<Number>
+    ensures { result ≡
+        if is_item kept.now.state mark.now.item then None else Some mark.now.dir }
+{
+    if is_item(kept, mark.item) {
+        None
+    } else {
+        Some(mark.dir)
+    }
+}

@@ -1,0 +1,55 @@
+-- Lists of anything, and the first elements that pass a test.
+use Rattle.std.proofs.Common.{◌≡◌, ℕ, zero, suc, ◌+◌, ◌<◌, ◌≤◌, Bool, true, false, List, [], ◌∷◌, add-one, ap, drop, drop-cons, length, get_or, refl, sym, ◌∙◌, arith}
+use Rattle.std.specs.Prelude.{Some, None, slice_get}
+use Rattle.std.specs.List.{AllByRecursion, prefix_len}
+use Rattle.std.specs.List.Sorted.{IsPartitionPoint, IsPartitionedBy}
+
+pub all-index : {X : Type 0} (P : X → Type 0) (xs : List X) (i : ℕ) (d : X) → AllByRecursion P xs → i < length xs → P (get_or xs i d)
+all-index P [] i d h inside = absurd (omega arith)
+all-index P (x ∷ xs) zero d h inside = h.0
+all-index P (x ∷ xs) (suc i) d h inside = all-index P xs i d h.1 (omega arith)
+
+pub all-weaker : {X : Type 0} (P Q : X → Type 0) (xs : List X) → ((x : X) → P x → Q x) → AllByRecursion P xs → AllByRecursion Q xs
+all-weaker P Q [] weaker h = tt
+all-weaker P Q (x ∷ xs) weaker h = (weaker x h.0, all-weaker P Q xs weaker h.1)
+
+pub get-inside : {X : Type 0} (xs : List X) (i : ℕ) (d : X) → i < length xs → slice_get xs i ≡ Some (get_or xs i d)
+get-inside [] i d inside = absurd (omega arith)
+get-inside (x ∷ xs) zero d inside = refl
+get-inside (x ∷ xs) (suc i) d inside = get-inside xs i d (omega arith)
+
+pub get-outside : {X : Type 0} (xs : List X) (i : ℕ) → length xs ≤ i → slice_get xs i ≡ None
+get-outside [] i outside = refl
+get-outside (x ∷ xs) zero outside = absurd (omega arith)
+get-outside (x ∷ xs) (suc i) outside = get-outside xs i (omega arith)
+
+-- what passes the test comes before what doesn't
+abbrev pub Falls : {X : Type 0} → (X → Bool) → List X → Type 0
+Falls p [] = Unit {0}
+Falls p (x ∷ xs) = AllByRecursion (λ y. p y ≡ true → p x ≡ true) xs × Falls p xs
+
+pub falls-partition : {X : Type 0} (p : X → Bool) (xs : List X) → Falls p xs → IsPartitionedBy p xs
+falls-partition p [] h i j d le inside passes = absurd (omega arith)
+falls-partition p (x ∷ xs) h zero zero d le inside passes = passes
+falls-partition p (x ∷ xs) h zero (suc j) d le inside passes = all-index (λ y. p y ≡ true → p x ≡ true) xs j d h.0 (omega arith) passes
+falls-partition p (x ∷ xs) h (suc i) zero d le inside passes = absurd (omega arith)
+falls-partition p (x ∷ xs) h (suc i) (suc j) d le inside passes = falls-partition p xs h.1 i j d (omega arith) (omega arith) passes
+
+-- the first `n` elements pass the test, and no others do: then `n` is how many first ones pass it
+pub prefix-point : {X : Type 0} (p : X → Bool) (xs : List X) (i : ℕ) → i ≤ length xs → IsPartitionPoint (λ x. p x ≡ true) (λ x. p x ≡ false) xs i → i ≡ prefix_len p xs
+prefix-point p [] i inside h = omega arith
+prefix-point p (x ∷ xs) zero inside h = let first : p x ≡ false = h.1 0 x (omega arith) (omega arith) in rw first refl
+prefix-point p (x ∷ xs) (suc i) inside h =
+    let first : p x ≡ true = h.0 0 x (omega arith) (omega arith) in
+    let rest : i ≡ prefix_len p xs = prefix-point p xs i (omega arith) ((λ k d low high. h.0 (suc k) d (omega arith) (omega arith)), (λ k d low high. h.1 (suc k) d (omega arith) (omega arith))) in
+    rw first (omega arith)
+
+pub drop-next : {X : Type 0} (xs : List X) (i : ℕ) (x : X) → i < length xs → x ≡ get_or xs i x → drop i xs ≡ x ∷ drop (i + 1) xs
+drop-next xs i x inside is =
+    drop-cons xs i x inside ∙ ap (λ y. y ∷ drop (suc i) xs) (sym is) ∙ ap (λ (k : ℕ). x ∷ drop k xs) (sym (add-one i))
+
+pub drop-end : {X : Type 0} (xs : List X) (i : ℕ) → length xs ≤ i → drop i xs ≡ []
+drop-end [] zero outside = refl
+drop-end [] (suc i) outside = refl
+drop-end (x ∷ xs) zero outside = absurd (omega arith)
+drop-end (x ∷ xs) (suc i) outside = drop-end xs i (omega arith)
