@@ -1,19 +1,30 @@
 -- The links that are kept are those of the state, before and after it changes.
-use Rattle.std.proofs.Common.{◌≡◌, ℕ, Bool, List, [], ap, arith, sym, subst, ◌∙◌}
+use Rattle.std.proofs.Common.{◌≡◌, ℕ, zero, suc, Bool, true, List, [], ◌∷◌, ap, arith, refl, sym, subst, ◌∙◌}
+use Rattle.std.specs.Prelude.{Option, None, IsTrue, replicate, unwrap_or}
+use Rattle.hac_model.specs.Laws.{AllHappen}
 use Rattle.hac_model.specs.Tree.{empty}
-use Rattle.hac_model.specs.Tree.Events.{apply_all}
+use Rattle.hac_model.specs.Tree.Events.{accepted, apply, apply_all}
+use Rattle.hac_model.specs.Tree.Sessions.{is_stored}
 use Rattle.hac_model.specs.declared.events.Event.{Event}
+use Rattle.hac_model.specs.declared.events.Event.TheVariants.{Mkdir, NewFile, Rewrite, Ln, Smkdir, Setq, Unq, Mark, Mv, Rm, Rmdir, Smount, Ssync, Sumount, Step, Cd}
 use Rattle.hac_model.specs.Tree.Links.{links}
 use Rattle.hac_model.specs.Tree.Valid.{IsValid}
 use Rattle.hac_model.specs.declared.states.State.{State}
 use Rattle.link_kinds.specs.Kinds.{Lists}
-use Rattle.link_kinds.specs.Seen.{IsEmpty, Known, LinkListsRise}
+use Rattle.kept_state.specs.After.{is_quiet}
+use Rattle.link_kinds.specs.Seen.{IsEmpty, Known, LinkListsRise, SameKinds}
 use Rattle.reeval.specs.Judging.{verdict_of}
 use Rattle.reeval.specs.Settled.{AreLinksOf, HasRoom, verdict_in}
 use Rattle.reeval.specs.Told.{news_on, told}
 use Rattle.reeval.specs.declared.verdicts.Change.{Change}
 use Rattle.reeval.proofs.LinkedLemmas.{links-tell, links-told}
-use Rattle.kept_links.specs.Kept.{Lead}
+use Rattle.hac_model.proofs.AcyclicLemmas.{apply-valid}
+use Rattle.kept_state.specs.Seen.{Seen}
+use Rattle.kept_links.specs.Kept.{AreLinksKept, Lead}
+use Rattle.kept_links.specs.declared.linked.LinkedState.TheInside.{Inside}
+use Rattle.kept_links.specs.Ways.{IsWayOf}
+use Rattle.kept_links.specs.declared.ways.Way.{Way}
+use Rattle.kept_links.proofs.TaskLemmas.{nothing-new, way-still}
 
 -- the root alone has none
 pub none-kept : (known : Known) → IsEmpty known → AreLinksOf empty known
@@ -37,3 +48,93 @@ nothing-leads s ready delta none no_change = λ item dir.
 
 pub nothing-wanted : (known : Known) (delta : List Change) → delta ≡ [] → HasRoom known delta
 nothing-wanted known delta none = subst (λ (changes : List Change). HasRoom known changes) (sym none) (record { sets = tt; spare = omega arith })
+
+-- The way to all semantic directories.
+
+-- none is there beside the root alone
+pub way-root : (way : Way) → way.stops.items ≡ [] → IsWayOf empty way
+way-root way none = record { order = []; ordered = tt; all = λ dir some. absurd (some refl); stops = none; lends = λ not_any dir. refl }
+
+-- what is ready for nothing leaves it
+pub nothing-next : (s : State) (ready : List Event) (way : Way) (next : Option Way) → ready ≡ [] → next ≡ None → IsWayOf s way → IsWayOf (apply_all s ready) (unwrap_or next way)
+nothing-next s ready way next none same is =
+    subst (λ (events : List Event). IsWayOf (apply_all s events) (unwrap_or next way)) (sym none)
+    (subst (λ (o : Option Way). IsWayOf s (unwrap_or o way)) (sym same) is)
+
+-- links in which each item has the kinds that it had are those of the state, too
+pub links-alike : (s : State) (old new : Known) → AreLinksOf s old → SameKinds old new → AreLinksOf s new
+links-alike s old new are same = record {
+  found = λ dir. ap (λ (lists : Lists). lists.transient) (same dir) ∙ are.found dir;
+  lent = λ dir. ap (λ (lists : Lists). lists.lent) (same dir) ∙ are.lent dir;
+}
+
+-- A state that is ready for nothing, or for what changes no link.
+
+pub kept-none : (inside : Inside) → inside.kept.ready ≡ [] → AreLinksOf inside.kept.state inside.found → IsWayOf inside.kept.state inside.way → inside.delta.items ≡ [] → inside.next ≡ None → AreLinksKept inside
+kept-none inside none are way no_change same = record {
+  links = are;
+  room = nothing-wanted inside.found inside.delta.items no_change;
+  leads = nothing-leads inside.kept.state inside.kept.ready inside.delta.items none no_change;
+  way = way;
+  next = nothing-next inside.kept.state inside.kept.ready inside.way inside.next none same way;
+}
+
+-- what was prepared leaves the state, so the links and the way are those of it
+pub links-stay : (s : State) (kept : Seen) (found : Known) (ready : List Event) → kept ≡ record { state = s; ready = ready } → AreLinksOf s found → AreLinksOf kept.state found
+links-stay s kept found ready is are = subst (λ (t : State). AreLinksOf t found) (sym (ap (λ (seen : Seen). seen.state) is)) are
+
+pub way-stays : (s : State) (kept : Seen) (way : Way) (ready : List Event) → kept ≡ record { state = s; ready = ready } → IsWayOf s way → IsWayOf kept.state way
+way-stays s kept way ready is w = subst (λ (t : State). IsWayOf t way) (sym (ap (λ (seen : Seen). seen.state) is)) w
+
+-- a session changes no link
+pub kept-session : (s : State) (session : List ℕ) (dir : ℕ) (inside : Inside) → IsValid s → IsTrue (accepted s (Cd session dir)) → inside.kept ≡ record { state = s; ready = Cd session dir ∷ [] } →
+    AreLinksOf s inside.found → IsWayOf s inside.way → inside.delta.items ≡ [] → inside.next ≡ None → AreLinksKept inside
+kept-session s session dir inside valid ok is are way no_change same = record {
+  links = links-stay s inside.kept inside.found (Cd session dir ∷ []) is are;
+  room = nothing-wanted inside.found inside.delta.items no_change;
+  leads = subst (λ (seen : Seen). Lead seen.state (apply_all seen.state seen.ready) inside.delta.items) (sym is) leads;
+  way = way-stays s inside.kept inside.way (Cd session dir ∷ []) is way;
+  next = subst (λ (seen : Seen). IsWayOf (apply_all seen.state seen.ready) (unwrap_or inside.next inside.way)) (sym is)
+      (subst (λ (o : Option Way). IsWayOf (apply s (Cd session dir)) (unwrap_or o inside.way)) (sym same) (way-still s (Cd session dir) valid ok inside.way (λ n. refl) way));
+}
+  where
+    leads : Lead s (apply s (Cd session dir)) inside.delta.items
+    leads = λ item d.
+        ap (λ (changes : List Change). told (news_on item changes) (verdict_of s item) d) no_change
+        ∙ nothing-new s (Cd session dir) valid ok (λ n. refl) item refl d
+
+-- steps leave the way
+pub steps-way : (s : State) (count : ℕ) (way : Way) → IsValid s → AllHappen s (replicate count Step) → IsWayOf s way → IsWayOf (apply_all s (replicate count Step)) way
+steps-way s zero way valid happen w = w
+steps-way s (suc count) way valid happen w = steps-way (apply s Step) count way (apply-valid s Step valid happen.0) happen.1 (way-still s Step valid happen.0 way (λ n. refl) w)
+
+-- what is ready for steps
+pub kept-steps : (s : State) (count : ℕ) (inside : Inside) → IsValid s → AllHappen s (replicate count Step) → inside.kept ≡ record { state = s; ready = replicate count Step } →
+    AreLinksOf s inside.found → IsWayOf s inside.way → HasRoom inside.found inside.delta.items → Lead s (apply_all s (replicate count Step)) inside.delta.items → inside.next ≡ None → AreLinksKept inside
+kept-steps s count inside valid happen is are way room leads same = record {
+  links = links-stay s inside.kept inside.found (replicate count Step) is are;
+  room = room;
+  leads = subst (λ (seen : Seen). Lead seen.state (apply_all seen.state seen.ready) inside.delta.items) (sym is) leads;
+  way = way-stays s inside.kept inside.way (replicate count Step) is way;
+  next = subst (λ (seen : Seen). IsWayOf (apply_all seen.state seen.ready) (unwrap_or inside.next inside.way)) (sym is)
+      (subst (λ (o : Option Way). IsWayOf (apply_all s (replicate count Step)) (unwrap_or o inside.way)) (sym same) (steps-way s count inside.way valid happen way));
+}
+
+-- an event that is stored and is no more than a step is a step
+pub quiet-step : (event : Event) → is_quiet event ≡ true → is_stored event ≡ true → event ≡ Step
+quiet-step Step quiet stored = refl
+quiet-step (Cd session dir) quiet stored = absurd cc
+quiet-step (Mkdir dir name) quiet stored = absurd cc
+quiet-step (NewFile dir name text) quiet stored = absurd cc
+quiet-step (Rewrite file text) quiet stored = absurd cc
+quiet-step (Ln dir name target) quiet stored = absurd cc
+quiet-step (Smkdir dir name query told) quiet stored = absurd cc
+quiet-step (Setq dir query told) quiet stored = absurd cc
+quiet-step (Unq dir) quiet stored = absurd cc
+quiet-step (Mark mark) quiet stored = absurd cc
+quiet-step (Mv entry dir name) quiet stored = absurd cc
+quiet-step (Rm entry) quiet stored = absurd cc
+quiet-step (Rmdir dir) quiet stored = absurd cc
+quiet-step (Smount dir name space documents told) quiet stored = absurd cc
+quiet-step (Ssync mount documents told) quiet stored = absurd cc
+quiet-step (Sumount mount) quiet stored = absurd cc

@@ -4,3 +4,7 @@ pub mod SemanticLemmas
 pub mod ItemLemmas
 mod TouchLemmas
 pub mod TaskLemmas
+pub mod EdgeLemmas
+pub mod IndexedLemmas
+pub mod StepLemmas
+pub mod BatchLemmas

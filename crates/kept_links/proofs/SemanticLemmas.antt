@@ -85,24 +85,27 @@ module _ (s : State) (h : IsValid s) where
   root-untouched (Cd session dir) ok = refl
 
   -- so the queries of directories at which nothing begins are as they were
-  asks-still : (event : Event) → IsTrue (accepted s event) → (dir : ℕ) → begins s event dir ≡ false → is_semantic s dir ≡ is_semantic (apply s event) dir
-  asks-still event ok dir still = ap (λ (o : Option (Formula ℕ)). is_some o) ((event-owes s event h ok 0 (root-untouched event ok)).queries dir still)
+  pub asks-still : (event : Event) → IsTrue (accepted s event) → (dir : ℕ) → begins s event dir ≡ false → query_at s dir ≡ query_at (apply s event) dir
+  asks-still event ok dir still = (event-owes s event h ok 0 (root-untouched event ok)).queries dir still
+
+  still-semantic : (event : Event) → IsTrue (accepted s event) → (dir : ℕ) → begins s event dir ≡ false → is_semantic s dir ≡ is_semantic (apply s event) dir
+  still-semantic event ok dir still = ap (λ (o : Option (Formula ℕ)). is_some o) (asks-still event ok dir still)
 
   pub semantic-still : (event : Event) → IsTrue (accepted s event) → (item : ℕ) → touches s event item ≡ true → (dir : ℕ) → is_semantic s dir ≡ is_semantic (apply s event) dir
-  semantic-still (NewFile parent name text) ok item is dir = asks-still (NewFile parent name text) ok dir refl
-  semantic-still (Rm entry) ok item is dir = asks-still (Rm entry) ok dir refl
+  semantic-still (NewFile parent name text) ok item is dir = still-semantic (NewFile parent name text) ok dir refl
+  semantic-still (Rm entry) ok item is dir = still-semantic (Rm entry) ok dir refl
   semantic-still (Mv entry to name) ok item is dir = ap (λ (o : Option (Formula ℕ)). is_some o) (sym (seen-kept query_of s.entries entry (reseated to name) (λ e. refl) (λ e. refl) dir))
-  semantic-still (Mark mark) ok item is dir = asks-still (Mark mark) ok dir (ap (λ (b : Bool). is_the (if b then None else Some mark.dir) dir || false) marked)
+  semantic-still (Mark mark) ok item is dir = still-semantic (Mark mark) ok dir (ap (λ (b : Bool). is_the (if b then None else Some mark.dir) dir || false) marked)
     where
       marked : is_item s mark.item ≡ true
       marked = elim (item == mark.item) as (λ b. (item == mark.item) ≡ b → (b && is_item s item) ≡ true → is_item s mark.item ≡ true) [
         | true ↦ (λ same is. ap (is_item s) (sym (eqb-true item mark.item same)) ∙ is)
         | false ↦ (λ _ never. absurd cc)
       ] refl is
-  semantic-still Step ok item is dir = asks-still Step ok dir refl
-  semantic-still (Smount parent name space documents told) ok item is dir = asks-still (Smount parent name space documents told) ok dir refl
-  semantic-still (Ssync mount documents told) ok item is dir = asks-still (Ssync mount documents told) ok dir refl
-  semantic-still (Sumount mount) ok item is dir = asks-still (Sumount mount) ok dir refl
+  semantic-still Step ok item is dir = still-semantic Step ok dir refl
+  semantic-still (Smount parent name space documents told) ok item is dir = still-semantic (Smount parent name space documents told) ok dir refl
+  semantic-still (Ssync mount documents told) ok item is dir = still-semantic (Ssync mount documents told) ok dir refl
+  semantic-still (Sumount mount) ok item is dir = still-semantic (Sumount mount) ok dir refl
   semantic-still (Mkdir parent name) ok item is dir = absurd cc
   semantic-still (Rewrite file text) ok item is dir = absurd cc
   semantic-still (Ln parent name target) ok item is dir = absurd cc

@@ -1,28 +1,42 @@
 -- What is judged again after an event is enough.
-use Rattle.std.proofs.Common.{◌≡◌, ℕ, zero, Bool, true, false, List, [], ◌∷◌, ap, inl, refl, subst, sym, ◌∙◌}
-use Rattle.std.specs.Prelude.{◌==◌, ◌≢◌, ◌++◌, Option, Some, None, IsTrue, is_some}
-use Rattle.std.specs.Option.{option_map_or}
-use Rattle.dep_graph.specs.Searches.{EachOnce}
+use Rattle.std.proofs.Common.{◌≡◌, ℕ, zero, Bool, true, false, List, [], ◌∷◌, ap, arith, inl, inr, refl, subst, sym, ◌∙◌}
+use Rattle.std.proofs.lemmas.Bool.{eqb-true}
+use Rattle.std.specs.Prelude.{◌==◌, ◌≢◌, ◌++◌, ◌&&◌, ◌||◌, if◌then◌else◌, not, length, Option, Some, None, IsTrue, is_some, option_and_then}
+use Rattle.std.specs.List.{list_any}
+use Rattle.std.specs.Option.{option_map, option_map_or}
+use Rattle.dep_graph.specs.Searches.{EachOnce, IsCone, IsOrdered}
 use Rattle.hac_model.specs.Query.Formula.{Formula}
 use Rattle.hac_model.specs.Tree.Depends.{Among, depends, named_in}
 use Rattle.hac_model.specs.Tree.Events.{accepted, apply}
-use Rattle.hac_model.specs.Tree.Links.{is_semantic, lenders, parent_of, query_at}
+use Rattle.hac_model.specs.Tree.Links.{has, is_item, is_judged, is_lent, is_semantic, is_unmarked, lenders, parent_of, provide, query_at, satisfies}
 use Rattle.hac_model.specs.Tree.Touched.{begins, is_the, touched, touches}
 use Rattle.hac_model.specs.Tree.Valid.{IsValid}
+use Rattle.hac_model.specs.Tree.{entry_at, is_document, is_linkable, shown_text}
 use Rattle.hac_model.specs.declared.events.Event.{Event}
+use Rattle.hac_model.specs.declared.events.Event.TheVariants.{Mkdir, NewFile, Rewrite, Ln, Smkdir, Setq, Unq, Mark, Mv, Rm, Rmdir, Smount, Ssync, Sumount, Step, Cd}
+use Rattle.hac_model.specs.declared.states.Body.TheVariants.{File}
+use Rattle.hac_model.specs.declared.states.Entry.{Entry}
 use Rattle.hac_model.specs.declared.states.State.{State}
 use Rattle.hac_model.proofs.AcyclicLemmas.{apply-valid}
-use Rattle.reeval.specs.Judging.{verdict_of}
+use Rattle.hac_model.proofs.ChangeLemmas.{entry_at-new}
+use Rattle.hac_model.proofs.TreeLemmas.{entry_at-next}
+use Rattle.reeval.specs.Judging.{is_linked, no_verdict, verdict_of}
+use Rattle.reeval.proofs.JudgeLemmas.{links-judged}
 use Rattle.reeval.specs.Routes.{Covers, IsRoute}
 use Rattle.reeval.specs.Settled.{IsPlanned}
 use Rattle.reeval.specs.declared.planning.Task.{Task}
 use Rattle.reeval.specs.declared.settling.Stop.{Stop}
 use Rattle.reeval.proofs.EventsLeave.{event-owes, events-leave}
 use Rattle.reeval.proofs.PlanLemmas.{begins-more, no-item, unmoved}
+use Rattle.reeval.proofs.SettleLemmas.{has-among}
 use Rattle.kept_links.specs.Items.{others}
-use Rattle.kept_links.specs.Tasks.{AreAlong, AreEverywhere, IsTaskOf}
+use Rattle.kept_links.specs.Kept.{is_still}
+use Rattle.kept_links.specs.Tasks.{AreAlong, IsTaskOf, IsWayFrom}
+use Rattle.kept_links.specs.Ways.{IsWayOf, stops_everywhere, with_first}
+use Rattle.kept_links.specs.declared.ways.Way.{Way}
+use Rattle.kept_links.proofs.EdgeLemmas.{edges-still, lends-still, plain-lends}
 use Rattle.kept_links.proofs.ItemLemmas.{in-neither, others-once, others-untouched, touched-apart, touched-once, touched-touches}
-use Rattle.kept_links.proofs.SemanticLemmas.{semantic-still}
+use Rattle.kept_links.proofs.SemanticLemmas.{asks-still, semantic-still}
 use Rattle.kept_links.proofs.WayLemmas.{covers-everywhere, covers-from}
 
 -- just what is semantic depends on something
@@ -38,20 +52,74 @@ semantic-depends s dir = elim (query_at s dir) as (λ o. is_some o ≡ true → 
   | Some query ↦ (λ _ none. absurd cc)
 ]
 
+-- an order over the same edges
+ordered-same : (edges other : ℕ → List ℕ) → ((n : ℕ) → edges n ≡ other n) → (ns : List ℕ) → IsOrdered edges ns → IsOrdered other ns
+ordered-same edges other same [] h = tt
+ordered-same edges other same (n ∷ ns) h = (h.0, (λ next edge. h.1 next (subst (λ (ks : List ℕ). Among ks next) (sym (same n)) edge)), ordered-same edges other same ns h.2)
+
+-- what none of the numbers passes, each of them fails
+any-none : (p : ℕ → Bool) (ns : List ℕ) → list_any p ns ≡ false → (n : ℕ) → Among ns n → p n ≡ false
+any-none p [] none n among = absurd among
+any-none p (k ∷ ns) none n (inl same) = subst (λ (m : ℕ). p m ≡ false) same (first (p k) (list_any p ns) none)
+  where
+    first : (a b : Bool) → (a || b) ≡ false → a ≡ false
+    first true b h = h
+    first false b h = refl
+any-none p (k ∷ ns) none n (inr more) = any-none p ns (second (p k) (list_any p ns) none) n more
+  where
+    second : (a b : Bool) → (a || b) ≡ false → b ≡ false
+    second true b h = absurd cc
+    second false b h = h
+
+no-numbers : (ns : List ℕ) → not (length ns == 0) ≡ false → ns ≡ []
+no-numbers ns h = empty ns (eqb-true (length ns) 0 (is (length ns == 0) h))
+  where
+    is : (b : Bool) → not b ≡ false → b ≡ true
+    is true h = refl
+    is false h = sym h
+
+    empty : (ns : List ℕ) → length ns ≡ 0 → ns ≡ []
+    empty [] h = refl
+    empty (n ∷ ns) h = absurd (omega (arith, h))
+
+none_of : {X : Type 0} (o : Option X) → is_some o ≡ false → o ≡ None
+none_of None h = refl
+none_of (Some x) h = absurd cc
+
+-- numbers with one in front have it, and the others too
+with-here : (first : ℕ) (ns : List ℕ) → Among (with_first first ns) first
+with-here first ns = elim (has ns first) as (λ b. has ns first ≡ b → Among (if b then ns else first ∷ ns) first) [
+  | true ↦ (λ is. has-among ns first is)
+  | false ↦ (λ _. inl refl)
+] refl
+
+with-rest : (first : ℕ) (ns : List ℕ) (n : ℕ) → Among ns n → Among (with_first first ns) n
+with-rest first ns n is = elim (has ns first) as (λ b. Among (if b then ns else first ∷ ns) n) [ true ↦ is | false ↦ inr is ]
+
+pub way-from : (s t : State) (first : ℕ) (way : Way) (known dirs order : List ℕ) → dirs ≡ with_first first known → ((dir : ℕ) → depends s dir ≢ [] → Among known dir) → IsCone (depends t) dirs order →
+    way.stops.items ≡ stops_everywhere order → way.lends ≡ list_any (λ dir. not (length (lenders t dir) == 0)) order → IsWayFrom s t first way
+way-from s t first way known dirs order are all cone stops lends = record {
+  dirs = dirs;
+  order = order;
+  here = subst (λ (ns : List ℕ). Among ns first) (sym are) (with-here first known);
+  known = λ dir some. subst (λ (ns : List ℕ). Among ns dir) (sym are) (with-rest first known dir (all dir some));
+  cone = cone;
+  stops = stops;
+  lends = lends;
+}
+
 module _ (s : State) (event : Event) (valid : IsValid s) (ok : IsTrue (accepted s event)) where
   abbrev t : State
   t = apply s event
 
-  next-valid : IsValid t
+  pub next-valid : IsValid t
   next-valid = apply-valid s event valid ok
 
-  -- an item that is touched, on its way
-  covers-touched : (stops : List Stop) → AreEverywhere s t stops → (item : ℕ) → touches s event item ≡ true → Covers s t stops item
-  covers-touched stops way item is =
-      let same = semantic-still s valid event ok item is in
-      let all : (q : ℕ) → depends t q ≢ [] → Among way.order q = λ q some.
-      way.cone.all q some (q, way.known q (semantic-depends s q (same q ∙ depends-semantic t q some)), (zero, refl)) in
-      subst (λ (stops : List Stop). Covers s t stops item) (sym way.are) (covers-everywhere s t way.order valid next-valid way.cone.ordered all same item)
+  -- an item that is touched, on the way to all semantic directories
+  covers-touched : (way : Way) → IsWayOf t way → (item : ℕ) → touches s event item ≡ true → Covers s t way.stops.items item
+  covers-touched way w item is =
+      subst (λ (stops : List Stop). Covers s t stops item) (sym w.stops)
+      (covers-everywhere s t w.order valid next-valid w.ordered w.all (semantic-still s valid event ok item is) item)
 
   -- and any other one
   covers-other : (first : ℕ) (stops : List Stop) → ((dir : ℕ) → begins s event dir ≡ (dir == first)) → AreAlong t first stops → (item : ℕ) → touches s event item ≡ false → Covers s t stops item
@@ -66,7 +134,7 @@ module _ (s : State) (event : Event) (valid : IsValid s) (ok : IsTrue (accepted 
       no-item s valid item dir none.0 ∙ sym (no-item t next-valid item dir none.1)
 
   -- nothing else is judged where judging begins nowhere
-  stays : ((dir : ℕ) → begins s event dir ≡ false) → (item : ℕ) → ¬ Among (touched s event) item → (dir : ℕ) → verdict_of s item dir ≡ verdict_of t item dir
+  pub stays : ((dir : ℕ) → begins s event dir ≡ false) → (item : ℕ) → ¬ Among (touched s event) item → (dir : ℕ) → verdict_of s item dir ≡ verdict_of t item dir
   stays never item out dir = elim (touches s event item) as (λ b. touches s event item ≡ b → verdict_of s item dir ≡ verdict_of t item dir) [
     | true ↦ (λ is. neither item out (λ inside. let not_it = (others-untouched s event item inside).1 in absurd cc) dir)
     | false ↦ (λ untouched. unmoved s t item (record {
@@ -77,14 +145,14 @@ module _ (s : State) (event : Event) (valid : IsValid s) (ok : IsTrue (accepted 
     }) dir)
   ] refl
 
-  pub task-from : (task : Task) (first : ℕ) → task.touched.items ≡ touched s event → AreEverywhere s t task.everywhere.items → ((dir : ℕ) → begins s event dir ≡ (dir == first)) →
+  pub task-from : (task : Task) (first : ℕ) (way : Way) → task.touched.items ≡ touched s event → IsWayOf t way → task.everywhere.items ≡ way.stops.items → ((dir : ℕ) → begins s event dir ≡ (dir == first)) →
       task.others.items ≡ others s event → AreAlong t first task.along.items → IsTaskOf s event task
-  task-from task first is everywhere begun are along = record {
+  task-from task first way is w everywhere begun are along = record {
     touched = subst EachOnce (sym is) (touched-once s event);
     others = subst EachOnce (sym are) (others-once s event);
     apart = λ item inside within. touched-apart s event item (in-touched item inside) (in-others item within);
     planned = record {
-      touched = λ item inside. covers-touched task.everywhere.items everywhere item (touched-touches s event item (in-touched item inside));
+      touched = λ item inside. subst (λ (stops : List Stop). Covers s t stops item) (sym everywhere) (covers-touched way w item (touched-touches s event item (in-touched item inside)));
       others = λ item within. covers-other first task.along.items begun along item (others-untouched s event item (in-others item within)).1;
       rest = λ item out away dir. neither item (λ inside. out (subst (λ (items : List ℕ). Among items item) (sym is) inside)) (λ within. away (subst (λ (items : List ℕ). Among items item) (sym are) within)) dir;
     };
@@ -96,13 +164,13 @@ module _ (s : State) (event : Event) (valid : IsValid s) (ok : IsTrue (accepted 
       in-others : (item : ℕ) → Among task.others.items item → Among (others s event) item
       in-others item within = subst (λ (items : List ℕ). Among items item) are within
 
-  pub task-touched : (task : Task) → task.touched.items ≡ touched s event → AreEverywhere s t task.everywhere.items → ((dir : ℕ) → begins s event dir ≡ false) → task.others.items ≡ [] → IsTaskOf s event task
-  task-touched task is everywhere never none = record {
+  pub task-touched : (task : Task) (way : Way) → task.touched.items ≡ touched s event → IsWayOf t way → task.everywhere.items ≡ way.stops.items → ((dir : ℕ) → begins s event dir ≡ false) → task.others.items ≡ [] → IsTaskOf s event task
+  task-touched task way is w everywhere never none = record {
     touched = subst EachOnce (sym is) (touched-once s event);
     others = subst EachOnce (sym none) tt;
     apart = λ item inside within. nobody item within;
     planned = record {
-      touched = λ item inside. covers-touched task.everywhere.items everywhere item (touched-touches s event item (subst (λ (items : List ℕ). Among items item) is inside));
+      touched = λ item inside. subst (λ (stops : List Stop). Covers s t stops item) (sym everywhere) (covers-touched way w item (touched-touches s event item (subst (λ (items : List ℕ). Among items item) is inside)));
       others = λ item within. absurd (nobody item within);
       rest = λ item out away dir. stays never item (λ inside. out (subst (λ (items : List ℕ). Among items item) (sym is) inside)) dir;
     };
@@ -110,3 +178,126 @@ module _ (s : State) (event : Event) (valid : IsValid s) (ok : IsTrue (accepted 
     where
       nobody : (item : ℕ) → ¬ Among task.others.items item
       nobody item within = subst (λ (items : List ℕ). Among items item) none within
+
+  -- The way to all semantic directories.
+
+  -- is as it was where judging begins nowhere
+  pub way-still : (way : Way) → ((dir : ℕ) → begins s event dir ≡ false) → IsWayOf s way → IsWayOf t way
+  way-still way never w = record {
+    order = w.order;
+    ordered = ordered-same (depends s) (depends t) (edges-still s valid event ok never) w.order w.ordered;
+    all = λ dir some. w.all dir (λ none. some (sym (edges-still s valid event ok never dir) ∙ none));
+    stops = w.stops;
+    lends = λ not_any dir. lends-still s valid event ok never dir (w.lends not_any dir);
+  }
+
+  -- or was found from where it begins
+  pub way-found : (way : Way) (first : ℕ) → ((dir : ℕ) → begins s event dir ≡ (dir == first)) → IsWayFrom s t first way → IsWayOf t way
+  way-found way first begun w = record {
+    order = w.order;
+    ordered = w.cone.ordered;
+    all = there;
+    stops = w.stops;
+    lends = λ not_any dir. none-lent not_any dir (is_semantic t dir) refl;
+  }
+    where
+      among-dirs : (dir : ℕ) → is_semantic t dir ≡ true → Among w.dirs dir
+      among-dirs dir is = elim (dir == first) as (λ b. (dir == first) ≡ b → Among w.dirs dir) [
+        | true ↦ (λ here. subst (λ (n : ℕ). Among w.dirs n) (sym (eqb-true dir first here)) w.here)
+        | false ↦ (λ other. w.known dir (semantic-depends s dir (ap (λ (o : Option (Formula ℕ)). is_some o) (asks-still s valid event ok dir (begun dir ∙ other)) ∙ is)))
+      ] refl
+
+      there : (dir : ℕ) → depends t dir ≢ [] → Among w.order dir
+      there dir some = w.cone.all dir some (dir, among-dirs dir (depends-semantic t dir some), (zero, refl))
+
+      none-lent : way.lends ≡ false → (dir : ℕ) (b : Bool) → is_semantic t dir ≡ b → lenders t dir ≡ []
+      none-lent not_any dir true is = no-numbers (lenders t dir) (any-none (λ (d : ℕ). not (length (lenders t d) == 0)) w.order (sym w.lends ∙ not_any) dir (there dir (semantic-depends t dir is)))
+      none-lent not_any dir false plain = plain-lends t dir (none_of (query_at t dir) plain)
+
+-- What says nothing new.
+
+-- an event that touches no item, and begins nowhere
+module _ (s : State) (event : Event) (valid : IsValid s) (ok : IsTrue (accepted s event)) (never : (dir : ℕ) → begins s event dir ≡ false) where
+  pub nothing-new : (item : ℕ) → touches s event item ≡ false → (dir : ℕ) → verdict_of s item dir ≡ verdict_of (apply s event) item dir
+  nothing-new item untouched dir = stays s event valid ok never item (λ inside. let is = touched-touches s event item inside in absurd cc) dir
+
+-- a file that comes is judged by no query
+module _ (s : State) (dir : ℕ) (name text : List ℕ) (valid : IsValid s) (ok : IsTrue (accepted s (NewFile dir name text))) (none : (d : ℕ) → lenders (apply s (NewFile dir name text)) d ≡ []) where
+  abbrev u : State
+  u = apply s (NewFile dir name text)
+
+  come : entry_at u.entries s.next ≡ Some (record { number = s.next; parent = dir; name = name; body = File text true None })
+  come = entry_at-new s.entries (record { number = s.next; parent = dir; name = name; body = File text true None }) (entry_at-next 0 s.entries s.next s.next valid.layout.numbers (omega arith))
+
+  unjudged : is_judged u s.next ≡ false
+  unjudged = ap (λ (o : Option Entry). option_map_or is_document (option_map (λ (e : Entry). e.body) o) false || is_some (option_and_then shown_text (option_map (λ (e : Entry). e.body) o))) come
+
+  new-said : (d : ℕ) → verdict_of u s.next d ≡ no_verdict
+  new-said d =
+      links-judged u (next-valid s (NewFile dir name text) valid ok) s.next d
+      ∙ ap (λ (judged : Bool). record {
+        found = (is_semantic u d && is_item u s.next) && (provide u (is_linked (verdict_of u s.next)) (parent_of u d) s.next && judged && satisfies u (is_linked (verdict_of u s.next)) d s.next && is_unmarked u d s.next);
+        lent = (is_semantic u d && is_item u s.next) && is_lent u (is_linked (verdict_of u s.next)) d s.next;
+      }) unjudged
+      ∙ ap (λ (ks : List ℕ). record {
+        found = (is_semantic u d && is_item u s.next) && (provide u (is_linked (verdict_of u s.next)) (parent_of u d) s.next && false && satisfies u (is_linked (verdict_of u s.next)) d s.next && is_unmarked u d s.next);
+        lent = (is_semantic u d && is_item u s.next) && list_any (λ lender. provide u (is_linked (verdict_of u s.next)) lender s.next) ks;
+      }) (none d)
+      ∙ out (is_semantic u d && is_item u s.next) (provide u (is_linked (verdict_of u s.next)) (parent_of u d) s.next) (satisfies u (is_linked (verdict_of u s.next)) d s.next) (is_unmarked u d s.next)
+    where
+      out : (a p q r : Bool) → record { found = a && (p && false && q && r); lent = a && false } ≡ no_verdict
+      out true true q r = refl
+      out true false q r = refl
+      out false p q r = refl
+
+  none-before : is_item s s.next ≡ false
+  none-before = ap (λ (o : Option Entry). option_map_or is_linkable (option_map (λ (e : Entry). e.body) o) false) (entry_at-next 0 s.entries s.next s.next valid.layout.numbers (omega arith))
+
+  pub new-still : (item d : ℕ) → verdict_of s item d ≡ verdict_of u item d
+  new-still item d = elim (item == s.next) as (λ b. (item == s.next) ≡ b → verdict_of s item d ≡ verdict_of u item d) [
+    | true ↦ (λ here. subst (λ (n : ℕ). verdict_of s n d ≡ verdict_of u n d) (sym (eqb-true item s.next here)) (no-item s valid s.next d none-before ∙ sym (new-said d)))
+    | false ↦ (λ other. nothing-new s (NewFile dir name text) valid ok (λ d. refl) item other d)
+  ] refl
+
+-- nothing is new behind an event that is still
+pub still-leads : (s : State) (event : Event) (way : Way) → IsValid s → IsTrue (accepted s event) → IsWayOf s way → is_still way.lends event ≡ true → (item dir : ℕ) → verdict_of s item dir ≡ verdict_of (apply s event) item dir
+still-leads s (Mkdir parent name) way valid ok w still item dir = nothing-new s (Mkdir parent name) valid ok (λ d. refl) item refl dir
+still-leads s (Rewrite file text) way valid ok w still item dir = nothing-new s (Rewrite file text) valid ok (λ d. refl) item refl dir
+still-leads s (Ln parent name target) way valid ok w still item dir = nothing-new s (Ln parent name target) valid ok (λ d. refl) item refl dir
+still-leads s (NewFile parent name text) way valid ok w still item dir =
+    new-still s parent name text valid ok (λ d. lends-still s valid (NewFile parent name text) ok (λ n. refl) d (w.lends (is-not way.lends still) d)) item dir
+  where
+    is-not : (b : Bool) → not b ≡ true → b ≡ false
+    is-not true h = sym h
+    is-not false h = refl
+still-leads s (Rm entry) way valid ok w still item dir = absurd cc
+still-leads s (Mv entry to name) way valid ok w still item dir = absurd cc
+still-leads s (Mark mark) way valid ok w still item dir = absurd cc
+still-leads s Step way valid ok w still item dir = absurd cc
+still-leads s (Smount parent name space documents told) way valid ok w still item dir = absurd cc
+still-leads s (Ssync mount documents told) way valid ok w still item dir = absurd cc
+still-leads s (Sumount mount) way valid ok w still item dir = absurd cc
+still-leads s (Smkdir parent name query told) way valid ok w still item dir = absurd cc
+still-leads s (Setq parent query told) way valid ok w still item dir = absurd cc
+still-leads s (Unq parent) way valid ok w still item dir = absurd cc
+still-leads s (Rmdir parent) way valid ok w still item dir = absurd cc
+still-leads s (Cd session parent) way valid ok w still item dir = absurd cc
+
+-- and it begins nowhere
+pub still-never : (lends : Bool) (s : State) (event : Event) → is_still lends event ≡ true → (dir : ℕ) → begins s event dir ≡ false
+still-never lends s (Mkdir parent name) still dir = refl
+still-never lends s (Rewrite file text) still dir = refl
+still-never lends s (Ln parent name target) still dir = refl
+still-never lends s (NewFile parent name text) still dir = refl
+still-never lends s (Rm entry) still dir = absurd cc
+still-never lends s (Mv entry to name) still dir = absurd cc
+still-never lends s (Mark mark) still dir = absurd cc
+still-never lends s Step still dir = absurd cc
+still-never lends s (Smount parent name space documents told) still dir = absurd cc
+still-never lends s (Ssync mount documents told) still dir = absurd cc
+still-never lends s (Sumount mount) still dir = absurd cc
+still-never lends s (Smkdir parent name query told) still dir = absurd cc
+still-never lends s (Setq parent query told) still dir = absurd cc
+still-never lends s (Unq parent) still dir = absurd cc
+still-never lends s (Rmdir parent) still dir = absurd cc
+still-never lends s (Cd session parent) still dir = absurd cc

@@ -1,6 +1,8 @@
 -- A state with its links, and what is new in them once it is the next.
-use Rattle.std.specs.Prelude.{◌≡◌, ℕ, List}
+use Rattle.std.specs.Prelude.{◌≡◌, ℕ, Bool, true, false, not, List, unwrap_or}
 use Rattle.hac_model.specs.Tree.Events.{apply_all}
+use Rattle.hac_model.specs.declared.events.Event.{Event}
+use Rattle.hac_model.specs.declared.events.Event.TheVariants.{Mkdir, NewFile, Rewrite, Ln}
 use Rattle.hac_model.specs.declared.states.State.{State}
 use Rattle.kept_state.specs.After.{next_state}
 use Rattle.kept_state.specs.Seen.{Seen}
@@ -9,6 +11,9 @@ use Rattle.reeval.specs.Judging.{verdict_of}
 use Rattle.reeval.specs.Settled.{AreLinksOf, HasRoom}
 use Rattle.reeval.specs.Told.{news_on, told}
 use Rattle.reeval.specs.declared.verdicts.Change.{Change}
+use Rattle.kept_links.specs.Ways.{IsWayOf}
+use Rattle.kept_links.specs.declared.news.News.{News}
+use Rattle.kept_links.specs.declared.ways.Way.{Way}
 use Rattle.kept_links.specs.declared.linked.LinkedState.TheInside.{Inside}
 use Rattle.kept_links.specs.declared.outlook.Outlook.TheInside as outlook
 use Rattle.kept_links.specs.declared.past.Past.TheInside as past
@@ -20,11 +25,26 @@ seen_of linked = linked.kept
 abbrev pub Lead : State → State → List Change → Type 0
 Lead s t delta = (item dir : ℕ) → told (news_on item delta) (verdict_of s item) dir ≡ verdict_of t item dir
 
+-- what is new in the links behind an event, and in the way to all semantic directories
+pub record AreNews (s t : State) (old : Way) (news : News) : Type 0 where
+  pub leads : Lead s t news.delta.items
+  pub way : IsWayOf t (unwrap_or news.way old)
+
+-- nothing is said of any item, and nothing is added to a directory, that wasn't before
+abbrev pub is_still : Bool → Event → Bool
+is_still lends (Mkdir dir name) = true
+is_still lends (Rewrite file text) = true
+is_still lends (Ln dir name target) = true
+is_still lends (NewFile dir name text) = not lends
+is_still lends other = false
+
 -- the links are those of the state, and the changes, for which there is room, lead to those of the next
 pub record AreLinksKept (linked : Inside) : Type 0 where
   pub links : AreLinksOf linked.kept.state linked.found
   pub room : HasRoom linked.found linked.delta.items
   pub leads : Lead linked.kept.state (apply_all linked.kept.state linked.kept.ready) linked.delta.items
+  pub way : IsWayOf linked.kept.state linked.way
+  pub next : IsWayOf (apply_all linked.kept.state linked.kept.ready) (unwrap_or linked.next linked.way)
 
 abbrev pub state_of_past : past.Inside → State
 state_of_past past = past.kept.now.state

@@ -2,3 +2,4 @@ pub mod Kept
 pub mod Ways
 pub mod Tasks
 pub mod Items
+pub mod Steps

@@ -1,22 +1,28 @@
 -- What is judged again after an event.
-use Rattle.std.specs.Prelude.{◌≡◌, ◌≢◌, ℕ, List, [], ◌∷◌}
+use Rattle.std.specs.Prelude.{◌≡◌, ◌≢◌, ℕ, List, [], ◌∷◌, length, not, ◌==◌}
+use Rattle.std.specs.List.{list_any}
 use Rattle.dep_graph.specs.Searches.{EachOnce, IsCone}
 use Rattle.hac_model.specs.Tree.Depends.{Among, depends}
 use Rattle.hac_model.specs.Tree.Events.{apply}
+use Rattle.hac_model.specs.Tree.Links.{lenders}
 use Rattle.hac_model.specs.declared.events.Event.{Event}
 use Rattle.hac_model.specs.declared.states.State.{State}
 use Rattle.reeval.specs.Settled.{IsPlanned}
 use Rattle.reeval.specs.declared.planning.Task.{Task}
 use Rattle.reeval.specs.declared.settling.Stop.{Stop}
 use Rattle.kept_links.specs.Ways.{stops_everywhere, stops_from, with_first}
+use Rattle.kept_links.specs.declared.ways.Way.{Way}
 
--- the stops are at all semantic directories that were there and are, in order, and judging begins at each
-pub record AreEverywhere (s t : State) (stops : List Stop) : Type 0 where
+-- the way was found for the state behind an event: from one directory and from all that were semantic, over the edges as
+-- they will be
+pub record IsWayFrom (s t : State) (first : ℕ) (way : Way) : Type 0 where
   pub dirs : List ℕ
   pub order : List ℕ
+  pub here : Among dirs first
   pub known : (dir : ℕ) → depends s dir ≢ [] → Among dirs dir
   pub cone : IsCone (depends t) dirs order
-  pub are : stops ≡ stops_everywhere order
+  pub stops : way.stops.items ≡ stops_everywhere order
+  pub lends : way.lends ≡ list_any (λ dir. not (length (lenders t dir) == 0)) order
 
 -- the stops are at one directory, where judging begins, and at those that depend on it, in order
 pub record AreAlong (t : State) (first : ℕ) (stops : List Stop) : Type 0 where

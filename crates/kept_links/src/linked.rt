@@ -1,14 +1,25 @@
 //! The state with its links, and the events that it is ready for.
-ghost use Rattle.std.specs.Prelude.{◌≡◌, [], IfOk};
-ghost use Rattle.hac_model.specs.Tree.Events.{apply_all};
+ghost use Rattle.std.specs.Prelude.{◌≡◌, ◌∷◌, [], IfOk, IsTrue, None, OnErr, OnOk, replicate, unwrap_or};
+ghost use Rattle.hac_model.specs.Laws.{AllHappen};
+ghost use Rattle.hac_model.specs.Tree.Events.{accepted, apply, apply_all};
+ghost use Rattle.hac_model.specs.Tree.Limits as limits;
+ghost use Rattle.hac_model.specs.Tree.Links.{atom};
+ghost use Rattle.hac_model.specs.Tree.Sessions.{is_stored};
 ghost use Rattle.hac_model.specs.Tree.{empty};
+ghost use Rattle.kept_state.specs.After.{is_quiet};
 ghost use Rattle.link_kinds.specs.Seen.{LinkListsRise};
 ghost use Rattle.reeval.specs.Settled.{AreLinksOf};
 
-use hac_model::{Memory, Number};
+use crate::indexing::shown_of;
+use crate::lookups::{is_document, parent_of};
+use crate::news::prepared_news;
+use crate::steps::delta_of_steps;
+use crate::ways::Way;
+use hac_model::{Counts, Event, Memory, Name, Number, Term};
+use hac_words::has_term;
 use kept_state::KeptState;
 use link_kinds::Links;
-use reeval::{Change, apply};
+use reeval::{Change, apply, reserve};
 use std::alloc::Global;
 use std::marker::Model;
 
@@ -17,7 +28,12 @@ use std::marker::Model;
 pub struct LinkedState {
     kept: KeptState,
     found: Links,
+    // All semantic directories, in order.
+    way: Way,
+    // What is new once the events are applied that were prepared.
     delta: Vec<Change>,
+    // All semantic directories then, if there are others, or they are in another order.
+    next: Option<Way>,
 }
 
 impl Model for LinkedState {
@@ -42,7 +58,12 @@ impl LinkedState {
         Ok(LinkedState {
             kept: KeptState::new(alloc)?,
             found: Links::new(alloc)?,
+            way: Way {
+                stops: Vec::new(alloc),
+                lends: false,
+            },
             delta: Vec::new(alloc),
+            next: None,
         })
     }
 
@@ -60,6 +81,90 @@ impl LinkedState {
         &self.found
     }
 
+    /// Whether an item has a term: a document by what its mount keeps, a file by its text as it was
+    /// last indexed.
+    pub fn has(&self, term: &Term, item: Number) -> bool
+        ensures { result ≡ atom self.now.state term.now item }
+    {
+        if is_document(&self.kept, item) {
+            return self
+                .kept
+                .has_answer(parent_of(&self.kept, item), term, item);
+        }
+        match shown_of(&self.kept, item) {
+            Some(text) => has_term(text, term),
+            None => false,
+        }
+    }
+
+    /// Takes the memory that an event wants that is stored, so that `commit` can apply it. How much
+    /// the state then holds is given. The state doesn't change, whatever the answer, and what was
+    /// prepared before is dropped.
+    pub fn prepare(&mut self, alloc: Global, event: Event, counts: Counts) -> Result<(), Memory>
+        requires accepted { IsTrue (accepted self.old.state event) }
+        requires stored { IsTrue (is_stored event) }
+        requires counts { counts ≡ limits.counts (apply self.old.state event) }
+        ensures ok { OnOk result (self.new
+            ≡ record { state = self.old.state; ready = event ∷ [] }) }
+        ensures err { OnErr result (self.new ≡ record { state = self.old.state; ready = [] }) }
+    {
+        if is_quiet(&event) {
+            drop(event);
+            return self.prepare_steps(alloc, 1);
+        }
+        self.delta.clear();
+        self.next = None;
+        self.kept.prepare(alloc, event, counts)?;
+        match prepared_news(alloc, &self.kept, &mut self.found, &self.way) {
+            Ok(news) => {
+                self.delta = news.delta;
+                self.next = news.way;
+                Ok(())
+            }
+            Err(memory) => {
+                self.kept.prepare_steps(0);
+                Err(memory)
+            }
+        }
+    }
+
+    /// The same for a session that is to stand in another directory.
+    pub fn prepare_session(
+        &mut self,
+        alloc: Global,
+        session: Name,
+        dir: Number,
+    ) -> Result<(), Memory>
+        requires { IsTrue (accepted self.old.state (Event.Cd session dir)) }
+        ensures ok { OnOk result (self.new
+            ≡ record { state = self.old.state; ready = Event.Cd session dir ∷ [] }) }
+        ensures err { OnErr result (self.new ≡ record { state = self.old.state; ready = [] }) }
+    {
+        self.delta.clear();
+        self.next = None;
+        self.kept.know_valid();
+        self.kept.prepare_session(alloc, session, dir)?;
+        Ok(())
+    }
+
+    /// Takes the memory that steps want: what is new in the links of the files that they index.
+    pub fn prepare_steps(&mut self, alloc: Global, count: u64) -> Result<(), Memory>
+        requires { AllHappen self.old.state (replicate count Event.Step) }
+        ensures ok { OnOk result (self.new
+            ≡ record { state = self.old.state; ready = replicate count Event.Step }) }
+        ensures err { OnErr result (self.new ≡ record { state = self.old.state; ready = [] }) }
+    {
+        self.delta.clear();
+        self.next = None;
+        self.kept.prepare_steps(0);
+        self.kept.know_valid();
+        let delta = delta_of_steps(alloc, &self.kept, &self.found, &self.way, count)?;
+        reserve(&mut self.found, delta.as_slice())?;
+        self.kept.prepare_steps(count);
+        self.delta = delta;
+        Ok(())
+    }
+
     /// Applies the prepared events. This takes no memory, and can't fail.
     pub fn commit(&mut self)
         ensures { self.new ≡ record {
@@ -70,9 +175,27 @@ impl LinkedState {
         self.kept.commit();
         apply(&mut self.found, self.delta.as_slice());
         self.delta.clear();
+        put_way(&mut self.way, &mut self.next);
         self.kept.know_valid();
         know_lists(&self.found);
     }
+}
+
+/// Takes the next way, if there is one.
+fn put_way(way: &mut Way, next: &mut Option<Way>)
+    ensures way { way.new ≡ unwrap_or next.old way.old }
+    ensures next { next.new ≡ None }
+{
+    if let Some(new) = next.take() {
+        *way = new;
+    }
+}
+
+/// Whether an event is a step, or moves a session.
+fn is_quiet(event: &Event) -> bool
+    ensures { result ≡ is_quiet event.now }
+{
+    matches!(event, Event::Step | Event::Cd { .. })
 }
 
 /// What links keep: all lists rise.

@@ -51,7 +51,7 @@ pub(crate) fn is_directory(kept: &KeptState, number: Number) -> bool
 }
 
 /// The query of a directory, where it is semantic.
-fn query_at(kept: &KeptState, dir: Number) -> Option<&Query<Number>>
+pub(crate) fn query_at(kept: &KeptState, dir: Number) -> Option<&Query<Number>>
     ensures { option_copied result ≡ query_at kept.now.state dir }
 {
     kept.tree().query(dir)

@@ -1,10 +1,10 @@
 //! A state as it will be after the event that it is ready for.
-ghost use Rattle.std.specs.Prelude.{◌≡◌, IfSome};
+ghost use Rattle.std.specs.Prelude.{◌≡◌, ◌∷◌, [], IsTrue};
+ghost use Rattle.hac_model.specs.Tree.Events.{accepted, apply};
 ghost use Rattle.hac_model.specs.Tree.Links.{atom};
 ghost use Rattle.hac_model.specs.Tree.Mounting.{is_document_of};
-ghost use Rattle.kept_state.specs.After.{next_state};
 
-use hac_model::{Number, Query, Term};
+use hac_model::{Event, Number, Query, Term};
 use hac_words::has_term;
 use kept_state::KeptState;
 use query_eval::Atoms;
@@ -13,6 +13,7 @@ use scope_rules::Scope;
 use std::marker::Model;
 
 /// A state that is ready for an event, seen as the state behind it.
+#[derive(Drop)]
 pub(crate) struct Outlook<'a> {
     pub(crate) kept: &'a KeptState,
     pub(crate) scope: Scope<'a>,
@@ -34,18 +35,16 @@ impl<'a> Model for Outlook<'a> {
 }
 
 impl<'a> Outlook<'a> {
-    /// The outlook of a state that is ready for an event; none where it is ready for nothing else
-    /// than steps and sessions.
-    pub(crate) fn of(kept: &'a KeptState) -> Option<Outlook<'a>>
-        ensures { IfSome result (λ outlook. outlook ≡ next_state kept.now) }
+    /// The outlook of a state that is ready for an event.
+    pub(crate) fn new(kept: &'a KeptState, event: &'a Event) -> Outlook<'a>
+        requires ready { kept.now.ready ≡ event.now ∷ [] }
+        requires accepted { IsTrue (accepted kept.now.state event.now) }
+        ensures { result ≡ apply kept.now.state event.now }
     {
         kept.know_valid();
-        match kept.event() {
-            Some(event) => Some(Outlook {
-                kept,
-                scope: Scope::new(kept.tree(), event),
-            }),
-            None => None,
+        Outlook {
+            kept,
+            scope: Scope::new(kept.tree(), event),
         }
     }
 

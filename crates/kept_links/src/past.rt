@@ -9,6 +9,7 @@ use scope_rules::{has_found, has_lent, provides};
 use std::marker::Model;
 
 /// A state and its links, seen as the state.
+#[derive(Drop)]
 pub(crate) struct Past<'a> {
     /// The state.
     pub(crate) kept: &'a KeptState,

@@ -1,60 +1,93 @@
 //! What is judged again after an event, and on which ways.
-ghost use Rattle.std.specs.Prelude.{◌≡◌, IfOk, IsTrue};
+ghost use Rattle.std.specs.Prelude.{◌≡◌, ◌==◌, ℕ, IfOk, IsTrue, false, length, not};
+ghost use Rattle.std.specs.List.{list_any};
 ghost use Rattle.hac_model.specs.Tree.Events.{accepted, apply};
-ghost use Rattle.kept_links.specs.Tasks.{AreAlong, AreEverywhere, IsTaskOf};
+ghost use Rattle.hac_model.specs.Tree.Links.{lenders};
+ghost use Rattle.hac_model.specs.Tree.Touched.{begins};
+ghost use Rattle.kept_links.specs.Tasks.{AreAlong, IsTaskOf, IsWayFrom};
+ghost use Rattle.kept_links.specs.Ways.{IsWayOf};
 ghost use Rattle.kept_state.specs.After.{next_state};
 
-use crate::items::{begin, other_items, touched_items};
+use crate::items::{other_items, touched_items};
 use crate::outlook::Outlook;
-use crate::ways::{stops_everywhere, stops_from, with_first};
+use crate::ways::{Way, stops_everywhere, stops_from, with_first};
 use hac_model::{Event, Memory, Number};
 use kept_state::KeptState;
 use reeval::{Stop, Task};
 use std::alloc::Global;
 
-/// The task of the event for which a state is ready.
-pub(crate) fn task(
+/// The task of an event that begins at no directory: the items that it touches, on the way that is
+/// kept.
+pub(crate) fn task_of_touched(
     alloc: Global,
     kept: &KeptState,
     outlook: &Outlook<'_>,
     event: &Event,
+    way: &Way,
+) -> Result<Task, Memory>
+    requires accepted { IsTrue (accepted kept.now.state event.now) }
+    requires after { outlook.now ≡ apply kept.now.state event.now }
+    requires way { IsWayOf (apply kept.now.state event.now) way.now }
+    requires never { (dir : ℕ) → begins kept.now.state event.now dir ≡ false }
+    ensures { IfOk result (λ task. IsTaskOf kept.now.state event.now task) }
+{
+    kept.know_valid();
+    Ok(Task {
+        touched: touched_items(alloc, kept, outlook, event)?,
+        everywhere: Vec::from_slice(alloc, way.stops.as_slice())?,
+        others: Vec::new(alloc),
+        along: Vec::new(alloc),
+    })
+}
+
+/// The task of an event that begins at a directory: the items that it touches, on the way to all
+/// semantic directories behind it, and all others on the way from the first directory.
+pub(crate) fn task_from(
+    alloc: Global,
+    kept: &KeptState,
+    outlook: &Outlook<'_>,
+    event: &Event,
+    way: &Way,
+    first: Number,
 ) -> Result<Task, Memory>
     requires accepted { IsTrue (accepted kept.now.state event.now) }
     requires after { outlook.now ≡ apply kept.now.state event.now }
     requires next { next_state kept.now ≡ apply kept.now.state event.now }
+    requires way { IsWayOf (apply kept.now.state event.now) way.now }
+    requires begins { (dir : ℕ) → begins kept.now.state event.now dir ≡ (dir == first) }
     ensures { IfOk result (λ task. IsTaskOf kept.now.state event.now task) }
 {
     kept.know_valid();
     let touched = touched_items(alloc, kept, outlook, event)?;
-    let everywhere = everywhere(alloc, kept)?;
-    match begin(kept, event) {
-        Some(first) => {
-            let others = other_items(alloc, kept, outlook, event)?;
-            let along = along(alloc, kept, first)?;
-            Ok(Task {
-                touched,
-                everywhere,
-                others,
-                along,
-            })
-        }
-        None => Ok(Task {
-            touched,
-            everywhere,
-            others: Vec::new(alloc),
-            along: Vec::new(alloc),
-        }),
-    }
+    let others = other_items(alloc, kept, outlook, event)?;
+    let along = along(alloc, kept, first)?;
+    Ok(Task {
+        touched,
+        everywhere: Vec::from_slice(alloc, way.stops.as_slice())?,
+        others,
+        along,
+    })
 }
 
-/// The way of an item that is touched: all semantic directories.
-fn everywhere(alloc: Global, kept: &KeptState) -> Result<Vec<Stop>, Memory>
-    ensures { IfOk result (λ stops.
-        AreEverywhere kept.now.state (next_state kept.now) stops.items) }
+/// The way to all semantic directories behind an event, which begins at a directory.
+pub(crate) fn way_next(alloc: Global, kept: &KeptState, first: Number) -> Result<Way, Memory>
+    ensures { IfOk result (λ way. IsWayFrom kept.now.state (next_state kept.now) first way) }
 {
-    let dirs = kept.graph().directories()?;
+    let known = kept.graph().directories()?;
+    let dirs = with_first(alloc, first, known.as_slice())?;
     let order = kept.cone_next(alloc, dirs.as_slice())?;
-    stops_everywhere(alloc, order.as_slice())
+    Ok(Way {
+        stops: stops_everywhere(alloc, order.as_slice())?,
+        lends: lends_next(kept, order.as_slice()),
+    })
+}
+
+/// Whether directories will have been added to some of these.
+fn lends_next(kept: &KeptState, dirs: &[Number]) -> bool
+    ensures { result ≡ list_any
+        (λ dir. not (length (lenders (next_state kept.now) dir) == 0)) dirs.now }
+{
+    dirs.iter().any(|dir| !kept.lenders_next(*dir).is_empty())
 }
 
 /// The way of any other item: from a directory on.

@@ -6,6 +6,15 @@ use hac_model::{Memory, Number};
 use reeval::Stop;
 use std::alloc::Global;
 
+/// All semantic directories, on the way of an item that may be judged in each.
+#[derive(Debug, Drop)]
+pub(crate) struct Way {
+    /// A stop at each, behind those on which it depends. Judging begins at each.
+    pub(crate) stops: Vec<Stop>,
+    /// Whether directories may have been added to some of them.
+    pub(crate) lends: bool,
+}
+
 /// A stop at each of these directories, at each of which judging begins.
 pub(crate) fn stops_everywhere(alloc: Global, dirs: &[Number]) -> Result<Vec<Stop>, Memory>
     ensures { IfOk result (λ stops. stops.items ≡ stops_everywhere dirs.now) }

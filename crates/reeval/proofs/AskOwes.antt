@@ -53,7 +53,7 @@ module _ (is_dir : ℕ → Bool) (n : ℕ) (plain : is_dir n ≡ false) where
         | false ↦ ap (λ (rest : List ℕ). if is_dir k then k ∷ rest else rest) (left-put ks)
       ]
 
-  marked-lenders : (kind : Kind) (marks : Marks) → filter is_dir marks.permanent ≡ filter is_dir (with_mark kind n marks).permanent
+  pub marked-lenders : (kind : Kind) (marks : Marks) → filter is_dir marks.permanent ≡ filter is_dir (with_mark kind n marks).permanent
   marked-lenders Permanent marks = sym (left-put (without n marks.permanent) ∙ left-without marks.permanent)
   marked-lenders Prohibited marks = sym (left-without marks.permanent)
   marked-lenders Transient marks = sym (left-without marks.permanent)

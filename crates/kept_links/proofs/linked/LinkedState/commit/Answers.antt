@@ -1,12 +1,14 @@
 use Rattle.std.proofs.Common.{◌≡◌, ℕ, List, [], subst, sym, ap}
+use Rattle.std.specs.Prelude.{unwrap_or}
 use Rattle.hac_model.specs.Tree.Events.{apply_all}
-use Rattle.hac_model.specs.declared.events.Event.{Event}
 use Rattle.hac_model.specs.declared.states.State.{State}
 use Rattle.reeval.specs.Settled.{verdict_in}
 use Rattle.reeval.specs.Told.{news_on, told}
 use Rattle.reeval.specs.declared.verdicts.Change.{Change}
 use Rattle.kept_links.specs.Kept.{Lead}
-use Rattle.kept_links.proofs.KeepLemmas.{links-led, nothing-leads, nothing-wanted}
+use Rattle.kept_links.specs.Ways.{IsWayOf}
+use Rattle.kept_links.specs.declared.ways.Way.{Way}
+use Rattle.kept_links.proofs.KeepLemmas.{kept-none, links-led}
 use Rattle.kept_links.proofs.linked.LinkedState.commit.Goals as goal
 
 pub invariant_of-self : goal.invariant_of-self
@@ -14,11 +16,10 @@ invariant_of-self c =
     let s = c.self.inside.kept.state in
     let t = c.commit.new.self.state in
     let led : t ≡ apply_all s c.self.inside.kept.ready = λ i. (c.commit.ensures i).state in
-    let none : c.commit.new.self.ready ≡ [] = λ i. (c.commit.ensures i).ready in
-    record {
-      links = links-led s t c.self.inside.found c.apply.new.found c.self.inside.delta.items c.self.invariant.links
-          (subst (λ (next : State). Lead s next c.self.inside.delta.items) (sym led) c.self.invariant.leads) c.know_valid.ensures c.know_lists.ensures
-          (subst (λ (changes : List Change). (item dir : ℕ) → verdict_in c.apply.new.found item dir ≡ told (news_on item changes) (verdict_in c.self.inside.found item) dir) c.as_slice.ensures.value c.apply.ensures);
-      room = nothing-wanted c.apply.new.found c.clear.new.self.items c.clear.ensures.items;
-      leads = nothing-leads t c.commit.new.self.ready c.clear.new.self.items none c.clear.ensures.items;
-    }
+    kept-none _ (λ i. (c.commit.ensures i).ready)
+    (links-led s t c.self.inside.found c.apply.new.found c.self.inside.delta.items c.self.invariant.links
+    (subst (λ (next : State). Lead s next c.self.inside.delta.items) (sym led) c.self.invariant.leads) c.know_valid.ensures c.know_lists.ensures
+    (subst (λ (changes : List Change). (item dir : ℕ) → verdict_in c.apply.new.found item dir ≡ told (news_on item changes) (verdict_in c.self.inside.found item) dir) c.as_slice.ensures.value c.apply.ensures))
+    (subst (λ (way : Way). IsWayOf t way) (sym c.put_way.ensures.way)
+    (subst (λ (next : State). IsWayOf next (unwrap_or c.self.inside.next c.self.inside.way)) (sym led) c.self.invariant.next))
+    c.clear.ensures.items c.put_way.ensures.next

@@ -1,0 +1,26 @@
+use Rattle.std.proofs.Common.{◌≡◌, List, ap, refl, subst, sym}
+use Rattle.hac_model.specs.Tree.Events.{apply_all}
+use Rattle.hac_model.specs.declared.events.Event.{Event}
+use Rattle.hac_model.specs.declared.states.State.{State}
+use Rattle.reeval.specs.Judging.{verdict_of}
+use Rattle.reeval.specs.Settled.{IsPlanned}
+use Rattle.reeval.specs.Told.{news_on, told}
+use Rattle.kept_links.specs.Tasks.{IsWayFrom}
+use Rattle.kept_links.proofs.TaskLemmas.{way-found}
+use Rattle.kept_links.proofs.news.news_from.Goals as goal
+
+pub task_from-requires-clause-way : goal.task_from-requires-clause-way
+task_from-requires-clause-way c =
+    let s = c.args.kept.now.state in
+    way-found s c.args.event.now c.know_valid.ensures c.requires.accepted c.in_ok-way.way c.args.first c.requires.begins
+    (subst (λ (next : State). IsWayFrom s next c.args.first c.in_ok-way.way) (ap (λ (events : List Event). apply_all s events) c.requires.ready) c.in_ok-way.ensures)
+
+pub returns : goal.returns
+returns c = λ old.
+    let s = c.args.kept.now.state in
+    record {
+      leads = λ item dir. subst (λ (t : State). told (news_on item c.in_ok-delta.delta.items) (verdict_of s item) dir ≡ verdict_of t item dir) c.new-outlook.ensures
+          (c.in_ok-delta.ensures refl (subst (λ (t : State). IsPlanned s t c.in_ok-task.task) (sym c.new-outlook.ensures) c.in_ok-task.ensures.planned) item dir);
+      way = way-found s c.args.event.now c.know_valid.ensures c.requires.accepted c.in_ok-way.way c.args.first c.requires.begins
+          (subst (λ (next : State). IsWayFrom s next c.args.first c.in_ok-way.way) (ap (λ (events : List Event). apply_all s events) c.requires.ready) c.in_ok-way.ensures);
+    }

@@ -1,0 +1,20 @@
+use Rattle.std.proofs.Common.{◌≡◌, List, ap, sym, true, ◌∙◌}
+use Rattle.reeval.specs.Judging.{verdict_of}
+use Rattle.reeval.specs.Told.{news_on, told}
+use Rattle.reeval.specs.declared.verdicts.Change.{Change}
+use Rattle.kept_links.specs.Kept.{is_still}
+use Rattle.kept_links.proofs.TaskLemmas.{still-leads, still-never, way-still}
+use Rattle.kept_links.proofs.news.news_of.Goals as goal
+
+pub returns-then-is_still : goal.returns-then-is_still
+returns-then-is_still c =
+    let s = c.args.kept.now.state in
+    let e = c.args.event.now in
+    let way = c.args.way.now in
+    let still : is_still way.lends e ≡ true = sym c.is_still.ensures ∙ c.if-is_still.true in
+    record {
+      leads = λ item dir.
+          ap (λ (changes : List Change). told (news_on item changes) (verdict_of s item) dir) c.new.ensures.items
+          ∙ still-leads s e way c.know_valid.ensures c.requires.accepted c.requires.way still item dir;
+      way = way-still s e c.know_valid.ensures c.requires.accepted way (still-never way.lends s e still) c.requires.way;
+    }

@@ -1,0 +1,150 @@
+//! What is new in the links behind an event.
+ghost use Rattle.std.specs.Prelude.{◌≡◌, ◌==◌, ◌∷◌, [], ℕ, false, IfOk, IsTrue};
+ghost use Rattle.hac_model.specs.Tree.Events.{accepted, apply};
+ghost use Rattle.hac_model.specs.Tree.Touched.{begins};
+ghost use Rattle.kept_links.specs.Kept.{AreNews, is_still};
+ghost use Rattle.kept_links.specs.Ways.{IsWayOf};
+ghost use Rattle.kept_state.specs.After.{are_quiet, next_state};
+ghost use Rattle.link_kinds.specs.Seen.{SameKinds};
+ghost use Rattle.reeval.specs.Settled.{AreLinksOf, HasRoom};
+
+use crate::items::begin;
+use crate::outlook::Outlook;
+use crate::past::Past;
+use crate::tasks::{task_from, task_of_touched, way_next};
+use crate::ways::Way;
+use hac_model::{Event, Memory, Number};
+use kept_state::KeptState;
+use link_kinds::Links;
+use reeval::{Change, plan, reserve};
+use std::alloc::Global;
+
+/// What is new behind an event.
+#[derive(Debug, Drop)]
+pub(crate) struct News {
+    /// The new verdicts.
+    pub(crate) delta: Vec<Change>,
+    /// The way to all semantic directories, where it is another one.
+    pub(crate) way: Option<Way>,
+}
+
+/// What will be new behind the event that a state is ready for, which is no step and moves no
+/// session, and the memory for it. No link changes, whatever the answer.
+pub(crate) fn prepared_news(
+    alloc: Global,
+    kept: &KeptState,
+    found: &mut Links,
+    way: &Way,
+) -> Result<News, Memory>
+    requires links { AreLinksOf kept.now.state found.old }
+    requires way { IsWayOf kept.now.state way.now }
+    requires event { are_quiet kept.now.ready ≡ false }
+    ensures same { SameKinds found.old found.new }
+    ensures news { IfOk result (AreNews kept.now.state (next_state kept.now) way.now) }
+    ensures room { IfOk result (λ news. HasRoom found.new news.delta.items) }
+{
+    let news = next_news(alloc, kept, found, way)?;
+    reserve(found, news.delta.as_slice())?;
+    Ok(news)
+}
+
+/// What will be new behind the event that a state is ready for.
+fn next_news(alloc: Global, kept: &KeptState, found: &Links, way: &Way) -> Result<News, Memory>
+    requires links { AreLinksOf kept.now.state found.now }
+    requires way { IsWayOf kept.now.state way.now }
+    requires event { are_quiet kept.now.ready ≡ false }
+    ensures { IfOk result (AreNews kept.now.state (next_state kept.now) way.now) }
+{
+    match kept.event() {
+        Some(event) => news_of(alloc, kept, found, way, event),
+        None => unreachable!(),
+    }
+}
+
+/// What will be new behind this event.
+fn news_of(
+    alloc: Global,
+    kept: &KeptState,
+    found: &Links,
+    way: &Way,
+    event: &Event,
+) -> Result<News, Memory>
+    requires links { AreLinksOf kept.now.state found.now }
+    requires way { IsWayOf kept.now.state way.now }
+    requires ready { kept.now.ready ≡ event.now ∷ [] }
+    requires accepted { IsTrue (accepted kept.now.state event.now) }
+    ensures { IfOk result
+        (AreNews kept.now.state (apply kept.now.state event.now) way.now) }
+{
+    kept.know_valid();
+    if is_still(way, event) {
+        return Ok(News {
+            delta: Vec::new(alloc),
+            way: None,
+        });
+    }
+    match begin(kept, event) {
+        Some(first) => news_from(alloc, kept, found, event, first),
+        None => news_of_touched(alloc, kept, found, way, event),
+    }
+}
+
+/// Whether nothing is new behind an event, by what is known without a look at the state.
+fn is_still(way: &Way, event: &Event) -> bool
+    ensures { result ≡ is_still way.now.lends event.now }
+{
+    match event {
+        Event::Mkdir { .. } | Event::Rewrite { .. } | Event::Ln { .. } => true,
+        Event::NewFile { .. } => !way.lends,
+        _ => false,
+    }
+}
+
+/// What will be new behind an event that begins at a directory.
+fn news_from(
+    alloc: Global,
+    kept: &KeptState,
+    found: &Links,
+    event: &Event,
+    first: Number,
+) -> Result<News, Memory>
+    requires links { AreLinksOf kept.now.state found.now }
+    requires ready { kept.now.ready ≡ event.now ∷ [] }
+    requires accepted { IsTrue (accepted kept.now.state event.now) }
+    requires begins { (dir : ℕ) → begins kept.now.state event.now dir ≡ (dir == first) }
+    ensures { (way : Way) → IfOk result
+        (AreNews kept.now.state (apply kept.now.state event.now) way) }
+{
+    kept.know_valid();
+    let outlook = Outlook::new(kept, event);
+    let way = way_next(alloc, kept, first)?;
+    let task = task_from(alloc, kept, &outlook, event, &way, first)?;
+    let delta = plan(alloc, &outlook, &outlook, &Past { kept, found }, &task)?;
+    Ok(News {
+        delta,
+        way: Some(way),
+    })
+}
+
+/// What will be new behind an event that begins at no directory.
+fn news_of_touched(
+    alloc: Global,
+    kept: &KeptState,
+    found: &Links,
+    way: &Way,
+    event: &Event,
+) -> Result<News, Memory>
+    requires links { AreLinksOf kept.now.state found.now }
+    requires way { IsWayOf kept.now.state way.now }
+    requires ready { kept.now.ready ≡ event.now ∷ [] }
+    requires accepted { IsTrue (accepted kept.now.state event.now) }
+    requires never { (dir : ℕ) → begins kept.now.state event.now dir ≡ false }
+    ensures { IfOk result
+        (AreNews kept.now.state (apply kept.now.state event.now) way.now) }
+{
+    kept.know_valid();
+    let outlook = Outlook::new(kept, event);
+    let task = task_of_touched(alloc, kept, &outlook, event, way)?;
+    let delta = plan(alloc, &outlook, &outlook, &Past { kept, found }, &task)?;
+    Ok(News { delta, way: None })
+}
