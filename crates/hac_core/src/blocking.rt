@@ -9,31 +9,32 @@ ghost use Rattle.hac_model.specs.Tree.Events.{is_inside};
 ghost use Rattle.hac_model.specs.Tree.{is_live};
 ghost use Rattle.hac_core.specs.Blocking.{link_cause, tree_cause};
 
-use crate::marking::{linked, marked, not_permanent, unreferenced};
+use crate::marking::{is_link, marked, not_permanent, unreferenced};
 use crate::sessions::{has_place, idle};
 use file_tree::Tree;
 use hac_model::{Deny, Number, Place, Refusal, Resolved};
+use kept_links::LinkedState;
 use kept_state::KeptState;
 use std::alloc::Global;
 
 /// Denies a command that something blocks, for the first such cause: what the tree says comes
 /// before what links, marks, other queries and sessions say.
-pub fn unblocked(alloc: Global, kept: &KeptState, command: &Resolved) -> Result<(), Deny>
-    requires { AllStand kept.now.state command.now }
-    ensures { Passes result (blocking_cause kept.now.state command.now) }
+pub fn unblocked(alloc: Global, linked: &LinkedState, command: &Resolved) -> Result<(), Deny>
+    requires { AllStand linked.now.state command.now }
+    ensures { Passes result (blocking_cause linked.now.state command.now) }
 {
-    match fits_tree(kept, command) {
-        Ok(()) => fits_links(alloc, kept, command),
+    match fits_tree(linked, command) {
+        Ok(()) => fits_links(alloc, linked, command),
         Err(deny) => Err(deny),
     }
 }
 
 /// Denies a command that the tree blocks, by the state.
-fn fits_tree(kept: &KeptState, command: &Resolved) -> Result<(), Deny>
-    requires { AllStand kept.now.state command.now }
-    ensures { Passes result (tree_cause kept.now.state command.now) }
+fn fits_tree(linked: &LinkedState, command: &Resolved) -> Result<(), Deny>
+    requires { AllStand linked.now.state command.now }
+    ensures { Passes result (tree_cause linked.now.state command.now) }
 {
-    fits_tree_alone(kept.tree(), command)
+    fits_tree_alone(linked.kept().tree(), command)
 }
 
 /// Denies a command that the tree blocks.
@@ -84,12 +85,12 @@ fn fits_tree_alone(tree: &Tree, command: &Resolved) -> Result<(), Deny>
 }
 
 /// Denies a command that a link, a mark, another query or a session blocks, where the tree doesn't.
-fn fits_links(alloc: Global, kept: &KeptState, command: &Resolved) -> Result<(), Deny>
-    requires stands { AllStand kept.now.state command.now }
-    requires free { tree_cause kept.now.state command.now ≡ None }
-    ensures { Passes result (link_cause kept.now.state command.now) }
+fn fits_links(alloc: Global, linked: &LinkedState, command: &Resolved) -> Result<(), Deny>
+    requires stands { AllStand linked.now.state command.now }
+    requires free { tree_cause linked.now.state command.now ≡ None }
+    ensures { Passes result (link_cause linked.now.state command.now) }
 {
-    kept.know_valid();
+    let kept = linked.kept();
     match command {
         Resolved::Rmdir { dir } | Resolved::Sumount { mount: dir } => {
             unreferenced(alloc, kept, *dir)?;
@@ -97,7 +98,7 @@ fn fits_links(alloc: Global, kept: &KeptState, command: &Resolved) -> Result<(),
         }
         Resolved::Cd { session, dir } => has_place(kept, session, *dir),
         Resolved::Sln { item, dir } => not_permanent(kept, *item, *dir),
-        Resolved::Srm { item, dir } => linked(alloc, kept, *item, *dir),
+        Resolved::Srm { item, dir } => is_link(linked, *item, *dir),
         Resolved::Sforget { item, dir } => marked(kept, *item, *dir),
         _ => Ok(()),
     }

@@ -20,15 +20,16 @@ use hac_model::{
     first_passed,
 };
 use hac_names::{has_long_part, is_bad, is_name, is_space_name};
+use kept_links::LinkedState;
 use kept_state::KeptState;
 use std::alloc::Global;
 use tree_answers::{is_unreferenced, may_mark};
 
 /// Whether an event can happen to the state, and how much the state would hold then.
-pub fn fits(alloc: Global, kept: &KeptState, event: Event) -> Result<Option<Change>, Memory>
-    ensures { IfOk result (FitsAs kept.now.state event) }
+pub fn fits(alloc: Global, linked: &LinkedState, event: Event) -> Result<Option<Change>, Memory>
+    ensures { IfOk result (FitsAs linked.now.state event) }
 {
-    match within(alloc, kept, &event) {
+    match within(alloc, linked, &event) {
         Ok(Some(counts)) => Ok(Some(Change { event, counts })),
         Ok(None) => {
             drop(event);
@@ -42,9 +43,10 @@ pub fn fits(alloc: Global, kept: &KeptState, event: Event) -> Result<Option<Chan
 }
 
 /// How much the state would hold after an event that can happen.
-fn within(alloc: Global, kept: &KeptState, event: &Event) -> Result<Option<Counts>, Memory>
-    ensures { IfOk result (IsWithin kept.now.state event.now) }
+fn within(alloc: Global, linked: &LinkedState, event: &Event) -> Result<Option<Counts>, Memory>
+    ensures { IfOk result (IsWithin linked.now.state event.now) }
 {
+    let kept = linked.kept();
     if !is_placed(alloc, kept, event)? {
         return Ok(None);
     }
@@ -52,7 +54,7 @@ fn within(alloc: Global, kept: &KeptState, event: &Event) -> Result<Option<Count
     if !passes_none(counts) {
         return Ok(None);
     }
-    if is_clear(alloc, kept, event)? {
+    if is_clear(alloc, linked, event)? {
         Ok(Some(counts))
     } else {
         Ok(None)
@@ -115,10 +117,11 @@ fn is_placed_in(tree: &Tree, event: &Event) -> bool
 
 /// Whether no mark, no link, no query of another directory and no session blocks an event, and
 /// mounts then keep no more answers than they may.
-fn is_clear(alloc: Global, kept: &KeptState, event: &Event) -> Result<bool, Memory>
-    requires { IsTrue (is_placed kept.now.state event.now) }
-    ensures { IfOk result (λ is. is ≡ is_clear kept.now.state event.now) }
+fn is_clear(alloc: Global, linked: &LinkedState, event: &Event) -> Result<bool, Memory>
+    requires { IsTrue (is_placed linked.now.state event.now) }
+    ensures { IfOk result (λ is. is ≡ is_clear linked.now.state event.now) }
 {
+    let kept = linked.kept();
     match event {
         Event::Setq { dir, query, .. } => {
             let way = kept.cycle_of_query(alloc, *dir, query)?;
@@ -132,7 +135,7 @@ fn is_clear(alloc: Global, kept: &KeptState, event: &Event) -> Result<bool, Memo
             Ok(is_unreferenced(kept, *dir)? && !kept.is_busy(*dir))
         }
         Event::Cd { session, dir } => Ok(kept.has_place_for(session, *dir)),
-        Event::Mark(mark) => may_be_marked(alloc, kept, mark),
+        Event::Mark(mark) => may_be_marked(alloc, linked, mark),
         Event::Smkdir { .. } | Event::Smount { .. } | Event::Ssync { .. } => {
             Ok(kept.keeps_few_after(event))
         }
@@ -141,12 +144,11 @@ fn is_clear(alloc: Global, kept: &KeptState, event: &Event) -> Result<bool, Memo
 }
 
 /// Whether a mark changes something, and no directory comes to depend on itself by it.
-fn may_be_marked(alloc: Global, kept: &KeptState, mark: &Mark) -> Result<bool, Memory>
-    requires { IsTrue (can_have_mark kept.now.state mark.now.item mark.now.kind) }
-    ensures { IfOk result (λ is. is ≡ is_clear kept.now.state (Event.Mark mark.now)) }
+fn may_be_marked(alloc: Global, linked: &LinkedState, mark: &Mark) -> Result<bool, Memory>
+    ensures { IfOk result (λ is. is ≡ is_clear linked.now.state (Event.Mark mark.now)) }
 {
-    let way = kept.cycle_of_mark(alloc, mark)?;
-    Ok(may_mark(alloc, kept, *mark)? && way.is_none())
+    let way = linked.kept().cycle_of_mark(alloc, mark)?;
+    Ok(may_mark(linked, *mark) && way.is_none())
 }
 
 /// Whether an item or a directory can have a mark of a kind.

@@ -1,6 +1,6 @@
-//! The machine: commands against a state that is kept so that they are quick. It is seen as that
-//! state and as the events for which memory was taken. It knows no line's bytes, no outside, and of
-//! a kept state only what `kept_state` and `tree_answers` promise.
+//! The machine: commands against a state that is kept with its links so that they are quick. It is
+//! seen as that state and as the events for which memory was taken. It knows no line's bytes, no
+//! outside, and of a kept state only what `kept_state`, `kept_links` and `tree_answers` promise.
 #![tactic(auto)]
 
 mod asking;

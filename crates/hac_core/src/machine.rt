@@ -19,15 +19,16 @@ use crate::fitting::fits;
 use crate::settling::settled;
 use crate::showing::shown;
 use hac_model::{Answers, Deny, Event, Line, Memory, Reply, Resolved};
-use kept_state::KeptState;
+use kept_links::LinkedState;
 use std::alloc::Global;
 use std::marker::Model;
 
-/// A state that is kept so that commands are quick, with the events for which memory was taken.
+/// A state that is kept with its links so that commands are quick, and the events for which memory
+/// was taken.
 #[derive(Drop)]
 pub struct Machine {
     alloc: Global,
-    kept: KeptState,
+    linked: LinkedState,
 }
 
 impl Model for Machine {
@@ -49,7 +50,7 @@ impl Machine {
     {
         Ok(Machine {
             alloc,
-            kept: KeptState::new(alloc)?,
+            linked: LinkedState::new(alloc)?,
         })
     }
 
@@ -58,7 +59,7 @@ impl Machine {
         ensures dirty { result ≡ dirty self.now.state }
         ensures valid { IsValid self.now.state }
     {
-        self.kept.counts().dirty
+        self.linked.kept().counts().dirty
     }
 
     /// Follows the paths of a line that spells a command, and says whether the state refuses it
@@ -70,10 +71,11 @@ impl Machine {
         ensures draft { IfOk result (IsDraftOf self.now.state line) }
         ensures refused { IfErr result (λ deny. Refuses deny (early_refusal self.now.state line)) }
     {
-        self.kept.know_valid();
-        let command = followed(self.alloc, &self.kept, line)?;
-        match unblocked(self.alloc, &self.kept, &command) {
-            Ok(()) => drafted(self.alloc, &self.kept, command),
+        let kept = self.linked.kept();
+        kept.know_valid();
+        let command = followed(self.alloc, kept, line)?;
+        match unblocked(self.alloc, &self.linked, &command) {
+            Ok(()) => drafted(self.alloc, kept, command),
             Err(deny) => {
                 drop(command);
                 Err(deny)
@@ -92,9 +94,8 @@ impl Machine {
         ensures refused { (command : Resolved) → IsDraftFor self.now.state command draft →
             IfErr result (λ deny. Refuses deny (cause answers self.now.state command)) }
     {
-        self.kept.know_valid();
         match draft.into_known() {
-            Known::Reads(command) => shown(self.alloc, &self.kept, command, answers),
+            Known::Reads(command) => shown(self.alloc, &self.linked, command, answers),
             Known::Changes(_) | Known::Indexes(_) => unreachable!(),
         }
     }
@@ -110,9 +111,10 @@ impl Machine {
         ensures refused { (command : Resolved) → IsDraftFor self.now.state command draft →
             IfErr result (λ deny. Refuses deny (cause answers self.now.state command)) }
     {
-        self.kept.know_valid();
+        let kept = self.linked.kept();
+        kept.know_valid();
         match draft.into_known() {
-            Known::Changes(change) => settled(self.alloc, &self.kept, change, answers),
+            Known::Changes(change) => settled(self.alloc, kept, change, answers),
             Known::Indexes(count) => Ok(Settled::Steps(count)),
             Known::Reads(_) => unreachable!(),
         }
@@ -123,7 +125,7 @@ impl Machine {
     pub fn fits(&self, event: Event) -> Result<Option<Change>, Memory>
         ensures { IfOk result (FitsAs self.now.state event) }
     {
-        fits(self.alloc, &self.kept, event)
+        fits(self.alloc, &self.linked, event)
     }
 
     /// Takes the memory that events want, so that `commit` can apply them. The state doesn't
@@ -136,16 +138,13 @@ impl Machine {
     {
         match settled {
             Settled::Change(Change { event, counts }) => {
-                self.kept.prepare(self.alloc, event, counts)
+                self.linked.prepare(self.alloc, event, counts)
             }
             Settled::Session(Event::Cd { session, dir }) => {
-                self.kept.prepare_session(self.alloc, session, dir)
+                self.linked.prepare_session(self.alloc, session, dir)
             }
             Settled::Session(_) => unreachable!(),
-            Settled::Steps(count) => {
-                self.kept.prepare_steps(count);
-                Ok(())
-            }
+            Settled::Steps(count) => self.linked.prepare_steps(self.alloc, count),
         }
     }
 
@@ -156,6 +155,6 @@ impl Machine {
           ready = [];
         } }
     {
-        self.kept.commit();
+        self.linked.commit();
     }
 }

@@ -3,10 +3,10 @@ ghost use Rattle.std.specs.Prelude.{IsTrue};
 ghost use Rattle.hac_model.specs.Run.Answers.{Passes};
 ghost use Rattle.hac_model.specs.Run.Refusals.{already_cause, referenced_cause, unlinked_cause};
 ghost use Rattle.hac_model.specs.Run.Refusals.{unmarked_cause};
-ghost use Rattle.hac_model.specs.Tree.Links.{is_item};
 ghost use Rattle.hac_model.specs.Tree.{is_directory_at};
 
 use hac_model::{Deny, Number, Refusal};
+use kept_links::LinkedState;
 use kept_state::KeptState;
 use std::alloc::Global;
 use tree_answers::{is_linked, is_marked, is_permanent, least_referrer};
@@ -22,14 +22,13 @@ pub fn not_permanent(kept: &KeptState, item: Number, dir: Number) -> Result<(), 
 }
 
 /// The item is a link, added or found.
-pub fn linked(alloc: Global, kept: &KeptState, item: Number, dir: Number) -> Result<(), Deny>
-    requires { IsTrue (is_item kept.now.state item) }
-    ensures { Passes result (unlinked_cause kept.now.state item dir) }
+pub fn is_link(linked: &LinkedState, item: Number, dir: Number) -> Result<(), Deny>
+    ensures { Passes result (unlinked_cause linked.now.state item dir) }
 {
-    if is_linked(alloc, kept, dir, item)? {
+    if is_linked(linked, dir, item) {
         return Ok(());
     }
-    Err(Deny::Refused(Refusal::NotLinked(kept.path_of(item)?)))
+    Err(Deny::Refused(Refusal::NotLinked(linked.kept().path_of(item)?)))
 }
 
 /// The item or directory has a mark.

@@ -8,6 +8,7 @@ ghost use Rattle.hac_model.specs.Spaces.Answering.{AreAnswersTo};
 ghost use Rattle.hac_core.specs.Drafts.{Shows, is_reading};
 
 use hac_model::{Answers, Deny, Refusal, Reply, Resolved, Seq};
+use kept_links::LinkedState;
 use kept_state::KeptState;
 use std::alloc::Global;
 use tree_answers::data_lines;
@@ -16,18 +17,18 @@ use tree_answers::data_lines;
 /// has no more stands against it.
 pub fn shown(
     alloc: Global,
-    kept: &KeptState,
+    linked: &LinkedState,
     command: Resolved,
     answers: Answers,
 ) -> Result<Reply, Deny>
     requires reads { is_reading command ≡ true }
-    requires free { early_cause kept.now.state command ≡ None }
-    requires answered { AreAnswersTo (asks kept.now.state command) answers }
-    ensures reply { IfOk result (Shows kept.now.state answers command) }
-    ensures refused { IfErr result (λ deny. Refuses deny (cause answers kept.now.state command)) }
+    requires free { early_cause linked.now.state command ≡ None }
+    requires answered { AreAnswersTo (asks linked.now.state command) answers }
+    ensures reply { IfOk result (Shows linked.now.state answers command) }
+    ensures refused { IfErr result (λ deny. Refuses deny (cause answers linked.now.state command)) }
 {
-    kept.know_valid();
-    let reply = reply_to(alloc, kept, &command, &answers);
+    linked.kept().know_valid();
+    let reply = reply_to(alloc, linked, &command, &answers);
     drop(command);
     drop(answers);
     reply
@@ -36,20 +37,20 @@ pub fn shown(
 /// The same of a command that stays.
 fn reply_to(
     alloc: Global,
-    kept: &KeptState,
+    linked: &LinkedState,
     command: &Resolved,
     answers: &Answers,
 ) -> Result<Reply, Deny>
     requires reads { is_reading command.now ≡ true }
-    requires free { early_cause kept.now.state command.now ≡ None }
-    requires answered { AreAnswersTo (asks kept.now.state command.now) answers.now }
-    ensures reply { IfOk result (Shows kept.now.state answers.now command.now) }
+    requires free { early_cause linked.now.state command.now ≡ None }
+    requires answered { AreAnswersTo (asks linked.now.state command.now) answers.now }
+    ensures reply { IfOk result (Shows linked.now.state answers.now command.now) }
     ensures refused { IfErr result (λ deny. Refuses deny
-        (cause answers.now kept.now.state command.now)) }
+        (cause answers.now linked.now.state command.now)) }
 {
-    kept.know_valid();
-    match not_gone(kept, command, answers) {
-        Ok(()) => lines_of(alloc, kept, command, answers),
+    linked.kept().know_valid();
+    match not_gone(linked.kept(), command, answers) {
+        Ok(()) => lines_of(alloc, linked, command, answers),
         Err(deny) => Err(deny),
     }
 }
@@ -57,16 +58,16 @@ fn reply_to(
 /// The data lines as a reply.
 fn lines_of(
     alloc: Global,
-    kept: &KeptState,
+    linked: &LinkedState,
     command: &Resolved,
     answers: &Answers,
 ) -> Result<Reply, Deny>
-    requires { AreAnswersTo (asks kept.now.state command.now) answers.now }
+    requires { AreAnswersTo (asks linked.now.state command.now) answers.now }
     ensures reply { IfOk result (λ reply. reply ≡ Reply.Lines
-        (data_lines answers.now kept.now.state command.now)) }
+        (data_lines answers.now linked.now.state command.now)) }
     ensures memory { IfErr result (λ deny. deny ≡ Deny.Memory) }
 {
-    let lines = data_lines(alloc, kept, command, answers)?;
+    let lines = data_lines(alloc, linked, command, answers)?;
     Ok(Reply::Lines(Seq::new(lines)))
 }
 

@@ -1,7 +1,6 @@
 pub mod FindingLemmas
 pub mod MarkingLemmas
 pub mod ListingLemmas
-pub mod FoundLemmas
 pub mod RangeLemmas
 pub mod LinkLineLemmas
 pub mod QueryLineLemmas
@@ -12,3 +11,4 @@ pub mod AtomLemmas
 pub mod ToldLemmas
 pub mod QuestionLemmas
 pub mod NumberingLemmas
+pub mod NextLinkLemmas

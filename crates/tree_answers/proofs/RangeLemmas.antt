@@ -14,7 +14,7 @@ range-more a (suc n) = let same : a + 1 + n ≡ a + suc n = omega arith in ap (�
 range-next : (n : ℕ) → range_with_len 0 (n + 1) ≡ range_with_len 0 n ++ n ∷ []
 range-next n = let one : n + 1 ≡ suc n = omega arith in let last : 0 + n ≡ n = omega arith in ap (range_with_len 0) one ∙ range-more 0 n ∙ ap (λ (k : ℕ). range_with_len 0 n ++ k ∷ []) last
 
-append-none : {A : Type 0} (xs : List A) → xs ++ [] ≡ xs
+pub append-none : {A : Type 0} (xs : List A) → xs ++ [] ≡ xs
 append-none [] = refl
 append-none (x ∷ xs) = ap (λ rest. x ∷ rest) (append-none xs)
 

@@ -34,7 +34,7 @@ has-first : (n : ℕ) (ns : List ℕ) → has (n ∷ ns) n ≡ true
 has-first n ns = ap (λ (b : Bool). b || has ns n) (eq-eqb n n refl)
 
 -- none is below the bound
-has-low : (bound : ℕ) (ns : List ℕ) (k : ℕ) → RiseFrom bound ns → k < bound → has ns k ≡ false
+pub has-low : (bound : ℕ) (ns : List ℕ) (k : ℕ) → RiseFrom bound ns → k < bound → has ns k ≡ false
 has-low bound [] k rise less = refl
 has-low bound (n ∷ ns) k rise less =
     let above : k < n = omega (arith, less, rise.0) in

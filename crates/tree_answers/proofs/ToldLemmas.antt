@@ -188,6 +188,11 @@ module _ (s : State) (valid : IsValid s) (query : Formula ℕ) (told : List (Lis
   told-atom term item =
       atom-after s query told term item
       ∙ ap (λ (b : Bool). cond (is_document_at s.entries item) b (option_map_or (λ text. has_term text term) (shown_of s item) false)) (kept-told (parent_of s item) term item)
+      ∙ parted (is_document_at s.entries item) (has (kept_at s (parent_of s item) term) item) (was_told (questions s query) told (parent_of s item) term item) (option_map_or (λ text. has_term text term) (shown_of s item) false)
+    where
+      parted : (d k w t : Bool) → cond d (k || w) t ≡ (cond d k t || (d && w))
+      parted true k w t = refl
+      parted false k w t = sym (or-none t)
 
 -- Question by question.
 

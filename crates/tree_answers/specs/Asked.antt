@@ -1,12 +1,10 @@
 -- What the mounts have to be asked for a query, mount by mount and term by term.
 use Rattle.std.specs.Prelude.{ℕ, Bool, false, ◌==◌, ◌&&◌, ◌||◌, not, if◌then◌else◌, List, [], ◌∷◌, filter, map}
 use Rattle.std.specs.List.{flat_map}
-use Rattle.std.specs.Option.{option_map_or}
 use Rattle.hac_model.specs.Query.Formula.{Formula}
 use Rattle.hac_model.specs.Query.Terms.{is_same_term}
-use Rattle.hac_model.specs.Query.Words.{has_term}
 use Rattle.hac_model.specs.Tree.Asking.{asked_by}
-use Rattle.hac_model.specs.Tree.Links.{answers_at, has, kept_at, parent_of, shown_of}
+use Rattle.hac_model.specs.Tree.Links.{answers_at, atom, has, parent_of}
 use Rattle.hac_model.specs.Tree.Mounts.{is_kept}
 use Rattle.hac_model.specs.Tree.{is_document_at, is_mount_at}
 use Rattle.hac_model.specs.declared.states.State.{State}
@@ -48,9 +46,10 @@ was_told (question ∷ questions) (documents ∷ told) mount term item =
     tells question documents mount term item || was_told questions told mount term item
 was_told questions told mount term item = false
 
--- the item has the term, as `atom` says, or its mount was told that it has it
+-- the item is a document, and its mount was told that it has the term
+abbrev pub is_document_told : State → List Question → List (List ℕ) → Term → ℕ → Bool
+is_document_told s questions told term item = is_document_at s.entries item && was_told questions told (parent_of s item) term item
+
+-- the item has the term, or its mount was told that it has it
 abbrev pub atom_told : State → List Question → List (List ℕ) → Term → ℕ → Bool
-atom_told s questions told term item =
-    if is_document_at s.entries item
-    then has (kept_at s (parent_of s item) term) item || was_told questions told (parent_of s item) term item
-    else option_map_or (λ text. has_term text term) (shown_of s item) false
+atom_told s questions told term item = atom s term item || is_document_told s questions told term item

@@ -1,10 +1,8 @@
 -- How many links there are.
-use Rattle.std.specs.Prelude.{◌≡◌, ℕ, ◌≤◌, length, sum_by}
+use Rattle.std.specs.Prelude.{ℕ, ◌≤◌, length, sum_by}
 use Rattle.std.specs.List.{range_with_len}
-use Rattle.hac_model.specs.Tree.Links.{transient_count}
 use Rattle.hac_model.specs.declared.limits.TheConstants.{NUMBERS_LIMIT}
 use Rattle.hac_model.specs.declared.marks.Kind.{Kind}
-use Rattle.hac_model.specs.declared.marks.Kind.TheVariants.{Transient}
 use Rattle.hac_model.specs.declared.states.State.{State}
 use Rattle.link_kinds.specs.Kinds.{items_of}
 use Rattle.link_kinds.specs.Seen.{Known, lists_in}
@@ -17,8 +15,3 @@ link_count kind s links = sum_by (λ dir. length (items_of kind (lists_in links 
 pub record CanCount (s : State) (kind : Kind) (links : Known) : Type 0 where
   pub few : (dir : ℕ) → length (items_of kind (lists_in links dir)) ≤ NUMBERS_LIMIT
   pub next_few : s.next ≤ NUMBERS_LIMIT
-
--- the links of all semantic directories were found
-pub record HasAllLinks (s : State) (found : Known) : Type 0 where
-  pub can : CanCount s Transient found
-  pub all : link_count Transient s found ≡ transient_count s

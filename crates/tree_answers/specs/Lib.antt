@@ -4,3 +4,4 @@ pub mod Counting
 pub mod Asked
 pub mod Told
 pub mod Numbering
+pub mod NextLinks

@@ -9,30 +9,31 @@ use crate::lines_of_entries::{child_lines, path_lines, target_lines, text_lines}
 use crate::lines_of_links::{found_lines, link_lines};
 use crate::lines_of_queries::query_lines;
 use hac_model::{Answers, Memory, Name, Resolved};
-use kept_state::KeptState;
+use kept_links::LinkedState;
 use std::alloc::Global;
 
 /// The data lines of a command, given what spaces answered to its questions. One that changes the
 /// state has none.
 pub fn data_lines(
     alloc: Global,
-    kept: &KeptState,
+    linked: &LinkedState,
     command: &Resolved,
     answers: &Answers,
 ) -> Result<Vec<Name>, Memory>
-    requires { AreAnswersTo (asks kept.now.state command.now) answers.now }
+    requires { AreAnswersTo (asks linked.now.state command.now) answers.now }
     ensures { IfOk result (λ lines. lines.items
-        ≡ data_lines answers.now kept.now.state command.now) }
+        ≡ data_lines answers.now linked.now.state command.now) }
 {
+    let kept = linked.kept();
     match command {
         Resolved::Cat { entry } => text_lines(alloc, kept, *entry, answers),
         Resolved::Ls { dir } => child_lines(alloc, kept, *dir),
         Resolved::Pwd { dir } => path_lines(alloc, kept, *dir),
         Resolved::Readlink { entry } => target_lines(alloc, kept, *entry),
         Resolved::Query { dir } => query_lines(alloc, kept, *dir),
-        Resolved::Sls { dir } => link_lines(alloc, kept, *dir),
-        Resolved::Find { query } => found_lines(alloc, kept, query, answers.found.as_slice()),
-        Resolved::Counts => counts_lines(alloc, kept),
+        Resolved::Sls { dir } => link_lines(alloc, linked, *dir),
+        Resolved::Find { query } => found_lines(alloc, linked, query, answers.found.as_slice()),
+        Resolved::Counts => counts_lines(alloc, linked),
         _ => Ok(Vec::new(alloc)),
     }
 }

@@ -1,30 +1,37 @@
 //! The line of counts.
-ghost use Rattle.std.specs.Prelude.{◌≡◌, ◌≤◌, ◌∷◌, ◌++◌, ◌+◌, ◌-◌, ℕ, [], if◌then◌else◌, IfOk};
-ghost use Rattle.std.specs.Prelude.{IsTrue, OnOk};
-ghost use Rattle.hac_model.specs.Tree.Depends.{Among};
-ghost use Rattle.hac_model.specs.Tree.Links.{is_semantic, permanent_count, prohibited_count};
+ghost use Rattle.std.specs.Prelude.{◌≡◌, ◌≤◌, ◌∷◌, ◌++◌, ◌+◌, ◌-◌, [], IfOk, OnOk};
+ghost use Rattle.hac_model.specs.Tree.Links.{permanent_count, prohibited_count, transient_count};
 ghost use Rattle.hac_model.specs.Run.Play.{count_text, counts_line};
-ghost use Rattle.tree_answers.specs.Counting.{CanCount, HasAllLinks, link_count};
 ghost use Rattle.hac_model.specs.Run.Showing.{line_of_counts};
+ghost use Rattle.tree_answers.specs.Counting.{CanCount, link_count};
 
-use crate::finding::{find_links, know_lists};
-use crate::lookups::{is_semantic, next_number};
+use crate::lookups::next_number;
 use hac_model::{Counts, Kind, Memory, Name, Number};
+use kept_links::LinkedState;
 use kept_state::KeptState;
 use link_kinds::Links;
 use std::alloc::Global;
 
 /// How much there is of each kind, on one line.
-pub fn counts_lines(alloc: Global, kept: &KeptState) -> Result<Vec<Name>, Memory>
-    ensures { IfOk result (λ lines. lines.items ≡ counts_line kept.now.state ∷ []) }
+pub fn counts_lines(alloc: Global, linked: &LinkedState) -> Result<Vec<Name>, Memory>
+    ensures { IfOk result (λ lines. lines.items ≡ counts_line linked.now.state ∷ []) }
 {
-    let found = all_links(alloc, kept)?;
-    let transient = link_count(kept, &found, Kind::Transient);
+    let kept = linked.kept();
+    let transient = transient_count(linked);
     let permanent = permanent_count(kept);
     let prohibited = prohibited_count(kept);
     let mut lines = Vec::new(alloc);
     lines.push(line_of_counts(alloc, kept.counts(), transient, permanent, prohibited)?)?;
     Ok(lines)
+}
+
+/// How many items directories found.
+fn transient_count(linked: &LinkedState) -> u64
+    ensures { result ≡ transient_count linked.now.state }
+{
+    let kept = linked.kept();
+    kept.know_valid();
+    link_count(kept, linked.links(), Kind::Transient)
 }
 
 /// How many items users added to directories.
@@ -39,17 +46,6 @@ fn prohibited_count(kept: &KeptState) -> u64
     ensures { result ≡ prohibited_count kept.now.state }
 {
     link_count(kept, kept.marks(), Kind::Prohibited)
-}
-
-/// The links of all semantic directories.
-fn all_links(alloc: Global, kept: &KeptState) -> Result<Links, Memory>
-    ensures { IfOk result (HasAllLinks kept.now.state) }
-{
-    kept.know_valid();
-    let dirs = semantic_dirs(alloc, kept)?;
-    let found = find_links(alloc, kept, dirs.as_slice(), 0, next_number(kept))?;
-    know_lists(&found);
-    Ok(found)
 }
 
 /// The line, given the counts of a tree, and how many links of each kind there are.
@@ -90,31 +86,6 @@ fn push_count(alloc: Global, line: &mut Vec<u8>, word: &[u8], count: u64) -> Res
     line.extend_from_slice(word)?;
     line.push(b' ')?;
     line.extend_from_slice(count.to_string(alloc)?.as_bytes())?;
-    Ok(())
-}
-
-/// The semantic directories.
-fn semantic_dirs(alloc: Global, kept: &KeptState) -> Result<Vec<Number>, Memory>
-    ensures { IfOk result
-        (λ dirs. (dir : ℕ) → IsTrue (is_semantic kept.now.state dir) → Among dirs.items dir) }
-{
-    kept.know_valid();
-    let mut dirs = Vec::new(alloc);
-    for number in 0..next_number(kept) {
-        push_semantic(&mut dirs, kept, number)?;
-    }
-    Ok(dirs)
-}
-
-/// Adds a number, if it is that of a semantic directory.
-fn push_semantic(dirs: &mut Vec<Number>, kept: &KeptState, number: u64) -> Result<(), Memory>
-    ensures { OnOk result (dirs.new.items
-        ≡ dirs.old.items ++ (if is_semantic kept.now.state number then number ∷ [] else [])) }
-{
-    let dir = Number::new(number);
-    if is_semantic(kept, dir) {
-        dirs.push(dir)?;
-    }
     Ok(())
 }
 

@@ -2,23 +2,21 @@
 ghost use Rattle.std.specs.Prelude.{◌≡◌, ◌<◌, drop, length};
 ghost use Rattle.hac_model.specs.Query.Queries.{query_meaning};
 ghost use Rattle.hac_model.specs.Query.Terms.{is_same_term};
-ghost use Rattle.hac_model.specs.Tree.Links.{column, provide};
-ghost use Rattle.scope_rules.specs.Made.{found_in};
-ghost use Rattle.tree_answers.specs.Asked.{atom_told, first_tells, tells, was_told};
+ghost use Rattle.hac_model.specs.Tree.Links.{column, links, provide};
+ghost use Rattle.tree_answers.specs.Asked.{atom_told, first_tells, is_document_told, tells, was_told};
 
 use crate::asking::Question;
-use crate::finding::{Sight, document_has, text_has};
+use crate::finding::Sight;
 use crate::lookups::{is_document, parent_of};
 use hac_model::{Number, Query, Seq, Term};
-use kept_state::KeptState;
-use link_kinds::Links;
+use kept_links::LinkedState;
 use query_eval::{Atoms, judge};
 
-/// What the mounts of a state keep, and what they were told besides.
+/// A state with its links, and what its mounts were told besides what they keep.
 #[derive(Clone, Copy)]
 pub struct Told<'a> {
     /// The state.
-    pub kept: &'a KeptState,
+    pub linked: &'a LinkedState,
     /// What the mounts were asked.
     pub questions: &'a [Question],
     /// The documents that have the term, for each question.
@@ -26,17 +24,22 @@ pub struct Told<'a> {
 }
 
 impl<'a> Atoms for Told<'a> {
-    ghost atoms = { λ told. atom_told told.kept.now.state told.questions.now told.documents.now };
+    ghost atoms = { λ told.
+        atom_told told.linked.now.state told.questions.now told.documents.now };
 
     fn has(&self, term: &Term, item: Number) -> bool {
-        if is_document(self.kept, item) {
-            let mount = parent_of(self.kept, item);
-            document_has(self.kept, term, item)
-                || was_told(self.questions, self.documents, mount, term, item)
-        } else {
-            text_has(self.kept, term, item)
-        }
+        self.linked.has(term, item) || is_document_told(self, term, item)
     }
+}
+
+/// Whether an item is a document, and its mount was told that it has a term.
+fn is_document_told(told: &Told<'_>, term: &Term, item: Number) -> bool
+    ensures { result ≡ is_document_told told.now.linked.now.state told.now.questions.now
+        told.now.documents.now term.now item }
+{
+    let kept = told.linked.kept();
+    is_document(kept, item)
+        && was_told(told.questions, told.documents, parent_of(kept, item), term, item)
 }
 
 /// Whether a mount was told that a document has a term.
@@ -112,15 +115,15 @@ fn is_same_term(one: &Term, other: &Term) -> bool
     }
 }
 
-/// Whether an item satisfies a query, given the links.
-pub fn satisfies_told(told: &Told<'_>, found: &Links, query: &Query<Number>, item: Number) -> bool
+/// Whether an item satisfies a query.
+pub fn satisfies_told(told: &Told<'_>, query: &Query<Number>, item: Number) -> bool
     ensures { result ≡ query_meaning
-        (atom_told told.now.kept.now.state told.now.questions.now told.now.documents.now)
-        (provide told.now.kept.now.state (column (found_in found.now) item)) query.now item }
+        (atom_told told.now.linked.now.state told.now.questions.now told.now.documents.now)
+        (provide told.now.linked.now.state (column (links told.now.linked.now.state) item))
+        query.now item }
 {
     let sight = Sight {
-        kept: told.kept,
-        found,
+        linked: told.linked,
     };
     judge(query, told, &sight, item)
 }

@@ -5,5 +5,5 @@ use Rattle.tree_answers.proofs.telling.satisfies_told.Goals as goal
 
 pub returns : goal.returns
 returns c =
-    c.judge.ensures
-    ∙ judged-as (atom_told c.args.told.now.kept.now.state c.args.told.now.questions.now c.args.told.now.documents.now) c.args.told.now.kept.now.state c.args.found.now c.args.query.now c.args.item
+    let told = c.args.told.now in
+    c.judge.ensures ∙ judged-as (atom_told told.linked.now.state told.questions.now told.documents.now) told.linked.now.state c.args.query.now c.args.item
