@@ -4,9 +4,9 @@ ghost use Rattle.std.specs.Prelude.{◌≡◌, ◌&&◌, false, length, IfOk, Is
 ghost use Rattle.hac_model.specs.Script.PathWords.{is_target};
 ghost use Rattle.hac_model.specs.Tree.{is_leaf_at};
 ghost use Rattle.hac_model.specs.Tree.Asking.{are_all_told};
-ghost use Rattle.hac_model.specs.Tree.Events.{can_have_mark, is_clear, is_free, is_made_holder, is_placed};
-ghost use Rattle.hac_model.specs.Tree.Events.{may_ask};
-ghost use Rattle.hac_model.specs.Tree.Limits.{is_text};
+ghost use Rattle.hac_model.specs.Tree.Events.{apply, can_have_mark, is_clear, is_free};
+ghost use Rattle.hac_model.specs.Tree.Events.{is_made_holder, is_placed, may_ask};
+ghost use Rattle.hac_model.specs.Tree.Limits.{are_answers_few, is_text};
 ghost use Rattle.hac_core.specs.Fitting.{FitsAs, IsWithin, asks_spaces, passes_none};
 
 use crate::asking::may_ask;
@@ -125,7 +125,7 @@ fn is_clear(alloc: Global, linked: &LinkedState, event: &Event) -> Result<bool, 
     match event {
         Event::Setq { dir, query, .. } => {
             let way = kept.cycle_of_query(alloc, *dir, query)?;
-            Ok(way.is_none() && kept.keeps_few_after(event))
+            Ok(way.is_none() && keeps_few(linked, event))
         }
         Event::Mv { entry, dir, .. } => {
             let way = kept.cycle_of_move(alloc, *entry, *dir)?;
@@ -137,10 +137,18 @@ fn is_clear(alloc: Global, linked: &LinkedState, event: &Event) -> Result<bool, 
         Event::Cd { session, dir } => Ok(kept.has_place_for(session, *dir)),
         Event::Mark(mark) => may_be_marked(alloc, linked, mark),
         Event::Smkdir { .. } | Event::Smount { .. } | Event::Ssync { .. } => {
-            Ok(kept.keeps_few_after(event))
+            Ok(keeps_few(linked, event))
         }
         _ => Ok(true),
     }
+}
+
+/// Whether mounts keep no more answers than they may after an event.
+fn keeps_few(linked: &LinkedState, event: &Event) -> bool
+    requires { IsTrue (is_placed linked.now.state event.now) }
+    ensures { result ≡ are_answers_few (apply linked.now.state event.now).entries }
+{
+    linked.kept().keeps_few_after(event)
 }
 
 /// Whether a mark changes something, and no directory comes to depend on itself by it.

@@ -94,6 +94,7 @@ impl Machine {
         ensures refused { (command : Resolved) → IsDraftFor self.now.state command draft →
             IfErr result (λ deny. Refuses deny (cause answers self.now.state command)) }
     {
+        self.linked.kept().know_valid();
         match draft.into_known() {
             Known::Reads(command) => shown(self.alloc, &self.linked, command, answers),
             Known::Changes(_) | Known::Indexes(_) => unreachable!(),

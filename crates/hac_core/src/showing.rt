@@ -27,7 +27,6 @@ pub fn shown(
     ensures reply { IfOk result (Shows linked.now.state answers command) }
     ensures refused { IfErr result (λ deny. Refuses deny (cause answers linked.now.state command)) }
 {
-    linked.kept().know_valid();
     let reply = reply_to(alloc, linked, &command, &answers);
     drop(command);
     drop(answers);
@@ -48,8 +47,9 @@ fn reply_to(
     ensures refused { IfErr result (λ deny. Refuses deny
         (cause answers.now linked.now.state command.now)) }
 {
-    linked.kept().know_valid();
-    match not_gone(linked.kept(), command, answers) {
+    let kept = linked.kept();
+    kept.know_valid();
+    match not_gone(kept, command, answers) {
         Ok(()) => lines_of(alloc, linked, command, answers),
         Err(deny) => Err(deny),
     }
