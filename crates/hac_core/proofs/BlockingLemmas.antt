@@ -1,6 +1,6 @@
 -- What blocks a command doesn't depend on marks, so the tree alone decides it.
-use Rattle.std.proofs.Common.{◌≡◌, ℕ, true, cond, List, [], ◌∷◌, subst, refl, ap, sym, ◌∙◌}
-use Rattle.std.specs.Prelude.{Option, Some, None, Result, IsTrue}
+use Rattle.std.proofs.Common.{◌≡◌, ℕ, cond, List, [], ◌∷◌, subst, refl, ap, sym, ◌∙◌}
+use Rattle.std.specs.Prelude.{Option, Some, None, Result}
 use Rattle.hac_model.specs.Run.Answers.{Passes, Refuses, first_cause}
 use Rattle.hac_model.specs.Tree.Bare.{bare}
 use Rattle.hac_model.specs.Run.Refusals.{blocking_cause, busy_cause, directory_cause, filled_cause, not_link_cause, not_mount_cause, plain_cause, referenced_cause, root_cause, session_cause, taken_cause, under_cause, unlinked_cause, written_cause}
@@ -11,13 +11,9 @@ use Rattle.hac_model.specs.declared.resolved.Resolved.{Resolved}
 use Rattle.hac_model.specs.declared.resolved.Resolved.TheVariants.{Mkdir, Rmdir, Write, Cat, Cd, Mv, Rm, Ln, Readlink, Smkdir, Unq, Query, Sls, Sln, Srm, Sforget, Smount, Ssync, Sumount}
 use Rattle.hac_model.specs.declared.states.State.{State}
 use Rattle.hac_core.specs.Blocking.{link_cause, tree_cause}
-use Rattle.hac_model.specs.Tree.Valid.{IsLayout}
-use Rattle.hac_model.specs.Run.Standing.{is_there}
-use Rattle.hac_model.specs.Tree.Links.{is_item}
 use Rattle.hac_model.specs.declared.replies.Deny.{Deny}
 use Rattle.hac_model.specs.declared.replies.Deny.TheVariants as deny
 use Rattle.hac_model.specs.declared.replies.Refusal.{Refusal}
-use Rattle.hac_model.proofs.EventLemmas.{item-there, no_cause}
 use Rattle.kept_state.proofs.StateLemmas.{same-bare, same-directory, same-inside, same-mount, same-path, same-semantic, same-symlink}
 
 module _ (s t : State) (bares : bare s ≡ bare t) where
@@ -115,7 +111,3 @@ blocked-early s r deny.Memory h = tt
 pub blocked-late : {A : Type 0} (s : State) (r : Resolved) (result : Result A Deny) → tree_cause s r ≡ None → Passes result (link_cause s r) → Passes result (blocking_cause s r)
 blocked-late s r result free passes =
     subst (λ (cause : Option Refusal). Passes result cause) (sym (ap (λ (o : Option Refusal). first_cause (o ∷ link_cause s r ∷ [])) free ∙ lone (link_cause s r)) ∙ parted s r) passes
-
--- what may be a link is an item
-pub linkable : (s : State) (item dir : ℕ) → IsLayout s → IsTrue (is_there s true item) → tree_cause s (Srm item dir) ≡ None → IsTrue (is_item s item)
-linkable s item dir h there free = item-there s h item there (no_cause (directory_cause s item) (plain_cause s dir ∷ []) free).0

@@ -1,6 +1,6 @@
 -- What directories find and provide, by the links that are kept.
-use Rattle.std.proofs.Common.{◌≡◌, ℕ, Bool, refl, ap, ◌∙◌}
-use Rattle.std.specs.Prelude.{◌&&◌, ◌||◌, not, IsTrue}
+use Rattle.std.proofs.Common.{◌≡◌, ℕ, Bool, refl, ap}
+use Rattle.std.specs.Prelude.{◌&&◌, ◌||◌, not}
 use Rattle.hac_model.specs.Query.Formula.{Formula}
 use Rattle.hac_model.specs.Query.Formula as query
 use Rattle.hac_model.specs.Query.Queries.{query_meaning}

@@ -1,6 +1,6 @@
 -- A list of links leaves out no number that is linked.
 use Rattle.std.proofs.Common.{◌≡◌, ℕ, zero, suc, ◌+◌, ◌-◌, ◌<◌, ◌≤◌, Bool, true, false, cond, List, [], ◌∷◌, ◌++◌, refl, ap, sym, subst, ◌∙◌, arith, eq-eqb, eqb-true, ne_eqb}
-use Rattle.std.specs.Prelude.{⊤, ◌&&◌, ◌||◌, ◌==◌, Option, None, Some, filter, find, nat_le, IsTrue}
+use Rattle.std.specs.Prelude.{⊤, ◌&&◌, ◌||◌, ◌==◌, Option, None, Some, filter, nat_le, IsTrue}
 use Rattle.std.specs.List.{AllByRecursion, flat_map, range_with_len}
 use Rattle.std.proofs.lemmas.Bool.Decides.{nat_tests}
 use Rattle.hac_model.specs.Tree.Links.{can_be_added, has, is_item, is_permanent, is_prohibited, items, kind, permanent_at, prohibited_at, transient_at}

@@ -1,5 +1,5 @@
 -- What is linked in a directory, one number after the other.
-use Rattle.std.specs.Prelude.{ℕ, List, Option, None, Some, nat_le, if◌then◌else◌}
+use Rattle.std.specs.Prelude.{ℕ, Option, None, Some, nat_le, if◌then◌else◌}
 use Rattle.hac_model.specs.Tree.Links.{permanent_at, prohibited_at, transient_at}
 use Rattle.hac_model.specs.declared.states.State.{State}
 use Rattle.set_pool.specs.Rising.{first_from}

@@ -1,7 +1,7 @@
 //! What is looked up in a kept state.
 ghost use Rattle.std.specs.Prelude.{◌≡◌, is_some, option_and_then};
 ghost use Rattle.std.specs.Option.{option_copied};
-ghost use Rattle.hac_model.specs.Tree.Links.{is_item, is_semantic, parent_of, query_at, shown_of};
+ghost use Rattle.hac_model.specs.Tree.Links.{is_item, parent_of, query_at, shown_of};
 ghost use Rattle.hac_model.specs.Tree.{body_at, is_document_at, is_mount_at, target_in, text_in};
 ghost use Rattle.tree_answers.specs.Finding.{is_judged_item};
 
@@ -54,13 +54,6 @@ pub fn query_at(kept: &KeptState, dir: Number) -> Option<&Query<Number>>
     ensures { option_copied result ≡ query_at kept.now.state dir }
 {
     kept.tree().query(dir)
-}
-
-/// Whether a directory has a query.
-pub fn is_semantic(kept: &KeptState, dir: Number) -> bool
-    ensures { result ≡ is_semantic kept.now.state dir }
-{
-    matches!(query_at(kept, dir), Some(_))
 }
 
 /// Whether a number is that of an item.

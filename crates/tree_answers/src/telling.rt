@@ -39,7 +39,13 @@ fn is_document_told(told: &Told<'_>, term: &Term, item: Number) -> bool
 {
     let kept = told.linked.kept();
     is_document(kept, item)
-        && was_told(told.questions, told.documents, parent_of(kept, item), term, item)
+        && was_told(
+            told.questions,
+            told.documents,
+            parent_of(kept, item),
+            term,
+            item,
+        )
 }
 
 /// Whether a mount was told that a document has a term.

@@ -1,4 +1,4 @@
-use Rattle.std.proofs.Common.{◌≡◌, ◌<◌, ◌≤◌, ◌+◌, ℕ, List, ap, subst, sym, ◌∙◌, arith}
+use Rattle.std.proofs.Common.{◌≡◌, ◌<◌, ◌≤◌, ◌+◌, ℕ, ap, subst, sym, ◌∙◌, arith}
 use Rattle.std.specs.Prelude.{Some}
 use Rattle.std.specs.List.{flat_map, range_with_len}
 use Rattle.hac_model.specs.Tree.Valid.{IsValid}
@@ -26,11 +26,10 @@ overflow_add-from c =
 pub links-preserved : goal.links-preserved
 links-preserved c =
     let s = c.args.linked.now.state in
-    let within = bounds c in
-    (
+    let within = bounds c in (
       omega (arith, within.1, c.get-from.ensures),
       lines-next s (valid c) c.args.dir c.links.from c.in-Some.item c.links.lines.items c.push_number.new.lines.items (next-is c) c.links.invariant.1 (c.in_ok-push_number.ensures)
-      ∙ ap (λ (n : ℕ). flat_map (line_of s c.args.dir) (range_with_len 0 (n + 1))) (sym c.get-from.ensures),
+          ∙ ap (λ (n : ℕ). flat_map (line_of s c.args.dir) (range_with_len 0 (n + 1))) (sym c.get-from.ensures),
     )
 
 pub links-smaller : goal.links-smaller
