@@ -1,16 +1,20 @@
 -- What directories find and provide, by the links that are kept.
-use Rattle.std.proofs.Common.{◌≡◌, ℕ, Bool, refl, ap}
+use Rattle.std.proofs.Common.{◌≡◌, ℕ, Bool, List, refl, ap}
 use Rattle.std.specs.Prelude.{◌&&◌, ◌||◌, not}
 use Rattle.hac_model.specs.Query.Formula.{Formula}
 use Rattle.hac_model.specs.Query.Formula as query
 use Rattle.hac_model.specs.Query.Queries.{query_meaning}
-use Rattle.hac_model.specs.Tree.Links.{column, has, links, provide}
+use Rattle.hac_model.specs.Tree.Links.{column, has, links, provide, transient_at}
 use Rattle.hac_model.specs.declared.states.State.{State}
 use Rattle.hac_model.specs.declared.terms.Term.{Term}
 use Rattle.hac_model.proofs.LinkLemmas.{provide-same}
-use Rattle.link_kinds.specs.Seen.{Known}
+use Rattle.link_kinds.specs.Seen.{Known, transient_in}
 use Rattle.reeval.specs.Settled.{AreLinksOf}
 use Rattle.scope_rules.specs.Made.{found_in}
+
+-- what a directory found is what it finds
+pub found_kept : (s : State) (known : Known) → AreLinksOf s known → (dir item : ℕ) → has (transient_in known dir) item ≡ has (transient_at s dir) item
+found_kept s known are dir item = ap (λ (numbers : List ℕ). has numbers item) (are.found dir)
 
 -- a directory provides the same by the links that are kept and by those of the state
 pub provided-kept : (s : State) (known : Known) → AreLinksOf s known → (dir item : ℕ) → provide s (column (found_in known) item) dir item ≡ provide s (column (links s) item) dir item

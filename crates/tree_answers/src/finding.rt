@@ -23,6 +23,7 @@ impl<'a> Member for Sight<'a> {
 }
 
 /// Whether a directory found an item.
+#[tactic(auto, using(crate::proofs::FindingLemmas::found_kept))]
 pub fn is_found(linked: &LinkedState, dir: Number, item: Number) -> bool
     ensures { result ≡ has (transient_at linked.now.state dir) item }
 {
