@@ -13,6 +13,7 @@ pub mod RunLemmas
 pub mod PlayedLemmas
 pub mod LineLemmas
 pub mod OpenedLemmas
+pub mod OpeningLemmas
 pub mod AttachLemmas
 pub mod UnattachedLemmas
 pub mod WordSpaces
