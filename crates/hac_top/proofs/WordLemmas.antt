@@ -16,7 +16,7 @@ use Rattle.clap.specs.declared.parser.matches.ValueSource.TheVariants.{CommandLi
 use Rattle.clap.specs.Words.{matches_of}
 use Rattle.clap.specs.Simple.{built, entered, filled}
 use Rattle.hac_top.specs.Words.{hac, space_names, store_name}
-use Rattle.hac_top.proofs.WordLooks.{IsFaulty, IsPlain, Look, Looks, arguments, ends, faulty, faulty-behind, fresh, has_fault, held_with, looks, plain, same-bytes, tick, tick_with, top, two-or-more}
+use Rattle.hac_top.proofs.WordLooks.{IsFaulty, IsPlain, Look, Looks, all-pass, arguments, ends, faulty, faulty-behind, fresh, has_fault, held_with, looks, or-first, plain, same-bytes, tick, tick_with, top, two-or-more}
 
 -- ---- rows
 
@@ -363,10 +363,6 @@ Finds given kinds rows = ((has_fault kinds ≡ true) × (option_and_then asked_b
 abbrev FindsFrom : Option Parsed → Walk → List Text → Type 0
 FindsFrom given walk words = Finds given (fault_from walk words) (rows_from walk words)
 
-or-first : (a b : Kinds) → has_fault a ≡ true → has_fault (or_else a b) ≡ true
-or-first [] b fails = absurd (true≢false (sym fails))
-or-first (kind ∷ kinds) b fails = fails
-
 -- ---- no more words
 
 same-both : {T : Type 0} (b : Bool) (x : T) → cond b x x ≡ x
@@ -376,9 +372,6 @@ same-both false x = refl
 or-true : {T : Type 0} (b : Bool) (x y : T) → cond (b || true) x y ≡ x
 or-true true x y = refl
 or-true false x y = refl
-
-all-pass : (a b c d : Kinds) → a ≡ [] → b ≡ [] → c ≡ [] → d ≡ [] → or_else a (or_else b (or_else c (or_else d []))) ≡ []
-all-pass a b c d first second third fourth = rw (first, second, third, fourth) refl
 
 abbrev default_row : Row
 default_row = record { id = codes "new"; values = codes "false" ∷ []; count = None; source = Some DefaultValue; reading = AsWritten }

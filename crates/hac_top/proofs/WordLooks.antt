@@ -7,7 +7,7 @@ use Rattle.std.proofs.lemmas.Slice.Eq.{bytes_eq-Decides}
 use Rattle.std.proofs.lemmas.Str.{IsUtf8-past_char, encode_ascii, encodes-chars}
 use Rattle.hac_model.specs.Script.CommandLine.{begins_tick, ends_options, given_behind_tick, given_by, is_dashed, is_new, is_tick_word, with_name, with_tick}
 use Rattle.clap.specs.Lexer.{has_byte}
-use Rattle.clap.specs.Kinds.{Kinds}
+use Rattle.clap.specs.Kinds.{Kinds, or_else}
 use Rattle.clap.specs.Faults.{bundle_step_fault, flags_fault, word_fault}
 use Rattle.clap.specs.Simple.{Shape, built}
 use Rattle.clap.specs.Walk.{Held, Row, Rule, Text, Waiting, idle, option, positional, plain_word, word_met}
@@ -24,6 +24,13 @@ arguments = top.rules
 abbrev pub has_fault : Kinds → Bool
 has_fault [] = false
 has_fault (kind ∷ kinds) = true
+
+pub or-first : (a b : Kinds) → has_fault a ≡ true → has_fault (or_else a b) ≡ true
+or-first [] b fails = absurd (true≢false (sym fails))
+or-first (kind ∷ kinds) b fails = fails
+
+pub all-pass : (a b c d : Kinds) → a ≡ [] → b ≡ [] → c ≡ [] → d ≡ [] → or_else a (or_else b (or_else c (or_else d []))) ≡ []
+all-pass a b c d first second third fourth = rw (first, second, third, fourth) refl
 
 -- what the library holds between two words
 abbrev pub held_with : List Row → Option (Text × List Text) → Held

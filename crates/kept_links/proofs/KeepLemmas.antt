@@ -1,5 +1,5 @@
 -- The links that are kept are those of the state, before and after it changes.
-use Rattle.std.proofs.Common.{◌≡◌, ℕ, zero, suc, Bool, true, List, [], ◌∷◌, ap, arith, refl, sym, subst, ◌∙◌}
+use Rattle.std.proofs.Common.{◌≡◌, ℕ, zero, suc, true, List, [], ◌∷◌, ap, arith, refl, sym, subst, ◌∙◌}
 use Rattle.std.specs.Prelude.{Option, None, IsTrue, replicate, unwrap_or}
 use Rattle.hac_model.specs.Laws.{AllHappen}
 use Rattle.hac_model.specs.Tree.{empty}
@@ -13,6 +13,7 @@ use Rattle.hac_model.specs.declared.states.State.{State}
 use Rattle.link_kinds.specs.Kinds.{Lists}
 use Rattle.kept_state.specs.After.{is_quiet}
 use Rattle.link_kinds.specs.Seen.{IsEmpty, Known, LinkListsRise, SameKinds}
+use Rattle.query_index.specs.Seen.{IsIndexOf}
 use Rattle.reeval.specs.Judging.{verdict_of}
 use Rattle.reeval.specs.Settled.{AreLinksOf, HasRoom, verdict_in}
 use Rattle.reeval.specs.Told.{news_on, told}
@@ -52,8 +53,8 @@ nothing-wanted known delta none = subst (λ (changes : List Change). HasRoom kno
 -- The way to all semantic directories.
 
 -- none is there beside the root alone
-pub way-root : (way : Way) → way.stops.items ≡ [] → IsWayOf empty way
-way-root way none = record { order = []; ordered = tt; all = λ dir some. absurd (some refl); stops = none; lends = λ not_any dir. refl }
+pub way-root : (way : Way) → way.stops.items ≡ [] → IsIndexOf [] way.index → IsWayOf empty way
+way-root way none index = record { order = []; ordered = tt; all = λ dir some. absurd (some refl); stops = none; index = index; lends = λ not_any dir. refl }
 
 -- what is ready for nothing leaves it
 pub nothing-next : (s : State) (ready : List Event) (way : Way) (next : Option Way) → ready ≡ [] → next ≡ None → IsWayOf s way → IsWayOf (apply_all s ready) (unwrap_or next way)

@@ -7,4 +7,5 @@ pub mod TaskLemmas
 pub mod EdgeLemmas
 pub mod IndexedLemmas
 pub mod StepLemmas
+pub mod TextLemmas
 pub mod BatchLemmas

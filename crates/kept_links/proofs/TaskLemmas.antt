@@ -1,7 +1,7 @@
 -- What is judged again after an event is enough.
 use Rattle.std.proofs.Common.{◌≡◌, ℕ, zero, Bool, true, false, List, [], ◌∷◌, ap, arith, inl, inr, refl, subst, sym, ◌∙◌}
 use Rattle.std.proofs.lemmas.Bool.{eqb-true}
-use Rattle.std.specs.Prelude.{◌==◌, ◌≢◌, ◌++◌, ◌&&◌, ◌||◌, if◌then◌else◌, not, length, Option, Some, None, IsTrue, is_some, option_and_then}
+use Rattle.std.specs.Prelude.{◌==◌, ◌≢◌, ◌++◌, ◌&&◌, ◌||◌, if◌then◌else◌, not, length, map, Option, Some, None, IsTrue, is_some, option_and_then}
 use Rattle.std.specs.List.{list_any}
 use Rattle.std.specs.Option.{option_map, option_map_or}
 use Rattle.dep_graph.specs.Searches.{EachOnce, IsCone, IsOrdered}
@@ -9,7 +9,7 @@ use Rattle.hac_model.specs.Query.Formula.{Formula}
 use Rattle.hac_model.specs.Tree.Depends.{Among, depends, named_in}
 use Rattle.hac_model.specs.Tree.Events.{accepted, apply}
 use Rattle.hac_model.specs.Tree.Links.{has, is_item, is_judged, is_lent, is_semantic, is_unmarked, lenders, parent_of, provide, query_at, satisfies}
-use Rattle.hac_model.specs.Tree.Touched.{begins, is_the, touched, touches}
+use Rattle.hac_model.specs.Tree.Touched.{begins, touched, touches}
 use Rattle.hac_model.specs.Tree.Valid.{IsValid}
 use Rattle.hac_model.specs.Tree.{entry_at, is_document, is_linkable, shown_text}
 use Rattle.hac_model.specs.declared.events.Event.{Event}
@@ -20,10 +20,10 @@ use Rattle.hac_model.specs.declared.states.State.{State}
 use Rattle.hac_model.proofs.AcyclicLemmas.{apply-valid}
 use Rattle.hac_model.proofs.ChangeLemmas.{entry_at-new}
 use Rattle.hac_model.proofs.TreeLemmas.{entry_at-next}
+use Rattle.query_index.specs.Seen.{IsIndexOf}
 use Rattle.reeval.specs.Judging.{is_linked, no_verdict, verdict_of}
 use Rattle.reeval.proofs.JudgeLemmas.{links-judged}
-use Rattle.reeval.specs.Routes.{Covers, IsRoute}
-use Rattle.reeval.specs.Settled.{IsPlanned}
+use Rattle.reeval.specs.Routes.{Covers}
 use Rattle.reeval.specs.declared.planning.Task.{Task}
 use Rattle.reeval.specs.declared.settling.Stop.{Stop}
 use Rattle.reeval.proofs.EventsLeave.{event-owes, events-leave}
@@ -46,7 +46,7 @@ depends-semantic s dir = elim (query_at s dir) as (λ o. option_map_or (λ (quer
   | Some query ↦ (λ _. refl)
 ]
 
-semantic-depends : (s : State) (dir : ℕ) → is_semantic s dir ≡ true → depends s dir ≢ []
+pub semantic-depends : (s : State) (dir : ℕ) → is_semantic s dir ≡ true → depends s dir ≢ []
 semantic-depends s dir = elim (query_at s dir) as (λ o. is_some o ≡ true → option_map_or (λ (query : Formula ℕ). parent_of s dir ∷ (named_in query ++ lenders s dir)) o [] ≢ []) [
   | None ↦ (λ never. absurd cc)
   | Some query ↦ (λ _ none. absurd cc)
@@ -97,14 +97,15 @@ with-rest : (first : ℕ) (ns : List ℕ) (n : ℕ) → Among ns n → Among (wi
 with-rest first ns n is = elim (has ns first) as (λ b. Among (if b then ns else first ∷ ns) n) [ true ↦ is | false ↦ inr is ]
 
 pub way-from : (s t : State) (first : ℕ) (way : Way) (known dirs order : List ℕ) → dirs ≡ with_first first known → ((dir : ℕ) → depends s dir ≢ [] → Among known dir) → IsCone (depends t) dirs order →
-    way.stops.items ≡ stops_everywhere order → way.lends ≡ list_any (λ dir. not (length (lenders t dir) == 0)) order → IsWayFrom s t first way
-way-from s t first way known dirs order are all cone stops lends = record {
+    way.stops.items ≡ stops_everywhere order → IsIndexOf (map (query_at t) order) way.index → way.lends ≡ list_any (λ dir. not (length (lenders t dir) == 0)) order → IsWayFrom s t first way
+way-from s t first way known dirs order are all cone stops index lends = record {
   dirs = dirs;
   order = order;
   here = subst (λ (ns : List ℕ). Among ns first) (sym are) (with-here first known);
   known = λ dir some. subst (λ (ns : List ℕ). Among ns dir) (sym are) (with-rest first known dir (all dir some));
   cone = cone;
   stops = stops;
+  index = index;
   lends = lends;
 }
 
@@ -188,6 +189,7 @@ module _ (s : State) (event : Event) (valid : IsValid s) (ok : IsTrue (accepted 
     ordered = ordered-same (depends s) (depends t) (edges-still s valid event ok never) w.order w.ordered;
     all = λ dir some. w.all dir (λ none. some (sym (edges-still s valid event ok never dir) ∙ none));
     stops = w.stops;
+    index = subst (λ (queries : List (Option (Formula ℕ))). IsIndexOf queries way.index) (λ i. map (λ dir. asks-still s valid event ok dir (never dir) i) w.order) w.index;
     lends = λ not_any dir. lends-still s valid event ok never dir (w.lends not_any dir);
   }
 
@@ -198,6 +200,7 @@ module _ (s : State) (event : Event) (valid : IsValid s) (ok : IsTrue (accepted 
     ordered = w.cone.ordered;
     all = there;
     stops = w.stops;
+    index = w.index;
     lends = λ not_any dir. none-lent not_any dir (is_semantic t dir) refl;
   }
     where

@@ -1,46 +1,55 @@
 -- The ways on which items are judged again lead to each directory behind those on which it depends.
-use Rattle.std.proofs.Common.{◌≡◌, ℕ, zero, suc, Bool, true, false, List, [], ◌∷◌, ap, eq-eqb, inl, inr, refl, subst, sym, ◌∙◌}
+use Rattle.std.proofs.Common.{◌≡◌, ℕ, zero, suc, ◌+◌, ◌<◌, Bool, true, false, List, [], ◌∷◌, length, get_or, ap, eq-eqb, inl, inr, refl, subst, sym, ◌∙◌}
 use Rattle.std.proofs.lemmas.Bool.{eqb-true}
-use Rattle.std.specs.Prelude.{◌&&◌, ◌||◌, ◌==◌, ◌++◌, ◌≢◌, if◌then◌else◌, Option, Some, None, is_some}
+use Rattle.std.proofs.lemmas.List.{map_more}
+use Rattle.std.specs.Prelude.{◌&&◌, ◌||◌, ◌==◌, ◌++◌, ◌≢◌, if◌then◌else◌, map, take, Option, Some, None, is_some}
 use Rattle.std.specs.Option.{option_map_or}
-use Rattle.dep_graph.specs.Searches.{IsCone, IsOrdered, ReachesAny}
+use Rattle.dep_graph.specs.Searches.{IsCone, IsOrdered}
 use Rattle.hac_model.specs.Query.Formula.{Formula}
-use Rattle.hac_model.specs.Tree.Depends.{Among, Leads, Reaches, depends, named_in}
+use Rattle.hac_model.specs.Tree.Depends.{Among, Reaches, depends, named_in}
 use Rattle.hac_model.specs.Tree.Links.{has, is_semantic, lenders, parent_of, query_at}
 use Rattle.hac_model.specs.Tree.Valid.{IsValid}
 use Rattle.hac_model.specs.declared.states.State.{State}
 use Rattle.reeval.specs.Judging.{LeavesAlike}
 use Rattle.reeval.specs.Routes.{Covers, IsRoute, begins_at, dirs_of}
-use Rattle.reeval.specs.declared.settling.Stop.{Stop}
 use Rattle.reeval.proofs.AlikeLemmas.{touched-leave}
 use Rattle.reeval.proofs.PlanLemmas.{begins-more}
-use Rattle.reeval.proofs.SettleLemmas.{among-has, has-among}
-use Rattle.kept_links.specs.Ways.{stops_everywhere, stops_from, with_first}
+use Rattle.reeval.proofs.SettleLemmas.{among-has}
+use Rattle.kept_links.specs.Ways.{stops_at, stops_everywhere, stops_from, with_first}
 
 -- what has edges isn't without
 some-edges : (edges : List ℕ) (n : ℕ) → Among edges n → edges ≢ []
 some-edges [] n h = absurd h
 some-edges (edge ∷ edges) n h = λ none. absurd cc
 
--- Everywhere.
+-- Stops.
 
-dirs-everywhere : (dirs : List ℕ) → dirs_of (stops_everywhere dirs) ≡ dirs
-dirs-everywhere [] = refl
-dirs-everywhere (dir ∷ dirs) = ap (λ (more : List ℕ). dir ∷ more) (dirs-everywhere dirs)
+dirs-at : (begins : ℕ → Bool) (dirs : List ℕ) → dirs_of (stops_at begins dirs) ≡ dirs
+dirs-at begins [] = refl
+dirs-at begins (dir ∷ dirs) = ap (λ (more : List ℕ). dir ∷ more) (dirs-at begins dirs)
 
-begins-everywhere : (dirs : List ℕ) (dir : ℕ) → begins_at (stops_everywhere dirs) dir ≡ has dirs dir
-begins-everywhere [] dir = refl
-begins-everywhere (first ∷ dirs) dir = λ i. and-true (first == dir) i || begins-everywhere dirs dir i
+begins-at : (begins : ℕ → Bool) (dirs : List ℕ) (dir : ℕ) → begins_at (stops_at begins dirs) dir ≡ (has dirs dir && begins dir)
+begins-at begins [] dir = refl
+begins-at begins (first ∷ dirs) dir =
+    ap (λ (b : Bool). (first == dir && begins first) || b) (begins-at begins dirs dir)
+    ∙ (elim (first == dir) as (λ b. (first == dir) ≡ b → ((b && begins first) || (has dirs dir && begins dir)) ≡ ((b || has dirs dir) && begins dir)) [
+      | true ↦ (λ same. ap (λ (n : ℕ). begins n || (has dirs dir && begins dir)) (eqb-true first dir same) ∙ absorbed (begins dir) (has dirs dir))
+      | false ↦ (λ _. refl)
+    ] refl)
   where
-    and-true : (b : Bool) → (b && true) ≡ b
-    and-true true = refl
-    and-true false = refl
+    absorbed : (a b : Bool) → (a || (b && a)) ≡ a
+    absorbed true b = refl
+    absorbed false true = refl
+    absorbed false false = refl
 
-route-everywhere : (edges : ℕ → List ℕ) (dirs : List ℕ) → IsOrdered edges dirs → ((q : ℕ) → edges q ≢ [] → Among dirs q) → IsRoute edges (stops_everywhere dirs)
-route-everywhere edges dirs ordered all = record {
-  ordered = subst (IsOrdered edges) (sym (dirs-everywhere dirs)) ordered;
-  closed = λ dir e edge _. subst (λ (numbers : List ℕ). Among numbers dir) (sym (dirs-everywhere dirs)) (all dir (some-edges (edges dir) e edge));
+-- the way to all directories that depend on something
+route-at : (edges : ℕ → List ℕ) (begins : ℕ → Bool) (dirs : List ℕ) → IsOrdered edges dirs → ((q : ℕ) → edges q ≢ [] → Among dirs q) → IsRoute edges (stops_at begins dirs)
+route-at edges begins dirs ordered all = record {
+  ordered = subst (IsOrdered edges) (sym (dirs-at begins dirs)) ordered;
+  closed = λ dir e edge _. subst (λ (numbers : List ℕ). Among numbers dir) (sym (dirs-at begins dirs)) (all dir (some-edges (edges dir) e edge));
 }
+
+-- Everywhere.
 
 -- what has no edges isn't semantic
 unasked : (t : State) (dir : ℕ) → (depends t dir ≢ [] → ⊥) → is_semantic t dir ≡ false
@@ -49,34 +58,45 @@ unasked t dir none = elim (query_at t dir) as (λ o. (option_map_or (λ (query :
   | Some query ↦ (λ none. absurd (none (λ same. absurd cc)))
 ] none
 
+and-true : (b : Bool) → (b && true) ≡ b
+and-true true = refl
+and-true false = refl
+
 pub covers-everywhere : (s t : State) (dirs : List ℕ) → IsValid s → IsValid t → IsOrdered (depends t) dirs → ((q : ℕ) → depends t q ≢ [] → Among dirs q) →
     ((dir : ℕ) → is_semantic s dir ≡ is_semantic t dir) → (item : ℕ) → Covers s t (stops_everywhere dirs) item
 covers-everywhere s t dirs before after ordered all same item = record {
   before = before;
   after = after;
-  route = route-everywhere (depends t) dirs ordered all;
+  route = route-at (depends t) (λ dir. true) dirs ordered all;
   alike = begins-more s t item (λ dir. is_semantic s dir || is_semantic t dir) (begins_at (stops_everywhere dirs)) within (touched-leave s t item);
 }
   where
     within : (dir : ℕ) → begins_at (stops_everywhere dirs) dir ≡ false → (is_semantic s dir || is_semantic t dir) ≡ false
     within dir out =
-        let absent : has dirs dir ≡ false = sym (begins-everywhere dirs dir) ∙ out in
+        let absent : has dirs dir ≡ false = sym (and-true (has dirs dir)) ∙ sym (begins-at (λ dir. true) dirs dir) ∙ out in
         let plain : is_semantic t dir ≡ false = unasked t dir (λ some. let inside = among-has dirs dir (all dir some) in absurd cc) in
         (λ i. (same dir ∙ plain) i || plain i)
 
+-- Where judging begins at some directories, all of them on the way.
+
+pub covers-at : (s t : State) (begins : ℕ → Bool) (dirs : List ℕ) → IsValid s → IsValid t → IsOrdered (depends t) dirs → ((q : ℕ) → depends t q ≢ [] → Among dirs q) →
+    ((dir : ℕ) → begins dir ≡ true → depends t dir ≢ []) → (item : ℕ) → LeavesAlike s t begins item → Covers s t (stops_at begins dirs) item
+covers-at s t begins dirs before after ordered all asked item alike = record {
+  before = before;
+  after = after;
+  route = route-at (depends t) begins dirs ordered all;
+  alike = begins-more s t item begins (begins_at (stops_at begins dirs)) within alike;
+}
+  where
+    within : (dir : ℕ) → begins_at (stops_at begins dirs) dir ≡ false → begins dir ≡ false
+    within dir out = elim (begins dir) as (λ b. begins dir ≡ b → b ≡ false) [
+      | true ↦ (λ is. let inside : has dirs dir ≡ true = among-has dirs dir (all dir (asked dir is)) in
+          let never : begins_at (stops_at begins dirs) dir ≡ true = begins-at begins dirs dir ∙ (λ i. inside i && is i) in
+          absurd cc)
+      | false ↦ (λ _. refl)
+    ] refl
+
 -- From one directory on.
-
-dirs-from : (first : ℕ) (dirs : List ℕ) → dirs_of (stops_from first dirs) ≡ dirs
-dirs-from first [] = refl
-dirs-from first (dir ∷ dirs) = ap (λ (more : List ℕ). dir ∷ more) (dirs-from first dirs)
-
--- judging begins at the first
-begins-first : (first : ℕ) (dirs : List ℕ) → has dirs first ≡ true → begins_at (stops_from first dirs) first ≡ true
-begins-first first [] is = absurd cc
-begins-first first (dir ∷ dirs) is = elim (dir == first) as (λ b. (b || has dirs first) ≡ true → ((b && b) || begins_at (stops_from first dirs) first) ≡ true) [
-  | true ↦ (λ _. refl)
-  | false ↦ (λ more. begins-first first dirs more)
-] is
 
 module _ (edges : ℕ → List ℕ) (first : ℕ) (cone : List ℕ) (h : IsCone edges (first ∷ []) cone) where
   abbrev pub dirs : List ℕ
@@ -113,10 +133,10 @@ module _ (edges : ℕ → List ℕ) (first : ℕ) (cone : List ℕ) (h : IsCone 
 
   pub route-from : IsRoute edges (stops_from first dirs)
   route-from = record {
-    ordered = subst (IsOrdered edges) (sym (dirs-from first dirs)) ordered;
+    ordered = subst (IsOrdered edges) (sym (dirs-at (λ dir. dir == first) dirs)) ordered;
     closed = λ dir e edge is.
-        let way = reaches-first e (subst (λ (numbers : List ℕ). Among numbers e) (dirs-from first dirs) is) in
-        subst (λ (numbers : List ℕ). Among numbers dir) (sym (dirs-from first dirs))
+        let way = reaches-first e (subst (λ (numbers : List ℕ). Among numbers e) (dirs-at (λ dir. dir == first) dirs) is) in
+        subst (λ (numbers : List ℕ). Among numbers dir) (sym (dirs-at (λ dir. dir == first) dirs))
         (inside dir (h.all dir (some-edges (edges dir) e edge) (first, inl refl, (suc way.0, (e, edge, way.1)))));
   }
 
@@ -131,6 +151,15 @@ covers-from s t first cone begins before after h is item alike = record {
   where
     within : (dir : ℕ) → begins_at (stops_from first (with_first first cone)) dir ≡ false → begins dir ≡ false
     within dir out = is dir ∙ (elim (dir == first) as (λ b. (dir == first) ≡ b → b ≡ false) [
-      | true ↦ (λ same. let begun : begins_at (stops_from first (with_first first cone)) dir ≡ true = ap (begins_at (stops_from first (with_first first cone))) (eqb-true dir first same) ∙ begins-first first (with_first first cone) (first-there (depends t) first cone h) in absurd cc)
+      | true ↦ (λ same.
+          let there : has (with_first first cone) dir ≡ true = ap (has (with_first first cone)) (eqb-true dir first same) ∙ first-there (depends t) first cone h in
+          let begun : begins_at (stops_from first (with_first first cone)) dir ≡ true = begins-at (λ d. d == first) (with_first first cone) dir ∙ (λ i. there i && same i) in
+          absurd cc)
       | false ↦ (λ _. refl)
     ] refl)
+
+-- The queries of directories, with that of the next.
+pub queries-more : (s : State) (dirs : List ℕ) (i dir : ℕ) (query : Option (Formula ℕ)) → i < length dirs → dir ≡ get_or dirs i dir → query ≡ query_at s dir → map (query_at s) (take i dirs) ++ query ∷ [] ≡ map (query_at s) (take (i + 1) dirs)
+queries-more s dirs i dir query less is asks =
+    ap (λ (o : Option (Formula ℕ)). map (query_at s) (take i dirs) ++ o ∷ []) (asks ∙ ap (query_at s) is)
+    ∙ sym (map_more (query_at s) dirs i dir less)

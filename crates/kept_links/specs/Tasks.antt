@@ -1,12 +1,13 @@
 -- What is judged again after an event.
-use Rattle.std.specs.Prelude.{◌≡◌, ◌≢◌, ℕ, List, [], ◌∷◌, length, not, ◌==◌}
+use Rattle.std.specs.Prelude.{◌≡◌, ◌≢◌, ℕ, List, [], ◌∷◌, length, map, not, ◌==◌}
 use Rattle.std.specs.List.{list_any}
 use Rattle.dep_graph.specs.Searches.{EachOnce, IsCone}
 use Rattle.hac_model.specs.Tree.Depends.{Among, depends}
 use Rattle.hac_model.specs.Tree.Events.{apply}
-use Rattle.hac_model.specs.Tree.Links.{lenders}
+use Rattle.hac_model.specs.Tree.Links.{lenders, query_at}
 use Rattle.hac_model.specs.declared.events.Event.{Event}
 use Rattle.hac_model.specs.declared.states.State.{State}
+use Rattle.query_index.specs.Seen.{IsIndexOf}
 use Rattle.reeval.specs.Settled.{IsPlanned}
 use Rattle.reeval.specs.declared.planning.Task.{Task}
 use Rattle.reeval.specs.declared.settling.Stop.{Stop}
@@ -22,6 +23,7 @@ pub record IsWayFrom (s t : State) (first : ℕ) (way : Way) : Type 0 where
   pub known : (dir : ℕ) → depends s dir ≢ [] → Among dirs dir
   pub cone : IsCone (depends t) dirs order
   pub stops : way.stops.items ≡ stops_everywhere order
+  pub index : IsIndexOf (map (query_at t) order) way.index
   pub lends : way.lends ≡ list_any (λ dir. not (length (lenders t dir) == 0)) order
 
 -- the stops are at one directory, where judging begins, and at those that depend on it, in order

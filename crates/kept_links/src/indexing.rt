@@ -41,7 +41,7 @@ impl<'a> Indexing<'a> {
     }
 
     /// The text that an item will show.
-    fn shown(&self, item: Number) -> Option<&[u8]>
+    pub(crate) fn shown(&self, item: Number) -> Option<&[u8]>
         ensures { option_copied result
             ≡ shown_of (indexed_through self.now.last self.now.kept.now.state) item }
     {

@@ -19,6 +19,7 @@ use hac_model::{Counts, Event, Memory, Name, Number, Term};
 use hac_words::has_term;
 use kept_state::KeptState;
 use link_kinds::Links;
+use query_index::QueryIndex;
 use reeval::{Change, apply, reserve};
 use std::alloc::Global;
 use std::marker::Model;
@@ -60,6 +61,7 @@ impl LinkedState {
             found: Links::new(alloc)?,
             way: Way {
                 stops: Vec::new(alloc),
+                index: QueryIndex::new(alloc),
                 lends: false,
             },
             delta: Vec::new(alloc),

@@ -20,7 +20,7 @@ use reeval::{Change, plan, reserve};
 use std::alloc::Global;
 
 /// What is new behind an event.
-#[derive(Debug, Drop)]
+#[derive(Drop)]
 pub(crate) struct News {
     /// The new verdicts.
     pub(crate) delta: Vec<Change>,
@@ -117,7 +117,7 @@ fn news_from(
 {
     kept.know_valid();
     let outlook = Outlook::new(kept, event);
-    let way = way_next(alloc, kept, first)?;
+    let way = way_next(alloc, kept, &outlook, first)?;
     let task = task_from(alloc, kept, &outlook, event, &way, first)?;
     let delta = plan(alloc, &outlook, &outlook, &Past { kept, found }, &task)?;
     Ok(News {

@@ -1,19 +1,21 @@
 //! What is judged again after an event, and on which ways.
-ghost use Rattle.std.specs.Prelude.{◌≡◌, ◌==◌, ℕ, IfOk, IsTrue, false, length, not};
+ghost use Rattle.std.specs.Prelude.{◌≡◌, ◌==◌, ℕ, IfOk, IsTrue, false, length, map, not};
 ghost use Rattle.std.specs.List.{list_any};
 ghost use Rattle.hac_model.specs.Tree.Events.{accepted, apply};
-ghost use Rattle.hac_model.specs.Tree.Links.{lenders};
+ghost use Rattle.hac_model.specs.Tree.Links.{lenders, query_at};
 ghost use Rattle.hac_model.specs.Tree.Touched.{begins};
 ghost use Rattle.kept_links.specs.Tasks.{AreAlong, IsTaskOf, IsWayFrom};
 ghost use Rattle.kept_links.specs.Ways.{IsWayOf};
 ghost use Rattle.kept_state.specs.After.{next_state};
+ghost use Rattle.query_index.specs.Seen.{IsIndexOf};
 
 use crate::items::{other_items, touched_items};
 use crate::outlook::Outlook;
 use crate::ways::{Way, stops_everywhere, stops_from, with_first};
 use hac_model::{Event, Memory, Number};
 use kept_state::KeptState;
-use reeval::{Stop, Task};
+use query_index::QueryIndex;
+use reeval::{Layout, Stop, Task};
 use std::alloc::Global;
 
 /// The task of an event that begins at no directory: the items that it touches, on the way that is
@@ -70,7 +72,13 @@ pub(crate) fn task_from(
 }
 
 /// The way to all semantic directories behind an event, which begins at a directory.
-pub(crate) fn way_next(alloc: Global, kept: &KeptState, first: Number) -> Result<Way, Memory>
+pub(crate) fn way_next(
+    alloc: Global,
+    kept: &KeptState,
+    outlook: &Outlook<'_>,
+    first: Number,
+) -> Result<Way, Memory>
+    requires { outlook.now ≡ next_state kept.now }
     ensures { IfOk result (λ way. IsWayFrom kept.now.state (next_state kept.now) first way) }
 {
     let known = kept.graph().directories()?;
@@ -78,8 +86,20 @@ pub(crate) fn way_next(alloc: Global, kept: &KeptState, first: Number) -> Result
     let order = kept.cone_next(alloc, dirs.as_slice())?;
     Ok(Way {
         stops: stops_everywhere(alloc, order.as_slice())?,
+        index: index_next(alloc, outlook, order.as_slice())?,
         lends: lends_next(kept, order.as_slice()),
     })
+}
+
+/// The queries that directories will have, each at the place of its directory.
+fn index_next(alloc: Global, outlook: &Outlook<'_>, dirs: &[Number]) -> Result<QueryIndex, Memory>
+    ensures { IfOk result (IsIndexOf (map (query_at outlook.now) dirs.now)) }
+{
+    let mut index = QueryIndex::new(alloc);
+    for dir in dirs {
+        index = index.with(outlook.query(*dir))?;
+    }
+    Ok(index)
 }
 
 /// Whether directories will have been added to some of these.

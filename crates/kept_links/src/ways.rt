@@ -1,16 +1,19 @@
 //! The ways on which items are judged again after an event.
-ghost use Rattle.std.specs.Prelude.{◌≡◌, IfOk};
-ghost use Rattle.kept_links.specs.Ways.{stops_everywhere, stops_from, with_first};
+ghost use Rattle.std.specs.Prelude.{◌≡◌, IfOk, length};
+ghost use Rattle.kept_links.specs.Ways.{stops_everywhere, stops_from, stops_marked, with_first};
 
 use hac_model::{Memory, Number};
+use query_index::QueryIndex;
 use reeval::Stop;
 use std::alloc::Global;
 
 /// All semantic directories, on the way of an item that may be judged in each.
-#[derive(Debug, Drop)]
+#[derive(Drop)]
 pub(crate) struct Way {
     /// A stop at each, behind those on which it depends. Judging begins at each.
     pub(crate) stops: Vec<Stop>,
+    /// Their queries, in the same order.
+    pub(crate) index: QueryIndex,
     /// Whether directories may have been added to some of them.
     pub(crate) lends: bool,
 }
@@ -41,6 +44,25 @@ pub(crate) fn stops_from(alloc: Global, first: Number, dirs: &[Number]) -> Resul
         })?;
     }
     Ok(stops)
+}
+
+/// The same stops, where judging begins at those that are marked.
+pub(crate) fn stops_marked(
+    alloc: Global,
+    stops: &[Stop],
+    marks: &[bool],
+) -> Result<Vec<Stop>, Memory>
+    requires { length marks.now ≡ length stops.now }
+    ensures { IfOk result (λ marked. marked.items ≡ stops_marked stops.now marks.now) }
+{
+    let mut marked = Vec::new(alloc);
+    for place in 0..stops.len() {
+        marked.push(Stop {
+            dir: stops[place].dir,
+            begins: marks[place],
+        })?;
+    }
+    Ok(marked)
 }
 
 /// Directories, with one in front if it isn't among them.

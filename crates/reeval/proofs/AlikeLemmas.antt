@@ -1,5 +1,5 @@
 -- What a directory says of an item, and provides of it, from one state to another that tells alike what this needs.
-use Rattle.std.proofs.Common.{◌≡◌, ℕ, Bool, false, List, [], ◌∷◌, subst, refl, ap, sym, ◌∙◌, inl, inr}
+use Rattle.std.proofs.Common.{◌≡◌, ℕ, Bool, true, false, List, [], ◌∷◌, subst, refl, ap, sym, ◌∙◌, inl, inr}
 use Rattle.std.specs.Prelude.{◌&&◌, ◌||◌, ◌++◌, not, Option, Some, None, is_some}
 use Rattle.std.specs.List.{AllByRecursion, list_any}
 use Rattle.std.specs.Option.{option_map_or}
@@ -8,7 +8,7 @@ use Rattle.hac_model.specs.Query.Formula.{Formula}
 use Rattle.hac_model.specs.Query.Formula as query
 use Rattle.hac_model.specs.Query.Queries.{terms_of}
 use Rattle.hac_model.specs.Tree.Depends.{Among, depends, named_in}
-use Rattle.hac_model.specs.Tree.Links.{atom, holds, is_item, is_judged, is_lent, is_permanent, is_prohibited, is_semantic, lenders, parent_of, passes, provide, query_at, satisfies}
+use Rattle.hac_model.specs.Tree.Links.{atom, holds, is_item, is_judged, is_lent, is_permanent, is_prohibited, is_semantic, is_unmarked, lenders, parent_of, passes, provide, query_at, satisfies}
 use Rattle.hac_model.specs.declared.states.State.{State}
 use Rattle.hac_model.proofs.AmongLemmas.{among-left, among-right}
 use Rattle.hac_model.proofs.KeepingLemmas.{all-parted}
@@ -85,6 +85,14 @@ satisfied s a dir item asked at = ap (λ (o : Option (Formula ℕ)). option_map_
 pub depends-asked : (s : State) (dir : ℕ) (asked : Formula ℕ) → query_at s dir ≡ Some asked → depends s dir ≡ parent_of s dir ∷ (named_in asked ++ lenders s dir)
 depends-asked s dir asked at = ap (λ (o : Option (Formula ℕ)). option_map_or (λ (query : Formula ℕ). parent_of s dir ∷ named_in query ++ lenders s dir) o []) at
 
+-- what is lent to it is what its lenders provide
+lent-across : (s t : State) (item dir : ℕ) (asked : Formula ℕ) (a b : ℕ → Bool) → query_at t dir ≡ Some asked → lenders s dir ≡ lenders t dir →
+    ((e : ℕ) → Among (depends t dir) e → provide s a e item ≡ provide t b e item) → is_lent s a dir item ≡ is_lent t b dir item
+lent-across s t item dir asked a b after lending same =
+    ap (λ (dirs : List ℕ). list_any (λ lender. provide s a lender item) dirs) lending
+    ∙ any-agree (λ lender. provide s a lender item) (λ lender. provide t b lender item) (lenders t dir)
+    (λ e inside. same e (subst (λ (es : List ℕ). Among es e) (sym (depends-asked t dir asked after)) (inr (among-right (named_in asked) (lenders t dir) e inside))))
+
 -- a directory says the same of an item by the same inputs, if those on which it depends provide the item alike
 pub judge-across : (s t : State) (item dir : ℕ) (asked : Formula ℕ) → SameInputs s t item dir asked → JudgesAlike s t item dir
 judge-across s t item dir asked h a b same = λ i. record {
@@ -108,9 +116,29 @@ judge-across s t item dir asked h a b same = λ i. record {
         ∙ sym (satisfied t b dir item asked h.after)
 
     lent : is_lent s a dir item ≡ is_lent t b dir item
-    lent =
-        ap (λ (dirs : List ℕ). list_any (λ lender. provide s a lender item) dirs) h.lending
-        ∙ any-agree (λ lender. provide s a lender item) (λ lender. provide t b lender item) (lenders t dir) (λ e inside. edge e (inr (among-right (named_in asked) (lenders t dir) e inside)))
+    lent = lent-across s t item dir asked a b h.after h.lending same
+
+-- nor does it find an item in either state that wasn't judged before and doesn't satisfy the query behind
+pub unfound-across : (s t : State) (item dir : ℕ) (asked : Formula ℕ) → query_at s dir ≡ Some asked → query_at t dir ≡ Some asked → is_item s item ≡ is_item t item → lenders s dir ≡ lenders t dir →
+    is_judged s item ≡ false → ((b : ℕ → Bool) → satisfies t b dir item ≡ false) → JudgesAlike s t item dir
+unfound-across s t item dir asked before after items lending unjudged fails a b same = λ i. record {
+  found = (out (is_some (query_at s dir) && is_item s item) (provide s a (parent_of s dir) item) (is_judged s item) (satisfies s a dir item) (is_unmarked s dir item) unjudged
+      ∙ sym (out-behind (is_some (query_at t dir) && is_item t item) (provide t b (parent_of t dir) item) (is_judged t item) (satisfies t b dir item) (is_unmarked t dir item) (fails b))) i;
+  lent = (is_some ((before ∙ sym after) i) && items i) && lent-across s t item dir asked a b after lending same i;
+}
+  where
+    out : (x p q r u : Bool) → q ≡ false → (x && (p && q && r && u)) ≡ false
+    out x p true r u h = absurd cc
+    out true true false r u h = refl
+    out true false false r u h = refl
+    out false p false r u h = refl
+
+    out-behind : (x p q r u : Bool) → r ≡ false → (x && (p && q && r && u)) ≡ false
+    out-behind x p q true u h = absurd cc
+    out-behind false p q false u h = refl
+    out-behind true false q false u h = refl
+    out-behind true true true false u h = refl
+    out-behind true true false false u h = refl
 
 pub none-across : (s t : State) (item dir : ℕ) → query_at s dir ≡ None → query_at t dir ≡ None → JudgesAlike s t item dir
 none-across s t item dir before after a b same =

@@ -1,8 +1,8 @@
 -- The verdicts on one item, directory by directory, on a way that leads to each behind those on which it depends.
-use Rattle.std.proofs.Common.{◌≡◌, ℕ, zero, suc, Bool, true, false, List, [], ◌∷◌, refl, ap, sym, subst, ◌∙◌, eq-eqb, inl, inr}
+use Rattle.std.proofs.Common.{◌≡◌, ℕ, zero, suc, Bool, true, false, List, [], ◌∷◌, refl, ap, sym, subst, ◌∙◌, arith, eq-eqb, inl, inr}
 use Rattle.std.proofs.Math.Bool.{beq}
 use Rattle.std.proofs.lemmas.Bool.{eqb-true}
-use Rattle.std.specs.Prelude.{◌&&◌, ◌||◌, ◌==◌, ◌++◌, ◌⊎◌, not, if◌then◌else◌, Some, None, drop, is_some}
+use Rattle.std.specs.Prelude.{◌&&◌, ◌||◌, ◌==◌, ◌++◌, ◌⊎◌, not, if◌then◌else◌, Some, None, drop, is_some, length}
 use Rattle.std.specs.List.{list_any}
 use Rattle.std.specs.Option.{option_map_or}
 use Rattle.dep_graph.specs.Searches.{IsOrdered}
@@ -32,6 +32,15 @@ has-among (m ∷ ns) n is = elim (m == n) as (λ b. (m == n) ≡ b → (b || has
 
 pub absent : (ns : List ℕ) (n : ℕ) → ¬ Among ns n → has ns n ≡ false
 absent ns n out = elim (has ns n) as (λ b. has ns n ≡ b → b ≡ false) [ true ↦ (λ is. absurd (out (has-among ns n is))) | false ↦ (λ _. refl) ] refl
+
+-- where none moved, nothing leans on any
+none-moved : (dirs : List ℕ) → list_any (has []) dirs ≡ false
+none-moved [] = refl
+none-moved (dir ∷ dirs) = none-moved dirs
+
+pub leans-nowhere : (empty : Bool) (moved dirs : List ℕ) → empty ≡ (length moved == 0) → empty ≡ true → not empty ≡ list_any (has moved) dirs
+leans-nowhere empty [] dirs is none = ap not none ∙ sym (none-moved dirs)
+leans-nowhere empty (first ∷ moved) dirs is none = let same : length (first ∷ moved) ≡ 0 = eqb-true (length (first ∷ moved)) 0 (sym is ∙ none) in absurd (omega (arith, same))
 
 -- what a directory says of an item looks at those on which it depends
 judge-local : (t : State) (a b : ℕ → Bool) (item dir : ℕ) → ((e : ℕ) → Among (depends t dir) e → a e ≡ b e) → judgement t a item dir ≡ judgement t b item dir

@@ -3,6 +3,7 @@ ghost use Rattle.std.specs.Prelude.{◌≡◌, ◌||◌, ◌&&◌, ◌==◌, ℕ
 ghost use Rattle.std.specs.List.{list_all, list_any};
 ghost use Rattle.std.proofs.Math.Bool.{beq};
 ghost use Rattle.dep_graph.specs.Searches.{EachOnce};
+ghost use Rattle.hac_model.specs.Tree.Depends.{depends};
 ghost use Rattle.hac_model.specs.Tree.Links.{atom, column, has, links, provide};
 ghost use Rattle.reeval.specs.Judging.{is_linked, judgement, verdict_of};
 ghost use Rattle.reeval.specs.Routes.{Covers};
@@ -46,7 +47,7 @@ pub fn settle<Y: Layout, A: Atoms, B: Before>(
     let mut news = Vec::new(alloc);
     let mut moved = Vec::new(alloc);
     for stop in stops {
-        if stop.begins || leans_on(layout.depends(stop.dir), moved.as_slice()) {
+        if stop.begins || leans_on(layout, stop.dir, moved.as_slice()) {
             judge_anew(layout, atoms, before, stop.dir, item, &mut news)?;
             note_move(
                 layout,
@@ -85,11 +86,11 @@ pub fn settle_all<Y: Layout, A: Atoms, B: Before>(
     Ok(())
 }
 
-/// Whether one of these directories is among those that moved.
-fn leans_on(dirs: &[Number], moved: &[Number]) -> bool
-    ensures { result ≡ list_any (has moved.now) dirs.now }
+/// Whether a directory depends on one of those that moved. Where none moved, nothing is looked up.
+fn leans_on<Y: Layout>(layout: &Y, dir: Number, moved: &[Number]) -> bool
+    ensures { result ≡ list_any (has moved.now) (depends (Y.state layout.now) dir) }
 {
-    dirs.iter().any(|dir| moved.contains(dir))
+    !moved.is_empty() && layout.depends(dir).iter().any(|dir| moved.contains(dir))
 }
 
 /// Judges an item in a directory, and adds what it says to the news if that is new.

@@ -54,7 +54,7 @@ loop-stop-preserved g c = (
             (subst (λ (items : List Change). Settled s t c.args.item stops covers (dirs_of rest) (told items (verdict_of s c.args.item)) c.loop-stop.moved.items) (sym (λ i. (w.news-is i).items))
             (settled-by s t c.args.item stops covers c.stop-item.result.dir (dirs_of rest) known c.loop-stop.moved.items h
             (begins-there (depends t) stops c.loop-stop.stop-index c.stop-item.result rest covers.route.ordered left w.if-stop.false)
-            (sym (λ i. list_any (has (w.as_slice.ensures.value i)) (w.depends.ensures i)) ∙ sym w.leans_on.ensures ∙ w.if-leans_on.false)))
+            (sym (λ i. list_any (has (w.as_slice.ensures.value i)) (depends t c.stop-item.result.dir)) ∙ sym w.leans_on.ensures ∙ w.if-leans_on.false)))
       ],
 )
 

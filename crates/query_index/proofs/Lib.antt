@@ -1,0 +1,6 @@
+pub mod AskLemmas
+pub mod IndexLemmas
+pub mod LawLemmas
+pub mod ListLemmas
+pub mod MarkLemmas
+pub mod PostingLemmas

@@ -1,0 +1,10 @@
+//! Which of some queries ask for a word: an index from words, and from beginnings of words, to the
+//! places of the queries that ask for them. It knows no directories: a query is at a place.
+#![tactic(auto)]
+
+mod index;
+pub mod laws;
+mod postings;
+mod queries;
+
+pub use index::QueryIndex;
