@@ -1,6 +1,6 @@
 -- Lists of the numbers that pass a test, and those of the items that are judged again after an event.
 use Rattle.std.proofs.Common.{◌≡◌, ℕ, zero, suc, ◌+◌, ◌<◌, ◌≤◌, Bool, true, false, cond, List, [], ◌∷◌, ◌++◌, inl, inr, refl, ap, sym, ◌∙◌, arith}
-use Rattle.std.specs.Prelude.{not, filter, Option, Some, None, IsTrue}
+use Rattle.std.specs.Prelude.{◌&&◌, not, filter, Option, Some, None, IsTrue}
 use Rattle.std.specs.List.{range_with_len}
 use Rattle.std.specs.Option.{option_map, option_map_or}
 use Rattle.std.proofs.lemmas.Bool.{and_from, and_parts, cases_lt}
@@ -19,7 +19,7 @@ use Rattle.hac_model.proofs.TreeLemmas.{entry_at-next}
 use Rattle.hac_model.proofs.LayoutLemmas.{apply-layout}
 use Rattle.dep_graph.specs.Searches.{EachOnce}
 use Rattle.reeval.proofs.EventLemmas.{Owes, is_seen, items-seen}
-use Rattle.kept_links.specs.Items.{is_other, others}
+use Rattle.kept_links.specs.Items.{is_other, is_passed_over, others}
 
 -- Numbers that follow one another.
 
@@ -140,17 +140,18 @@ module _ (s : State) (event : Event) where
 
   pub others-untouched : (item : ℕ) → Among (others s event) item → (is_item (apply s event) item ≡ true) × (touches s event item ≡ false)
   others-untouched item among =
-      let parts = and_parts (is_item (apply s event) item) (not (touches s event item)) (filter-passes (is_other s event) (range_with_len 0 (apply s event).next) item among).0 in
+      let both = and_parts (is_item (apply s event) item && not (touches s event item)) (not (is_passed_over s event item)) (filter-passes (is_other s event) (range_with_len 0 (apply s event).next) item among).0 in
+      let parts = and_parts (is_item (apply s event) item) (not (touches s event item)) both.0 in
       (parts.0, is-not (touches s event item) parts.1)
     where
       is-not : (b : Bool) → not b ≡ true → b ≡ false
       is-not true held = sym held
       is-not false held = refl
 
-  pub untouched-others : (item : ℕ) → item < (apply s event).next → is_item (apply s event) item ≡ true → touches s event item ≡ false → Among (others s event) item
-  untouched-others item less is untouched =
+  pub untouched-others : (item : ℕ) → item < (apply s event).next → is_item (apply s event) item ≡ true → touches s event item ≡ false → is_passed_over s event item ≡ false → Among (others s event) item
+  untouched-others item less is untouched seen =
       passes-filter (is_other s event) (range_with_len 0 (apply s event).next) item
-      (and_from (is_item (apply s event) item) (not (touches s event item)) is (ap not untouched))
+      (and_from (is_item (apply s event) item && not (touches s event item)) (not (is_passed_over s event item)) (and_from (is_item (apply s event) item) (not (touches s event item)) is (ap not untouched)) (ap not seen))
       (range-in 0 (apply s event).next item (omega arith) (omega (arith, less)))
 
   -- none is in both
@@ -175,11 +176,11 @@ next-grows s Step = elim (next_dirty s.entries) as (λ o. s.next ≤ (option_map
 ]
 next-grows s other = omega arith
 
--- it is no item, before or after the event, if the event leaves alone what it doesn't touch
-pub in-neither : (s : State) (event : Event) (item : ℕ) → IsLayout s → IsTrue (accepted s event) → (touches s event item ≡ false → Owes s event item) →
+-- it is no item, before or after the event, if the event leaves alone what it doesn't touch, and doesn't pass it over
+pub in-neither : (s : State) (event : Event) (item : ℕ) → IsLayout s → IsTrue (accepted s event) → (touches s event item ≡ false → Owes s event item) → is_passed_over s event item ≡ false →
     ¬ Among (touched s event) item → ¬ Among (others s event) item →
     (is_item s item ≡ false) × (is_item (apply s event) item ≡ false)
-in-neither s event item h ok owes no-touched no-other = (before (is_item s item) refl, after)
+in-neither s event item h ok owes seen no-touched no-other = (before (is_item s item) refl, after)
   where
     -- below the next number the event doesn't touch it
     untouched : item < (apply s event).next → touches s event item ≡ false
@@ -192,7 +193,7 @@ in-neither s event item h ok owes no-touched no-other = (before (is_item s item)
     none-after : (b : Bool) → is_item (apply s event) item ≡ b → is_item (apply s event) item ≡ false
     none-after true is =
         let less = item-below (apply s event) item (apply-layout s event h ok) is in
-        absurd (no-other (untouched-others s event item less is (untouched less)))
+        absurd (no-other (untouched-others s event item less is (untouched less) seen))
     none-after false is = is
 
     stays : Owes s event item → is_item s item ≡ is_item (apply s event) item

@@ -3,6 +3,7 @@ pub mod WayLemmas
 pub mod SemanticLemmas
 pub mod ItemLemmas
 mod TouchLemmas
+pub mod NewDirLemmas
 pub mod TaskLemmas
 pub mod EdgeLemmas
 pub mod IndexedLemmas

@@ -29,13 +29,14 @@ use Rattle.reeval.specs.declared.settling.Stop.{Stop}
 use Rattle.reeval.proofs.EventsLeave.{event-owes, events-leave}
 use Rattle.reeval.proofs.PlanLemmas.{begins-more, no-item, unmoved}
 use Rattle.reeval.proofs.SettleLemmas.{has-among}
-use Rattle.kept_links.specs.Items.{others}
+use Rattle.kept_links.specs.Items.{is_passed_over, others}
 use Rattle.kept_links.specs.Kept.{is_still}
 use Rattle.kept_links.specs.Tasks.{AreAlong, IsTaskOf, IsWayFrom}
 use Rattle.kept_links.specs.Ways.{IsWayOf, stops_everywhere, with_first}
 use Rattle.kept_links.specs.declared.ways.Way.{Way}
 use Rattle.kept_links.proofs.EdgeLemmas.{edges-still, lends-still, plain-lends}
 use Rattle.kept_links.proofs.ItemLemmas.{in-neither, others-once, others-untouched, touched-apart, touched-once, touched-touches}
+use Rattle.kept_links.proofs.NewDirLemmas.{passed-over}
 use Rattle.kept_links.proofs.SemanticLemmas.{asks-still, semantic-still}
 use Rattle.kept_links.proofs.WayLemmas.{covers-everywhere, covers-from}
 
@@ -109,6 +110,29 @@ way-from s t first way known dirs order are all cone stops index lends = record 
   lends = lends;
 }
 
+-- an item that is passed over is linked where it was
+passed-still : (s : State) (event : Event) → IsValid s → IsTrue (accepted s event) → (item : ℕ) → is_passed_over s event item ≡ true → (dir : ℕ) → verdict_of s item dir ≡ verdict_of (apply s event) item dir
+passed-still s (Smkdir parent name query told) valid ok item over dir = passed-over s parent name query told valid ok item (is-not (is_judged (apply s (Smkdir parent name query told)) item) over) dir
+  where
+    is-not : (b : Bool) → not b ≡ true → b ≡ false
+    is-not true h = sym h
+    is-not false h = refl
+passed-still s (Mkdir parent name) valid ok item over dir = absurd cc
+passed-still s (NewFile parent name text) valid ok item over dir = absurd cc
+passed-still s (Rewrite file text) valid ok item over dir = absurd cc
+passed-still s (Ln parent name target) valid ok item over dir = absurd cc
+passed-still s (Setq parent query told) valid ok item over dir = absurd cc
+passed-still s (Unq parent) valid ok item over dir = absurd cc
+passed-still s (Mark mark) valid ok item over dir = absurd cc
+passed-still s (Mv entry to name) valid ok item over dir = absurd cc
+passed-still s (Rm entry) valid ok item over dir = absurd cc
+passed-still s (Rmdir parent) valid ok item over dir = absurd cc
+passed-still s (Smount parent name space documents told) valid ok item over dir = absurd cc
+passed-still s (Ssync mount documents told) valid ok item over dir = absurd cc
+passed-still s (Sumount mount) valid ok item over dir = absurd cc
+passed-still s Step valid ok item over dir = absurd cc
+passed-still s (Cd session parent) valid ok item over dir = absurd cc
+
 module _ (s : State) (event : Event) (valid : IsValid s) (ok : IsTrue (accepted s event)) where
   abbrev t : State
   t = apply s event
@@ -128,11 +152,14 @@ module _ (s : State) (event : Event) (valid : IsValid s) (ok : IsTrue (accepted 
       subst (λ (stops : List Stop). Covers s t stops item) (sym way.are)
       (covers-from s t first way.cone (begins s event) valid next-valid way.reach begun item (events-leave s event valid ok item untouched))
 
-  -- what is in neither list is no item
+  -- what is in neither list is passed over, or is no item
   neither : (item : ℕ) → ¬ Among (touched s event) item → ¬ Among (others s event) item → (dir : ℕ) → verdict_of s item dir ≡ verdict_of t item dir
-  neither item out away dir =
-      let none = in-neither s event item valid.layout ok (λ untouched. event-owes s event valid ok item untouched) out away in
-      no-item s valid item dir none.0 ∙ sym (no-item t next-valid item dir none.1)
+  neither item out away dir = elim (is_passed_over s event item) as (λ b. is_passed_over s event item ≡ b → verdict_of s item dir ≡ verdict_of t item dir) [
+    | true ↦ (λ over. passed-still s event valid ok item over dir)
+    | false ↦ (λ seen.
+        let none = in-neither s event item valid.layout ok (λ untouched. event-owes s event valid ok item untouched) seen out away in
+        no-item s valid item dir none.0 ∙ sym (no-item t next-valid item dir none.1))
+  ] refl
 
   -- nothing else is judged where judging begins nowhere
   pub stays : ((dir : ℕ) → begins s event dir ≡ false) → (item : ℕ) → ¬ Among (touched s event) item → (dir : ℕ) → verdict_of s item dir ≡ verdict_of t item dir

@@ -1,22 +1,27 @@
 -- The items that are judged again after an event.
-use Rattle.std.specs.Prelude.{ℕ, Bool, ◌&&◌, not, if◌then◌else◌, List, filter}
+use Rattle.std.specs.Prelude.{ℕ, Bool, false, ◌&&◌, not, if◌then◌else◌, List, filter}
 use Rattle.std.specs.List.{range_with_len}
 use Rattle.std.specs.Option.{option_map_or}
 use Rattle.hac_model.specs.Tree.{is_directory_at}
 use Rattle.hac_model.specs.Tree.Events.{apply, next_dirty}
-use Rattle.hac_model.specs.Tree.Links.{is_item}
+use Rattle.hac_model.specs.Tree.Links.{is_item, is_judged}
 use Rattle.hac_model.specs.Tree.Touched.{touches}
 use Rattle.hac_model.specs.declared.events.Event.{Event}
-use Rattle.hac_model.specs.declared.events.Event.TheVariants.{NewFile, Mark, Mv, Rm, Smount, Ssync, Sumount, Step}
+use Rattle.hac_model.specs.declared.events.Event.TheVariants.{NewFile, Smkdir, Mark, Mv, Rm, Smount, Ssync, Sumount, Step}
 use Rattle.hac_model.specs.declared.states.State.{State}
 use Rattle.kept_links.specs.declared.items.Reach.{Reach}
 use Rattle.kept_links.specs.declared.items.Reach.TheVariants.{Nothing, One, Any}
 
--- it is an item after the event, which doesn't touch it
-abbrev pub is_other : State → Event → ℕ → Bool
-is_other s event item = is_item (apply s event) item && not (touches s event item)
+-- the event makes a directory, and the item is one that no query judges: the directory says nothing of it
+abbrev pub is_passed_over : State → Event → ℕ → Bool
+is_passed_over s (Smkdir dir name query told) item = not (is_judged (apply s (Smkdir dir name query told)) item)
+is_passed_over s other item = false
 
--- the items that the event doesn't touch, in order of number
+-- it is an item after the event, which doesn't touch it and doesn't pass it over
+abbrev pub is_other : State → Event → ℕ → Bool
+is_other s event item = is_item (apply s event) item && not (touches s event item) && not (is_passed_over s event item)
+
+-- the items that the event doesn't touch and of which it may change links, in order of number
 abbrev pub others : State → Event → List ℕ
 others s event = filter (is_other s event) (range_with_len 0 (apply s event).next)
 

@@ -8,7 +8,7 @@ ghost use Rattle.hac_model.specs.Tree.Events.{accepted, apply, is_inside, next_d
 ghost use Rattle.hac_model.specs.Tree.Links.{is_item, is_semantic};
 ghost use Rattle.hac_model.specs.Tree.Mounting.{is_document_of};
 ghost use Rattle.hac_model.specs.Tree.Touched.{begins, is_the, touched, touches};
-ghost use Rattle.kept_links.specs.Items.{is_other, others, reach_of};
+ghost use Rattle.kept_links.specs.Items.{is_other, is_passed_over, others, reach_of};
 
 use crate::lookups::{
     is_directory, is_document, is_inside, is_item, is_semantic, next_dirty, next_number, parent_of,
@@ -146,7 +146,7 @@ fn push_touched(
     Ok(())
 }
 
-/// The items that the event doesn't touch, in order of number.
+/// The items that the event neither touches nor passes over, in order of number.
 #[tactic(auto, using(crate::proofs::ItemLemmas::filter_next))]
 pub(crate) fn other_items(
     alloc: Global,
@@ -165,7 +165,7 @@ pub(crate) fn other_items(
     Ok(items)
 }
 
-/// Adds an item to others, if the event doesn't touch it.
+/// Adds an item to others, if the event neither touches it nor passes it over.
 fn push_other(
     items: &mut Vec<Number>,
     kept: &KeptState,
@@ -184,13 +184,26 @@ fn push_other(
     Ok(())
 }
 
-/// Whether the number is that of an item that the event doesn't touch.
+/// Whether the number is that of an item that the event neither touches nor passes over.
 fn is_other(kept: &KeptState, outlook: &Outlook<'_>, event: &Event, item: Number) -> bool
     requires accepted { IsTrue (accepted kept.now.state event.now) }
     requires after { outlook.now ≡ apply kept.now.state event.now }
     ensures { result ≡ is_other kept.now.state event.now item }
 {
-    outlook.is_item(item) && !touches(kept, outlook, event, item)
+    outlook.is_item(item)
+        && !touches(kept, outlook, event, item)
+        && !is_passed_over(kept, outlook, event, item)
+}
+
+/// Whether the event makes a directory, and no query judges the item.
+fn is_passed_over(kept: &KeptState, outlook: &Outlook<'_>, event: &Event, item: Number) -> bool
+    requires { outlook.now ≡ apply kept.now.state event.now }
+    ensures { result ≡ is_passed_over kept.now.state event.now item }
+{
+    match event {
+        Event::Smkdir { .. } => !outlook.is_judged(item),
+        _ => false,
+    }
 }
 
 /// Whether the event touches the item of a number.
