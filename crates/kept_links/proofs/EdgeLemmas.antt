@@ -1,5 +1,5 @@
 -- Where judging begins nowhere, what depends on what stays as it was.
-use Rattle.std.proofs.Common.{◌≡◌, ℕ, zero, suc, Bool, true, false, List, [], ◌∷◌, ◌++◌, ap, arith, eq-eqb, refl, subst, sym, ◌∙◌}
+use Rattle.std.proofs.Common.{◌≡◌, ℕ, Bool, true, false, List, [], ◌∷◌, ◌++◌, ap, arith, eq-eqb, refl, sym, ◌∙◌}
 use Rattle.std.proofs.lemmas.Bool.{and_parts, eqb-true}
 use Rattle.std.specs.Prelude.{◌==◌, ◌&&◌, ◌||◌, filter, if◌then◌else◌, length, Option, Some, None, IsTrue, is_some, option_and_then}
 use Rattle.std.specs.Option.{option_map, option_map_or}
@@ -8,7 +8,7 @@ use Rattle.hac_model.specs.Tree.Depends.{depends, named_in}
 use Rattle.hac_model.specs.Tree.Events.{accepted, apply, is_clear, is_placed, is_possible}
 use Rattle.hac_model.specs.Tree.Facts.{Facts, edges_to, facts_after, facts_at, facts_in, facts_of, facts_with, facts_without, no_facts, put_at, with_mark}
 use Rattle.hac_model.specs.Tree.Limits.{passed_limit}
-use Rattle.hac_model.specs.Tree.Links.{is_item, is_semantic, lenders, parent_of, permanent_at, query_at}
+use Rattle.hac_model.specs.Tree.Links.{is_item, is_semantic, lenders, parent_of, query_at}
 use Rattle.hac_model.specs.Tree.Mounting.{answers_to, are_documents, are_told, is_gone, is_of_mount, is_such_at, synced}
 use Rattle.hac_model.specs.Tree.Mounts.{terms_to_ask}
 use Rattle.hac_model.specs.Tree.Touched.{begins, is_the}

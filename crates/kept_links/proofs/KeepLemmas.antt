@@ -21,10 +21,11 @@ use Rattle.reeval.specs.declared.verdicts.Change.{Change}
 use Rattle.reeval.proofs.LinkedLemmas.{links-tell, links-told}
 use Rattle.hac_model.proofs.AcyclicLemmas.{apply-valid}
 use Rattle.kept_state.specs.Seen.{Seen}
-use Rattle.kept_links.specs.Kept.{AreLinksKept, Lead}
+use Rattle.reindex.specs.Past.{Lead}
+use Rattle.reindex.specs.Ways.{IsWayOf}
+use Rattle.reindex.specs.declared.ways.Way.{Way}
+use Rattle.kept_links.specs.Kept.{AreLinksKept}
 use Rattle.kept_links.specs.declared.linked.LinkedState.TheInside.{Inside}
-use Rattle.kept_links.specs.Ways.{IsWayOf}
-use Rattle.kept_links.specs.declared.ways.Way.{Way}
 use Rattle.kept_links.proofs.TaskLemmas.{nothing-new, way-still}
 
 -- the root alone has none

@@ -1,5 +1,5 @@
 -- An event that touches an item leaves directories semantic or not, as they were.
-use Rattle.std.proofs.Common.{◌≡◌, ℕ, ◌<◌, ◌≤◌, Bool, true, false, List, [], ◌∷◌, ap, arith, eq-eqb, refl, subst, sym, ◌∙◌}
+use Rattle.std.proofs.Common.{◌≡◌, ℕ, ◌<◌, ◌≤◌, Bool, true, false, List, [], ◌∷◌, ap, arith, refl, sym, ◌∙◌}
 use Rattle.std.proofs.lemmas.Bool.{eqb-true}
 use Rattle.std.specs.Prelude.{◌&&◌, ◌||◌, ◌==◌, if◌then◌else◌, Option, Some, None, IsTrue, is_some}
 use Rattle.std.specs.Option.{option_map, option_map_or}
@@ -10,7 +10,7 @@ use Rattle.hac_model.specs.Tree.Links.{is_item, is_semantic, query_at}
 use Rattle.hac_model.specs.Tree.Mounting.{is_document_of}
 use Rattle.hac_model.specs.Tree.Touched.{begins, is_the, touches}
 use Rattle.hac_model.specs.Tree.Valid.{IsValid, NumbersRise}
-use Rattle.hac_model.specs.Tree.{entry_at, is_dirty, is_document, is_leaf, is_leaf_at, is_linkable}
+use Rattle.hac_model.specs.Tree.{entry_at, is_dirty, is_document, is_leaf, is_linkable}
 use Rattle.hac_model.specs.declared.events.Event.{Event}
 use Rattle.hac_model.specs.declared.events.Event.TheVariants.{Mkdir, NewFile, Rewrite, Ln, Smkdir, Setq, Unq, Mark, Mv, Rm, Rmdir, Smount, Ssync, Sumount, Step, Cd}
 use Rattle.hac_model.specs.declared.states.Entry.{Entry}

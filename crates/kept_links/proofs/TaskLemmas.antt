@@ -32,25 +32,19 @@ use Rattle.reeval.proofs.SettleLemmas.{has-among}
 use Rattle.kept_links.specs.Items.{is_passed_over, others}
 use Rattle.kept_links.specs.Kept.{is_still}
 use Rattle.kept_links.specs.Tasks.{AreAlong, IsTaskOf, IsWayFrom}
-use Rattle.kept_links.specs.Ways.{IsWayOf, stops_everywhere, with_first}
-use Rattle.kept_links.specs.declared.ways.Way.{Way}
+use Rattle.reindex.specs.Ways.{IsWayOf, stops_everywhere, with_first}
+use Rattle.reindex.specs.declared.ways.Way.{Way}
 use Rattle.kept_links.proofs.EdgeLemmas.{edges-still, lends-still, plain-lends}
 use Rattle.kept_links.proofs.ItemLemmas.{in-neither, others-once, others-untouched, touched-apart, touched-once, touched-touches}
 use Rattle.kept_links.proofs.NewDirLemmas.{passed-over}
 use Rattle.kept_links.proofs.SemanticLemmas.{asks-still, semantic-still}
-use Rattle.kept_links.proofs.WayLemmas.{covers-everywhere, covers-from}
+use Rattle.reindex.proofs.WayLemmas.{covers-everywhere, covers-from, semantic-depends}
 
 -- just what is semantic depends on something
 depends-semantic : (s : State) (dir : ℕ) → depends s dir ≢ [] → is_semantic s dir ≡ true
 depends-semantic s dir = elim (query_at s dir) as (λ o. option_map_or (λ (query : Formula ℕ). parent_of s dir ∷ (named_in query ++ lenders s dir)) o [] ≢ [] → is_some o ≡ true) [
   | None ↦ (λ some. absurd (some refl))
   | Some query ↦ (λ _. refl)
-]
-
-pub semantic-depends : (s : State) (dir : ℕ) → is_semantic s dir ≡ true → depends s dir ≢ []
-semantic-depends s dir = elim (query_at s dir) as (λ o. is_some o ≡ true → option_map_or (λ (query : Formula ℕ). parent_of s dir ∷ (named_in query ++ lenders s dir)) o [] ≢ []) [
-  | None ↦ (λ never. absurd cc)
-  | Some query ↦ (λ _ none. absurd cc)
 ]
 
 -- an order over the same edges

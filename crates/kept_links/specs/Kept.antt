@@ -1,5 +1,5 @@
 -- A state with its links, and what is new in them once it is the next.
-use Rattle.std.specs.Prelude.{◌≡◌, ℕ, Bool, true, false, not, List, unwrap_or}
+use Rattle.std.specs.Prelude.{Bool, true, false, not, unwrap_or}
 use Rattle.hac_model.specs.Tree.Events.{apply_all}
 use Rattle.hac_model.specs.declared.events.Event.{Event}
 use Rattle.hac_model.specs.declared.events.Event.TheVariants.{Mkdir, NewFile, Rewrite, Ln}
@@ -7,23 +7,16 @@ use Rattle.hac_model.specs.declared.states.State.{State}
 use Rattle.kept_state.specs.After.{next_state}
 use Rattle.kept_state.specs.Seen.{Seen}
 use Rattle.scope_rules.specs.After.{Tells}
-use Rattle.reeval.specs.Judging.{verdict_of}
 use Rattle.reeval.specs.Settled.{AreLinksOf, HasRoom}
-use Rattle.reeval.specs.Told.{news_on, told}
-use Rattle.reeval.specs.declared.verdicts.Change.{Change}
-use Rattle.kept_links.specs.Ways.{IsWayOf}
+use Rattle.reindex.specs.Past.{Lead}
+use Rattle.reindex.specs.Ways.{IsWayOf}
+use Rattle.reindex.specs.declared.ways.Way.{Way}
 use Rattle.kept_links.specs.declared.news.News.{News}
-use Rattle.kept_links.specs.declared.ways.Way.{Way}
 use Rattle.kept_links.specs.declared.linked.LinkedState.TheInside.{Inside}
 use Rattle.kept_links.specs.declared.outlook.Outlook.TheInside as outlook
-use Rattle.kept_links.specs.declared.past.Past.TheInside as past
 
 abbrev pub seen_of : Inside → Seen
 seen_of linked = linked.kept
-
--- the changes lead from the links of one state to those of another
-abbrev pub Lead : State → State → List Change → Type 0
-Lead s t delta = (item dir : ℕ) → told (news_on item delta) (verdict_of s item) dir ≡ verdict_of t item dir
 
 -- what is new in the links behind an event, and in the way to all semantic directories
 pub record AreNews (s t : State) (old : Way) (news : News) : Type 0 where
@@ -45,13 +38,6 @@ pub record AreLinksKept (linked : Inside) : Type 0 where
   pub leads : Lead linked.kept.state (apply_all linked.kept.state linked.kept.ready) linked.delta.items
   pub way : IsWayOf linked.kept.state linked.way
   pub next : IsWayOf (apply_all linked.kept.state linked.kept.ready) (unwrap_or linked.next linked.way)
-
-abbrev pub state_of_past : past.Inside → State
-state_of_past past = past.kept.now.state
-
--- the links are those of the state
-abbrev pub IsPast : past.Inside → Type 0
-IsPast past = AreLinksOf past.kept.now.state past.found.now
 
 abbrev pub state_of_outlook : outlook.Inside → State
 state_of_outlook outlook = next_state outlook.kept.now

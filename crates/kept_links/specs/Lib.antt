@@ -1,5 +1,3 @@
 pub mod Kept
-pub mod Ways
 pub mod Tasks
 pub mod Items
-pub mod Steps

@@ -11,8 +11,8 @@ use Rattle.query_index.specs.Seen.{IsIndexOf}
 use Rattle.reeval.specs.Settled.{IsPlanned}
 use Rattle.reeval.specs.declared.planning.Task.{Task}
 use Rattle.reeval.specs.declared.settling.Stop.{Stop}
-use Rattle.kept_links.specs.Ways.{stops_everywhere, stops_from, with_first}
-use Rattle.kept_links.specs.declared.ways.Way.{Way}
+use Rattle.reindex.specs.Ways.{stops_everywhere, stops_from, with_first}
+use Rattle.reindex.specs.declared.ways.Way.{Way}
 
 -- the way was found for the state behind an event: from one directory and from all that were semantic, over the edges as
 -- they will be

@@ -10,13 +10,12 @@ ghost use Rattle.hac_model.specs.Tree.Mounting.{is_document_of};
 ghost use Rattle.hac_model.specs.Tree.Touched.{begins, is_the, touched, touches};
 ghost use Rattle.kept_links.specs.Items.{is_other, is_passed_over, others, reach_of};
 
-use crate::lookups::{
-    is_directory, is_document, is_inside, is_item, is_semantic, next_dirty, next_number, parent_of,
-};
+use crate::lookups::{is_directory, is_inside, is_semantic};
 use crate::outlook::Outlook;
 use hac_model::{Event, Mark, Memory, Number};
 use kept_state::KeptState;
 use reeval::Layout;
+use reindex::lookups::{is_document, is_item, next_dirty, next_number, parent_of};
 use std::alloc::Global;
 
 /// The items that an event may touch.

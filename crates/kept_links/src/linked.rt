@@ -10,17 +10,15 @@ ghost use Rattle.kept_state.specs.After.{is_quiet};
 ghost use Rattle.link_kinds.specs.Seen.{LinkListsRise};
 ghost use Rattle.reeval.specs.Settled.{AreLinksOf};
 
-use crate::indexing::shown_of;
-use crate::lookups::{is_document, parent_of};
 use crate::news::prepared_news;
-use crate::steps::delta_of_steps;
-use crate::ways::Way;
 use hac_model::{Counts, Event, Memory, Name, Number, Term};
 use hac_words::has_term;
 use kept_state::KeptState;
 use link_kinds::Links;
 use query_index::QueryIndex;
 use reeval::{Change, apply, reserve};
+use reindex::lookups::{is_document, parent_of};
+use reindex::{Way, delta_of_steps, shown_of};
 use std::alloc::Global;
 use std::marker::Model;
 

@@ -3,20 +3,19 @@ ghost use Rattle.std.specs.Prelude.{◌≡◌, ◌==◌, ◌∷◌, [], ℕ, fal
 ghost use Rattle.hac_model.specs.Tree.Events.{accepted, apply};
 ghost use Rattle.hac_model.specs.Tree.Touched.{begins};
 ghost use Rattle.kept_links.specs.Kept.{AreNews, is_still};
-ghost use Rattle.kept_links.specs.Ways.{IsWayOf};
 ghost use Rattle.kept_state.specs.After.{are_quiet, next_state};
 ghost use Rattle.link_kinds.specs.Seen.{SameKinds};
 ghost use Rattle.reeval.specs.Settled.{AreLinksOf, HasRoom};
+ghost use Rattle.reindex.specs.Ways.{IsWayOf};
 
 use crate::items::begin;
 use crate::outlook::Outlook;
-use crate::past::Past;
 use crate::tasks::{task_from, task_of_touched, way_next};
-use crate::ways::Way;
 use hac_model::{Event, Memory, Number};
 use kept_state::KeptState;
 use link_kinds::Links;
 use reeval::{Change, plan, reserve};
+use reindex::{Past, Way};
 use std::alloc::Global;
 
 /// What is new behind an event.

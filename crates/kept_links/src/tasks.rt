@@ -5,17 +5,17 @@ ghost use Rattle.hac_model.specs.Tree.Events.{accepted, apply};
 ghost use Rattle.hac_model.specs.Tree.Links.{lenders, query_at};
 ghost use Rattle.hac_model.specs.Tree.Touched.{begins};
 ghost use Rattle.kept_links.specs.Tasks.{AreAlong, IsTaskOf, IsWayFrom};
-ghost use Rattle.kept_links.specs.Ways.{IsWayOf};
 ghost use Rattle.kept_state.specs.After.{next_state};
 ghost use Rattle.query_index.specs.Seen.{IsIndexOf};
+ghost use Rattle.reindex.specs.Ways.{IsWayOf};
 
 use crate::items::{other_items, touched_items};
 use crate::outlook::Outlook;
-use crate::ways::{Way, stops_everywhere, stops_from, with_first};
 use hac_model::{Event, Memory, Number};
 use kept_state::KeptState;
 use query_index::QueryIndex;
 use reeval::{Layout, Stop, Task};
+use reindex::{Way, stops_everywhere, stops_from, with_first};
 use std::alloc::Global;
 
 /// The task of an event that begins at no directory: the items that it touches, on the way that is

@@ -3,7 +3,7 @@ use Rattle.std.specs.Prelude.{Option, map, take}
 use Rattle.hac_model.specs.Query.Formula.{Formula}
 use Rattle.hac_model.specs.Tree.Links.{query_at}
 use Rattle.query_index.specs.Seen.{IsIndexOf}
-use Rattle.kept_links.proofs.WayLemmas.{queries-more}
+use Rattle.reindex.proofs.WayLemmas.{queries-more}
 use Rattle.kept_links.proofs.tasks.index_next.Goals as goal
 
 pub loop-dir-preserved : goal.loop-dir-preserved

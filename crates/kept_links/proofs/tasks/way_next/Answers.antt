@@ -7,7 +7,7 @@ use Rattle.hac_model.specs.Tree.Links.{lenders, query_at}
 use Rattle.hac_model.specs.declared.states.State.{State}
 use Rattle.kept_state.specs.After.{next_state}
 use Rattle.query_index.specs.Seen.{IsIndexOf}
-use Rattle.kept_links.specs.Ways.{stops_everywhere, with_first}
+use Rattle.reindex.specs.Ways.{stops_everywhere, with_first}
 use Rattle.kept_links.proofs.TaskLemmas.{way-from}
 use Rattle.kept_links.proofs.tasks.way_next.Goals as goal
 

@@ -1,13 +1,13 @@
-use Rattle.std.proofs.Common.{◌≡◌, ℕ, List, [], subst, sym, ap}
+use Rattle.std.proofs.Common.{◌≡◌, ℕ, List, subst, sym}
 use Rattle.std.specs.Prelude.{unwrap_or}
 use Rattle.hac_model.specs.Tree.Events.{apply_all}
 use Rattle.hac_model.specs.declared.states.State.{State}
 use Rattle.reeval.specs.Settled.{verdict_in}
 use Rattle.reeval.specs.Told.{news_on, told}
 use Rattle.reeval.specs.declared.verdicts.Change.{Change}
-use Rattle.kept_links.specs.Kept.{Lead}
-use Rattle.kept_links.specs.Ways.{IsWayOf}
-use Rattle.kept_links.specs.declared.ways.Way.{Way}
+use Rattle.reindex.specs.Past.{Lead}
+use Rattle.reindex.specs.Ways.{IsWayOf}
+use Rattle.reindex.specs.declared.ways.Way.{Way}
 use Rattle.kept_links.proofs.KeepLemmas.{kept-none, links-led}
 use Rattle.kept_links.proofs.linked.LinkedState.commit.Goals as goal
 

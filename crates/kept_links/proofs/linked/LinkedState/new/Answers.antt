@@ -2,8 +2,8 @@ use Rattle.std.proofs.Common.{◌≡◌, [], false, refl, subst, sym}
 use Rattle.hac_model.specs.Tree.{empty}
 use Rattle.hac_model.specs.declared.states.State.{State}
 use Rattle.reeval.specs.Settled.{AreLinksOf}
-use Rattle.kept_links.specs.Ways.{IsWayOf}
-use Rattle.kept_links.specs.declared.ways.Way.{Way}
+use Rattle.reindex.specs.Ways.{IsWayOf}
+use Rattle.reindex.specs.declared.ways.Way.{Way}
 use Rattle.kept_links.proofs.KeepLemmas.{kept-none, none-kept, way-root}
 use Rattle.kept_links.proofs.linked.LinkedState.new.Goals as goal
 

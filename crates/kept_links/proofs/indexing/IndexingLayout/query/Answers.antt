@@ -1,6 +1,0 @@
-use Rattle.std.proofs.Common.{sym, ◌∙◌}
-use Rattle.kept_links.proofs.IndexedLemmas.{query-indexed}
-use Rattle.kept_links.proofs.indexing.IndexingLayout.query.Goals as goal
-
-pub returns : goal.returns
-returns c = c.query_at.ensures ∙ sym (query-indexed c.args.self.now.last c.args.self.now.kept.now.state c.args.dir)

@@ -1,7 +1,0 @@
-use Rattle.std.specs.Prelude.{take}
-use Rattle.kept_links.specs.Steps.{AreSettled, indexed_through}
-use Rattle.kept_links.proofs.steps.delta_of_files.Given as goal
-
--- the files so far are settled
-abbrev pub invariant-loop-file : goal.invariant-loop-file
-invariant-loop-file l = AreSettled l.kept.state (indexed_through l.last l.kept.state) (take l.file-index l.files) l.delta.items

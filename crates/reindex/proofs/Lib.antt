@@ -1,0 +1,5 @@
+pub mod WayLemmas
+pub mod IndexedLemmas
+pub mod StepLemmas
+pub mod TextLemmas
+pub mod BatchLemmas

@@ -1,0 +1,145 @@
+-- Where judging begins of a file that is to show another text.
+use Rattle.std.proofs.Common.{◌≡◌, ℕ, Bool, true, false, List, [], ◌∷◌, ap, refl, subst, sym, ◌∙◌}
+use Rattle.std.specs.Prelude.{◌||◌, ◌&&◌, ◌≢◌, if◌then◌else◌, map, IfOk, Option, Some, None, Result, Ok, Err, Vec, is_some, option_and_then}
+use Rattle.std.specs.List.{AllByRecursion, list_any}
+use Rattle.std.specs.Option.{option_map_or}
+use Rattle.std.specs.declared.alloc.Global.{Global}
+use Rattle.dep_graph.specs.Searches.{IsOrdered}
+use Rattle.hac_model.specs.Query.Formula.{Formula}
+use Rattle.hac_model.specs.Query.Queries.{terms_of}
+use Rattle.hac_model.specs.Query.Words.{has_term, is_asked, rising_words}
+use Rattle.hac_model.specs.Tree.Depends.{depends}
+use Rattle.hac_model.specs.Tree.Links.{atom, has, holds, kept_at, parent_of, provide, query_at, shown_of}
+use Rattle.hac_model.specs.Tree.Valid.{IsValid}
+use Rattle.hac_model.specs.Tree.{body_at, is_document, is_document_at, shown_text}
+use Rattle.hac_model.specs.declared.memory.Memory.{Memory}
+use Rattle.hac_model.specs.declared.states.Body.{Body}
+use Rattle.hac_model.specs.declared.states.Body.TheVariants.{File, Dir, Symlink, Semantic, Mount, Document}
+use Rattle.hac_model.specs.declared.states.State.{State}
+use Rattle.hac_model.specs.declared.terms.Term.{Term}
+use Rattle.hac_words.proofs.WordLemmas.{has_term-rising_words}
+use Rattle.query_index.proofs.LawLemmas.{unasked_terms_stay, unfit_queries_fail}
+use Rattle.reeval.specs.Judging.{JudgesAlike, LeavesAlike, ProvidesAlike}
+use Rattle.reeval.specs.Routes.{Covers}
+use Rattle.reeval.specs.declared.settling.Stop.{Stop}
+use Rattle.reeval.proofs.AlikeLemmas.{judge-across, none-across, unfound-across}
+use Rattle.reindex.specs.Steps.{indexed_through, may_begin, may_differ}
+use Rattle.reindex.specs.Ways.{IsWayOf, stops_at, stops_everywhere, stops_marked}
+use Rattle.reindex.specs.declared.ways.Way.{Way}
+use Rattle.reindex.proofs.IndexedLemmas.{added-indexed, below-indexed, depends-indexed, document-indexed, item-indexed, lenders-indexed, parent-indexed, permanent-indexed, prohibited-indexed, query-indexed, semantic-indexed}
+use Rattle.reindex.proofs.WayLemmas.{covers-at, covers-everywhere, semantic-depends}
+
+-- what shows a text is no document
+text-no-document : (o : Option Body) (text : List ℕ) → option_and_then shown_text o ≡ Some text → option_map_or is_document o false ≡ false
+text-no-document None text h = absurd cc
+text-no-document (Some (File written dirty shown)) text h = refl
+text-no-document (Some Dir) text h = absurd cc
+text-no-document (Some (Symlink target)) text h = absurd cc
+text-no-document (Some (Semantic query permanent prohibited)) text h = absurd cc
+text-no-document (Some (Mount space answers)) text h = absurd cc
+text-no-document (Some Document) text h = absurd cc
+
+-- what has a text has the terms for which its words are
+atom-by : (s : State) (item : ℕ) (text : List ℕ) → is_document_at s.entries item ≡ false → shown_of s item ≡ Some text → (term : Term) → atom s term item ≡ list_any (is_asked term) (rising_words text)
+atom-by s item text plain shows term =
+    ap (λ (b : Bool). if b then has (kept_at s (parent_of s item) term) item else option_map_or (λ text. has_term text term) (shown_of s item) false) plain
+    ∙ ap (λ (o : Option (List ℕ)). option_map_or (λ text. has_term text term) o false) shows
+    ∙ has_term-rising_words text term
+
+all-by : (s : State) (item : ℕ) (text : List ℕ) → is_document_at s.entries item ≡ false → shown_of s item ≡ Some text → (terms : List Term) → AllByRecursion (λ term. atom s term item ≡ list_any (is_asked term) (rising_words text)) terms
+all-by s item text plain shows [] = tt
+all-by s item text plain shows (term ∷ terms) = (atom-by s item text plain shows term, all-by s item text plain shows terms)
+
+-- the file is to show this text
+module _ (s : State) (last file : ℕ) (text : List ℕ) (shows : shown_of (indexed_through last s) file ≡ Some text) where
+  abbrev t : State
+  t = indexed_through last s
+
+  plain-then : is_document_at t.entries file ≡ false
+  plain-then = text-no-document (body_at t.entries file) text shows
+
+  plain : is_document_at s.entries file ≡ false
+  plain = sym (document-indexed last s file) ∙ plain-then
+
+  -- a query that can't hold of it found it no more before, since nothing was judged
+  first-judged : (dir : ℕ) (asked : Formula ℕ) → query_at s dir ≡ Some asked → shown_of s file ≡ None → may_differ None text asked ≡ false → JudgesAlike s t file dir
+  first-judged dir asked asks none out =
+      unfound-across s t file dir asked asks (query-indexed last s dir ∙ asks) (sym (item-indexed last s file)) (sym (lenders-indexed last s dir))
+      (λ i. plain i || is_some (none i))
+      (λ b. ap (λ (o : Option (Formula ℕ)). option_map_or (λ (query : Formula ℕ). holds t b query file) o false) (query-indexed last s dir ∙ asks)
+      ∙ unfit_queries_fail (rising_words text) asked out (atom t) (provide t b) file
+      (all-by t file text plain-then shows (terms_of asked)))
+
+  -- a query that asks for no word that is gone or new holds as it did
+  again-judged : (dir : ℕ) (asked : Formula ℕ) (old : List ℕ) → query_at s dir ≡ Some asked → shown_of s file ≡ Some old → may_differ (Some old) text asked ≡ false → JudgesAlike s t file dir
+  again-judged dir asked old asks had out = judge-across s t file dir asked (record {
+    before = asks;
+    after = query-indexed last s dir ∙ asks;
+    items = sym (item-indexed last s file);
+    judged = (λ i. plain i || is_some (had i)) ∙ sym (λ i. plain-then i || is_some (shows i));
+    parents = sym (parent-indexed last s dir);
+    lending = sym (lenders-indexed last s dir);
+    added = λ i. has (sym (permanent-indexed last s dir) i) file;
+    removed = λ i. has (sym (prohibited-indexed last s dir) i) file;
+    atoms = terms-same (terms_of asked) (unasked_terms_stay (rising_words old) (rising_words text) asked out);
+  })
+    where
+      terms-same : (terms : List Term) → AllByRecursion (λ term. list_any (is_asked term) (rising_words old) ≡ list_any (is_asked term) (rising_words text)) terms → AllByRecursion (λ term. atom s term file ≡ atom t term file) terms
+      terms-same [] h = tt
+      terms-same (term ∷ terms) h = (atom-by s file old plain had term ∙ h.0 ∙ sym (atom-by t file text plain-then shows term), terms-same terms h.1)
+
+  judges : (dir : ℕ) → may_begin s file text dir ≡ false → JudgesAlike s t file dir
+  judges dir still = at (query_at s dir) refl still
+    where
+      by : (asked : Formula ℕ) → query_at s dir ≡ Some asked → (o : Option (List ℕ)) → shown_of s file ≡ o → may_differ o text asked ≡ false → JudgesAlike s t file dir
+      by asked asks None none out = first-judged dir asked asks none out
+      by asked asks (Some old) had out = again-judged dir asked old asks had out
+
+      at : (o : Option (Formula ℕ)) → query_at s dir ≡ o → option_map_or (may_differ (shown_of s file) text) o false ≡ false → JudgesAlike s t file dir
+      at None asks out = none-across s t file dir asks (query-indexed last s dir ∙ asks)
+      at (Some asked) asks out = by asked asks (shown_of s file) refl out
+
+  provides : (e : ℕ) → ProvidesAlike s t file e
+  provides e a b linked = λ i. sym (below-indexed last s e file) i || (sym (semantic-indexed last s e) i && (linked i || sym (added-indexed last s e file) i))
+
+  texts-leave : LeavesAlike s t (may_begin s file text) file
+  texts-leave = record { judges = judges; provides = λ dir e still edge apart. provides e }
+
+  -- judging begins at what is semantic
+  begins-asked : (dir : ℕ) → may_begin s file text dir ≡ true → depends t dir ≢ []
+  begins-asked dir is none = semantic-depends s dir (at (query_at s dir) is) (sym (depends-indexed last s dir) ∙ none)
+    where
+      at : (o : Option (Formula ℕ)) → option_map_or (may_differ (shown_of s file) text) o false ≡ true → is_some o ≡ true
+      at None h = absurd cc
+      at (Some asked) h = refl
+
+  -- on the way to all semantic directories the file is judged wherever its words may tell
+  pub covered-text : (way : Way) (w : IsWayOf s way) → IsValid s → IsValid t → Covers s t (stops_at (may_begin s file text) w.order) file
+  covered-text way w before after =
+      covers-at s t (may_begin s file text) w.order before after
+      (subst (λ (edges : ℕ → List ℕ). IsOrdered edges w.order) (λ i dir. sym (depends-indexed last s dir) i) w.ordered)
+      (λ dir some. w.all dir (λ none. some (depends-indexed last s dir ∙ none))) begins-asked file texts-leave
+
+  pub covered-if : (way : Way) (w : IsWayOf s way) → IsValid s → IsValid t → (result : Result (Vec Stop Global) Memory) →
+      IfOk result (λ stops. stops.items ≡ stops_at (may_begin s file text) w.order) → IfOk result (λ stops. Covers s t stops.items file)
+  covered-if way w before after (Ok stops) is = subst (λ (items : List Stop). Covers s t items file) (sym is) (covered-text way w before after)
+  covered-if way w before after (Err memory) is = tt
+
+-- on that way it may be judged at each directory, too
+pub covered-anyway : (s : State) (last file : ℕ) (way : Way) → IsWayOf s way → IsValid s → IsValid (indexed_through last s) → Covers s (indexed_through last s) way.stops.items file
+covered-anyway s last file way w before after =
+    subst (λ (all : List Stop). Covers s (indexed_through last s) all file) (sym w.stops)
+    (covers-everywhere s (indexed_through last s) w.order before after (subst (λ (edges : ℕ → List ℕ). IsOrdered edges w.order) (λ i dir. sym (depends-indexed last s dir) i) w.ordered)
+    (λ dir some. w.all dir (λ none. some (depends-indexed last s dir ∙ none))) (λ dir. sym (semantic-indexed last s dir)) file)
+
+-- marks, query by query, are stops at the directories
+pub marked-all : (s : State) (file : ℕ) (text : List ℕ) (order : List ℕ) →
+    stops_marked (stops_everywhere order) (map (λ query. option_map_or (may_differ (shown_of s file) text) query false) (map (query_at s) order)) ≡ stops_at (may_begin s file text) order
+marked-all s file text [] = refl
+marked-all s file text (dir ∷ order) = ap (λ (stops : List Stop). record { dir = dir; begins = may_begin s file text dir } ∷ stops) (marked-all s file text order)
+
+pub marked-if : (s : State) (file : ℕ) (text : List ℕ) (order : List ℕ) (result : Result (Vec Stop Global) Memory) (stops : List Stop) (marks : List Bool) → stops ≡ stops_everywhere order →
+    marks ≡ map (λ query. option_map_or (may_differ (shown_of s file) text) query false) (map (query_at s) order) →
+    IfOk result (λ marked. marked.items ≡ stops_marked stops marks) → IfOk result (λ marked. marked.items ≡ stops_at (may_begin s file text) order)
+marked-if s file text order (Ok marked) stops marks all each is = is ∙ (λ i. stops_marked (all i) (each i)) ∙ marked-all s file text order
+marked-if s file text order (Err memory) stops marks all each is = tt

@@ -1,0 +1,172 @@
+-- The ways on which items are judged again lead to each directory behind those on which it depends.
+use Rattle.std.proofs.Common.{◌≡◌, ℕ, zero, suc, ◌+◌, ◌<◌, Bool, true, false, List, [], ◌∷◌, length, get_or, ap, eq-eqb, inl, inr, refl, subst, sym, ◌∙◌}
+use Rattle.std.proofs.lemmas.Bool.{eqb-true}
+use Rattle.std.proofs.lemmas.List.{map_more}
+use Rattle.std.specs.Prelude.{◌&&◌, ◌||◌, ◌==◌, ◌++◌, ◌≢◌, if◌then◌else◌, map, take, Option, Some, None, is_some}
+use Rattle.std.specs.Option.{option_map_or}
+use Rattle.dep_graph.specs.Searches.{IsCone, IsOrdered}
+use Rattle.hac_model.specs.Query.Formula.{Formula}
+use Rattle.hac_model.specs.Tree.Depends.{Among, Reaches, depends, named_in}
+use Rattle.hac_model.specs.Tree.Links.{has, is_semantic, lenders, parent_of, query_at}
+use Rattle.hac_model.specs.Tree.Valid.{IsValid}
+use Rattle.hac_model.specs.declared.states.State.{State}
+use Rattle.reeval.specs.Judging.{LeavesAlike}
+use Rattle.reeval.specs.Routes.{Covers, IsRoute, begins_at, dirs_of}
+use Rattle.reeval.proofs.AlikeLemmas.{touched-leave}
+use Rattle.reeval.proofs.PlanLemmas.{begins-more}
+use Rattle.reeval.proofs.SettleLemmas.{among-has}
+use Rattle.reindex.specs.Ways.{stops_at, stops_everywhere, stops_from, with_first}
+
+-- what has edges isn't without
+some-edges : (edges : List ℕ) (n : ℕ) → Among edges n → edges ≢ []
+some-edges [] n h = absurd h
+some-edges (edge ∷ edges) n h = λ none. absurd cc
+
+-- Stops.
+
+dirs-at : (begins : ℕ → Bool) (dirs : List ℕ) → dirs_of (stops_at begins dirs) ≡ dirs
+dirs-at begins [] = refl
+dirs-at begins (dir ∷ dirs) = ap (λ (more : List ℕ). dir ∷ more) (dirs-at begins dirs)
+
+begins-at : (begins : ℕ → Bool) (dirs : List ℕ) (dir : ℕ) → begins_at (stops_at begins dirs) dir ≡ (has dirs dir && begins dir)
+begins-at begins [] dir = refl
+begins-at begins (first ∷ dirs) dir =
+    ap (λ (b : Bool). (first == dir && begins first) || b) (begins-at begins dirs dir)
+    ∙ (elim (first == dir) as (λ b. (first == dir) ≡ b → ((b && begins first) || (has dirs dir && begins dir)) ≡ ((b || has dirs dir) && begins dir)) [
+      | true ↦ (λ same. ap (λ (n : ℕ). begins n || (has dirs dir && begins dir)) (eqb-true first dir same) ∙ absorbed (begins dir) (has dirs dir))
+      | false ↦ (λ _. refl)
+    ] refl)
+  where
+    absorbed : (a b : Bool) → (a || (b && a)) ≡ a
+    absorbed true b = refl
+    absorbed false true = refl
+    absorbed false false = refl
+
+-- the way to all directories that depend on something
+route-at : (edges : ℕ → List ℕ) (begins : ℕ → Bool) (dirs : List ℕ) → IsOrdered edges dirs → ((q : ℕ) → edges q ≢ [] → Among dirs q) → IsRoute edges (stops_at begins dirs)
+route-at edges begins dirs ordered all = record {
+  ordered = subst (IsOrdered edges) (sym (dirs-at begins dirs)) ordered;
+  closed = λ dir e edge _. subst (λ (numbers : List ℕ). Among numbers dir) (sym (dirs-at begins dirs)) (all dir (some-edges (edges dir) e edge));
+}
+
+-- Everywhere.
+
+-- what has no edges isn't semantic
+unasked : (t : State) (dir : ℕ) → (depends t dir ≢ [] → ⊥) → is_semantic t dir ≡ false
+unasked t dir none = elim (query_at t dir) as (λ o. (option_map_or (λ (query : Formula ℕ). parent_of t dir ∷ (named_in query ++ lenders t dir)) o [] ≢ [] → ⊥) → is_some o ≡ false) [
+  | None ↦ (λ _. refl)
+  | Some query ↦ (λ none. absurd (none (λ same. absurd cc)))
+] none
+
+-- and what is semantic has some
+pub semantic-depends : (s : State) (dir : ℕ) → is_semantic s dir ≡ true → depends s dir ≢ []
+semantic-depends s dir = elim (query_at s dir) as (λ o. is_some o ≡ true → option_map_or (λ (query : Formula ℕ). parent_of s dir ∷ (named_in query ++ lenders s dir)) o [] ≢ []) [
+  | None ↦ (λ never. absurd cc)
+  | Some query ↦ (λ _ none. absurd cc)
+]
+
+and-true : (b : Bool) → (b && true) ≡ b
+and-true true = refl
+and-true false = refl
+
+pub covers-everywhere : (s t : State) (dirs : List ℕ) → IsValid s → IsValid t → IsOrdered (depends t) dirs → ((q : ℕ) → depends t q ≢ [] → Among dirs q) →
+    ((dir : ℕ) → is_semantic s dir ≡ is_semantic t dir) → (item : ℕ) → Covers s t (stops_everywhere dirs) item
+covers-everywhere s t dirs before after ordered all same item = record {
+  before = before;
+  after = after;
+  route = route-at (depends t) (λ dir. true) dirs ordered all;
+  alike = begins-more s t item (λ dir. is_semantic s dir || is_semantic t dir) (begins_at (stops_everywhere dirs)) within (touched-leave s t item);
+}
+  where
+    within : (dir : ℕ) → begins_at (stops_everywhere dirs) dir ≡ false → (is_semantic s dir || is_semantic t dir) ≡ false
+    within dir out =
+        let absent : has dirs dir ≡ false = sym (and-true (has dirs dir)) ∙ sym (begins-at (λ dir. true) dirs dir) ∙ out in
+        let plain : is_semantic t dir ≡ false = unasked t dir (λ some. let inside = among-has dirs dir (all dir some) in absurd cc) in
+        (λ i. (same dir ∙ plain) i || plain i)
+
+-- Where judging begins at some directories, all of them on the way.
+
+pub covers-at : (s t : State) (begins : ℕ → Bool) (dirs : List ℕ) → IsValid s → IsValid t → IsOrdered (depends t) dirs → ((q : ℕ) → depends t q ≢ [] → Among dirs q) →
+    ((dir : ℕ) → begins dir ≡ true → depends t dir ≢ []) → (item : ℕ) → LeavesAlike s t begins item → Covers s t (stops_at begins dirs) item
+covers-at s t begins dirs before after ordered all asked item alike = record {
+  before = before;
+  after = after;
+  route = route-at (depends t) begins dirs ordered all;
+  alike = begins-more s t item begins (begins_at (stops_at begins dirs)) within alike;
+}
+  where
+    within : (dir : ℕ) → begins_at (stops_at begins dirs) dir ≡ false → begins dir ≡ false
+    within dir out = elim (begins dir) as (λ b. begins dir ≡ b → b ≡ false) [
+      | true ↦ (λ is. let inside : has dirs dir ≡ true = among-has dirs dir (all dir (asked dir is)) in
+          let never : begins_at (stops_at begins dirs) dir ≡ true = begins-at begins dirs dir ∙ (λ i. inside i && is i) in
+          absurd cc)
+      | false ↦ (λ _. refl)
+    ] refl
+
+-- From one directory on.
+
+module _ (edges : ℕ → List ℕ) (first : ℕ) (cone : List ℕ) (h : IsCone edges (first ∷ []) cone) where
+  abbrev pub dirs : List ℕ
+  dirs = with_first first cone
+
+  -- what isn't in its own cone has no edges
+  alone : has cone first ≡ false → edges first ≢ [] → ⊥
+  alone out some = let inside = among-has cone first (h.all first some (first, inl refl, (zero, refl))) in absurd cc
+
+  pub first-there : has dirs first ≡ true
+  first-there = elim (has cone first) as (λ b. has cone first ≡ b → has (if b then cone else first ∷ cone) first ≡ true) [
+    | true ↦ (λ is. is)
+    | false ↦ (λ _. ap (λ (b : Bool). b || has cone first) (eq-eqb first first refl))
+  ] refl
+
+  inside : (dir : ℕ) → Among cone dir → Among dirs dir
+  inside dir is = elim (has cone first) as (λ b. Among (if b then cone else first ∷ cone) dir) [ true ↦ is | false ↦ inr is ]
+
+  -- what is there reaches the first
+  reaches-first : (dir : ℕ) → Among dirs dir → Reaches edges dir first
+  reaches-first dir is = elim (has cone first) as (λ b. Among (if b then cone else first ∷ cone) dir → Reaches edges dir first) [
+    | true ↦ (λ is. from-cone is)
+    | false ↦ (λ is. elim is as (λ _. Reaches edges dir first) [ inl same ↦ (zero, sym same) | inr more ↦ from-cone more ])
+  ] is
+    where
+      from-cone : Among cone dir → Reaches edges dir first
+      from-cone is = let way = (h.reached dir is).1 in elim way.1 as (λ _. Reaches edges dir first) [ inl same ↦ subst (Reaches edges dir) (sym same) way.2 | inr never ↦ absurd never ]
+
+  ordered : IsOrdered edges dirs
+  ordered = elim (has cone first) as (λ b. has cone first ≡ b → IsOrdered edges (if b then cone else first ∷ cone)) [
+    | true ↦ (λ _. h.ordered)
+    | false ↦ (λ out. (λ is. let there = among-has cone first is in absurd cc, (λ next edge _. alone out (some-edges (edges first) next edge)), h.ordered))
+  ] refl
+
+  pub route-from : IsRoute edges (stops_from first dirs)
+  route-from = record {
+    ordered = subst (IsOrdered edges) (sym (dirs-at (λ dir. dir == first) dirs)) ordered;
+    closed = λ dir e edge is.
+        let way = reaches-first e (subst (λ (numbers : List ℕ). Among numbers e) (dirs-at (λ dir. dir == first) dirs) is) in
+        subst (λ (numbers : List ℕ). Among numbers dir) (sym (dirs-at (λ dir. dir == first) dirs))
+        (inside dir (h.all dir (some-edges (edges dir) e edge) (first, inl refl, (suc way.0, (e, edge, way.1)))));
+  }
+
+pub covers-from : (s t : State) (first : ℕ) (cone : List ℕ) (begins : ℕ → Bool) → IsValid s → IsValid t → IsCone (depends t) (first ∷ []) cone →
+    ((dir : ℕ) → begins dir ≡ (dir == first)) → (item : ℕ) → LeavesAlike s t begins item → Covers s t (stops_from first (with_first first cone)) item
+covers-from s t first cone begins before after h is item alike = record {
+  before = before;
+  after = after;
+  route = route-from (depends t) first cone h;
+  alike = begins-more s t item begins (begins_at (stops_from first (with_first first cone))) within alike;
+}
+  where
+    within : (dir : ℕ) → begins_at (stops_from first (with_first first cone)) dir ≡ false → begins dir ≡ false
+    within dir out = is dir ∙ (elim (dir == first) as (λ b. (dir == first) ≡ b → b ≡ false) [
+      | true ↦ (λ same.
+          let there : has (with_first first cone) dir ≡ true = ap (has (with_first first cone)) (eqb-true dir first same) ∙ first-there (depends t) first cone h in
+          let begun : begins_at (stops_from first (with_first first cone)) dir ≡ true = begins-at (λ d. d == first) (with_first first cone) dir ∙ (λ i. there i && same i) in
+          absurd cc)
+      | false ↦ (λ _. refl)
+    ] refl)
+
+-- The queries of directories, with that of the next.
+pub queries-more : (s : State) (dirs : List ℕ) (i dir : ℕ) (query : Option (Formula ℕ)) → i < length dirs → dir ≡ get_or dirs i dir → query ≡ query_at s dir → map (query_at s) (take i dirs) ++ query ∷ [] ≡ map (query_at s) (take (i + 1) dirs)
+queries-more s dirs i dir query less is asks =
+    ap (λ (o : Option (Formula ℕ)). map (query_at s) (take i dirs) ++ o ∷ []) (asks ∙ ap (query_at s) is)
+    ∙ sym (map_more (query_at s) dirs i dir less)
