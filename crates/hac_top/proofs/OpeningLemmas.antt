@@ -1,16 +1,16 @@
 -- How a store is opened once the file of the store is attached: what is told of each call is told of both.
 use Rattle.std.proofs.Common.{◌≡◌, ℕ, ◌≤◌, true, false, Bool, List, refl, ap, sym, ◌∙◌, subst, arith, rules, inr}
-use Rattle.std.specs.Prelude.{Option, None, Some, Result, Ok, Err, IfErr, IfOk, IsOk, OnOk}
+use Rattle.std.specs.Prelude.{Option, None, Some, Result, Ok, Err, IfErr, IfOk, IsErr, IsOk, OnOk}
 use Rattle.std.specs.Option.{IfSome}
 use Rattle.std.specs.Result.{is_err}
 use Rattle.hac_disk.specs.Contents.{Attaches}
 use Rattle.hac_disk.specs.Images.{IsQuiet}
 use Rattle.hac_outside.specs.Causes.{ReportsFault}
-use Rattle.hac_model.specs.Run.Play.{Setting}
+use Rattle.hac_model.specs.Run.Play.{Setting, new_setting}
 use Rattle.hac_store.specs.Faults as faults
 use Rattle.hac_store.specs.Held.{held}
 use Rattle.hac_store.specs.Stores as store
-use Rattle.hac_store.specs.Stores.{Seen}
+use Rattle.hac_store.specs.Stores.{Seen, first_store}
 use Rattle.hac_store.specs.declared.fault.StoreFault.{StoreFault}
 use Rattle.hac_store.specs.declared.fault.StoreFault.TheVariants as fault
 use Rattle.hac_top.specs.Attaching.{AttachesStore}
@@ -60,7 +60,35 @@ loaded-opened (Some file) fresh r opened is old_one h kinds =
     subst (λ (o : Result Seen Status). IsOpened o (opening_outcome fresh (held file))) (sym is)
     (subst (λ (b : Bool). IsOpened (opening_result r) (opening_outcome b (held file))) (sym old_one) (one-opened r (held file) h kinds))
 
+-- what was made, or what is in the way
+one-new : (r : Result Seen StoreFault) (kept : Result Setting ℕ) → IfOk r (λ made. made ≡ first_store) → OnOk r (IsErr kept) → (r ≡ Err fault.AlreadyStore → IsOk kept) →
+    ((at : ℕ) → r ≡ Err (fault.NotStore at) → ⊥) × (r ≡ Err fault.Full → ⊥) → IsOpened (opening_result r) (opening_outcome true kept)
+one-new (Ok made) (Ok setting) first none taken kinds = absurd cc
+one-new (Ok made) (Err at) first none taken kinds = ap (λ (st : Seen). Ok st.setting) (sym first)
+one-new (Err fault.Disk) kept first none taken kinds = λ never. absurd never
+one-new (Err (fault.NotStore at)) kept first none taken kinds = absurd (kinds.0 at refl)
+one-new (Err fault.AlreadyStore) (Ok setting) first none taken kinds = λ of_file. refl
+one-new (Err fault.AlreadyStore) (Err at) first none taken kinds = let never = taken refl in absurd cc
+one-new (Err fault.Full) kept first none taken kinds = absurd (kinds.1 refl)
+one-new (Err fault.Memory) kept first none taken kinds = λ never. absurd never
+
+pub made-opened : (told : Option (List ℕ)) (fresh : Bool) (r : Result Seen StoreFault) (opened : Result Seen Status) → opened ≡ opening_result r → fresh ≡ true → IfOk r (λ made. made ≡ first_store) →
+    IfSome told (λ file. OnOk r (IsErr (held file))) → IfSome told (λ file. r ≡ Err fault.AlreadyStore → IsOk (held file)) →
+    ((at : ℕ) → r ≡ Err (fault.NotStore at) → ⊥) × (r ≡ Err fault.Full → ⊥) → IfSome told (λ file. IsOpened opened (opening_outcome fresh (held file)))
+made-opened None fresh r opened is new_one first none taken kinds = search rules
+made-opened (Some file) fresh r opened is new_one first none taken kinds =
+    subst (λ (o : Result Seen Status). IsOpened o (opening_outcome fresh (held file))) (sym is)
+    (subst (λ (b : Bool). IsOpened (opening_result r) (opening_outcome b (held file))) (sym new_one) (one-new r (held file) first none taken kinds))
+
 -- and for what the disk stands
+one-new-stands : (P : Setting → Type 0) (r : Result Seen StoreFault) → IfOk r (λ made. made ≡ first_store) → OnOk r (P new_setting) → IfOk (opening_result r) (λ opened. P opened.setting)
+one-new-stands P (Ok made) first h = subst (λ (st : Seen). P st.setting) (sym first) h
+one-new-stands P (Err failed) first h = search rules
+
+pub made-stands : (P : Setting → Type 0) (told : Option (List ℕ)) (r : Result Seen StoreFault) (opened : Result Seen Status) → opened ≡ opening_result r → IfOk r (λ made. made ≡ first_store) → IfSome told (λ file. OnOk r (P new_setting)) → IfSome told (λ file. IfOk opened (λ opened. P opened.setting))
+made-stands P None r opened is first h = search rules
+made-stands P (Some file) r opened is first h = subst (λ (o : Result Seen Status). IfOk o (λ opened. P opened.setting)) (sym is) (one-new-stands P r first h)
+
 one-stands : (P : Setting → Type 0) (r : Result Seen StoreFault) → IfOk r (λ opened. P opened.setting) → IfOk (opening_result r) (λ opened. P opened.setting)
 one-stands P (Ok opened) h = h
 one-stands P (Err failed) h = search rules

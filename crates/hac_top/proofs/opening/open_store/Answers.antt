@@ -1,14 +1,15 @@
-use Rattle.std.proofs.Common.{ℕ, List, subst, sym, inr, ◌∙◌}
-use Rattle.std.specs.Prelude.{IfOk, IsOk, Option}
+use Rattle.std.proofs.Common.{◌≡◌, ℕ, List, subst, sym, inr, ◌∙◌}
+use Rattle.std.specs.Prelude.{Err, IfOk, IsErr, IsOk, OnOk, Option}
 use Rattle.std.specs.Option.{IfSome}
 use Rattle.hac_disk.specs.Images.{IsQuiet}
-use Rattle.hac_model.specs.Run.Play.{Setting}
+use Rattle.hac_model.specs.Run.Play.{Setting, new_setting}
 use Rattle.hac_store.specs.Held.{held}
 use Rattle.hac_store.specs.Stores as store
+use Rattle.hac_store.specs.declared.fault.StoreFault.TheVariants as fault
 use Rattle.hac_store.specs.Stores.{Stands}
 use Rattle.hac_top.specs.Words.{asked_of}
 use Rattle.hac_top.proofs.OpenedLemmas.{opens-attached, opens-new, opens-quiet}
-use Rattle.hac_top.proofs.OpeningLemmas.{attach-then, loaded-opened, loaded-quiet, loaded-stands, made-quiet, opened-faults, quiet-then, where-fine}
+use Rattle.hac_top.proofs.OpeningLemmas.{attach-then, loaded-opened, loaded-quiet, loaded-stands, made-opened, made-quiet, made-stands, opened-faults, quiet-then, where-fine}
 use Rattle.hac_top.proofs.opening.open_store.Goals as goal
 
 pub returns-then-is_err-clause-any_moment : goal.returns-then-is_err-clause-any_moment
@@ -29,6 +30,21 @@ returns-else-options-clause-any_moment g c =
     let mid = c.attach.new.self in
     opens-attached disk.seen disk.image disk.moment disk.image_since g.met.D.Disk.only_now c.args.options.now.fresh c.args.disk.now mid c.load.new.disk c.attach.ensures.quiet
     (opens-quiet disk.seen disk.image disk.moment disk.image_since g.met.D.Disk.only_now c.args.options.now.fresh (disk.seen mid) mid c.load.new.disk c.load.ensures.quiet)
+
+pub returns-then-options-clause-opened : goal.returns-then-options-clause-opened
+returns-then-options-clause-opened g c =
+    let disk = g.D.Disk in
+    made-opened (disk.seen c.args.disk.now) c.args.options.now.fresh c.create.result c.opening_result.result c.opening_result.ensures c.if-options.true c.create.ensures.made
+    (subst (λ (told : Option (List ℕ)). IfSome told (λ file. OnOk c.create.result (IsErr (held file)))) c.attach.ensures.quiet.same c.create.ensures.new)
+    (subst (λ (told : Option (List ℕ)). IfSome told (λ file. c.create.result ≡ Err fault.AlreadyStore → IsOk (held file))) c.attach.ensures.quiet.same c.create.ensures.already)
+    c.create.ensures.kind
+
+pub returns-then-options-clause-stands : goal.returns-then-options-clause-stands
+returns-then-options-clause-stands g c =
+    let disk = g.D.Disk in
+    let P : Setting → Type 0 = λ setting. Stands (disk.seen c.create.new.disk) (disk.image c.create.new.disk) setting in
+    made-stands P (disk.seen c.args.disk.now) c.create.result c.opening_result.result c.opening_result.ensures c.create.ensures.made
+    (subst (λ (told : Option (List ℕ)). IfSome told (λ file. OnOk c.create.result (P new_setting))) c.attach.ensures.quiet.same c.create.ensures.stands)
 
 pub returns-then-options-clause-quiet : goal.returns-then-options-clause-quiet
 returns-then-options-clause-quiet g c =
