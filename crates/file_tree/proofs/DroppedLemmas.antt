@@ -86,4 +86,4 @@ module _ (t : Inside) (s : Seen) (view : seen_of t ≡ s) (mount : ℕ) where
     ready-inside xs ready = ap (λ (x : Seen). x.ready) view ∙ ready ∙ ap (λ (x : Seen). Sync mount (numbers_for x.state mount xs)) (sym view)
 
     pub spare-inside : (xs : List (List ℕ)) → s.ready ≡ Sync mount (numbers_for s.state mount xs) → (q : ℕ) → Among (numbers_from (find t h mount is) t.next xs) q → has_node t.nodes q ≡ true
-    spare-inside xs ready = subst (λ (r : Ready). HasSpare r t.nodes t.next t.spare.items) (ready-inside xs ready) h.spare
+    spare-inside xs ready = subst (λ (r : Ready). HasSpare r t.nodes t.next) (ready-inside xs ready) h.spare

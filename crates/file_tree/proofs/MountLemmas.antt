@@ -154,7 +154,7 @@ module _ (t : Inside) (s : Seen) (view : seen_of t ≡ s) (h : IsShaped t) (u : 
             absurd cc)
       ]
 
-      pub shaped-mounted : HasSpare u.ready u.nodes u.next u.spare.items → IsShaped u
+      pub shaped-mounted : HasSpare u.ready u.nodes u.next → IsShaped u
       shaped-mounted spare = record {
         lists = nested;
         layout = sound;

@@ -42,7 +42,7 @@ state-new u next entries =
     let none : entries_below 1 (entry_of u.nodes) ≡ [] = ap (λ (o : Option Entry). option_to_list o) (entries 0) in
     first ∙ ap (λ (es : List Entry). record { next = 1; entries = es; sessions = [] }) none
 
-pub shaped-new : (u : Inside) → u.next ≡ 1 → ((n : ℕ) → entry_of u.nodes n ≡ None) → ((dir : ℕ) → kids_of u.nodes dir ≡ []) → has_node u.nodes 0 ≡ true → ((n : ℕ) → (n ≡ 0 → ⊥) → has_node u.nodes n ≡ false) → HasSpare u.ready u.nodes u.next u.spare.items → IsShaped u
+pub shaped-new : (u : Inside) → u.next ≡ 1 → ((n : ℕ) → entry_of u.nodes n ≡ None) → ((dir : ℕ) → kids_of u.nodes dir ≡ []) → has_node u.nodes 0 ≡ true → ((n : ℕ) → (n ≡ 0 → ⊥) → has_node u.nodes n ≡ false) → HasSpare u.ready u.nodes u.next → IsShaped u
 shaped-new u next entries kids root others spare = record {
   lists = record {
     root = entries 0;
@@ -67,10 +67,10 @@ added-sound s dir name b h after =
     entry_at-all (λ e. IsSound e.body) (added s dir name b).entries s.next entry after.bodies (entry_at-new s.entries entry (entry_at-next 0 s.entries s.next s.next h.numbers (omega arith)))
 
 -- what was prepared for it, of whatever kind
-pub spare-new : {S : Type 0} (dir : ℕ) (b : NewBody) (nodes : IndexMap ℕ Node S) (next : ℕ) (spare : List ℕ) → HasSpare (ready_for dir b) nodes next spare → HasNew dir nodes next spare
-spare-new dir (new.File text) nodes next spare has = has
-spare-new dir new.Dir nodes next spare has = has
-spare-new dir (new.Symlink target) nodes next spare has = has
-spare-new dir (new.Semantic query) nodes next spare has = has
-spare-new dir (new.Mount space) nodes next spare has = has
-spare-new dir new.Document nodes next spare has = has
+pub spare-new : {S : Type 0} (dir : ℕ) (b : NewBody) (nodes : IndexMap ℕ Node S) (next : ℕ) → HasSpare (ready_for dir b) nodes next → HasNew dir nodes next
+spare-new dir (new.File text) nodes next has = has
+spare-new dir new.Dir nodes next has = has
+spare-new dir (new.Symlink target) nodes next has = has
+spare-new dir (new.Semantic query) nodes next has = has
+spare-new dir (new.Mount space) nodes next has = has
+spare-new dir new.Document nodes next has = has

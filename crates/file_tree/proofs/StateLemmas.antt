@@ -79,7 +79,7 @@ module _ (t : Inside) (s : Seen) (view : seen_of t ≡ s) (h : IsShaped t) (u : 
 
   -- the tree keeps what it kept where neither parents nor children changed
   pub shaped-same : u.next ≡ t.next → ((n : ℕ) → parent_in (entry_of u.nodes n) ≡ parent_in (entry_of t.nodes n)) → ((dir n : ℕ) → parent_in (entry_of t.nodes n) ≡ Some dir → name_of u.nodes n ≡ name_of t.nodes n) → ((dir : ℕ) → kids_of u.nodes dir ≡ kids_of t.nodes dir) →
-      ((n : ℕ) → n < t.next → has_node u.nodes n ≡ has_node t.nodes n) → IsLayout (state_of u) → HasSpare u.ready u.nodes u.next u.spare.items → IsShaped u
+      ((n : ℕ) → n < t.next → has_node u.nodes n ≡ has_node t.nodes n) → IsLayout (state_of u) → HasSpare u.ready u.nodes u.next → IsShaped u
   shaped-same next parents names kids numbers layout spare = record {
     lists = subst (λ (k : ℕ). AreNested k (entry_of u.nodes) (name_of u.nodes) (kids_of u.nodes)) (sym next)
         (tree-same t.next (entry_of t.nodes) (entry_of u.nodes) (name_of t.nodes) (name_of u.nodes) (kids_of t.nodes) (kids_of u.nodes) h.lists parents names kids);
@@ -91,7 +91,7 @@ module _ (t : Inside) (s : Seen) (view : seen_of t ≡ s) (h : IsShaped t) (u : 
 
   -- a body is edited
   pub shaped-edited : (m : ℕ) (edit : Body → Body) → u.next ≡ t.next → ((n : ℕ) → entry_of u.nodes n ≡ touched_at m (edited edit) (entry_of t.nodes) n) → ((n : ℕ) → name_of u.nodes n ≡ name_of t.nodes n) → ((dir : ℕ) → kids_of u.nodes dir ≡ kids_of t.nodes dir) →
-      ((n : ℕ) → has_node u.nodes n ≡ has_node t.nodes n) → IsLayout (changed_at s.state m (edited edit)) → HasSpare u.ready u.nodes u.next u.spare.items → IsShaped u
+      ((n : ℕ) → has_node u.nodes n ≡ has_node t.nodes n) → IsLayout (changed_at s.state m (edited edit)) → HasSpare u.ready u.nodes u.next → IsShaped u
   shaped-edited m edit next told names kids numbers layout spare =
       shaped-same next (λ n. ap parent_in (told n) ∙ parent-edited (nat_eq m n) edit (entry_of t.nodes n)) (λ dir n stands. names n) kids (λ n other. numbers n)
       (subst IsLayout (sym (state-changed m (edited edit) next told)) layout) spare
@@ -102,7 +102,7 @@ module _ (t : Inside) (s : Seen) (view : seen_of t ≡ s) (h : IsShaped t) (u : 
 
   -- nodes that are no entries are under numbers that weren't taken
   pub shaped-prepared : u.next ≡ t.next → ((n : ℕ) → entry_of u.nodes n ≡ entry_of t.nodes n) → ((n : ℕ) → n < t.next → name_of u.nodes n ≡ name_of t.nodes n) → ((dir : ℕ) → kids_of u.nodes dir ≡ kids_of t.nodes dir) →
-      ((n : ℕ) → n < t.next → has_node u.nodes n ≡ has_node t.nodes n) → HasSpare u.ready u.nodes u.next u.spare.items → IsShaped u
+      ((n : ℕ) → n < t.next → has_node u.nodes n ≡ has_node t.nodes n) → HasSpare u.ready u.nodes u.next → IsShaped u
   shaped-prepared next told names kids numbers spare =
       shaped-same next (λ n. ap parent_in (told n))
       (λ dir n stands.
@@ -141,7 +141,7 @@ module _ (t : Inside) (s : Seen) (view : seen_of t ≡ s) (h : IsShaped t) (u : 
   -- an entry is added
   pub shaped-added : (dir : ℕ) (name : List ℕ) (body : Body) → u.next ≡ t.next + 1 → ((n : ℕ) → entry_of u.nodes n ≡ told_at t.next (Some (record { number = t.next; parent = dir; name = name; body = body })) (entry_of t.nodes) n) →
       ((n : ℕ) → name_of u.nodes n ≡ told_at t.next name (name_of t.nodes) n) → ((d : ℕ) → kids_of u.nodes d ≡ told_at dir (insert (kids_of t.nodes dir) (rank_in (name_of t.nodes) name (kids_of t.nodes dir)) t.next) (kids_of t.nodes) d) →
-      ((n : ℕ) → has_node u.nodes n ≡ has_node t.nodes n) → dir < t.next → IsLayout (added s.state dir name body) → HasSpare u.ready u.nodes u.next u.spare.items → IsShaped u
+      ((n : ℕ) → has_node u.nodes n ≡ has_node t.nodes n) → dir < t.next → IsLayout (added s.state dir name body) → HasSpare u.ready u.nodes u.next → IsShaped u
   shaped-added dir name body next told names kids numbers low layout spare = record {
     lists = subst (λ (k : ℕ). AreNested k (entry_of u.nodes) (name_of u.nodes) (kids_of u.nodes)) (sym next)
         (tree-same (t.next + 1) (told_at t.next (Some new) (entry_of t.nodes)) (entry_of u.nodes) (told_at t.next name (name_of t.nodes)) (name_of u.nodes) (told_at dir (insert (kids_of t.nodes dir) (rank_in (name_of t.nodes) name (kids_of t.nodes dir)) t.next) (kids_of t.nodes)) (kids_of u.nodes) linked
@@ -187,7 +187,7 @@ module _ (t : Inside) (s : Seen) (view : seen_of t ≡ s) (h : IsShaped t) (u : 
   -- an entry is taken out, with its list, which is empty
   pub shaped-removed : (n dir : ℕ) → u.next ≡ t.next → parent_in (entry_of t.nodes n) ≡ Some dir → ((q : ℕ) → entry_of u.nodes q ≡ told_at n None (entry_of t.nodes) q) → ((q : ℕ) → nat_eq n q ≡ false → name_of u.nodes q ≡ name_of t.nodes q) →
       ((d : ℕ) → kids_of u.nodes d ≡ told_at n [] (told_at dir (remove (kids_of t.nodes dir) (rank_in (name_of t.nodes) (name_of t.nodes n) (kids_of t.nodes dir))) (kids_of t.nodes)) d) →
-      ((q : ℕ) → has_node u.nodes q ≡ told_at n false (has_node t.nodes) q) → IsLayout (removed s.state n) → HasSpare u.ready u.nodes u.next u.spare.items → IsShaped u
+      ((q : ℕ) → has_node u.nodes q ≡ told_at n false (has_node t.nodes) q) → IsLayout (removed s.state n) → HasSpare u.ready u.nodes u.next → IsShaped u
   shaped-removed n dir next stands told names kids numbers layout spare = record {
     lists = subst (λ (k : ℕ). AreNested k (entry_of u.nodes) (name_of u.nodes) (kids_of u.nodes)) (sym next)
         (tree-same t.next (told_at n None (entry_of t.nodes)) (entry_of u.nodes) (name_of t.nodes) (name_of u.nodes) cut (kids_of u.nodes) (tree-unlinked t.next (entry_of t.nodes) (name_of t.nodes) (kids_of t.nodes) n dir h.lists stands)
@@ -266,7 +266,7 @@ module _ (t : Inside) (s : Seen) (view : seen_of t ≡ s) (h : IsShaped t) (u : 
   pub shaped-moved : (n dir old : ℕ) (name : List ℕ) → u.next ≡ t.next → parent_in (entry_of t.nodes n) ≡ Some old → ((q : ℕ) → entry_of u.nodes q ≡ touched_at n (reseated dir name) (entry_of t.nodes) q) → ((q : ℕ) → name_of u.nodes q ≡ told_at n name (name_of t.nodes) q) →
       (cut : ℕ → List ℕ) → ((d : ℕ) → cut d ≡ told_at old (remove (kids_of t.nodes old) (rank_in (name_of t.nodes) (name_of t.nodes n) (kids_of t.nodes old))) (kids_of t.nodes) d) →
       ((d : ℕ) → kids_of u.nodes d ≡ told_at dir (insert (cut dir) (rank_in (name_of t.nodes) name (cut dir)) n) cut d) →
-      ((q : ℕ) → has_node u.nodes q ≡ has_node t.nodes q) → dir < t.next → IsLayout (changed_at s.state n (reseated dir name)) → HasSpare u.ready u.nodes u.next u.spare.items → IsShaped u
+      ((q : ℕ) → has_node u.nodes q ≡ has_node t.nodes q) → dir < t.next → IsLayout (changed_at s.state n (reseated dir name)) → HasSpare u.ready u.nodes u.next → IsShaped u
   shaped-moved n dir old name next stands told names cut left kids numbers low layout spare = record {
     lists = subst (λ (k : ℕ). AreNested k (entry_of u.nodes) (name_of u.nodes) (kids_of u.nodes)) (sym next)
         (tree-same t.next (told_at n (Some new) (told_at n None (entry_of t.nodes))) (entry_of u.nodes) (told_at n name (name_of t.nodes)) (name_of u.nodes) (told_at dir (insert (cut dir) (rank_in (name_of t.nodes) name (cut dir)) n) cut) (kids_of u.nodes) linked parents (λ d q there. names q) kids);

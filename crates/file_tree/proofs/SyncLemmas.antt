@@ -282,7 +282,7 @@ module _ (t : Inside) (h : IsShaped t) (mount : ℕ) (is : is_mount_at (state_of
                 absurd cc)
           ]
 
-          pub shaped-redone : IsLayout (state_of u) → HasSpare u.ready u.nodes u.next u.spare.items → IsShaped u
+          pub shaped-redone : IsLayout (state_of u) → HasSpare u.ready u.nodes u.next → IsShaped u
           shaped-redone layout spare = record {
             lists = nested;
             layout = layout;

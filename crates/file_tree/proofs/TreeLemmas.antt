@@ -1,5 +1,5 @@
 -- What a tree keeps beside its nodes, after a change.
-use Rattle.std.proofs.Common.{◌≡◌, ◌<◌, ◌≤◌, ℕ, true, false, List, [], ◌∷◌, ◌++◌, subst, refl, ap, sym, arith, ◌∙◌}
+use Rattle.std.proofs.Common.{◌≡◌, ◌<◌, ◌≤◌, ℕ, true, false, subst, refl, ap, sym, arith, ◌∙◌}
 use Rattle.std.specs.Prelude.{◌||◌, nat_eq, nat_lt}
 use Rattle.std.specs.BTreeSet.{contains}
 use Rattle.std.specs.Ordering.{nat_cmp}
@@ -16,10 +16,10 @@ use Rattle.hac_model.specs.Tree.{is_directory_at}
 use Rattle.hac_model.specs.declared.states.Body.{Body}
 use Rattle.hac_model.specs.declared.states.State.{State}
 use Rattle.file_tree.specs.Answers.{is_dirty_at}
-use Rattle.file_tree.specs.Nodes.{entry_of, has_node, kids_of, name_of}
+use Rattle.file_tree.specs.Nodes.{entry_of, has_node, kids_of, name_of, spare_of}
 use Rattle.file_tree.specs.Ready.{is_awaited}
 use Rattle.file_tree.specs.Seen.{Seen}
-use Rattle.file_tree.specs.Shape.{HasDocuments, HasNew, HasSpare, IsShaped, IsTree, seen_of, state_of}
+use Rattle.file_tree.specs.Shape.{HasDocuments, HasPlace, HasSpare, IsShaped, IsTree, seen_of, state_of}
 use Rattle.file_tree.specs.declared.nodes.Node.{Node}
 use Rattle.file_tree.specs.declared.ready.Ready.{Ready}
 use Rattle.file_tree.specs.declared.ready.Ready.TheVariants.{Nothing}
@@ -39,9 +39,13 @@ became u after seen shaped told dirty = record {
 pub set-clean : (t : Inside) → IsTree t → t.ready ≡ Nothing → (n : ℕ) → contains nat_cmp t.to_index n ≡ is_dirty_at (state_of t).entries n
 set-clean t h none n = h.dirty_are n ∙ ap (λ r. is_dirty_at (state_of t).entries n || is_awaited t.next r n) none ∙ or-false (is_dirty_at (state_of t).entries n)
 
+-- what is below the next number is another
+pub other-below : (next n : ℕ) → n < next → nat_eq next n ≡ false
+other-below next n low = ne_eqb next n (λ same. omega arith)
+
 -- a tree with other nodes that are no entries, ready for another change
 pub tree-readied : (t : Inside) → IsTree t → (u : Inside) → u.next ≡ t.next → ((n : ℕ) → entry_of u.nodes n ≡ entry_of t.nodes n) → ((n : ℕ) → n < t.next → name_of u.nodes n ≡ name_of t.nodes n) → ((dir : ℕ) → kids_of u.nodes dir ≡ kids_of t.nodes dir) →
-    ((n : ℕ) → n < t.next → has_node u.nodes n ≡ has_node t.nodes n) → HasSpare u.ready u.nodes u.next u.spare.items → u.counts ≡ t.counts →
+    ((n : ℕ) → n < t.next → has_node u.nodes n ≡ has_node t.nodes n) → HasSpare u.ready u.nodes u.next → u.counts ≡ t.counts →
     ((n : ℕ) → contains nat_cmp u.to_index n ≡ (is_dirty_at (state_of t).entries n || is_awaited t.next u.ready n)) → HasDocuments u.ready u.next u.documents.items → IsTree u
 tree-readied t h u next told names kids numbers spare same set documents =
     let state : state_of u ≡ state_of t = state-same t (seen_of t) refl h.shaped u next told in
@@ -54,10 +58,10 @@ tree-readied t h u next told names kids numbers spare same set documents =
 
 -- the same where only the next number has another node
 pub tree-prepared : (t : Inside) → IsTree t → (u : Inside) → u.next ≡ t.next → ((n : ℕ) → entry_of u.nodes n ≡ entry_of t.nodes n) → ((n : ℕ) → nat_eq t.next n ≡ false → name_of u.nodes n ≡ name_of t.nodes n) → ((dir : ℕ) → kids_of u.nodes dir ≡ kids_of t.nodes dir) →
-    ((n : ℕ) → nat_eq t.next n ≡ false → has_node u.nodes n ≡ has_node t.nodes n) → HasSpare u.ready u.nodes u.next u.spare.items → u.counts ≡ t.counts →
+    ((n : ℕ) → nat_eq t.next n ≡ false → has_node u.nodes n ≡ has_node t.nodes n) → HasSpare u.ready u.nodes u.next → u.counts ≡ t.counts →
     ((n : ℕ) → contains nat_cmp u.to_index n ≡ (is_dirty_at (state_of t).entries n || is_awaited t.next u.ready n)) → HasDocuments u.ready u.next u.documents.items → IsTree u
 tree-prepared t h u next told names kids numbers spare same set documents =
-    tree-readied t h u next told (λ n low. names n (ne_eqb t.next n (λ is. omega arith))) kids (λ n low. numbers n (ne_eqb t.next n (λ is. omega arith))) spare same set documents
+    tree-readied t h u next told (λ n low. names n (other-below t.next n low)) kids (λ n low. numbers n (other-below t.next n low)) spare same set documents
 
 -- numbers stay small
 pub next-small : (t : Inside) → IsTree t → t.next ≤ NUMBERS_LIMIT
@@ -70,20 +74,18 @@ module _ (t : Inside) (state : State) (view : seen_of t ≡ record { state = sta
   ready-nothing = ap (λ (x : Seen). x.ready) view
 
   -- what was prepared needn't be in it
-  pub spare-nothing : {S : Type 0} (nodes : IndexMap ℕ Node S) (next : ℕ) (spare : List ℕ) → HasSpare t.ready nodes next spare
-  spare-nothing nodes next spare = subst (λ (r : Ready). HasSpare r nodes next spare) (sym ready-nothing) tt
+  pub spare-nothing : {S : Type 0} (nodes : IndexMap ℕ Node S) (next : ℕ) → HasSpare t.ready nodes next
+  spare-nothing nodes next = subst (λ (r : Ready). HasSpare r nodes next) (sym ready-nothing) tt
 
-  -- a new entry is prepared in one of its directories, beside others
-  pub new-readied : {S : Type 0} (nodes : IndexMap ℕ Node S) (dir : ℕ) (spare : List ℕ) → IsTree t → is_directory_at state.entries dir ≡ true → ((n : ℕ) → n < t.next → has_node nodes n ≡ has_node t.nodes n) → has_node nodes t.next ≡ true →
-      spare ≡ kids_of nodes dir ++ t.next ∷ [] → HasNew dir nodes t.next spare
-  new-readied nodes dir spare h is others new listed =
+  -- a directory has a node, beside which others may have come
+  pub directory-node : {S : Type 0} (nodes : IndexMap ℕ Node S) (dir : ℕ) → IsTree t → is_directory_at state.entries dir ≡ true → ((n : ℕ) → n < t.next → has_node nodes n ≡ has_node t.nodes n) → has_node nodes dir ≡ true
+  directory-node nodes dir h is others =
       let there = directory-there t (record { state = state; ready = Nothing }) view h.shaped t dir is in
-      (listed, new, others dir there.1 ∙ there.0, there.1)
+      others dir there.1 ∙ there.0
 
-  -- the same where only the next number has another node
-  pub new-prepared : {S : Type 0} (nodes : IndexMap ℕ Node S) (dir : ℕ) (spare : List ℕ) → IsTree t → is_directory_at state.entries dir ≡ true → ((n : ℕ) → nat_eq t.next n ≡ false → has_node nodes n ≡ has_node t.nodes n) → has_node nodes t.next ≡ true →
-      spare ≡ kids_of nodes dir ++ t.next ∷ [] → HasNew dir nodes t.next spare
-  new-prepared nodes dir spare h is others new listed = new-readied nodes dir spare h is (λ n low. others n (ne_eqb t.next n (λ same. omega arith))) new listed
+  -- a place for one more is in the list of one of its directories
+  pub place-reserved : {S : Type 0} (nodes : IndexMap ℕ Node S) (dir : ℕ) → IsTree t → is_directory_at state.entries dir ≡ true → 0 < spare_of nodes dir → HasPlace dir nodes t.next
+  place-reserved nodes dir h is place = (place, (directory-there t (record { state = state; ready = Nothing }) view h.shaped t dir is).1)
 
 -- it is seen as this state, and keeps all
 abbrev pub Became : Inside → State → Type 0
@@ -104,5 +106,5 @@ module _ (t : Inside) (s : Seen) (view : seen_of t ≡ s) (h : IsTree t) where
       ((n : ℕ) → contains nat_cmp u.to_index n ≡ is_dirty_at (changed_at s.state m (edited edit)).entries n) → Became u (changed_at s.state m (edited edit))
   tree-edited u m edit next ready told names kids numbers layout same dirty =
       let seen : seen_of u ≡ record { state = changed_at s.state m (edited edit); ready = Nothing } = λ i. record { state = state-changed t s view h.shaped u m (edited edit) next told i; ready = ready i } in
-      let spare : HasSpare u.ready u.nodes u.next u.spare.items = subst (λ r. HasSpare r u.nodes u.next u.spare.items) (sym ready) tt in
+      let spare : HasSpare u.ready u.nodes u.next = subst (λ r. HasSpare r u.nodes u.next) (sym ready) tt in
       (seen, became u (changed_at s.state m (edited edit)) seen (shaped-edited t s view h.shaped u m edit next told names kids numbers layout spare) same dirty)

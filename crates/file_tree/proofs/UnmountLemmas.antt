@@ -192,7 +192,7 @@ module _ (t : Inside) (h : IsShaped t) (mount : ℕ) (is : is_mount_at (state_of
         ] refl)
       ] refl)
 
-      pub shaped-unmounted : IsLayout (state_of u) → HasSpare u.ready u.nodes u.next u.spare.items → IsShaped u
+      pub shaped-unmounted : IsLayout (state_of u) → HasSpare u.ready u.nodes u.next → IsShaped u
       shaped-unmounted layout spare = record {
         lists = nested;
         layout = layout;

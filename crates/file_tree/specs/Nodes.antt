@@ -73,6 +73,10 @@ module _ {S : Type 0} where
   abbrev pub kids_of : IndexMap ℕ Node S → ℕ → List ℕ
   kids_of nodes number = option_map_or (λ node. node.children.items) (get nat_eq nodes number) []
 
+  -- how many places the list of a directory has for more
+  abbrev pub spare_of : IndexMap ℕ Node S → ℕ → ℕ
+  spare_of nodes number = option_map_or (λ node. node.children.spare) (get nat_eq nodes number) 0
+
 -- the entries of the numbers below a number, in order, given the entry of each
 abbrev pub entries_below : ℕ → (ℕ → Option Entry) → List Entry
 entries_below zero at = []

@@ -1,5 +1,5 @@
 -- How a tree keeps a state.
-use Rattle.std.specs.Prelude.{◌≡◌, ℕ, ◌+◌, ◌<◌, ◌≤◌, false, List, [], ◌∷◌, ◌++◌, Option, Some, None, IsTrue}
+use Rattle.std.specs.Prelude.{◌≡◌, ℕ, ◌+◌, ◌<◌, ◌≤◌, false, List, [], ◌∷◌, Option, Some, None, IsTrue}
 use Rattle.std.specs.List.{AllByRecursion}
 use Rattle.std.specs.BTreeSet.{contains}
 use Rattle.std.specs.Option.{option_map}
@@ -12,7 +12,7 @@ use Rattle.hac_model.specs.Tree.Valid.{IsLayout}
 use Rattle.hac_model.specs.declared.states.Entry.{Entry}
 use Rattle.hac_model.specs.declared.states.State.{State}
 use Rattle.file_tree.specs.Documents.{numbers_up}
-use Rattle.file_tree.specs.Nodes.{entries_below, entry_of, has_node, kids_of, name_of}
+use Rattle.file_tree.specs.Nodes.{entries_below, entry_of, has_node, kids_of, name_of, spare_of}
 use Rattle.file_tree.specs.Ready.{is_to_index}
 use Rattle.file_tree.specs.Seen.{Seen}
 use Rattle.file_tree.specs.declared.nodes.Node.{Node}
@@ -45,23 +45,27 @@ pub record AreNested (next : ℕ) (at : ℕ → Option Entry) (names : ℕ → L
   pub rises : (dir : ℕ) → NamesRise names (kids dir)
 
 module _ {S : Type 0} where
-  -- a list of children with a place for one more, and the node of a new entry
-  abbrev pub HasNew : ℕ → IndexMap ℕ Node S → ℕ → List ℕ → Type 0
-  HasNew dir nodes next spare = (spare ≡ kids_of nodes dir ++ next ∷ []) × IsTrue (has_node nodes next) × IsTrue (has_node nodes dir) × (dir < next)
+  -- a directory of the tree whose list has a place for one more
+  abbrev pub HasPlace : ℕ → IndexMap ℕ Node S → ℕ → Type 0
+  HasPlace dir nodes next = (0 < spare_of nodes dir) × (dir < next)
+
+  -- the same, and the node of a new entry
+  abbrev pub HasNew : ℕ → IndexMap ℕ Node S → ℕ → Type 0
+  HasNew dir nodes next = HasPlace dir nodes next × IsTrue (has_node nodes next)
 
   -- the numbers from one on, and below another, have nodes
   abbrev pub HasNodes : IndexMap ℕ Node S → ℕ → ℕ → Type 0
   HasNodes nodes from to = (number : ℕ) → from ≤ number → number < to → IsTrue (has_node nodes number)
 
   -- what was prepared is in the tree
-  abbrev pub HasSpare : Ready → IndexMap ℕ Node S → ℕ → List ℕ → Type 0
-  HasSpare Nothing nodes next spare = Unit {0}
-  HasSpare (Add dir kind) nodes next spare = HasNew dir nodes next spare
-  HasSpare (Link dir word) nodes next spare = HasNew dir nodes next spare
-  HasSpare (Move dir) nodes next spare = (spare ≡ kids_of nodes dir ++ 0 ∷ []) × IsTrue (has_node nodes dir) × (dir < next)
-  HasSpare (Text file) nodes next spare = Unit {0}
-  HasSpare (Mount dir count) nodes next spare = HasNew dir nodes next spare × HasNodes nodes next (next + 1 + count)
-  HasSpare (Sync mount numbers) nodes next spare = (number : ℕ) → Among numbers number → IsTrue (has_node nodes number)
+  abbrev pub HasSpare : Ready → IndexMap ℕ Node S → ℕ → Type 0
+  HasSpare Nothing nodes next = Unit {0}
+  HasSpare (Add dir kind) nodes next = HasNew dir nodes next
+  HasSpare (Link dir word) nodes next = HasNew dir nodes next
+  HasSpare (Move dir) nodes next = HasPlace dir nodes next
+  HasSpare (Text file) nodes next = Unit {0}
+  HasSpare (Mount dir count) nodes next = HasNew dir nodes next × HasNodes nodes next (next + 1 + count)
+  HasSpare (Sync mount numbers) nodes next = (number : ℕ) → Among numbers number → IsTrue (has_node nodes number)
 
   -- of the numbers that were taken, only those of the entries and of the root have nodes. Others may have what was
   -- prepared.
@@ -78,7 +82,7 @@ pub record IsShaped (tree : Inside) : Type 0 where
   pub lists : AreNested tree.next (entry_of tree.nodes) (name_of tree.nodes) (kids_of tree.nodes)
   pub layout : IsLayout (state_of tree)
   pub root : IsTrue (has_node tree.nodes 0)
-  pub spare : HasSpare tree.ready tree.nodes tree.next tree.spare.items
+  pub spare : HasSpare tree.ready tree.nodes tree.next
   pub others : HasNoOther tree.nodes tree.next
 
 -- so they are, and what is kept beside them follows from them: how much there is, and which files are dirty. The set has

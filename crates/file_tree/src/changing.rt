@@ -1,7 +1,6 @@
 //! Changes of the tree. Those that may want memory are prepared, and no change itself takes any.
-ghost use Rattle.std.specs.Prelude.{◌≡◌, ◌<◌, ◌-◌, ◌++◌, ◌∷◌, ◌&&◌, ◌||◌, [], true, not, ℕ, List};
-ghost use Rattle.std.specs.Prelude.{length, remove, if◌then◌else◌, IfOk, OnOk, OnErr, IsSome};
-ghost use Rattle.std.specs.Prelude.{IsTrue, Option};
+ghost use Rattle.std.specs.Prelude.{◌≡◌, ◌<◌, ◌&&◌, ◌||◌, not, nat_eq, ℕ, insert, if◌then◌else◌};
+ghost use Rattle.std.specs.Prelude.{Some, OnOk, OnErr, IsSome, IsTrue};
 ghost use Rattle.std.specs.BTreeSet.{contains};
 ghost use Rattle.std.specs.Ordering.{nat_cmp};
 ghost use Rattle.hac_model.specs.Tree.Events.{added, apply, asking, changed_at, edited, indexed};
@@ -10,18 +9,17 @@ ghost use Rattle.hac_model.specs.Tree.{entry_at, is_directory_at, is_file_at};
 ghost use Rattle.hac_model.specs.Script.PathWords.{is_target, untested_word};
 ghost use Rattle.file_tree.specs.Answers.{is_dirty_at};
 ghost use Rattle.file_tree.specs.Changes.{GotReady, HasBecome, MayBecome};
-ghost use Rattle.file_tree.specs.Nodes.{body_from, entry_of, kids_of, name_of};
+ghost use Rattle.file_tree.specs.Nodes.{body_from, entry_of, has_node, kids_of, name_of, spare_of};
 ghost use Rattle.file_tree.specs.Ready.{is_number, is_to_index, ready_for};
 ghost use Rattle.file_tree.specs.Search.{rank_in};
 ghost use Rattle.file_tree.specs.Shape.{NamesRise, parent_in};
 
 use crate::nodes::{self, Content, NewBody, Nodes, children_at};
 use crate::ready::{Ready, awaited, word_in};
-use crate::searching::{order_last, rank};
+use crate::searching::rank;
 use crate::targets::read_word;
 use crate::tree::{EntryKind, Tree};
 use hac_model::{Counts, Event, Memory, Name, Number, Query, Text};
-use std::alloc::Global;
 use std::collections::BTreeSet;
 use std::mem;
 
@@ -35,7 +33,7 @@ impl Tree {
     {
         self.forget();
         nodes::prepare(self.alloc, &mut self.nodes, self.next)?;
-        self.spare = children_and(self.alloc, &self.nodes, dir, self.next)?;
+        nodes::reserve_child(&mut self.nodes, dir)?;
         let ready = Ready::Add { dir, kind };
         add_number(&mut self.to_index, awaited(self.next, &ready))?;
         self.ready = ready;
@@ -53,7 +51,7 @@ impl Tree {
         self.forget();
         let word = read_word(self.alloc, target)?;
         nodes::prepare(self.alloc, &mut self.nodes, self.next)?;
-        self.spare = children_and(self.alloc, &self.nodes, dir, self.next)?;
+        nodes::reserve_child(&mut self.nodes, dir)?;
         self.ready = Ready::Link { dir, word };
         Ok(())
     }
@@ -65,7 +63,7 @@ impl Tree {
         ensures err { OnErr result (GotReady Ready.Nothing self.old self.new) }
     {
         self.forget();
-        self.spare = children_and(self.alloc, &self.nodes, dir, Number::ROOT)?;
+        nodes::reserve_child(&mut self.nodes, dir)?;
         self.ready = Ready::Move { dir };
         Ok(())
     }
@@ -108,9 +106,8 @@ impl Tree {
     {
         let word = word_in(mem::replace(&mut self.ready, Ready::Nothing));
         let number = self.next;
-        order_last(&self.nodes, &mut self.spare, name.as_bytes());
+        insert_named(&mut self.nodes, dir, name.as_bytes(), number);
         nodes::put(&mut self.nodes, number, dir, name, Content::new(body, word));
-        nodes::put_children(&mut self.nodes, dir, &mut self.spare);
         self.next = Number::new(number.get() + 1);
         self.counts = counts;
     }
@@ -126,10 +123,8 @@ impl Tree {
         let parent = parent_at(&self.nodes, entry);
         let place = place_at(&self.nodes, parent, entry);
         nodes::drop_child(&mut self.nodes, parent, place);
-        set_last(&mut self.spare, entry, place, parent == dir);
-        order_last(&self.nodes, &mut self.spare, name.as_bytes());
+        insert_named(&mut self.nodes, dir, name.as_bytes(), entry);
         nodes::reseat(&mut self.nodes, entry, dir, name);
-        nodes::put_children(&mut self.nodes, dir, &mut self.spare);
         self.counts = counts;
     }
 
@@ -226,20 +221,20 @@ fn drop_number(numbers: &mut BTreeSet<u64>, number: Option<Number>)
     }
 }
 
-/// The entries of a directory, and one number more.
-pub(crate) fn children_and(
-    alloc: Global,
-    nodes: &Nodes,
-    dir: Number,
-    last: Number,
-) -> Result<Vec<Number>, Memory>
-    ensures { IfOk result (λ numbers. numbers.items ≡ kids_of nodes.now dir ++ last ∷ []) }
+/// Inserts a number, which is to have the name, into the list of a directory's entries. The list
+/// has a place for one more.
+pub(crate) fn insert_named(nodes: &mut Nodes, dir: Number, name: &[u8], number: Number)
+    requires { 0 < spare_of nodes.old dir }
+    ensures numbers { (q : ℕ) → has_node nodes.new q ≡ has_node nodes.old q }
+    ensures entries { (q : ℕ) → entry_of nodes.new q ≡ entry_of nodes.old q }
+    ensures names { (q : ℕ) → name_of nodes.new q ≡ name_of nodes.old q }
+    ensures kids { NamesRise (name_of nodes.old) (kids_of nodes.old dir) → (q : ℕ) →
+        kids_of nodes.new q ≡ if nat_eq dir q then insert (kids_of nodes.old dir)
+        (rank_in (name_of nodes.old) name.now (kids_of nodes.old dir)) number else kids_of nodes.old
+        q }
 {
-    let children = children_at(nodes, dir);
-    let mut numbers = Vec::with_capacity(alloc, children.len() + 1)?;
-    numbers.extend_from_slice(children)?;
-    numbers.push(last)?;
-    Ok(numbers)
+    let place = rank(nodes, children_at(nodes, dir), name);
+    nodes::insert_child(nodes, dir, place, number);
 }
 
 /// The directory of an entry.
@@ -259,18 +254,4 @@ pub(crate) fn place_at(nodes: &Nodes, dir: Number, entry: Number) -> usize
         result ≡ rank_in (name_of nodes.now) (name_of nodes.now entry) (kids_of nodes.now dir) }
 {
     rank(nodes, children_at(nodes, dir), nodes::name_at(nodes, entry))
-}
-
-/// Moves a number to the end of a list, or adds it there.
-fn set_last(numbers: &mut Vec<Number>, number: Number, place: usize, is_in: bool)
-    requires some { 0 < length numbers.old.items }
-    requires place { is_in ≡ true → place < length numbers.old.items - 1 }
-    ensures { (front : List ℕ) (last : ℕ) → numbers.old.items ≡ front ++ last ∷ [] →
-        numbers.new.items ≡ (if is_in then remove front place else front) ++ number ∷ [] }
-{
-    if is_in {
-        numbers.remove(place);
-    }
-    let last = numbers.len() - 1;
-    numbers[last] = number;
 }

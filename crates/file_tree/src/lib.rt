@@ -3,6 +3,7 @@
 #![tactic(auto)]
 
 mod changing;
+mod children;
 mod counting;
 mod depths;
 mod documents;

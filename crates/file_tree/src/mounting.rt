@@ -7,11 +7,11 @@ ghost use Rattle.hac_model.specs.Tree.{is_directory_at, is_mount_at};
 ghost use Rattle.file_tree.specs.Changes.{GotReady, HasBecome, MayBecome};
 ghost use Rattle.file_tree.specs.Documents.{numbers_for};
 
-use crate::changing::{children_and, parent_at, place_at};
+use crate::changing::{insert_named, parent_at, place_at};
+use crate::children::Children;
 use crate::documents::{list_numbers, numbers_up, prepare_nodes, put_unknown, take_dropped};
 use crate::nodes::{self, Content, children_at};
 use crate::ready::{Ready, numbers_in};
-use crate::searching::order_last;
 use crate::tree::Tree;
 use hac_model::{Counts, DOCS_LIMIT, Memory, Name, Number, Seq};
 use std::mem;
@@ -28,8 +28,8 @@ impl Tree {
         self.forget();
         let first = self.next.get() + 1;
         prepare_nodes(self.alloc, &mut self.nodes, self.next.get(), first + count)?;
-        self.spare = children_and(self.alloc, &self.nodes, dir, self.next)?;
-        self.documents = numbers_up(self.alloc, first, count)?;
+        nodes::reserve_child(&mut self.nodes, dir)?;
+        self.documents = Children::from_vec(numbers_up(self.alloc, first, count)?);
         self.ready = Ready::Mount { dir, count };
         Ok(())
     }
@@ -51,9 +51,8 @@ impl Tree {
     {
         self.ready = Ready::Nothing;
         let mount = self.next;
-        order_last(&self.nodes, &mut self.spare, name.as_bytes());
+        insert_named(&mut self.nodes, dir, name.as_bytes(), mount);
         nodes::put(&mut self.nodes, mount, dir, name, Content::Mount { space });
-        nodes::put_children(&mut self.nodes, dir, &mut self.spare);
         let first = Number::new(mount.get() + 1);
         self.next = put_unknown(&mut self.nodes, &[], mount, first, documents);
         nodes::put_children(&mut self.nodes, mount, &mut self.documents);
@@ -99,8 +98,8 @@ impl Tree {
             mount (fresh self.old.state mount documents)) self.new }
     {
         let ready = mem::replace(&mut self.ready, Ready::Nothing);
-        let mut numbers = numbers_in(self.alloc, ready);
-        let mut known = Vec::new(self.alloc);
+        let mut numbers = Children::from_vec(numbers_in(self.alloc, ready));
+        let mut known = Children::new(self.alloc);
         nodes::put_children(&mut self.nodes, mount, &mut known);
         self.next = put_unknown(
             &mut self.nodes,
@@ -124,7 +123,7 @@ impl Tree {
         let parent = parent_at(&self.nodes, mount);
         let place = place_at(&self.nodes, parent, mount);
         nodes::drop_child(&mut self.nodes, parent, place);
-        let mut documents = Vec::new(self.alloc);
+        let mut documents = Children::new(self.alloc);
         nodes::put_children(&mut self.nodes, mount, &mut documents);
         take_dropped(&mut self.nodes, documents.as_slice(), &[]);
         nodes::take_out(&mut self.nodes, mount);

@@ -1,16 +1,17 @@
 //! The nodes of a tree by number, each changed by itself. Nothing here knows how they fit together.
-ghost use Rattle.std.specs.Prelude.{◌≡◌, ℕ, ◌<◌, [], Some, None, nat_eq, if◌then◌else◌, length};
-ghost use Rattle.std.specs.Prelude.{remove, false, IsSome, IsTrue, OnOk};
+ghost use Rattle.std.specs.Prelude.{◌≡◌, ℕ, ◌<◌, ◌≤◌, [], Some, None, nat_eq, if◌then◌else◌};
+ghost use Rattle.std.specs.Prelude.{length, insert, remove, false, IsSome, IsTrue, OnOk};
 ghost use Rattle.std.specs.Option.{option_copied, option_map};
 ghost use Rattle.indexmap.specs.IndexMap.{get};
 ghost use Rattle.file_tree.specs.Nodes.{body_from, body_of, entry_of, has_node, kids_of, name_of};
-ghost use Rattle.file_tree.specs.Nodes.{new_word, placed_at};
+ghost use Rattle.file_tree.specs.Nodes.{new_word, placed_at, spare_of};
 ghost use Rattle.hac_model.specs.Tree.Events.{asking, edited, indexed, plain_body, reseated};
 ghost use Rattle.hac_model.specs.Tree.Events.{rewritten};
 ghost use Rattle.hac_model.specs.Tree.{is_directory, is_dirty, is_linkable, query_in, shown_text};
 ghost use Rattle.hac_model.specs.Tree.{space_in, target_in};
 ghost use Rattle.hac_model.specs.Tree.Valid.{IsSound};
 
+use crate::children::Children;
 use crate::targets::Target;
 use hac_model::{Memory, Name, Number, PathWord, Query, Text};
 use indexmap::IndexMap;
@@ -29,8 +30,8 @@ pub(crate) struct Node {
     pub(crate) parent: Number,
     pub(crate) name: Name,
     pub(crate) content: Content,
-    // What is in it, in byte order of names.
-    pub(crate) children: Vec<Number>,
+    // What is in it.
+    pub(crate) children: Children,
 }
 
 /// What an entry is, with each text kept once.
@@ -272,7 +273,7 @@ pub(crate) fn prepare(alloc: Global, nodes: &mut Nodes, number: Number) -> Resul
         parent: Number::ROOT,
         name: Name::new(Vec::new(alloc)),
         content: Content::Dir,
-        children: Vec::new(alloc),
+        children: Children::new(alloc),
     };
     nodes.insert(number.get(), node)?;
     Ok(())
@@ -333,7 +334,7 @@ pub(crate) fn take_out(nodes: &mut Nodes, number: Number)
 }
 
 /// Gives a directory the list of its entries, in place of its old one, which is given back.
-pub(crate) fn put_children(nodes: &mut Nodes, dir: Number, children: &mut Vec<Number>)
+pub(crate) fn put_children(nodes: &mut Nodes, dir: Number, children: &mut Children)
     requires { IsTrue (has_node nodes.old dir) }
     ensures numbers { (q : ℕ) → has_node nodes.new q ≡ has_node nodes.old q }
     ensures entries { (q : ℕ) → entry_of nodes.new q ≡ entry_of nodes.old q }
@@ -347,6 +348,36 @@ pub(crate) fn put_children(nodes: &mut Nodes, dir: Number, children: &mut Vec<Nu
     }
 }
 
+/// Makes a place for one more in the list of a directory's entries, unless there is one.
+pub(crate) fn reserve_child(nodes: &mut Nodes, dir: Number) -> Result<(), Memory>
+    requires { IsTrue (has_node nodes.old dir) }
+    ensures place { OnOk result (0 < spare_of nodes.new dir) }
+    ensures numbers { (q : ℕ) → has_node nodes.new q ≡ has_node nodes.old q }
+    ensures entries { (q : ℕ) → entry_of nodes.new q ≡ entry_of nodes.old q }
+    ensures names { (q : ℕ) → name_of nodes.new q ≡ name_of nodes.old q }
+    ensures kids { (q : ℕ) → kids_of nodes.new q ≡ kids_of nodes.old q }
+{
+    if let Some(node) = nodes.get_mut(&dir.get()) {
+        node.children.reserve()?;
+    }
+    Ok(())
+}
+
+/// Inserts a number into the list of a directory's entries, which has a place for one more.
+pub(crate) fn insert_child(nodes: &mut Nodes, dir: Number, place: usize, number: Number)
+    requires spare { 0 < spare_of nodes.old dir }
+    requires place { place ≤ length (kids_of nodes.old dir) }
+    ensures numbers { (q : ℕ) → has_node nodes.new q ≡ has_node nodes.old q }
+    ensures entries { (q : ℕ) → entry_of nodes.new q ≡ entry_of nodes.old q }
+    ensures names { (q : ℕ) → name_of nodes.new q ≡ name_of nodes.old q }
+    ensures kids { (q : ℕ) → kids_of nodes.new q ≡ if nat_eq dir q then insert
+        (kids_of nodes.old dir) place number else kids_of nodes.old q }
+{
+    if let Some(node) = nodes.get_mut(&dir.get()) {
+        node.children.insert(place, number);
+    }
+}
+
 /// Removes a place from the list of a directory's entries.
 pub(crate) fn drop_child(nodes: &mut Nodes, dir: Number, place: usize)
     requires { place < length (kids_of nodes.old dir) }
@@ -355,6 +386,7 @@ pub(crate) fn drop_child(nodes: &mut Nodes, dir: Number, place: usize)
     ensures names { (q : ℕ) → name_of nodes.new q ≡ name_of nodes.old q }
     ensures kids { (q : ℕ) → kids_of nodes.new q ≡ if nat_eq dir q then remove
         (kids_of nodes.old dir) place else kids_of nodes.old q }
+    ensures spare { (q : ℕ) → spare_of nodes.new q ≡ spare_of nodes.old q }
 {
     if let Some(node) = nodes.get_mut(&dir.get()) {
         node.children.remove(place);

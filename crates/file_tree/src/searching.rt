@@ -1,5 +1,5 @@
 //! Names among numbers that are in order of their names.
-ghost use Rattle.std.specs.Prelude.{◌≡◌, ◌≤◌, ◌<◌, ◌++◌, ◌∷◌, [], ℕ, List, length, insert};
+ghost use Rattle.std.specs.Prelude.{◌≡◌, ◌≤◌, length};
 ghost use Rattle.hac_model.specs.Tree.Listing.{is_before};
 ghost use Rattle.file_tree.specs.Nodes.{name_of};
 ghost use Rattle.file_tree.specs.Search.{first_named, rank_in};
@@ -35,16 +35,4 @@ pub(crate) fn named(nodes: &Nodes, numbers: &[Number], name: &[u8]) -> Option<Nu
     } else {
         None
     }
-}
-
-/// Brings the last of the numbers, which is to have the name, into its place.
-pub(crate) fn order_last(nodes: &Nodes, numbers: &mut Vec<Number>, name: &[u8])
-    requires { 0 < length numbers.old.items }
-    ensures { (front : List ℕ) (last : ℕ) → numbers.old.items ≡ front ++ last ∷ [] →
-        NamesRise (name_of nodes.now) front → numbers.new.items ≡
-        insert front (rank_in (name_of nodes.now) name.now front) last }
-{
-    let last = numbers.len() - 1;
-    let place = rank(nodes, &numbers[..last], name);
-    numbers[place..].rotate_right(1);
 }

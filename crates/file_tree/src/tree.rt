@@ -1,7 +1,7 @@
 //! The tree itself, and what it says of its entries.
 ghost use Rattle.std.specs.Prelude.{◌≡◌, ◌==◌, is_some, Some, IfOk, IfSome, IsTrue, IsSome, []};
 ghost use Rattle.std.specs.Prelude.{length, map};
-ghost use Rattle.std.specs.Option.{option_copied, option_map, option_map_or, option_and_then};
+ghost use Rattle.std.specs.Option.{option_copied, option_map, option_and_then};
 ghost use Rattle.hac_model.specs.Tree.Events.{is_bare, next_dirty};
 ghost use Rattle.hac_model.specs.Tree.Limits.{counts};
 ghost use Rattle.hac_model.specs.Tree.Links.{is_item, parent_of, query_at, shown_of, space_at};
@@ -13,6 +13,7 @@ ghost use Rattle.hac_model.specs.Tree.Valid.{IsLayout};
 ghost use Rattle.file_tree.specs.Answers.{entry_kind_at, entry_kind, is_dirty_at, next_from};
 ghost use Rattle.file_tree.specs.Nodes.{body_of};
 
+use crate::children::Children;
 use crate::nodes::{self, Content, Nodes, children_at};
 use crate::ready::Ready;
 use crate::searching::named;
@@ -31,10 +32,8 @@ pub struct Tree {
     pub(crate) next: Number,
     // The root, the entries, and what was prepared.
     pub(crate) nodes: Nodes,
-    // The list of children that was prepared.
-    pub(crate) spare: Vec<Number>,
     // The list of the documents of a mount that was prepared.
-    pub(crate) documents: Vec<Number>,
+    pub(crate) documents: Children,
     pub(crate) ready: Ready,
     // How much the state holds.
     pub(crate) counts: Counts,
@@ -84,8 +83,7 @@ impl Tree {
             alloc,
             next: Number::new(1),
             nodes,
-            spare: Vec::new(alloc),
-            documents: Vec::new(alloc),
+            documents: Children::new(alloc),
             ready: Ready::Nothing,
             counts: of_root(),
             to_index: BTreeSet::new(alloc),

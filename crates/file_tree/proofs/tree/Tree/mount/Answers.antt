@@ -1,8 +1,10 @@
-use Rattle.std.proofs.Common.{◌≡◌, ◌≤◌, ◌+◌, ℕ, List, [], false, length, cond, ap, subst, ◌∙◌, arith}
+use Rattle.std.proofs.Common.{◌≡◌, ◌≤◌, ◌+◌, ℕ, List, [], Option, Some, false, length, cond, ap, subst, ◌∙◌, arith}
 use Rattle.std.specs.Prelude.{◌||◌, nat_eq, nat_lt, insert}
 use Rattle.std.proofs.lemmas.Bool.Decides.{nat_tests}
 use Rattle.std.proofs.Math.Bool.{or-false}
 use Rattle.hac_model.specs.Tree.Mounting.{documents_from, mounted}
+use Rattle.hac_model.specs.declared.states.Body.TheVariants as body
+use Rattle.hac_model.specs.declared.states.Entry.{Entry}
 use Rattle.hac_model.specs.declared.states.State.{State}
 use Rattle.hac_model.specs.declared.limits.TheConstants.{NUMBERS_LIMIT}
 use Rattle.hac_model.proofs.LimitLemmas.{limits-within}
@@ -24,8 +26,8 @@ use Rattle.file_tree.proofs.TreeLemmas.{became, set-has}
 use Rattle.file_tree.proofs.tree.Tree.mount.Goals as goal
 
 -- what was prepared is there
-spare-mount : (t : Inside) (dir count : ℕ) → t.ready ≡ Mount dir count → HasSpare t.ready t.nodes t.next t.spare.items → HasNew dir t.nodes t.next t.spare.items × HasNodes t.nodes t.next (t.next + 1 + count)
-spare-mount t dir count ready spare = subst (λ (r : Ready). HasSpare r t.nodes t.next t.spare.items) ready spare
+spare-mount : (t : Inside) (dir count : ℕ) → t.ready ≡ Mount dir count → HasSpare t.ready t.nodes t.next → HasNew dir t.nodes t.next × HasNodes t.nodes t.next (t.next + 1 + count)
+spare-mount t dir count ready spare = subst (λ (r : Ready). HasSpare r t.nodes t.next) ready spare
 
 list-mount : (t : Inside) (dir count : ℕ) → t.ready ≡ Mount dir count → HasDocuments t.ready t.next t.documents.items → t.documents.items ≡ numbers_up (t.next + 1) count
 list-mount t dir count ready documents = subst (λ (r : Ready). HasDocuments r t.next t.documents.items) ready documents
@@ -35,8 +37,8 @@ put_unknown-self-inside-requires-clause-there c = λ q high low.
     let ready : c.self.inside.ready ≡ Mount c.args.dir (length c.args.documents) = ap (λ (x : Seen). x.ready) c.self.view_is ∙ c.requires.ready in
     let has = spare-mount c.self.inside c.args.dir (length c.args.documents) ready c.self.invariant.shaped.spare in
     let first : c.new-first.result ≡ c.self.inside.next + 1 = c.new-first.ensures ∙ ap (λ (k : ℕ). k + 1) c.get.ensures in
-    let all : length (unknown (first_named (name_of c.put_children.new.nodes) []) c.args.documents) ≡ length c.args.documents = ap length (unknown-none c.args.documents) in
-    c.put_children.ensures.numbers q ∙ c.put.ensures.numbers q ∙ has.1 q (omega arith) (omega arith)
+    let all : length (unknown (first_named (name_of c.put.new.nodes) []) c.args.documents) ≡ length c.args.documents = ap length (unknown-none c.args.documents) in
+    c.put.ensures.numbers q ∙ c.insert_named.ensures.numbers q ∙ has.1 q (omega arith) (omega arith)
 
 pub put_unknown-self-inside-requires-clause-few : goal.put_unknown-self-inside-requires-clause-few
 put_unknown-self-inside-requires-clause-few c =
@@ -45,7 +47,7 @@ put_unknown-self-inside-requires-clause-few c =
     let same : c.self.inside.next ≡ c.args.self.now.state.next = ap (λ (x : Seen). x.state.next) c.self.view_is in
     let small : c.args.self.now.state.next + 1 + length c.args.documents ≤ NUMBERS_LIMIT = grind (arith, nat_tests, low) in
     let first : c.new-first.result ≡ c.self.inside.next + 1 = c.new-first.ensures ∙ ap (λ (k : ℕ). k + 1) c.get.ensures in
-    let all : length (unknown (first_named (name_of c.put_children.new.nodes) []) c.args.documents) ≡ length c.args.documents = ap length (unknown-none c.args.documents) in
+    let all : length (unknown (first_named (name_of c.put.new.nodes) []) c.args.documents) ≡ length c.args.documents = ap length (unknown-none c.args.documents) in
     omega arith
 
 module _ (c : goal.After-counts-1) where
@@ -53,45 +55,40 @@ module _ (c : goal.After-counts-1) where
   t = c.self.inside
 
   abbrev u : Inside
-  u = record c.self.inside { next = c.put_unknown-self-inside.result; nodes = c.put_children-2.new.nodes; spare = c.put_children.new.children; documents = c.put_children-2.new.children; ready = Nothing; counts = c.args.counts }
+  u = record c.self.inside { next = c.put_unknown-self-inside.result; nodes = c.put_children.new.nodes; documents = c.put_children.new.children; ready = Nothing; counts = c.args.counts }
 
   ready : c.self.inside.ready ≡ Mount c.args.dir (length c.args.documents)
   ready = ap (λ (x : Seen). x.ready) c.self.view_is ∙ c.requires.ready
 
-  spare : HasNew c.args.dir c.self.inside.nodes c.self.inside.next c.self.inside.spare.items
+  spare : HasNew c.args.dir c.self.inside.nodes c.self.inside.next
   spare = (spare-mount c.self.inside c.args.dir (length c.args.documents) ready c.self.invariant.shaped.spare).0
 
   first : c.new-first.result ≡ c.self.inside.next + 1
   first = c.new-first.ensures ∙ ap (λ (k : ℕ). k + 1) c.get.ensures
 
-  listed : c.order_last.new.numbers.items ≡ insert (kids_of c.self.inside.nodes c.args.dir) (rank_in (name_of c.self.inside.nodes) c.args.name (kids_of c.self.inside.nodes c.args.dir)) c.self.inside.next
-  listed = c.order_last.ensures (kids_of c.self.inside.nodes c.args.dir) c.self.inside.next spare.0 (c.self.invariant.shaped.lists.rises c.args.dir)
-      ∙ ap (λ (x : List ℕ). insert (kids_of c.self.inside.nodes c.args.dir) (rank_in (name_of c.self.inside.nodes) x (kids_of c.self.inside.nodes c.args.dir)) c.self.inside.next) c.as_bytes.ensures
-
-  all : unknown (first_named (name_of c.put_children.new.nodes) []) c.args.documents ≡ c.args.documents
+  all : unknown (first_named (name_of c.put.new.nodes) []) c.args.documents ≡ c.args.documents
   all = unknown-none c.args.documents
 
   came : IsMounted c.self.inside c.args.self.now c.self.view_is c.self.invariant.shaped u c.args.dir c.args.name c.args.space c.args.documents
   came = record {
     next = c.put_unknown-self-inside.ensures.next ∙ (λ i. first i + length (all i));
     entries = λ n.
-        c.put_children-2.ensures.entries n ∙ c.put_unknown-self-inside.ensures.entries n
-        ∙ (λ i. with_entries (documents_from (first i) t.next (all i)) (entry_of c.put_children.new.nodes) n)
-        ∙ over-same (documents_from (t.next + 1) t.next c.args.documents) (at t c.args.self.now c.self.view_is c.self.invariant.shaped u c.args.dir c.args.name c.args.space c.args.documents) (entry_of c.put_children.new.nodes)
-        (λ q. c.put_children.ensures.entries q ∙ c.put.ensures.entries q) n;
+        c.put_children.ensures.entries n ∙ c.put_unknown-self-inside.ensures.entries n
+        ∙ (λ i. with_entries (documents_from (first i) t.next (all i)) (entry_of c.put.new.nodes) n)
+        ∙ over-same (documents_from (t.next + 1) t.next c.args.documents) (at t c.args.self.now c.self.view_is c.self.invariant.shaped u c.args.dir c.args.name c.args.space c.args.documents) (entry_of c.put.new.nodes)
+        (λ q. c.put.ensures.entries q ∙ ap (λ (o : Option Entry). cond (nat_eq t.next q) (Some (record { number = t.next; parent = c.args.dir; name = c.args.name; body = body.Mount c.args.space [] })) o) (c.insert_named.ensures.entries q)) n;
     named = λ n.
-        c.put_children-2.ensures.names n ∙ c.put_unknown-self-inside.ensures.names n
-        ∙ (λ i. with_names (documents_from (first i) t.next (all i)) (name_of c.put_children.new.nodes) n)
-        ∙ named-same (documents_from (t.next + 1) t.next c.args.documents) (told_at t.next c.args.name (name_of t.nodes)) (name_of c.put_children.new.nodes)
-        (λ q. c.put_children.ensures.names q ∙ c.put.ensures.names q) n;
+        c.put_children.ensures.names n ∙ c.put_unknown-self-inside.ensures.names n
+        ∙ (λ i. with_names (documents_from (first i) t.next (all i)) (name_of c.put.new.nodes) n)
+        ∙ named-same (documents_from (t.next + 1) t.next c.args.documents) (told_at t.next c.args.name (name_of t.nodes)) (name_of c.put.new.nodes)
+        (λ q. c.put.ensures.names q ∙ ap (λ (x : List ℕ). cond (nat_eq t.next q) c.args.name x) (c.insert_named.ensures.names q)) n;
     lists = λ d.
-        c.put_children-2.ensures.kids d
+        c.put_children.ensures.kids d
         ∙ ap (λ (ns : List ℕ). cond (nat_eq t.next d) ns (kids_of c.put_unknown-self-inside.new.nodes d)) (list-mount t c.args.dir (length c.args.documents) ready c.self.invariant.documents_are)
         ∙ ap (λ (ns : List ℕ). cond (nat_eq t.next d) (numbers_up (t.next + 1) (length c.args.documents)) ns) (
-        c.put_unknown-self-inside.ensures.kids d ∙ c.put_children.ensures.kids d
-        ∙ ap (λ (ns : List ℕ). cond (nat_eq c.args.dir d) ns (kids_of c.put.new.nodes d)) listed
-        ∙ ap (λ (ns : List ℕ). cond (nat_eq c.args.dir d) (insert (kids_of t.nodes c.args.dir) (rank_in (name_of t.nodes) c.args.name (kids_of t.nodes c.args.dir)) t.next) ns) (c.put.ensures.kids d));
-    numbers = λ n. c.put_children-2.ensures.numbers n ∙ c.put_unknown-self-inside.ensures.numbers n ∙ c.put_children.ensures.numbers n ∙ c.put.ensures.numbers n;
+        c.put_unknown-self-inside.ensures.kids d ∙ c.put.ensures.kids d ∙ c.insert_named.ensures.kids (c.self.invariant.shaped.lists.rises c.args.dir) d
+        ∙ ap (λ (x : List ℕ). told_at c.args.dir (insert (kids_of t.nodes c.args.dir) (rank_in (name_of t.nodes) x (kids_of t.nodes c.args.dir)) t.next) (kids_of t.nodes) d) c.as_bytes.ensures);
+    numbers = λ n. c.put_children.ensures.numbers n ∙ c.put_unknown-self-inside.ensures.numbers n ∙ c.put.ensures.numbers n ∙ c.insert_named.ensures.numbers n;
   }
 
 pub returns : goal.returns
@@ -106,7 +103,7 @@ invariant_of-self c =
     let h = c.self.invariant.shaped in
     let after = mounted s.state c.args.dir c.args.name c.args.space [] c.args.documents in
     let state = state-mounted t s c.self.view_is h (u c) c.args.dir c.args.name c.args.space c.args.documents (came c) in
-    let shaped = shaped-mounted t s c.self.view_is h (u c) c.args.dir c.args.name c.args.space c.args.documents (came c) (spare c).3 c.requires.rise c.requires.may.layout tt in
+    let shaped = shaped-mounted t s c.self.view_is h (u c) c.args.dir c.args.name c.args.space c.args.documents (came c) (spare c).0.1 c.requires.rise c.requires.may.layout tt in
     became (u c) after (returns c) shaped c.requires.may.counts_are
     (λ n.
     set-has t s c.self.view_is c.self.invariant n

@@ -15,10 +15,10 @@ pub invariant_of-result : goal.invariant_of-result
 invariant_of-result c =
     let entries : (n : ℕ) → entry_of c.prepare.new.nodes n ≡ None = λ n. c.prepare.ensures.entries n ∙ empty-entry c.new-nodes.result c.new-nodes.ensures.empty n in
     became _ empty
-    (ap (λ (s : State). record { state = s; ready = Nothing }) (state-new (record { alloc = c.args.alloc; next = c.new.result; nodes = c.prepare.new.nodes; spare = c.new-2.result; documents = c.new-3.result; ready = Nothing; counts = c.of_root.result; to_index = c.new-4.result }) c.new.ensures entries))
+    (ap (λ (s : State). record { state = s; ready = Nothing }) (state-new (record { alloc = c.args.alloc; next = c.new.result; nodes = c.prepare.new.nodes; documents = c.new-2.result; ready = Nothing; counts = c.of_root.result; to_index = c.new-3.result }) c.new.ensures entries))
     (shaped-new _ c.new.ensures entries
     (λ dir. c.prepare.ensures.kids dir ∙ empty-kids c.new-nodes.result c.new-nodes.ensures.empty dir)
     c.in_ok-prepare.ensures.there
     (λ n other. c.prepare.ensures.others n (ne_eqb 0 n (λ same. other (sym same))) ∙ empty-node c.new-nodes.result c.new-nodes.ensures.empty n) tt)
     c.of_root.ensures
-    (λ n. ap (λ (ks : List ℕ). list_any (is_at (nat_cmp n)) ks) c.new-4.ensures.empty)
+    (λ n. ap (λ (ks : List ℕ). list_any (is_at (nat_cmp n)) ks) c.new-3.ensures.empty)

@@ -1,17 +1,21 @@
-use Rattle.std.proofs.Common.{ap, refl, sym, ◌∙◌}
+use Rattle.std.proofs.Common.{refl, sym, ◌∙◌}
 use Rattle.std.proofs.Math.Bool.{or-false}
 use Rattle.file_tree.specs.Answers.{is_dirty_at}
-use Rattle.file_tree.specs.Seen.{Seen}
 use Rattle.file_tree.specs.Shape.{state_of}
-use Rattle.file_tree.specs.declared.ready.Ready.TheVariants.{Nothing}
-use Rattle.file_tree.proofs.StateLemmas.{directory-there}
-use Rattle.file_tree.proofs.TreeLemmas.{set-clean, tree-prepared}
+use Rattle.file_tree.proofs.TreeLemmas.{directory-node, place-reserved, ready-nothing, set-clean, spare-nothing, tree-prepared}
 use Rattle.file_tree.proofs.tree.Tree.prepare_move.Goals as goal
+
+pub reserve_child-requires : goal.reserve_child-requires
+reserve_child-requires c = directory-node c.self.inside c.args.self.now.state (c.self.view_is ∙ c.forget.ensures) c.self.inside.nodes c.args.dir c.self.invariant c.requires (λ n low. refl)
 
 pub invariant_of-self : goal.invariant_of-self
 invariant_of-self c =
-    let s : Seen = record { state = c.args.self.now.state; ready = Nothing } in
+    tree-prepared c.self.inside c.self.invariant _ refl c.reserve_child.ensures.entries (λ n other. c.reserve_child.ensures.names n) c.reserve_child.ensures.kids (λ n other. c.reserve_child.ensures.numbers n)
+    (spare-nothing c.self.inside c.args.self.now.state (c.self.view_is ∙ c.forget.ensures) c.reserve_child.new.nodes c.self.inside.next) refl c.self.invariant.dirty_are c.self.invariant.documents_are
+
+pub invariant_of-self-2 : goal.invariant_of-self-2
+invariant_of-self-2 c =
     let view = c.self.view_is ∙ c.forget.ensures in
-    let there = directory-there c.self.inside s view c.self.invariant.shaped c.self.inside c.args.dir c.requires in
-    tree-prepared c.self.inside c.self.invariant _ refl (λ n. refl) (λ n other. refl) (λ dir. refl) (λ n other. refl) (c.in_ok-self-inside.ensures, there.0, there.1) refl
-    (λ n. set-clean c.self.inside c.self.invariant (ap (λ (x : Seen). x.ready) view) n ∙ sym (or-false (is_dirty_at (state_of c.self.inside).entries n))) tt
+    tree-prepared c.self.inside c.self.invariant _ refl c.reserve_child.ensures.entries (λ n other. c.reserve_child.ensures.names n) c.reserve_child.ensures.kids (λ n other. c.reserve_child.ensures.numbers n)
+    (place-reserved c.self.inside c.args.self.now.state view c.reserve_child.new.nodes c.args.dir c.self.invariant c.requires c.in_ok-reserve_child.ensures.place) refl
+    (λ n. set-clean c.self.inside c.self.invariant (ready-nothing c.self.inside c.args.self.now.state view) n ∙ sym (or-false (is_dirty_at (state_of c.self.inside).entries n))) tt

@@ -39,7 +39,7 @@ invariant_of-self c =
     tree-readied c.self.inside c.self.invariant _ refl c.prepare_nodes.ensures.entries
     (λ n low. c.prepare_nodes.ensures.names n (omega (arith, c.get-first.ensures))) c.prepare_nodes.ensures.kids
     (λ n low. c.prepare_nodes.ensures.others n (omega (arith, c.get-first.ensures)))
-    (spare-nothing c.self.inside c.args.self.now.state (c.self.view_is ∙ c.forget.ensures) c.prepare_nodes.new.nodes c.self.inside.next c.self.inside.spare.items) refl c.self.invariant.dirty_are c.self.invariant.documents_are
+    (spare-nothing c.self.inside c.args.self.now.state (c.self.view_is ∙ c.forget.ensures) c.prepare_nodes.new.nodes c.self.inside.next) refl c.self.invariant.dirty_are c.self.invariant.documents_are
 
 module _ (c : goal.Joined-self) where
   view : seen_of c.self.inside ≡ record { state = c.args.self.now.state; ready = Nothing }

@@ -41,7 +41,7 @@ module _ (c : goal.After-counts-1) where
         became u (removed s.state c.args.entry) seen
             (shaped-removed c.self.inside s view c.self.invariant.shaped u c.args.entry c.parent_at-parent.result refl c.parent_at-parent.ensures entries
             (λ q other. c.take_out.ensures.names q other ∙ c.drop_child.ensures.names q) kids
-            (λ q. c.take_out.ensures.numbers q ∙ ap (λ (b : Bool). cond (nat_eq c.args.entry q) false b) (c.drop_child.ensures.numbers q)) c.requires.may.layout (subst (λ (r : Ready). HasSpare r c.take_out.new.nodes c.self.inside.next c.self.inside.spare.items) (sym ready) tt))
+            (λ q. c.take_out.ensures.numbers q ∙ ap (λ (b : Bool). cond (nat_eq c.args.entry q) false b) (c.drop_child.ensures.numbers q)) c.requires.may.layout (subst (λ (r : Ready). HasSpare r c.take_out.new.nodes c.self.inside.next) (sym ready) tt))
             c.requires.may.counts_are
             (λ n. c.drop_number.ensures n ∙ ap (λ (b : Bool). b && not (c.args.entry == n)) (set-dirty c.self.inside s view c.self.invariant refl n) ∙ dirty-removed s.state c.args.entry n),
       )

@@ -5,6 +5,7 @@ use Rattle.hac_model.specs.Tree.{is_mount_at}
 use Rattle.hac_model.specs.Tree.Valid.{IsLayout}
 use Rattle.hac_model.specs.declared.states.Entry.{Entry}
 use Rattle.file_tree.specs.Documents.{is_dropped}
+use Rattle.file_tree.specs.Listed.{Listed}
 use Rattle.file_tree.specs.Nodes.{entry_of, has_node, kids_of, name_of}
 use Rattle.file_tree.specs.Seen.{Seen}
 use Rattle.file_tree.specs.Shape.{HasSpare, NamesRise, seen_of, state_of}
@@ -40,12 +41,12 @@ take_dropped-requires-clause-rise c =
     let is = mount-inside t (record { state = c.args.self.now.state; ready = Nothing }) (c.self.view_is ∙ c.forget.ensures) c.args.mount c.requires.mount in
     let outside = apart t h c.args.mount is c.parent_at-parent.result c.parent_at-parent.ensures in
     let known : c.as_slice.result.now ≡ kids_of t.nodes c.args.mount =
-    c.as_slice.ensures.value ∙ c.put_children.ensures.given ∙ c.drop_child.ensures.kids c.args.mount
+    c.as_slice.ensures ∙ c.put_children.ensures.given ∙ c.drop_child.ensures.kids c.args.mount
     ∙ told-there c.parent_at-parent.result (remove (kids_of t.nodes c.parent_at-parent.result) c.place_at-place.result) (kids_of t.nodes) c.args.mount (λ same. outside (sym same)) in
     subst (λ (ns : List ℕ). NamesRise (name_of c.put_children.new.nodes) ns) (sym known)
     (rises-same (name_of t.nodes) (name_of c.put_children.new.nodes) (kids_of t.nodes c.args.mount) (λ n among. c.put_children.ensures.names n ∙ c.drop_child.ensures.names n) (h.lists.rises c.args.mount))
 
-module _ (c : goal.After-drop-documents) where
+module _ (c : goal.After-drop-documents-inside) where
   abbrev u : Inside
   u = record c.self.inside { nodes = c.take_out.new.nodes; counts = c.args.counts }
 
@@ -60,7 +61,7 @@ module _ (c : goal.After-drop-documents) where
 
   known : c.as_slice.result.now ≡ kids_of c.self.inside.nodes c.args.mount
   known =
-      c.as_slice.ensures.value ∙ c.put_children.ensures.given ∙ c.drop_child.ensures.kids c.args.mount
+      c.as_slice.ensures ∙ c.put_children.ensures.given ∙ c.drop_child.ensures.kids c.args.mount
       ∙ told-there c.parent_at-parent.result (remove (kids_of c.self.inside.nodes c.parent_at-parent.result) c.place_at-place.result) (kids_of c.self.inside.nodes) c.args.mount
       (λ same. apart c.self.inside c.self.invariant.shaped c.args.mount is c.parent_at-parent.result c.parent_at-parent.ensures (sym same))
 
@@ -87,7 +88,7 @@ module _ (c : goal.After-drop-documents) where
         ∙ ap (λ (b : Bool). cond {A = List ℕ} b [] (kids_of c.put_children.new.nodes d)) (dropped d)
         ∙ ap (λ (ns : List ℕ). cond (out d) [] ns) (
         c.put_children.ensures.kids d
-        ∙ ap (λ (ns : List ℕ). cond (nat_eq c.args.mount d) ns (kids_of c.drop_child.new.nodes d)) c.new-documents.ensures.items
+        ∙ ap (λ (ns : List ℕ). cond (nat_eq c.args.mount d) ns (kids_of c.drop_child.new.nodes d)) (ap (λ (x : Listed). x.items) c.new-documents.ensures)
         ∙ ap (λ (ns : List ℕ). cond (nat_eq c.args.mount d) [] ns) (
         c.drop_child.ensures.kids d
         ∙ ap (λ (i : ℕ). cond (nat_eq c.parent_at-parent.result d) (remove (kids_of c.self.inside.nodes c.parent_at-parent.result) i) (kids_of c.self.inside.nodes d)) (c.place_at-place.ensures (c.self.invariant.shaped.lists.rises c.parent_at-parent.result)))));
@@ -112,7 +113,7 @@ invariant_of-self c =
     let h = c.self.invariant.shaped in
     let after = without_such (is_of_mount c.args.mount) c.args.self.now.state in
     let shaped = shaped-unmounted c.self.inside h c.args.mount (is c) c.parent_at-parent.result c.parent_at-parent.ensures (u c) (gone c) (subst IsLayout (sym (state c)) c.requires.may.layout)
-    (subst (λ (r : Ready). HasSpare r c.take_out.new.nodes c.self.inside.next c.self.inside.spare.items) (sym (ap (λ (x : Seen). x.ready) (view c))) tt) in
+    (subst (λ (r : Ready). HasSpare r c.take_out.new.nodes c.self.inside.next) (sym (ap (λ (x : Seen). x.ready) (view c))) tt) in
     became (u c) after (returns c) shaped c.requires.may.counts_are
     (λ n.
     set-dirty c.self.inside (s c) (view c) c.self.invariant refl n
