@@ -1,7 +1,7 @@
 -- Where judging begins nowhere, what depends on what stays as it was.
 use Rattle.std.proofs.Common.{◌≡◌, ℕ, Bool, true, false, List, [], ◌∷◌, ◌++◌, ap, arith, eq-eqb, refl, sym, ◌∙◌}
 use Rattle.std.proofs.lemmas.Bool.{and_parts, eqb-true}
-use Rattle.std.specs.Prelude.{◌==◌, ◌&&◌, ◌||◌, filter, if◌then◌else◌, length, Option, Some, None, IsTrue, is_some, option_and_then}
+use Rattle.std.specs.Prelude.{◌==◌, ◌&&◌, ◌||◌, filter, if◌then◌else◌, length, Option, Some, None, IsTrue, is_some}
 use Rattle.std.specs.Option.{option_map, option_map_or}
 use Rattle.hac_model.specs.Query.Formula.{Formula}
 use Rattle.hac_model.specs.Tree.Depends.{depends, named_in}
@@ -13,7 +13,7 @@ use Rattle.hac_model.specs.Tree.Mounting.{answers_to, are_documents, are_told, i
 use Rattle.hac_model.specs.Tree.Mounts.{terms_to_ask}
 use Rattle.hac_model.specs.Tree.Touched.{begins, is_the}
 use Rattle.hac_model.specs.Tree.Valid.{IsValid}
-use Rattle.hac_model.specs.Tree.{entry_at, is_directory_at, is_mount, is_mount_at, permanent_in, query_in}
+use Rattle.hac_model.specs.Tree.{entry_at, is_directory_at, is_mount, is_mount_at}
 use Rattle.hac_model.specs.declared.events.Event.{Event}
 use Rattle.hac_model.specs.declared.events.Event.TheVariants as event
 use Rattle.hac_model.specs.declared.marks.Mark.{Mark}
@@ -28,6 +28,7 @@ use Rattle.hac_model.proofs.LayoutLemmas.{sumount-parts}
 use Rattle.hac_model.proofs.ValidLemmas.{accepted-parts}
 use Rattle.reeval.proofs.AskOwes.{marked-lenders}
 use Rattle.reeval.proofs.EventLemmas.{permanent-told}
+use Rattle.reindex.proofs.WayLemmas.{plain-lends}
 use Rattle.kept_links.proofs.SemanticLemmas.{asks-still}
 
 -- a number that is told the edges that it had
@@ -149,23 +150,6 @@ module _ (s : State) (h : IsValid s) where
   pub edges-still : (event : Event) → IsTrue (accepted s event) → ((dir : ℕ) → begins s event dir ≡ false) → (n : ℕ) → depends s n ≡ depends (apply s event) n
   edges-still event ok never n =
       edges-told s n ∙ event-edges event ok never n ∙ ap (λ (f : Facts). f.edges) (sym (facts-law s h event ok n)) ∙ sym (edges-told (apply s event) n)
-
--- What isn't semantic has no directories that were added.
-
-pub plain-lends : (s : State) (n : ℕ) → query_at s n ≡ None → lenders s n ≡ []
-plain-lends s n none = ap (filter (is_directory_at s.entries)) (at (entry_at s.entries n) none)
-  where
-    body : (b : Body) → query_in b ≡ None → permanent_in b ≡ []
-    body (Semantic asked permanent prohibited) none = absurd cc
-    body (Mount space kept) none = refl
-    body (File text dirty shown) none = refl
-    body Dir none = refl
-    body (Symlink target) none = refl
-    body Document none = refl
-
-    at : (o : Option Entry) → option_and_then query_in (option_map (λ (e : Entry). e.body) o) ≡ None → option_map_or permanent_in (option_map (λ (e : Entry). e.body) o) [] ≡ []
-    at None none = refl
-    at (Some e) none = body e.body none
 
 -- a list that makes another no longer is empty
 no-longer : (xs ys : List ℕ) → length (xs ++ ys) ≡ length (xs ++ []) → ys ≡ []

@@ -3,5 +3,6 @@ pub mod SemanticLemmas
 pub mod ItemLemmas
 mod TouchLemmas
 pub mod NewDirLemmas
+pub mod MarkLemmas
 pub mod TaskLemmas
 pub mod EdgeLemmas

@@ -1,14 +1,13 @@
 -- What is judged again after an event is enough.
 use Rattle.std.proofs.Common.{◌≡◌, ℕ, zero, Bool, true, false, List, [], ◌∷◌, ap, arith, inl, inr, refl, subst, sym, ◌∙◌}
-use Rattle.std.proofs.lemmas.Bool.{eqb-true}
-use Rattle.std.specs.Prelude.{◌==◌, ◌≢◌, ◌++◌, ◌&&◌, ◌||◌, if◌then◌else◌, not, length, map, Option, Some, None, IsTrue, is_some, option_and_then}
-use Rattle.std.specs.List.{list_any}
+use Rattle.std.proofs.lemmas.Bool.{eqb-true, and_parts}
+use Rattle.std.specs.Prelude.{◌==◌, ◌≢◌, ◌||◌, if◌then◌else◌, not, map, IfOk, IfSome, Result, Vec, Ok, Err, Option, Some, None, IsTrue, is_some, option_and_then}
 use Rattle.std.specs.Option.{option_map, option_map_or}
 use Rattle.dep_graph.specs.Searches.{EachOnce, IsCone, IsOrdered}
 use Rattle.hac_model.specs.Query.Formula.{Formula}
-use Rattle.hac_model.specs.Tree.Depends.{Among, depends, named_in}
+use Rattle.hac_model.specs.Tree.Depends.{Among, depends}
 use Rattle.hac_model.specs.Tree.Events.{accepted, apply}
-use Rattle.hac_model.specs.Tree.Links.{has, is_item, is_judged, is_lent, is_semantic, is_unmarked, lenders, parent_of, provide, query_at, satisfies}
+use Rattle.hac_model.specs.Tree.Links.{has, is_item, is_judged, is_semantic, lenders}
 use Rattle.hac_model.specs.Tree.Touched.{begins, touched, touches}
 use Rattle.hac_model.specs.Tree.Valid.{IsValid}
 use Rattle.hac_model.specs.Tree.{entry_at, is_document, is_linkable, shown_text}
@@ -16,6 +15,9 @@ use Rattle.hac_model.specs.declared.events.Event.{Event}
 use Rattle.hac_model.specs.declared.events.Event.TheVariants.{Mkdir, NewFile, Rewrite, Ln, Smkdir, Setq, Unq, Mark, Mv, Rm, Rmdir, Smount, Ssync, Sumount, Step, Cd}
 use Rattle.hac_model.specs.declared.states.Body.TheVariants.{File}
 use Rattle.hac_model.specs.declared.states.Entry.{Entry}
+use Rattle.hac_model.specs.declared.marks.Mark.{Mark as MarkData}
+use Rattle.hac_model.specs.declared.memory.Memory.{Memory}
+use Rattle.std.specs.declared.alloc.Global.{Global}
 use Rattle.hac_model.specs.declared.states.State.{State}
 use Rattle.hac_model.proofs.AcyclicLemmas.{apply-valid}
 use Rattle.hac_model.proofs.ChangeLemmas.{entry_at-new}
@@ -27,59 +29,24 @@ use Rattle.reeval.specs.Routes.{Covers}
 use Rattle.reeval.specs.declared.planning.Task.{Task}
 use Rattle.reeval.specs.declared.settling.Stop.{Stop}
 use Rattle.reeval.proofs.EventsLeave.{event-owes, events-leave}
-use Rattle.reeval.proofs.PlanLemmas.{begins-more, no-item, unmoved}
+use Rattle.reeval.proofs.PlanLemmas.{begins-more, no-item, unmoved, unjudged-said}
 use Rattle.reeval.proofs.SettleLemmas.{has-among}
 use Rattle.kept_links.specs.Items.{is_passed_over, others}
 use Rattle.kept_links.specs.Kept.{is_still}
-use Rattle.kept_links.specs.Tasks.{AreAlong, IsTaskOf, IsWayFrom}
-use Rattle.reindex.specs.Ways.{IsWayOf, stops_everywhere, with_first}
+use Rattle.kept_links.specs.Tasks.{AreAlong, IsTaskOf, IsWayFrom, begins_touched, only_at}
+use Rattle.reindex.specs.Ways.{IsWayOver, IsWayOf, with_first, stops_at, stops_everywhere}
 use Rattle.reindex.specs.declared.ways.Way.{Way}
-use Rattle.kept_links.proofs.EdgeLemmas.{edges-still, lends-still, plain-lends}
+use Rattle.kept_links.proofs.EdgeLemmas.{edges-still, lends-still}
 use Rattle.kept_links.proofs.ItemLemmas.{in-neither, others-once, others-untouched, touched-apart, touched-once, touched-touches}
 use Rattle.kept_links.proofs.NewDirLemmas.{passed-over}
 use Rattle.kept_links.proofs.SemanticLemmas.{asks-still, semantic-still}
-use Rattle.reindex.proofs.WayLemmas.{covers-everywhere, covers-from, semantic-depends}
-
--- just what is semantic depends on something
-depends-semantic : (s : State) (dir : ℕ) → depends s dir ≢ [] → is_semantic s dir ≡ true
-depends-semantic s dir = elim (query_at s dir) as (λ o. option_map_or (λ (query : Formula ℕ). parent_of s dir ∷ (named_in query ++ lenders s dir)) o [] ≢ [] → is_some o ≡ true) [
-  | None ↦ (λ some. absurd (some refl))
-  | Some query ↦ (λ _. refl)
-]
+use Rattle.kept_links.proofs.MarkLemmas.{mark-begins, mark-leaves}
+use Rattle.reindex.proofs.WayLemmas.{covers-at, covers-everywhere, covers-from, depends-semantic, semantic-depends, way-over}
 
 -- an order over the same edges
 ordered-same : (edges other : ℕ → List ℕ) → ((n : ℕ) → edges n ≡ other n) → (ns : List ℕ) → IsOrdered edges ns → IsOrdered other ns
 ordered-same edges other same [] h = tt
 ordered-same edges other same (n ∷ ns) h = (h.0, (λ next edge. h.1 next (subst (λ (ks : List ℕ). Among ks next) (sym (same n)) edge)), ordered-same edges other same ns h.2)
-
--- what none of the numbers passes, each of them fails
-any-none : (p : ℕ → Bool) (ns : List ℕ) → list_any p ns ≡ false → (n : ℕ) → Among ns n → p n ≡ false
-any-none p [] none n among = absurd among
-any-none p (k ∷ ns) none n (inl same) = subst (λ (m : ℕ). p m ≡ false) same (first (p k) (list_any p ns) none)
-  where
-    first : (a b : Bool) → (a || b) ≡ false → a ≡ false
-    first true b h = h
-    first false b h = refl
-any-none p (k ∷ ns) none n (inr more) = any-none p ns (second (p k) (list_any p ns) none) n more
-  where
-    second : (a b : Bool) → (a || b) ≡ false → b ≡ false
-    second true b h = absurd cc
-    second false b h = h
-
-no-numbers : (ns : List ℕ) → not (length ns == 0) ≡ false → ns ≡ []
-no-numbers ns h = empty ns (eqb-true (length ns) 0 (is (length ns == 0) h))
-  where
-    is : (b : Bool) → not b ≡ false → b ≡ true
-    is true h = refl
-    is false h = sym h
-
-    empty : (ns : List ℕ) → length ns ≡ 0 → ns ≡ []
-    empty [] h = refl
-    empty (n ∷ ns) h = absurd (omega (arith, h))
-
-none_of : {X : Type 0} (o : Option X) → is_some o ≡ false → o ≡ None
-none_of None h = refl
-none_of (Some x) h = absurd cc
 
 -- numbers with one in front have it, and the others too
 with-here : (first : ℕ) (ns : List ℕ) → Among (with_first first ns) first
@@ -91,18 +58,17 @@ with-here first ns = elim (has ns first) as (λ b. has ns first ≡ b → Among 
 with-rest : (first : ℕ) (ns : List ℕ) (n : ℕ) → Among ns n → Among (with_first first ns) n
 with-rest first ns n is = elim (has ns first) as (λ b. Among (if b then ns else first ∷ ns) n) [ true ↦ is | false ↦ inr is ]
 
-pub way-from : (s t : State) (first : ℕ) (way : Way) (known dirs order : List ℕ) → dirs ≡ with_first first known → ((dir : ℕ) → depends s dir ≢ [] → Among known dir) → IsCone (depends t) dirs order →
-    way.stops.items ≡ stops_everywhere order → IsIndexOf (map (query_at t) order) way.index → way.lends ≡ list_any (λ dir. not (length (lenders t dir) == 0)) order → IsWayFrom s t first way
-way-from s t first way known dirs order are all cone stops index lends = record {
+pub way-from : (s t : State) (first : ℕ) (known dirs order : List ℕ) (result : Result Way Memory) → dirs ≡ with_first first known → ((dir : ℕ) → depends s dir ≢ [] → Among known dir) → IsCone (depends t) dirs order →
+    IfOk result (λ way. IsWayOver t order way) → IfOk result (λ way. IsWayFrom s t first way)
+way-from s t first known dirs order (Ok way) are all cone over = record {
   dirs = dirs;
   order = order;
   here = subst (λ (ns : List ℕ). Among ns first) (sym are) (with-here first known);
   known = λ dir some. subst (λ (ns : List ℕ). Among ns dir) (sym are) (with-rest first known dir (all dir some));
   cone = cone;
-  stops = stops;
-  index = index;
-  lends = lends;
+  over = over;
 }
+way-from s t first known dirs order (Err memory) are all cone over = tt
 
 -- an item that is passed over is linked where it was
 passed-still : (s : State) (event : Event) → IsValid s → IsTrue (accepted s event) → (item : ℕ) → is_passed_over s event item ≡ true → (dir : ℕ) → verdict_of s item dir ≡ verdict_of (apply s event) item dir
@@ -127,6 +93,43 @@ passed-still s (Sumount mount) valid ok item over dir = absurd cc
 passed-still s Step valid ok item over dir = absurd cc
 passed-still s (Cd session parent) valid ok item over dir = absurd cc
 
+-- The stops of an item that is touched.
+
+pub only-marked : (dir : ℕ) (order : List ℕ) → only_at dir (stops_everywhere order) ≡ stops_at (λ d. d == dir) order
+only-marked dir [] = refl
+only-marked dir (first ∷ order) = ap (λ (stops : List Stop). record { dir = first; begins = first == dir } ∷ stops) (only-marked dir order)
+
+pub only-if : (event : Event) (mark : MarkData) (stops : List Stop) (order : List ℕ) (result : Result (Vec Stop Global) Memory) → event ≡ Mark mark → stops ≡ stops_everywhere order →
+    IfOk result (λ only. only.items ≡ only_at mark.dir stops) → IfOk result (λ only. only.items ≡ stops_at (begins_touched event) order)
+only-if event mark stops order (Ok only) is all each = each ∙ ap (only_at mark.dir) all ∙ only-marked mark.dir order ∙ sym (ap (λ (e : Event). stops_at (begins_touched e) order) is)
+only-if event mark stops order (Err memory) is all each = tt
+
+-- one that an event touches which is no mark is judged at each directory
+covers-all : (s : State) (event : Event) → IsValid s → IsTrue (accepted s event) → (way : Way) (w : IsWayOf (apply s event) way) (item : ℕ) → touches s event item ≡ true → Covers s (apply s event) (stops_everywhere w.order) item
+covers-all s event valid ok way w item is =
+    covers-everywhere s (apply s event) w.order item (links-judged s valid item) (apply-valid s event valid ok) w.ordered w.all (λ dir plain. semantic-still s valid event ok item is dir ∙ plain)
+
+covers-begun : (s : State) (event : Event) → IsValid s → IsTrue (accepted s event) → (way : Way) (w : IsWayOf (apply s event) way) (item : ℕ) → touches s event item ≡ true → Covers s (apply s event) (stops_at (begins_touched event) w.order) item
+covers-begun s (Mark mark) valid ok way w item is =
+    let here = and_parts (item == mark.item) (is_item s item) is in
+    subst (λ (n : ℕ). Covers s (apply s (Mark mark)) (stops_at (λ dir. dir == mark.dir) w.order) n) (sym (eqb-true item mark.item here.0))
+    (covers-at s (apply s (Mark mark)) (λ dir. dir == mark.dir) w.order mark.item (links-judged s valid mark.item) (apply-valid s (Mark mark) valid ok) w.ordered w.all (mark-begins s mark valid ok) (mark-leaves s mark valid ok))
+covers-begun s (Smkdir parent name query told) valid ok way w item is = covers-all s (Smkdir parent name query told) valid ok way w item is
+covers-begun s (Mkdir parent name) valid ok way w item is = covers-all s (Mkdir parent name) valid ok way w item is
+covers-begun s (NewFile parent name text) valid ok way w item is = covers-all s (NewFile parent name text) valid ok way w item is
+covers-begun s (Rewrite file text) valid ok way w item is = covers-all s (Rewrite file text) valid ok way w item is
+covers-begun s (Ln parent name target) valid ok way w item is = covers-all s (Ln parent name target) valid ok way w item is
+covers-begun s (Setq parent query told) valid ok way w item is = covers-all s (Setq parent query told) valid ok way w item is
+covers-begun s (Unq parent) valid ok way w item is = covers-all s (Unq parent) valid ok way w item is
+covers-begun s (Mv entry to name) valid ok way w item is = covers-all s (Mv entry to name) valid ok way w item is
+covers-begun s (Rm entry) valid ok way w item is = covers-all s (Rm entry) valid ok way w item is
+covers-begun s (Rmdir parent) valid ok way w item is = covers-all s (Rmdir parent) valid ok way w item is
+covers-begun s (Smount parent name space documents told) valid ok way w item is = covers-all s (Smount parent name space documents told) valid ok way w item is
+covers-begun s (Ssync mount documents told) valid ok way w item is = covers-all s (Ssync mount documents told) valid ok way w item is
+covers-begun s (Sumount mount) valid ok way w item is = covers-all s (Sumount mount) valid ok way w item is
+covers-begun s Step valid ok way w item is = covers-all s Step valid ok way w item is
+covers-begun s (Cd session parent) valid ok way w item is = covers-all s (Cd session parent) valid ok way w item is
+
 module _ (s : State) (event : Event) (valid : IsValid s) (ok : IsTrue (accepted s event)) where
   abbrev t : State
   t = apply s event
@@ -137,8 +140,7 @@ module _ (s : State) (event : Event) (valid : IsValid s) (ok : IsTrue (accepted 
   -- an item that is touched, on the way to all semantic directories
   covers-touched : (way : Way) → IsWayOf t way → (item : ℕ) → touches s event item ≡ true → Covers s t way.stops.items item
   covers-touched way w item is =
-      subst (λ (stops : List Stop). Covers s t stops item) (sym w.stops)
-      (covers-everywhere s t w.order valid next-valid w.ordered w.all (semantic-still s valid event ok item is) item)
+      subst (λ (stops : List Stop). Covers s t stops item) (sym w.stops) (covers-all s event valid ok way w item is)
 
   -- and any other one
   covers-other : (first : ℕ) (stops : List Stop) → ((dir : ℕ) → begins s event dir ≡ (dir == first)) → AreAlong t first stops → (item : ℕ) → touches s event item ≡ false → Covers s t stops item
@@ -160,7 +162,7 @@ module _ (s : State) (event : Event) (valid : IsValid s) (ok : IsTrue (accepted 
   stays never item out dir = elim (touches s event item) as (λ b. touches s event item ≡ b → verdict_of s item dir ≡ verdict_of t item dir) [
     | true ↦ (λ is. neither item out (λ inside. let not_it = (others-untouched s event item inside).1 in absurd cc) dir)
     | false ↦ (λ untouched. unmoved s t item (record {
-      before = valid;
+      before = links-judged s valid item;
       after = next-valid;
       route = record { ordered = tt; closed = λ d e edge inside. inside };
       alike = begins-more s t item (begins s event) (λ d. false) (λ d _. never d) (events-leave s event valid ok item untouched);
@@ -186,13 +188,13 @@ module _ (s : State) (event : Event) (valid : IsValid s) (ok : IsTrue (accepted 
       in-others : (item : ℕ) → Among task.others.items item → Among (others s event) item
       in-others item within = subst (λ (items : List ℕ). Among items item) are within
 
-  pub task-touched : (task : Task) (way : Way) → task.touched.items ≡ touched s event → IsWayOf t way → task.everywhere.items ≡ way.stops.items → ((dir : ℕ) → begins s event dir ≡ false) → task.others.items ≡ [] → IsTaskOf s event task
-  task-touched task way is w everywhere never none = record {
+  pub task-touched : (task : Task) (way : Way) → task.touched.items ≡ touched s event → (w : IsWayOf t way) → task.everywhere.items ≡ stops_at (begins_touched event) w.order → ((dir : ℕ) → begins s event dir ≡ false) → task.others.items ≡ [] → IsTaskOf s event task
+  task-touched task way is w where_touched never none = record {
     touched = subst EachOnce (sym is) (touched-once s event);
     others = subst EachOnce (sym none) tt;
     apart = λ item inside within. nobody item within;
     planned = record {
-      touched = λ item inside. subst (λ (stops : List Stop). Covers s t stops item) (sym everywhere) (covers-touched way w item (touched-touches s event item (subst (λ (items : List ℕ). Among items item) is inside)));
+      touched = λ item inside. subst (λ (stops : List Stop). Covers s t stops item) (sym where_touched) (covers-begun s event valid ok way w item (touched-touches s event item (subst (λ (items : List ℕ). Among items item) is inside)));
       others = λ item within. absurd (nobody item within);
       rest = λ item out away dir. stays never item (λ inside. out (subst (λ (items : List ℕ). Among items item) (sym is) inside)) dir;
     };
@@ -216,14 +218,7 @@ module _ (s : State) (event : Event) (valid : IsValid s) (ok : IsTrue (accepted 
 
   -- or was found from where it begins
   pub way-found : (way : Way) (first : ℕ) → ((dir : ℕ) → begins s event dir ≡ (dir == first)) → IsWayFrom s t first way → IsWayOf t way
-  way-found way first begun w = record {
-    order = w.order;
-    ordered = w.cone.ordered;
-    all = there;
-    stops = w.stops;
-    index = w.index;
-    lends = λ not_any dir. none-lent not_any dir (is_semantic t dir) refl;
-  }
+  way-found way first begun w = way-over t w.order way w.over w.cone.ordered there
     where
       among-dirs : (dir : ℕ) → is_semantic t dir ≡ true → Among w.dirs dir
       among-dirs dir is = elim (dir == first) as (λ b. (dir == first) ≡ b → Among w.dirs dir) [
@@ -234,9 +229,10 @@ module _ (s : State) (event : Event) (valid : IsValid s) (ok : IsTrue (accepted 
       there : (dir : ℕ) → depends t dir ≢ [] → Among w.order dir
       there dir some = w.cone.all dir some (dir, among-dirs dir (depends-semantic t dir some), (zero, refl))
 
-      none-lent : way.lends ≡ false → (dir : ℕ) (b : Bool) → is_semantic t dir ≡ b → lenders t dir ≡ []
-      none-lent not_any dir true is = no-numbers (lenders t dir) (any-none (λ (d : ℕ). not (length (lenders t d) == 0)) w.order (sym w.lends ∙ not_any) dir (there dir (semantic-depends t dir is)))
-      none-lent not_any dir false plain = plain-lends t dir (none_of (query_at t dir) plain)
+-- a way that is known stays known where judging begins nowhere
+pub way-left : (s : State) (event : Event) → IsValid s → IsTrue (accepted s event) → ((dir : ℕ) → begins s event dir ≡ false) → (known : Option Way) → IfSome known (IsWayOf s) → IfSome known (IsWayOf (apply s event))
+way-left s event valid ok never None w = tt
+way-left s event valid ok never (Some way) w = way-still s event valid ok way never w
 
 -- What says nothing new.
 
@@ -259,20 +255,7 @@ module _ (s : State) (dir : ℕ) (name text : List ℕ) (valid : IsValid s) (ok 
   new-said : (d : ℕ) → verdict_of u s.next d ≡ no_verdict
   new-said d =
       links-judged u (next-valid s (NewFile dir name text) valid ok) s.next d
-      ∙ ap (λ (judged : Bool). record {
-        found = (is_semantic u d && is_item u s.next) && (provide u (is_linked (verdict_of u s.next)) (parent_of u d) s.next && judged && satisfies u (is_linked (verdict_of u s.next)) d s.next && is_unmarked u d s.next);
-        lent = (is_semantic u d && is_item u s.next) && is_lent u (is_linked (verdict_of u s.next)) d s.next;
-      }) unjudged
-      ∙ ap (λ (ks : List ℕ). record {
-        found = (is_semantic u d && is_item u s.next) && (provide u (is_linked (verdict_of u s.next)) (parent_of u d) s.next && false && satisfies u (is_linked (verdict_of u s.next)) d s.next && is_unmarked u d s.next);
-        lent = (is_semantic u d && is_item u s.next) && list_any (λ lender. provide u (is_linked (verdict_of u s.next)) lender s.next) ks;
-      }) (none d)
-      ∙ out (is_semantic u d && is_item u s.next) (provide u (is_linked (verdict_of u s.next)) (parent_of u d) s.next) (satisfies u (is_linked (verdict_of u s.next)) d s.next) (is_unmarked u d s.next)
-    where
-      out : (a p q r : Bool) → record { found = a && (p && false && q && r); lent = a && false } ≡ no_verdict
-      out true true q r = refl
-      out true false q r = refl
-      out false p q r = refl
+      ∙ unjudged-said u (is_linked (verdict_of u s.next)) s.next d unjudged (none d)
 
   none-before : is_item s s.next ≡ false
   none-before = ap (λ (o : Option Entry). option_map_or is_linkable (option_map (λ (e : Entry). e.body) o) false) (entry_at-next 0 s.entries s.next s.next valid.layout.numbers (omega arith))

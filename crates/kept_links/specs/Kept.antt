@@ -1,5 +1,5 @@
 -- A state with its links, and what is new in them once it is the next.
-use Rattle.std.specs.Prelude.{Bool, true, false, not, unwrap_or}
+use Rattle.std.specs.Prelude.{◌≡◌, Bool, true, false, not, unwrap_or, [], IfSome}
 use Rattle.hac_model.specs.Tree.Events.{apply_all}
 use Rattle.hac_model.specs.declared.events.Event.{Event}
 use Rattle.hac_model.specs.declared.events.Event.TheVariants.{Mkdir, NewFile, Rewrite, Ln}
@@ -14,6 +14,7 @@ use Rattle.reindex.specs.declared.ways.Way.{Way}
 use Rattle.kept_links.specs.declared.news.News.{News}
 use Rattle.kept_links.specs.declared.linked.LinkedState.TheInside.{Inside}
 use Rattle.kept_links.specs.declared.outlook.Outlook.TheInside as outlook
+use Rattle.kept_links.specs.declared.unlinked.UnlinkedState.TheInside as unlinked
 
 abbrev pub seen_of : Inside → Seen
 seen_of linked = linked.kept
@@ -45,3 +46,11 @@ state_of_outlook outlook = next_state outlook.kept.now
 -- the scope tells the next state
 abbrev pub IsOutlook : outlook.Inside → Type 0
 IsOutlook outlook = Tells outlook.scope (next_state outlook.kept.now)
+
+abbrev pub state_of_unlinked : unlinked.Inside → State
+state_of_unlinked unlinked = unlinked.kept.state
+
+-- nothing is prepared, and the way is that of the state, where it is known
+pub record IsUnlinked (unlinked : unlinked.Inside) : Type 0 where
+  pub ready : unlinked.kept.ready ≡ []
+  pub way : IfSome unlinked.way (IsWayOf unlinked.kept.state)

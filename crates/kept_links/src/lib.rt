@@ -8,5 +8,7 @@ mod lookups;
 mod news;
 mod outlook;
 mod tasks;
+mod unlinked;
 
 pub use linked::LinkedState;
+pub use unlinked::UnlinkedState;

@@ -7,7 +7,6 @@ ghost use Rattle.hac_model.specs.Tree.Links.{atom};
 ghost use Rattle.hac_model.specs.Tree.Sessions.{is_stored};
 ghost use Rattle.hac_model.specs.Tree.{empty};
 ghost use Rattle.kept_state.specs.After.{is_quiet};
-ghost use Rattle.link_kinds.specs.Seen.{LinkListsRise};
 ghost use Rattle.reeval.specs.Settled.{AreLinksOf};
 
 use crate::news::prepared_news;
@@ -17,7 +16,7 @@ use kept_state::KeptState;
 use link_kinds::Links;
 use query_index::QueryIndex;
 use reeval::{Change, apply, reserve};
-use reindex::lookups::{is_document, parent_of};
+use reindex::lookups::{is_document, know_lists, parent_of};
 use reindex::{Way, delta_of_steps, shown_of};
 use std::alloc::Global;
 use std::marker::Model;
@@ -25,14 +24,14 @@ use std::marker::Model;
 /// A state with its links, seen as that state and as the events for which memory was taken.
 #[derive(Drop)]
 pub struct LinkedState {
-    kept: KeptState,
-    found: Links,
+    pub(crate) kept: KeptState,
+    pub(crate) found: Links,
     // All semantic directories, in order.
-    way: Way,
+    pub(crate) way: Way,
     // What is new once the events are applied that were prepared.
-    delta: Vec<Change>,
+    pub(crate) delta: Vec<Change>,
     // All semantic directories then, if there are others, or they are in another order.
-    next: Option<Way>,
+    pub(crate) next: Option<Way>,
 }
 
 impl Model for LinkedState {
@@ -196,11 +195,4 @@ fn is_quiet(event: &Event) -> bool
     ensures { result ≡ is_quiet event.now }
 {
     matches!(event, Event::Step | Event::Cd { .. })
-}
-
-/// What links keep: all lists rise.
-fn know_lists(links: &Links)
-    ensures { LinkListsRise links.now }
-{
-    let _kind = links.kind(Number::ROOT, Number::ROOT);
 }

@@ -1,21 +1,17 @@
 //! What is judged again after an event, and on which ways.
-ghost use Rattle.std.specs.Prelude.{◌≡◌, ◌==◌, ℕ, IfOk, IsTrue, false, length, map, not};
-ghost use Rattle.std.specs.List.{list_any};
+ghost use Rattle.std.specs.Prelude.{◌≡◌, ◌==◌, ℕ, IfOk, IsTrue, List, false};
 ghost use Rattle.hac_model.specs.Tree.Events.{accepted, apply};
-ghost use Rattle.hac_model.specs.Tree.Links.{lenders, query_at};
 ghost use Rattle.hac_model.specs.Tree.Touched.{begins};
-ghost use Rattle.kept_links.specs.Tasks.{AreAlong, IsTaskOf, IsWayFrom};
+ghost use Rattle.kept_links.specs.Tasks.{AreAlong, IsTaskOf, IsWayFrom, begins_touched, only_at};
 ghost use Rattle.kept_state.specs.After.{next_state};
-ghost use Rattle.query_index.specs.Seen.{IsIndexOf};
-ghost use Rattle.reindex.specs.Ways.{IsWayOf};
+ghost use Rattle.reindex.specs.Ways.{IsWayOf, stops_at, stops_everywhere};
 
 use crate::items::{other_items, touched_items};
 use crate::outlook::Outlook;
 use hac_model::{Event, Memory, Number};
 use kept_state::KeptState;
-use query_index::QueryIndex;
-use reeval::{Layout, Stop, Task};
-use reindex::{Way, stops_everywhere, stops_from, with_first};
+use reeval::{Stop, Task};
+use reindex::{Way, stops_from, way_over, with_first};
 use std::alloc::Global;
 
 /// The task of an event that begins at no directory: the items that it touches, on the way that is
@@ -36,10 +32,35 @@ pub(crate) fn task_of_touched(
     kept.know_valid();
     Ok(Task {
         touched: touched_items(alloc, kept, outlook, event)?,
-        everywhere: Vec::from_slice(alloc, way.stops.as_slice())?,
+        everywhere: stops_of_touched(alloc, way, event)?,
         others: Vec::new(alloc),
         along: Vec::new(alloc),
     })
+}
+
+/// The stops of the items that an event touches.
+fn stops_of_touched(alloc: Global, way: &Way, event: &Event) -> Result<Vec<Stop>, Memory>
+    ensures { (order : List ℕ) → way.now.stops.items ≡ stops_everywhere order
+        → IfOk result (λ stops. stops.items ≡ stops_at (begins_touched event.now) order) }
+{
+    match event {
+        Event::Mark(mark) => stops_only(alloc, way.stops.as_slice(), mark.dir),
+        _ => Ok(Vec::from_slice(alloc, way.stops.as_slice())?),
+    }
+}
+
+/// The same stops, where judging begins at one directory.
+fn stops_only(alloc: Global, stops: &[Stop], dir: Number) -> Result<Vec<Stop>, Memory>
+    ensures { IfOk result (λ only. only.items ≡ only_at dir stops.now) }
+{
+    let mut only = Vec::new(alloc);
+    for stop in stops {
+        only.push(Stop {
+            dir: stop.dir,
+            begins: stop.dir == dir,
+        })?;
+    }
+    Ok(only)
 }
 
 /// The task of an event that begins at a directory: the items that it touches, on the way to all
@@ -84,30 +105,7 @@ pub(crate) fn way_next(
     let known = kept.graph().directories()?;
     let dirs = with_first(alloc, first, known.as_slice())?;
     let order = kept.cone_next(alloc, dirs.as_slice())?;
-    Ok(Way {
-        stops: stops_everywhere(alloc, order.as_slice())?,
-        index: index_next(alloc, outlook, order.as_slice())?,
-        lends: lends_next(kept, order.as_slice()),
-    })
-}
-
-/// The queries that directories will have, each at the place of its directory.
-fn index_next(alloc: Global, outlook: &Outlook<'_>, dirs: &[Number]) -> Result<QueryIndex, Memory>
-    ensures { IfOk result (IsIndexOf (map (query_at outlook.now) dirs.now)) }
-{
-    let mut index = QueryIndex::new(alloc);
-    for dir in dirs {
-        index = index.with(outlook.query(*dir))?;
-    }
-    Ok(index)
-}
-
-/// Whether directories will have been added to some of these.
-fn lends_next(kept: &KeptState, dirs: &[Number]) -> bool
-    ensures { result ≡ list_any
-        (λ dir. not (length (lenders (next_state kept.now) dir) == 0)) dirs.now }
-{
-    dirs.iter().any(|dir| !kept.lenders_next(*dir).is_empty())
+    way_over(alloc, outlook, order.as_slice())
 }
 
 /// The way of any other item: from a directory on.

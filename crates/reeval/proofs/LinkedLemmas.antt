@@ -8,11 +8,12 @@ use Rattle.hac_model.specs.Tree.Links.{has, is_item, items, links, transient_at}
 use Rattle.hac_model.specs.Tree.Valid.{IsValid}
 use Rattle.hac_model.specs.declared.states.State.{State}
 use Rattle.hac_model.proofs.ListedLemmas.{found-listed, lent-listed}
-use Rattle.link_kinds.specs.Seen.{Known, LinkListsRise, lent_in, transient_in}
+use Rattle.link_kinds.specs.Kinds.{Lists}
+use Rattle.link_kinds.specs.Seen.{IsEmpty, Known, LinkListsRise, SameKinds, lent_in, transient_in}
 use Rattle.link_kinds.proofs.PutLemmas.{sorted-rise}
 use Rattle.set_pool.specs.Rising.{AllAbove, Rises, is_among}
 use Rattle.set_pool.proofs.RisingLemmas.{is_among-above, rises-filter}
-use Rattle.reeval.specs.Judging.{verdict_of}
+use Rattle.reeval.specs.Judging.{no_verdict, verdict_of}
 use Rattle.reeval.specs.Settled.{AreLinksOf, verdict_in}
 use Rattle.reeval.specs.declared.verdicts.Verdict.{Verdict}
 use Rattle.reeval.proofs.ToldLemmas.{flipped}
@@ -77,3 +78,11 @@ links-tell s known are item dir = λ i. record {
   found = (ap (is_among item) (are.found dir) ∙ sym (has-among (links s dir).found item)) i;
   lent = (ap (is_among item) (are.lent dir) ∙ sym (has-among (links s dir).lent item)) i;
 }
+
+-- links in which each item has the kinds that it had say of it what they said
+pub told-alike : (old new : Known) → SameKinds old new → (item dir : ℕ) → verdict_in new item dir ≡ verdict_in old item dir
+told-alike old new same item dir = ap (λ (lists : Lists). record { found = is_among item lists.transient; lent = is_among item lists.lent }) (same dir)
+
+-- and where nothing is linked, nothing is said
+pub told-nothing : (known : Known) → IsEmpty known → (item dir : ℕ) → verdict_in known item dir ≡ no_verdict
+told-nothing known none item dir = ap (λ (lists : Lists). record { found = is_among item lists.transient; lent = is_among item lists.lent }) (none dir)

@@ -2,10 +2,12 @@
 use Rattle.std.proofs.Common.{◌≡◌, ℕ, Bool, true, false, List, [], refl, ap, ◌∙◌}
 use Rattle.std.specs.Prelude.{◌&&◌}
 use Rattle.hac_model.specs.Tree.Depends.{Among}
-use Rattle.hac_model.specs.Tree.Links.{has, is_item, is_lent, is_semantic, passes}
+use Rattle.std.specs.List.{list_any}
+use Rattle.hac_model.specs.Tree.Links.{has, is_item, is_judged, is_lent, is_semantic, is_unmarked, lenders, links, parent_of, passes, provide, satisfies}
 use Rattle.hac_model.specs.Tree.Valid.{IsValid}
+use Rattle.hac_model.specs.Tree.{empty}
 use Rattle.hac_model.specs.declared.states.State.{State}
-use Rattle.reeval.specs.Judging.{LeavesAlike, is_linked, no_verdict, verdict_of}
+use Rattle.reeval.specs.Judging.{AreJudged, LeavesAlike, is_linked, judgement, no_verdict, verdict_of}
 use Rattle.reeval.specs.Routes.{Covers}
 use Rattle.reeval.specs.Settled.{IsPlanned, SettlesAll}
 use Rattle.reeval.specs.Told.{news_on, told}
@@ -25,6 +27,29 @@ no-item s valid item dir none = links-judged s valid item dir ∙ ap (λ (is : B
     out : (a b c : Bool) → record { found = (a && false) && b; lent = (a && false) && c } ≡ no_verdict
     out true b c = refl
     out false b c = refl
+
+-- nor of what no query judges, where nothing is lent
+pub unjudged-said : (s : State) (linked : ℕ → Bool) (item dir : ℕ) → is_judged s item ≡ false → lenders s dir ≡ [] → judgement s linked item dir ≡ no_verdict
+unjudged-said s linked item dir unjudged none =
+    (λ i. record {
+      found = (is_semantic s dir && is_item s item) && (provide s linked (parent_of s dir) item && unjudged i && satisfies s linked dir item && is_unmarked s dir item);
+      lent = (is_semantic s dir && is_item s item) && list_any (λ lender. provide s linked lender item) (none i);
+    })
+    ∙ out (is_semantic s dir && is_item s item) (provide s linked (parent_of s dir) item) (satisfies s linked dir item) (is_unmarked s dir item)
+  where
+    out : (a p q r : Bool) → record { found = a && (p && false && q && r); lent = a && false } ≡ no_verdict
+    out true true q r = refl
+    out true false q r = refl
+    out false p q r = refl
+
+-- nothing is said of anything in the root alone
+pub empty-said : (item dir : ℕ) → no_verdict ≡ verdict_of empty item dir
+unfolding links
+empty-said item dir = refl
+
+pub empty-judged : (item : ℕ) → AreJudged empty item
+unfolding links
+empty-judged item dir = refl
 
 -- fewer directories at which judging begins are among more
 pub begins-more : (s t : State) (item : ℕ) (fewer more : ℕ → Bool) → ((dir : ℕ) → more dir ≡ false → fewer dir ≡ false) → LeavesAlike s t fewer item → LeavesAlike s t more item

@@ -17,7 +17,7 @@ use Rattle.reeval.specs.Judging.{is_linked, judgement, verdict_of}
 use Rattle.reeval.specs.Routes.{Covers, begins_at, dirs_of}
 use Rattle.reeval.specs.declared.settling.Stop.{Stop}
 use Rattle.reeval.specs.declared.verdicts.Verdict.{Verdict}
-use Rattle.reeval.proofs.JudgeLemmas.{links-judged, verdicts-only}
+use Rattle.reeval.proofs.JudgeLemmas.{verdicts-only}
 
 -- who is among numbers, as a test
 pub among-has : (ns : List ℕ) (n : ℕ) → Among ns n → has ns n ≡ true
@@ -139,7 +139,7 @@ module _ (s t : State) (item : ℕ) (stops : List Stop) (covers : Covers s t sto
   stays : (known : ℕ → Verdict) (dir : ℕ) → begins_at stops dir ≡ false → known dir ≡ before dir →
       ((e : ℕ) → Among (depends t dir) e → provide s (is_linked before) e item ≡ provide t (is_linked known) e item) → known dir ≡ judgement t (is_linked known) item dir
   stays known dir begins same alike =
-      same ∙ links-judged s covers.before item dir ∙ covers.alike.judges dir begins (is_linked before) (is_linked known) alike
+      same ∙ covers.before dir ∙ covers.alike.judges dir begins (is_linked before) (is_linked known) alike
 
   linked-same : (known : ℕ → Verdict) (e : ℕ) → known e ≡ before e → is_linked before e ≡ is_linked known e
   linked-same known e same = ap (λ (v : Verdict). v.found || v.lent) (sym same)

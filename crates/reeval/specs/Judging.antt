@@ -24,6 +24,10 @@ judgement s linked item dir = record {
   lent = (is_semantic s dir && is_item s item) && is_lent s linked dir item;
 }
 
+-- what the links of a state say of an item is what its directories say of it by these links
+abbrev pub AreJudged : State → ℕ → Type 0
+AreJudged s item = (dir : ℕ) → verdict_of s item dir ≡ judgement s (is_linked (verdict_of s item)) item dir
+
 -- the directory says the same of the item in both states, if those on which it depends provide the item alike
 abbrev pub JudgesAlike : State → State → ℕ → ℕ → Type 0
 JudgesAlike s t item dir =

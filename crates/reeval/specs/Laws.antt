@@ -8,12 +8,12 @@ use Rattle.hac_model.specs.declared.events.Event.{Event}
 use Rattle.hac_model.specs.declared.states.State.{State}
 use Rattle.link_kinds.specs.Seen.{Known, LinkListsRise}
 use Rattle.reeval.specs.Settled.{AreLinksOf, verdict_in}
-use Rattle.reeval.specs.Judging.{LeavesAlike, is_linked, judgement, verdict_of}
+use Rattle.reeval.specs.Judging.{AreJudged, LeavesAlike, is_linked, judgement, verdict_of}
 use Rattle.reeval.specs.declared.verdicts.Verdict.{Verdict}
 
 -- the links of a valid state are its judgements by these links
 abbrev pub LinksAreJudged : Type 0
-LinksAreJudged = (s : State) → IsValid s → (item dir : ℕ) → verdict_of s item dir ≡ judgement s (is_linked (verdict_of s item)) item dir
+LinksAreJudged = (s : State) → IsValid s → (item : ℕ) → AreJudged s item
 
 -- and no other verdicts on an item are
 abbrev pub VerdictsAreOnly : Type 0

@@ -5,7 +5,7 @@ use Rattle.hac_model.specs.Tree.Depends.{Among, depends}
 use Rattle.hac_model.specs.Tree.Valid.{IsValid}
 use Rattle.hac_model.specs.declared.states.State.{State}
 use Rattle.dep_graph.specs.Searches.{IsOrdered}
-use Rattle.reeval.specs.Judging.{LeavesAlike}
+use Rattle.reeval.specs.Judging.{AreJudged, LeavesAlike}
 use Rattle.reeval.specs.declared.settling.Stop.{Stop}
 
 -- the directories at which it stops
@@ -23,7 +23,7 @@ pub record IsRoute (edges : ℕ → List ℕ) (stops : List Stop) : Type 0 where
 
 -- on this way an item is judged wherever another state may say something else of it
 pub record Covers (s t : State) (stops : List Stop) (item : ℕ) : Type 0 where
-  pub before : IsValid s
+  pub before : AreJudged s item
   pub after : IsValid t
   pub route : IsRoute (depends t) stops
   pub alike : LeavesAlike s t (begins_at stops) item

@@ -1,5 +1,6 @@
 //! What is known of the links before a change.
 ghost use Rattle.std.specs.Prelude.{◌≡◌, ℕ, Bool};
+ghost use Rattle.hac_model.specs.Tree.{empty};
 ghost use Rattle.hac_model.specs.Tree.Links.{column, links, provide};
 ghost use Rattle.reeval.specs.Judging.{verdict_of};
 
@@ -21,4 +22,23 @@ pub trait Before {
     fn provides(&self, dir: Number, item: Number) -> bool
         ensures { result ≡ provide (state self.now) (column (links (state self.now)) item)
             dir item };
+}
+
+/// Knows the links of the root alone: there are none.
+#[derive(Clone, Copy, Debug)]
+pub struct Blank;
+
+impl Before for Blank {
+    ghost state = { λ _. empty };
+
+    fn verdict(&self, _dir: Number, _item: Number) -> Verdict {
+        Verdict {
+            found: false,
+            lent: false,
+        }
+    }
+
+    fn provides(&self, _dir: Number, _item: Number) -> bool {
+        false
+    }
 }

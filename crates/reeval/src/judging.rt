@@ -9,7 +9,7 @@ ghost use Rattle.reeval.specs.Told.{told};
 
 use crate::before::Before;
 use crate::layout::Layout;
-use crate::verdicts::{Change, Verdict};
+use crate::verdicts::{Change, Verdict, latest};
 use hac_model::{Member, Number, Query};
 use query_eval::{Atoms, judge};
 
@@ -53,13 +53,7 @@ impl<'a, Y: Layout, A: Atoms, B: Before> Sight<'a, Y, A, B> {
         ensures { result ≡ told self.now.news.now
             (verdict_of (B.state self.now.before.now) item) dir }
     {
-        let mut verdict = self.before.verdict(dir, item);
-        for news in self.news {
-            if news.dir == dir {
-                verdict = news.verdict;
-            }
-        }
-        verdict
+        latest(self.news, dir, self.before.verdict(dir, item))
     }
 
     /// What a directory says of an item.

@@ -12,8 +12,8 @@ mod settling;
 mod verdicts;
 
 pub use applying::{apply, reserve};
-pub use before::Before;
+pub use before::{Before, Blank};
 pub use layout::Layout;
 pub use planning::{Task, plan};
 pub use settling::{Stop, settle, settle_all};
-pub use verdicts::{Change, Verdict};
+pub use verdicts::{Change, Verdict, latest};

@@ -20,7 +20,7 @@ use std::alloc::Global;
 pub struct Task {
     /// The items that it touches, each once.
     pub touched: Vec<Number>,
-    /// All semantic directories: an item that is touched is judged in each.
+    /// A stop at each semantic directory, for the items that it touches.
     pub everywhere: Vec<Stop>,
     /// The items that it doesn't touch, each once; none where it begins at no directory.
     pub others: Vec<Number>,

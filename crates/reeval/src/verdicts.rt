@@ -1,7 +1,7 @@
 //! What is known of an item in a directory.
 ghost use Rattle.std.specs.Prelude.{◌≡◌, ◌||◌, if◌then◌else◌};
 ghost use Rattle.hac_model.specs.declared.marks.Kind.TheVariants.{Transient, Unlinked};
-ghost use Rattle.reeval.specs.Told.{are_same};
+ghost use Rattle.reeval.specs.Told.{are_same, latest};
 
 use hac_model::{Kind, Number};
 
@@ -50,4 +50,17 @@ impl Verdict {
     {
         self.found == other.found && self.lent == other.lent
     }
+}
+
+/// The last of the new verdicts of a directory, or else the one that it had.
+pub fn latest(news: &[Change], dir: Number, had: Verdict) -> Verdict
+    ensures { result ≡ latest news.now dir had }
+{
+    let mut verdict = had;
+    for change in news {
+        if change.dir == dir {
+            verdict = change.verdict;
+        }
+    }
+    verdict
 }

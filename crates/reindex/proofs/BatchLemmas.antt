@@ -22,6 +22,7 @@ use Rattle.reeval.specs.Settled.{SettlesAll}
 use Rattle.reeval.specs.Told.{news_on, told}
 use Rattle.reeval.specs.declared.settling.Stop.{Stop}
 use Rattle.reeval.specs.declared.verdicts.Change.{Change}
+use Rattle.reeval.proofs.JudgeLemmas.{links-judged}
 use Rattle.reeval.proofs.LeaveLemmas.{IsAlike, leaves-alike}
 use Rattle.reeval.proofs.PlanLemmas.{unmoved}
 use Rattle.reeval.proofs.SettleLemmas.{among-has, has-among}
@@ -66,7 +67,7 @@ module _ (s : State) (count : ℕ) (files : List ℕ) (last : ℕ) (h : IsValid 
   -- so all directories say of it what they said
   untouched : (item : ℕ) → ¬ Among files item → (dir : ℕ) → verdict_of s item dir ≡ verdict_of t item dir
   untouched item apart = unmoved s t item (record {
-    before = h;
+    before = links-judged s h item;
     after = after;
     route = record { ordered = tt; closed = λ dir e edge never. absurd never };
     alike = leaves-alike s t h after (λ dir. false) item (alike item apart);

@@ -1,17 +1,16 @@
 -- What a state tells once its files are indexed up to a number, and how it is reached step by step.
-use Rattle.std.proofs.Common.{◌≡◌, ℕ, zero, suc, ◌<◌, ◌≤◌, Bool, true, false, cond, List, [], ◌∷◌, map, refl, ap, sym, ◌∙◌, subst, arith, eq-eqb}
-use Rattle.std.specs.Prelude.{◌==◌, ◌&&◌, ◌||◌, ◌++◌, filter, nat_le, not, reverse, Option, Some, None, is_some, option_and_then}
+use Rattle.std.proofs.Common.{◌≡◌, ℕ, ◌<◌, ◌≤◌, Bool, true, false, cond, List, [], ◌∷◌, map, refl, ap, sym, ◌∙◌, subst, arith, eq-eqb}
+use Rattle.std.specs.Prelude.{◌&&◌, ◌||◌, nat_le, not, Option, Some, None, option_and_then}
 use Rattle.std.specs.List.{AllByRecursion}
 use Rattle.std.specs.Option.{option_map, option_map_or, unwrap_or}
 use Rattle.std.proofs.lemmas.Bool.{ne_eqb}
 use Rattle.std.proofs.lemmas.Bool.Decides.{nat_tests}
 use Rattle.file_tree.specs.Answers.{is_dirty_at}
-use Rattle.hac_model.specs.Query.Formula.{Formula}
-use Rattle.hac_model.specs.Tree.Depends.{depends, named_in}
+use Rattle.hac_model.specs.Tree.Depends.{depends}
 use Rattle.hac_model.specs.Tree.Events.{apply, changed_at, changed_in, edited, indexed, next_dirty}
 use Rattle.hac_model.specs.Tree.Links.{answers_at, has, is_below, is_item, is_permanent, is_semantic, is_unmarked, kept_at, lenders, parent_of, permanent_at, prohibited_at, query_at, shown_of}
 use Rattle.hac_model.specs.Tree.Valid.{IsLayout, IsSound, NumbersRise}
-use Rattle.hac_model.specs.Tree.{ancestors, answers_in, body_at, entry_at, extends, is_directory, is_directory_at, is_dirty, is_document, is_document_at, is_file, is_linkable, path_of, permanent_in, prohibited_in, query_in, shown_text, text_in}
+use Rattle.hac_model.specs.Tree.{answers_in, body_at, entry_at, is_directory, is_dirty, is_document, is_document_at, is_file, is_linkable, path_of, permanent_in, prohibited_in, query_in, shown_text, text_in}
 use Rattle.hac_model.specs.declared.events.Event.TheVariants.{Step}
 use Rattle.hac_model.specs.declared.states.Answer.{Answer}
 use Rattle.hac_model.specs.declared.states.Body.{Body}
@@ -21,28 +20,19 @@ use Rattle.hac_model.specs.declared.states.State.{State}
 use Rattle.hac_model.specs.declared.terms.Term.{Term}
 use Rattle.hac_model.specs.Tree.Mounts.{kept_for}
 use Rattle.hac_model.proofs.ChangeLemmas.{changed-low}
-use Rattle.hac_model.proofs.DepthLemmas.{names_of}
-use Rattle.hac_model.proofs.PathLemmas.{ancestors_by, limit, lineage-is, path-names}
 use Rattle.hac_model.proofs.TreeLemmas.{entry_at-number}
+use Rattle.reindex.proofs.LeftLemmas.{Leaves, added-left, below-left, depends-left, entry_at-left, item-left, lenders-left, parent-left, path_of-left, permanent-left, prohibited-left, query-left, seen-left, semantic-left}
 use Rattle.reindex.specs.Steps.{indexed_if, indexed_through, indexed_to}
 
--- Entries.
+-- What indexing leaves.
 
-pub entry_at-indexed : (last : ℕ) (es : List Entry) (n : ℕ) → entry_at (map (indexed_to last) es) n ≡ option_map (indexed_to last) (entry_at es n)
-entry_at-indexed last [] n = refl
-entry_at-indexed last (e ∷ es) n =
-    ap (λ (o : Option Entry). cond (e.number == n) (Some (indexed_to last e)) o) (entry_at-indexed last es n)
-    ∙ (elim (e.number == n) as (λ b. cond b (Some (indexed_to last e)) (option_map (indexed_to last) (entry_at es n)) ≡ option_map (indexed_to last) (cond b (Some e) (entry_at es n))) [ true ↦ refl | false ↦ refl ])
+-- the body of an entry once it is indexed, if its number isn't above this one
+abbrev indexed_body : ℕ → Entry → Body
+indexed_body last e = indexed_if (nat_le e.number last) e.body
 
--- what indexing leaves is the same of each entry
-pub seen-indexed : {X : Type 0} (view : Option Entry → X) (last : ℕ) (es : List Entry) (n : ℕ) → ((e : Entry) → view (Some (edited indexed e)) ≡ view (Some e)) → view (entry_at (map (indexed_to last) es) n) ≡ view (entry_at es n)
-seen-indexed view last es n same = ap view (entry_at-indexed last es n) ∙ at (entry_at es n)
-  where
-    at : (o : Option Entry) → view (option_map (indexed_to last) o) ≡ view o
-    at None = refl
-    at (Some e) = elim (nat_le e.number last) as (λ b. view (Some (edited (indexed_if b) e)) ≡ view (Some e)) [ true ↦ same e | false ↦ refl ]
-
--- Bodies.
+-- what indexing leaves of each body is left of each entry
+of_body : {X : Type 0} (view : Body → X) → ((b : Body) → view (indexed b) ≡ view b) → (last : ℕ) (e : Entry) → view (indexed_body last e) ≡ view e.body
+of_body view same last e = elim (nat_le e.number last) as (λ b. view (indexed_if b e.body) ≡ view e.body) [ true ↦ same e.body | false ↦ refl ]
 
 kept-linkable : (b : Body) → is_linkable (indexed b) ≡ is_linkable b
 kept-linkable (File text dirty shown) = refl
@@ -72,67 +62,64 @@ kept-answers : (b : Body) → answers_in (indexed b) ≡ answers_in b
 kept-answers (File text dirty shown) = refl
 kept-answers other = refl
 
--- What indexing leaves.
+leaves : (last : ℕ) → Leaves (indexed_body last)
+leaves last = record {
+  linkable = of_body is_linkable kept-linkable last;
+  directory = of_body is_directory kept-directory last;
+  query = of_body query_in kept-query last;
+  permanent = of_body permanent_in kept-permanent last;
+  prohibited = of_body prohibited_in kept-prohibited last;
+}
 
-names-indexed : (last k : ℕ) (es : List Entry) (n : ℕ) → names_of (ancestors k (map (indexed_to last) es) n) ≡ names_of (ancestors k es n)
-names-indexed last zero es n = refl
-names-indexed last (suc k) es n =
-    ap (λ (o : Option Entry). names_of (ancestors_by k (map (indexed_to last) es) o)) (entry_at-indexed last es n)
-    ∙ (elim (entry_at es n) as (λ o. names_of (ancestors_by k (map (indexed_to last) es) (option_map (indexed_to last) o)) ≡ names_of (ancestors_by k es o)) [
-      | None ↦ refl
-      | Some e ↦ ap (λ (names : List (List ℕ)). e.name ∷ names) (names-indexed last k es e.parent)
-    ])
+entry_at-indexed : (last : ℕ) (es : List Entry) (n : ℕ) → entry_at (map (indexed_to last) es) n ≡ option_map (indexed_to last) (entry_at es n)
+entry_at-indexed last = entry_at-left (indexed_body last)
 
 module _ (last : ℕ) (s : State) where
   abbrev t : State
   t = indexed_through last s
 
   pub path_of-indexed : (n : ℕ) → path_of t n ≡ path_of s n
-  path_of-indexed n =
-      path-names t n ∙ ap reverse (ap names_of (lineage-is t.entries n) ∙ names-indexed last (suc limit) s.entries n ∙ ap names_of (sym (lineage-is s.entries n))) ∙ sym (path-names s n)
+  path_of-indexed = path_of-left (indexed_body last) (leaves last) s
 
   pub item-indexed : (n : ℕ) → is_item t n ≡ is_item s n
-  item-indexed n = seen-indexed (λ o. option_map_or is_linkable (option_map (λ (e : Entry). e.body) o) false) last s.entries n (λ e. kept-linkable e.body)
+  item-indexed = item-left (indexed_body last) (leaves last) s
 
   pub document-indexed : (n : ℕ) → is_document_at t.entries n ≡ is_document_at s.entries n
-  document-indexed n = seen-indexed (λ o. option_map_or is_document (option_map (λ (e : Entry). e.body) o) false) last s.entries n (λ e. kept-document e.body)
-
-  pub directory-indexed : (n : ℕ) → is_directory_at t.entries n ≡ is_directory_at s.entries n
-  directory-indexed n = seen-indexed (λ o. n == 0 || option_map_or is_directory (option_map (λ (e : Entry). e.body) o) false) last s.entries n (λ e. ap (λ (b : Bool). n == 0 || b) (kept-directory e.body))
+  document-indexed n = seen-left (indexed_body last) (λ o. option_map_or is_document (option_map (λ (e : Entry). e.body) o) false) s.entries n (of_body is_document kept-document last)
 
   pub parent-indexed : (n : ℕ) → parent_of t n ≡ parent_of s n
-  parent-indexed n = seen-indexed (λ o. option_map_or (λ (e : Entry). e.parent) o 0) last s.entries n (λ e. refl)
+  parent-indexed = parent-left (indexed_body last) (leaves last) s
 
   pub query-indexed : (n : ℕ) → query_at t n ≡ query_at s n
-  query-indexed n = seen-indexed (λ o. option_and_then query_in (option_map (λ (e : Entry). e.body) o)) last s.entries n (λ e. kept-query e.body)
+  query-indexed = query-left (indexed_body last) (leaves last) s
 
   pub semantic-indexed : (n : ℕ) → is_semantic t n ≡ is_semantic s n
-  semantic-indexed n = ap (λ (o : Option (Formula ℕ)). is_some o) (query-indexed n)
+  semantic-indexed = semantic-left (indexed_body last) (leaves last) s
 
   pub permanent-indexed : (n : ℕ) → permanent_at t n ≡ permanent_at s n
-  permanent-indexed n = seen-indexed (λ o. option_map_or permanent_in (option_map (λ (e : Entry). e.body) o) []) last s.entries n (λ e. kept-permanent e.body)
+  permanent-indexed = permanent-left (indexed_body last) (leaves last) s
 
   pub prohibited-indexed : (n : ℕ) → prohibited_at t n ≡ prohibited_at s n
-  prohibited-indexed n = seen-indexed (λ o. option_map_or prohibited_in (option_map (λ (e : Entry). e.body) o) []) last s.entries n (λ e. kept-prohibited e.body)
+  prohibited-indexed = prohibited-left (indexed_body last) (leaves last) s
 
-  pub answers-indexed : (n : ℕ) → answers_at t n ≡ answers_at s n
-  answers-indexed n = seen-indexed (λ o. option_map_or answers_in (option_map (λ (e : Entry). e.body) o) []) last s.entries n (λ e. kept-answers e.body)
+  answers-indexed : (n : ℕ) → answers_at t n ≡ answers_at s n
+  answers-indexed n = seen-left (indexed_body last) (λ o. option_map_or answers_in (option_map (λ (e : Entry). e.body) o) []) s.entries n (of_body answers_in kept-answers last)
 
   pub kept-indexed : (n : ℕ) (term : Term) → kept_at t n term ≡ kept_at s n term
   kept-indexed n term = ap (λ (answers : List Answer). unwrap_or (kept_for answers term) []) (answers-indexed n)
 
   pub lenders-indexed : (n : ℕ) → lenders t n ≡ lenders s n
-  lenders-indexed n = λ i. filter (λ d. directory-indexed d i) (permanent-indexed n i)
+  lenders-indexed = lenders-left (indexed_body last) (leaves last) s
 
   pub depends-indexed : (n : ℕ) → depends t n ≡ depends s n
-  depends-indexed n = λ i. option_map_or (λ (query : Formula ℕ). parent-indexed n i ∷ named_in query ++ lenders-indexed n i) (query-indexed n i) []
+  depends-indexed = depends-left (indexed_body last) (leaves last) s
 
   pub below-indexed : (d n : ℕ) → is_below t d n ≡ is_below s d n
-  below-indexed d n = λ i. item-indexed n i && directory-indexed d i && extends (path_of-indexed n i) (path_of-indexed d i)
+  below-indexed = below-left (indexed_body last) (leaves last) s
 
   -- marks
   pub added-indexed : (d n : ℕ) → (is_permanent t d n && is_item t n) ≡ (is_permanent s d n && is_item s n)
-  added-indexed d n = λ i. has (permanent-indexed d i) n && item-indexed n i
+  added-indexed = added-left (indexed_body last) (leaves last) s
 
   pub unmarked-indexed : (d n : ℕ) → is_unmarked t d n ≡ is_unmarked s d n
   unmarked-indexed d n = λ i. not (has (permanent-indexed d i) n || has (prohibited-indexed d i) n)

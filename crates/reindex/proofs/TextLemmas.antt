@@ -23,6 +23,7 @@ use Rattle.reeval.specs.Judging.{JudgesAlike, LeavesAlike, ProvidesAlike}
 use Rattle.reeval.specs.Routes.{Covers}
 use Rattle.reeval.specs.declared.settling.Stop.{Stop}
 use Rattle.reeval.proofs.AlikeLemmas.{judge-across, none-across, unfound-across}
+use Rattle.reeval.proofs.JudgeLemmas.{links-judged}
 use Rattle.reindex.specs.Steps.{indexed_through, may_begin, may_differ}
 use Rattle.reindex.specs.Ways.{IsWayOf, stops_at, stops_everywhere, stops_marked}
 use Rattle.reindex.specs.declared.ways.Way.{Way}
@@ -30,7 +31,7 @@ use Rattle.reindex.proofs.IndexedLemmas.{added-indexed, below-indexed, depends-i
 use Rattle.reindex.proofs.WayLemmas.{covers-at, covers-everywhere, semantic-depends}
 
 -- what shows a text is no document
-text-no-document : (o : Option Body) (text : List ℕ) → option_and_then shown_text o ≡ Some text → option_map_or is_document o false ≡ false
+pub text-no-document : (o : Option Body) (text : List ℕ) → option_and_then shown_text o ≡ Some text → option_map_or is_document o false ≡ false
 text-no-document None text h = absurd cc
 text-no-document (Some (File written dirty shown)) text h = refl
 text-no-document (Some Dir) text h = absurd cc
@@ -46,7 +47,7 @@ atom-by s item text plain shows term =
     ∙ ap (λ (o : Option (List ℕ)). option_map_or (λ text. has_term text term) o false) shows
     ∙ has_term-rising_words text term
 
-all-by : (s : State) (item : ℕ) (text : List ℕ) → is_document_at s.entries item ≡ false → shown_of s item ≡ Some text → (terms : List Term) → AllByRecursion (λ term. atom s term item ≡ list_any (is_asked term) (rising_words text)) terms
+pub all-by : (s : State) (item : ℕ) (text : List ℕ) → is_document_at s.entries item ≡ false → shown_of s item ≡ Some text → (terms : List Term) → AllByRecursion (λ term. atom s term item ≡ list_any (is_asked term) (rising_words text)) terms
 all-by s item text plain shows [] = tt
 all-by s item text plain shows (term ∷ terms) = (atom-by s item text plain shows term, all-by s item text plain shows terms)
 
@@ -88,7 +89,7 @@ module _ (s : State) (last file : ℕ) (text : List ℕ) (shows : shown_of (inde
       terms-same [] h = tt
       terms-same (term ∷ terms) h = (atom-by s file old plain had term ∙ h.0 ∙ sym (atom-by t file text plain-then shows term), terms-same terms h.1)
 
-  judges : (dir : ℕ) → may_begin s file text dir ≡ false → JudgesAlike s t file dir
+  judges : (dir : ℕ) → may_begin s (shown_of s file) text dir ≡ false → JudgesAlike s t file dir
   judges dir still = at (query_at s dir) refl still
     where
       by : (asked : Formula ℕ) → query_at s dir ≡ Some asked → (o : Option (List ℕ)) → shown_of s file ≡ o → may_differ o text asked ≡ false → JudgesAlike s t file dir
@@ -102,11 +103,11 @@ module _ (s : State) (last file : ℕ) (text : List ℕ) (shows : shown_of (inde
   provides : (e : ℕ) → ProvidesAlike s t file e
   provides e a b linked = λ i. sym (below-indexed last s e file) i || (sym (semantic-indexed last s e) i && (linked i || sym (added-indexed last s e file) i))
 
-  texts-leave : LeavesAlike s t (may_begin s file text) file
+  texts-leave : LeavesAlike s t (may_begin s (shown_of s file) text) file
   texts-leave = record { judges = judges; provides = λ dir e still edge apart. provides e }
 
   -- judging begins at what is semantic
-  begins-asked : (dir : ℕ) → may_begin s file text dir ≡ true → depends t dir ≢ []
+  begins-asked : (dir : ℕ) → may_begin s (shown_of s file) text dir ≡ true → depends t dir ≢ []
   begins-asked dir is none = semantic-depends s dir (at (query_at s dir) is) (sym (depends-indexed last s dir) ∙ none)
     where
       at : (o : Option (Formula ℕ)) → option_map_or (may_differ (shown_of s file) text) o false ≡ true → is_some o ≡ true
@@ -114,32 +115,37 @@ module _ (s : State) (last file : ℕ) (text : List ℕ) (shows : shown_of (inde
       at (Some asked) h = refl
 
   -- on the way to all semantic directories the file is judged wherever its words may tell
-  pub covered-text : (way : Way) (w : IsWayOf s way) → IsValid s → IsValid t → Covers s t (stops_at (may_begin s file text) w.order) file
+  pub covered-text : (way : Way) (w : IsWayOf s way) → IsValid s → IsValid t → Covers s t (stops_at (may_begin s (shown_of s file) text) w.order) file
   covered-text way w before after =
-      covers-at s t (may_begin s file text) w.order before after
+      covers-at s t (may_begin s (shown_of s file) text) w.order file (links-judged s before file) after
       (subst (λ (edges : ℕ → List ℕ). IsOrdered edges w.order) (λ i dir. sym (depends-indexed last s dir) i) w.ordered)
-      (λ dir some. w.all dir (λ none. some (depends-indexed last s dir ∙ none))) begins-asked file texts-leave
+      (λ dir some. w.all dir (λ none. some (depends-indexed last s dir ∙ none))) begins-asked texts-leave
 
   pub covered-if : (way : Way) (w : IsWayOf s way) → IsValid s → IsValid t → (result : Result (Vec Stop Global) Memory) →
-      IfOk result (λ stops. stops.items ≡ stops_at (may_begin s file text) w.order) → IfOk result (λ stops. Covers s t stops.items file)
+      IfOk result (λ stops. stops.items ≡ stops_at (may_begin s (shown_of s file) text) w.order) → IfOk result (λ stops. Covers s t stops.items file)
   covered-if way w before after (Ok stops) is = subst (λ (items : List Stop). Covers s t items file) (sym is) (covered-text way w before after)
   covered-if way w before after (Err memory) is = tt
 
 -- on that way it may be judged at each directory, too
-pub covered-anyway : (s : State) (last file : ℕ) (way : Way) → IsWayOf s way → IsValid s → IsValid (indexed_through last s) → Covers s (indexed_through last s) way.stops.items file
+covered-anyway : (s : State) (last file : ℕ) (way : Way) → IsWayOf s way → IsValid s → IsValid (indexed_through last s) → Covers s (indexed_through last s) way.stops.items file
 covered-anyway s last file way w before after =
     subst (λ (all : List Stop). Covers s (indexed_through last s) all file) (sym w.stops)
-    (covers-everywhere s (indexed_through last s) w.order before after (subst (λ (edges : ℕ → List ℕ). IsOrdered edges w.order) (λ i dir. sym (depends-indexed last s dir) i) w.ordered)
-    (λ dir some. w.all dir (λ none. some (depends-indexed last s dir ∙ none))) (λ dir. sym (semantic-indexed last s dir)) file)
+    (covers-everywhere s (indexed_through last s) w.order file (links-judged s before file) after (subst (λ (edges : ℕ → List ℕ). IsOrdered edges w.order) (λ i dir. sym (depends-indexed last s dir) i) w.ordered)
+    (λ dir some. w.all dir (λ none. some (depends-indexed last s dir ∙ none))) (λ dir plain. sym (semantic-indexed last s dir) ∙ plain))
+
+pub covered-anyway-if : (s : State) (last file : ℕ) (way : Way) → IsWayOf s way → IsValid s → IsValid (indexed_through last s) → (result : Result (Vec Stop Global) Memory) →
+    IfOk result (λ stops. stops.items ≡ way.stops.items) → IfOk result (λ stops. Covers s (indexed_through last s) stops.items file)
+covered-anyway-if s last file way w before after (Ok stops) is = subst (λ (items : List Stop). Covers s (indexed_through last s) items file) (sym is) (covered-anyway s last file way w before after)
+covered-anyway-if s last file way w before after (Err memory) is = tt
 
 -- marks, query by query, are stops at the directories
-pub marked-all : (s : State) (file : ℕ) (text : List ℕ) (order : List ℕ) →
-    stops_marked (stops_everywhere order) (map (λ query. option_map_or (may_differ (shown_of s file) text) query false) (map (query_at s) order)) ≡ stops_at (may_begin s file text) order
-marked-all s file text [] = refl
-marked-all s file text (dir ∷ order) = ap (λ (stops : List Stop). record { dir = dir; begins = may_begin s file text dir } ∷ stops) (marked-all s file text order)
+pub marked-all : (s : State) (old : Option (List ℕ)) (new : List ℕ) (order : List ℕ) →
+    stops_marked (stops_everywhere order) (map (λ query. option_map_or (may_differ old new) query false) (map (query_at s) order)) ≡ stops_at (may_begin s old new) order
+marked-all s old new [] = refl
+marked-all s old new (dir ∷ order) = ap (λ (stops : List Stop). record { dir = dir; begins = may_begin s old new dir } ∷ stops) (marked-all s old new order)
 
-pub marked-if : (s : State) (file : ℕ) (text : List ℕ) (order : List ℕ) (result : Result (Vec Stop Global) Memory) (stops : List Stop) (marks : List Bool) → stops ≡ stops_everywhere order →
-    marks ≡ map (λ query. option_map_or (may_differ (shown_of s file) text) query false) (map (query_at s) order) →
-    IfOk result (λ marked. marked.items ≡ stops_marked stops marks) → IfOk result (λ marked. marked.items ≡ stops_at (may_begin s file text) order)
-marked-if s file text order (Ok marked) stops marks all each is = is ∙ (λ i. stops_marked (all i) (each i)) ∙ marked-all s file text order
-marked-if s file text order (Err memory) stops marks all each is = tt
+pub marked-if : (s : State) (old : Option (List ℕ)) (new : List ℕ) (order : List ℕ) (result : Result (Vec Stop Global) Memory) (stops : List Stop) (marks : List Bool) → stops ≡ stops_everywhere order →
+    marks ≡ map (λ query. option_map_or (may_differ old new) query false) (map (query_at s) order) →
+    IfOk result (λ marked. marked.items ≡ stops_marked stops marks) → IfOk result (λ marked. marked.items ≡ stops_at (may_begin s old new) order)
+marked-if s old new order (Ok marked) stops marks all each is = is ∙ (λ i. stops_marked (all i) (each i)) ∙ marked-all s old new order
+marked-if s old new order (Err memory) stops marks all each is = tt

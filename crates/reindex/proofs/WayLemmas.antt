@@ -1,21 +1,29 @@
 -- The ways on which items are judged again lead to each directory behind those on which it depends.
-use Rattle.std.proofs.Common.{◌≡◌, ℕ, zero, suc, ◌+◌, ◌<◌, Bool, true, false, List, [], ◌∷◌, length, get_or, ap, eq-eqb, inl, inr, refl, subst, sym, ◌∙◌}
+use Rattle.std.proofs.Common.{◌≡◌, ℕ, zero, suc, ◌+◌, ◌<◌, Bool, true, false, List, [], ◌∷◌, length, get_or, ap, arith, eq-eqb, inl, inr, refl, subst, sym, ◌∙◌}
 use Rattle.std.proofs.lemmas.Bool.{eqb-true}
 use Rattle.std.proofs.lemmas.List.{map_more}
-use Rattle.std.specs.Prelude.{◌&&◌, ◌||◌, ◌==◌, ◌++◌, ◌≢◌, if◌then◌else◌, map, take, Option, Some, None, is_some}
-use Rattle.std.specs.Option.{option_map_or}
+use Rattle.std.specs.Prelude.{◌&&◌, ◌||◌, ◌==◌, ◌++◌, ◌≢◌, if◌then◌else◌, filter, map, not, take, IfOk, Option, Some, None, Result, Ok, Err, is_some, option_and_then}
+use Rattle.std.specs.List.{list_any}
+use Rattle.std.specs.Option.{option_map, option_map_or}
 use Rattle.dep_graph.specs.Searches.{IsCone, IsOrdered}
 use Rattle.hac_model.specs.Query.Formula.{Formula}
 use Rattle.hac_model.specs.Tree.Depends.{Among, Reaches, depends, named_in}
 use Rattle.hac_model.specs.Tree.Links.{has, is_semantic, lenders, parent_of, query_at}
 use Rattle.hac_model.specs.Tree.Valid.{IsValid}
+use Rattle.hac_model.specs.Tree.{entry_at, is_directory_at, permanent_in, query_in}
+use Rattle.hac_model.specs.declared.states.Body.{Body}
+use Rattle.hac_model.specs.declared.states.Body.TheVariants.{File, Dir, Symlink, Semantic, Mount, Document}
+use Rattle.hac_model.specs.declared.states.Entry.{Entry}
+use Rattle.hac_model.specs.declared.memory.Memory.{Memory}
 use Rattle.hac_model.specs.declared.states.State.{State}
-use Rattle.reeval.specs.Judging.{LeavesAlike}
+use Rattle.reeval.specs.Judging.{AreJudged, LeavesAlike}
 use Rattle.reeval.specs.Routes.{Covers, IsRoute, begins_at, dirs_of}
 use Rattle.reeval.proofs.AlikeLemmas.{touched-leave}
+use Rattle.reeval.proofs.JudgeLemmas.{links-judged}
 use Rattle.reeval.proofs.PlanLemmas.{begins-more}
 use Rattle.reeval.proofs.SettleLemmas.{among-has}
-use Rattle.reindex.specs.Ways.{stops_at, stops_everywhere, stops_from, with_first}
+use Rattle.reindex.specs.Ways.{IsWayOf, IsWayOver, stops_at, stops_everywhere, stops_from, with_first}
+use Rattle.reindex.specs.declared.ways.Way.{Way}
 
 -- what has edges isn't without
 some-edges : (edges : List ℕ) (n : ℕ) → Among edges n → edges ≢ []
@@ -69,9 +77,9 @@ and-true : (b : Bool) → (b && true) ≡ b
 and-true true = refl
 and-true false = refl
 
-pub covers-everywhere : (s t : State) (dirs : List ℕ) → IsValid s → IsValid t → IsOrdered (depends t) dirs → ((q : ℕ) → depends t q ≢ [] → Among dirs q) →
-    ((dir : ℕ) → is_semantic s dir ≡ is_semantic t dir) → (item : ℕ) → Covers s t (stops_everywhere dirs) item
-covers-everywhere s t dirs before after ordered all same item = record {
+pub covers-everywhere : (s t : State) (dirs : List ℕ) (item : ℕ) → AreJudged s item → IsValid t → IsOrdered (depends t) dirs → ((q : ℕ) → depends t q ≢ [] → Among dirs q) →
+    ((dir : ℕ) → is_semantic t dir ≡ false → is_semantic s dir ≡ false) → Covers s t (stops_everywhere dirs) item
+covers-everywhere s t dirs item before after ordered all plains = record {
   before = before;
   after = after;
   route = route-at (depends t) (λ dir. true) dirs ordered all;
@@ -82,13 +90,13 @@ covers-everywhere s t dirs before after ordered all same item = record {
     within dir out =
         let absent : has dirs dir ≡ false = sym (and-true (has dirs dir)) ∙ sym (begins-at (λ dir. true) dirs dir) ∙ out in
         let plain : is_semantic t dir ≡ false = unasked t dir (λ some. let inside = among-has dirs dir (all dir some) in absurd cc) in
-        (λ i. (same dir ∙ plain) i || plain i)
+        (λ i. plains dir plain i || plain i)
 
 -- Where judging begins at some directories, all of them on the way.
 
-pub covers-at : (s t : State) (begins : ℕ → Bool) (dirs : List ℕ) → IsValid s → IsValid t → IsOrdered (depends t) dirs → ((q : ℕ) → depends t q ≢ [] → Among dirs q) →
-    ((dir : ℕ) → begins dir ≡ true → depends t dir ≢ []) → (item : ℕ) → LeavesAlike s t begins item → Covers s t (stops_at begins dirs) item
-covers-at s t begins dirs before after ordered all asked item alike = record {
+pub covers-at : (s t : State) (begins : ℕ → Bool) (dirs : List ℕ) (item : ℕ) → AreJudged s item → IsValid t → IsOrdered (depends t) dirs → ((q : ℕ) → depends t q ≢ [] → Among dirs q) →
+    ((dir : ℕ) → begins dir ≡ true → depends t dir ≢ []) → LeavesAlike s t begins item → Covers s t (stops_at begins dirs) item
+covers-at s t begins dirs item before after ordered all asked alike = record {
   before = before;
   after = after;
   route = route-at (depends t) begins dirs ordered all;
@@ -150,7 +158,7 @@ module _ (edges : ℕ → List ℕ) (first : ℕ) (cone : List ℕ) (h : IsCone 
 pub covers-from : (s t : State) (first : ℕ) (cone : List ℕ) (begins : ℕ → Bool) → IsValid s → IsValid t → IsCone (depends t) (first ∷ []) cone →
     ((dir : ℕ) → begins dir ≡ (dir == first)) → (item : ℕ) → LeavesAlike s t begins item → Covers s t (stops_from first (with_first first cone)) item
 covers-from s t first cone begins before after h is item alike = record {
-  before = before;
+  before = links-judged s before item;
   after = after;
   route = route-from (depends t) first cone h;
   alike = begins-more s t item begins (begins_at (stops_from first (with_first first cone))) within alike;
@@ -170,3 +178,76 @@ pub queries-more : (s : State) (dirs : List ℕ) (i dir : ℕ) (query : Option (
 queries-more s dirs i dir query less is asks =
     ap (λ (o : Option (Formula ℕ)). map (query_at s) (take i dirs) ++ o ∷ []) (asks ∙ ap (query_at s) is)
     ∙ sym (map_more (query_at s) dirs i dir less)
+
+-- All that is on the way.
+
+-- what isn't semantic has no directories that were added
+pub plain-lends : (s : State) (n : ℕ) → query_at s n ≡ None → lenders s n ≡ []
+plain-lends s n none = ap (filter (is_directory_at s.entries)) (at (entry_at s.entries n) none)
+  where
+    body : (b : Body) → query_in b ≡ None → permanent_in b ≡ []
+    body (Semantic asked permanent prohibited) none = absurd cc
+    body (Mount space kept) none = refl
+    body (File text dirty shown) none = refl
+    body Dir none = refl
+    body (Symlink target) none = refl
+    body Document none = refl
+
+    at : (o : Option Entry) → option_and_then query_in (option_map (λ (e : Entry). e.body) o) ≡ None → option_map_or permanent_in (option_map (λ (e : Entry). e.body) o) [] ≡ []
+    at None none = refl
+    at (Some e) none = body e.body none
+
+-- just what is semantic depends on something
+pub depends-semantic : (s : State) (dir : ℕ) → depends s dir ≢ [] → is_semantic s dir ≡ true
+depends-semantic s dir = elim (query_at s dir) as (λ o. option_map_or (λ (query : Formula ℕ). parent_of s dir ∷ (named_in query ++ lenders s dir)) o [] ≢ [] → is_some o ≡ true) [
+  | None ↦ (λ some. absurd (some refl))
+  | Some query ↦ (λ _. refl)
+]
+
+-- what none of the numbers passes, each of them fails
+any-none : (p : ℕ → Bool) (ns : List ℕ) → list_any p ns ≡ false → (n : ℕ) → Among ns n → p n ≡ false
+any-none p [] none n among = absurd among
+any-none p (k ∷ ns) none n (inl same) = subst (λ (m : ℕ). p m ≡ false) same (first (p k) (list_any p ns) none)
+  where
+    first : (a b : Bool) → (a || b) ≡ false → a ≡ false
+    first true b h = h
+    first false b h = refl
+any-none p (k ∷ ns) none n (inr more) = any-none p ns (second (p k) (list_any p ns) none) n more
+  where
+    second : (a b : Bool) → (a || b) ≡ false → b ≡ false
+    second true b h = absurd cc
+    second false b h = h
+
+no-numbers : (ns : List ℕ) → not (length ns == 0) ≡ false → ns ≡ []
+no-numbers ns h = empty ns (eqb-true (length ns) 0 (is (length ns == 0) h))
+  where
+    is : (b : Bool) → not b ≡ false → b ≡ true
+    is true h = refl
+    is false h = sym h
+
+    empty : (ns : List ℕ) → length ns ≡ 0 → ns ≡ []
+    empty [] h = refl
+    empty (n ∷ ns) h = absurd (omega (arith, h))
+
+none_of : {X : Type 0} (o : Option X) → is_some o ≡ false → o ≡ None
+none_of None h = refl
+none_of (Some x) h = absurd cc
+
+-- a way over all directories that depend on something is that to all semantic ones
+pub way-over : (t : State) (order : List ℕ) (way : Way) → IsWayOver t order way → IsOrdered (depends t) order → ((dir : ℕ) → depends t dir ≢ [] → Among order dir) → IsWayOf t way
+way-over t order way over ordered all = record {
+  order = order;
+  ordered = ordered;
+  all = all;
+  stops = over.stops;
+  index = over.index;
+  lends = λ not_any dir. none-lent not_any dir (is_semantic t dir) refl;
+}
+  where
+    none-lent : way.lends ≡ false → (dir : ℕ) (b : Bool) → is_semantic t dir ≡ b → lenders t dir ≡ []
+    none-lent not_any dir true is = no-numbers (lenders t dir) (any-none (λ (d : ℕ). not (length (lenders t d) == 0)) order (sym over.lends ∙ not_any) dir (all dir (semantic-depends t dir is)))
+    none-lent not_any dir false out = plain-lends t dir (none_of (query_at t dir) out)
+
+pub way-if : (result : Result Way Memory) (s t : State) (order : List ℕ) → t ≡ s → IsOrdered (depends s) order → ((dir : ℕ) → depends s dir ≢ [] → Among order dir) → IfOk result (IsWayOver t order) → IfOk result (IsWayOf s)
+way-if (Ok way) s t order same behind all over = way-over s order way (subst (λ (u : State). IsWayOver u order way) same over) behind all
+way-if (Err memory) s t order same behind all over = tt

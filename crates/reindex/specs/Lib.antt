@@ -1,3 +1,4 @@
 pub mod Past
 pub mod Ways
 pub mod Steps
+pub mod Anew

@@ -7,7 +7,7 @@ use Rattle.hac_model.specs.Query.Formula.{Formula}
 use Rattle.hac_model.specs.Query.Words.{rising_words}
 use Rattle.hac_model.specs.Tree.Depends.{Among}
 use Rattle.hac_model.specs.Tree.Events.{apply_all, edited, indexed}
-use Rattle.hac_model.specs.Tree.Links.{query_at, shown_of}
+use Rattle.hac_model.specs.Tree.Links.{query_at}
 use Rattle.hac_model.specs.declared.events.Event.TheVariants.{Step}
 use Rattle.hac_model.specs.declared.states.Body.{Body}
 use Rattle.hac_model.specs.declared.states.Entry.{Entry}
@@ -34,9 +34,9 @@ abbrev pub may_differ : Option (List ℕ) → List ℕ → Formula ℕ → Bool
 may_differ None new query = may_hold (rising_words new) query
 may_differ (Some old) new query = asks_for_change (rising_words old) (rising_words new) query
 
--- judging of a file that is to show the text begins at the directory: its query may say something else
-abbrev pub may_begin : State → ℕ → List ℕ → ℕ → Bool
-may_begin s file text dir = option_map_or (may_differ (shown_of s file) text) (query_at s dir) false
+-- judging of a file that is to show the second text begins at the directory: its query may say something else
+abbrev pub may_begin : State → Option (List ℕ) → List ℕ → ℕ → Bool
+may_begin s old new dir = option_map_or (may_differ old new) (query_at s dir) false
 
 -- by these changes the items have the verdicts of the second state, and nothing is new of any other
 pub record AreSettled (s t : State) (items : List ℕ) (delta : List Change) : Type 0 where

@@ -1,5 +1,6 @@
 -- The ways on which items are judged again after an event.
-use Rattle.std.specs.Prelude.{◌≡◌, ◌≢◌, ℕ, Bool, true, false, ◌==◌, List, [], ◌∷◌, map, if◌then◌else◌}
+use Rattle.std.specs.Prelude.{◌≡◌, ◌≢◌, ℕ, Bool, true, false, ◌==◌, List, [], ◌∷◌, length, map, not, if◌then◌else◌}
+use Rattle.std.specs.List.{list_any}
 use Rattle.dep_graph.specs.Searches.{IsOrdered}
 use Rattle.hac_model.specs.Tree.Depends.{Among, depends}
 use Rattle.hac_model.specs.Tree.Links.{has, lenders, query_at}
@@ -28,6 +29,12 @@ stops_marked stops marks = []
 -- the numbers, with one in front if it isn't among them
 abbrev pub with_first : ℕ → List ℕ → List ℕ
 with_first first dirs = if has dirs first then dirs else first ∷ dirs
+
+-- the way stops at these directories. It has their queries, and says whether directories were added to some
+pub record IsWayOver (s : State) (order : List ℕ) (way : Way) : Type 0 where
+  pub stops : way.stops.items ≡ stops_everywhere order
+  pub index : IsIndexOf (map (query_at s) order) way.index
+  pub lends : way.lends ≡ list_any (λ dir. not (length (lenders s dir) == 0)) order
 
 -- the way stops at all semantic directories, each behind those on which it depends. It has their queries, and says whether
 -- directories may have been added to some

@@ -109,7 +109,7 @@ impl<'a> Atoms for Indexing<'a> {
 }
 
 /// Whether the user added an item to a directory.
-fn is_added(kept: &KeptState, dir: Number, item: Number) -> bool
+pub(crate) fn is_added(kept: &KeptState, dir: Number, item: Number) -> bool
     ensures { result ≡ (is_permanent kept.now.state dir item && is_item kept.now.state item) }
 {
     is_item(kept, item) && kept.mark(dir, item).is_permanent()
@@ -123,7 +123,7 @@ fn is_unmarked(kept: &KeptState, dir: Number, item: Number) -> bool
 }
 
 /// Whether an item is stored below a directory, at any depth.
-fn is_below(kept: &KeptState, item: Number, dir: Number) -> bool
+pub(crate) fn is_below(kept: &KeptState, item: Number, dir: Number) -> bool
     ensures { result ≡ is_below kept.now.state dir item }
 {
     is_below_in(kept.tree(), item, dir)

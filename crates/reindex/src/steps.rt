@@ -1,32 +1,26 @@
 //! The files that steps index, which are taken in a batch.
-ghost use Rattle.std.specs.Prelude.{◌≡◌, ◌++◌, ◌∷◌, [], IfOk, List, OnOk, Option, false, map, replicate, ℕ};
-ghost use Rattle.std.specs.Option.{option_copied, option_map_or};
+ghost use Rattle.std.specs.Prelude.{◌≡◌, ◌++◌, ◌∷◌, [], IfOk, List, OnOk, Option, false, replicate, ℕ};
 ghost use Rattle.dep_graph.specs.Searches.{EachOnce};
 ghost use Rattle.file_tree.specs.Answers.{is_dirty_at};
 ghost use Rattle.hac_model.specs.Laws.{AllHappen};
-ghost use Rattle.hac_model.specs.Query.Formula.{Formula};
 ghost use Rattle.hac_model.specs.Tree.Depends.{Among};
 ghost use Rattle.hac_model.specs.Tree.Events.{apply_all, next_dirty};
-ghost use Rattle.hac_model.specs.Tree.Links.{query_at};
 ghost use Rattle.hac_model.specs.Tree.Valid.{IsValid};
 ghost use Rattle.hac_model.specs.declared.events.Event.TheVariants.{Step};
-ghost use Rattle.query_index.specs.Seen.{IsIndexOf};
 ghost use Rattle.reeval.specs.Routes.{Covers};
 ghost use Rattle.reeval.specs.Settled.{AreLinksOf};
 ghost use Rattle.reindex.specs.Past.{Lead};
 ghost use Rattle.reindex.specs.Steps.{AreIndexed, AreSettled, indexed_through};
-ghost use Rattle.reindex.specs.Steps.{may_begin, may_differ};
-ghost use Rattle.reindex.specs.Ways.{IsWayOf, stops_at, stops_everywhere};
+ghost use Rattle.reindex.specs.Ways.{IsWayOf};
 
 use crate::indexing::{Indexing, shown_of};
 use crate::lookups::{next_dirty, next_number};
 use crate::past::Past;
-use crate::ways::{Way, stops_marked};
+use crate::texts::stops_for;
+use crate::ways::{FEW_STOPS, Way, stops_of_way};
 use hac_model::{Memory, Number};
-use hac_words::words_of;
 use kept_state::KeptState;
 use link_kinds::Links;
-use query_index::QueryIndex;
 use reeval::{Change, Stop, settle_all};
 use std::alloc::Global;
 
@@ -113,50 +107,12 @@ fn stops_of(
         (indexed_through indexing.now.last indexing.now.kept.now.state) stops.items file) }
 {
     indexing.kept.know_valid();
-    match indexing.shown(file) {
-        Some(text) => stops_for(alloc, indexing.kept, way, file, text),
-        None => Ok(Vec::from_slice(alloc, way.stops.as_slice())?),
+    if way.stops.len() <= FEW_STOPS {
+        return stops_of_way(alloc, way);
     }
-}
-
-/// The stops at all directories for a file that will show a text.
-fn stops_for(
-    alloc: Global,
-    kept: &KeptState,
-    way: &Way,
-    file: Number,
-    text: &[u8],
-) -> Result<Vec<Stop>, Memory>
-    requires way { IsWayOf kept.now.state way.now }
-    ensures { (order : List ℕ) → way.now.stops.items ≡ stops_everywhere order
-        → IsIndexOf (map (query_at kept.now.state) order) way.now.index
-        → IfOk result (λ stops. stops.items
-        ≡ stops_at (may_begin kept.now.state file text.now) order) }
-{
-    let marks = marks_for(alloc, &way.index, shown_of(kept, file), text)?;
-    stops_marked(alloc, way.stops.as_slice(), marks.as_slice())
-}
-
-/// Says of each query whether it may say something else of a file, once that shows a text in place
-/// of the one that it showed, if it showed any.
-fn marks_for(
-    alloc: Global,
-    index: &QueryIndex,
-    old: Option<&[u8]>,
-    new: &[u8],
-) -> Result<Vec<bool>, Memory>
-    ensures { (queries : List (Option (Formula ℕ))) → IsIndexOf queries index.now →
-        IfOk result (λ marks. marks.items
-        ≡ map (λ query. option_map_or (may_differ (option_copied old.entry) new.now) query false)
-        queries) }
-{
-    let new = words_of(alloc, new)?;
-    match old {
-        Some(old) => {
-            let old = words_of(alloc, old)?;
-            index.asking(old.as_slice(), new.as_slice())
-        }
-        None => index.fitting(new.as_slice()),
+    match indexing.shown(file) {
+        Some(text) => stops_for(alloc, way, shown_of(indexing.kept, file), text),
+        None => stops_of_way(alloc, way),
     }
 }
 

@@ -1,10 +1,16 @@
 //! The ways on which items are judged again after an event.
-ghost use Rattle.std.specs.Prelude.{◌≡◌, IfOk, length};
+ghost use Rattle.std.specs.Prelude.{◌≡◌, ◌==◌, IfOk, length, map, not};
+ghost use Rattle.std.specs.List.{list_any};
+ghost use Rattle.hac_model.specs.Tree.Links.{lenders, query_at};
+ghost use Rattle.query_index.specs.Seen.{IsIndexOf};
+ghost use Rattle.reindex.specs.Ways.{IsWayOf, IsWayOver};
 ghost use Rattle.reindex.specs.Ways.{stops_everywhere, stops_from, stops_marked, with_first};
 
+use crate::indexing::Indexing;
 use hac_model::{Memory, Number};
+use kept_state::KeptState;
 use query_index::QueryIndex;
-use reeval::Stop;
+use reeval::{Layout, Stop};
 use std::alloc::Global;
 
 /// All semantic directories, on the way of an item that may be judged in each.
@@ -18,8 +24,56 @@ pub struct Way {
     pub lends: bool,
 }
 
+/// Up to this many directories an item is judged in each: that takes less time than it takes to list
+/// the words of its text.
+pub(crate) const FEW_STOPS: usize = 16;
+
+/// The way to all semantic directories of a state.
+pub fn way_of(alloc: Global, kept: &KeptState) -> Result<Way, Memory>
+    ensures { IfOk result (IsWayOf kept.now.state) }
+{
+    kept.know_valid();
+    let dirs = kept.graph().directories()?;
+    let order = kept.graph().cone(dirs.as_slice(), None)?;
+    let present = Indexing {
+        kept,
+        last: Number::ROOT,
+    };
+    way_over(alloc, &present, order.as_slice())
+}
+
+/// The way to directories of a state, in this order.
+pub fn way_over<Y: Layout>(alloc: Global, layout: &Y, order: &[Number]) -> Result<Way, Memory>
+    ensures { IfOk result (IsWayOver (Y.state layout.now) order.now) }
+{
+    Ok(Way {
+        stops: stops_everywhere(alloc, order)?,
+        index: index_of(alloc, layout, order)?,
+        lends: lends_any(layout, order),
+    })
+}
+
+/// The queries of directories, each at the place of its directory.
+fn index_of<Y: Layout>(alloc: Global, layout: &Y, dirs: &[Number]) -> Result<QueryIndex, Memory>
+    ensures { IfOk result (IsIndexOf (map (query_at (Y.state layout.now)) dirs.now)) }
+{
+    let mut index = QueryIndex::new(alloc);
+    for dir in dirs {
+        index = index.with(layout.query(*dir))?;
+    }
+    Ok(index)
+}
+
+/// Whether directories were added to some of these.
+fn lends_any<Y: Layout>(layout: &Y, dirs: &[Number]) -> bool
+    ensures { result ≡ list_any
+        (λ dir. not (length (lenders (Y.state layout.now) dir) == 0)) dirs.now }
+{
+    dirs.iter().any(|dir| !layout.lenders(*dir).is_empty())
+}
+
 /// A stop at each of these directories, at each of which judging begins.
-pub fn stops_everywhere(alloc: Global, dirs: &[Number]) -> Result<Vec<Stop>, Memory>
+fn stops_everywhere(alloc: Global, dirs: &[Number]) -> Result<Vec<Stop>, Memory>
     ensures { IfOk result (λ stops. stops.items ≡ stops_everywhere dirs.now) }
 {
     let mut stops = Vec::new(alloc);
@@ -44,6 +98,13 @@ pub fn stops_from(alloc: Global, first: Number, dirs: &[Number]) -> Result<Vec<S
         })?;
     }
     Ok(stops)
+}
+
+/// The stops of a way: judging begins at each directory.
+pub(crate) fn stops_of_way(alloc: Global, way: &Way) -> Result<Vec<Stop>, Memory>
+    ensures { IfOk result (λ stops. stops.items ≡ way.now.stops.items) }
+{
+    Ok(Vec::from_slice(alloc, way.stops.as_slice())?)
 }
 
 /// The same stops, where judging begins at those that are marked.

@@ -1,11 +1,10 @@
-use Rattle.std.proofs.Common.{◌≡◌, List, ap, subst, sym, ◌∙◌}
-use Rattle.std.specs.Prelude.{Some}
+use Rattle.std.proofs.Common.{◌≡◌, ℕ, List, ap, subst, sym, ◌∙◌}
+use Rattle.std.specs.Prelude.{IfOk, Option, Some}
 use Rattle.std.specs.Option.{option_copied}
 use Rattle.hac_model.specs.Tree.Links.{shown_of}
-use Rattle.reeval.specs.Routes.{Covers}
-use Rattle.reeval.specs.declared.settling.Stop.{Stop}
-use Rattle.reindex.specs.Steps.{indexed_through}
-use Rattle.reindex.proofs.TextLemmas.{covered-anyway, covered-if}
+use Rattle.reindex.specs.Steps.{indexed_through, may_begin}
+use Rattle.reindex.specs.Ways.{stops_at}
+use Rattle.reindex.proofs.TextLemmas.{covered-anyway-if, covered-if}
 use Rattle.reindex.proofs.steps.stops_of.Goals as goal
 
 pub returns-in-Some : goal.returns-in-Some
@@ -14,11 +13,13 @@ returns-in-Some c =
     let last = c.args.indexing.now.last in
     let w = c.requires.way in
     let shows : shown_of (indexed_through last s) c.args.file ≡ Some c.in-Some.text.now = sym c.shown.ensures ∙ ap option_copied c.in-Some.is in
-    covered-if s last c.args.file c.in-Some.text.now shows c.args.way.now w c.know_valid.ensures c.requires.valid c.stops_for.result (c.stops_for.ensures w.order w.stops w.index)
+    covered-if s last c.args.file c.in-Some.text.now shows c.args.way.now w c.know_valid.ensures c.requires.valid c.stops_for.result
+    (subst (λ (old : Option (List ℕ)). IfOk c.stops_for.result (λ stops. stops.items ≡ stops_at (may_begin s old c.in-Some.text.now) w.order)) c.shown_of.ensures (c.stops_for.ensures s w.order w.stops w.index))
 
-pub returns-in_ok-from_slice-in-None : goal.returns-in_ok-from_slice-in-None
-returns-in_ok-from_slice-in-None c =
-    let s = c.args.indexing.now.kept.now.state in
-    let last = c.args.indexing.now.last in
-    subst (λ (stops : List Stop). Covers s (indexed_through last s) stops c.args.file) (sym (c.in_ok-from_slice-in-None.ensures.items ∙ c.as_slice.ensures.value))
-    (covered-anyway s last c.args.file c.args.way.now c.requires.way c.know_valid.ensures c.requires.valid)
+pub returns-then-len-le-FEW_STOPS : goal.returns-then-len-le-FEW_STOPS
+returns-then-len-le-FEW_STOPS c =
+    covered-anyway-if c.args.indexing.now.kept.now.state c.args.indexing.now.last c.args.file c.args.way.now c.requires.way c.know_valid.ensures c.requires.valid c.stops_of_way.result c.stops_of_way.ensures
+
+pub returns-in-None : goal.returns-in-None
+returns-in-None c =
+    covered-anyway-if c.args.indexing.now.kept.now.state c.args.indexing.now.last c.args.file c.args.way.now c.requires.way c.know_valid.ensures c.requires.valid c.stops_of_way-in-None.result c.stops_of_way-in-None.ensures

@@ -4,11 +4,11 @@ use Rattle.hac_model.specs.Query.Formula.{Formula}
 use Rattle.hac_model.specs.Tree.Links.{query_at}
 use Rattle.query_index.specs.Seen.{IsIndexOf}
 use Rattle.reindex.proofs.WayLemmas.{queries-more}
-use Rattle.kept_links.proofs.tasks.index_next.Goals as goal
+use Rattle.reindex.proofs.ways.index_of.Goals as goal
 
 pub loop-dir-preserved : goal.loop-dir-preserved
-loop-dir-preserved c =
-    let s = c.args.outlook.now in
+loop-dir-preserved g c =
+    let s = g.Y.Layout.state c.args.layout.now in
     let dirs = c.args.dirs.now in
     subst (λ (queries : List (Option (Formula ℕ))). IsIndexOf queries c.in_ok-index.index)
     (queries-more s dirs c.loop-dir.dir-index c.dir-item.result _ c.loop-dir-test.true c.dir-item.is c.query.ensures)

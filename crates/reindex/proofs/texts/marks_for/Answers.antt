@@ -3,7 +3,7 @@ use Rattle.std.specs.Cmp.Lexicographic.{slice_cmp}
 use Rattle.std.specs.List.Sorted.{IsStrictlySortedBy}
 use Rattle.std.specs.Ordering.{nat_cmp}
 use Rattle.hac_words.proofs.WordLemmas.{rising_words-rise}
-use Rattle.reindex.proofs.steps.marks_for.Goals as goal
+use Rattle.reindex.proofs.texts.marks_for.Goals as goal
 
 pub asking-requires-clause-old : goal.asking-requires-clause-old
 asking-requires-clause-old c =

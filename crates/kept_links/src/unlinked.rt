@@ -1,0 +1,137 @@
+//! A state that a log makes, event by event. Its links are found once, behind the last.
+ghost use Rattle.std.specs.Prelude.{◌≡◌, [], IfOk, IfSome, IsTrue, OnErr, OnOk};
+ghost use Rattle.hac_model.specs.Tree.Events.{accepted, apply};
+ghost use Rattle.hac_model.specs.Tree.Limits as limits;
+ghost use Rattle.hac_model.specs.Tree.Links.{has, transient_at};
+ghost use Rattle.hac_model.specs.Tree.Sessions.{is_stored};
+ghost use Rattle.hac_model.specs.Tree.{empty};
+ghost use Rattle.reeval.specs.Settled.{AreLinksOf};
+ghost use Rattle.reindex.specs.Ways.{IsWayOf};
+
+use crate::items::begin;
+use crate::linked::LinkedState;
+use hac_model::{Counts, Event, Memory, Number};
+use kept_state::KeptState;
+use link_kinds::Links;
+use reindex::{Way, finds, links_of, way_of};
+use std::alloc::Global;
+use std::marker::Model;
+
+/// A state without its links, seen as that state.
+#[derive(Drop)]
+pub struct UnlinkedState {
+    kept: KeptState,
+    // All semantic directories, in order, where they were asked for and none has changed since.
+    way: Option<Way>,
+}
+
+impl Model for UnlinkedState {
+    ghost use Rattle.hac_model.specs.declared.states.State.{State};
+    ghost use Rattle.hac_model.specs.contracts.states.State as state;
+
+    ghost Value = { State };
+
+    ghost coded = { state.the_row.coded };
+
+    ghost use Rattle.kept_links.specs.Kept.{state_of_unlinked, IsUnlinked};
+
+    ghost view = { state_of_unlinked };
+
+    ghost invariant = { IsUnlinked };
+}
+
+impl UnlinkedState {
+    /// The root alone.
+    pub fn new(alloc: Global) -> Result<UnlinkedState, Memory>
+        ensures { IfOk result (λ unlinked. unlinked ≡ empty) }
+    {
+        Ok(UnlinkedState {
+            kept: KeptState::new(alloc)?,
+            way: None,
+        })
+    }
+
+    /// The state as it is kept.
+    pub fn kept(&self) -> &KeptState
+        ensures { result.now ≡ record { state = self.now; ready = [] } }
+    {
+        &self.kept
+    }
+
+    /// Whether a directory finds an item: its query does, and the user says nothing of it there.
+    pub fn finds(&mut self, alloc: Global, dir: Number, item: Number) -> Result<bool, Memory>
+        ensures finds { IfOk result (λ finds. finds ≡ has (transient_at self.old dir) item) }
+        ensures same { self.new ≡ self.old }
+    {
+        let way = match self.way.take() {
+            Some(way) => way,
+            None => way_of(alloc, &self.kept)?,
+        };
+        let found = finds(alloc, &self.kept, &way, dir, item);
+        self.way = Some(way);
+        found
+    }
+
+    /// Applies an event that is stored. How much the state then holds is given. If memory runs out,
+    /// the state stays.
+    pub fn happen(&mut self, alloc: Global, event: Event, counts: Counts) -> Result<(), Memory>
+        requires accepted { IsTrue (accepted self.old event) }
+        requires stored { IsTrue (is_stored event) }
+        requires counts { counts ≡ limits.counts (apply self.old event) }
+        ensures ok { OnOk result (self.new ≡ apply self.old event) }
+        ensures err { OnErr result (self.new ≡ self.old) }
+    {
+        leave_way(&mut self.way, &self.kept, &event);
+        self.kept.prepare(alloc, event, counts)?;
+        self.kept.commit();
+        Ok(())
+    }
+
+    /// The same state with its links.
+    pub fn linked(self, alloc: Global) -> Result<LinkedState, Memory>
+        ensures { IfOk result (λ linked. linked ≡ record { state = self; ready = [] }) }
+    {
+        match way_and_links(alloc, &self.kept) {
+            Ok((way, found)) => Ok(LinkedState {
+                kept: self.kept,
+                found,
+                way,
+                delta: Vec::new(alloc),
+                next: None,
+            }),
+            Err(memory) => {
+                drop(self);
+                Err(memory)
+            }
+        }
+    }
+}
+
+/// The way to all semantic directories of a state, and its links.
+fn way_and_links(alloc: Global, kept: &KeptState) -> Result<(Way, Links), Memory>
+    ensures way { IfOk result (λ both. IsWayOf kept.now.state both.0) }
+    ensures links { IfOk result (λ both. AreLinksOf kept.now.state both.1) }
+{
+    let way = way_of(alloc, kept)?;
+    match links_of(alloc, kept, &way) {
+        Ok(found) => Ok((way, found)),
+        Err(memory) => {
+            drop(way);
+            Err(memory)
+        }
+    }
+}
+
+/// Forgets the way where the event changes it.
+fn leave_way(way: &mut Option<Way>, kept: &KeptState, event: &Event)
+    requires accepted { IsTrue (accepted kept.now.state event.now) }
+    requires way { IfSome way.old (IsWayOf kept.now.state) }
+    ensures before { IfSome way.new (IsWayOf kept.now.state) }
+    ensures after { IfSome way.new (IsWayOf (apply kept.now.state event.now)) }
+{
+    kept.know_valid();
+    match begin(kept, event) {
+        Some(_) => *way = None,
+        None => {}
+    }
+}

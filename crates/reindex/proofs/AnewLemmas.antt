@@ -1,0 +1,117 @@
+-- The links of a state as they are found from nothing, item by item.
+use Rattle.std.proofs.Common.{◌≡◌, ℕ, ◌+◌, ◌≤◌, Bool, true, false, cond, List, [], ap, eq-eqb, refl, sym, subst, ◌∙◌, arith}
+use Rattle.std.specs.Prelude.{◌==◌, nat_lt, Option, IfOk, Result, Ok, Err, Vec}
+use Rattle.std.specs.List.{list_all}
+use Rattle.std.specs.Option.{option_map, option_map_or}
+use Rattle.std.specs.declared.alloc.Global.{Global}
+use Rattle.std.proofs.lemmas.Bool.{eqb-true}
+use Rattle.std.proofs.lemmas.Bool.Decides.{nat_tests}
+use Rattle.hac_model.specs.Tree.Links.{is_item, is_judged}
+use Rattle.hac_model.specs.Tree.Valid.{IsValid}
+use Rattle.hac_model.specs.Tree.{is_linkable}
+use Rattle.hac_model.specs.declared.memory.Memory.{Memory}
+use Rattle.hac_model.specs.declared.states.Entry.{Entry}
+use Rattle.hac_model.specs.declared.states.State.{State}
+use Rattle.hac_model.proofs.TreeLemmas.{entry_at-next}
+use Rattle.link_kinds.specs.Seen.{IsEmpty, Known, LinkListsRise, SameKinds}
+use Rattle.reeval.specs.Judging.{is_linked, no_verdict, verdict_of}
+use Rattle.reeval.specs.Routes.{Covers}
+use Rattle.reeval.specs.Settled.{AreLinksOf, verdict_in}
+use Rattle.reeval.specs.Told.{is_on, latest, news_on, told}
+use Rattle.reeval.specs.declared.settling.Stop.{Stop}
+use Rattle.reeval.specs.declared.verdicts.Change.{Change}
+use Rattle.reeval.proofs.JudgeLemmas.{links-judged}
+use Rattle.reeval.proofs.LinkedLemmas.{links-told, told-alike, told-nothing}
+use Rattle.reeval.proofs.PlanLemmas.{no-item, unjudged-said}
+use Rattle.reeval.proofs.ToldLemmas.{news-here, news-there}
+use Rattle.reindex.specs.Anew.{AreAllNews, LendsNothing}
+
+-- One item.
+
+-- nothing is said of what is no item
+pub news-of-none : (s : State) (item : ℕ) (news : List Change) → IsValid s → news ≡ [] → is_item s item ≡ false → AreAllNews s item news
+news-of-none s item news valid none out = record {
+  own = ap (list_all (is_on item)) none;
+  told = λ dir. ap (λ (changes : List Change). told changes (λ _. no_verdict) dir) none ∙ sym (no-item s valid item dir out);
+}
+
+-- nor of what no query judges, where nothing is lent
+pub news-of-unjudged : (s : State) (item : ℕ) (news : List Change) → IsValid s → news ≡ [] → LendsNothing s → is_judged s item ≡ false → AreAllNews s item news
+news-of-unjudged s item news valid none unlent out = record {
+  own = ap (list_all (is_on item)) none;
+  told = λ dir. ap (λ (changes : List Change). told changes (λ _. no_verdict) dir) none
+      ∙ sym (links-judged s valid item dir ∙ unjudged-said s (is_linked (verdict_of s item)) item dir out (unlent dir));
+}
+
+-- an item that is settled from a state that says nothing
+pub settled-news : (s t u : State) (stops : List Stop) (item : ℕ) (result : Result (Vec Change Global) Memory) → t ≡ s → ((dir : ℕ) → no_verdict ≡ verdict_of u item dir) →
+    IfOk result (λ news. list_all (is_on item) news.items ≡ true) →
+    (Covers u t stops item → IfOk result (λ news. (dir : ℕ) → told news.items (verdict_of u item) dir ≡ verdict_of t item dir)) →
+    Covers u s stops item → IfOk result (λ news. AreAllNews s item news.items)
+settled-news s t u stops item (Ok news) same none own settled covers = record {
+  own = own;
+  told = λ dir. ap (latest news.items dir) (none dir)
+      ∙ settled (subst (λ (x : State). Covers u x stops item) (sym same) covers) dir
+      ∙ ap (λ (x : State). verdict_of x item dir) same;
+}
+settled-news s t u stops item (Err memory) same none own settled covers = tt
+
+-- Item by item.
+
+-- the links are those of the items below a number, and no others
+abbrev pub AreLinksBelow : State → Known → ℕ → Type 0
+AreLinksBelow s known number = (item dir : ℕ) → verdict_in known item dir ≡ cond (nat_lt item number) (verdict_of s item dir) no_verdict
+
+pub below-none : (s : State) (known : Known) → IsEmpty known → AreLinksBelow s known 0
+below-none s known none item dir =
+    let out : nat_lt item 0 ≡ false = grind (arith, nat_tests) in
+    told-nothing known none item dir ∙ ap (λ (b : Bool). cond b (verdict_of s item dir) no_verdict) (sym out)
+
+-- the news of one item more
+module _ (s : State) (number : ℕ) (old room new : Known) (news : List Change) (h : AreLinksBelow s old number) (same : SameKinds old room) (all : AreAllNews s number news)
+    (put : (item dir : ℕ) → verdict_in new item dir ≡ told (news_on item news) (verdict_in room item) dir) where
+  was : (item dir : ℕ) → verdict_in room item dir ≡ cond (nat_lt item number) (verdict_of s item dir) no_verdict
+  was item dir = told-alike old room same item dir ∙ h item dir
+
+  here : (dir : ℕ) → verdict_in new number dir ≡ verdict_of s number dir
+  here dir =
+      let out : nat_lt number number ≡ false = grind (arith, nat_tests) in
+      put number dir
+      ∙ (λ i. told (news-here [] news number refl all.own i) (verdict_in room number) dir)
+      ∙ ap (latest news dir) (was number dir ∙ ap (λ (b : Bool). cond b (verdict_of s number dir) no_verdict) out)
+      ∙ all.told dir
+
+  away : (item dir : ℕ) → ((number ≡ item) → ⊥) → verdict_in new item dir ≡ verdict_in room item dir
+  away item dir apart = put item dir ∙ (λ i. told (news-there [] news number item all.own apart i) (verdict_in room item) dir)
+
+  pub below-more : AreLinksBelow s new (number + 1)
+  below-more item dir = elim (item == number) as (λ b. (item == number) ≡ b → verdict_in new item dir ≡ cond (nat_lt item (number + 1)) (verdict_of s item dir) no_verdict) [
+    | true ↦ (λ is.
+        let at : item ≡ number = eqb-true item number is in
+        let low : nat_lt item (number + 1) ≡ true = grind (arith, nat_tests) in
+        subst (λ (n : ℕ). verdict_in new n dir ≡ verdict_of s n dir) (sym at) (here dir)
+        ∙ ap (λ (b : Bool). cond b (verdict_of s item dir) no_verdict) (sym low))
+    | false ↦ (λ other.
+        away item dir (λ at. let is : (item == number) ≡ true = ap (λ (n : ℕ). item == n) at ∙ own item in absurd cc)
+        ∙ was item dir ∙ ap (λ (b : Bool). cond b (verdict_of s item dir) no_verdict) (lower item other))
+  ] refl
+    where
+      own : (n : ℕ) → (n == n) ≡ true
+      own n = eq-eqb n n refl
+
+      lower : (n : ℕ) → (n == number) ≡ false → nat_lt n number ≡ nat_lt n (number + 1)
+      lower n other = elim (nat_lt n number) as (λ b. nat_lt n number ≡ b → b ≡ nat_lt n (number + 1)) [
+        | true ↦ (λ less. grind (arith, nat_tests))
+        | false ↦ (λ more. grind (arith, nat_tests))
+      ] refl
+
+-- those of all items are the links of the state
+pub below-all : (s : State) (known : Known) (number : ℕ) → IsValid s → LinkListsRise known → s.next ≤ number → AreLinksBelow s known number → AreLinksOf s known
+below-all s known number valid rise high h = links-told s known valid rise (λ item dir. h item dir ∙ all item dir (nat_lt item number) refl)
+  where
+    all : (item dir : ℕ) (b : Bool) → nat_lt item number ≡ b → cond b (verdict_of s item dir) no_verdict ≡ verdict_of s item dir
+    all item dir true less = refl
+    all item dir false more =
+        let above : s.next ≤ item = grind (arith, nat_tests) in
+        let none : is_item s item ≡ false = ap (λ (o : Option Entry). option_map_or is_linkable (option_map (λ (e : Entry). e.body) o) false) (entry_at-next 0 s.entries s.next item valid.layout.numbers above) in
+        sym (no-item s valid item dir none)

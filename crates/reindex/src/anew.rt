@@ -1,0 +1,131 @@
+//! All links of a state, found from nothing.
+ghost use Rattle.std.specs.Prelude.{◌≡◌, IfOk};
+ghost use Rattle.hac_model.specs.Tree.Links.{has, transient_at};
+ghost use Rattle.reeval.specs.Routes.{Covers};
+ghost use Rattle.reeval.specs.Settled.{AreLinksOf};
+ghost use Rattle.reindex.specs.Anew.{AreAllNews, LendsNothing, unjudged_state};
+ghost use Rattle.reindex.specs.Ways.{IsWayOf};
+
+use crate::indexing::{Indexing, shown_of};
+use crate::lookups::{is_document, is_item, know_lists, next_number};
+use crate::texts::stops_for;
+use crate::unjudged::Unjudged;
+use crate::ways::{FEW_STOPS, Way};
+use hac_model::{Memory, Number};
+use kept_state::KeptState;
+use link_kinds::Links;
+use reeval::{Blank, Change, Stop, Verdict, apply, latest, reserve, settle};
+use std::alloc::Global;
+
+/// The links of a state, found from nothing. Each file is judged where its words may tell.
+pub fn links_of(alloc: Global, kept: &KeptState, way: &Way) -> Result<Links, Memory>
+    requires { IsWayOf kept.now.state way.now }
+    ensures { IfOk result (AreLinksOf kept.now.state) }
+{
+    kept.know_valid();
+    let mut found = Links::new(alloc)?;
+    for number in 0..next_number(kept).get() {
+        let news = news_of(alloc, kept, way, Number::new(number))?;
+        reserve(&mut found, news.as_slice())?;
+        apply(&mut found, news.as_slice());
+    }
+    know_lists(&found);
+    Ok(found)
+}
+
+/// Whether a directory finds an item. No link of another item is looked for.
+pub fn finds(
+    alloc: Global,
+    kept: &KeptState,
+    way: &Way,
+    dir: Number,
+    item: Number,
+) -> Result<bool, Memory>
+    requires { IsWayOf kept.now.state way.now }
+    ensures { IfOk result (λ finds. finds ≡ has (transient_at kept.now.state dir) item) }
+{
+    let news = news_of(alloc, kept, way, item)?;
+    let none = Verdict {
+        found: false,
+        lent: false,
+    };
+    Ok(latest(news.as_slice(), dir, none).found)
+}
+
+/// What the links of a state say of an item.
+fn news_of(alloc: Global, kept: &KeptState, way: &Way, item: Number) -> Result<Vec<Change>, Memory>
+    requires { IsWayOf kept.now.state way.now }
+    ensures { IfOk result (λ news. AreAllNews kept.now.state item news.items) }
+{
+    if way.lends {
+        news_everywhere(alloc, kept, way, item)
+    } else {
+        news_by_words(alloc, kept, way, item)
+    }
+}
+
+/// The same, of an item that is judged in each directory.
+fn news_everywhere(
+    alloc: Global,
+    kept: &KeptState,
+    way: &Way,
+    item: Number,
+) -> Result<Vec<Change>, Memory>
+    requires { IsWayOf kept.now.state way.now }
+    ensures { IfOk result (λ news. AreAllNews kept.now.state item news.items) }
+{
+    kept.know_valid();
+    if !is_item(kept, item) {
+        return Ok(Vec::new(alloc));
+    }
+    let present = Indexing {
+        kept,
+        last: Number::ROOT,
+    };
+    let stops = way.stops.as_slice();
+    settle(alloc, &present, &present, &Blank, stops, item)
+}
+
+/// The same, where no directory was added to another: a file is judged where its words may tell, and
+/// nowhere if it was never indexed. Where there are few directories each item is judged in each.
+fn news_by_words(
+    alloc: Global,
+    kept: &KeptState,
+    way: &Way,
+    item: Number,
+) -> Result<Vec<Change>, Memory>
+    requires way { IsWayOf kept.now.state way.now }
+    requires unlent { LendsNothing kept.now.state }
+    ensures { IfOk result (λ news. AreAllNews kept.now.state item news.items) }
+{
+    kept.know_valid();
+    if way.stops.len() <= FEW_STOPS || is_document(kept, item) {
+        return news_along(alloc, kept, way.stops.as_slice(), item);
+    }
+    match shown_of(kept, item) {
+        Some(text) => {
+            let stops = stops_for(alloc, way, None, text)?;
+            news_along(alloc, kept, stops.as_slice(), item)
+        }
+        None => Ok(Vec::new(alloc)),
+    }
+}
+
+/// The same, of an item that is judged again wherever a stop says so.
+fn news_along(
+    alloc: Global,
+    kept: &KeptState,
+    stops: &[Stop],
+    item: Number,
+) -> Result<Vec<Change>, Memory>
+    requires unlent { LendsNothing kept.now.state }
+    requires way { Covers (unjudged_state kept.now.state) kept.now.state stops.now item }
+    ensures { IfOk result (λ news. AreAllNews kept.now.state item news.items) }
+{
+    kept.know_valid();
+    let present = Indexing {
+        kept,
+        last: Number::ROOT,
+    };
+    settle(alloc, &present, &present, &Unjudged { kept }, stops, item)
+}

@@ -1,0 +1,57 @@
+//! Where judging of a file begins, by the words of its texts.
+ghost use Rattle.std.specs.Prelude.{◌≡◌, IfOk, List, Option, false, map, ℕ};
+ghost use Rattle.std.specs.Option.{option_copied, option_map_or};
+ghost use Rattle.hac_model.specs.Query.Formula.{Formula};
+ghost use Rattle.hac_model.specs.Tree.Links.{query_at};
+ghost use Rattle.hac_model.specs.declared.states.State.{State};
+ghost use Rattle.query_index.specs.Seen.{IsIndexOf};
+ghost use Rattle.reindex.specs.Steps.{may_begin, may_differ};
+ghost use Rattle.reindex.specs.Ways.{IsWayOf, stops_at, stops_everywhere};
+
+use crate::ways::{Way, stops_marked};
+use hac_model::Memory;
+use hac_words::words_of;
+use query_index::QueryIndex;
+use reeval::Stop;
+use std::alloc::Global;
+
+/// The stops at all directories for a file that will show the second text, and showed the first, or
+/// none.
+pub(crate) fn stops_for(
+    alloc: Global,
+    way: &Way,
+    old: Option<&[u8]>,
+    new: &[u8],
+) -> Result<Vec<Stop>, Memory>
+    requires way { (s : State) × IsWayOf s way.now }
+    ensures { (s : State) (order : List ℕ) → way.now.stops.items ≡ stops_everywhere order
+        → IsIndexOf (map (query_at s) order) way.now.index
+        → IfOk result (λ stops. stops.items
+        ≡ stops_at (may_begin s (option_copied old.entry) new.now) order) }
+{
+    let marks = marks_for(alloc, &way.index, old, new)?;
+    stops_marked(alloc, way.stops.as_slice(), marks.as_slice())
+}
+
+/// Says of each query whether it may say something else of a file, once that shows a text in place
+/// of the one that it showed, if it showed any.
+fn marks_for(
+    alloc: Global,
+    index: &QueryIndex,
+    old: Option<&[u8]>,
+    new: &[u8],
+) -> Result<Vec<bool>, Memory>
+    ensures { (queries : List (Option (Formula ℕ))) → IsIndexOf queries index.now →
+        IfOk result (λ marks. marks.items
+        ≡ map (λ query. option_map_or (may_differ (option_copied old.entry) new.now) query false)
+        queries) }
+{
+    let new = words_of(alloc, new)?;
+    match old {
+        Some(old) => {
+            let old = words_of(alloc, old)?;
+            index.asking(old.as_slice(), new.as_slice())
+        }
+        None => index.fitting(new.as_slice()),
+    }
+}
