@@ -1,5 +1,5 @@
 -- What blocks a command, by the part of the state that says so.
-use Rattle.std.specs.Prelude.{ℕ, [], ◌∷◌, Option, None}
+use Rattle.std.specs.Prelude.{[], ◌∷◌, Option, None}
 use Rattle.hac_model.specs.Run.Answers.{first_cause}
 use Rattle.hac_model.specs.Run.Refusals.{already_cause, blocking_cause, busy_cause, directory_cause, filled_cause, not_mount_cause, plain_cause, referenced_cause, root_cause, session_cause, unlinked_cause, unmarked_cause}
 use Rattle.hac_model.specs.declared.replies.Refusal.{Refusal}

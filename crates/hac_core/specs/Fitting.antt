@@ -1,12 +1,13 @@
 -- Whether an event that no command made can happen.
 use Rattle.std.specs.Prelude.{◌≡◌, Bool, ◌&&◌, true, false, is_none, IsTrue, Option, None, Some}
 use Rattle.hac_model.specs.Tree.Events.{accepted, apply}
+use Rattle.hac_model.specs.Tree.Kinds.{is_prohibited}
 use Rattle.hac_model.specs.Tree.Limits.{answer_limits, counts, first_passed, layout_limits}
+use Rattle.hac_model.specs.Tree.Links.{has, transient_at}
 use Rattle.hac_model.specs.declared.counts.Counts.{Counts}
 use Rattle.hac_model.specs.declared.events.Event.{Event}
-use Rattle.hac_model.specs.declared.events.Event.TheVariants.{Smkdir, Setq, Smount, Ssync}
+use Rattle.hac_model.specs.declared.events.Event.TheVariants.{Smkdir, Setq, Mark, Smount, Ssync}
 use Rattle.hac_model.specs.declared.states.State.{State}
-use Rattle.hac_core.specs.declared.drafts.Change.{Change}
 
 -- the counts exceed no limit
 abbrev pub passes_none : Counts → Bool
@@ -20,12 +21,12 @@ asks_spaces (Smount dir name space documents told) = true
 asks_spaces (Ssync mount documents told) = true
 asks_spaces other = false
 
--- the event can happen, and the state then holds so much; or it can't
-abbrev pub IsWithin : State → Event → Option Counts → Type 0
-IsWithin s event None = accepted s event ≡ false
-IsWithin s event (Some held) = IsTrue (accepted s event) × (held ≡ counts (apply s event))
+-- the event prohibits an item that the directory finds
+abbrev pub prohibits_found : State → Event → Bool
+prohibits_found s (Mark mark) = is_prohibited mark.kind && has (transient_at s mark.dir) mark.item
+prohibits_found s other = false
 
--- the change has this event and the counts after it
-abbrev pub FitsAs : State → Event → Option Change → Type 0
+-- the event can happen, and the state then holds so much; or it can't
+abbrev pub FitsAs : State → Event → Option Counts → Type 0
 FitsAs s event None = accepted s event ≡ false
-FitsAs s event (Some change) = IsTrue (accepted s event) × (change.event ≡ event) × (change.counts ≡ counts (apply s event))
+FitsAs s event (Some held) = IsTrue (accepted s event) × (held ≡ counts (apply s event))

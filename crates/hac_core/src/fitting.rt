@@ -4,14 +4,13 @@ ghost use Rattle.std.specs.Prelude.{◌≡◌, ◌&&◌, false, length, IfOk, Is
 ghost use Rattle.hac_model.specs.Script.PathWords.{is_target};
 ghost use Rattle.hac_model.specs.Tree.{is_leaf_at};
 ghost use Rattle.hac_model.specs.Tree.Asking.{are_all_told};
-ghost use Rattle.hac_model.specs.Tree.Events.{apply, can_have_mark, is_clear, is_free};
+ghost use Rattle.hac_model.specs.Tree.Events.{can_have_mark, is_clear, is_free};
 ghost use Rattle.hac_model.specs.Tree.Events.{is_made_holder, is_placed, may_ask};
-ghost use Rattle.hac_model.specs.Tree.Limits.{are_answers_few, is_text};
-ghost use Rattle.hac_core.specs.Fitting.{FitsAs, IsWithin, asks_spaces, passes_none};
+ghost use Rattle.hac_model.specs.Tree.Limits.{is_text};
+ghost use Rattle.hac_core.specs.Fitting.{FitsAs, asks_spaces, passes_none, prohibits_found};
 
 use crate::asking::may_ask;
 use crate::blocking::is_inside;
-use crate::drafts::Change;
 use crate::mounting::{may_mount, may_sync};
 use crate::told::are_all_told;
 use file_tree::Tree;
@@ -20,33 +19,21 @@ use hac_model::{
     first_passed,
 };
 use hac_names::{has_long_part, is_bad, is_name, is_space_name};
-use kept_links::LinkedState;
 use kept_state::KeptState;
 use std::alloc::Global;
 use tree_answers::{is_unreferenced, may_mark};
 
-/// Whether an event can happen to the state, and how much the state would hold then.
-pub fn fits(alloc: Global, linked: &LinkedState, event: Event) -> Result<Option<Change>, Memory>
-    ensures { IfOk result (FitsAs linked.now.state event) }
+/// Whether an event can happen to the state, and how much the state would hold then. Where it
+/// prohibits an item, it is given whether the directory finds the item; else this is false.
+pub fn fits(
+    alloc: Global,
+    kept: &KeptState,
+    event: &Event,
+    found: bool,
+) -> Result<Option<Counts>, Memory>
+    requires { found ≡ prohibits_found kept.now.state event.now }
+    ensures { IfOk result (FitsAs kept.now.state event.now) }
 {
-    match within(alloc, linked, &event) {
-        Ok(Some(counts)) => Ok(Some(Change { event, counts })),
-        Ok(None) => {
-            drop(event);
-            Ok(None)
-        }
-        Err(memory) => {
-            drop(event);
-            Err(memory)
-        }
-    }
-}
-
-/// How much the state would hold after an event that can happen.
-fn within(alloc: Global, linked: &LinkedState, event: &Event) -> Result<Option<Counts>, Memory>
-    ensures { IfOk result (IsWithin linked.now.state event.now) }
-{
-    let kept = linked.kept();
     if !is_placed(alloc, kept, event)? {
         return Ok(None);
     }
@@ -54,7 +41,7 @@ fn within(alloc: Global, linked: &LinkedState, event: &Event) -> Result<Option<C
     if !passes_none(counts) {
         return Ok(None);
     }
-    if is_clear(alloc, linked, event)? {
+    if is_clear(alloc, kept, event, found)? {
         Ok(Some(counts))
     } else {
         Ok(None)
@@ -117,15 +104,15 @@ fn is_placed_in(tree: &Tree, event: &Event) -> bool
 
 /// Whether no mark, no link, no query of another directory and no session blocks an event, and
 /// mounts then keep no more answers than they may.
-fn is_clear(alloc: Global, linked: &LinkedState, event: &Event) -> Result<bool, Memory>
-    requires { IsTrue (is_placed linked.now.state event.now) }
-    ensures { IfOk result (λ is. is ≡ is_clear linked.now.state event.now) }
+fn is_clear(alloc: Global, kept: &KeptState, event: &Event, found: bool) -> Result<bool, Memory>
+    requires placed { IsTrue (is_placed kept.now.state event.now) }
+    requires found { found ≡ prohibits_found kept.now.state event.now }
+    ensures { IfOk result (λ is. is ≡ is_clear kept.now.state event.now) }
 {
-    let kept = linked.kept();
     match event {
         Event::Setq { dir, query, .. } => {
             let way = kept.cycle_of_query(alloc, *dir, query)?;
-            Ok(way.is_none() && keeps_few(linked, event))
+            Ok(way.is_none() && kept.keeps_few_after(event))
         }
         Event::Mv { entry, dir, .. } => {
             let way = kept.cycle_of_move(alloc, *entry, *dir)?;
@@ -135,28 +122,21 @@ fn is_clear(alloc: Global, linked: &LinkedState, event: &Event) -> Result<bool, 
             Ok(is_unreferenced(kept, *dir)? && !kept.is_busy(*dir))
         }
         Event::Cd { session, dir } => Ok(kept.has_place_for(session, *dir)),
-        Event::Mark(mark) => may_be_marked(alloc, linked, mark),
+        Event::Mark(mark) => may_be_marked(alloc, kept, mark, found),
         Event::Smkdir { .. } | Event::Smount { .. } | Event::Ssync { .. } => {
-            Ok(keeps_few(linked, event))
+            Ok(kept.keeps_few_after(event))
         }
         _ => Ok(true),
     }
 }
 
-/// Whether mounts keep no more answers than they may after an event.
-fn keeps_few(linked: &LinkedState, event: &Event) -> bool
-    requires { IsTrue (is_placed linked.now.state event.now) }
-    ensures { result ≡ are_answers_few (apply linked.now.state event.now).entries }
-{
-    linked.kept().keeps_few_after(event)
-}
-
 /// Whether a mark changes something, and no directory comes to depend on itself by it.
-fn may_be_marked(alloc: Global, linked: &LinkedState, mark: &Mark) -> Result<bool, Memory>
-    ensures { IfOk result (λ is. is ≡ is_clear linked.now.state (Event.Mark mark.now)) }
+fn may_be_marked(alloc: Global, kept: &KeptState, mark: &Mark, found: bool) -> Result<bool, Memory>
+    requires { found ≡ prohibits_found kept.now.state (Event.Mark mark.now) }
+    ensures { IfOk result (λ is. is ≡ is_clear kept.now.state (Event.Mark mark.now)) }
 {
-    let way = linked.kept().cycle_of_mark(alloc, mark)?;
-    Ok(may_mark(linked, *mark) && way.is_none())
+    let way = kept.cycle_of_mark(alloc, mark)?;
+    Ok(may_mark(kept, *mark, found) && way.is_none())
 }
 
 /// Whether an item or a directory can have a mark of a kind.

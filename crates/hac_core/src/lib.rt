@@ -1,6 +1,7 @@
 //! The machine: commands against a state that is kept with its links so that they are quick. It is
-//! seen as that state and as the events for which memory was taken. It knows no line's bytes, no
-//! outside, and of a kept state only what `kept_state`, `kept_links` and `tree_answers` promise.
+//! seen as that state and as the events for which memory was taken. A log is replayed on a state
+//! without links. This crate knows no line's bytes, no outside, and of a kept state only what
+//! `kept_state`, `kept_links` and `tree_answers` promise.
 #![tactic(auto)]
 
 mod asking;
@@ -17,6 +18,7 @@ mod marking;
 mod mounting;
 mod numbers;
 mod questions;
+mod replay;
 mod resolving;
 mod sessions;
 mod settling;
@@ -26,3 +28,4 @@ mod told;
 
 pub use drafts::{Change, Draft, Settled};
 pub use machine::Machine;
+pub use replay::Replay;

@@ -9,13 +9,11 @@ ghost use Rattle.hac_model.specs.Tree.{empty};
 ghost use Rattle.hac_model.specs.Tree.Valid.{IsValid};
 ghost use Rattle.hac_core.specs.Drafts.{CanSettle, IsDraft, IsDraftFor, IsDraftOf, Settles, reads};
 ghost use Rattle.hac_core.specs.Drafts.{Shows, settled_events};
-ghost use Rattle.hac_core.specs.Fitting.{FitsAs};
 
 use crate::blocking::unblocked;
 use crate::commands::followed;
 use crate::drafting::drafted;
 use crate::drafts::{Change, Draft, Known, Settled};
-use crate::fitting::fits;
 use crate::settling::settled;
 use crate::showing::shown;
 use hac_model::{Answers, Deny, Event, Line, Memory, Reply, Resolved};
@@ -27,8 +25,8 @@ use std::marker::Model;
 /// was taken.
 #[derive(Drop)]
 pub struct Machine {
-    alloc: Global,
-    linked: LinkedState,
+    pub(crate) alloc: Global,
+    pub(crate) linked: LinkedState,
 }
 
 impl Model for Machine {
@@ -119,14 +117,6 @@ impl Machine {
             Known::Indexes(count) => Ok(Settled::Steps(count)),
             Known::Reads(_) => unreachable!(),
         }
-    }
-
-    /// Whether an event can happen to the state, and how much the state would hold then. It may be
-    /// any event, as one that was read from a log.
-    pub fn fits(&self, event: Event) -> Result<Option<Change>, Memory>
-        ensures { IfOk result (FitsAs self.now.state event) }
-    {
-        fits(self.alloc, &self.linked, event)
     }
 
     /// Takes the memory that events want, so that `commit` can apply them. The state doesn't

@@ -1,6 +1,6 @@
 -- What is left of a store whose log gets the records of events.
 use Rattle.std.proofs.Common.{◌≡◌, inl, ⊎_elim, Bool, false, ℕ, zero, suc, ◌+◌, ◌<◌, List, [], ◌∷◌, length, map, None, Some, IfSome, Result, Ok, Err, refl, sym, ◌∙◌, ap, subst, arith, Vec}
-use Rattle.std.specs.Prelude.{IsTrue, replicate}
+use Rattle.std.specs.Prelude.{replicate}
 use Rattle.std.specs.declared.alloc.Global.{Global}
 use Rattle.std.specs.declared.option.Option.{Option}
 use Rattle.std.proofs.lemmas.Bool.{cases_lt}
@@ -11,17 +11,14 @@ use Rattle.hac_disk.proofs.ContentsLemmas.{told-settled}
 use Rattle.hac_checkpoint.specs.declared.heads.Slot.{Slot}
 use Rattle.hac_journal.specs.Appending.{Appending, ClosedAt}
 use Rattle.hac_journal.specs.Records.{contents_of, log_of}
-use Rattle.hac_model.specs.Tree.Events.{accepted, apply, apply_all}
-use Rattle.hac_model.specs.Tree.Limits.{counts}
+use Rattle.hac_model.specs.Tree.Events.{apply_all}
 use Rattle.hac_model.specs.Laws.{AllHappen}
 use Rattle.hac_core.specs.Drafts.{CanSettle, settled_events}
-use Rattle.hac_core.specs.Fitting.{FitsAs}
-use Rattle.hac_core.specs.declared.drafts.Change.{Change}
 use Rattle.hac_core.specs.declared.drafts.Settled.{Settled}
 use Rattle.hac_core.specs.declared.drafts.Settled.TheVariants as settled
 use Rattle.hac_model.specs.Payload.Payloads.{event_text}
 use Rattle.hac_model.specs.Run.Play.{Setting, after_events, end_behind, stored_setting}
-use Rattle.hac_model.specs.Tree.Sessions.{is_stored, stored}
+use Rattle.hac_model.specs.Tree.Sessions.{stored}
 use Rattle.hac_model.specs.declared.events.Event.{Event}
 use Rattle.hac_model.specs.declared.events.Event.TheVariants.{Step}
 use Rattle.hac_model.specs.declared.limits.TheConstants.{STORE_LIMIT}
@@ -47,14 +44,6 @@ can-happen s (settled.Session event) can = can.0
 pub steps-kept : (count : ℕ) → AreForStore (replicate count Step)
 steps-kept zero = tt
 steps-kept (suc count) = (refl, steps-kept count)
-
--- an event that fits and is stored can be settled with its counts
-pub fits-settles : (s : State) (event : Event) (change : Change) → IsTrue (is_stored event) → FitsAs s event (Some change) → CanSettle s (settled.Change change)
-fits-settles s event change kept fits = (
-  (subst (λ (e : Event). IsTrue (accepted s e)) (sym fits.1) fits.0, tt),
-  fits.2 ∙ ap (λ (e : Event). counts (apply s e)) (sym fits.1),
-  subst (λ (e : Event). IsTrue (is_stored e)) (sym fits.1) kept,
-)
 
 -- what is seen of a store whose machine and whose end have gone on
 pub put-seen : (seen : Seen) (s new : State) (start end generation to : ℕ) (slot : Slot) (broken : Bool) (events : List Event)

@@ -2,6 +2,7 @@
 use Rattle.std.proofs.Common.{◌≡◌, ℕ, ◌-◌, ◌≤◌, List, length, None, Some, IfOk, IfSome, Result, Ok, Err, sym, ◌∙◌, ap, subst, arith, Vec}
 use Rattle.std.specs.declared.alloc.Global.{Global}
 use Rattle.std.specs.declared.option.Option.{Option}
+use Rattle.hac_disk.specs.Images.{IsQuiet}
 use Rattle.hac_disk.specs.Contents.{IsSettled}
 use Rattle.hac_disk.proofs.ContentsLemmas.{told-settled}
 use Rattle.hac_checkpoint.specs.Roots.{placed, root_of, IsRootSeen}
@@ -113,6 +114,17 @@ pub opens-rootless : (seen : Option (List ℕ)) (why : RootFault) → IsRootSeen
 opens-rootless None why is = tt
 opens-rootless (Some file) root.Disk is = tt
 opens-rootless (Some file) (root.Bad at) is = root-fault file at is
+
+-- two quiet calls, one after the other
+pub quiet-twice : {D : Type 0} (seen : D → Option (List ℕ)) (image : D → List ℕ → Type 0) (moment : D → ℕ) (image_since : D → ℕ → List ℕ → Type 0) (old mid new : D)
+    → IsQuiet seen image moment image_since old mid → IsQuiet seen image moment image_since mid new → IsQuiet seen image moment image_since old new
+quiet-twice seen image moment image_since old mid new first second = record {
+  same = second.same ∙ first.same;
+  images = λ c left. first.images c (second.images c left);
+  later = omega (arith, first.later, second.later);
+  past = λ t c early left. first.past t c early (second.past t c (omega (arith, early, first.later)) left);
+  keeps = λ t c early left. second.keeps t c (omega (arith, early, first.later)) (first.keeps t c early left);
+}
 
 -- what a call opened that was settled before stays so
 pub opened-stands : (result : Result Seen StoreFault) (seen mid new : Option (List ℕ)) (image now : List ℕ → Type 0) → mid ≡ seen → IsSettled mid image → new ≡ mid

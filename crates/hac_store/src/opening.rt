@@ -1,15 +1,13 @@
-//! Opening a store: its log is read, and its events happen one by one.
+//! Opening a store: its log is read, its events happen one by one, and links are found behind them.
 ghost use Rattle.std.specs.Prelude.{◌≡◌, ◌+◌, ◌<◌, ◌^◌, false, length, Ok, Err, IfOk, IfSome, OnOk};
 ghost use Rattle.std.specs.Prelude.{IsTrue};
 ghost use Rattle.hac_outside.specs.Causes.{ReportsFault};
 ghost use Rattle.hac_disk.specs.Images.{IsQuiet};
 ghost use Rattle.hac_disk.specs.Contents.{HasByteAt, IsSettled};
-ghost use Rattle.hac_model.specs.Tree.Events.{apply};
 ghost use Rattle.hac_model.specs.Payload.Payloads.{spelled};
 ghost use Rattle.hac_model.specs.Tree.Sessions.{is_stored};
 ghost use Rattle.hac_model.specs.Tree.Valid.{IsValid};
 ghost use Rattle.hac_checkpoint.specs.Roots.{root_of};
-ghost use Rattle.hac_core.specs.Drafts.{CanSettle};
 ghost use Rattle.hac_store.specs.Faults.{is_disk_fault};
 ghost use Rattle.hac_store.specs.Held.{held, after_payload, log};
 ghost use Rattle.hac_store.specs.Reading.{Judges, ReadsLog};
@@ -19,10 +17,10 @@ use crate::fault::StoreFault;
 use crate::store::Store;
 use event_codec::{CodecFault, Payload, read_payload};
 use hac_checkpoint::roots;
-use hac_core::{Change, Machine, Settled};
+use hac_core::Replay;
 use hac_disk::Disk;
 use hac_journal::{LogReader, Next};
-use hac_model::{Event, Memory};
+use hac_model::Event;
 use std::alloc::Global;
 
 impl Store {
@@ -62,11 +60,11 @@ pub(crate) fn read_store<D: Disk>(alloc: Global, disk: &mut D) -> Result<Store, 
     ensures faults { ReportsFault (is_disk_fault result) (D.faults disk.old) (D.faults disk.new) }
 {
     let root = roots(disk)?;
-    let mut machine = Machine::new(alloc)?;
-    match read_log(alloc, disk, &mut machine, root.start) {
+    let mut replay = Replay::new(alloc)?;
+    match read_log(alloc, disk, &mut replay, root.start) {
         Ok(end) => Ok(Store {
             alloc,
-            machine,
+            machine: replay.machine()?,
             slot: root.slot,
             start: root.start,
             end,
@@ -74,7 +72,7 @@ pub(crate) fn read_store<D: Disk>(alloc: Global, disk: &mut D) -> Result<Store, 
             broken: false,
         }),
         Err(fault) => {
-            drop(machine);
+            drop(replay);
             Err(fault)
         }
     }
@@ -84,13 +82,11 @@ pub(crate) fn read_store<D: Disk>(alloc: Global, disk: &mut D) -> Result<Store, 
 fn read_log<D: Disk>(
     alloc: Global,
     disk: &mut D,
-    machine: &mut Machine,
+    replay: &mut Replay,
     start: u64,
 ) -> Result<u64, StoreFault>
-    requires valid { IsValid machine.old.state }
-    ensures log { IfSome (D.seen disk.old) (λ file. ReadsLog result machine.new.state file
-        (log machine.old.state start file)) }
-    ensures valid { OnOk result (IsValid machine.new.state) }
+    ensures log { IfSome (D.seen disk.old) (λ file. ReadsLog result replay.new file
+        (log replay.old start file)) }
     ensures place { IfOk result (λ end. HasByteAt (D.seen disk.new) end) }
     ensures quiet { IsQuiet D.seen D.image D.moment D.image_since disk.old disk.new }
     ensures kind { (result ≡ Err StoreFault.AlreadyStore → ⊥) × (result ≡ Err StoreFault.Full → ⊥) }
@@ -102,7 +98,7 @@ fn read_log<D: Disk>(
     loop {
         match reader.next(disk, at)? {
             Next::Entry { payload, next } => {
-                replay(alloc, machine, at, &payload, at == start)?;
+                apply_payload(alloc, replay, at, &payload, at == start)?;
                 at = next;
             }
             Next::End => return Ok(at),
@@ -114,21 +110,18 @@ fn read_log<D: Disk>(
 // Applies what the payload of a record says, given the place of its gate, and whether it is the
 // log's first.
 #[tactic(auto, using(crate::proofs::StoredLemmas::spelled_kept))]
-fn replay(
+fn apply_payload(
     alloc: Global,
-    machine: &mut Machine,
+    replay: &mut Replay,
     at: u64,
     payload: &[u8],
     first: bool,
 ) -> Result<(), StoreFault>
-    requires valid { IsValid machine.old.state }
-    requires place { at + 5 + length payload.now < 2 ^ 64 }
-    ensures judged { Judges result machine.new.state
-        (after_payload machine.old.state at (spelled payload.now)) }
-    ensures valid { OnOk result (IsValid machine.new.state) }
+    requires { at + 5 + length payload.now < 2 ^ 64 }
+    ensures { Judges result replay.new (after_payload replay.old at (spelled payload.now)) }
 {
     match read_payload(alloc, payload, first) {
-        Ok(Payload::Event(event)) => accept(machine, at, event),
+        Ok(Payload::Event(event)) => accept(replay, at, event),
         Err(CodecFault::Bad { at: offset }) => Err(StoreFault::NotStore {
             at: at + 5 + offset,
         }),
@@ -137,28 +130,14 @@ fn replay(
 }
 
 // Applies the event of a record, if the state accepts it.
-fn accept(machine: &mut Machine, at: u64, event: Event) -> Result<(), StoreFault>
-    requires valid { IsValid machine.old.state }
+fn accept(replay: &mut Replay, at: u64, event: Event) -> Result<(), StoreFault>
     requires place { at + 5 < 2 ^ 64 }
     requires stored { IsTrue (is_stored event) }
-    ensures judged { Judges result machine.new.state
-        (after_payload machine.old.state at (Ok event)) }
-    ensures valid { OnOk result (IsValid machine.new.state) }
+    ensures { Judges result replay.new (after_payload replay.old at (Ok event)) }
 {
-    match machine.fits(event)? {
-        Some(change) => Ok(apply(machine, change)?),
-        None => Err(StoreFault::NotStore { at: at + 5 }),
+    if replay.happen(event)? {
+        Ok(())
+    } else {
+        Err(StoreFault::NotStore { at: at + 5 })
     }
-}
-
-// Applies a change that can happen.
-fn apply(machine: &mut Machine, change: Change) -> Result<(), Memory>
-    requires valid { IsValid machine.old.state }
-    requires can { CanSettle machine.old.state (Settled.Change change) }
-    ensures state { OnOk result (machine.new.state ≡ apply machine.old.state change.event) }
-    ensures valid { OnOk result (IsValid machine.new.state) }
-{
-    machine.prepare(Settled::Change(change))?;
-    machine.commit();
-    Ok(())
 }

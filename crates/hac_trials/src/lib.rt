@@ -1,12 +1,12 @@
 //! Trials of what no transcript can say: devices and spaces that fail, scripts that come in
-//! pieces, and which events fit the machine. The trials of the crates below it have a crate of their own. There is
-//! nothing here for other crates.
+//! pieces, and which events of a log can happen. The trials of the crates below the machine have a
+//! crate of their own. There is nothing here for other crates.
 #![tactic(auto)]
 
 #[cfg(test)]
 mod devices;
 #[cfg(test)]
-mod machines;
+mod replays;
 #[cfg(test)]
 mod runs;
 #[cfg(test)]

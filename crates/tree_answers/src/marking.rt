@@ -8,15 +8,18 @@ use hac_model::{Kind, Mark, Number};
 use kept_links::LinkedState;
 use kept_state::KeptState;
 
-/// Whether a mark changes something: an item or a directory becomes permanent where it isn't yet, an
-/// item prohibited where it is a link, and what has a mark unmarked.
-pub fn may_mark(linked: &LinkedState, mark: Mark) -> bool
-    ensures { result ≡ may_mark linked.now.state mark.dir mark.item mark.kind }
+/// Whether a mark changes something: an item or a directory becomes permanent where it isn't yet,
+/// an item prohibited where it is a link, and what has a mark unmarked. Where an item is to be
+/// prohibited, it is given whether the directory finds it.
+pub fn may_mark(kept: &KeptState, mark: Mark, found: bool) -> bool
+    requires { mark.kind ≡ Kind.Prohibited →
+        found ≡ has (transient_at kept.now.state mark.dir) mark.item }
+    ensures { result ≡ may_mark kept.now.state mark.dir mark.item mark.kind }
 {
     match mark.kind {
-        Kind::Permanent => !is_permanent(linked.kept(), mark.dir, mark.item),
-        Kind::Prohibited => is_linked(linked, mark.dir, mark.item),
-        Kind::Unlinked => is_marked(linked.kept(), mark.dir, mark.item),
+        Kind::Permanent => !is_permanent(kept, mark.dir, mark.item),
+        Kind::Prohibited => is_permanent(kept, mark.dir, mark.item) || found,
+        Kind::Unlinked => is_marked(kept, mark.dir, mark.item),
         Kind::Transient => false,
     }
 }

@@ -1,0 +1,106 @@
+//! A log that is replayed: its events happen one by one, and links are found behind the last.
+ghost use Rattle.std.specs.Prelude.{◌≡◌, if◌then◌else◌, [], IfOk, IsTrue, OnOk};
+ghost use Rattle.hac_model.specs.Tree.Events.{accepted, apply};
+ghost use Rattle.hac_model.specs.Tree.Sessions.{is_stored};
+ghost use Rattle.hac_model.specs.Tree.Valid.{IsValid};
+ghost use Rattle.hac_model.specs.Tree.{empty};
+ghost use Rattle.hac_core.specs.Fitting.{FitsAs, prohibits_found};
+
+use crate::fitting::fits;
+use crate::machine::Machine;
+use hac_model::{Counts, Event, Memory};
+use kept_links::UnlinkedState;
+use std::alloc::Global;
+use std::marker::Model;
+
+/// A state that a log makes, event by event, seen as that state. Commands want its links, which are
+/// found once all events have happened.
+#[derive(Drop)]
+pub struct Replay {
+    alloc: Global,
+    unlinked: UnlinkedState,
+}
+
+impl Model for Replay {
+    ghost use Rattle.hac_model.specs.declared.states.State.{State};
+    ghost use Rattle.hac_model.specs.contracts.states.State as state;
+
+    ghost Value = { State };
+
+    ghost coded = { state.the_row.coded };
+
+    ghost use Rattle.hac_core.specs.Shape.{state_of_replay};
+
+    ghost view = { state_of_replay };
+}
+
+impl Replay {
+    /// The root alone.
+    pub fn new(alloc: Global) -> Result<Replay, Memory>
+        ensures { IfOk result (λ replay. replay ≡ empty) }
+    {
+        Ok(Replay {
+            alloc,
+            unlinked: UnlinkedState::new(alloc)?,
+        })
+    }
+
+    /// Applies an event that is stored if it can happen, and says whether it could. It may be any
+    /// such event, as one that was read from a log.
+    pub fn happen(&mut self, event: Event) -> Result<bool, Memory>
+        requires { IsTrue (is_stored event) }
+        ensures happened { IfOk result (λ happened. happened ≡ accepted self.old event) }
+        ensures state { OnOk result (self.new
+            ≡ (if accepted self.old event then apply self.old event else self.old)) }
+    {
+        match self.fits(&event) {
+            Ok(Some(counts)) => {
+                self.unlinked.happen(self.alloc, event, counts)?;
+                Ok(true)
+            }
+            Ok(None) => {
+                drop(event);
+                Ok(false)
+            }
+            Err(memory) => {
+                drop(event);
+                Err(memory)
+            }
+        }
+    }
+
+    /// The machine of this state, whose links are found now.
+    pub fn machine(self) -> Result<Machine, Memory>
+        ensures machine { IfOk result (λ machine. machine ≡ record { state = self; ready = [] }) }
+        ensures valid { IsValid self }
+    {
+        let Replay { alloc, unlinked } = self;
+        unlinked.kept().know_valid();
+        Ok(Machine {
+            alloc,
+            linked: unlinked.linked(alloc)?,
+        })
+    }
+
+    /// Whether an event can happen, and how much the state would hold then.
+    fn fits(&mut self, event: &Event) -> Result<Option<Counts>, Memory>
+        ensures fits { IfOk result (FitsAs self.old event.now) }
+        ensures same { self.new ≡ self.old }
+    {
+        let found = self.prohibits_found(event)?;
+        fits(self.alloc, self.unlinked.kept(), event, found)
+    }
+
+    /// Whether an event prohibits an item that the directory finds.
+    fn prohibits_found(&mut self, event: &Event) -> Result<bool, Memory>
+        ensures found { IfOk result (λ found. found ≡ prohibits_found self.old event.now) }
+        ensures same { self.new ≡ self.old }
+    {
+        match event {
+            Event::Mark(mark) if mark.kind.is_prohibited() => {
+                self.unlinked.finds(self.alloc, mark.dir, mark.item)
+            }
+            _ => Ok(false),
+        }
+    }
+}

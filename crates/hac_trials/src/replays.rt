@@ -1,0 +1,113 @@
+//! Which events can happen, which the program asks of the events of a store alone.
+ghost use Rattle.std.specs.Prelude.{IfOk, IsTrue};
+ghost use Rattle.hac_model.specs.Tree.Sessions.{is_stored};
+
+use hac_core::Replay;
+use hac_model::{Event, Kind, Mark, Memory, Name, Number, Query, Seq, Term};
+use std::alloc::{AllocError, Global};
+use std::test::Fail;
+
+#[test]
+fn tells_which_events_can_happen(rt: HostRuntime) -> Result<(), Fail> {
+    let mut replay = Replay::new(rt.alloc())?;
+    let told = which_happen(rt.alloc(), &mut replay);
+    drop(replay);
+    assert_eq!(rt; told?, [true, false, true, false, true, false]);
+    Ok(())
+}
+
+/// Whether each of six events can happen, one after the other.
+fn which_happen(alloc: Global, replay: &mut Replay) -> Result<[bool; 6], Memory> {
+    Ok([
+        replay.happen(mkdir(alloc, b"a")?)?,
+        replay.happen(setq(alloc, 1))?,
+        replay.happen(setq(alloc, 0))?,
+        replay.happen(Event::Step)?,
+        replay.happen(rmdir(1))?,
+        replay.happen(rmdir(1))?,
+    ])
+}
+
+#[test]
+fn prohibits_what_is_found(rt: HostRuntime) -> Result<(), Fail> {
+    let mut replay = Replay::new(rt.alloc())?;
+    let told = which_prohibit(rt.alloc(), &mut replay);
+    drop(replay);
+    assert_eq!(rt; told?, [true, true, false, true, true, false]);
+    Ok(())
+}
+
+/// Whether each of six events can happen. The item is found once its text was indexed, and no more
+/// once it is prohibited.
+fn which_prohibit(alloc: Global, replay: &mut Replay) -> Result<[bool; 6], Memory> {
+    Ok([
+        replay.happen(new_file(alloc, b"f", b"apple")?)?,
+        replay.happen(smkdir(alloc, b"s", b"apple")?)?,
+        replay.happen(prohibit(2, 1))?,
+        replay.happen(Event::Step)?,
+        replay.happen(prohibit(2, 1))?,
+        replay.happen(prohibit(2, 1))?,
+    ])
+}
+
+/// A directory is created in the root.
+fn mkdir(alloc: Global, letters: &[u8]) -> Result<Event, AllocError>
+    ensures { IfOk result (λ event. IsTrue (is_stored event)) }
+{
+    Ok(Event::Mkdir {
+        dir: Number::ROOT,
+        name: Name::new(Vec::from_slice(alloc, letters)?),
+    })
+}
+
+/// The first entry gets a query, which asks for what a directory provides.
+fn setq(alloc: Global, on: u64) -> Event
+    ensures { IsTrue (is_stored result) }
+{
+    Event::Setq {
+        dir: Number::new(1),
+        query: Query::dir(Number::new(on)),
+        told: Seq::new(Vec::new(alloc)),
+    }
+}
+
+fn rmdir(dir: u64) -> Event
+    ensures { IsTrue (is_stored result) }
+{
+    Event::Rmdir {
+        dir: Number::new(dir),
+    }
+}
+
+/// A file is created in the root.
+fn new_file(alloc: Global, letters: &[u8], text: &[u8]) -> Result<Event, AllocError>
+    ensures { IfOk result (λ event. IsTrue (is_stored event)) }
+{
+    Ok(Event::NewFile {
+        dir: Number::ROOT,
+        name: Name::new(Vec::from_slice(alloc, letters)?),
+        text: Seq::new(Vec::from_slice(alloc, text)?),
+    })
+}
+
+/// A directory is created in the root, which asks for a word.
+fn smkdir(alloc: Global, letters: &[u8], word: &[u8]) -> Result<Event, AllocError>
+    ensures { IfOk result (λ event. IsTrue (is_stored event)) }
+{
+    Ok(Event::Smkdir {
+        dir: Number::ROOT,
+        name: Name::new(Vec::from_slice(alloc, letters)?),
+        query: Query::term(Term::Word(Name::new(Vec::from_slice(alloc, word)?))),
+        told: Seq::new(Vec::new(alloc)),
+    })
+}
+
+fn prohibit(dir: u64, item: u64) -> Event
+    ensures { IsTrue (is_stored result) }
+{
+    Event::Mark(Mark {
+        dir: Number::new(dir),
+        item: Number::new(item),
+        kind: Kind::Prohibited,
+    })
+}
