@@ -1,5 +1,5 @@
 -- How a whole state is spelled in a store, and what the bytes of such a payload say.
-use Rattle.std.specs.List.{list_all}
+use Rattle.std.specs.List.{flat_map, list_all}
 use Rattle.std.specs.Prelude.{ℕ, Bool, true, false, count_by, ◌==◌, ◌&&◌, not, if◌then◌else◌, nat_lt, nat_le, List, [], ◌∷◌, ◌++◌, length, filter, map, Option, Some, None, Result, Ok}
 use Rattle.std.specs.Option.{option_map}
 use Rattle.std.specs.Str.{bytes_eq}
@@ -13,6 +13,7 @@ use Rattle.hac_model.specs.Tree.{answers_in, is_document}
 use Rattle.hac_model.specs.declared.states.Answer.{Answer}
 use Rattle.hac_model.specs.declared.states.Body.{Body}
 use Rattle.hac_model.specs.declared.states.Body.TheVariants.{File, Dir, Symlink, Semantic, Mount}
+use Rattle.hac_model.specs.declared.states.Body.TheVariants as body
 use Rattle.hac_model.specs.declared.snapshots.Document.{Document}
 use Rattle.hac_model.specs.declared.snapshots.Snapshot.{Snapshot}
 use Rattle.hac_model.specs.declared.snapshots.StoredEntry.{StoredEntry}
@@ -165,3 +166,28 @@ snapshot_of s = record {
   next = s.next;
   entries = map (stored_entry s) (filter (λ entry. not (is_document entry.body)) s.entries);
 }
+
+-- ---- the state that a snapshot tells
+
+-- a document of a mount, as an entry of it
+abbrev pub document_entry : ℕ → Document → Entry
+document_entry mount document = record { number = document.number; parent = mount; name = document.name; body = body.Document }
+
+-- an entry, and behind it the documents that are listed with it
+abbrev pub entries_in : StoredEntry → List Entry
+entries_in stored = stored.entry ∷ map (document_entry stored.entry.number) stored.documents
+
+-- an entry put into its place among entries in order of their numbers
+abbrev pub put_by_number : Entry → List Entry → List Entry
+put_by_number new [] = new ∷ []
+put_by_number new (entry ∷ entries) =
+    if nat_le new.number entry.number then new ∷ entry ∷ entries else entry ∷ put_by_number new entries
+
+-- entries in order of their numbers
+abbrev pub by_number : List Entry → List Entry
+by_number [] = []
+by_number (entry ∷ entries) = put_by_number entry (by_number entries)
+
+-- the state that is told: the documents are among the entries again, and no session is anywhere but in the root
+unfoldable pub restored : Snapshot → State
+restored s = record { next = s.next; entries = by_number (flat_map entries_in s.entries); sessions = [] }
