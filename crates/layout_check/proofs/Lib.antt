@@ -1,0 +1,2 @@
+pub mod RiseLemmas
+pub mod SearchLemmas
