@@ -1,8 +1,17 @@
-//! Whether the entries of a state fit one another, whatever they are: each test of `is_layout` of
-//! the specs as a function over plain lists. It knows no tree that is kept, no query and no link.
+//! Whether the entries of a state fit one another, whatever they are, as those that were read from a
+//! file. It goes over plain lists, and knows no tree that is kept, no query and no link.
 #![tactic(auto)]
 
+mod bodies;
+mod counting;
+mod depths;
+mod kinds;
 pub mod laws;
+mod layout;
+mod naming;
+mod places;
+mod rising;
 mod searching;
 
+pub use layout::is_layout;
 pub use searching::entry_at;
