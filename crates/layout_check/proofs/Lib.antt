@@ -1,3 +1,4 @@
+pub mod LimitLemmas
 pub mod NamingLemmas
 pub mod RiseLemmas
 pub mod SearchLemmas

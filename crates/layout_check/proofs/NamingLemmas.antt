@@ -1,6 +1,6 @@
 -- No two entries of a directory have one name, told by a set of the places that are taken.
 use Rattle.std.proofs.Common.{◌≡◌, ℕ, Bool, true, false, cond, List, [], ◌∷◌, Bor, Ordering, refl, ap, sym, ◌∙◌, arith}
-use Rattle.std.specs.Prelude.{◌==◌, ◌&&◌, ◌||◌, not, Option, Some, None, is_none}
+use Rattle.std.specs.Prelude.{◌==◌, ◌&&◌, ◌||◌, not, Some, is_none}
 use Rattle.std.specs.BTreeSet.{BTreeSet, Updates, contains, contains_by}
 use Rattle.std.specs.List.{list_all}
 use Rattle.std.specs.Str.{bytes_eq}
@@ -61,6 +61,7 @@ free-more taken next e es h step =
     joined : (a b c : Bool) → (a && (b && c)) ≡ ((a && b) && c)
     joined true b c = refl
     joined false b c = refl
+
     both : (es : List Entry) → list_all (λ x. not (next x)) es ≡ (list_all (λ x. not (taken x)) es && list_all (λ x. not (is_same e x)) es)
     both [] = refl
     both (x ∷ es) = rw (step x, both es) (parted (is_same e x) (taken x) (list_all (λ x. not (taken x)) es) (list_all (λ x. not (is_same e x)) es))
@@ -91,9 +92,9 @@ pub taken-more : (old new : BTreeSet (ℕ × Bor (List ℕ))) (e : Entry) (dir :
 taken-more old new e dir name in_dir named updates x =
     let other : Bor (List ℕ) = record name { now = x.name } in
     let same : is_eq (place_cmp (dir, name) (x.parent, other)) ≡ is_same e x =
-        same-places dir x.parent name.now x.name
-        ∙ ap (λ (d : ℕ). x.parent == d && bytes_eq x.name name.now) in_dir
-        ∙ ap (λ (n : List ℕ). x.parent == e.parent && bytes_eq x.name n) named in
+    same-places dir x.parent name.now x.name
+    ∙ ap (λ (d : ℕ). x.parent == d && bytes_eq x.name name.now) in_dir
+    ∙ ap (λ (n : List ℕ). x.parent == e.parent && bytes_eq x.name n) named in
     sym (taken-is new x x.parent other refl refl) ∙ updates.0 (x.parent, other)
     ∙ ap (λ (b : Bool). cond b true (contains place_cmp old (x.parent, other))) same
     ∙ cond-or (is_same e x) (contains place_cmp old (x.parent, other))

@@ -1,5 +1,5 @@
 -- Entries whose numbers rise.
-use Rattle.std.specs.Prelude.{ℕ, ◌<◌, List, [], ◌∷◌}
+use Rattle.std.specs.Prelude.{◌<◌, List, [], ◌∷◌}
 use Rattle.std.specs.List.{AllByRecursion}
 use Rattle.hac_model.specs.declared.states.Entry.{Entry}
 

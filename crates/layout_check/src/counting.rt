@@ -1,6 +1,7 @@
 //! How much a state holds, and whether it exceeds a limit.
 ghost use Rattle.std.specs.Prelude.{◌≡◌, is_none};
 ghost use Rattle.hac_model.specs.Tree.Limits as limits;
+ghost use Rattle.hac_model.specs.Tree.Limits.{first_passed};
 ghost use Rattle.layout_check.specs.Bounded.{bounded};
 ghost use Rattle.layout_check.specs.Rising.{DoRise};
 
@@ -9,7 +10,7 @@ use crate::depths::are_paths_short;
 use crate::kinds::{
     is_directory, is_dirty, is_file, is_linkable, is_mount, is_semantic, is_symlink,
 };
-use hac_model::{Body, Counts, Entry, State, first_passed};
+use hac_model::{Body, Counts, Entry, Limit, State, first_passed};
 
 /// Whether a state exceeds no limit.
 pub(crate) fn passes_none(state: &State) -> bool
@@ -17,8 +18,14 @@ pub(crate) fn passes_none(state: &State) -> bool
     ensures { result ≡ is_none (limits.passed_limit state.now) }
 {
     let counts = counts(state);
-    first_passed(&counts.layout_limits()).is_none()
-        && first_passed(&counts.answer_limits()).is_none()
+    are_kept(&counts.layout_limits()) && are_kept(&counts.answer_limits())
+}
+
+/// Whether none of the limits is exceeded.
+fn are_kept(limits: &[Limit]) -> bool
+    ensures { result ≡ is_none (first_passed limits.now) }
+{
+    first_passed(limits).is_none()
 }
 
 /// How much a state holds. Where its files have more bytes than a `u64` can count, it is as many
@@ -39,7 +46,7 @@ fn counts(state: &State) -> Counts
         files: file_count(entries),
         items: item_count(entries),
         dirty: dirty_count(entries),
-        long_paths: u64::from(!are_paths_short(entries)),
+        long_paths: long_paths(entries),
         next: state.next.get(),
     }
 }
@@ -128,4 +135,12 @@ fn dirty_count(entries: &[Entry]) -> u64
     ensures { result ≡ limits.dirty_count entries.now }
 {
     entries.iter().filter(|entry| is_dirty(&entry.body)).count() as u64
+}
+
+/// How many paths are too long: 1 where there is any.
+fn long_paths(entries: &[Entry]) -> u64
+    requires { DoRise entries.now }
+    ensures { result ≡ limits.long_paths entries.now }
+{
+    u64::from(!are_paths_short(entries))
 }

@@ -1,0 +1,43 @@
+-- Limits, told by bounded counts.
+use Rattle.std.proofs.Common.{◌≡◌, ℕ, ◌+◌, true, false, cond, List, [], ◌∷◌, ◌++◌, refl, ap, sym, ◌∙◌, arith}
+use Rattle.std.specs.Prelude.{◌&&◌, nat_lt, Some, is_none}
+use Rattle.std.proofs.lemmas.Bool.Decides.{nat_tests}
+use Rattle.hac_model.specs.Tree.{ancestors, lineage}
+use Rattle.hac_model.specs.Tree.Limits.{answer_limits, counts, first_passed, layout_limits, passed_limit, text_size}
+use Rattle.hac_model.specs.declared.counts.Counts.{Counts}
+use Rattle.hac_model.specs.declared.limits.Limit.{Limit}
+use Rattle.hac_model.specs.declared.limits.TheConstants.{PATH_LIMIT, TEXTS_LIMIT}
+use Rattle.hac_model.specs.declared.states.Entry.{Entry}
+use Rattle.hac_model.specs.declared.states.State.{State}
+use Rattle.layout_check.specs.Bounded.{bounded}
+
+pub lineage-steps : (es : List Entry) (n : ℕ) → ancestors (PATH_LIMIT + 1) es n ≡ lineage es n
+unfolding lineage
+lineage-steps es n = refl
+
+none-append : (xs ys : List Limit) → is_none (first_passed (xs ++ ys)) ≡ (is_none (first_passed xs) && is_none (first_passed ys))
+unfolding first_passed
+none-append [] ys = refl
+none-append (x ∷ xs) ys =
+    elim (nat_lt x.most x.count) as (λ b. is_none (cond b (Some x.word) (first_passed (xs ++ ys))) ≡ (is_none (cond b (Some x.word) (first_passed xs)) && is_none (first_passed ys))) [
+      | true ↦ refl
+      | false ↦ none-append xs ys
+    ]
+
+-- the counts, but for bytes that no word counts
+abbrev pub bounded_counts : State → Counts
+bounded_counts s = record (counts s) { bytes = bounded (text_size s.entries) }
+
+bounded-passes : (bytes : ℕ) → nat_lt TEXTS_LIMIT (bounded bytes) ≡ nat_lt TEXTS_LIMIT bytes
+bounded-passes bytes = grind (arith, nat_tests)
+
+bounded-first : (s : State) → first_passed (layout_limits (bounded_counts s)) ≡ first_passed (layout_limits (counts s))
+unfolding first_passed
+bounded-first s = rw (bounded-passes (text_size s.entries)) refl
+
+-- bounded counts exceed a limit just where the state does
+pub limits-told : (s : State) → (is_none (first_passed (layout_limits (bounded_counts s))) && is_none (first_passed (answer_limits (bounded_counts s)))) ≡ is_none (passed_limit s)
+unfolding passed_limit
+limits-told s =
+    ap (λ o. is_none o && is_none (first_passed (answer_limits (counts s)))) (bounded-first s)
+    ∙ sym (none-append (layout_limits (counts s)) (answer_limits (counts s)))
