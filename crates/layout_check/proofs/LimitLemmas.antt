@@ -15,11 +15,15 @@ pub lineage-steps : (es : List Entry) (n : ℕ) → ancestors (PATH_LIMIT + 1) e
 unfolding lineage
 lineage-steps es n = refl
 
-none-append : (xs ys : List Limit) → is_none (first_passed (xs ++ ys)) ≡ (is_none (first_passed xs) && is_none (first_passed ys))
+none-append :
+    (xs ys : List Limit) →
+    is_none (first_passed (xs ++ ys)) ≡ (is_none (first_passed xs) && is_none (first_passed ys))
 unfolding first_passed
 none-append [] ys = refl
 none-append (x ∷ xs) ys =
-    elim (nat_lt x.most x.count) as (λ b. is_none (cond b (Some x.word) (first_passed (xs ++ ys))) ≡ (is_none (cond b (Some x.word) (first_passed xs)) && is_none (first_passed ys))) [
+    elim (nat_lt x.most x.count) as (λ b.
+    is_none (cond b (Some x.word) (first_passed (xs ++ ys)))
+    ≡ (is_none (cond b (Some x.word) (first_passed xs)) && is_none (first_passed ys))) [
       | true ↦ refl
       | false ↦ none-append xs ys
     ]
@@ -36,7 +40,10 @@ unfolding first_passed
 bounded-first s = rw (bounded-passes (text_size s.entries)) refl
 
 -- bounded counts exceed a limit just where the state does
-pub limits-told : (s : State) → (is_none (first_passed (layout_limits (bounded_counts s))) && is_none (first_passed (answer_limits (bounded_counts s)))) ≡ is_none (passed_limit s)
+pub limits-told :
+    (s : State) →
+    (is_none (first_passed (layout_limits (bounded_counts s))) && is_none (first_passed (answer_limits (bounded_counts s))))
+    ≡ is_none (passed_limit s)
 unfolding passed_limit
 limits-told s =
     ap (λ o. is_none o && is_none (first_passed (answer_limits (counts s)))) (bounded-first s)

@@ -8,13 +8,17 @@ use Rattle.hac_model.specs.Tree.ValidTest.{do_numbers_rise}
 use Rattle.hac_model.specs.declared.states.Entry.{Entry}
 use Rattle.layout_check.specs.Rising.{DoRise}
 
-all-above : (low above : ℕ) (es : List Entry) (below : ℕ) → low < above → NumbersRise above es below → AllByRecursion (λ (e : Entry). low < e.number) es
+all-above :
+    (low above : ℕ) (es : List Entry) (below : ℕ) → low < above → NumbersRise above es below →
+    AllByRecursion (λ (e : Entry). low < e.number) es
 all-above low above [] below less h = tt
 all-above low above (e ∷ es) below less h =
     let over : low < e.number = omega (arith, h.0) in
     (over, all-above low e.number es below over h.1)
 
-above-all : (above : ℕ) (es : List Entry) (below : ℕ) → NumbersRise above es below → AllByRecursion (λ (e : Entry). above < e.number) es
+above-all :
+    (above : ℕ) (es : List Entry) (below : ℕ) → NumbersRise above es below →
+    AllByRecursion (λ (e : Entry). above < e.number) es
 above-all above [] below h = tt
 above-all above (e ∷ es) below h = (h.0, all-above above e.number es below h.0 h.1)
 

@@ -1,5 +1,5 @@
-//! Whether the entries of a state fit one another, whatever they are, as those that were read from a
-//! file. It goes over plain lists, and knows no tree that is kept, no query and no link.
+//! Whether the entries of a state fit one another, whatever they are, as those that were read from
+//! a file. It goes over plain lists, and knows no tree that is kept, no query and no link.
 #![tactic(auto)]
 
 mod bodies;

@@ -10,18 +10,23 @@ pub returns-then-are_kept : goal.returns-then-are_kept
 returns-then-are_kept c =
     let state : State = c.args.state.now in
     let layout : c.are_kept.result ≡ is_none (first_passed (layout_limits (bounded_counts state))) =
-    c.are_kept.ensures ∙ ap (λ (ls : List Limit). is_none (first_passed ls)) (c.layout_limits.ensures ∙ ap layout_limits c.counts-counts.ensures) in
+    c.are_kept.ensures
+    ∙ ap (λ (ls : List Limit). is_none (first_passed ls)) (c.layout_limits.ensures ∙ ap layout_limits c.counts-counts.ensures) in
     let answers : c.are_kept-then-are_kept.result ≡ is_none (first_passed (answer_limits (bounded_counts state))) =
-    c.are_kept-then-are_kept.ensures ∙ ap (λ (ls : List Limit). is_none (first_passed ls)) (c.answer_limits.ensures ∙ ap answer_limits c.counts-counts.ensures) in
+    c.are_kept-then-are_kept.ensures
+    ∙ ap (λ (ls : List Limit). is_none (first_passed ls)) (c.answer_limits.ensures ∙ ap answer_limits c.counts-counts.ensures) in
     answers
-    ∙ ap (λ (b : Bool). b && is_none (first_passed (answer_limits (bounded_counts state)))) (sym c.if-are_kept.true ∙ layout)
+    ∙ ap (λ (b : Bool). b && is_none (first_passed (answer_limits (bounded_counts state))))
+    (sym c.if-are_kept.true ∙ layout)
     ∙ limits-told state
 
 pub returns-else-are_kept : goal.returns-else-are_kept
 returns-else-are_kept c =
     let state : State = c.args.state.now in
     let layout : c.are_kept.result ≡ is_none (first_passed (layout_limits (bounded_counts state))) =
-    c.are_kept.ensures ∙ ap (λ (ls : List Limit). is_none (first_passed ls)) (c.layout_limits.ensures ∙ ap layout_limits c.counts-counts.ensures) in
+    c.are_kept.ensures
+    ∙ ap (λ (ls : List Limit). is_none (first_passed ls)) (c.layout_limits.ensures ∙ ap layout_limits c.counts-counts.ensures) in
     c.if-are_kept.false
-    ∙ ap (λ (b : Bool). b && is_none (first_passed (answer_limits (bounded_counts state)))) (sym c.if-are_kept.false ∙ layout)
+    ∙ ap (λ (b : Bool). b && is_none (first_passed (answer_limits (bounded_counts state))))
+    (sym c.if-are_kept.false ∙ layout)
     ∙ limits-told state

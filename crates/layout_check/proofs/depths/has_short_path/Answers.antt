@@ -9,5 +9,6 @@ pub returns : goal.returns
 returns c =
     let entries = c.args.entries.now in
     let number = c.args.entry.now.number in
-    ap (λ (names : ℕ). nat_le (names + c.names_below.result) PATH_LIMIT) (c.count_ancestors-names.ensures.ancestors ∙ ap length (lineage-steps entries number))
+    ap (λ (names : ℕ). nat_le (names + c.names_below.result) PATH_LIMIT)
+    (c.count_ancestors-names.ensures.ancestors ∙ ap length (lineage-steps entries number))
     ∙ ap (λ (below : ℕ). nat_le (length (lineage entries number) + below) PATH_LIMIT) c.names_below.ensures
