@@ -1,5 +1,5 @@
 -- Limits, told by bounded counts.
-use Rattle.std.proofs.Common.{◌≡◌, ℕ, ◌+◌, true, false, cond, List, [], ◌∷◌, ◌++◌, refl, ap, sym, ◌∙◌, arith}
+use Rattle.std.proofs.Common.{◌≡◌, ℕ, ◌+◌, Bool, true, false, cond, List, [], ◌∷◌, ◌++◌, refl, ap, sym, ◌∙◌, arith}
 use Rattle.std.specs.Prelude.{◌&&◌, nat_lt, Some, is_none}
 use Rattle.std.proofs.lemmas.Bool.Decides.{nat_tests}
 use Rattle.hac_model.specs.Tree.{ancestors, lineage}
@@ -14,6 +14,10 @@ use Rattle.layout_check.specs.Bounded.{bounded}
 pub lineage-steps : (es : List Entry) (n : ℕ) → ancestors (PATH_LIMIT + 1) es n ≡ lineage es n
 unfolding lineage
 lineage-steps es n = refl
+
+-- none of the limits is exceeded
+abbrev pub are_kept : List Limit → Bool
+are_kept limits = is_none (first_passed limits)
 
 none-append :
     (xs ys : List Limit) →
@@ -42,7 +46,7 @@ bounded-first s = rw (bounded-passes (text_size s.entries)) refl
 -- bounded counts exceed a limit just where the state does
 pub limits-told :
     (s : State) →
-    (is_none (first_passed (layout_limits (bounded_counts s))) && is_none (first_passed (answer_limits (bounded_counts s))))
+    (are_kept (layout_limits (bounded_counts s)) && are_kept (answer_limits (bounded_counts s)))
     ≡ is_none (passed_limit s)
 unfolding passed_limit
 limits-told s =

@@ -65,7 +65,8 @@ pub free-more :
     (taken next : Entry → Bool) (e : Entry) (es : List Entry) → taken e ≡ false →
     ((x : Entry) → next x ≡ (is_same e x || taken x)) → are_free taken (e ∷ es) ≡ are_free next es
 free-more taken next e es h step =
-    rw (h, child-free e es) (joined (list_all (λ x. not (taken x)) es) (list_all (λ x. not (is_same e x)) es) (do_names_differ es)
+    rw (h, child-free e es)
+    (joined (list_all (λ x. not (taken x)) es) (list_all (λ x. not (is_same e x)) es) (do_names_differ es)
     ∙ ap (λ (b : Bool). b && do_names_differ es) (sym (both es)))
   where
     joined : (a b c : Bool) → (a && (b && c)) ≡ ((a && b) && c)
@@ -77,7 +78,8 @@ free-more taken next e es h step =
         list_all (λ x. not (next x)) es ≡ (list_all (λ x. not (taken x)) es && list_all (λ x. not (is_same e x)) es)
     both [] = refl
     both (x ∷ es) =
-        rw (step x, both es) (parted (is_same e x) (taken x) (list_all (λ x. not (taken x)) es) (list_all (λ x. not (is_same e x)) es))
+        rw (step x, both es)
+        (parted (is_same e x) (taken x) (list_all (λ x. not (taken x)) es) (list_all (λ x. not (is_same e x)) es))
 
 same-numbers : (a b : ℕ) → is_eq (nat_cmp a b) ≡ (b == a)
 same-numbers a b = grind (arith, nat_tests)
@@ -108,7 +110,8 @@ taken-is places e dir name in_dir named =
 -- a set with one more place
 pub taken-more :
     (old new : BTreeSet (ℕ × Bor (List ℕ))) (e : Entry) (dir : ℕ) (name : Bor (List ℕ)) →
-    dir ≡ e.parent → name.now ≡ e.name → Updates place_cmp old new (dir, name) true → (x : Entry) → is_taken new x ≡ (is_same e x || is_taken old x)
+    dir ≡ e.parent → name.now ≡ e.name → Updates place_cmp old new (dir, name) true →
+    (x : Entry) → is_taken new x ≡ (is_same e x || is_taken old x)
 taken-more old new e dir name in_dir named updates x =
     let other : Bor (List ℕ) = record name { now = x.name } in
     let same : is_eq (place_cmp (dir, name) (x.parent, other)) ≡ is_same e x =

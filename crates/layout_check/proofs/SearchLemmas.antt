@@ -28,8 +28,10 @@ prefix-point p [] i inside h = omega arith
 prefix-point p (e ∷ es) zero inside h = let first : p e ≡ false = h.1 0 e (omega arith) (omega arith) in rw first refl
 prefix-point p (e ∷ es) (suc i) inside h =
     let first : p e ≡ true = h.0 0 e (omega arith) (omega arith) in
-    let rest : i ≡ prefix_len p es = prefix-point p es i (omega arith)
-    ((λ k d low high. h.0 (suc k) d (omega arith) (omega arith)), (λ k d low high. h.1 (suc k) d (omega arith) (omega arith)))
+    let rest : i ≡ prefix_len p es = prefix-point p es i (omega arith) (
+      (λ k d low high. h.0 (suc k) d (omega arith) (omega arith)),
+      (λ k d low high. h.1 (suc k) d (omega arith) (omega arith)),
+    )
     in
     rw first (omega arith)
 
@@ -51,7 +53,8 @@ module _ (number : ℕ) where
   if_numbered (Some e) = cond (e.number == number) (Some e) None
 
   none-behind :
-      (low : ℕ) (es : List Entry) → number ≤ low → AllByRecursion (λ (e : Entry). low < e.number) es → entry_at es number ≡ None
+      (low : ℕ) (es : List Entry) → number ≤ low → AllByRecursion (λ (e : Entry). low < e.number) es →
+      entry_at es number ≡ None
   none-behind low [] h all = refl
   none-behind low (e ∷ es) h all =
       let other : (e.number == number) ≡ false = grind (arith, nat_tests, all.0) in

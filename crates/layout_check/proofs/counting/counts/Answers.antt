@@ -10,9 +10,11 @@ returns c =
     let entries : List Entry = c.args.state.now.entries in
     let same : c.as_slice-entries.result.now ≡ entries = c.as_slice-entries.ensures in
     let bytes : c.text_size.result ≡ bounded (text_size entries) =
-    c.text_size.ensures ∙ ap (λ (es : List Entry). bounded (text_size es)) c.as_slice-entries.ensures in
-    let directories : c.directory_count.result ≡ directory_count entries = c.directory_count.ensures ∙ ap directory_count same in
-    let semantics : c.semantic_count.result ≡ semantic_count entries = c.semantic_count.ensures ∙ ap semantic_count same in
+    c.text_size.ensures ∙ ap (λ (es : List Entry). bounded (text_size es)) same in
+    let directories : c.directory_count.result ≡ directory_count entries =
+    c.directory_count.ensures ∙ ap directory_count same in
+    let semantics : c.semantic_count.result ≡ semantic_count entries =
+    c.semantic_count.ensures ∙ ap semantic_count same in
     let mounts : c.mount_count.result ≡ mount_count entries = c.mount_count.ensures ∙ ap mount_count same in
     let symlinks : c.symlink_count.result ≡ symlink_count entries = c.symlink_count.ensures ∙ ap symlink_count same in
     let files : c.file_count.result ≡ file_count entries = c.file_count.ensures ∙ ap file_count same in

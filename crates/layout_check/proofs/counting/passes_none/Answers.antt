@@ -1,32 +1,31 @@
-use Rattle.std.proofs.Common.{◌≡◌, Bool, List, ap, sym, ◌∙◌}
-use Rattle.std.specs.Prelude.{◌&&◌, is_none}
-use Rattle.hac_model.specs.Tree.Limits.{answer_limits, first_passed, layout_limits}
-use Rattle.hac_model.specs.declared.limits.Limit.{Limit}
+use Rattle.std.proofs.Common.{◌≡◌, Bool, ap, sym, ◌∙◌}
+use Rattle.std.specs.Prelude.{◌&&◌}
+use Rattle.hac_model.specs.Tree.Limits.{answer_limits, layout_limits}
 use Rattle.hac_model.specs.declared.states.State.{State}
-use Rattle.layout_check.proofs.LimitLemmas.{bounded_counts, limits-told}
+use Rattle.layout_check.proofs.LimitLemmas.{are_kept, bounded_counts, limits-told}
 use Rattle.layout_check.proofs.counting.passes_none.Goals as goal
 
 pub returns-then-are_kept : goal.returns-then-are_kept
 returns-then-are_kept c =
     let state : State = c.args.state.now in
-    let layout : c.are_kept.result ≡ is_none (first_passed (layout_limits (bounded_counts state))) =
+    let layout : c.are_kept.result ≡ are_kept (layout_limits (bounded_counts state)) =
     c.are_kept.ensures
-    ∙ ap (λ (ls : List Limit). is_none (first_passed ls)) (c.layout_limits.ensures ∙ ap layout_limits c.counts-counts.ensures) in
-    let answers : c.are_kept-then-are_kept.result ≡ is_none (first_passed (answer_limits (bounded_counts state))) =
+    ∙ ap are_kept (c.layout_limits.ensures ∙ ap layout_limits c.counts-counts.ensures) in
+    let answers : c.are_kept-then-are_kept.result ≡ are_kept (answer_limits (bounded_counts state)) =
     c.are_kept-then-are_kept.ensures
-    ∙ ap (λ (ls : List Limit). is_none (first_passed ls)) (c.answer_limits.ensures ∙ ap answer_limits c.counts-counts.ensures) in
+    ∙ ap are_kept (c.answer_limits.ensures ∙ ap answer_limits c.counts-counts.ensures) in
     answers
-    ∙ ap (λ (b : Bool). b && is_none (first_passed (answer_limits (bounded_counts state))))
+    ∙ ap (λ (b : Bool). b && are_kept (answer_limits (bounded_counts state)))
     (sym c.if-are_kept.true ∙ layout)
     ∙ limits-told state
 
 pub returns-else-are_kept : goal.returns-else-are_kept
 returns-else-are_kept c =
     let state : State = c.args.state.now in
-    let layout : c.are_kept.result ≡ is_none (first_passed (layout_limits (bounded_counts state))) =
+    let layout : c.are_kept.result ≡ are_kept (layout_limits (bounded_counts state)) =
     c.are_kept.ensures
-    ∙ ap (λ (ls : List Limit). is_none (first_passed ls)) (c.layout_limits.ensures ∙ ap layout_limits c.counts-counts.ensures) in
+    ∙ ap are_kept (c.layout_limits.ensures ∙ ap layout_limits c.counts-counts.ensures) in
     c.if-are_kept.false
-    ∙ ap (λ (b : Bool). b && is_none (first_passed (answer_limits (bounded_counts state))))
+    ∙ ap (λ (b : Bool). b && are_kept (answer_limits (bounded_counts state)))
     (sym c.if-are_kept.false ∙ layout)
     ∙ limits-told state

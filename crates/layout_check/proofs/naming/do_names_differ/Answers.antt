@@ -40,7 +40,8 @@ loop-entry-preserved c =
     drop_more entries c.loop-entry.entry-index entry c.loop-entry-test.true
     ∙ ap (λ (e : Entry). e ∷ rest) (sym c.entry-item.is)
     in
-    let updates : Updates place_cmp places more (c.get.result, c.as_bytes.result) true = c.in_ok-insert.ensures.updates in
+    let updates : Updates place_cmp places more (c.get.result, c.as_bytes.result) true =
+    c.in_ok-insert.ensures.updates in
     let free : not (is_taken places entry) ≡ true =
     ap not (sym (taken-is places entry c.get.result c.as_bytes.result c.get.ensures c.as_bytes.ensures))
     ∙ sym c.in_ok-insert.ensures.added ∙ c.if-not-branch.false

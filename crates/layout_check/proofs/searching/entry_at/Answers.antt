@@ -8,37 +8,43 @@ use Rattle.layout_check.proofs.searching.entry_at.Goals as goal
 
 pub returns-in_err-entry : goal.returns-in_err-entry
 returns-in_err-entry c =
+    let number = c.args.number in
+    let entries = c.args.entries.now in
     let place = c.partition_point-place.result in
     let point =
-    IsPartitionPoint-from_clause (is_below c.args.number) c.args.entries.now place c.partition_point-place.ensures.partitioned
-    (below-partition c.args.number c.args.entries.now c.requires) (λ a r f' k. search rules)
+    IsPartitionPoint-from_clause (is_below number) entries place c.partition_point-place.ensures.partitioned
+    (below-partition number entries c.requires) (λ a r f' k. search rules)
     in
     let bound = c.partition_point-place.ensures.bound in
-    let outside : length c.args.entries.now ≤ place = grind (arith, nat_tests, c.in_err-entry.ensures.lookup) in
-    ap option_copied c.from_residual.ensures ∙ sym (entry-end c.args.number c.args.entries.now c.requires place bound point outside)
+    let outside : length entries ≤ place = grind (arith, nat_tests, c.in_err-entry.ensures.lookup) in
+    ap option_copied c.from_residual.ensures ∙ sym (entry-end number entries c.requires place bound point outside)
 
 pub returns-then-eq : goal.returns-then-eq
 returns-then-eq c =
+    let number = c.args.number in
+    let entries = c.args.entries.now in
     let place = c.partition_point-place.result in
     let point =
-    IsPartitionPoint-from_clause (is_below c.args.number) c.args.entries.now place c.partition_point-place.ensures.partitioned
-    (below-partition c.args.number c.args.entries.now c.requires) (λ a r f' k. search rules)
+    IsPartitionPoint-from_clause (is_below number) entries place c.partition_point-place.ensures.partitioned
+    (below-partition number entries c.requires) (λ a r f' k. search rules)
     in
     let bound = c.partition_point-place.ensures.bound in
-    let inside : place < length c.args.entries.now = grind (arith, nat_tests, c.in_ok-entry.ensures.lookup) in
+    let inside : place < length entries = grind (arith, nat_tests, c.in_ok-entry.ensures.lookup) in
     let entry : Entry = c.in_ok-entry.entry.now in
-    sym (entry-point c.args.number c.args.entries.now c.requires place bound point entry inside c.in_ok-entry.ensures.lookup.1
+    sym (entry-point number entries c.requires place bound point entry inside c.in_ok-entry.ensures.lookup.1
     ∙ ap (λ (b : Bool). cond b (Some entry) None) (sym c.eq.ensures ∙ c.if-eq.true))
 
 pub returns-else-eq : goal.returns-else-eq
 returns-else-eq c =
+    let number = c.args.number in
+    let entries = c.args.entries.now in
     let place = c.partition_point-place.result in
     let point =
-    IsPartitionPoint-from_clause (is_below c.args.number) c.args.entries.now place c.partition_point-place.ensures.partitioned
-    (below-partition c.args.number c.args.entries.now c.requires) (λ a r f' k. search rules)
+    IsPartitionPoint-from_clause (is_below number) entries place c.partition_point-place.ensures.partitioned
+    (below-partition number entries c.requires) (λ a r f' k. search rules)
     in
     let bound = c.partition_point-place.ensures.bound in
-    let inside : place < length c.args.entries.now = grind (arith, nat_tests, c.in_ok-entry.ensures.lookup) in
+    let inside : place < length entries = grind (arith, nat_tests, c.in_ok-entry.ensures.lookup) in
     let entry : Entry = c.in_ok-entry.entry.now in
-    sym (entry-point c.args.number c.args.entries.now c.requires place bound point entry inside c.in_ok-entry.ensures.lookup.1
+    sym (entry-point number entries c.requires place bound point entry inside c.in_ok-entry.ensures.lookup.1
     ∙ ap (λ (b : Bool). cond b (Some entry) None) (sym c.eq.ensures ∙ c.if-eq.false))
