@@ -29,3 +29,5 @@ pub mod MountLemmas
 pub mod SyncLemmas
 pub mod DroppedLemmas
 pub mod UnmountLemmas
+pub mod RiseLemmas
+pub mod LoadLemmas

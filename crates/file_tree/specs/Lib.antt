@@ -13,3 +13,4 @@ pub mod Changes
 pub mod Traces
 pub mod Walked
 pub mod Seated
+pub mod Loading

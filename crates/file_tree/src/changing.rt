@@ -199,7 +199,7 @@ impl Tree {
 }
 
 /// Adds a number to a set, if there is one.
-fn add_number(numbers: &mut BTreeSet<u64>, number: Option<Number>) -> Result<(), Memory>
+pub(crate) fn add_number(numbers: &mut BTreeSet<u64>, number: Option<Number>) -> Result<(), Memory>
     ensures ok { OnOk result ((n : ℕ) → contains nat_cmp numbers.new n ≡
         (contains nat_cmp numbers.old n || is_number number n)) }
     ensures err { OnErr result ((n : ℕ) → contains nat_cmp numbers.new n ≡

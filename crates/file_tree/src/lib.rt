@@ -7,6 +7,7 @@ mod children;
 mod counting;
 mod depths;
 mod documents;
+mod loading;
 mod mounting;
 mod nodes;
 mod paths;
