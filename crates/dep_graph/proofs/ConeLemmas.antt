@@ -54,7 +54,7 @@ ordered-off : (edges : ℕ → List ℕ) (xs left : List ℕ) (n next : ℕ) →
 ordered-off edges [] left n next h edge there = h.1 next edge there
 ordered-off edges (x ∷ xs) left n next h edge there = ordered-off edges xs left n next h.2 edge there
 
-bare-or-some : (xs : List ℕ) → (xs ≡ []) ⊎ (xs ≢ [])
+pub bare-or-some : (xs : List ℕ) → (xs ≡ []) ⊎ (xs ≢ [])
 bare-or-some [] = inl refl
 bare-or-some (x ∷ xs) = inr (λ never. absurd cc)
 

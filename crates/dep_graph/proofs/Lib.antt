@@ -6,3 +6,4 @@ pub mod StepLemmas
 pub mod ReferLemmas
 pub mod NextLemmas
 pub mod ConeLemmas
+pub mod OrderLemmas

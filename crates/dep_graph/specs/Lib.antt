@@ -4,3 +4,4 @@ pub mod Searches
 pub mod Laws
 pub mod Passed
 pub mod Steps
+pub mod Orders

@@ -3,6 +3,7 @@
 //! no tree, no query and no link, and not why a directory has its edges.
 #![tactic(auto)]
 
+mod acyclic;
 mod cones;
 mod cycles;
 mod graph;

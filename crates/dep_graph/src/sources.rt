@@ -40,6 +40,19 @@ impl Graph {
         ensures { IfOk result (λ numbers.
             AreSources (edges_with self.now (option_copied next.entry)) dirs.now numbers.items) }
     {
+        self.order(next, dirs)
+    }
+
+    /// The same over any edges. The order is right where no directory depends on itself.
+    pub(crate) fn order(
+        &self,
+        next: Option<&NewEdges>,
+        dirs: &[Number],
+    ) -> Result<Vec<Number>, Memory>
+        ensures { IfOk result (λ numbers.
+            NeverReturns (edges_with self.now (option_copied next.entry))
+            → AreSources (edges_with self.now (option_copied next.entry)) dirs.now numbers.items) }
+    {
         let mut done = Vec::new(self.alloc);
         let mut seen = IndexSet::new(self.alloc);
         let mut stack = Pile::new(self.alloc);
