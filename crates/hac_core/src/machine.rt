@@ -1,5 +1,5 @@
 //! The machine itself.
-ghost use Rattle.std.specs.Prelude.{◌≡◌, [], IfOk, IfErr, IsTrue, None, OnOk, OnErr, true, false};
+ghost use Rattle.std.specs.Prelude.{◌≡◌, [], IfOk, IfErr, IsTrue, OnOk, OnErr, true, false};
 ghost use Rattle.hac_model.specs.Run.Answers.{Refuses};
 ghost use Rattle.hac_model.specs.Tree.Events.{apply_all, dirty};
 ghost use Rattle.hac_model.specs.Script.Lines.{is_spelled_line};

@@ -10,6 +10,7 @@ use crate::fitting::fits;
 use crate::machine::Machine;
 use hac_model::{Counts, Event, Memory};
 use kept_links::UnlinkedState;
+use kept_state::KeptState;
 use std::alloc::Global;
 use std::marker::Model;
 
@@ -43,6 +44,17 @@ impl Replay {
             alloc,
             unlinked: UnlinkedState::new(alloc)?,
         })
+    }
+
+    /// The events go on from this state, which is ready for nothing.
+    pub fn of_kept(alloc: Global, kept: KeptState) -> Replay
+        requires { kept.ready ≡ [] }
+        ensures { result ≡ kept.state }
+    {
+        Replay {
+            alloc,
+            unlinked: UnlinkedState::of_kept(kept),
+        }
     }
 
     /// Applies an event that is stored if it can happen, and says whether it could. It may be any

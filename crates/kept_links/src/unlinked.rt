@@ -51,6 +51,14 @@ impl UnlinkedState {
         })
     }
 
+    /// This state, which is ready for nothing.
+    pub fn of_kept(kept: KeptState) -> UnlinkedState
+        requires { kept.ready ≡ [] }
+        ensures { result ≡ kept.state }
+    {
+        UnlinkedState { kept, way: None }
+    }
+
     /// The state as it is kept.
     pub fn kept(&self) -> &KeptState
         ensures { result.now ≡ record { state = self.now; ready = [] } }

@@ -21,3 +21,4 @@ pub mod AskedLemmas
 pub mod MarkedLemmas
 pub mod ToldNextLemmas
 pub mod AfterLemmas
+pub mod PartsLemmas

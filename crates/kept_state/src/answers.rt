@@ -63,6 +63,18 @@ impl Answers {
         }
     }
 
+    /// Each mount keeps the answers that it has here.
+    pub fn of_lists(alloc: Global, lists: Lists) -> Answers
+        ensures { result ≡ record { mounts = lists.entries; ready = None; told = None } }
+    {
+        Answers {
+            alloc,
+            lists,
+            ready: None,
+            told: None,
+        }
+    }
+
     /// Whether a mount keeps an answer for a term.
     pub fn keeps(&self, mount: Number, term: &Term) -> bool
         requires { AreInOrder (answers_kept self.now mount) }

@@ -15,9 +15,12 @@ ghost use Rattle.hac_model.specs.Tree.Sessions.{sessions_with, stands_in, visito
 ghost use Rattle.hac_model.specs.Tree.Valid.{IsValid};
 ghost use Rattle.hac_model.specs.Tree.Events.{is_placed};
 ghost use Rattle.kept_state.specs.Gains.{AreGainsOf};
-ghost use Rattle.kept_state.specs.Readers.{AreEdgesOf, AreMarksOf, IsTreeOf, mark_at};
+ghost use Rattle.hac_model.specs.declared.states.State.{State};
+ghost use Rattle.kept_state.specs.AnswersKept.{list_at};
+ghost use Rattle.kept_state.specs.Readers.{AreEdgesOf, AreMarksOf, ArePartsOf, IsTreeOf};
+ghost use Rattle.kept_state.specs.Readers.{mark_at};
 
-use crate::answers::had;
+use crate::answers::{Answers, Lists, had};
 use crate::gains::{Gains, gained};
 use crate::parts::Parts;
 use crate::ready::{Ready, prepare, put};
@@ -61,6 +64,31 @@ impl KeptState {
             parts: Parts::new(alloc)?,
             ready: Ready::Nothing,
         })
+    }
+
+    /// The state of which these are the parts, as they are made of one that was read. It stands in
+    /// no session's way: sessions begin in the root.
+    pub fn of_parts(
+        alloc: Global,
+        tree: Tree,
+        marks: Links,
+        answers: Lists,
+        graph: Graph,
+    ) -> KeptState
+        requires { (s : State) × ArePartsOf s tree.state marks (list_at answers) graph }
+        ensures { (s : State) → ArePartsOf s tree.state marks (list_at answers) graph →
+            result ≡ record { state = s; ready = [] } }
+    {
+        KeptState {
+            parts: Parts {
+                tree,
+                marks,
+                answers: Answers::of_lists(alloc, answers),
+                graph,
+                sessions: Seq::new(Vec::new(alloc)),
+            },
+            ready: Ready::Nothing,
+        }
     }
 
     /// The tree, without marks and answers.

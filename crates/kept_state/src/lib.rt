@@ -17,6 +17,7 @@ mod room;
 mod sessions;
 mod terms;
 
-pub use edges::push_named;
+pub use answers::Lists;
+pub use edges::{edges_of, push_named};
 pub use gains::Gains;
 pub use kept::KeptState;
