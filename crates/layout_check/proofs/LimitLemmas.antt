@@ -9,6 +9,8 @@ use Rattle.hac_model.specs.declared.limits.Limit.{Limit}
 use Rattle.hac_model.specs.declared.limits.TheConstants.{PATH_LIMIT, TEXTS_LIMIT}
 use Rattle.hac_model.specs.declared.states.Entry.{Entry}
 use Rattle.hac_model.specs.declared.states.State.{State}
+use Rattle.hac_model.specs.Tree.Valid.{IsLayout}
+use Rattle.hac_model.proofs.LimitLemmas.{limits-within}
 use Rattle.layout_check.specs.Bounded.{bounded}
 
 pub lineage-steps : (es : List Entry) (n : ℕ) → ancestors (PATH_LIMIT + 1) es n ≡ lineage es n
@@ -52,3 +54,10 @@ unfolding passed_limit
 limits-told s =
     ap (λ o. is_none o && is_none (first_passed (answer_limits (counts s)))) (bounded-first s)
     ∙ sym (none-append (layout_limits (counts s)) (answer_limits (counts s)))
+
+-- where no limit is exceeded, a word counts the bytes
+pub bounded-same : (s : State) → IsLayout s → bounded_counts s ≡ counts s
+bounded-same s h =
+    let few : nat_lt TEXTS_LIMIT (text_size s.entries) ≡ false = (limits-within s h.limits).texts in
+    let same : bounded (text_size s.entries) ≡ text_size s.entries = grind (arith, nat_tests, few) in
+    λ i. record (counts s) { bytes = same i }

@@ -2,6 +2,7 @@
 ghost use Rattle.std.specs.Prelude.{◌≡◌, is_none};
 ghost use Rattle.hac_model.specs.Tree.Limits as limits;
 ghost use Rattle.hac_model.specs.Tree.Limits.{first_passed};
+ghost use Rattle.hac_model.specs.Tree.Valid.{IsLayout};
 ghost use Rattle.layout_check.specs.Bounded.{bounded};
 ghost use Rattle.layout_check.specs.Rising.{DoRise};
 
@@ -26,6 +27,14 @@ fn are_kept(limits: &[Limit]) -> bool
     ensures { result ≡ is_none (first_passed limits.now) }
 {
     first_passed(limits).is_none()
+}
+
+/// How much a state holds whose entries fit one another.
+pub fn counts_of(state: &State) -> Counts
+    requires { IsLayout state.now }
+    ensures { result ≡ limits.counts state.now }
+{
+    counts(state)
 }
 
 /// How much a state holds. Where its files have more bytes than a `u64` can count, it is as many

@@ -13,5 +13,7 @@ mod places;
 mod rising;
 mod searching;
 
+pub use counting::counts_of;
 pub use layout::is_layout;
+pub use places::is_directory_at;
 pub use searching::entry_at;

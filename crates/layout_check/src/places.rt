@@ -42,7 +42,7 @@ fn is_mount_at(entries: &[Entry], number: Number) -> bool
 }
 
 /// Whether the number is that of a directory: the root, or one that was made.
-fn is_directory_at(entries: &[Entry], number: Number) -> bool
+pub fn is_directory_at(entries: &[Entry], number: Number) -> bool
     requires { DoRise entries.now }
     ensures { result ≡ tree.is_directory_at entries.now number }
 {
