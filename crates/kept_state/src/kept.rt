@@ -28,7 +28,7 @@ use crate::terms::{terms_to_ask, unanswered};
 use crate::{edges, lenders, room, sessions};
 use dep_graph::Graph;
 use file_tree::Tree;
-use hac_model::{Counts, Event, Kind, Mark, Memory, Name, Number, Path, Query, Seq, Term};
+use hac_model::{Answer, Counts, Event, Kind, Mark, Memory, Name, Number, Path, Query, Seq, Term};
 use link_kinds::Links;
 use std::alloc::Global;
 use std::marker::Model;
@@ -125,6 +125,13 @@ impl KeptState {
         ensures { result ≡ has (kept_at self.now.state mount term.now) document }
     {
         self.parts.answers.has(mount, term, document)
+    }
+
+    /// The answers that a mount keeps, in order of their terms.
+    pub fn answers_of(&self, mount: Number) -> &[Answer]
+        ensures { result.now ≡ answers_at self.now.state mount }
+    {
+        self.parts.answers.kept_by(mount)
     }
 
     /// The terms that a space is asked for as it is mounted, and as its mount is synced: those in
