@@ -225,7 +225,7 @@ fn rank(answers: &[Answer], term: &Term) -> usize
 }
 
 /// Whether a number is one of those that rise.
-fn is_among(numbers: &[Number], number: Number) -> bool
+pub fn is_among(numbers: &[Number], number: Number) -> bool
     ensures { RiseFrom 0 numbers.now → result ≡ has numbers.now number }
 {
     numbers.binary_search(&number).is_ok()

@@ -17,7 +17,7 @@ mod room;
 mod sessions;
 mod terms;
 
-pub use answers::Lists;
+pub use answers::{Lists, is_among, is_answered};
 pub use edges::{edges_of, push_named};
 pub use gains::Gains;
 pub use kept::KeptState;

@@ -27,7 +27,7 @@ pub(crate) fn is_mount(body: &Body) -> bool
 }
 
 /// Whether it is a document of a mount.
-pub(crate) fn is_document(body: &Body) -> bool
+pub fn is_document(body: &Body) -> bool
     ensures { result ≡ tree.is_document body.now }
 {
     matches!(body, Body::Document)
@@ -48,7 +48,7 @@ pub(crate) fn is_file(body: &Body) -> bool
 }
 
 /// Whether it is a file or a document.
-pub(crate) fn is_linkable(body: &Body) -> bool
+pub fn is_linkable(body: &Body) -> bool
     ensures { result ≡ tree.is_linkable body.now }
 {
     is_file(body) || is_document(body)

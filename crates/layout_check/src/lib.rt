@@ -14,6 +14,7 @@ mod rising;
 mod searching;
 
 pub use counting::counts_of;
+pub use kinds::{is_document, is_linkable};
 pub use layout::is_layout;
 pub use places::is_directory_at;
 pub use searching::entry_at;

@@ -1,5 +1,5 @@
-//! Queries as bytes: how they are read and printed. It knows no tree, so that where a directory's
-//! path leads is for others to say.
+//! Queries as bytes: how they are read and printed, and how much one may hold. It knows no tree, so
+//! that where a directory's path leads is for others to say.
 #![tactic(auto)]
 
 mod faults;
@@ -9,9 +9,11 @@ pub mod laws;
 mod paths;
 mod printing;
 mod reading;
+mod sizes;
 mod stepping;
 
 pub use faults::QueryFault;
 pub use paths::{NamedDir, Paths};
 pub use printing::{around, braced, joined, print, term_text};
-pub use reading::{parse, terms_left};
+pub use reading::parse;
+pub use sizes::is_query;

@@ -1,10 +1,11 @@
 //! Queries as they are read.
-ghost use Rattle.std.specs.Prelude.{◌≡◌, ◌-◌, if◌then◌else◌, nat_lt, IfOk, IsTrue};
+ghost use Rattle.std.specs.Prelude.{◌≡◌, nat_lt, IfOk, IsTrue};
 ghost use Rattle.hac_model.specs.Query.Queries as queries;
 ghost use Rattle.hac_model.specs.Query.QueryReading as reading;
 ghost use Rattle.query_text.specs.Reading.{IsPart, ReadsQuery};
 
 use crate::faults::QueryFault;
+use crate::sizes::terms_left;
 use crate::stepping::{ended, start, step};
 use hac_model::reading::Part;
 use hac_model::{
@@ -107,18 +108,4 @@ fn is_above(most: u64, query: &RawQuery) -> bool
     ensures { result ≡ nat_lt most (queries.term_count query.now) }
 {
     terms_left(most, query).is_none()
-}
-
-/// How many terms may follow those of a query, if `most` may be there in all; None if it has more.
-pub fn terms_left<D>(most: u64, query: &Query<D>) -> Option<u64>
-    ensures { result ≡ (if nat_lt most (queries.term_count query.now) then None else Some
-        (most - queries.term_count query.now)) }
-{
-    match &query.node {
-        Node::Term(_) | Node::Dir(_) => most.checked_sub(1),
-        Node::Not(query) => terms_left(most, query),
-        Node::And(left, right) | Node::Or(left, right) => {
-            terms_left(terms_left(most, left)?, right)
-        }
-    }
 }

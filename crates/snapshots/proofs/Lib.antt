@@ -1,3 +1,6 @@
-pub mod MarkLemmas
 pub mod BesideLemmas
 pub mod LoadLemmas
+pub mod MarkLemmas
+pub mod OrderLemmas
+pub mod RestoredLemmas
+pub mod SnapshotLemmas

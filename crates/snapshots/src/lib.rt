@@ -1,6 +1,12 @@
-//! A state as it is kept, from what is stored of it, and back.
+//! What is stored of a state, the state that it tells, and that state as a machine keeps it. It
+//! knows no bytes.
 #![tactic(auto)]
 
+pub mod laws;
 mod loading;
+mod reading;
+mod restoring;
 
 pub use loading::load;
+pub use reading::{LoadFault, read};
+pub use restoring::restored;

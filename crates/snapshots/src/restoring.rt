@@ -1,0 +1,80 @@
+//! The state that a snapshot tells: the documents are among the entries again, all in order.
+ghost use Rattle.std.specs.Prelude.{◌≡◌, ◌++◌, IfOk, IfSome, OnOk, None, false, flat_map};
+ghost use Rattle.hac_model.specs.Payload.States.{by_number, entries_in, restored};
+ghost use Rattle.hac_model.specs.Tree.Valid.{NumbersRise};
+ghost use Rattle.hac_model.specs.Tree.ValidTest.{do_numbers_rise, is_layout};
+
+use hac_model::{Body, Entry, Memory, Number, Seq, Snapshot, State, StoredEntry};
+use std::alloc::Global;
+
+/// The state that a snapshot tells. The texts are moved, not copied. None where the numbers of its
+/// entries and documents don't rise, as where two have one number: then no state there can be is
+/// told.
+pub fn restored(alloc: Global, snapshot: Snapshot) -> Result<Option<State>, Memory>
+    ensures some { IfOk result (λ told. IfSome told (λ state. state ≡ restored snapshot)) }
+    ensures rise { IfOk result (λ told. IfSome told (λ state.
+        NumbersRise 0 state.entries state.next)) }
+    ensures none { IfOk result (λ told. told ≡ None → is_layout (restored snapshot) ≡ false) }
+{
+    let Snapshot { next, entries } = snapshot;
+    let entries = in_order(all_entries(alloc, entries)?)?;
+    if !do_numbers_rise(entries.as_slice(), next) {
+        return Ok(None);
+    }
+    Ok(Some(State {
+        next,
+        entries: Seq::new(entries),
+        sessions: Seq::new(Vec::new(alloc)),
+    }))
+}
+
+/// The entries, each with the documents that are listed with it behind it.
+fn all_entries(alloc: Global, stored: Seq<StoredEntry>) -> Result<Vec<Entry>, Memory>
+    ensures { IfOk result (λ entries. entries.items ≡ flat_map entries_in stored) }
+{
+    let mut entries = Vec::new(alloc);
+    for entry in stored.into_vec() {
+        push_entries(&mut entries, entry)?;
+    }
+    Ok(entries)
+}
+
+/// Puts an entry and the documents that are listed with it behind the others.
+fn push_entries(entries: &mut Vec<Entry>, stored: StoredEntry) -> Result<(), Memory>
+    ensures { OnOk result (entries.new.items ≡ entries.old.items ++ entries_in stored) }
+{
+    let StoredEntry { entry, documents } = stored;
+    let parent = entry.number;
+    entries.push(entry)?;
+    for document in documents.into_vec() {
+        entries.push(Entry {
+            number: document.number,
+            parent,
+            name: document.name,
+            body: Body::Document,
+        })?;
+    }
+    Ok(())
+}
+
+/// The entries in order of their numbers. Those that have one number stay as they stand.
+fn in_order(mut entries: Vec<Entry>) -> Result<Vec<Entry>, Memory>
+    ensures { IfOk result (λ ordered. ordered.items ≡ by_number entries.items) }
+{
+    entries.sort_by_key(|entry| entry.number)?;
+    Ok(entries)
+}
+
+/// Whether the numbers of the entries rise, above the root's and below the next one.
+fn do_numbers_rise(entries: &[Entry], next: Number) -> bool
+    ensures { result ≡ do_numbers_rise 0 entries.now next }
+{
+    let mut last = Number::ROOT;
+    for entry in entries {
+        if entry.number <= last {
+            return false;
+        }
+        last = entry.number;
+    }
+    last < next
+}

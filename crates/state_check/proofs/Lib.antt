@@ -1,0 +1,4 @@
+pub mod EdgeLemmas
+pub mod CycleLemmas
+pub mod ListLemmas
+pub mod ValidLemmas
