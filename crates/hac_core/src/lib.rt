@@ -29,3 +29,4 @@ mod told;
 pub use drafts::{Change, Draft, Settled};
 pub use machine::Machine;
 pub use replay::Replay;
+pub use snapshots::LoadFault;

@@ -1,16 +1,19 @@
 //! A log that is replayed: its events happen one by one, and links are found behind the last.
-ghost use Rattle.std.specs.Prelude.{◌≡◌, if◌then◌else◌, [], IfOk, IsTrue, OnOk};
+ghost use Rattle.std.specs.Prelude.{◌≡◌, if◌then◌else◌, [], IfOk, IsErrOf, IsTrue, OnOk, false};
+ghost use Rattle.hac_model.specs.Payload.States.{restored};
 ghost use Rattle.hac_model.specs.Tree.Events.{accepted, apply};
 ghost use Rattle.hac_model.specs.Tree.Sessions.{is_stored};
 ghost use Rattle.hac_model.specs.Tree.Valid.{IsValid};
+ghost use Rattle.hac_model.specs.Tree.ValidTest.{is_valid};
 ghost use Rattle.hac_model.specs.Tree.{empty};
+ghost use Rattle.snapshots.specs.declared.reading.LoadFault.TheVariants as fault;
 ghost use Rattle.hac_core.specs.Fitting.{FitsAs, prohibits_found};
 
 use crate::fitting::fits;
 use crate::machine::Machine;
-use hac_model::{Counts, Event, Memory};
+use hac_model::{Counts, Event, Memory, Snapshot};
 use kept_links::UnlinkedState;
-use kept_state::KeptState;
+use snapshots::LoadFault;
 use std::alloc::Global;
 use std::marker::Model;
 
@@ -46,15 +49,18 @@ impl Replay {
         })
     }
 
-    /// The events go on from this state, which is ready for nothing.
-    pub fn of_kept(alloc: Global, kept: KeptState) -> Replay
-        requires { kept.ready ≡ [] }
-        ensures { result ≡ kept.state }
+    /// The state that a snapshot tells, for events to go on from. The snapshot may be any, as one
+    /// that was read from a file.
+    pub fn read(alloc: Global, snapshot: Snapshot) -> Result<Replay, LoadFault>
+        ensures state { IfOk result (λ replay. replay ≡ restored snapshot) }
+        ensures valid { IfOk result IsValid }
+        ensures invalid { IsErrOf result fault.Invalid → is_valid (restored snapshot) ≡ false }
     {
-        Replay {
+        let kept = snapshots::read(alloc, snapshot)?;
+        Ok(Replay {
             alloc,
             unlinked: UnlinkedState::of_kept(kept),
-        }
+        })
     }
 
     /// Applies an event that is stored if it can happen, and says whether it could. It may be any
