@@ -4,3 +4,4 @@ pub mod MarkLemmas
 pub mod OrderLemmas
 pub mod RestoredLemmas
 pub mod SnapshotLemmas
+pub mod ReadLemmas
