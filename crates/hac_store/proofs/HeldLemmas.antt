@@ -12,25 +12,24 @@ use Rattle.hac_checkpoint.proofs.HeadLemmas.{roots-agree, roots-start-behind}
 use Rattle.hac_journal.specs.Appending.{Appending, ClosedAt, HoldsAt}
 use Rattle.hac_journal.specs.Records.{log_of, records_of}
 use Rattle.hac_journal.proofs.CrashLemmas.{front-less}
-use Rattle.hac_journal.proofs.LawLemmas.{closed-is-found}
+use Rattle.hac_journal.proofs.LawLemmas.{closed-is-found, none-is-closed, records-are-found}
 use Rattle.hac_model.specs.Tree.Events.{apply_all}
 use Rattle.hac_model.specs.Payload.Payloads.{event_text}
 use Rattle.hac_model.specs.Run.Play.{Setting, after_events, end_behind, stored_setting}
-use Rattle.hac_model.specs.Tree.{empty}
 use Rattle.hac_model.specs.Tree.Sessions.{stored}
 use Rattle.hac_model.specs.Tree.Valid.{IsValid}
 use Rattle.hac_model.specs.declared.events.Event.{Event}
-use Rattle.hac_model.proofs.AcyclicLemmas.{empty-valid}
-use Rattle.hac_store.specs.Held.{Log, from_root, held, log, with_root}
+use Rattle.hac_store.specs.Held.{Log, area, from_root, held, log, with_root}
 use Rattle.hac_store.specs.Stores.{HeldBetween}
-use Rattle.hac_store.proofs.LogLemmas.{Ends, log-closed, log-ends, log-records, log-stored, log-valid}
+use Rattle.hac_store.proofs.AreaLemmas.{AreaEnds, HasNoState, area-ends, area-sound, closed-stateless, event-no_state, event-stateless}
+use Rattle.hac_store.proofs.LogLemmas.{end-grows, log-closed, log-records}
 use Rattle.hac_store.proofs.StoredLemmas.{AreStored}
 
 -- the store of a root and the end of its log
 abbrev pub setting_of : Root → Log → Setting
 setting_of root l = record { state = l.state; start = root.start; end = l.end; generation = root.generation }
 
-pub held-root : (file : List ℕ) (root : Root) → root_of file ≡ Ok root → held file ≡ placed file (with_root root (log empty root.start file))
+pub held-root : (file : List ℕ) (root : Root) → root_of file ≡ Ok root → held file ≡ placed file (with_root root (area root.start file))
 unfolding held
 held-root file root is = ap (λ r. placed file (from_root file r)) is
 
@@ -38,26 +37,26 @@ pub held-stop : (file : List ℕ) (why : Stop) → root_of file ≡ Err why → 
 unfolding held
 held-stop file why is = ap (λ r. placed file (from_root file r)) is
 
-pub held-log : (file : List ℕ) (root : Root) (l : Log) → root_of file ≡ Ok root → log empty root.start file ≡ Ok l → held file ≡ Ok (setting_of root l)
-held-log file root l is read = held-root file root is ∙ ap (λ r. placed file (with_root root r)) read
+pub held-area : (file : List ℕ) (root : Root) (l : Log) → root_of file ≡ Ok root → area root.start file ≡ Ok l → held file ≡ Ok (setting_of root l)
+held-area file root l is read = held-root file root is ∙ ap (λ r. placed file (with_root root r)) read
 
 -- what is held, by its parts
 pub record Parts (file : List ℕ) (setting : Setting) : Type 0 where
   pub root : Root
   pub root_is : root_of file ≡ Ok root
-  pub log_is : log empty root.start file ≡ Ok (record { state = setting.state; end = setting.end })
+  pub area_is : area root.start file ≡ Ok (record { state = setting.state; end = setting.end })
   pub setting_is : setting ≡ setting_of root (record { state = setting.state; end = setting.end })
 
-with-parts : (file : List ℕ) (setting : Setting) (root : Root) (r : Result Log Stop) → root_of file ≡ Ok root → log empty root.start file ≡ r
+with-parts : (file : List ℕ) (setting : Setting) (root : Root) (r : Result Log Stop) → root_of file ≡ Ok root → area root.start file ≡ r
     → placed file (with_root root r) ≡ Ok setting → Parts file setting
-with-parts file setting root (Ok l) root_is log_is is =
+with-parts file setting root (Ok l) root_is area_is is =
     let same : setting_of root l ≡ setting = cc in
-    subst (Parts file) same (record { root = root; root_is = root_is; log_is = log_is; setting_is = refl })
-with-parts file setting root (Err stop.Short) root_is log_is is = absurd (cc)
-with-parts file setting root (Err (stop.BadAt at)) root_is log_is is = absurd (cc)
+    subst (Parts file) same (record { root = root; root_is = root_is; area_is = area_is; setting_is = refl })
+with-parts file setting root (Err stop.Short) root_is area_is is = absurd (cc)
+with-parts file setting root (Err (stop.BadAt at)) root_is area_is is = absurd (cc)
 
 root-parts : (file : List ℕ) (setting : Setting) (r : Result Root Stop) → root_of file ≡ r → held file ≡ Ok setting → Parts file setting
-root-parts file setting (Ok root) root_is is = with-parts file setting root (log empty root.start file) root_is refl (sym (held-root file root root_is) ∙ is)
+root-parts file setting (Ok root) root_is is = with-parts file setting root (area root.start file) root_is refl (sym (held-root file root root_is) ∙ is)
 root-parts file setting (Err stop.Short) root_is is = let none = sym (held-stop file stop.Short root_is) ∙ is in absurd (cc)
 root-parts file setting (Err (stop.BadAt at)) root_is is = let none = sym (held-stop file (stop.BadAt at) root_is) ∙ is in absurd (cc)
 
@@ -68,35 +67,46 @@ held-parts file setting is = root-parts file setting (root_of file) refl is
 pub held-valid : (file : List ℕ) (setting : Setting) → held file ≡ Ok setting → IsValid setting.state
 held-valid file setting is =
     let parts = held-parts file setting is in
-    log-valid empty parts.root.start file (record { state = setting.state; end = setting.end }) empty-valid parts.log_is
+    (area-sound parts.root.start file (record { state = setting.state; end = setting.end }) parts.area_is).0
 
 -- all of it is stored: no session
 pub held-stored : (file : List ℕ) (setting : Setting) → held file ≡ Ok setting → stored setting.state ≡ setting.state
 held-stored file setting is =
     let parts = held-parts file setting is in
-    log-stored empty parts.root.start file (record { state = setting.state; end = setting.end }) empty-valid refl parts.log_is
+    (area-sound parts.root.start file (record { state = setting.state; end = setting.end }) parts.area_is).1
+
+-- where records of events are, no state is
+records-stateless : (at : ℕ) (file : List ℕ) (events : List Event) → end_behind at events < 2 ^ 32 → HoldsAt at (log_of (map event_text events)) file → HasNoState at file
+records-stateless at file [] fits holds = closed-stateless at file (closed-is-found at file (none-is-closed at file holds))
+records-stateless at file (event ∷ events) fits holds =
+    let payload = event_text event in
+    let behind = at + 5 + length payload in
+    let found = records-are-found at payload (map event_text events) file (omega (arith, fits, end-grows events behind)) holds in
+    event-stateless at file payload behind found.0 (event-no_state event)
 
 -- a file that agrees with one that holds a store, up to the end of its log, and has a byte there
 module _ (c d : List ℕ) (z : Setting) (is : held d ≡ Ok z) (front : take z.end c ≡ take z.end d) (long : z.end < length c) where
-  held-ends : Ends empty (held-parts d z is).root.start d (record { state = z.state; end = z.end })
-  held-ends = log-ends empty (held-parts d z is).root.start d (record { state = z.state; end = z.end }) (held-parts d z is).log_is
+  held-ends : AreaEnds (held-parts d z is).root.start d (record { state = z.state; end = z.end })
+  held-ends = area-ends (held-parts d z is).root.start d (record { state = z.state; end = z.end }) (held-parts d z is).area_is
 
   -- it holds what its log makes of that store
-  pub held-along : (l : Log) → log z.state z.end c ≡ Ok l → held c ≡ Ok (record z { state = l.state; end = l.end })
-  held-along l read =
+  pub held-along : (l : Log) → HasNoState z.end c → log z.state z.end c ≡ Ok l → held c ≡ Ok (record z { state = l.state; end = l.end })
+  held-along l none read =
       let parts = held-parts d z is in
       let high : 43 ≤ z.end = omega (arith, roots-start-behind d parts.root parts.root_is, held-ends.behind) in
       let head : take 43 c ≡ take 43 d = front-less c d 43 z.end high front in
       let root : root_of c ≡ Ok parts.root = roots-agree c d head ∙ parts.root_is in
-      held-log c parts.root l root (held-ends.along c front long ∙ read)
+      held-area c parts.root l root (held-ends.along c front long none ∙ read)
       ∙ ap (λ (s : Setting). Ok (record s { state = l.state; end = l.end })) (sym parts.setting_is)
 
   pub held-closed : ClosedAt z.end c → held c ≡ Ok z
-  held-closed closed = held-along (record { state = z.state; end = z.end }) (log-closed z.state z.end c (closed-is-found z.end c closed))
+  held-closed closed =
+      let found = closed-is-found z.end c closed in
+      held-along (record { state = z.state; end = z.end }) (closed-stateless z.end c found) (log-closed z.state z.end c found)
 
   pub held-records : (events : List Event) → AreStored z.state events → end_behind z.end events < 2 ^ 32 → HoldsAt z.end (log_of (map event_text events)) c
       → held c ≡ Ok (after_events z events)
-  held-records events stored fits holds = held-along (record { state = apply_all z.state events; end = end_behind z.end events }) (log-records events z.state z.end c stored fits holds)
+  held-records events stored fits holds = held-along (record { state = apply_all z.state events; end = end_behind z.end events }) (records-stateless z.end c events fits holds) (log-records events z.state z.end c stored fits holds)
 
 -- bytes at a place are within the file
 holds-long : (at : ℕ) (bytes file : List ℕ) → 0 < length bytes → HoldsAt at bytes file → at < length file
@@ -130,7 +140,7 @@ overlaid-holds at bytes file starts =
 -- the gate at which a log ends is there
 pub held-gate : (d : List ℕ) (z : Setting) → held d ≡ Ok z → ClosedAt z.end d
 held-gate d z is =
-    let parts = held-parts d z is in (log-ends empty parts.root.start d (record { state = z.state; end = z.end }) parts.log_is).closed
+    let parts = held-parts d z is in (area-ends parts.root.start d (record { state = z.state; end = z.end }) parts.area_is).closed
 
 -- a file that holds a store, with records at the end of its log, holds what they lead to
 pub held-overlaid : (d : List ℕ) (z : Setting) (events : List Event) → held d ≡ Ok z → AreStored z.state events → end_behind z.end events < 2 ^ 32

@@ -6,3 +6,4 @@ pub mod PutLemmas
 pub mod ReadLemmas
 pub mod RoomLemmas
 pub mod StoredLemmas
+pub mod AreaLemmas

@@ -80,7 +80,7 @@ pub record Ends (s : State) (at : ℕ) (d : List ℕ) (l : Log) : Type 0 where
   pub along : (c : List ℕ) → take l.end c ≡ take l.end d → l.end < length c → log s at c ≡ log l.state l.end c
 
 -- what a record was, that a log goes on behind
-go-parts : (r : Result State Stop) (next : State → Result Log Stop) (l : Log) → go_on r next ≡ Ok l → (new : State) × (r ≡ Ok new) × (next new ≡ Ok l)
+pub go-parts : (r : Result State Stop) (next : State → Result Log Stop) (l : Log) → go_on r next ≡ Ok l → (new : State) × (r ≡ Ok new) × (next new ≡ Ok l)
 go-parts (Ok new) next l is = (new, refl, is)
 go-parts (Err stop) next l is = absurd (cc)
 

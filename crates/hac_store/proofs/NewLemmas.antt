@@ -18,11 +18,11 @@ use Rattle.hac_journal.proofs.LawLemmas.{closed-is-found}
 use Rattle.hac_model.specs.Run.Play.{Setting, new_setting}
 use Rattle.hac_model.specs.Tree.{empty}
 use Rattle.hac_store.specs.Creating.{IsReady}
-use Rattle.hac_store.specs.Held.{Log, held, log}
+use Rattle.hac_store.specs.Held.{Log, area, held}
 use Rattle.hac_store.specs.Stores.{IsNewOrNone}
 use Rattle.hac_store.specs.declared.creating.TheConstants.{NEW}
-use Rattle.hac_store.proofs.HeldLemmas.{held-log, held-parts, held-stop}
-use Rattle.hac_store.proofs.LogLemmas.{log-closed, log-short}
+use Rattle.hac_store.proofs.HeldLemmas.{held-area, held-parts, held-stop}
+use Rattle.hac_store.proofs.AreaLemmas.{area-closed, area-short}
 
 -- a file that holds no store
 pub unheld-new : (c : List ℕ) → IsErr (held c) → IsNewOrNone c
@@ -43,14 +43,14 @@ shut-new (gate ∷ rest) some shut = stopped-new (gate ∷ rest) (stop.BadAt 0) 
 
 -- a log at the last byte of a file, or past it, is empty
 short-found : (at : ℕ) (c rest : List ℕ) (setting : Setting) → drop at c ≡ rest → length rest ≤ 1
-    → log empty at c ≡ Ok (record { state = setting.state; end = setting.end }) → setting.state ≡ empty
+    → area at c ≡ Ok (record { state = setting.state; end = setting.end }) → setting.state ≡ empty
 short-found at c [] setting same few is =
-    let none = sym (log-short empty at c (ap (found_in at) same)) ∙ is in absurd (cc)
+    let none = sym (area-short at c (ap (found_in at) same)) ∙ is in absurd (cc)
 short-found at c (gate ∷ rest) setting same few is =
     ⊎_elim
-    (λ open_gate. let none = sym (log-short empty at c (ap (found_in at) same ∙ found-open at gate rest open_gate ∙ behind-short at rest (omega (arith, few)))) ∙ is in absurd (cc))
+    (λ open_gate. let none = sym (area-short at c (ap (found_in at) same ∙ found-open at gate rest open_gate ∙ behind-short at rest (omega (arith, few)))) ∙ is in absurd (cc))
     (λ shut.
-    let reported = sym (log-closed empty at c (ap (found_in at) same ∙ found-shut at gate rest shut)) ∙ is in
+    let reported = sym (area-closed at c (ap (found_in at) same ∙ found-shut at gate rest shut)) ∙ is in
     let ends : record { state = empty; end = at } ≡ record { state = setting.state; end = setting.end } = cc in
     ap (λ (l : Log). l.state) (sym ends))
     (cases_eq gate 1)
@@ -61,7 +61,7 @@ few-new c few setting is =
     let parts = held-parts c setting is in
     let at = parts.root.start in
     let behind = roots-start-behind c parts.root parts.root_is in
-    short-found at c (drop at c) setting refl (omega (arith, length-drop at c, few, behind)) parts.log_is
+    short-found at c (drop at c) setting refl (omega (arith, length-drop at c, few, behind)) parts.area_is
 
 -- the root of a new store, by its head
 new-root : root_of (1 ∷ take 42 (drop 1 NEW)) ≡ Ok (record { slot = A; generation = 1; start = 64 })
@@ -76,7 +76,7 @@ new-held c new =
     let long : 64 < length c = omega (arith, ap length new, length-take 65 c) in
     let gate : slice_index c 64 ≡ 0 = sym (get_or-take 65 c 64 0 (omega arith)) ∙ ap (λ (l : List ℕ). slice_index l 64) new in
     let closed : ClosedAt 64 c = record { there = long; shut = λ is. omega (arith, gate, is) } in
-    held-log c (record { slot = A; generation = 1; start = 64 }) (record { state = empty; end = 64 }) root (log-closed empty 64 c (closed-is-found 64 c closed))
+    held-area c (record { slot = A; generation = 1; start = 64 }) (record { state = empty; end = 64 }) root (area-closed 64 c (closed-is-found 64 c closed))
 
 pub held-new : (c : List ℕ) → take 65 c ≡ 1 ∷ drop 1 NEW → IsNewOrNone c
 held-new c new setting is =

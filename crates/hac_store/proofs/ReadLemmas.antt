@@ -17,16 +17,16 @@ use Rattle.hac_model.specs.Run.Answers.{◌>>=◌}
 use Rattle.hac_model.specs.Run.Play.{stored_setting}
 use Rattle.hac_model.specs.Payload.Payloads.{all_of, payload_field, spelled}
 use Rattle.hac_model.specs.Payload.Payloads.{placed as within_payload}
-use Rattle.hac_model.specs.Tree.{empty}
-use Rattle.hac_model.specs.declared.events.Event.{Event}
+use Rattle.hac_model.specs.Payload.States.{snapshot_payload, spelled_snapshot}
 use Rattle.hac_model.specs.declared.states.State.{State}
 use Rattle.hac_store.specs.Faults.{of_root}
-use Rattle.hac_store.specs.Held.{Log, from_root, go_on, held, after_payload, log, with_root}
-use Rattle.hac_store.specs.Reading.{Judges, ReadsLog}
+use Rattle.hac_store.specs.Held.{Log, area, from_root, go_on, held, after_payload, log, with_root}
+use Rattle.hac_store.specs.Reading.{BeginsArea, Judges, ReadsLog}
 use Rattle.hac_store.specs.Stores.{Opens, Seen, Stands}
+use Rattle.hac_store.specs.declared.areas.Begun.{Begun}
 use Rattle.hac_store.specs.declared.fault.StoreFault.{StoreFault}
 use Rattle.hac_store.specs.declared.fault.StoreFault.TheVariants as fault
-use Rattle.hac_store.proofs.HeldLemmas.{held-log, held-root, held-stored, setting_of}
+use Rattle.hac_store.proofs.HeldLemmas.{held-area, held-root, held-stored, setting_of}
 use Rattle.hac_store.proofs.LogLemmas.{log-closed, log-short, log-whole}
 
 -- so far the log of a file was read as what it is from here on
@@ -72,33 +72,56 @@ read-stop None old start s new at next payload fault.Memory so_far tells judges 
 read-stop (Some file) old start s new at next payload fault.Memory so_far tells judges = tt
 
 -- what a payload can't be read for lies within it
-placed-within : (size : ℕ) (r : Result Event ℕ) (at : ℕ) → within_payload size r ≡ Err at → at ≤ size
-placed-within size (Ok event) at is = absurd (cc)
+placed-within : {A : Type 0} (size : ℕ) (r : Result A ℕ) (at : ℕ) → within_payload size r ≡ Err at → at ≤ size
+placed-within size (Ok value) at is = absurd (cc)
 placed-within size (Err left) at is = let place : size - left ≡ at = cc in omega (arith, place)
 
 pub spelled-within : (bytes : List ℕ) (at : ℕ) → spelled bytes ≡ Err at → at ≤ length bytes
 unfolding spelled
 spelled-within bytes at is = placed-within (length bytes) (payload_field.read bytes >>= all_of) at is
 
--- a root and its log are a store
-pub opens-ok : (seen : Option (List ℕ)) (here : Root) (s : State) (end : ℕ) → IsRootSeen (Ok here) seen → Reads (Ok end) seen empty here.start s
+pub snapshot-within : (bytes : List ℕ) (at : ℕ) → spelled_snapshot bytes ≡ Err at → at ≤ length bytes
+unfolding spelled_snapshot
+snapshot-within bytes at is = placed-within (length bytes) (snapshot_payload.read bytes >>= all_of) at is
+
+-- an area is read where it was begun and its log is read from there on
+abbrev pub ReadsArea : Result ℕ StoreFault → Option (List ℕ) → ℕ → State → Type 0
+ReadsArea result seen start new = IfSome seen (λ file. ReadsLog result new file (area start file))
+
+pub read-area : (result : Result ℕ StoreFault) (seen : Option (List ℕ)) (start : ℕ) (begun : Begun) (new : State)
+    → IfSome seen (λ file. BeginsArea (Ok begun) file (area start file)) → Reads result seen begun.replay begun.at new → ReadsArea result seen start new
+read-area result None start begun new begins reads = tt
+read-area result (Some file) start begun new begins reads = subst (ReadsLog result new file) (sym begins) reads
+
+-- a root and its area are a store
+pub opens-ok : (seen : Option (List ℕ)) (here : Root) (s : State) (end : ℕ) → IsRootSeen (Ok here) seen → ReadsArea (Ok end) seen here.start s
     → IfSome seen (λ file. held file ≡ Ok (setting_of here (record { state = s; end = end })))
 opens-ok None here s end root_is reads = tt
-opens-ok (Some file) here s end root_is reads = held-log file here (record { state = s; end = end }) root_is reads
+opens-ok (Some file) here s end root_is reads = held-area file here (record { state = s; end = end }) root_is reads
 
 with-fault : (file : List ℕ) (here : Root) (r : Result Log Stop) (at : ℕ) → placed file r ≡ Err at → placed file (with_root here r) ≡ Err at
 with-fault file here (Ok l) at is = absurd (cc)
 with-fault file here (Err stop.Short) at is = let same : length file ≡ at = cc in ap (λ (n : ℕ). Err n) same
 with-fault file here (Err (stop.BadAt place)) at is = let same : place ≡ at = cc in ap (λ (n : ℕ). Err n) same
 
-pub opens-stop : (seen : Option (List ℕ)) (here : Root) (s : State) (why : StoreFault) → IsRootSeen (Ok here) seen → Reads (Err why) seen empty here.start s
+pub opens-stop : (seen : Option (List ℕ)) (here : Root) (s : State) (why : StoreFault) → IsRootSeen (Ok here) seen → ReadsArea (Err why) seen here.start s
     → IfSome seen (λ file. Opens (Err why) (held file))
 opens-stop None here s why root_is reads = tt
 opens-stop (Some file) here s fault.Disk root_is reads = tt
-opens-stop (Some file) here s (fault.NotStore at) root_is reads = held-root file here root_is ∙ with-fault file here (log empty here.start file) at reads
+opens-stop (Some file) here s (fault.NotStore at) root_is reads = held-root file here root_is ∙ with-fault file here (area here.start file) at reads
 opens-stop (Some file) here s fault.AlreadyStore root_is reads = tt
 opens-stop (Some file) here s fault.Full root_is reads = tt
 opens-stop (Some file) here s fault.Memory root_is reads = tt
+
+-- an area whose first record is wrong is no store
+pub opens-unbegun : (seen : Option (List ℕ)) (here : Root) (why : StoreFault) → IsRootSeen (Ok here) seen → IfSome seen (λ file. BeginsArea (Err why) file (area here.start file))
+    → IfSome seen (λ file. Opens (Err why) (held file))
+opens-unbegun None here why root_is begins = tt
+opens-unbegun (Some file) here fault.Disk root_is begins = tt
+opens-unbegun (Some file) here (fault.NotStore at) root_is begins = held-root file here root_is ∙ with-fault file here (area here.start file) at begins
+opens-unbegun (Some file) here fault.AlreadyStore root_is begins = tt
+opens-unbegun (Some file) here fault.Full root_is begins = tt
+opens-unbegun (Some file) here fault.Memory root_is begins = tt
 
 -- without a root there is no store
 from-fault : (file : List ℕ) (r : Result Root Stop) (at : ℕ) → placed file r ≡ Err at → placed file (from_root file r) ≡ Err at

@@ -1,5 +1,5 @@
--- What an image of a store holds: the tree to which its log leads, or the place of the first wrong byte.
-use Rattle.std.specs.Prelude.{ℕ, zero, suc, ◌+◌, if◌then◌else◌, List, length, Result, Ok, Err}
+-- What an image of a store holds: the tree to which its live area leads, or the place of the first wrong byte.
+use Rattle.std.specs.Prelude.{ℕ, zero, suc, ◌+◌, ◌==◌, if◌then◌else◌, Bool, false, List, [], ◌∷◌, length, Result, Ok, Err}
 use Rattle.hac_checkpoint.specs.Roots.{placed, root_of}
 use Rattle.hac_checkpoint.specs.declared.heads.Root.{Root}
 use Rattle.hac_checkpoint.specs.declared.heads.Stop.{Stop}
@@ -7,9 +7,12 @@ use Rattle.hac_checkpoint.specs.declared.heads.Stop.TheVariants as stop
 use Rattle.hac_journal.specs.Finding.{Found, Whole, Closed, Short, found_at}
 use Rattle.hac_model.specs.Tree.Events.{accepted, apply}
 use Rattle.hac_model.specs.Payload.Payloads.{spelled}
+use Rattle.hac_model.specs.Payload.States.{restored, spelled_snapshot}
 use Rattle.hac_model.specs.Run.Play.{Setting}
 use Rattle.hac_model.specs.Tree.{empty}
+use Rattle.hac_model.specs.Tree.ValidTest.{is_valid}
 use Rattle.hac_model.specs.declared.events.Event.{Event}
+use Rattle.hac_model.specs.declared.snapshots.Snapshot.{Snapshot}
 use Rattle.hac_model.specs.declared.states.State.{State}
 
 -- what a payload makes of the state so far, given the place of its gate. It is wrong where it breaks the grammar, and
@@ -43,15 +46,40 @@ log_from (suc n) s at file = after_found s at (found_at at file) (λ new behind.
 abbrev pub log : State → ℕ → List ℕ → Result Log Stop
 log s at file = log_from (length file) s at file
 
--- the store of a root and its log
+-- the payload is that of a whole state, by the byte of its kind
+abbrev pub is_state : List ℕ → Bool
+is_state [] = false
+is_state (kind ∷ rest) = kind == 2
+
+-- the state that a payload holds, given the place of its gate. It is wrong where it breaks the grammar, and at its first
+-- byte where no such state can be.
+abbrev pub after_snapshot : ℕ → Result Snapshot ℕ → Result State Stop
+after_snapshot at (Err offset) = Err (stop.BadAt (at + 5 + offset))
+after_snapshot at (Ok snapshot) = if is_valid (restored snapshot) then Ok (restored snapshot) else Err (stop.BadAt (at + 5))
+
+-- the state behind the first record of an area: a whole state, or what an event makes of the empty tree
+abbrev pub after_first : ℕ → List ℕ → Result State Stop
+after_first at payload = if is_state payload then after_snapshot at (spelled_snapshot payload) else after_payload empty at (spelled payload)
+
+-- what an area holds, given what is found at its first gate: the root alone, where it has no record
+abbrev pub area_with : ℕ → List ℕ → Found → Result Log Stop
+area_with at file Short = Err stop.Short
+area_with at file Closed = Ok (record { state = empty; end = at })
+area_with at file (Whole payload behind) = go_on (after_first at payload) (λ new. log new behind file)
+
+-- what an area holds that begins at a gate
+unfoldable pub area : ℕ → List ℕ → Result Log Stop
+area at file = area_with at file (found_at at file)
+
+-- the store of a root and its area
 abbrev pub with_root : Root → Result Log Stop → Result Setting Stop
 with_root root (Err stop) = Err stop
 with_root root (Ok log) = Ok (record { state = log.state; start = root.start; end = log.end; generation = root.generation })
 
--- the log of a root is read from the empty tree on
+-- the area of a root is where it leads
 abbrev pub from_root : List ℕ → Result Root Stop → Result Setting Stop
 from_root file (Err stop) = Err stop
-from_root file (Ok root) = with_root root (log empty root.start file)
+from_root file (Ok root) = with_root root (area root.start file)
 
 -- the store that a file holds, or the place of the first wrong byte
 unfoldable pub held : List ℕ → Result Setting ℕ

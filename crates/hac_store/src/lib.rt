@@ -4,6 +4,7 @@
 #![tactic(auto)]
 
 mod appending;
+mod areas;
 mod creating;
 mod fault;
 mod laws;

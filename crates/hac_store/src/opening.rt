@@ -13,6 +13,7 @@ ghost use Rattle.hac_store.specs.Held.{held, after_payload, log};
 ghost use Rattle.hac_store.specs.Reading.{Judges, ReadsLog};
 ghost use Rattle.hac_store.specs.Stores.{Bears, Opens, Stands, root_by};
 
+use crate::areas::{Begun, begin};
 use crate::fault::StoreFault;
 use crate::store::Store;
 use event_codec::{CodecFault, Payload, read_payload};
@@ -60,8 +61,8 @@ pub(crate) fn read_store<D: Disk>(alloc: Global, disk: &mut D) -> Result<Store, 
     ensures faults { ReportsFault (is_disk_fault result) (D.faults disk.old) (D.faults disk.new) }
 {
     let root = roots(disk)?;
-    let mut replay = Replay::new(alloc)?;
-    match read_log(alloc, disk, &mut replay, root.start) {
+    let Begun { mut replay, at } = begin(alloc, disk, root.start)?;
+    match read_log(alloc, disk, &mut replay, at) {
         Ok(end) => Ok(Store {
             alloc,
             machine: replay.machine()?,
@@ -98,7 +99,7 @@ fn read_log<D: Disk>(
     loop {
         match reader.next(disk, at)? {
             Next::Entry { payload, next } => {
-                apply_payload(alloc, replay, at, &payload, at == start)?;
+                apply_payload(alloc, replay, at, &payload)?;
                 at = next;
             }
             Next::End => return Ok(at),
@@ -107,20 +108,18 @@ fn read_log<D: Disk>(
     }
 }
 
-// Applies what the payload of a record says, given the place of its gate, and whether it is the
-// log's first.
+// Applies what the payload of a record says, given the place of its gate.
 #[tactic(auto, using(crate::proofs::StoredLemmas::spelled_kept))]
 fn apply_payload(
     alloc: Global,
     replay: &mut Replay,
     at: u64,
     payload: &[u8],
-    first: bool,
 ) -> Result<(), StoreFault>
     requires { at + 5 + length payload.now < 2 ^ 64 }
     ensures { Judges result replay.new (after_payload replay.old at (spelled payload.now)) }
 {
-    match read_payload(alloc, payload, first) {
+    match read_payload(alloc, payload, false) {
         Ok(Payload::Event(event)) => accept(replay, at, event),
         Err(CodecFault::Bad { at: offset }) => Err(StoreFault::NotStore {
             at: at + 5 + offset,

@@ -1,0 +1,135 @@
+-- Areas, as they are read from their first gate on.
+use Rattle.std.proofs.Common.{◌≡◌, ℕ, ◌+◌, ◌<◌, ◌≤◌, Bool, true, false, if◌then◌else◌, List, length, take, Result, Ok, Err, refl, sym, ◌∙◌, ap, subst, arith}
+use Rattle.hac_checkpoint.specs.declared.heads.Stop.{Stop}
+use Rattle.hac_checkpoint.specs.declared.heads.Stop.TheVariants as stop
+use Rattle.hac_journal.specs.Appending.{ClosedAt}
+use Rattle.hac_journal.specs.Finding.{Found, Whole, Closed, Short, found_at}
+use Rattle.hac_journal.proofs.CrashLemmas.{front-less}
+use Rattle.hac_journal.proofs.LawLemmas.{found-along, found-is-closed, found-is-whole}
+use Rattle.hac_model.specs.Payload.Payloads.{event_text, spelled}
+use Rattle.hac_model.specs.Payload.States.{restored, spelled_snapshot}
+use Rattle.hac_model.specs.Tree.{empty}
+use Rattle.hac_model.specs.Tree.Sessions.{stored}
+use Rattle.hac_model.specs.Tree.Valid.{IsValid}
+use Rattle.hac_model.specs.Tree.ValidTest.{is_valid}
+use Rattle.hac_model.specs.declared.events.Event.{Event}
+use Rattle.hac_model.specs.declared.snapshots.Snapshot.{Snapshot}
+use Rattle.hac_model.specs.declared.states.State.{State}
+use Rattle.hac_model.proofs.AcyclicLemmas.{empty-valid}
+use Rattle.hac_model.proofs.ValidTestLemmas.{valid-Decides}
+use Rattle.hac_store.specs.Held.{Log, after_first, after_payload, after_snapshot, area, area_with, go_on, is_state, log}
+use Rattle.hac_store.proofs.LogLemmas.{go-parts, log-closed, log-ends, log-short, log-stored, log-valid, log-whole}
+
+pub area-found : (at : ℕ) (file : List ℕ) (found : Found) → found_at at file ≡ found → area at file ≡ area_with at file found
+unfolding area
+area-found at file found is = ap (area_with at file) is
+
+-- no whole state is at the place
+abbrev pub HasNoState : ℕ → List ℕ → Type 0
+HasNoState at file = (payload : List ℕ) (behind : ℕ) → found_at at file ≡ Whole payload behind → is_state payload ≡ false
+
+-- nor is it where nothing is
+pub closed-stateless : (at : ℕ) (file : List ℕ) → found_at at file ≡ Closed → HasNoState at file
+closed-stateless at file closed payload behind whole = let never : Closed ≡ Whole payload behind = sym closed ∙ whole in absurd cc
+
+-- or where a payload is that is none
+pub event-stateless : (at : ℕ) (file payload : List ℕ) (behind : ℕ) → found_at at file ≡ Whole payload behind → is_state payload ≡ false → HasNoState at file
+event-stateless at file payload behind found none other next whole =
+    let same : Whole payload behind ≡ Whole other next = sym found ∙ whole in
+    let one : payload ≡ other = cc in
+    ap is_state (sym one) ∙ none
+
+-- the payload of an event is that of no state
+pub event-no_state : (event : Event) → is_state (event_text event) ≡ false
+unfolding event_text
+event-no_state event = refl
+
+first-event : (at : ℕ) (payload : List ℕ) → is_state payload ≡ false → after_first at payload ≡ after_payload empty at (spelled payload)
+first-event at payload none = ap (λ (b : Bool). if b then after_snapshot at (spelled_snapshot payload) else after_payload empty at (spelled payload)) none
+
+first-state : (at : ℕ) (payload : List ℕ) → is_state payload ≡ true → after_first at payload ≡ after_snapshot at (spelled_snapshot payload)
+first-state at payload is = ap (λ (b : Bool). if b then after_snapshot at (spelled_snapshot payload) else after_payload empty at (spelled payload)) is
+
+-- then an area is a log of the root alone
+pub area-stateless : (at : ℕ) (file : List ℕ) → HasNoState at file → area at file ≡ log empty at file
+area-stateless at file none = by (found_at at file) refl
+  where
+    by : (found : Found) → found_at at file ≡ found → area at file ≡ log empty at file
+    by Short is = area-found at file Short is ∙ sym (log-short empty at file is)
+    by Closed is = area-found at file Closed is ∙ sym (log-closed empty at file is)
+    by (Whole payload behind) is =
+        area-found at file (Whole payload behind) is
+        ∙ ap (λ (r : Result State Stop). go_on r (λ new. log new behind file)) (first-event at payload (none payload behind is))
+        ∙ sym (log-whole empty at file payload behind is)
+
+-- an area with a whole state is a log of that
+pub area-state : (at : ℕ) (file payload : List ℕ) (behind : ℕ) → found_at at file ≡ Whole payload behind → is_state payload ≡ true →
+    area at file ≡ go_on (after_snapshot at (spelled_snapshot payload)) (λ new. log new behind file)
+area-state at file payload behind found is =
+    area-found at file (Whole payload behind) found ∙ ap (λ (r : Result State Stop). go_on r (λ new. log new behind file)) (first-state at payload is)
+
+pub area-closed : (at : ℕ) (file : List ℕ) → found_at at file ≡ Closed → area at file ≡ Ok (record { state = empty; end = at })
+area-closed at file is = area-found at file Closed is
+
+pub area-short : (at : ℕ) (file : List ℕ) → found_at at file ≡ Short → area at file ≡ Err stop.Short
+area-short at file is = area-found at file Short is
+
+-- an area that was read ends at a closed gate, and goes on in a file that agrees up to there, and has no state there
+pub record AreaEnds (at : ℕ) (d : List ℕ) (l : Log) : Type 0 where
+  pub closed : ClosedAt l.end d
+  pub behind : at ≤ l.end
+  pub along : (c : List ℕ) → take l.end c ≡ take l.end d → l.end < length c → HasNoState l.end c → area at c ≡ log l.state l.end c
+
+pub area-ends : (at : ℕ) (d : List ℕ) (l : Log) → area at d ≡ Ok l → AreaEnds at d l
+area-ends at d l is = by (found_at at d) refl
+  where
+    by : (found : Found) → found_at at d ≡ found → AreaEnds at d l
+    by Short found = let never = sym (area-short at d found) ∙ is in absurd cc
+    by Closed found =
+        let told : Ok (record { state = empty; end = at }) ≡ Ok l = sym (area-closed at d found) ∙ is in
+        let same : record { state = empty; end = at } ≡ l = cc in
+        subst (AreaEnds at d) same (record { closed = found-is-closed at d found; behind = omega arith; along = λ c front long none. area-stateless at c none })
+    by (Whole payload behind) found =
+        let parts = go-parts (after_first at payload) (λ new. log new behind d) l (sym (area-found at d (Whole payload behind) found) ∙ is) in
+        let ends = log-ends parts.0 behind d l parts.2 in
+        let whole = found-is-whole at behind payload d found in
+        record {
+          closed = ends.closed;
+          behind = omega (arith, whole.0, ends.behind);
+          along = λ c front long none.
+              let again = found-along at behind payload c d found (front-less c d behind l.end ends.behind front) (omega (arith, ends.behind, long)) in
+              area-found at c (Whole payload behind) again ∙ ap (λ (r : Result State Stop). go_on r (λ next. log next behind c)) parts.1 ∙ ends.along c front long;
+        }
+
+-- a state that was read is valid, and is in no session
+snapshot-sound : (at : ℕ) (r : Result Snapshot ℕ) (new : State) → after_snapshot at r ≡ Ok new → IsValid new × (stored new ≡ new)
+unfolding restored
+snapshot-sound at (Err offset) new is = absurd cc
+snapshot-sound at (Ok snapshot) new is = tested (is_valid (restored snapshot)) refl is
+  where
+    tested : (b : Bool) → is_valid (restored snapshot) ≡ b → (if b then Ok (restored snapshot) else Err (stop.BadAt (at + 5))) ≡ Ok new → IsValid new × (stored new ≡ new)
+    tested true valid is =
+        let same : restored snapshot ≡ new = cc in
+        subst (λ (s : State). IsValid s × (stored s ≡ s)) same ((valid-Decides (restored snapshot)).0 valid, refl)
+    tested false valid is = absurd cc
+
+-- what an area leads to is valid, and is in no session
+pub area-sound : (at : ℕ) (d : List ℕ) (l : Log) → area at d ≡ Ok l → IsValid l.state × (stored l.state ≡ l.state)
+area-sound at d l is = by (found_at at d) refl
+  where
+    of_log : HasNoState at d → IsValid l.state × (stored l.state ≡ l.state)
+    of_log none = let read = sym (area-stateless at d none) ∙ is in (log-valid empty at d l empty-valid read, log-stored empty at d l empty-valid refl read)
+
+    of_state : (payload : List ℕ) (behind : ℕ) → found_at at d ≡ Whole payload behind → is_state payload ≡ true → IsValid l.state × (stored l.state ≡ l.state)
+    of_state payload behind found state =
+        let parts = go-parts (after_snapshot at (spelled_snapshot payload)) (λ new. log new behind d) l (sym (area-state at d payload behind found state) ∙ is) in
+        let sound = snapshot-sound at (spelled_snapshot payload) parts.0 parts.1 in
+        (log-valid parts.0 behind d l sound.0 parts.2, log-stored parts.0 behind d l sound.0 sound.1 parts.2)
+
+    by : (found : Found) → found_at at d ≡ found → IsValid l.state × (stored l.state ≡ l.state)
+    by Short found = let never = sym (area-short at d found) ∙ is in absurd cc
+    by Closed found = of_log (closed-stateless at d found)
+    by (Whole payload behind) found = elim (is_state payload) as (λ b. is_state payload ≡ b → IsValid l.state × (stored l.state ≡ l.state)) [
+      | true ↦ (λ state. of_state payload behind found state)
+      | false ↦ (λ event. of_log (event-stateless at d payload behind found event))
+    ] refl

@@ -1,0 +1,90 @@
+//! Where an area begins: with a whole state, or with the root alone. Its log goes on from there.
+ghost use Rattle.std.specs.Prelude.{◌≡◌, ◌+◌, ◌<◌, ◌^◌, ℕ, List, Err, IfErr, IfOk, IfSome, length};
+ghost use Rattle.hac_disk.specs.Images.{IsQuiet};
+ghost use Rattle.hac_journal.specs.Finding.{Whole, found_at};
+ghost use Rattle.hac_model.specs.Payload.States.{spelled_snapshot};
+ghost use Rattle.hac_model.specs.Tree.{empty};
+ghost use Rattle.hac_outside.specs.Causes.{ReportsFault};
+ghost use Rattle.hac_store.specs.Faults.{is_disk_fault};
+ghost use Rattle.hac_store.specs.Held.{after_snapshot, area, is_state};
+ghost use Rattle.hac_store.specs.Reading.{BeginsArea, JudgesState};
+
+use crate::fault::StoreFault;
+use event_codec::{CodecFault, read_snapshot};
+use hac_core::{LoadFault, Replay};
+use hac_disk::Disk;
+use hac_journal::{Next, next};
+use std::alloc::Global;
+
+/// Where the log of an area goes on: the state, and the place of the next gate.
+#[derive(Drop)]
+pub(crate) struct Begun {
+    pub(crate) replay: Replay,
+    pub(crate) at: u64,
+}
+
+/// Begins to read an area: if its first record is a whole state, the log goes on behind it, else it
+/// goes on from the root alone, with that record.
+pub(crate) fn begin<D: Disk>(alloc: Global, disk: &mut D, start: u64) -> Result<Begun, StoreFault>
+    ensures area { IfSome (D.seen disk.old) (λ file. BeginsArea result file (area start file)) }
+    ensures quiet { IsQuiet D.seen D.image D.moment D.image_since disk.old disk.new }
+    ensures kind { (result ≡ Err StoreFault.AlreadyStore → ⊥) × (result ≡ Err StoreFault.Full → ⊥) }
+    ensures attached { D.attached disk.new ≡ D.attached disk.old }
+    ensures faults { ReportsFault (is_disk_fault result) (D.faults disk.old) (D.faults disk.new) }
+{
+    match next(alloc, disk, start)? {
+        Next::Entry { payload, next } => begin_behind(alloc, start, &payload, next),
+        Next::End => begin_empty(alloc, start),
+        Next::Bad { .. } => begin_empty(alloc, start),
+    }
+}
+
+// The log goes on from the root alone.
+fn begin_empty(alloc: Global, start: u64) -> Result<Begun, StoreFault>
+    ensures begun { IfOk result (λ begun. begun ≡ record { replay = empty; at = start }) }
+    ensures memory { IfErr result (λ fault. fault ≡ StoreFault.Memory) }
+{
+    let replay = Replay::new(alloc)?;
+    Ok(Begun { replay, at: start })
+}
+
+// The same for an area whose first record has this payload, given the place behind it.
+fn begin_behind(alloc: Global, start: u64, payload: &[u8], next: u64) -> Result<Begun, StoreFault>
+    requires { start + 5 + length payload.now < 2 ^ 64 }
+    ensures area { (file : List ℕ) → found_at start file ≡ Whole payload.now next →
+        BeginsArea result file (area start file) }
+    ensures kind { (result ≡ Err StoreFault.AlreadyStore → ⊥) × (result ≡ Err StoreFault.Full → ⊥)
+        × (result ≡ Err StoreFault.Disk → ⊥) }
+{
+    if is_state(payload) {
+        let replay = read_state(alloc, start, payload)?;
+        Ok(Begun { replay, at: next })
+    } else {
+        begin_empty(alloc, start)
+    }
+}
+
+// Whether a payload is that of a whole state.
+fn is_state(payload: &[u8]) -> bool
+    ensures { result ≡ is_state payload.now }
+{
+    payload.first() == Some(&2)
+}
+
+// The state that a payload holds, given the place of its gate.
+fn read_state(alloc: Global, at: u64, payload: &[u8]) -> Result<Replay, StoreFault>
+    requires { at + 5 + length payload.now < 2 ^ 64 }
+    ensures { JudgesState result (after_snapshot at (spelled_snapshot payload.now)) }
+{
+    match read_snapshot(alloc, payload) {
+        Ok(snapshot) => match Replay::read(alloc, snapshot) {
+            Ok(replay) => Ok(replay),
+            Err(LoadFault::Invalid) => Err(StoreFault::NotStore { at: at + 5 }),
+            Err(LoadFault::Memory) => Err(StoreFault::Memory),
+        },
+        Err(CodecFault::Bad { at: offset }) => Err(StoreFault::NotStore {
+            at: at + 5 + offset,
+        }),
+        Err(CodecFault::Memory) => Err(StoreFault::Memory),
+    }
+}
