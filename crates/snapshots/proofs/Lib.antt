@@ -2,6 +2,5 @@ pub mod BesideLemmas
 pub mod LoadLemmas
 pub mod MarkLemmas
 pub mod OrderLemmas
-pub mod RestoredLemmas
 pub mod SnapshotLemmas
 pub mod ReadLemmas

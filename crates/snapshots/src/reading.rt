@@ -39,9 +39,7 @@ pub fn read(alloc: Global, snapshot: Snapshot) -> Result<KeptState, LoadFault>
     ensures valid { IfOk result (λ kept. IsValid kept.state) }
     ensures invalid { IsErrOf result fault.Invalid → is_valid (restored snapshot) ≡ false }
 {
-    let Some(state) = restored(alloc, snapshot)? else {
-        return Err(LoadFault::Invalid);
-    };
+    let state = restored(alloc, snapshot)?;
     match is_valid(alloc, &state) {
         Ok(true) => Ok(load(alloc, state)?),
         Ok(false) => {

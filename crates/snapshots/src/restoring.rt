@@ -1,31 +1,22 @@
 //! The state that a snapshot tells: the documents are among the entries again, all in order.
-ghost use Rattle.std.specs.Prelude.{◌≡◌, ◌++◌, IfOk, IfSome, OnOk, None, false, flat_map};
+ghost use Rattle.std.specs.Prelude.{◌≡◌, ◌++◌, IfOk, OnOk, flat_map};
 ghost use Rattle.hac_model.specs.Payload.States.{by_number, entries_in, restored};
-ghost use Rattle.hac_model.specs.Tree.Valid.{NumbersRise};
-ghost use Rattle.hac_model.specs.Tree.ValidTest.{do_numbers_rise, is_layout};
 
-use hac_model::{Body, Entry, Memory, Number, Seq, Snapshot, State, StoredEntry};
+use hac_model::{Body, Entry, Memory, Seq, Snapshot, State, StoredEntry};
 use std::alloc::Global;
 
-/// The state that a snapshot tells. The texts are moved, not copied. None where the numbers of its
-/// entries and documents don't rise, as where two have one number: then no state there can be is
-/// told.
-pub fn restored(alloc: Global, snapshot: Snapshot) -> Result<Option<State>, Memory>
-    ensures some { IfOk result (λ told. IfSome told (λ state. state ≡ restored snapshot)) }
-    ensures rise { IfOk result (λ told. IfSome told (λ state.
-        NumbersRise 0 state.entries state.next)) }
-    ensures none { IfOk result (λ told. told ≡ None → is_layout (restored snapshot) ≡ false) }
+/// The state that a snapshot tells, which may be one that can't be. The texts are moved, not
+/// copied.
+pub fn restored(alloc: Global, snapshot: Snapshot) -> Result<State, Memory>
+    ensures { IfOk result (λ state. state ≡ restored snapshot) }
 {
     let Snapshot { next, entries } = snapshot;
     let entries = in_order(all_entries(alloc, entries)?)?;
-    if !do_numbers_rise(entries.as_slice(), next) {
-        return Ok(None);
-    }
-    Ok(Some(State {
+    Ok(State {
         next,
         entries: Seq::new(entries),
         sessions: Seq::new(Vec::new(alloc)),
-    }))
+    })
 }
 
 /// The entries, each with the documents that are listed with it behind it.
@@ -63,18 +54,4 @@ fn in_order(mut entries: Vec<Entry>) -> Result<Vec<Entry>, Memory>
 {
     entries.sort_by_key(|entry| entry.number)?;
     Ok(entries)
-}
-
-/// Whether the numbers of the entries rise, above the root's and below the next one.
-fn do_numbers_rise(entries: &[Entry], next: Number) -> bool
-    ensures { result ≡ do_numbers_rise 0 entries.now next }
-{
-    let mut last = Number::ROOT;
-    for entry in entries {
-        if entry.number <= last {
-            return false;
-        }
-        last = entry.number;
-    }
-    last < next
 }
