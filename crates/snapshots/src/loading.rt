@@ -1,6 +1,6 @@
 //! A kept state from a state that was read: its tree, and what is kept beside that.
 ghost use Rattle.std.specs.Prelude.{◌≡◌, ◌∷◌, ◌++◌, ◌||◌, ◌==◌, ◌≤◌, ◌+◌, ℕ, List, [], IfOk};
-ghost use Rattle.std.specs.Prelude.{IsTrue, OnOk, Some, filter, if◌then◌else◌, length};
+ghost use Rattle.std.specs.Prelude.{IsTrue, OnOk, Some, if◌then◌else◌, length};
 ghost use Rattle.hac_model.specs.Tree as tree;
 ghost use Rattle.hac_model.specs.Tree.{entry_at};
 ghost use Rattle.hac_model.specs.Tree.Facts.{edges_to};
@@ -18,8 +18,9 @@ use file_tree::Tree;
 use hac_model::{Answer, Body, Entry, Kind, Memory, Number, Query, Seq, State};
 use indexmap::IndexMap;
 use kept_state::{KeptState, Lists, edges_of};
-use layout_check::{counts_of, is_directory_at};
+use layout_check::counts_of;
 use link_kinds::Links;
+use state_check::directories_among;
 use std::alloc::Global;
 
 /// What is kept of a state beside its tree.
@@ -171,25 +172,6 @@ fn edges(
 {
     let lenders = directories_among(alloc, entries, permanent)?;
     edges_of(alloc, parent, query, lenders.as_slice())
-}
-
-/// Those of the numbers that are of directories.
-fn directories_among(
-    alloc: Global,
-    entries: &[Entry],
-    numbers: &[Number],
-) -> Result<Vec<Number>, Memory>
-    requires { DoRise entries.now }
-    ensures { IfOk result (λ dirs. dirs.items ≡
-        filter (tree.is_directory_at entries.now) numbers.now) }
-{
-    let mut dirs = Vec::new(alloc);
-    'numbers: for number in numbers {
-        if is_directory_at(entries, *number) {
-            dirs.push(*number)?;
-        }
-    }
-    Ok(dirs)
 }
 
 /// Gives a directory its edges.

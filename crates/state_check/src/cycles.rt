@@ -52,7 +52,7 @@ fn put_edges(
         ..
     } = &entry.body
     {
-        let lenders = directories(alloc, entries, permanent.as_slice())?;
+        let lenders = directories_among(alloc, entries, permanent.as_slice())?;
         let edges = edges_of(alloc, entry.parent, query, lenders.as_slice())?;
         let prepared = graph.prepare_edges(entry.number, edges)?;
         graph.set_edges(prepared);
@@ -60,8 +60,12 @@ fn put_edges(
     Ok(())
 }
 
-/// Those of some numbers that are directories.
-fn directories(alloc: Global, entries: &[Entry], numbers: &[Number]) -> Result<Vec<Number>, Memory>
+/// Those of some numbers that are directories, in their order.
+pub fn directories_among(
+    alloc: Global,
+    entries: &[Entry],
+    numbers: &[Number],
+) -> Result<Vec<Number>, Memory>
     requires { DoRise entries.now }
     ensures { IfOk result (λ dirs. dirs.items
         ≡ filter (tree.is_directory_at entries.now) numbers.now) }

@@ -10,4 +10,5 @@ mod finding;
 mod rising;
 mod valid;
 
+pub use cycles::directories_among;
 pub use valid::is_valid;

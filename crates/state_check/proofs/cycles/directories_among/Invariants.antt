@@ -1,7 +1,7 @@
 use Rattle.std.proofs.Common.{◌≡◌, ◌++◌}
 use Rattle.std.specs.Prelude.{drop, filter}
 use Rattle.hac_model.specs.Tree.{is_directory_at}
-use Rattle.state_check.proofs.cycles.directories.Given as goal
+use Rattle.state_check.proofs.cycles.directories_among.Given as goal
 
 -- those found, and those among what is left, are all
 abbrev pub invariant-loop-number : goal.invariant-loop-number
