@@ -5,3 +5,6 @@ pub mod OrderLemmas
 pub mod RestoredLemmas
 pub mod SnapshotLemmas
 pub mod ReadLemmas
+pub mod MarkedLemmas
+pub mod PartLemmas
+pub mod TakingLemmas
