@@ -4,3 +4,6 @@ pub mod MarkLemmas
 pub mod OrderLemmas
 pub mod SnapshotLemmas
 pub mod ReadLemmas
+pub mod MarkedLemmas
+pub mod PartLemmas
+pub mod TakingLemmas

@@ -6,7 +6,9 @@ pub mod laws;
 mod loading;
 mod reading;
 mod restoring;
+mod taking;
 
 pub use loading::load;
 pub use reading::{LoadFault, read};
 pub use restoring::restored;
+pub use taking::snapshot;

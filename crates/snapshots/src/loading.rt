@@ -140,7 +140,7 @@ fn keep_answers(
 }
 
 /// The same answers once more.
-fn copies(alloc: Global, answers: &[Answer]) -> Result<Vec<Answer>, Memory>
+pub(crate) fn copies(alloc: Global, answers: &[Answer]) -> Result<Vec<Answer>, Memory>
     ensures { IfOk result (λ copies. copies.items ≡ answers.now) }
 {
     let mut copies = Vec::new(alloc);
