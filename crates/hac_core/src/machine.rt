@@ -1,5 +1,6 @@
 //! The machine itself.
 ghost use Rattle.std.specs.Prelude.{◌≡◌, [], IfOk, IfErr, IsTrue, OnOk, OnErr, true, false};
+ghost use Rattle.hac_model.specs.Payload.States.{snapshot_of};
 ghost use Rattle.hac_model.specs.Run.Answers.{Refuses};
 ghost use Rattle.hac_model.specs.Tree.Events.{apply_all, dirty};
 ghost use Rattle.hac_model.specs.Script.Lines.{is_spelled_line};
@@ -16,7 +17,7 @@ use crate::drafting::drafted;
 use crate::drafts::{Change, Draft, Known, Settled};
 use crate::settling::settled;
 use crate::showing::shown;
-use hac_model::{Answers, Deny, Event, Line, Memory, Reply, Resolved};
+use hac_model::{Answers, Deny, Event, Line, Memory, Reply, Resolved, Snapshot};
 use kept_links::LinkedState;
 use std::alloc::Global;
 use std::marker::Model;
@@ -58,6 +59,13 @@ impl Machine {
         ensures valid { IsValid self.now.state }
     {
         self.linked.kept().counts().dirty
+    }
+
+    /// What is stored of the state. It copies the texts.
+    pub fn snapshot(&self) -> Result<Snapshot, Memory>
+        ensures { IfOk result (λ snapshot. snapshot ≡ snapshot_of self.now.state) }
+    {
+        snapshots::snapshot(self.alloc, self.linked.kept())
     }
 
     /// Follows the paths of a line that spells a command, and says whether the state refuses it
