@@ -2,7 +2,7 @@
 ghost use Rattle.std.specs.Prelude.{IfOk, IsTrue};
 ghost use Rattle.hac_model.specs.Tree.Sessions.{is_stored};
 
-use hac_core::Replay;
+use hac_core::{LoadFault, Machine, Replay};
 use hac_model::{Event, Kind, Mark, Memory, Name, Number, Query, Seq, Term};
 use std::alloc::{AllocError, Global};
 use std::test::Fail;
@@ -47,6 +47,34 @@ fn which_prohibit(alloc: Global, replay: &mut Replay) -> Result<[bool; 6], Memor
         replay.happen(Event::Step)?,
         replay.happen(prohibit(2, 1))?,
         replay.happen(prohibit(2, 1))?,
+    ])
+}
+
+#[test]
+fn goes_on_from_what_was_stored(rt: HostRuntime) -> Result<(), Fail> {
+    let mut replay = Replay::new(rt.alloc())?;
+    let before = which_prohibit(rt.alloc(), &mut replay);
+    let machine = replay.machine()?;
+    let told = which_happen_again(rt.alloc(), &machine);
+    drop(machine);
+    assert_eq!(rt; before?, [true, true, false, true, true, false]);
+    assert_eq!(rt; told.ok(), Some([false, true]));
+    Ok(())
+}
+
+/// Whether each of two events can happen to what is stored of a machine, once it was read. The item
+/// is still prohibited.
+fn which_happen_again(alloc: Global, machine: &Machine) -> Result<[bool; 2], LoadFault> {
+    let mut replay = Replay::read(alloc, machine.snapshot()?)?;
+    let told = happen_again(alloc, &mut replay);
+    drop(replay);
+    Ok(told?)
+}
+
+fn happen_again(alloc: Global, replay: &mut Replay) -> Result<[bool; 2], Memory> {
+    Ok([
+        replay.happen(prohibit(2, 1))?,
+        replay.happen(mkdir(alloc, b"a")?)?,
     ])
 }
 
