@@ -7,3 +7,4 @@ pub mod ReadLemmas
 pub mod RoomLemmas
 pub mod StoredLemmas
 pub mod AreaLemmas
+pub mod BeginLemmas
