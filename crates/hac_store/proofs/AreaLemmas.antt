@@ -1,11 +1,14 @@
 -- Areas, as they are read from their first gate on.
 use Rattle.std.proofs.Common.{◌≡◌, ℕ, ◌+◌, ◌<◌, ◌≤◌, Bool, true, false, if◌then◌else◌, List, length, take, Result, Ok, Err, refl, sym, ◌∙◌, ap, subst, arith}
+use Rattle.hac_checkpoint.specs.Areas.{HaveSame}
+use Rattle.hac_checkpoint.specs.declared.areas.Area.{Area}
 use Rattle.hac_checkpoint.specs.declared.heads.Stop.{Stop}
 use Rattle.hac_checkpoint.specs.declared.heads.Stop.TheVariants as stop
+use Rattle.hac_checkpoint.proofs.ApartLemmas.{closed-gates-are-kept, records-are-kept}
 use Rattle.hac_journal.specs.Appending.{ClosedAt}
 use Rattle.hac_journal.specs.Finding.{Found, Whole, Closed, Short, found_at}
 use Rattle.hac_journal.proofs.CrashLemmas.{front-less}
-use Rattle.hac_journal.proofs.LawLemmas.{found-along, found-is-closed, found-is-whole}
+use Rattle.hac_journal.proofs.LawLemmas.{closed-is-found, found-along, found-is-closed, found-is-whole}
 use Rattle.hac_model.specs.Payload.Payloads.{event_text, spelled}
 use Rattle.hac_model.specs.Payload.States.{restored, spelled_snapshot}
 use Rattle.hac_model.specs.Tree.{empty}
@@ -74,11 +77,13 @@ area-closed at file is = area-found at file Closed is
 pub area-short : (at : ℕ) (file : List ℕ) → found_at at file ≡ Short → area at file ≡ Err stop.Short
 area-short at file is = area-found at file Short is
 
--- an area that was read ends at a closed gate, and goes on in a file that agrees up to there, and has no state there
+-- an area that was read ends at a closed gate, goes on in a file that agrees up to there and has no state there, and is
+-- the same in a file that has the same in it
 pub record AreaEnds (at : ℕ) (d : List ℕ) (l : Log) : Type 0 where
   pub closed : ClosedAt l.end d
   pub behind : at ≤ l.end
   pub along : (c : List ℕ) → take l.end c ≡ take l.end d → l.end < length c → HasNoState l.end c → area at c ≡ log l.state l.end c
+  pub kept : (place : Area) (c : List ℕ) → HaveSame place c d → place.start ≤ at → l.end ≤ place.end → area at c ≡ Ok l
 
 pub area-ends : (at : ℕ) (d : List ℕ) (l : Log) → area at d ≡ Ok l → AreaEnds at d l
 area-ends at d l is = by (found_at at d) refl
@@ -88,7 +93,13 @@ area-ends at d l is = by (found_at at d) refl
     by Closed found =
         let told : Ok (record { state = empty; end = at }) ≡ Ok l = sym (area-closed at d found) ∙ is in
         let same : record { state = empty; end = at } ≡ l = cc in
-        subst (AreaEnds at d) same (record { closed = found-is-closed at d found; behind = omega arith; along = λ c front long none. area-stateless at c none })
+        subst (AreaEnds at d) same
+        (record {
+          closed = found-is-closed at d found;
+          behind = omega arith;
+          along = λ c front long none. area-stateless at c none;
+          kept = λ place c same low high. area-closed at c (closed-is-found at c (closed-gates-are-kept place at c d same low high (found-is-closed at d found)));
+        })
     by (Whole payload behind) found =
         let parts = go-parts (after_first at payload) (λ new. log new behind d) l (sym (area-found at d (Whole payload behind) found) ∙ is) in
         let ends = log-ends parts.0 behind d l parts.2 in
@@ -99,6 +110,10 @@ area-ends at d l is = by (found_at at d) refl
           along = λ c front long none.
               let again = found-along at behind payload c d found (front-less c d behind l.end ends.behind front) (omega (arith, ends.behind, long)) in
               area-found at c (Whole payload behind) again ∙ ap (λ (r : Result State Stop). go_on r (λ next. log next behind c)) parts.1 ∙ ends.along c front long;
+          kept = λ place c same low high.
+              let again = records-are-kept place at behind payload c d same low (omega (arith, ends.behind, high)) found in
+              area-found at c (Whole payload behind) again ∙ ap (λ (r : Result State Stop). go_on r (λ next. log next behind c)) parts.1
+              ∙ ends.kept place c same (omega (arith, whole.0, low)) high;
         }
 
 -- a state that was read is valid, and is in no session

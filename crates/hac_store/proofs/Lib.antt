@@ -1,10 +1,12 @@
+pub mod AreaLemmas
+pub mod BeginLemmas
+pub mod CheckpointLemmas
 pub mod CreateLemmas
 pub mod HeldLemmas
+pub mod LiveLemmas
 pub mod LogLemmas
 pub mod NewLemmas
 pub mod PutLemmas
 pub mod ReadLemmas
 pub mod RoomLemmas
 pub mod StoredLemmas
-pub mod AreaLemmas
-pub mod BeginLemmas

@@ -1,8 +1,11 @@
 -- Logs, as they are read from a gate on.
 use Rattle.std.proofs.Common.{◌≡◌, ℕ, zero, suc, ◌+◌, ◌<◌, ◌≤◌, ◌^◌, Bool, true, false, if◌then◌else◌, List, [], ◌∷◌, length, take, map, Result, Ok, Err, IsTrue, refl, sym, ◌∙◌, ap, subst, arith}
 use Rattle.std.proofs.lemmas.List.{drop_all}
+use Rattle.hac_checkpoint.specs.Areas.{HaveSame}
+use Rattle.hac_checkpoint.specs.declared.areas.Area.{Area}
 use Rattle.hac_checkpoint.specs.declared.heads.Stop.{Stop}
 use Rattle.hac_checkpoint.specs.declared.heads.Stop.TheVariants as stop
+use Rattle.hac_checkpoint.proofs.ApartLemmas.{closed-gates-are-kept, records-are-kept}
 use Rattle.hac_journal.specs.Appending.{ClosedAt, HoldsAt}
 use Rattle.hac_journal.specs.Finding.{Found, Whole, Closed, Short, found_at, found_in}
 use Rattle.hac_journal.specs.Records.{log_of}
@@ -73,11 +76,13 @@ pub log-whole : (s : State) (at : ℕ) (file payload : List ℕ) (behind : ℕ) 
     → log s at file ≡ go_on (after_payload s at (spelled payload)) (λ new. log new behind file)
 log-whole s at file payload behind found = log-step s at file ∙ ap (λ (f : Found). after_found s at f (λ new behind. log new behind file)) found
 
--- a log that was read ends at a closed gate, and goes on in a file that agrees up to there
+-- a log that was read ends at a closed gate, goes on in a file that agrees up to there, and is the same in a file that
+-- has the same in its area
 pub record Ends (s : State) (at : ℕ) (d : List ℕ) (l : Log) : Type 0 where
   pub closed : ClosedAt l.end d
   pub behind : at ≤ l.end
   pub along : (c : List ℕ) → take l.end c ≡ take l.end d → l.end < length c → log s at c ≡ log l.state l.end c
+  pub kept : (area : Area) (c : List ℕ) → HaveSame area c d → area.start ≤ at → l.end ≤ area.end → log s at c ≡ Ok l
 
 -- what a record was, that a log goes on behind
 pub go-parts : (r : Result State Stop) (next : State → Result Log Stop) (l : Log) → go_on r next ≡ Ok l → (new : State) × (r ≡ Ok new) × (next new ≡ Ok l)
@@ -90,7 +95,13 @@ found-ends : (n : ℕ) (s : State) (at : ℕ) (d : List ℕ) (l : Log) (found : 
 found-ends n s at d l Short found rest is = absurd (cc)
 found-ends n s at d l Closed found rest is =
     let same : record { state = s; end = at } ≡ l = cc in
-    subst (Ends s at d) same (record { closed = found-is-closed at d found; behind = omega arith; along = λ c front long. refl })
+    subst (Ends s at d) same
+    (record {
+      closed = found-is-closed at d found;
+      behind = omega arith;
+      along = λ c front long. refl;
+      kept = λ area c same low high. log-closed s at c (closed-is-found at c (closed-gates-are-kept area at c d same low high (found-is-closed at d found)));
+    })
 found-ends n s at d l (Whole payload behind) found rest is =
     let parts = go-parts (after_payload s at (spelled payload)) (λ new. log_from n new behind d) l is in
     let new = parts.0 in
@@ -102,6 +113,10 @@ found-ends n s at d l (Whole payload behind) found rest is =
       along = λ c front long.
           let again = found-along at behind payload c d found (front-less c d behind l.end ends.behind front) (omega (arith, ends.behind, long)) in
           log-whole s at c payload behind again ∙ ap (λ (r : Result State Stop). go_on r (λ next. log next behind c)) parts.1 ∙ ends.along c front long;
+      kept = λ area c same low high.
+          let again = records-are-kept area at behind payload c d same low (omega (arith, ends.behind, high)) found in
+          log-whole s at c payload behind again ∙ ap (λ (r : Result State Stop). go_on r (λ next. log next behind c)) parts.1
+          ∙ ends.kept area c same (omega (arith, whole.0, low)) high;
     }
 
 read-ends : (n : ℕ) (s : State) (at : ℕ) (d : List ℕ) (l : Log) → log_from n s at d ≡ Ok l → Ends s at d l

@@ -19,7 +19,7 @@ use Rattle.hac_model.specs.Run.Play.{Setting, new_setting}
 use Rattle.hac_model.specs.Tree.{empty}
 use Rattle.hac_store.specs.Creating.{IsReady}
 use Rattle.hac_store.specs.Held.{Log, area, held}
-use Rattle.hac_store.specs.Stores.{IsNewOrNone}
+use Rattle.hac_store.specs.Stores.{IsNewOrNone, first_store, root_by}
 use Rattle.hac_store.specs.declared.creating.TheConstants.{NEW}
 use Rattle.hac_store.proofs.HeldLemmas.{held-area, held-parts, held-stop}
 use Rattle.hac_store.proofs.AreaLemmas.{area-closed, area-short}
@@ -68,11 +68,16 @@ new-root : root_of (1 ∷ take 42 (drop 1 NEW)) ≡ Ok (record { slot = A; gener
 unfolding root_of named slots counting
 new-root = refl
 
--- a file that begins with all of a new store holds it
+-- a file that begins with all of a new store has its root, and holds it
+new-rooted : (c : List ℕ) → take 65 c ≡ 1 ∷ drop 1 NEW → root_of c ≡ Ok (root_by first_store)
+new-rooted c new =
+    let head : take 43 c ≡ take 43 (1 ∷ take 42 (drop 1 NEW)) =
+    sym (take-take 43 65 c (omega arith)) ∙ ap (take 43) new in
+    roots-agree c (1 ∷ take 42 (drop 1 NEW)) head ∙ new-root
+
 pub new-held : (c : List ℕ) → take 65 c ≡ 1 ∷ drop 1 NEW → held c ≡ Ok new_setting
 new-held c new =
-    let head : take 43 c ≡ take 43 (1 ∷ take 42 (drop 1 NEW)) = sym (take-take 43 65 c (omega arith)) ∙ ap (take 43) new in
-    let root = roots-agree c (1 ∷ take 42 (drop 1 NEW)) head ∙ new-root in
+    let root = new-rooted c new in
     let long : 64 < length c = omega (arith, ap length new, length-take 65 c) in
     let gate : slice_index c 64 ≡ 0 = sym (get_or-take 65 c 64 0 (omega arith)) ∙ ap (λ (l : List ℕ). slice_index l 64) new in
     let closed : ClosedAt 64 c = record { there = long; shut = λ is. omega (arith, gate, is) } in
@@ -127,3 +132,6 @@ torn-open file c ready torn =
 -- what was opened holds a new store
 pub opened-held : (file : List ℕ) → IsReady file → (held (overlaid 0 (1 ∷ []) file) ≡ Ok new_setting) × (64 < length (overlaid 0 (1 ∷ []) file))
 opened-held file ready = (new-held (overlaid 0 (1 ∷ []) file) (ap (λ (l : List ℕ). 1 ∷ l) ready), omega (arith, length-overlaid 0 (1 ∷ []) file (omega arith), ready-long file ready))
+
+pub opened-rooted : (file : List ℕ) → IsReady file → root_of (overlaid 0 (1 ∷ []) file) ≡ Ok (root_by first_store)
+opened-rooted file ready = new-rooted (overlaid 0 (1 ∷ []) file) (ap (λ (l : List ℕ). 1 ∷ l) ready)

@@ -1,3 +1,4 @@
+pub mod Checkpointing
 pub mod Creating
 pub mod Faults
 pub mod Held

@@ -1,6 +1,7 @@
 -- A store as it is seen, and what a crash may leave of it.
-use Rattle.std.specs.Prelude.{◌≡◌, ◌⊎◌, ◌||◌, ◌==◌, ◌+◌, ◌*◌, nat_lt, ⊤, ℕ, Bool, IsTrue, false, List, [], ◌∷◌, Option, None, Some, Result, Ok, Err, refl}
+use Rattle.std.specs.Prelude.{◌≡◌, ◌⊎◌, ◌||◌, ◌==◌, ◌+◌, ◌*◌, nat_lt, ⊤, ℕ, Bool, IsTrue, false, List, [], ◌∷◌, Option, None, Some, Result, Ok, Err, IfSome, refl}
 use Rattle.std.specs.Coded.{Coded, code_by, coded×, coded_bool, coded_ℕ}
+use Rattle.hac_checkpoint.specs.Flips.{HasRoot}
 use Rattle.hac_checkpoint.specs.contracts.heads.Slot as slot
 use Rattle.hac_checkpoint.specs.declared.heads.Root.{Root}
 use Rattle.hac_checkpoint.specs.declared.heads.Slot.{Slot}
@@ -88,3 +89,7 @@ Opens (Err other) kept = ⊤
 -- the root that counts is the one that the store goes by
 abbrev pub root_by : Seen → Root
 root_by store = record { slot = store.slot; generation = store.setting.generation; start = store.setting.start }
+
+-- where the disk tells its bytes, the root that counts is the one that the store goes by
+abbrev pub GoesBy : Option (List ℕ) → Seen → Type 0
+GoesBy seen store = IfSome seen (HasRoot (root_by store))

@@ -1,5 +1,6 @@
 //! Where an area begins: with a whole state, or with the root alone. Its log goes on from there.
-ghost use Rattle.std.specs.Prelude.{◌≡◌, ◌+◌, ◌<◌, ◌^◌, ℕ, List, Err, IfErr, IfOk, IfSome, length};
+ghost use Rattle.std.specs.Prelude.{◌≡◌, ◌+◌, ◌<◌, ◌≤◌, ◌^◌, ℕ, List, Err, IfErr, IfOk, IfSome};
+ghost use Rattle.std.specs.Prelude.{length};
 ghost use Rattle.hac_disk.specs.Images.{IsQuiet};
 ghost use Rattle.hac_journal.specs.Finding.{Whole, found_at};
 ghost use Rattle.hac_model.specs.Payload.States.{spelled_snapshot};
@@ -27,6 +28,7 @@ pub(crate) struct Begun {
 /// goes on from the root alone, with that record.
 pub(crate) fn begin<D: Disk>(alloc: Global, disk: &mut D, start: u64) -> Result<Begun, StoreFault>
     ensures area { IfSome (D.seen disk.old) (λ file. BeginsArea result file (area start file)) }
+    ensures ahead { IfOk result (λ begun. start ≤ begun.at) }
     ensures quiet { IsQuiet D.seen D.image D.moment D.image_since disk.old disk.new }
     ensures kind { (result ≡ Err StoreFault.AlreadyStore → ⊥) × (result ≡ Err StoreFault.Full → ⊥) }
     ensures attached { D.attached disk.new ≡ D.attached disk.old }
@@ -50,9 +52,10 @@ fn begin_empty(alloc: Global, start: u64) -> Result<Begun, StoreFault>
 
 // The same for an area whose first record has this payload, given the place behind it.
 fn begin_behind(alloc: Global, start: u64, payload: &[u8], next: u64) -> Result<Begun, StoreFault>
-    requires { start + 5 + length payload.now < 2 ^ 64 }
+    requires { next ≡ start + 5 + length payload.now }
     ensures area { (file : List ℕ) → found_at start file ≡ Whole payload.now next →
         BeginsArea result file (area start file) }
+    ensures ahead { IfOk result (λ begun. start ≤ begun.at) }
     ensures kind { (result ≡ Err StoreFault.AlreadyStore → ⊥) × (result ≡ Err StoreFault.Full → ⊥)
         × (result ≡ Err StoreFault.Disk → ⊥) }
 {

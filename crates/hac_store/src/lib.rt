@@ -5,6 +5,7 @@
 
 mod appending;
 mod areas;
+mod checkpointing;
 mod creating;
 mod fault;
 mod laws;

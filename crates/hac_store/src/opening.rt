@@ -1,17 +1,16 @@
 //! Opening a store: its log is read, its events happen one by one, and links are found behind them.
-ghost use Rattle.std.specs.Prelude.{◌≡◌, ◌+◌, ◌<◌, ◌^◌, false, length, Ok, Err, IfOk, IfSome, OnOk};
-ghost use Rattle.std.specs.Prelude.{IsTrue};
+ghost use Rattle.std.specs.Prelude.{◌≡◌, ◌+◌, ◌<◌, ◌≤◌, ◌^◌, false, length, Ok, Err, IfOk};
+ghost use Rattle.std.specs.Prelude.{IfSome, IsTrue, OnOk};
 ghost use Rattle.hac_outside.specs.Causes.{ReportsFault};
 ghost use Rattle.hac_disk.specs.Images.{IsQuiet};
 ghost use Rattle.hac_disk.specs.Contents.{HasByteAt, IsSettled};
 ghost use Rattle.hac_model.specs.Payload.Payloads.{spelled};
 ghost use Rattle.hac_model.specs.Tree.Sessions.{is_stored};
 ghost use Rattle.hac_model.specs.Tree.Valid.{IsValid};
-ghost use Rattle.hac_checkpoint.specs.Roots.{root_of};
 ghost use Rattle.hac_store.specs.Faults.{is_disk_fault};
 ghost use Rattle.hac_store.specs.Held.{held, after_payload, log};
 ghost use Rattle.hac_store.specs.Reading.{Judges, ReadsLog};
-ghost use Rattle.hac_store.specs.Stores.{Bears, Opens, Stands, root_by};
+ghost use Rattle.hac_store.specs.Stores.{Bears, GoesBy, Opens, Stands};
 
 use crate::areas::{Begun, begin};
 use crate::fault::StoreFault;
@@ -28,8 +27,7 @@ impl Store {
     /// Opens the store on a disk: syncs, reads it and applies its events. It writes nothing.
     pub fn load<D: Disk>(alloc: Global, disk: &mut D) -> Result<Store, StoreFault>
         ensures held { IfSome (D.seen disk.old) (λ file. Opens result (held file)) }
-        ensures root { IfSome (D.seen disk.old) (λ file. IfOk result
-            (λ store. root_of file ≡ Ok (root_by store))) }
+        ensures root { IfOk result (λ store. GoesBy (D.seen disk.new) store) }
         ensures sound { IfOk result (λ store. (store.broken ≡ false) ×
             IsValid store.setting.state) }
         ensures stands { IfSome (D.seen disk.old) (λ _. IfOk result
@@ -51,8 +49,7 @@ impl Store {
 /// Reads the store on a disk. It writes nothing.
 pub(crate) fn read_store<D: Disk>(alloc: Global, disk: &mut D) -> Result<Store, StoreFault>
     ensures held { IfSome (D.seen disk.old) (λ file. Opens result (held file)) }
-    ensures root { IfSome (D.seen disk.old) (λ file. IfOk result
-        (λ store. root_of file ≡ Ok (root_by store))) }
+    ensures root { IfOk result (λ store. GoesBy (D.seen disk.new) store) }
     ensures sound { IfOk result (λ store. (store.broken ≡ false) × IsValid store.setting.state) }
     ensures place { IfOk result (λ store. Bears (D.seen disk.new) store) }
     ensures quiet { IsQuiet D.seen D.image D.moment D.image_since disk.old disk.new }
@@ -88,6 +85,7 @@ fn read_log<D: Disk>(
 ) -> Result<u64, StoreFault>
     ensures log { IfSome (D.seen disk.old) (λ file. ReadsLog result replay.new file
         (log replay.old start file)) }
+    ensures ahead { IfOk result (λ end. start ≤ end) }
     ensures place { IfOk result (λ end. HasByteAt (D.seen disk.new) end) }
     ensures quiet { IsQuiet D.seen D.image D.moment D.image_since disk.old disk.new }
     ensures kind { (result ≡ Err StoreFault.AlreadyStore → ⊥) × (result ≡ Err StoreFault.Full → ⊥) }

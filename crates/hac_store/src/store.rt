@@ -21,6 +21,7 @@ pub struct Store {
 }
 
 impl Model for Store {
+    ghost use Rattle.std.specs.Prelude.{◌≤◌};
     ghost use Rattle.hac_model.specs.Tree.Valid.{IsValid};
     ghost use Rattle.hac_store.specs.Stores.{Seen, seen_code};
 
@@ -39,7 +40,7 @@ impl Model for Store {
       broken = store.broken;
     } };
 
-    ghost invariant = { λ store. IsValid store.machine.state };
+    ghost invariant = { λ store. IsValid store.machine.state × (store.start ≤ store.end) };
 }
 
 impl Store {

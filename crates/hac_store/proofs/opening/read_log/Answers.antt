@@ -1,4 +1,4 @@
-use Rattle.std.proofs.Common.{◌≡◌, ◌∙◌, sym, subst, rules, Err}
+use Rattle.std.proofs.Common.{◌≡◌, ◌∙◌, sym, subst, rules, Err, arith}
 use Rattle.hac_store.proofs.ReadLemmas.{Reads, read-end, read-more, read-short, read-stop}
 use Rattle.hac_store.proofs.opening.read_log.Goals as goal
 
@@ -20,6 +20,7 @@ loop-reader-preserved g c =
     let judges = rw c.deref.ensures.value at c.in_ok-apply_payload-in-Entry.ensures in
     record {
       held = c.next.ensures.held;
+      ahead = omega (arith, c.loop-reader.invariant.ahead, rw c.in-Entry.is at c.in_ok-payload.ensures.ahead);
       read = read-more seen c.args.replay.now c.args.start c.loop-reader.replay c.apply_payload.new.replay c.loop-reader.at c.in-Entry.next c.in-Entry.payload c.loop-reader.invariant.read tells judges;
       quiet = search rules;
       attached = c.next.ensures.attached ∙ c.loop-reader.invariant.attached;

@@ -1,4 +1,4 @@
-use Rattle.std.proofs.Common.{◌≡◌, ◌-◌, ◌^◌}
+use Rattle.std.proofs.Common.{◌≡◌, ◌-◌, ◌≤◌, ◌^◌}
 use Rattle.hac_disk.specs.Images.{IsQuiet}
 use Rattle.hac_disk.specs.Contents.{StandAt}
 use Rattle.hac_store.proofs.ReadLemmas.{IsRead}
@@ -7,6 +7,7 @@ use Rattle.hac_store.proofs.opening.read_log.Given as goal
 abbrev pub invariant-loop-reader : goal.invariant-loop-reader
 invariant-loop-reader g l = let disk = g.D.Disk in record {
   held : StandAt (disk.seen l.disk) l.reader.start l.reader.bytes;
+  ahead : l.start ≤ l.at;
   read : IsRead (disk.seen l.initial.disk) l.initial.replay l.start l.replay l.at;
   quiet : IsQuiet disk.seen disk.image disk.moment disk.image_since l.initial.disk l.disk;
   attached : disk.attached l.disk ≡ disk.attached l.initial.disk;

@@ -8,7 +8,7 @@ use Rattle.hac_store.proofs.store.Store.command.Goals as goal
 pub write_event-requires : goal.write_event-requires
 write_event-requires g c =
     let state : c.self.inside.machine.state ≡ c.args.self.now.setting.state = ap (λ (x : Seen). x.setting.state) c.self.view_is in
-    accepted-spelled c.args.self.now.setting.state c.args.change.event (subst IsValid state c.self.invariant) c.requires.can.2 c.requires.can.0.0
+    accepted-spelled c.args.self.now.setting.state c.args.change.event (subst IsValid state c.self.invariant.0) c.requires.can.2 c.requires.can.0.0
 
 pub returns-in-Err : goal.returns-in-Err
 returns-in-Err g c = none-stored g.met.D.Disk.only_now refl (refl, refl) refl

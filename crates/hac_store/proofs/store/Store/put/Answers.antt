@@ -1,4 +1,4 @@
-use Rattle.std.proofs.Common.{◌≡◌, ℕ, List, [], inr, inl, ◌∙◌, Err, ap, refl, subst, sym, true}
+use Rattle.std.proofs.Common.{◌≡◌, ℕ, List, [], arith, inr, inl, ◌∙◌, Err, ap, refl, subst, sym, true}
 use Rattle.std.proofs.lemmas.Result.{err_from_is_err_and}
 use Rattle.hac_disk.specs.Contents.{Written}
 use Rattle.hac_journal.specs.Records.{log_of}
@@ -8,6 +8,7 @@ use Rattle.hac_model.proofs.EventLemmas.{all-valid}
 use Rattle.hac_core.specs.Seen.{Seen as Kept}
 use Rattle.hac_core.specs.Drafts.{settled_events}
 use Rattle.hac_store.specs.Stores.{Seen, Stands}
+use Rattle.hac_store.proofs.LogLemmas.{end-grows}
 use Rattle.hac_store.proofs.PutLemmas.{can-happen, none-stored, put-moments, put-seen, put-stands, put-state}
 use Rattle.hac_store.proofs.StoredLemmas.{all-stored, stored-leads}
 use Rattle.hac_store.proofs.RoomLemmas.{end-is, has-room, no-room}
@@ -19,7 +20,11 @@ invariant_of-self-in-Ok g c =
     let s = c.self.inside.machine.state in
     let state : c.args.self.now.setting.state ≡ s = ap (λ (x : Seen). x.setting.state) (sym c.self.view_is) in
     let after = put-state c.self.inside.machine c.prepare.new.self c.commit.new.self events c.in_ok-prepare.ensures.ok c.commit.ensures in
-    subst IsValid (sym after) (all-valid events s c.self.invariant (subst (λ t. AllHappen t events) state (can-happen c.args.self.now.setting.state c.args.settled c.requires.can)))
+    let end = c.in-Ok.ensures.end ∙ end-is c.args.payloads.now events c.self.inside.end c.requires.texts in
+    let happen = subst (λ t. AllHappen t events) state (can-happen c.args.self.now.setting.state c.args.settled c.requires.can) in (
+      subst IsValid (sym after) (all-valid events s c.self.invariant.0 happen),
+      omega (arith, c.self.invariant.1, end, end-grows events c.self.inside.end),
+    )
 
 pub returns-in_err-prepare : goal.returns-in_err-prepare
 returns-in_err-prepare g c =
@@ -38,7 +43,7 @@ returns-in-Ok g c =
     let events = settled_events c.args.settled in
     let size : c.self.inside.end ≡ z.end = ap (λ (x : Seen). x.setting.end) c.self.view_is in
     let state : c.self.inside.machine.state ≡ z.state = ap (λ (x : Seen). x.setting.state) c.self.view_is in
-    let valid = subst IsValid state c.self.invariant in
+    let valid = subst IsValid state c.self.invariant.0 in
     let happen = can-happen c.args.self.now.setting.state c.args.settled c.requires.can in
     let stored = all-stored events z.state valid happen c.requires.stored in
     let full = rw size at c.in-Ok.ensures.full in
@@ -76,7 +81,7 @@ returns-in-Err-Disk g c =
     let events = settled_events c.args.settled in
     let size : c.self.inside.end ≡ z.end = ap (λ (x : Seen). x.setting.end) c.self.view_is in
     let state : c.self.inside.machine.state ≡ z.state = ap (λ (x : Seen). x.setting.state) c.self.view_is in
-    let valid = subst IsValid state c.self.invariant in
+    let valid = subst IsValid state c.self.invariant.0 in
     let happen = can-happen c.args.self.now.setting.state c.args.settled c.requires.can in
     let stored = all-stored events z.state valid happen c.requires.stored in
     let full = rw size at c.append.ensures.full in

@@ -14,7 +14,8 @@ invariant_of-self-2 c =
     let s = c.self.inside.machine.state in
     let state : c.args.self.now.setting.state ≡ s = ap (λ (x : Seen). x.setting.state) (sym c.self.view_is) in
     let after = put-state c.self.inside.machine c.prepare.new.self c.commit.new.self events c.in_ok-prepare.ensures.ok c.commit.ensures in
-    subst IsValid (sym after) (all-valid events s c.self.invariant (subst (λ t. AllHappen t events) state c.requires.can.0))
+    let happen = subst (λ t. AllHappen t events) state c.requires.can.0 in
+    (subst IsValid (sym after) (all-valid events s c.self.invariant.0 happen), c.self.invariant.1)
 
 pub returns-clause-moved : goal.returns-clause-moved
 returns-clause-moved c =
