@@ -1,8 +1,10 @@
 //! Trials of what no transcript can say: devices and spaces that fail, scripts that come in
-//! pieces, and which events of a log can happen. The trials of the crates below the machine have a
+//! pieces, which events of a log can happen, and checkpoints. The trials of the crates below the machine have a
 //! crate of their own. There is nothing here for other crates.
 #![tactic(auto)]
 
+#[cfg(test)]
+mod checkpoints;
 #[cfg(test)]
 mod devices;
 #[cfg(test)]
