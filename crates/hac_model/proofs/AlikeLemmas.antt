@@ -10,7 +10,7 @@ use Rattle.hac_model.specs.Tree.Events.{are_directories, dirty, edited, is_bare,
 use Rattle.hac_model.specs.Query.Formula.{Formula}
 use Rattle.hac_model.specs.Query.Formula as query
 use Rattle.hac_model.specs.Tree.Limits.{answer_limits, layout_limits, counts, first_passed, passed_limit, file_bytes}
-use Rattle.hac_model.specs.Tree.Links.{has, parent_of, query_at}
+use Rattle.hac_model.specs.Tree.Links.{parent_of, query_at}
 use Rattle.hac_model.specs.Tree.Listing.{children, entry_line, in_order, is_before, letter, put_in_order}
 use Rattle.hac_model.specs.Tree.Looks.{final_path, has_names, link_at, link_to_follow, look, destination, next_path, next_path_behind, stands_at, stop_at, target_word, ways}
 use Rattle.hac_model.specs.Tree.Names.{is_name}

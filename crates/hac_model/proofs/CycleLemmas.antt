@@ -1,13 +1,10 @@
 -- Which directories reach which, and how a state stays without one that depends on itself.
 use Rattle.std.proofs.Common.{◌≡◌, ℕ, zero, suc, ◌≤◌, Bool, true, false, cond, List, [], ◌∷◌, length, subst, refl, ap, sym, ◌∙◌, arith, eq-eqb, inl, inr}
-use Rattle.std.specs.Prelude.{◌⊎◌, ◌==◌, Option, Some, None, option_and_then}
+use Rattle.std.specs.Prelude.{◌⊎◌, ◌==◌, Some, None}
 use Rattle.std.specs.List.{list_any}
-use Rattle.std.specs.Option.{option_map, option_map_or}
 use Rattle.std.proofs.lemmas.Bool.{cases_eq, eqb-true}
-use Rattle.hac_model.specs.Tree.Depends.{Among, Leads, Reaches, depends, first_reaching, leads_within, named_in, reaches}
+use Rattle.hac_model.specs.Tree.Depends.{Among, Leads, Reaches, depends, first_reaching, leads_within, reaches}
 use Rattle.hac_model.specs.Tree.Limits.{semantic_count}
-use Rattle.hac_model.specs.Tree.{entry_at, query_in}
-use Rattle.hac_model.specs.declared.states.Entry.{Entry}
 use Rattle.hac_model.specs.declared.states.State.{State}
 use Rattle.hac_model.proofs.LinkLemmas.{Among-without, edge-among, length-without, semantic-length, semantic_numbers, without}
 use Rattle.hac_model.proofs.ChangeLemmas.{or-cases, or-left, or-right}

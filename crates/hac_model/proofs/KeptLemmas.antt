@@ -1,6 +1,5 @@
 -- Events keep what mounts keep sound: their documents stay theirs, and each term in use has an answer.
 use Rattle.hac_model.specs.declared.events.Event.TheVariants.{Smount, Ssync, Sumount}
-use Rattle.hac_model.specs.Tree.Events.{may_mount, may_sync}
 use Rattle.hac_model.specs.Tree.Asking.{with_told}
 use Rattle.hac_model.proofs.GainLemmas.{mount-told, told-knows, told-valid}
 use Rattle.hac_model.proofs.LayoutLemmas.{apply-layout, smount-parts, ssync-parts, sumount-parts}

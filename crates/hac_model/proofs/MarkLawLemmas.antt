@@ -6,11 +6,9 @@ use Rattle.std.specs.Option.{option_map, option_map_or}
 use Rattle.std.proofs.lemmas.Bool.{and_parts, eqb-true, ne_eqb}
 use Rattle.hac_model.specs.Query.Formula.{Formula}
 use Rattle.hac_model.specs.Run.Refusals.{marks}
-use Rattle.hac_model.specs.Tree.Depends.{named_in}
-use Rattle.hac_model.specs.Tree.Events.{accepted, apply, is_possible, put_in, without}
+use Rattle.hac_model.specs.Tree.Events.{accepted, apply, put_in, without}
 use Rattle.hac_model.specs.Tree.Facts.{Facts, Marks, facts_after, facts_at, facts_of, facts_told, facts_with, no_facts, put_at, with_mark}
 use Rattle.hac_model.specs.Tree.Kinds as kinds
-use Rattle.hac_model.specs.Tree.Limits.{passed_limit}
 use Rattle.hac_model.specs.Tree.Links.{column, found_as, found_by, has, holds, is_below, is_item, is_judged, is_lent, is_permanent, is_prohibited, is_semantic, is_unmarked, items, lenders, links, parent_of, passes, provide, query_at, satisfies, transient_at}
 use Rattle.hac_model.specs.Tree.{entry_at, is_directory_at, permanent_in, prohibited_in, query_in}
 use Rattle.hac_model.specs.Tree.Valid.{AsksWell, IsValid}
@@ -28,7 +26,6 @@ use Rattle.hac_model.proofs.ChangeLemmas.{or-right}
 use Rattle.hac_model.proofs.ListedLemmas.{found-item, found-listed, item-listed, lent-item}
 use Rattle.hac_model.proofs.MarkLemmas.{has-filter, has-put_in, has-without}
 use Rattle.hac_model.proofs.TreeLemmas.{entry_at-all}
-use Rattle.hac_model.proofs.ValidLemmas.{accepted-parts}
 
 -- the marks of a directory are facts
 marks-told : (s : State) (dir item : ℕ) → (has (facts_of s dir).marks.permanent item ≡ is_permanent s dir item) × (has (facts_of s dir).marks.prohibited item ≡ is_prohibited s dir item)

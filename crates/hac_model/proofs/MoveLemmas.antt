@@ -1,6 +1,6 @@
 -- The paths of a state to which an entry was added, or in which one was moved.
 use Rattle.std.proofs.Common.{◌≡◌, ℕ, zero, suc, ◌+◌, ◌-◌, ◌<◌, ◌≤◌, Bool, true, false, cond, List, [], ◌∷◌, ◌++◌, length, drop, reverse, subst, refl, ap, sym, ◌∙◌, arith, eq-eqb, inl, inr, length-append, length-drop, append_assoc}
-use Rattle.std.specs.Prelude.{◌==◌, ◌&&◌, ◌||◌, not, nat_le, nat_lt, min, take, Option, Some, None, IsTrue, is_some}
+use Rattle.std.specs.Prelude.{◌==◌, ◌&&◌, ◌||◌, not, nat_le, min, take, Option, Some, None, IsTrue, is_some}
 use Rattle.std.specs.Option.{option_map}
 use Rattle.std.specs.List.{AllByRecursion, list_all}
 use Rattle.std.specs.Str.{bytes_eq}
@@ -20,7 +20,7 @@ use Rattle.hac_model.specs.declared.states.Entry.{Entry}
 use Rattle.hac_model.specs.declared.states.State.{State}
 use Rattle.hac_model.proofs.ChangeLemmas.{entry_at-changed, entry_at-new, entry_at-other, touched, touched-keeps}
 use Rattle.hac_model.proofs.DepthLemmas.{entry-no_root, names_of, path-alike}
-use Rattle.hac_model.proofs.PathLemmas.{ancestors-none, ancestors-step, ancestors_by, few-ancestors, length-path, limit, lineage-is, lineage-take, path-names, root-none, short-is, extends-parent, extends-root, from_root, parent-lives, path-fits, path_of-few, path_of-room, path_of-parent, path_of-root}
+use Rattle.hac_model.proofs.PathLemmas.{ancestors-none, ancestors-step, ancestors_by, few-ancestors, length-path, limit, lineage-is, lineage-take, path-names, root-none, extends-parent, extends-root, from_root, parent-lives, path-fits, path_of-room, path_of-parent, path_of-root}
 use Rattle.hac_model.proofs.TreeLemmas.{Lives, all-entries, directory-lives, entry_at-below, entry_at-cases, entry_at-next, entry_at-number, rise-below}
 use Rattle.hac_model.proofs.LayoutLemmas.{apply-layout}
 use Rattle.hac_model.proofs.ValidLemmas.{accepted-parts, free-parts, move-parts}

@@ -2,9 +2,8 @@
 use Rattle.std.proofs.Common.{◌≡◌, ℕ, List, ap, sym, subst, ◌∙◌}
 use Rattle.std.specs.Prelude.{IsTrue}
 use Rattle.hac_model.specs.Tree.Bare.{bare}
-use Rattle.hac_model.specs.Tree.Events.{accepted, apply, is_possible}
+use Rattle.hac_model.specs.Tree.Events.{accepted, apply}
 use Rattle.hac_model.specs.Tree.Facts.{Facts, bare_after, facts_after, facts_of, joined}
-use Rattle.hac_model.specs.Tree.Limits.{passed_limit}
 use Rattle.hac_model.specs.Tree.Sessions.{sessions_after}
 use Rattle.hac_model.specs.Tree.Valid.{IsLayout, IsValid}
 use Rattle.hac_model.specs.declared.events.Event.{Event}
@@ -16,7 +15,6 @@ use Rattle.hac_model.proofs.BareLemmas.{bare-commutes}
 use Rattle.hac_model.proofs.FactLemmas.{facts-bare, facts-law}
 use Rattle.hac_model.proofs.FillLemmas.{bare-joined, joined-bare, rejoined, tree-law}
 use Rattle.hac_model.proofs.SessionLemmas.{sessions-follow}
-use Rattle.hac_model.proofs.ValidLemmas.{accepted-parts}
 
 -- what two trees that are the same without their facts make of facts
 facts-alike : (event : Event) (s t : State) (facts : ℕ → Facts) (n : ℕ) → bare s ≡ bare t → facts_after event s facts n ≡ facts_after event t facts n

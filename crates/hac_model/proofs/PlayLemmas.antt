@@ -1,5 +1,5 @@
 -- Scripts lead from valid states to valid states, by events one after the other.
-use Rattle.std.proofs.Common.{◌≡◌, ℕ, zero, suc, ◌+◌, Bool, true, false, cond, List, [], ◌∷◌, ◌++◌, length, refl, ap, sym, ◌∙◌, arith}
+use Rattle.std.proofs.Common.{◌≡◌, ◌≤◌, ℕ, zero, suc, ◌+◌, Bool, true, false, cond, List, [], ◌∷◌, ◌++◌, length, refl, ap, subst, sym, ◌∙◌, arith}
 use Rattle.std.specs.Prelude.{if◌then◌else◌, nat_lt, filter, Option, Some, None, Result, Ok, Err, IsTrue, IfNone}
 use Rattle.std.specs.List.{AllByRecursion}
 use Rattle.std.specs.Option.{option_map, option_map_or, unwrap_or}
@@ -8,7 +8,7 @@ use Rattle.hac_model.specs.Tree.Events.{accepted, apply, apply_all, changed_at, 
 use Rattle.hac_model.specs.Tree.Sessions.{is_stored, stored}
 use Rattle.hac_model.specs.Script.Lines.{Item, is_quiet, is_spelled_line, item_of, items_of}
 use Rattle.hac_model.specs.Payload.Payloads.{event_text}
-use Rattle.hac_model.specs.Run.Play.{Given, Setting, Turn, absent_cause, after_events, all_events, answered_turn, can_step, command_turn, data_lines, end_behind, events_in, full_cause, given_behind, have_room, item_turn, left_by, line_turn, no_answers, play, refused_turn, space_answers, steps_behind, stored_events, turn_cause, turn_of, turns}
+use Rattle.hac_model.specs.Run.Play.{Given, Setting, Turn, absent_cause, after_events, all_events, answered_turn, can_step, carried_out, checkpointed, command_turn, data_lines, end_behind, events_in, full_cause, given_behind, happened, have_room, is_checkpoint, item_turn, left_by, line_turn, next_place, no_answers, play, refused_turn, space_answers, steps_behind, stored_events, turn_cause, turn_of, turns}
 use Rattle.hac_model.specs.Run.Given.{next_fault}
 use Rattle.hac_model.specs.Run.Answers.{first_cause}
 use Rattle.hac_model.specs.Run.Asks.{asks}
@@ -31,19 +31,12 @@ use Rattle.hac_model.specs.declared.replies.Refusal.TheVariants.{SpaceFault}
 use Rattle.hac_model.specs.declared.replies.Reply.{Reply}
 use Rattle.hac_model.specs.declared.replies.Reply.TheVariants.{Lines, Refused}
 use Rattle.hac_model.specs.declared.resolved.Resolved.{Resolved}
-use Rattle.hac_model.specs.declared.resolved.Resolved.TheVariants.{Index}
+use Rattle.hac_model.specs.declared.resolved.Resolved.TheVariants.{Checkpoint, Index}
 use Rattle.hac_model.specs.declared.events.Event.TheVariants as event
 use Rattle.hac_model.specs.declared.states.State.{State}
 use Rattle.hac_model.proofs.AcyclicLemmas.{apply-valid}
 use Rattle.hac_model.proofs.EventLemmas.{all-valid, commands-happen, no_cause, steps-clean-all, steps-due}
 use Rattle.hac_model.proofs.SpellingLemmas.{IsItem, item_of-item}
-
--- the setting that a command leaves
-abbrev left : Setting → Resolved → Answers → Setting
-left setting command answers = record setting {
-  state = led_to answers setting.state command;
-  end = end_behind setting.end (stored_events answers setting.state command);
-}
 
 -- what spaces that are in order answer
 pub said-answers : (spaces : List Attached) → AllByRecursion (λ space. AreRisingNames (names space.1)) spaces → (asked : Asks) → AreAnswersTo asked (answers_of spaces asked)
@@ -76,9 +69,9 @@ said-answers spaces rise asked = record {
 no-cause-of : (given : Given) (setting : Setting) (command : Resolved) (answers : Answers) → turn_cause given setting command answers ≡ None → cause answers setting.state command ≡ None
 no-cause-of given setting command answers free =
     let s = setting.state in
-    let early = no_cause (early_cause s command) (absent_cause given s command ∷ late_cause answers s command ∷ full_cause setting (stored_events answers s command) ∷ []) free in
-    let absent = no_cause (absent_cause given s command) (late_cause answers s command ∷ full_cause setting (stored_events answers s command) ∷ []) early.1 in
-    let late = no_cause (late_cause answers s command) (full_cause setting (stored_events answers s command) ∷ []) absent.1 in
+    let early = no_cause (early_cause s command) (absent_cause given s command ∷ late_cause answers s command ∷ full_cause answers setting command ∷ []) free in
+    let absent = no_cause (absent_cause given s command) (late_cause answers s command ∷ full_cause answers setting command ∷ []) early.1 in
+    let late = no_cause (late_cause answers s command) (full_cause answers setting command ∷ []) absent.1 in
     λ i. first_cause (early.0 i ∷ late.0 i ∷ [])
 
 -- a step happens where there is something to index
@@ -99,15 +92,33 @@ steps-valid (suc n) setting h =
 abbrev pub AreInOrder : Given → Type 0
 AreInOrder given = AllByRecursion (λ space. AreRisingNames (names space.1)) given.spaces
 
+-- a checkpoint makes no event
+pub saves-nothing : (answers : Answers) (s : State) (command : Resolved) → is_checkpoint command ≡ true → events_of answers s command ≡ []
+saves-nothing answers s Checkpoint saves = refl
+saves-nothing answers s other saves = absurd cc
+
+-- a command that is carried out leaves the state to which its events lead
+carried-state : (answers : Answers) (setting : Setting) (command : Resolved) → (carried_out answers setting command).state ≡ led_to answers setting.state command
+carried-state answers setting command =
+    elim (is_checkpoint command) as (λ b. is_checkpoint command ≡ b →
+    (if b then option_map_or (checkpointed setting) (next_place setting) setting else happened answers setting command).state ≡ led_to answers setting.state command) [
+      | true ↦ (λ saves. saved (next_place setting) ∙ ap (apply_all setting.state) (sym (saves-nothing answers setting.state command saves)))
+      | false ↦ (λ _. refl)
+    ] refl
+  where
+    saved : (place : Option ℕ) → (option_map_or (checkpointed setting) place setting).state ≡ setting.state
+    saved None = refl
+    saved (Some at) = refl
+
 -- what a command leads to is valid
 command-valid : (given : Given) → AreInOrder given → (setting : Setting) (line : Line) (r : Result Resolved Refusal) → IsValid setting.state → IsTrue (is_spelled_line line) → resolve setting.state line ≡ r → IsValid (command_turn given setting r).after.state
 command-valid given rise setting line (Err refusal) h spelled leads = steps-valid given.steps setting h
 command-valid given rise setting line (Ok command) h spelled leads =
     let answers : Answers = space_answers given setting.state command in
     elim (turn_cause given setting command answers) as (λ o. turn_cause given setting command answers ≡ o → IsValid (option_map_or (refused_turn given setting) o (answered_turn given setting command answers)).after.state) [
-      | None ↦ (λ free. steps-valid given.steps (left setting command answers)
-          (all-valid (events_of answers setting.state command) setting.state h
-          (commands-happen setting.state line command answers h spelled leads (said-answers given.spaces rise (asks setting.state command)) (no-cause-of given setting command answers free))))
+      | None ↦ (λ free. steps-valid given.steps (carried_out answers setting command)
+          (subst IsValid (sym (carried-state answers setting command)) (all-valid (events_of answers setting.state command) setting.state h
+          (commands-happen setting.state line command answers h spelled leads (said-answers given.spaces rise (asks setting.state command)) (no-cause-of given setting command answers free)))))
       | Some refusal ↦ (λ _. steps-valid given.steps setting h)
     ] refl
 
@@ -169,10 +180,16 @@ pub end_behind-append : (xs ys : List Event) (end : ℕ) → end_behind end (xs 
 end_behind-append [] ys end = refl
 end_behind-append (x ∷ xs) ys end = end_behind-append xs ys (end + 5 + length (event_text x))
 
--- a turn leaves what its events make of the state, and its store ends behind their records
-record Leads (setting : Setting) (turn : Turn) : Type 0 where
-  state : stored turn.after.state ≡ apply_all (stored setting.state) (events_in turn)
-  end : turn.after.end ≡ end_behind setting.end (events_in turn)
+-- A setting goes on by events: they make of what was stored what is stored then, and as long as no new area was begun,
+-- the store ends behind their records.
+record GoesOn (setting next : Setting) (events : List Event) : Type 0 where
+  state : stored next.state ≡ apply_all (stored setting.state) events
+  later : setting.generation ≤ next.generation
+  end : next.generation ≡ setting.generation → next.end ≡ end_behind setting.end events
+
+-- a turn leaves what its events make of the setting
+abbrev Leads : Setting → Turn → Type 0
+Leads setting turn = GoesOn setting turn.after (events_in turn)
 
 -- the steps that follow by themselves are stored
 steps-stored : (n : ℕ) (setting : Setting) → filter is_stored (steps_behind n setting) ≡ steps_behind n setting
@@ -185,29 +202,42 @@ steps-stored (suc n) setting =
     ]
 
 -- a turn leads on where its command does
-turn_of-leads : (given : Given) (setting next : Setting) (reply : Reply) (events : List Event) →
-    stored next.state ≡ apply_all (stored setting.state) events → next.end ≡ end_behind setting.end events →
-    Leads setting (turn_of given reply events next)
-turn_of-leads given setting next reply events state end =
+turn_of-leads : (given : Given) (setting next : Setting) (reply : Reply) (events : List Event) → GoesOn setting next events → Leads setting (turn_of given reply events next)
+turn_of-leads given setting next reply events on =
     let steps = steps_behind given.steps next in
     record {
       state =
-          stored-all steps next.state ∙ ap (apply_all (stored next.state)) (steps-stored given.steps next) ∙ ap (λ (s : State). apply_all s steps) state
+          stored-all steps next.state ∙ ap (apply_all (stored next.state)) (steps-stored given.steps next) ∙ ap (λ (s : State). apply_all s steps) on.state
           ∙ sym (apply_all-append events steps (stored setting.state));
-      end = ap (λ (end : ℕ). end_behind end steps) end ∙ sym (end_behind-append events steps setting.end);
+      later = on.later;
+      end = λ same. ap (λ (end : ℕ). end_behind end steps) (on.end same) ∙ sym (end_behind-append events steps setting.end);
     }
 
 refused-leads : (given : Given) (setting : Setting) (refusal : Refusal) → Leads setting (refused_turn given setting refusal)
-refused-leads given setting refusal = turn_of-leads given setting setting (Refused refusal) [] refl refl
+refused-leads given setting refusal = turn_of-leads given setting setting (Refused refusal) [] (record { state = refl; later = omega arith; end = λ _. refl })
+
+-- so does a command that is carried out
+carried-on : (answers : Answers) (setting : Setting) (command : Resolved) → GoesOn setting (carried_out answers setting command) (stored_events answers setting.state command)
+carried-on answers setting command =
+    elim (is_checkpoint command) as (λ b. is_checkpoint command ≡ b →
+    GoesOn setting (if b then option_map_or (checkpointed setting) (next_place setting) setting else happened answers setting command) (stored_events answers setting.state command)) [
+      | true ↦ (λ saves.
+          subst (λ (events : List Event). GoesOn setting (option_map_or (checkpointed setting) (next_place setting) setting) (filter is_stored events))
+          (sym (saves-nothing answers setting.state command saves)) (saved (next_place setting)))
+      | false ↦ (λ _. record { state = stored-all (events_of answers setting.state command) setting.state; later = omega arith; end = λ _. refl })
+    ] refl
+  where
+    saved : (place : Option ℕ) → GoesOn setting (option_map_or (checkpointed setting) place setting) []
+    saved None = record { state = refl; later = omega arith; end = λ _. refl }
+    saved (Some at) = record { state = refl; later = omega arith; end = λ same. absurd (omega (arith, same)) }
 
 command-leads : (given : Given) (setting : Setting) (r : Result Resolved Refusal) → Leads setting (command_turn given setting r)
 command-leads given setting (Err refusal) = refused-leads given setting refusal
 command-leads given setting (Ok command) =
     let answers : Answers = space_answers given setting.state command in
     elim (turn_cause given setting command answers) as (λ o. Leads setting (option_map_or (refused_turn given setting) o (answered_turn given setting command answers))) [
-      | None ↦ turn_of-leads given setting (left setting command answers) (Lines (data_lines answers setting.state command)) (stored_events answers setting.state command)
-          (stored-all (events_of answers setting.state command) setting.state)
-          refl
+      | None ↦ turn_of-leads given setting (carried_out answers setting command) (Lines (data_lines answers setting.state command)) (stored_events answers setting.state command)
+          (carried-on answers setting command)
       | Some refusal ↦ refused-leads given setting refusal
     ]
 
@@ -231,13 +261,26 @@ events-lead given setting (item ∷ items) =
     ∙ ap (λ (s : State). apply_all s (all_events rest)) (turn-leads given setting item).state
     ∙ sym (apply_all-append (events_in turn) (all_events rest) (stored setting.state))
 
-pub events-end : (given : Given) (setting : Setting) (items : List Item) → (left_by setting (turns given setting items)).end ≡ end_behind setting.end (all_events (turns given setting items))
-events-end given setting [] = refl
-events-end given setting (item ∷ items) =
+-- no root is written with an older generation
+generations-rise : (given : Given) (setting : Setting) (items : List Item) → setting.generation ≤ (left_by setting (turns given setting items)).generation
+generations-rise given setting [] = omega arith
+generations-rise given setting (item ∷ items) =
+    let turn = item_turn given setting item in
+    let first = (turn-leads given setting item).later in
+    let rest = generations-rise (given_behind 1 given) turn.after items in
+    omega (arith, first, rest)
+
+pub events-end : (given : Given) (setting : Setting) (items : List Item) → (left_by setting (turns given setting items)).generation ≡ setting.generation →
+    (left_by setting (turns given setting items)).end ≡ end_behind setting.end (all_events (turns given setting items))
+events-end given setting [] same = refl
+events-end given setting (item ∷ items) same =
     let turn = item_turn given setting item in
     let rest = turns (given_behind 1 given) turn.after items in
-    events-end (given_behind 1 given) turn.after items
-    ∙ ap (λ (end : ℕ). end_behind end (all_events rest)) (turn-leads given setting item).end
+    let first = turn-leads given setting item in
+    let later = generations-rise (given_behind 1 given) turn.after items in
+    let here : turn.after.generation ≡ setting.generation = omega (arith, same, first.later, later) in
+    events-end (given_behind 1 given) turn.after items (same ∙ sym here)
+    ∙ ap (λ (end : ℕ). end_behind end (all_events rest)) (first.end here)
     ∙ sym (end_behind-append (events_in turn) (all_events rest) setting.end)
 
 pub index-cleans : (s : State) → IsValid s → dirty (led_to no_answers s Index) ≡ 0

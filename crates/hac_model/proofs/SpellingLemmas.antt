@@ -20,7 +20,7 @@ use Rattle.hac_model.specs.Query.Formula.{Formula}
 use Rattle.hac_model.specs.Query.QueryReading.{is_spelled_query, read_query}
 use Rattle.hac_model.specs.Script.Texts.{text_of}
 use Rattle.hac_model.specs.declared.commands.Command.{Command}
-use Rattle.hac_model.specs.declared.commands.Command.TheVariants.{Mkdir, Rmdir, Write, Cat, Ls, Cd, Pwd, Mv, Rm, Ln, Readlink, Smkdir, Setq, Unq, Query, Sls, Sln, Srm, Sforget, Find, Smount, Ssync, Sumount, Index, Tick, Counts}
+use Rattle.hac_model.specs.declared.commands.Command.TheVariants.{Mkdir, Rmdir, Write, Cat, Ls, Cd, Pwd, Mv, Rm, Ln, Readlink, Smkdir, Setq, Unq, Query, Sls, Sln, Srm, Sforget, Find, Smount, Ssync, Sumount, Index, Tick, Counts, Checkpoint}
 use Rattle.hac_model.specs.declared.commands.Line.{Line}
 use Rattle.hac_model.specs.declared.limits.LimitWord.TheVariants as limit
 use Rattle.hac_model.specs.declared.limits.TheConstants.{LINE_LIMIT, TARGET_LIMIT}
@@ -236,7 +236,8 @@ spells_named name arguments =
     (λ _. cond_both (bytes_eq name (codes "index")) _ _ P (λ _. spells_alone Index arguments refl)
     (λ _. cond_both (bytes_eq name (codes "tick")) _ _ P (λ _. spells_tick arguments)
     (λ _. cond_both (bytes_eq name (codes "counts")) _ _ P (λ _. spells_alone Counts arguments refl)
-    (λ _. spells_bad_line))))))))))))))))))))))))))
+    (λ _. cond_both (bytes_eq name (codes "checkpoint")) _ _ P (λ _. spells_alone Checkpoint arguments refl)
+    (λ _. spells_bad_line)))))))))))))))))))))))))))
 
 spells_put_at : (word : List ℕ) (taken : Option Taken) → Spells (put_at word taken)
 unfolding Spells

@@ -247,6 +247,7 @@ module _ (s : State) (base : ℕ) (h : IsLayout s) (from : is_directory_at s.ent
   resolved-stands (command.Sumount path) spelled = at-directory Sumount path (λ n there. there)
   resolved-stands command.Index spelled = tt
   resolved-stands command.Counts spelled = tt
+  resolved-stands command.Checkpoint spelled = tt
   resolved-stands other spelled = tt
 
   pub for-stands : (session : List ℕ) (c : Command) → is_space_name session ≡ true → is_spelled c ≡ true → IfOk (resolved_for s session base c) (AllStand s)

@@ -9,7 +9,7 @@ use Rattle.hac_model.specs.Tree.Events.{added, asking, can_have_mark, changed_in
 use Rattle.hac_model.specs.Tree.Depends.{cycle_of_mark, cycle_of_move, cycle_over}
 use Rattle.hac_model.specs.Query.Formula.{Formula}
 use Rattle.hac_model.specs.Tree.Limits.{are_answers_few, first_passed, is_text, passed_limit, file_bytes}
-use Rattle.hac_model.specs.Tree.Links.{is_item, is_semantic, parent_of}
+use Rattle.hac_model.specs.Tree.Links.{is_semantic, parent_of}
 use Rattle.hac_model.specs.Tree.Names.{is_name}
 use Rattle.hac_model.specs.Tree.Sessions.{is_busy}
 use Rattle.hac_model.specs.Tree.{child, empty, entry_at, is_directory, is_directory_at, is_document, is_document_at, is_file, is_holder_at, is_leaf_at, is_made_directory, is_mount, is_mount_at, is_symlink, query_in}

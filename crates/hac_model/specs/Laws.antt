@@ -1,5 +1,5 @@
 -- Theorems over the definitions, each proved as the contract of a function of the module `laws`.
-use Rattle.std.specs.Prelude.{true, false, ◌≡◌, ⊤, ℕ, zero, suc, ◌≤◌, ◌+◌, ◌||◌, length, nat_lt, List, [], ◌∷◌, ◌++◌, map, None, Some, Ok, IsTrue, is_some, codes}
+use Rattle.std.specs.Prelude.{true, false, ◌≡◌, ⊤, ℕ, zero, suc, ◌≤◌, ◌+◌, ◌||◌, length, nat_lt, List, [], ◌∷◌, ◌++◌, map, None, Some, Ok, IsTrue, is_some, codes, replicate}
 use Rattle.std.specs.List.{AllByRecursion, flat_map, position_or_len}
 use Rattle.hac_model.specs.Tree.Bare.{bare}
 use Rattle.hac_model.specs.Bytes.{is_line_end}
@@ -135,10 +135,11 @@ EventsLead =
     (given : Given) (setting : Setting) (items : List Item) →
     stored (left_by setting (turns given setting items)).state ≡ apply_all (stored setting.state) (all_events (turns given setting items))
 
--- and the store then ends behind the records of these events
+-- and as long as no new area was begun, the store then ends behind the records of these events
 abbrev pub EventsEnd : Type 0
 EventsEnd =
     (given : Given) (setting : Setting) (items : List Item) →
+    (left_by setting (turns given setting items)).generation ≡ setting.generation →
     (left_by setting (turns given setting items)).end ≡ end_after setting (all_events (turns given setting items))
 
 -- each event that a valid state accepts and that is stored has a spelling
@@ -335,11 +336,27 @@ FirstSteps =
     codes "ok" ∷ codes "ok" ∷ codes "ok" ∷ codes "t /a" ∷ codes "t /b" ∷ codes "ok" ∷ codes "ok" ∷ codes "ok"
     ∷ codes "ok" ∷ codes "ok" ∷ codes "ok" ∷ codes "no not-dir /c" ∷ codes "t /c" ∷ codes "ok" ∷ [])
 
--- a store without room for one more record refuses each change, and still answers
+-- a store without room for one more record refuses each change, and still answers; once its state is in a new area, it
+-- has room again
 abbrev pub FullStore : Type 0
 FullStore =
-    turns_text (play nothing_given (record new_setting { start = 4294967290; end = 4294967290 }) (lines_text (codes "mkdir /a" ∷ codes "mkdir /a" ∷ codes "ls" ∷ [])))
-    ≡ lines_text (codes "no limit store" ∷ codes "no limit store" ∷ codes "ok" ∷ [])
+    turns_text (play nothing_given (record new_setting { start = 4294967290; end = 4294967290 }) (lines_text (
+    codes "mkdir /a" ∷ codes "ls" ∷ codes "checkpoint" ∷ codes "mkdir /a" ∷ codes "ls" ∷ [])))
+    ≡ lines_text (codes "no limit store" ∷ codes "ok" ∷ codes "ok" ∷ codes "ok" ∷ codes "d a" ∷ codes "ok" ∷ [])
+
+-- no new area is begun without room for it, nor without a generation left for its root
+abbrev pub NoRoot : Type 0
+NoRoot =
+    (turns_text (play nothing_given (record new_setting { end = 4294967281 }) (lines_text (codes "checkpoint" ∷ []))) ≡ lines_text (codes "no limit store" ∷ []))
+    × (turns_text (play nothing_given (record new_setting { generation = 18446744073709551615 }) (lines_text (codes "checkpoint" ∷ []))) ≡ lines_text (codes "no limit store" ∷ []))
+
+-- where the live area of a new store with a directory begins behind some checkpoints: behind the old area, or before it
+abbrev pub start_behind : ℕ → ℕ
+start_behind checkpoints = (left_by new_setting (play nothing_given new_setting (lines_text (codes "mkdir /a" ∷ replicate checkpoints (codes "checkpoint"))))).start
+
+-- the third area lies where the first one was
+abbrev pub FirstAreas : Type 0
+FirstAreas = (start_behind 1 ≡ 78) × (start_behind 2 ≡ 104) × (start_behind 3 ≡ 64)
 
 -- the record of a new directory is 12 bytes longer than its name: 13 bytes for `a`
 abbrev pub FirstEnd : Type 0

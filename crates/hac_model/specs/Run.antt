@@ -7,4 +7,5 @@ pub mod Standing
 pub mod Refusals
 pub mod Showing
 pub mod Settings
+pub mod Checkpoints
 pub mod Play

@@ -8,7 +8,7 @@ ghost use Rattle.hac_model.specs.Laws.{BareCommutes, FactsFollow, SessionsFollow
 ghost use Rattle.hac_model.specs.Laws.{LinesSpell};
 ghost use Rattle.hac_model.specs.Laws.{CommandsHappen, StepsAreDue, StepsClean, IndexCleans};
 ghost use Rattle.hac_model.specs.Laws.{ScriptsKeepValid, EventsLead, EventsEnd, AcceptedAreSpelled};
-ghost use Rattle.hac_model.specs.Laws.{ValidAreSpelled, SessionsAreNotStored, FullStore, FirstEnd};
+ghost use Rattle.hac_model.specs.Laws.{ValidAreSpelled, SessionsAreNotStored, FullStore, FirstAreas};
 ghost use Rattle.hac_model.specs.Laws.{FirstCommandLines, NoCommandLines, LinksStay, LinksAreOnly};
 ghost use Rattle.hac_model.specs.Laws.{ValidIsAcyclic, PlainTellsState, LooksFind, LooksFollow, LooksTell};
 ghost use Rattle.hac_model.specs.Laws.{MovesRename, PrintedTextIsRead, PrintedTextIsOneLine};
@@ -17,7 +17,7 @@ ghost use Rattle.hac_model.specs.FirstMounts.{AttachedMounts, FalseIsNotTold, Fi
 ghost use Rattle.hac_model.specs.FirstMounts.{LibraryIsValid};
 ghost use Rattle.hac_model.specs.FirstMounts.{MountsCome, MountsGo, MountsRefuse, SyncsKeepNumbers};
 ghost use Rattle.hac_model.specs.Laws.{MovedListings, LentListings, FirstLinks, FirstSteps};
-ghost use Rattle.hac_model.specs.Laws.{ValidityIsTested};
+ghost use Rattle.hac_model.specs.Laws.{FirstEnd, NoRoot, ValidityIsTested};
 
 /// Two joined scripts are played one after the other, where the first one consists of whole lines,
 /// each with its end and the bytes that belong to it. No line looks further ahead, and none looks
@@ -205,10 +205,12 @@ pub fn first_steps()
     ensures { FirstSteps }
 {}
 
-/// A run over a full store, and where the store of a small run ends.
+/// A run over a full store, where the store of a small run ends, and where checkpoints write.
 pub fn stores_end()
     ensures full { FullStore }
+    ensures root { NoRoot }
     ensures first { FirstEnd }
+    ensures areas { FirstAreas }
 {}
 
 /// What some command lines of the program ask for, and some that are faulty.

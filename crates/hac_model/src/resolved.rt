@@ -152,4 +152,6 @@ pub enum Resolved {
     },
     /// Shows how many things of each kind there are.
     Counts,
+    /// Writes the whole state as a new area of the store.
+    Checkpoint,
 }

@@ -1,6 +1,6 @@
 -- How a whole state is spelled in a store, and what the bytes of such a payload say.
-use Rattle.std.specs.List.{flat_map, list_all}
-use Rattle.std.specs.Prelude.{ℕ, Bool, true, false, count_by, ◌==◌, ◌&&◌, not, if◌then◌else◌, nat_lt, nat_le, List, [], ◌∷◌, ◌++◌, length, filter, map, Option, Some, None, Result, Ok}
+use Rattle.std.specs.List.{flat_map}
+use Rattle.std.specs.Prelude.{ℕ, Bool, true, false, ◌==◌, ◌&&◌, not, if◌then◌else◌, nat_lt, nat_le, List, [], ◌∷◌, ◌++◌, length, filter, map, Option, Some, None, Result, Ok}
 use Rattle.std.specs.Option.{option_map}
 use Rattle.std.specs.Str.{bytes_eq}
 use Rattle.hac_model.specs.Run.Answers.{◌>>=◌}
@@ -9,7 +9,7 @@ use Rattle.hac_model.specs.Payload.Payloads.{all_of, name_field, nums, placed, r
 use Rattle.hac_model.specs.Payload.QueryFields.{query_field, word_field}
 use Rattle.hac_model.specs.Query.Terms.{is_term_before}
 use Rattle.hac_model.specs.Tree.Listing.{children, is_before}
-use Rattle.hac_model.specs.Tree.{answers_in, is_document}
+use Rattle.hac_model.specs.Tree.{is_document}
 use Rattle.hac_model.specs.declared.states.Answer.{Answer}
 use Rattle.hac_model.specs.declared.states.Body.{Body}
 use Rattle.hac_model.specs.declared.states.Body.TheVariants.{File, Dir, Symlink, Semantic, Mount}

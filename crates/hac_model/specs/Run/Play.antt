@@ -1,5 +1,5 @@
 -- A whole run: each command is answered, and changes the state for those behind it.
-use Rattle.std.specs.Prelude.{◌≡◌, ⊤, IsTrue, ℕ, zero, suc, ◌+◌, ◌&&◌, nat_lt, if◌then◌else◌, Bool, true, false, List, [], ◌∷◌, ◌++◌, length, filter, take, Option, None, Some, Result, Ok, Err, is_none}
+use Rattle.std.specs.Prelude.{◌≡◌, ⊤, IsTrue, ℕ, zero, suc, ◌+◌, ◌&&◌, nat_lt, if◌then◌else◌, Bool, true, false, List, [], ◌∷◌, ◌++◌, length, filter, take, Option, None, Some, Result, Ok, Err, is_none, is_some}
 use Rattle.std.specs.List.{flat_map, list_any, take_while}
 use Rattle.std.specs.Option.{option_map, option_map_or}
 use Rattle.hac_model.specs.Run.Answers.{first_cause}
@@ -26,6 +26,7 @@ use Rattle.hac_model.specs.declared.spaces.Answers.{Answers}
 use Rattle.hac_model.specs.declared.states.State.{State}
 pub use Rattle.hac_model.specs.Run.Showing.{count_text, data_lines, found_line, kind_lines, line_of_counts, link_lines, counts_line, path_line, query_line, query_lines, text_line, text_lines}
 pub use Rattle.hac_model.specs.Run.Given.{Given, nothing_given, given_behind, given_spaces, no_answers, ticking}
+pub use Rattle.hac_model.specs.Run.Checkpoints.{checkpointed, is_checkpoint, next_place}
 pub use Rattle.hac_model.specs.Run.Settings.{Setting, after_events, end_after, end_behind, have_room, new_setting, stored_setting}
 
 -- what comes of one command: its reply, its events and the index steps behind it, of which each is stored, and what the
@@ -71,17 +72,32 @@ absent_cause given s command = option_map NoSpace (first_absent given.spaces (as
 abbrev pub stored_events : Answers → State → Resolved → List Event
 stored_events answers s command = filter is_stored (events_of answers s command)
 
--- a command that isn't refused shows its lines, and its events happen
+-- the setting once the events of a command have happened, of which those are stored that are
+abbrev pub happened : Answers → Setting → Resolved → Setting
+happened answers setting command = record setting {
+  state = led_to answers setting.state command;
+  end = end_after setting (stored_events answers setting.state command);
+}
+
+-- the setting that a command leaves which isn't refused: its state is in a new area, or its events have happened
+abbrev pub carried_out : Answers → Setting → Resolved → Setting
+carried_out answers setting command =
+    if is_checkpoint command then option_map_or (checkpointed setting) (next_place setting) setting
+    else happened answers setting command
+
+-- a command that isn't refused shows its lines, and is carried out
 abbrev pub answered_turn : Given → Setting → Resolved → Answers → Turn
 answered_turn given setting command answers =
-    turn_of given (Lines (data_lines answers setting.state command)) (stored_events answers setting.state command) (record setting {
-      state = led_to answers setting.state command;
-      end = end_after setting (stored_events answers setting.state command);
-    })
+    turn_of given (Lines (data_lines answers setting.state command)) (stored_events answers setting.state command) (carried_out answers setting command)
 
--- the store has no room for the records of events
-abbrev pub full_cause : Setting → List Event → Option Refusal
-full_cause setting events = if have_room setting events then None else Some (Limit Store)
+-- the store has room for what a command writes: for a new area, or for the records of its events
+abbrev pub fits_store : Answers → Setting → Resolved → Bool
+fits_store answers setting command =
+    if is_checkpoint command then is_some (next_place setting) else have_room setting (stored_events answers setting.state command)
+
+-- the store has no room for what a command writes
+abbrev pub full_cause : Answers → Setting → Resolved → Option Refusal
+full_cause answers setting command = if fits_store answers setting command then None else Some (Limit Store)
 
 -- Why a command is refused: what the state says of it comes first, then a space that isn't attached, then what depends on
 -- the answers of spaces, and a full store is the last of all causes.
@@ -90,7 +106,7 @@ turn_cause given setting command answers = first_cause (
     early_cause setting.state command
     ∷ absent_cause given setting.state command
     ∷ late_cause answers setting.state command
-    ∷ full_cause setting (stored_events answers setting.state command)
+    ∷ full_cause answers setting command
     ∷ [])
 
 -- the turn of a command, given what spaces answer

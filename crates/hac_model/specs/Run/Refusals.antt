@@ -26,7 +26,7 @@ use Rattle.hac_model.specs.declared.places.Place.TheVariants.{There, Free}
 use Rattle.hac_model.specs.declared.replies.Refusal.{Refusal}
 use Rattle.hac_model.specs.declared.replies.Refusal.TheVariants.{NotFile, Exists, NotEmpty, Under, Root, Cycle, Referenced, Busy, NotSemantic, NotLink, NotLinked, NotMount, Already, NoMark, Gone, Limit}
 use Rattle.hac_model.specs.declared.resolved.Resolved.{Resolved}
-use Rattle.hac_model.specs.declared.resolved.Resolved.TheVariants.{Mkdir, Rmdir, Write, Cat, Ls, Cd, Pwd, Mv, Rm, Ln, Readlink, Smkdir, Setq, Unq, Query, Sls, Sln, Srm, Sforget, Find, Smount, Ssync, Sumount, Index, Tick, Counts}
+use Rattle.hac_model.specs.declared.resolved.Resolved.TheVariants.{Mkdir, Rmdir, Write, Cat, Ls, Cd, Pwd, Mv, Rm, Ln, Readlink, Smkdir, Setq, Unq, Query, Sls, Sln, Srm, Sforget, Find, Smount, Ssync, Sumount, Index, Tick, Counts, Checkpoint}
 use Rattle.hac_model.specs.declared.spaces.Answers.{Answers}
 use Rattle.hac_model.specs.declared.states.State.{State}
 
@@ -130,6 +130,7 @@ blocking_cause s (Sumount mount) = first_cause (not_mount_cause s mount ∷ refe
 blocking_cause s Index = None
 blocking_cause s (Tick steps) = None
 blocking_cause s Counts = None
+blocking_cause s Checkpoint = None
 
 -- something is created where nothing is
 abbrev pub makes : Place → (ℕ → List ℕ → Event) → Option Event

@@ -18,7 +18,7 @@ use Rattle.hac_model.specs.declared.places.Place.TheVariants.{There, Free}
 use Rattle.hac_model.specs.declared.replies.Refusal.{Refusal}
 use Rattle.hac_model.specs.declared.replies.Refusal.TheVariants.{BadLine, InMount, NoPath, NotDir}
 use Rattle.hac_model.specs.declared.resolved.Resolved.{Resolved}
-use Rattle.hac_model.specs.declared.resolved.Resolved.TheVariants.{Mkdir, Rmdir, Write, Cat, Ls, Cd, Pwd, Mv, Rm, Ln, Readlink, Smkdir, Setq, Unq, Query, Sls, Sln, Srm, Sforget, Find, Smount, Ssync, Sumount, Index, Tick, Counts}
+use Rattle.hac_model.specs.declared.resolved.Resolved.TheVariants.{Mkdir, Rmdir, Write, Cat, Ls, Cd, Pwd, Mv, Rm, Ln, Readlink, Smkdir, Setq, Unq, Query, Sls, Sln, Srm, Sforget, Find, Smount, Ssync, Sumount, Index, Tick, Counts, Checkpoint}
 use Rattle.hac_model.specs.declared.states.State.{State}
 
 -- where a path word leads from a directory: to an entry or a vacancy. A symbolic link as its last name is followed or not.
@@ -181,6 +181,7 @@ resolved s base (command.Sumount path) = do
 resolved s base command.Index = Ok Index
 resolved s base (command.Tick steps) = Ok (Tick steps)
 resolved s base command.Counts = Ok Counts
+resolved s base command.Checkpoint = Ok Checkpoint
 resolved s base other = Err BadLine
 
 -- the same for a session's command

@@ -9,7 +9,7 @@ use Rattle.hac_model.specs.Tree.{is_directory_at, is_document_at, is_holder_at, 
 use Rattle.hac_model.specs.declared.places.Place.{Place}
 use Rattle.hac_model.specs.declared.places.Place.TheVariants.{There, Free}
 use Rattle.hac_model.specs.declared.resolved.Resolved.{Resolved}
-use Rattle.hac_model.specs.declared.resolved.Resolved.TheVariants.{Mkdir, Rmdir, Write, Cat, Ls, Cd, Pwd, Mv, Rm, Ln, Readlink, Smkdir, Setq, Unq, Query, Sls, Sln, Srm, Sforget, Find, Smount, Ssync, Sumount, Index, Tick, Counts}
+use Rattle.hac_model.specs.declared.resolved.Resolved.TheVariants.{Mkdir, Rmdir, Write, Cat, Ls, Cd, Pwd, Mv, Rm, Ln, Readlink, Smkdir, Setq, Unq, Query, Sls, Sln, Srm, Sforget, Find, Smount, Ssync, Sumount, Index, Tick, Counts, Checkpoint}
 use Rattle.hac_model.specs.declared.states.State.{State}
 
 -- the root or an entry has the number, and it isn't a symbolic link where the last name of its path was followed
@@ -62,3 +62,4 @@ AllStand s (Sumount mount) = IsTrue (is_directory_at s.entries mount)
 AllStand s Index = ⊤
 AllStand s (Tick steps) = ⊤
 AllStand s Counts = ⊤
+AllStand s Checkpoint = ⊤

@@ -1,5 +1,5 @@
 -- What one line of a script says.
-use Rattle.std.specs.Prelude.{ℕ, Bool, true, false, ◌==◌, ◌&&◌, ◌||◌, if◌then◌else◌, nat_le, List, [], ◌∷◌, length, slice_index, codes, Option, None, Some, Result, Ok, Err}
+use Rattle.std.specs.Prelude.{ℕ, Bool, true, ◌==◌, ◌&&◌, ◌||◌, if◌then◌else◌, nat_le, List, [], ◌∷◌, length, slice_index, codes, Option, None, Some, Result, Ok, Err}
 use Rattle.std.specs.List.{list_all}
 use Rattle.std.specs.Option.{ok_or, option_map, option_map_or}
 use Rattle.std.specs.Str.{bytes_eq}
@@ -18,7 +18,7 @@ use Rattle.hac_model.specs.Script.SpaceNames.{is_space_name}
 use Rattle.hac_model.specs.Query.QueryReading.{is_spelled_query, read_query}
 use Rattle.hac_model.specs.Script.Texts.{text_of}
 use Rattle.hac_model.specs.declared.commands.Command.{Command}
-use Rattle.hac_model.specs.declared.commands.Command.TheVariants.{Mkdir, Rmdir, Write, Cat, Ls, Cd, Pwd, Mv, Rm, Ln, Readlink, Smkdir, Setq, Unq, Query, Sls, Sln, Srm, Sforget, Find, Smount, Ssync, Sumount, Index, Tick, Counts}
+use Rattle.hac_model.specs.declared.commands.Command.TheVariants.{Mkdir, Rmdir, Write, Cat, Ls, Cd, Pwd, Mv, Rm, Ln, Readlink, Smkdir, Setq, Unq, Query, Sls, Sln, Srm, Sforget, Find, Smount, Ssync, Sumount, Index, Tick, Counts, Checkpoint}
 use Rattle.hac_model.specs.declared.commands.Line.{Line}
 use Rattle.hac_model.specs.declared.limits.LimitWord.TheVariants as limit
 use Rattle.hac_model.specs.declared.limits.TheConstants.{LINE_LIMIT, TARGET_LIMIT}
@@ -164,7 +164,8 @@ named_command name arguments =
     else (if bytes_eq name (codes "index") then alone Index arguments
     else (if bytes_eq name (codes "tick") then tick_of arguments
     else (if bytes_eq name (codes "counts") then alone Counts arguments
-    else Err BadLine)))))))))))))))))))))))))
+    else (if bytes_eq name (codes "checkpoint") then alone Checkpoint arguments
+    else Err BadLine))))))))))))))))))))))))))
 
 -- the path and the length of a `put`, from the bytes behind `put`: two words and no more
 unfoldable pub put_words : List ℕ → Result (List ℕ × List ℕ) Refusal
@@ -232,7 +233,7 @@ put_length line = asked (put_line line)
 abbrev pub is_spelled_word : PathWord → Bool
 is_spelled_word word = are_names word.names
 
--- the words of the command are as a line spells them. No line spells one that isn't built yet.
+-- the words of the command are as a line spells them
 abbrev pub is_spelled : Command → Bool
 is_spelled (Mkdir path) = is_spelled_word path
 is_spelled (Rmdir path) = is_spelled_word path
@@ -260,7 +261,7 @@ is_spelled (Sumount path) = is_spelled_word path
 is_spelled Index = true
 is_spelled (Tick steps) = are_steps steps
 is_spelled Counts = true
-is_spelled other = false
+is_spelled Checkpoint = true
 
 -- the session's name and the command are as a line spells them
 abbrev pub is_spelled_line : Line → Bool

@@ -1,11 +1,8 @@
 use Rattle.std.proofs.Common.{◌∙◌, sym}
-use Rattle.hac_model.specs.Tree.Events.{apply, is_possible}
 use Rattle.hac_model.specs.Tree.Facts.{facts_of}
-use Rattle.hac_model.specs.Tree.Limits.{passed_limit}
 use Rattle.hac_model.proofs.FactLemmas.{facts-bare, facts-law}
 use Rattle.hac_model.proofs.FillLemmas.{same-state}
 use Rattle.hac_model.proofs.SessionLemmas.{sessions-follow}
-use Rattle.hac_model.proofs.ValidLemmas.{accepted-parts}
 use Rattle.hac_model.proofs.laws.facts_follow.Goals as goal
 
 pub returns-clause-follow : goal.returns-clause-follow
