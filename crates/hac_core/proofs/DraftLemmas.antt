@@ -6,6 +6,7 @@ use Rattle.std.proofs.lemmas.Bool.{and_from}
 use Rattle.hac_model.specs.Laws.{AllHappen}
 use Rattle.hac_model.specs.Run.Answers.{Passes, Refuses, first_cause}
 use Rattle.hac_model.specs.Run.Asks.{asks, no_asks, space_of, told_to}
+use Rattle.hac_model.specs.Run.Checkpoints.{is_checkpoint}
 use Rattle.hac_model.specs.Run.Given.{no_answers}
 use Rattle.hac_model.specs.Run.Refusals.{blocking_cause, cause, cycle_against, cycle_cause, docs_cause, early_cause, event_of, events_of, gone_cause, layout_cause, led_to, not_mount_cause, root_cause}
 use Rattle.hac_model.specs.Run.Standing.{AllStand}
@@ -34,14 +35,14 @@ use Rattle.hac_model.specs.declared.spaces.Asks.{Asks}
 use Rattle.hac_model.specs.declared.states.State.{State}
 use Rattle.hac_model.proofs.EventLemmas.{all-valid, cause-parts, made-holder, no_cause, slot-free, steps-happen, unblocked-happen, unblocked-placed}
 use Rattle.hac_model.proofs.LimitLemmas.{IsWithinLimits, first-before, limits-within, none-passed, paths-short}
-use Rattle.hac_model.proofs.PlayLemmas.{said-answers}
+use Rattle.hac_model.proofs.PlayLemmas.{said-answers, saves-nothing}
 use Rattle.file_tree.specs.Seated.{is_seated}
 use Rattle.hac_core.specs.Drafts.{IsChange, IsKnownOf, MakesSteps, Settles, answering, change_cause, is_indexing, is_reading, settled_change}
 use Rattle.hac_core.specs.Questions.{asks_for}
 use Rattle.hac_core.specs.Settling.{answered, settling_cause}
 use Rattle.hac_core.specs.declared.drafts.Change.{Change}
 use Rattle.hac_core.specs.declared.drafts.Known.{Known}
-use Rattle.hac_core.specs.declared.drafts.Known.TheVariants.{Reads, Changes, Indexes}
+use Rattle.hac_core.specs.declared.drafts.Known.TheVariants.{Reads, Changes, Indexes, Saves}
 use Rattle.hac_core.specs.declared.drafts.Settled.{Settled}
 use Rattle.hac_core.specs.declared.drafts.Settled.TheVariants as settled
 
@@ -99,6 +100,16 @@ index-unlisted : (s : State) (r : Resolved) → is_indexing r ≡ true → (asks
 index-unlisted s Index indexes = refl
 index-unlisted s (Tick steps) indexes = refl
 index-unlisted s other indexes = absurd cc
+
+-- what indexes, or makes an event, is no checkpoint
+indexing-apart : (r : Resolved) → is_indexing r ≡ true → is_checkpoint r ≡ false
+indexing-apart Index indexes = refl
+indexing-apart (Tick steps) indexes = refl
+indexing-apart other indexes = absurd cc
+
+made-apart : (s : State) (r : Resolved) (e : Event) → event_of no_answers s r ≡ Some e → is_checkpoint r ≡ false
+made-apart s command.Checkpoint e is = absurd cc
+made-apart s other e is = refl
 
 -- The first causes.
 
@@ -169,9 +180,34 @@ module _ (s : State) (h : IsValid s) where
   pub known-indexes : (r : Resolved) (count : ℕ) → AllStand s r → MakesSteps s r count → IsKnownOf s r (Indexes count)
   known-indexes r count stands made = record { stands = stands; cause = index-early r made.0; known = made }
 
+  -- a checkpoint leaves the state
+  saves-early : (r : Resolved) → is_checkpoint r ≡ true → early_cause s r ≡ None
+  saves-early command.Checkpoint saves = led-early command.Checkpoint h refl refl
+  saves-early other saves = absurd cc
+
+  saves-free : (answers : Answers) (r : Resolved) → is_checkpoint r ≡ true → AreAnswersTo (asks s r) answers → cause answers s r ≡ None
+  saves-free answers command.Checkpoint saves told =
+      let docs = few-unlisted answers (asks s command.Checkpoint) refl told in
+      let limits : passed_limit s ≡ None = h.layout.limits in
+      let few : are_answers_few s.entries ≡ true = h.few in
+      λ i. first_cause (saves-early command.Checkpoint saves i ∷ first_cause (None ∷ docs i ∷ option_map Limit (limits i) ∷ (if few i then None else Some (Limit AnswersWord)) ∷ []) ∷ [])
+  saves-free answers other saves told = absurd cc
+
+  pub known-saves : (r : Resolved) → AllStand s r → is_checkpoint r ≡ true → IsKnownOf s r Saves
+  known-saves r stands saves = record { stands = stands; cause = saves-early r saves; known = saves }
+
+  pub settles-saved : (answers : Answers) (r : Resolved) → IsKnownOf s r Saves → AreAnswersTo (asks s r) answers → Settles s answers r settled.Checkpoint
+  settles-saved answers r fact told = record {
+    cause = saves-free answers r fact.known told;
+    area = sym fact.known;
+    events = sym (saves-nothing answers s r fact.known);
+    can = tt;
+  }
+
   pub settles-steps : (answers : Answers) (r : Resolved) (count : ℕ) → IsKnownOf s r (Indexes count) → AreAnswersTo (asks s r) answers → Settles s answers r (settled.Steps count)
   settles-steps answers r count fact told = record {
     cause = index-free answers r fact.known.0 told;
+    area = sym (indexing-apart r fact.known.0);
     events = sym ((index-gone answers r fact.known.0).1 ∙ fact.known.1);
     can = subst (AllHappen s) ((index-gone answers r fact.known.0).1 ∙ fact.known.1) (steps-lead answers r fact.known.0);
   }
@@ -189,6 +225,7 @@ module _ (s : State) (h : IsValid s) where
       some e = Some e
   known-changes r e (Reads shown) stands free is made none = absurd made
   known-changes r e (Indexes count) stands free is made none = absurd made
+  known-changes r e Saves stands free is made none = absurd made
 
   -- what is known of an event, or why nothing is
   pub knows-change : (r : Resolved) (e : Event) (result : Result Known Deny) → AllStand s r → blocking_cause s r ≡ None → event_of no_answers s r ≡ Some e → IfOk result (IsChange s e) → Passes result (change_cause s e) →
@@ -308,12 +345,15 @@ module _ (s : State) (h : IsValid s) (answers : Answers) where
   settles-change : (r : Resolved) (change : Change) → IsKnownOf s r (Changes change) → AreAnswersTo (asks s r) answers → settling_cause s answers change.event ≡ None → Settles s answers r (settled_change (answered s answers change.event))
   settles-change r change fact told within =
       elim (is_stored next) as (λ b. is_stored next ≡ b → Settles s answers r (if b then settled.Change (answered s answers change.event) else settled.Session next)) [
-        | true ↦ (λ stored. record { cause = free; events = sym events; can = (happen, refl, stored) })
-        | false ↦ (λ moves. record { cause = free; events = sym events; can = (happen, moves) })
+        | true ↦ (λ stored. record { cause = free; area = apart; events = sym events; can = (happen, refl, stored) })
+        | false ↦ (λ moves. record { cause = free; area = apart; events = sym events; can = (happen, moves) })
       ] refl
     where
       next : Event
       next = answering s answers change.event
+
+      apart : false ≡ is_checkpoint r
+      apart = sym (made-apart s r change.event fact.known.0)
 
       free : cause answers s r ≡ None
       free = cause-settling answers s r change.event fact.cause fact.known.0 ∙ within

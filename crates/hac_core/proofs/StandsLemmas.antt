@@ -8,7 +8,7 @@ use Rattle.hac_model.specs.declared.paths.PathWord.{PathWord}
 use Rattle.hac_model.specs.declared.places.Place.{Place}
 use Rattle.hac_model.specs.declared.places.Place.TheVariants.{There, Free}
 use Rattle.hac_model.specs.declared.resolved.Resolved.{Resolved}
-use Rattle.hac_model.specs.declared.resolved.Resolved.TheVariants.{Mkdir, Rmdir, Write, Cat, Ls, Cd, Pwd, Mv, Rm, Ln, Readlink, Smkdir, Setq, Unq, Query, Sls, Sln, Srm, Sforget, Find, Smount, Ssync, Sumount, Index, Tick, Counts}
+use Rattle.hac_model.specs.declared.resolved.Resolved.TheVariants.{Mkdir, Rmdir, Write, Cat, Ls, Cd, Pwd, Mv, Rm, Ln, Readlink, Smkdir, Setq, Unq, Query, Sls, Sln, Srm, Sforget, Find, Smount, Ssync, Sumount, Index, Tick, Counts, Checkpoint}
 use Rattle.hac_model.specs.Tree.Bare.{bare, bare_body}
 use Rattle.hac_model.specs.Tree.Events.{is_vacant}
 use Rattle.hac_model.specs.Tree.Names.{is_name}
@@ -72,6 +72,7 @@ module _ (s t : State) (bares : bare s ≡ bare t) where
   stands-kept Index h = tt
   stands-kept (Tick steps) h = tt
   stands-kept Counts h = tt
+  stands-kept Checkpoint h = tt
 
 -- what a session's command leads to, where it isn't `cd`
 pub other-resolved : (s : State) (session : List ℕ) (base : ℕ) (c : Command) → ((path : Option PathWord) → c ≡ command.Cd path → ⊥) → resolved_for s session base c ≡ resolved s base c

@@ -3,6 +3,7 @@ use Rattle.std.specs.Prelude.{◌≡◌, ⊤, ℕ, Bool, true, false, if◌then�
 use Rattle.std.specs.Option.{option_map}
 use Rattle.hac_model.specs.Laws.{AllHappen}
 use Rattle.hac_model.specs.Run.Answers.{first_cause}
+use Rattle.hac_model.specs.Run.Checkpoints.{is_checkpoint}
 use Rattle.hac_model.specs.Run.Given.{no_answers}
 use Rattle.hac_model.specs.Run.Asks.{asks, told_for}
 use Rattle.hac_model.specs.Run.Refusals.{cause, cycle_against, early_cause, event_of, events_of, mounting, syncing}
@@ -28,7 +29,7 @@ use Rattle.hac_model.specs.declared.spaces.Asks.{Asks}
 use Rattle.hac_model.specs.declared.states.State.{State}
 use Rattle.hac_core.specs.declared.drafts.Change.{Change}
 use Rattle.hac_core.specs.declared.drafts.Known.{Known}
-use Rattle.hac_core.specs.declared.drafts.Known.TheVariants.{Reads, Changes, Indexes}
+use Rattle.hac_core.specs.declared.drafts.Known.TheVariants.{Reads, Changes, Indexes, Saves}
 use Rattle.hac_core.specs.declared.drafts.Settled.{Settled}
 use Rattle.hac_core.specs.declared.drafts.Settled.TheVariants as settled
 use Rattle.hac_core.specs.declared.events.Made.{Made}
@@ -61,10 +62,12 @@ is_indexing other = false
 abbrev pub MakesSteps : State → Resolved → ℕ → Type 0
 MakesSteps s command count = (is_indexing command ≡ true) × (events_of no_answers s command ≡ replicate count Step)
 
--- the command makes this event, before any space has answered, or so many steps, or it is this one and only reads
+-- the command makes this event, before any space has answered, or so many steps, or a new area, or it is this one and only
+-- reads
 abbrev pub Makes : State → Resolved → Made → Type 0
 Makes s command (made.Event event) = event_of no_answers s command ≡ Some event
 Makes s command (made.Steps count) = MakesSteps s command count
+Makes s command made.Area = is_checkpoint command ≡ true
 Makes s command (made.Nothing shown) = (shown ≡ command) × (is_reading command ≡ true)
 
 -- the event, once spaces have answered
@@ -89,6 +92,7 @@ abbrev pub Knows : State → Resolved → Known → Type 0
 Knows s command (Reads shown) = (shown ≡ command) × (is_reading command ≡ true)
 Knows s command (Changes change) = (event_of no_answers s command ≡ Some change.event) × IsCounted s change
 Knows s command (Indexes count) = MakesSteps s command count
+Knows s command Saves = is_checkpoint command ≡ true
 
 -- nothing refuses the command so far, whatever spaces answer, and this is known of it
 pub record IsKnownOf (s : State) (command : Resolved) (fact : Known) : Type 0 where
@@ -135,16 +139,24 @@ abbrev pub settled_events : Settled → List Event
 settled_events (settled.Change change) = change.event ∷ []
 settled_events (settled.Session event) = event ∷ []
 settled_events (settled.Steps count) = replicate count Step
+settled_events settled.Checkpoint = []
+
+-- the outcome is a new area of the store
+abbrev pub is_area : Settled → Bool
+is_area settled.Checkpoint = true
+is_area other = false
 
 -- they can happen to the state; a change is counted, and is stored, as an event of a session is not
 abbrev pub CanSettle : State → Settled → Type 0
 CanSettle s (settled.Change change) = AllHappen s (change.event ∷ []) × IsCounted s change × IsTrue (is_stored change.event)
 CanSettle s (settled.Session event) = AllHappen s (event ∷ []) × (is_stored event ≡ false)
 CanSettle s (settled.Steps count) = AllHappen s (replicate count Step)
+CanSettle s settled.Checkpoint = ⊤
 
 -- nothing refuses the command, given what spaces answer, and this is its outcome
 pub record Settles (s : State) (answers : Answers) (command : Resolved) (outcome : Settled) : Type 0 where
   pub cause : cause answers s command ≡ None
+  pub area : is_area outcome ≡ is_checkpoint command
   pub events : settled_events outcome ≡ events_of answers s command
   pub can : CanSettle s outcome
 

@@ -80,7 +80,8 @@ fn fits_tree_alone(tree: &Tree, command: &Resolved) -> Result<(), Deny>
         | Resolved::Find { .. }
         | Resolved::Index
         | Resolved::Tick { .. }
-        | Resolved::Counts => Ok(()),
+        | Resolved::Counts
+        | Resolved::Checkpoint => Ok(()),
     }
 }
 

@@ -70,6 +70,7 @@ fn follow(alloc: Global, tree: &Tree, base: Number, command: Command) -> Result<
         Command::Index => Ok(Resolved::Index),
         Command::Tick { steps } => Ok(Resolved::Tick { steps }),
         Command::Counts => Ok(Resolved::Counts),
+        Command::Checkpoint => Ok(Resolved::Checkpoint),
         _ => Err(Deny::Refused(Refusal::BadLine)),
     }
 }

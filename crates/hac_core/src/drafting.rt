@@ -67,6 +67,7 @@ fn known_of(alloc: Global, kept: &KeptState, command: Resolved) -> Result<Known,
     match made_by(alloc, kept, command) {
         Made::Event(event) => changing(alloc, kept, event),
         Made::Steps(count) => Ok(Known::Indexes(count)),
+        Made::Area => Ok(Known::Saves),
         Made::Nothing(command) => Ok(Known::Reads(command)),
     }
 }

@@ -24,6 +24,8 @@ pub(crate) enum Known {
     Changes(Change),
     /// It indexes this many files.
     Indexes(u64),
+    /// It writes the whole state as a new area of the store.
+    Saves,
 }
 
 /// A command that a machine's state doesn't refuse so far, its paths followed, with what it asks
@@ -73,7 +75,7 @@ impl Draft {
     }
 }
 
-/// The outcome of a command that changes the state.
+/// The outcome of a command that changes the state, or the store alone.
 #[derive(Debug, Drop)]
 pub enum Settled {
     /// One event, which is to be stored.
@@ -82,4 +84,6 @@ pub enum Settled {
     Session(Event),
     /// This many index steps.
     Steps(u64),
+    /// A new area of the store with the whole state. It has no events.
+    Checkpoint,
 }

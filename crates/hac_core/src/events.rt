@@ -1,4 +1,4 @@
-//! What a command makes: an event, index steps, or nothing.
+//! What a command makes: an event, index steps, a new area of the store, or nothing.
 ghost use Rattle.std.specs.Prelude.{◌≡◌, None};
 ghost use Rattle.hac_model.specs.Run.Refusals.{blocking_cause, marks, writes};
 ghost use Rattle.hac_model.specs.Tree.Events.{dirty};
@@ -15,6 +15,8 @@ pub enum Made {
     Event(Event),
     /// This many index steps.
     Steps(u64),
+    /// A new area of the store, with the whole state.
+    Area,
     /// Nothing: it only reads.
     Nothing(Resolved),
 }
@@ -77,6 +79,7 @@ pub fn made_by(alloc: Global, kept: &KeptState, command: Resolved) -> Made
         Resolved::Sumount { mount } => Made::Event(Event::Sumount { mount }),
         Resolved::Index => Made::Steps(dirty(kept)),
         Resolved::Tick { steps } => Made::Steps(steps.min(dirty(kept))),
+        Resolved::Checkpoint => Made::Area,
         other => Made::Nothing(other),
     }
 }

@@ -103,7 +103,7 @@ impl Machine {
         self.linked.kept().know_valid();
         match draft.into_known() {
             Known::Reads(command) => shown(self.alloc, &self.linked, command, answers),
-            Known::Changes(_) | Known::Indexes(_) => unreachable!(),
+            Known::Changes(_) | Known::Indexes(_) | Known::Saves => unreachable!(),
         }
     }
 
@@ -123,6 +123,7 @@ impl Machine {
         match draft.into_known() {
             Known::Changes(change) => settled(self.alloc, kept, change, answers),
             Known::Indexes(count) => Ok(Settled::Steps(count)),
+            Known::Saves => Ok(Settled::Checkpoint),
             Known::Reads(_) => unreachable!(),
         }
     }
@@ -144,6 +145,7 @@ impl Machine {
             }
             Settled::Session(_) => unreachable!(),
             Settled::Steps(count) => self.linked.prepare_steps(self.alloc, count),
+            Settled::Checkpoint => self.linked.prepare_steps(self.alloc, 0),
         }
     }
 

@@ -30,7 +30,8 @@ use Rattle.hac_model.proofs.StateSpellingLemmas.{valid-states-spelled}
 use Rattle.hac_model.proofs.ValidTestLemmas.{valid-Decides}
 use Rattle.event_codec.proofs.SnapshotLemmas.{snapshot_is_read}
 use Rattle.snapshots.proofs.SnapshotLemmas.{snapshots-restore}
-use Rattle.hac_store.specs.Checkpointing.{HoldsState, checkpointed, live_area, next_place, place_of, state_text}
+use Rattle.hac_model.specs.Run.Checkpoints.{next_place, place_of, state_text}
+use Rattle.hac_store.specs.Checkpointing.{HoldsState, moved_to}
 use Rattle.hac_store.specs.Held.{Log, after_snapshot, area, go_on, held, is_state, log}
 use Rattle.hac_store.specs.Stores.{Seen, root_by}
 use Rattle.hac_store.proofs.AreaLemmas.{area-ends, area-state}
@@ -70,12 +71,16 @@ length-area payload =
 
 -- ---- the place
 
+-- where the live area of a store is
+abbrev live_area : Seen → Area
+live_area store = record { start = store.setting.start; end = store.setting.end }
+
 -- what a place for an area says
 record IsPlace (store : Seen) (at size : ℕ) : Type 0 where
   pub fits : size < STORE_LIMIT
   pub place : place_for STORE_LIMIT (live_area store) (size + 6) ≡ Some at
 
-place-is : (store : Seen) (at size : ℕ) → place_of store size ≡ Some at → IsPlace store at size
+place-is : (store : Seen) (at size : ℕ) → place_of store.setting size ≡ Some at → IsPlace store at size
 place-is store at size is = by (nat_lt store.setting.generation (2 ^ 64 - 1)) (nat_lt size STORE_LIMIT) refl is
   where
     place : Option ℕ
@@ -126,14 +131,14 @@ module _ (store : Seen) (at : ℕ) where
   live-holds c root both =
       (setting_of (root_by store) old_log, held-area c (root_by store) old_log root both.old_is, refl)
 
-  pub next-held : (c : List ℕ) → HasRoot (root_by (checkpointed store at)) c → HasBoth c
-      → held c ≡ Ok (stored_setting (checkpointed store at).setting)
-  next-held c root both = held-area c (root_by (checkpointed store at)) new_log root both.new_is
+  pub next-held : (c : List ℕ) → HasRoot (root_by (moved_to store at)) c → HasBoth c
+      → held c ≡ Ok (stored_setting (moved_to store at).setting)
+  next-held c root both = held-area c (root_by (moved_to store at)) new_log root both.new_is
 
-  pub next-holds : (c : List ℕ) → HasRoot (root_by (checkpointed store at)) c → HasBoth c → HoldsState s c
-  next-holds c root both = (stored_setting (checkpointed store at).setting, next-held c root both, refl)
+  pub next-holds : (c : List ℕ) → HasRoot (root_by (moved_to store at)) c → HasBoth c → HoldsState s c
+  next-holds c root both = (stored_setting (moved_to store at).setting, next-held c root both, refl)
 
-  module _ (order : store.setting.start ≤ store.setting.end) (free : next_place store ≡ Some at) where
+  module _ (order : store.setting.start ≤ store.setting.end) (free : next_place store.setting ≡ Some at) where
     -- where the place lies
     apart : 64 ≤ store.setting.start
         → (64 ≤ at) × (at ≤ store.setting.end + 1) × IsApart at (size + 6) (live_area store)

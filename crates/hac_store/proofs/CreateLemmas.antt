@@ -10,7 +10,7 @@ use Rattle.hac_journal.specs.Appending.{ClosedAt}
 use Rattle.hac_model.specs.Run.Play.{new_setting}
 use Rattle.hac_store.specs.Creating.{Becomes, IsReady, HoldsNone}
 use Rattle.hac_store.specs.Held.{held}
-use Rattle.hac_store.specs.Stores.{GoesBy, IsNewOrNone, Opens, Seen, Stands, first_store}
+use Rattle.hac_store.specs.Stores.{Bears, IsNewOrNone, Opens, Seen, Stands, first_store}
 use Rattle.hac_store.specs.declared.fault.StoreFault.{StoreFault}
 use Rattle.hac_model.specs.declared.states.State.{State}
 use Rattle.hac_store.specs.declared.creating.TheConstants.{NEW}
@@ -80,21 +80,14 @@ opened-stands (Ok u) (Some old) (Some file) new image ready written settled =
     subst (λ s. Stands s image new_setting) (sym written) stands
 
 pub opened-place : {E : Type 0} (result : Result Unit E) (seen mid new : Option (List ℕ)) → Becomes seen IsReady mid
-    → OnOk result (Written mid 0 (1 ∷ []) new) → OnOk result (HasByteAt new 64)
+    → OnOk result (Written mid 0 (1 ∷ []) new) → OnOk result (Bears new first_store)
 opened-place (Err e) seen mid new ready written = tt
-opened-place (Ok u) None mid new ready written = let none : new ≡ None = subst (λ m. Written m 0 (1 ∷ []) new) ready written in subst (λ s. HasByteAt s 64) (sym none) tt
-opened-place (Ok u) (Some old) None new ready written = absurd ready
-opened-place (Ok u) (Some old) (Some file) new ready written = subst (λ s. HasByteAt s 64) (sym written) (opened-held file ready).1
-
-pub opened-root : {E : Type 0} (result : Result Unit E) (seen mid new : Option (List ℕ)) → Becomes seen IsReady mid
-    → OnOk result (Written mid 0 (1 ∷ []) new) → OnOk result (GoesBy new first_store)
-opened-root (Err e) seen mid new ready written = tt
-opened-root (Ok u) None mid new ready written =
+opened-place (Ok u) None mid new ready written =
     let none : new ≡ None = subst (λ m. Written m 0 (1 ∷ []) new) ready written in
-    subst (λ s. GoesBy s first_store) (sym none) tt
-opened-root (Ok u) (Some old) None new ready written = absurd ready
-opened-root (Ok u) (Some old) (Some file) new ready written =
-    subst (λ s. GoesBy s first_store) (sym written) (opened-rooted file ready)
+    subst (λ s. Bears s first_store) (sym none) (tt, tt)
+opened-place (Ok u) (Some old) None new ready written = absurd ready
+opened-place (Ok u) (Some old) (Some file) new ready written =
+    subst (λ s. Bears s first_store) (sym written) ((opened-held file ready).1, opened-rooted file ready)
 
 module _ {D : Type 0} (seen : D → Option (List ℕ)) (image : D → List ℕ → Type 0) (moment : D → ℕ) (image_since : D → ℕ → List ℕ → Type 0)
     (only_now : (disk : D) (c : List ℕ) → image_since disk (moment disk) c → image disk c) where

@@ -16,9 +16,10 @@ use Rattle.hac_checkpoint.proofs.ApartLemmas.{writes-leave-roots}
 use Rattle.hac_checkpoint.proofs.RootLemmas.{gate_of-within}
 use Rattle.hac_model.specs.Run.Play.{Setting, stored_setting}
 use Rattle.hac_model.specs.Tree.Valid.{IsValid}
-use Rattle.hac_store.specs.Checkpointing.{HoldsState, IsCheckpointed, checkpointed, next_place, state_text}
+use Rattle.hac_model.specs.Run.Checkpoints.{next_place, state_text}
+use Rattle.hac_store.specs.Checkpointing.{HoldsState, IsCheckpointed, moved_to}
 use Rattle.hac_store.specs.Held.{held}
-use Rattle.hac_store.specs.Stores.{Bears, GoesBy, IsHeldAs, Seen, Stands, root_by}
+use Rattle.hac_store.specs.Stores.{Bears, IsHeldAs, Seen, Stands, root_by}
 use Rattle.hac_store.proofs.CheckpointLemmas.{HasBoth, LiesIn, both-torn, both-written, live-holds, next-held}
 use Rattle.hac_store.proofs.CheckpointLemmas.{next-holds, place-lies, torn-holds}
 use Rattle.hac_store.proofs.PutLemmas.{stands-each}
@@ -75,20 +76,20 @@ part-byte (Some d) None a n place part byte = absurd part
 part-byte (Some d) (Some c) a n place part byte = omega (arith, byte, part.no_shorter)
 
 module _ (store : Seen) (at : ℕ) (order : store.setting.start ≤ store.setting.end)
-    (free : next_place store ≡ Some at) where
+    (free : next_place store.setting ≡ Some at) where
   -- a place for an area lies in the file that is told, and so does its head
-  pub place-starts : (seen : Option (List ℕ)) → Bears seen store → GoesBy seen store → StartsWithin seen at
-  place-starts None bears root = tt
-  place-starts (Some file) bears root = (place-lies store at order free file root bears).starts
+  pub place-starts : (seen : Option (List ℕ)) → Bears seen store → StartsWithin seen at
+  place-starts None bears = tt
+  place-starts (Some file) bears = (place-lies store at order free file bears.1 bears.0).starts
 
-  pub place-head : (seen : Option (List ℕ)) → Bears seen store → GoesBy seen store → RangeWithin seen 0 64
-  place-head None bears root = tt
-  place-head (Some file) bears root = (place-lies store at order free file root bears).head
+  pub place-head : (seen : Option (List ℕ)) → Bears seen store → RangeWithin seen 0 64
+  place-head None bears = tt
+  place-head (Some file) bears = (place-lies store at order free file bears.1 bears.0).head
 
 -- a settled file with both areas whose root leads to the new one
 next-stands : (store : Seen) (at : ℕ) (seen : Option (List ℕ)) (image : List ℕ → Type 0)
-    → IsSettledWith (HasRoot (root_by (checkpointed store at))) seen image → IsSettledWith (HasBoth store at) seen image
-    → Stands seen image (checkpointed store at).setting
+    → IsSettledWith (HasRoot (root_by (moved_to store at))) seen image → IsSettledWith (HasBoth store at) seen image
+    → Stands seen image (moved_to store at).setting
 next-stands store at None image root both = absurd root
 next-stands store at (Some file) image root both =
     λ c left. ap held (root.1 c left) ∙ next-held store at file root.0 both.0
@@ -127,9 +128,9 @@ module _ {D : Type 0} (seen : D → Option (List ℕ)) (image : D → List ℕ �
 
   -- a checkpoint, call by call. First the area is written.
   module _ (store : Seen) (at : ℕ) (valid : IsValid store.setting.state)
-      (order : store.setting.start ≤ store.setting.end) (free : next_place store ≡ Some at)
+      (order : store.setting.start ≤ store.setting.end) (free : next_place store.setting ≡ Some at)
       (old mid : D) (read : (file : List ℕ) → seen old ≡ Some file → image old file)
-      (bears : Bears (seen old) store) (root : GoesBy (seen old) store)
+      (bears : Bears (seen old) store)
       (within : Within at (length (state_text store.setting.state) + 6) old mid) where
     abbrev Holds : List ℕ → Type 0
     Holds = HoldsState store.setting.state
@@ -138,7 +139,7 @@ module _ {D : Type 0} (seen : D → Option (List ℕ)) (image : D → List ℕ �
     live = root_by store
 
     abbrev next : Root
-    next = root_by (checkpointed store at)
+    next = root_by (moved_to store at)
 
     abbrev gate : ℕ
     gate = gate_of (other_slot store.slot)
@@ -159,10 +160,10 @@ module _ {D : Type 0} (seen : D → Option (List ℕ)) (image : D → List ℕ �
     each stands = stands-each (seen old) (image old) store.setting stands
 
     root_is : (file : List ℕ) → seen old ≡ Some file → HasRoot live file
-    root_is file is = subst (λ s. GoesBy s store) is root
+    root_is file is = (subst (λ s. Bears s store) is bears).1
 
     lies : (file : List ℕ) → seen old ≡ Some file → LiesIn store at order free file
-    lies file is = place-lies store at order free file (root_is file is) (subst (λ s. Bears s store) is bears)
+    lies file is = place-lies store at order free file (root_is file is) (subst (λ s. Bears s store) is bears).0
 
     pub writing-moments : StoodFor → Leaves old mid Holds
     writing-moments stands =
@@ -228,32 +229,33 @@ module _ {D : Type 0} (seen : D → Option (List ℕ)) (image : D → List ℕ �
           flipped : (file : List ℕ) → seen old ≡ Some file → Settles (HasRoot next) new
           flipped file is = flips (lies file is).behind (fill (rooted file is))
 
-          flipped-told : IsSettled (seen new) (image new) × GoesBy (seen new) (checkpointed store at)
+          flipped-told : IsSettled (seen new) (image new) × IfSome (seen new) (HasRoot next)
           flipped-told = by (seen old) refl
             where
               by : (o : Option (List ℕ)) → seen old ≡ o
-                  → IsSettled (seen new) (image new) × GoesBy (seen new) (checkpointed store at)
+                  → IsSettled (seen new) (image new) × IfSome (seen new) (HasRoot next)
               by None is =
                   let size = length (state_text store.setting.state) + 6 in
                   let first = part-none (seen old) (seen mid) at size within.in_part is in
                   let second = part-none (seen mid) (seen two) gate 17 filled.in_part first in
                   let none = part-none (seen two) (seen new) gate 1 opened.in_part second in
-                  subst (λ s. IsSettled s (image new) × GoesBy s (checkpointed store at)) (sym none) (tt, tt)
+                  subst (λ s. IsSettled s (image new) × IfSome s (HasRoot next)) (sym none) (tt, tt)
               by (Some file) is = settled-told (seen new) (image new) (HasRoot next) (flipped file is)
 
           pub flipped-made : HasByteAt (seen mid) end
-              → IsCheckpointed (seen new) (image new) store (checkpointed store at) at
+              → IsCheckpointed (seen new) (image new) store (moved_to store at) at
           flipped-made byte = record {
             free = free;
             store = refl;
             settled = flipped-told.0;
-            place =
-                part-byte (seen two) (seen new) gate 1 end opened.in_part
-                (part-byte (seen mid) (seen two) gate 17 end filled.in_part byte);
-            root = flipped-told.1;
+            place = (
+              part-byte (seen two) (seen new) gate 1 end opened.in_part
+                  (part-byte (seen mid) (seen two) gate 17 end filled.in_part byte),
+              flipped-told.1,
+            );
           }
 
-          pub flipped-stands : StoodFor → Stands (seen new) (image new) (checkpointed store at).setting
+          pub flipped-stands : StoodFor → Stands (seen new) (image new) (moved_to store at).setting
           flipped-stands stands =
               let file = told stands in
               let root_now = flipped file.0 file.1 in

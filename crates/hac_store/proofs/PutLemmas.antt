@@ -1,5 +1,5 @@
 -- What is left of a store whose log gets the records of events.
-use Rattle.std.proofs.Common.{◌≡◌, inl, ⊎_elim, Bool, false, ℕ, zero, suc, ◌+◌, ◌<◌, List, [], ◌∷◌, length, map, None, Some, IfSome, Result, Ok, Err, refl, sym, ◌∙◌, ap, subst, arith, Vec}
+use Rattle.std.proofs.Common.{◌≡◌, inl, ⊎_elim, Bool, false, ℕ, zero, suc, ◌+◌, ◌<◌, ◌≤◌, List, [], ◌∷◌, length, map, None, Some, IfSome, Result, Ok, Err, refl, sym, ◌∙◌, ap, subst, arith, Vec}
 use Rattle.std.specs.Prelude.{replicate}
 use Rattle.std.specs.declared.alloc.Global.{Global}
 use Rattle.std.specs.declared.option.Option.{Option}
@@ -8,7 +8,11 @@ use Rattle.hac_disk.specs.Images.{LeavesOnly, overlaid}
 use Rattle.hac_disk.specs.Contents.{IsSettled, Written}
 use Rattle.hac_disk.proofs.Moments.{started, weaken}
 use Rattle.hac_disk.proofs.ContentsLemmas.{told-settled}
+use Rattle.hac_disk.proofs.TornLemmas.{torn-whole}
+use Rattle.hac_checkpoint.specs.Flips.{HasRoot}
 use Rattle.hac_checkpoint.specs.declared.heads.Slot.{Slot}
+use Rattle.hac_checkpoint.proofs.ApartLemmas.{writes-leave-roots}
+use Rattle.hac_checkpoint.proofs.HeadLemmas.{roots-start-behind}
 use Rattle.hac_journal.specs.Appending.{Appending, ClosedAt}
 use Rattle.hac_journal.specs.Records.{contents_of, log_of}
 use Rattle.hac_model.specs.Tree.Events.{apply_all}
@@ -29,7 +33,7 @@ use Rattle.hac_store.specs.Faults.{is_disk_fault}
 use Rattle.hac_store.specs.Held.{held}
 use Rattle.hac_store.specs.Storing.{StoresEvents, StoringEnds}
 use Rattle.hac_store.specs.declared.fault.StoreFault.{StoreFault}
-use Rattle.hac_store.specs.Stores.{AreForStore, HeldBetween, Seen, Stands, store_after, unstored_after}
+use Rattle.hac_store.specs.Stores.{AreForStore, Bears, HeldBetween, Seen, Stands, root_by, store_after, unstored_after}
 use Rattle.hac_store.proofs.HeldLemmas.{held-appending, held-gate, held-overlaid}
 use Rattle.hac_store.proofs.StoredLemmas.{AreStored}
 use Rattle.hac_store.proofs.RoomLemmas.{within-limit}
@@ -39,6 +43,7 @@ pub can-happen : (s : State) (outcome : Settled) → CanSettle s outcome → All
 can-happen s (settled.Change change) can = can.0
 can-happen s (settled.Steps count) can = can
 can-happen s (settled.Session event) can = can.0
+can-happen s settled.Checkpoint can = tt
 
 -- index steps are stored
 pub steps-kept : (count : ℕ) → AreForStore (replicate count Step)
@@ -95,6 +100,18 @@ put-stands (Some file) new image now z events vs read texts stored leads fits wr
     same ∙ ap (λ (s : State). Ok (record z { state = s; end = end_behind z.end events })) (sym leads) in
     let all : Stands (Some bytes) now (after_events z events) = λ c left. ap held (only c left) ∙ after in
     subst (λ s. Stands s now (after_events z events)) (sym written) all
+
+-- records behind the log leave the root that counts
+pub put-root : (seen new : Option (List ℕ)) (store : Seen) (bytes : List ℕ) → store.setting.start ≤ store.setting.end → Bears seen store
+    → Written seen store.setting.end bytes new → IfSome new (HasRoot (root_by store))
+put-root None new store bytes order bears written = subst (λ s. IfSome s (HasRoot (root_by store))) (sym written) tt
+put-root (Some file) new store bytes order bears written =
+    let end = store.setting.end in
+    let behind = roots-start-behind file (root_by store) bears.1 in
+    let starts : end ≤ length file = omega (arith, bears.0) in
+    subst (λ s. IfSome s (HasRoot (root_by store))) (sym written)
+    (writes-leave-roots end (length bytes) (overlaid end bytes file) file (omega (arith, behind, order))
+    (torn-whole end bytes file starts) ∙ bears.1)
 
 module _ {D : Type 0} (seen : D → Option (List ℕ)) (image : D → List ℕ → Type 0) (moment : D → ℕ) (image_since : D → ℕ → List ℕ → Type 0)
     (only_now : (disk : D) (c : List ℕ) → image_since disk (moment disk) c → image disk c) where

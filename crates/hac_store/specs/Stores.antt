@@ -58,9 +58,13 @@ unstored_after setting event = record setting { state = apply setting.state even
 abbrev pub first_store : Seen
 first_store = record { setting = new_setting; slot = A; broken = false }
 
--- the disk bears the store: it has the gate behind its log
+-- the root by which a store goes
+abbrev pub root_by : Seen → Root
+root_by store = record { slot = store.slot; generation = store.setting.generation; start = store.setting.start }
+
+-- the disk bears the store: where it tells its bytes, it has the gate behind the log, and this root counts
 abbrev pub Bears : Option (List ℕ) → Seen → Type 0
-Bears seen store = HasByteAt seen store.setting.end
+Bears seen store = HasByteAt seen store.setting.end × IfSome seen (HasRoot (root_by store))
 
 -- what a file holds has this setting
 abbrev pub IsHeldAs : List ℕ → Setting → Type 0
@@ -85,11 +89,3 @@ abbrev pub Opens : Result Seen StoreFault → Result Setting ℕ → Type 0
 Opens (Ok store) kept = kept ≡ Ok store.setting
 Opens (Err (NotStore at)) kept = kept ≡ Err at
 Opens (Err other) kept = ⊤
-
--- the root that counts is the one that the store goes by
-abbrev pub root_by : Seen → Root
-root_by store = record { slot = store.slot; generation = store.setting.generation; start = store.setting.start }
-
--- where the disk tells its bytes, the root that counts is the one that the store goes by
-abbrev pub GoesBy : Option (List ℕ) → Seen → Type 0
-GoesBy seen store = IfSome seen (HasRoot (root_by store))

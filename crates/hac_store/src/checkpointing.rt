@@ -4,9 +4,9 @@ ghost use Rattle.std.specs.Prelude.{◌≡◌, ◌≤◌, ◌+◌, Some, IfOk, O
 ghost use Rattle.hac_outside.specs.Causes.{HasCause};
 ghost use Rattle.hac_disk.specs.Images.{LeavesOnly};
 ghost use Rattle.hac_model.specs.Tree.Valid.{IsValid};
-ghost use Rattle.hac_store.specs.Checkpointing.{Checkpoints, HoldsState, IsCheckpointed};
-ghost use Rattle.hac_store.specs.Checkpointing.{checkpointed, next_place, place_of, state_text};
-ghost use Rattle.hac_store.specs.Stores.{Bears, GoesBy, Stands, root_by};
+ghost use Rattle.hac_model.specs.Run.Checkpoints.{next_place, place_of, state_text};
+ghost use Rattle.hac_store.specs.Checkpointing.{Checkpoints, HoldsState, IsCheckpointed, moved_to};
+ghost use Rattle.hac_store.specs.Stores.{Bears, Stands, root_by};
 
 use crate::fault::StoreFault;
 use crate::store::Store;
@@ -23,7 +23,6 @@ impl Store {
     pub fn checkpoint<D: Disk>(&mut self, disk: &mut D) -> Result<(), StoreFault>
         requires intact { self.old.broken ≡ false }
         requires place { Bears (D.seen disk.old) self.old }
-        requires root { GoesBy (D.seen disk.old) self.old }
         ensures { Checkpoints D.seen D.image D.moment D.image_since D.attached D.faults disk.old
             disk.new self.old self.new result }
     {
@@ -53,7 +52,7 @@ impl Store {
 
     // Where an area with such a payload goes.
     fn place_of(&self, payload: u64) -> Option<u64>
-        ensures { result ≡ place_of self.now payload }
+        ensures { result ≡ place_of self.now.setting payload }
     {
         if self.generation == u64::MAX || payload >= STORE_LIMIT {
             return None;
@@ -67,16 +66,15 @@ impl Store {
 
     // Writes an area with the state, flips the root to it, and answers where its log ends.
     fn make_live<D: Disk>(&self, disk: &mut D, at: u64, payload: &[u8]) -> Result<u64, Failed>
-        requires free { next_place self.now ≡ Some at }
+        requires free { next_place self.now.setting ≡ Some at }
         requires text { payload.now ≡ state_text self.now.setting.state }
         requires place { Bears (D.seen disk.old) self.now }
-        requires root { GoesBy (D.seen disk.old) self.now }
         ensures end { IfOk result (λ end. end ≡ at + 5 + length payload.now) }
         ensures made { OnOk result (IsCheckpointed (D.seen disk.new) (D.image disk.new) self.now
-            (checkpointed self.now at) at) }
+            (moved_to self.now at) at) }
         ensures stands { Stands (D.seen disk.old) (D.image disk.old) self.now.setting →
             OnOk result (Stands (D.seen disk.new) (D.image disk.new)
-            (checkpointed self.now at).setting) }
+            (moved_to self.now at).setting) }
 
         // At each moment a crash leaves the old area or the new one.
         ensures any_moment { Stands (D.seen disk.old) (D.image disk.old) self.now.setting →
@@ -108,9 +106,9 @@ impl Store {
 
     // The log goes on behind the area at that place, whose root is the next one.
     fn go_on_at(&mut self, at: u64, end: u64)
-        requires free { next_place self.old ≡ Some at }
+        requires free { next_place self.old.setting ≡ Some at }
         requires end { end ≡ at + 5 + length (state_text self.old.setting.state) }
-        ensures { self.new ≡ checkpointed self.old at }
+        ensures { self.new ≡ moved_to self.old at }
     {
         self.slot = self.slot.other();
         self.start = at;

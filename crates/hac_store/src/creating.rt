@@ -8,7 +8,7 @@ ghost use Rattle.hac_model.specs.Run.Play.{new_setting};
 ghost use Rattle.hac_store.specs.Creating.{Becomes, IsReady, HoldsNone, none_in};
 ghost use Rattle.hac_store.specs.Faults.{is_disk_fault};
 ghost use Rattle.hac_store.specs.Held.{held};
-ghost use Rattle.hac_store.specs.Stores.{Bears, GoesBy, IsNewOrNone, Stands, first_store};
+ghost use Rattle.hac_store.specs.Stores.{Bears, IsNewOrNone, Stands, first_store};
 
 use crate::fault::StoreFault;
 use crate::opening::read_store;
@@ -35,7 +35,6 @@ impl Store {
         ensures stands { IfSome (D.seen disk.old) (λ _. OnOk result
             (Stands (D.seen disk.new) (D.image disk.new) new_setting)) }
         ensures place { IfOk result (λ store. Bears (D.seen disk.new) store) }
-        ensures root { IfOk result (λ store. GoesBy (D.seen disk.new) store) }
         ensures quiet { IfSome (D.seen disk.old) (λ file. IsOk (held file) →
             IsQuiet D.seen D.image D.moment D.image_since disk.old disk.new) }
         // At each moment a crash leaves what it might have left before, or the root alone, or no
@@ -74,7 +73,6 @@ fn new_store<D: Disk>(alloc: Global, disk: &mut D) -> Result<Store, StoreFault>
     ensures stands { IfSome (D.seen disk.old) (λ _. OnOk result
         (Stands (D.seen disk.new) (D.image disk.new) new_setting)) }
     ensures place { IfOk result (λ store. Bears (D.seen disk.new) store) }
-    ensures root { IfOk result (λ store. GoesBy (D.seen disk.new) store) }
     ensures any_moment { IfSome (D.seen disk.old)
         (λ _. LeavesOnly D.moment D.image_since disk.old disk.new IsNewOrNone) }
     ensures kind { ((at : ℕ) → result ≡ Err (StoreFault.NotStore at) → ⊥) ×
@@ -106,8 +104,7 @@ fn write_new<D: Disk>(disk: &mut D) -> Result<(), Failed>
     requires unheld { HoldsNone (D.seen disk.old) }
     ensures stands { IfSome (D.seen disk.old) (λ _. OnOk result
         (Stands (D.seen disk.new) (D.image disk.new) new_setting)) }
-    ensures place { OnOk result (HasByteAt (D.seen disk.new) new_setting.end) }
-    ensures root { OnOk result (GoesBy (D.seen disk.new) first_store) }
+    ensures place { OnOk result (Bears (D.seen disk.new) first_store) }
     ensures any_moment { IfSome (D.seen disk.old)
         (λ _. LeavesOnly D.moment D.image_since disk.old disk.new IsNewOrNone) }
     ensures attached { D.attached disk.new ≡ D.attached disk.old }

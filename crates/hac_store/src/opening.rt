@@ -10,7 +10,7 @@ ghost use Rattle.hac_model.specs.Tree.Valid.{IsValid};
 ghost use Rattle.hac_store.specs.Faults.{is_disk_fault};
 ghost use Rattle.hac_store.specs.Held.{held, after_payload, log};
 ghost use Rattle.hac_store.specs.Reading.{Judges, ReadsLog};
-ghost use Rattle.hac_store.specs.Stores.{Bears, GoesBy, Opens, Stands};
+ghost use Rattle.hac_store.specs.Stores.{Bears, Opens, Stands};
 
 use crate::areas::{Begun, begin};
 use crate::fault::StoreFault;
@@ -27,7 +27,6 @@ impl Store {
     /// Opens the store on a disk: syncs, reads it and applies its events. It writes nothing.
     pub fn load<D: Disk>(alloc: Global, disk: &mut D) -> Result<Store, StoreFault>
         ensures held { IfSome (D.seen disk.old) (λ file. Opens result (held file)) }
-        ensures root { IfOk result (λ store. GoesBy (D.seen disk.new) store) }
         ensures sound { IfOk result (λ store. (store.broken ≡ false) ×
             IsValid store.setting.state) }
         ensures stands { IfSome (D.seen disk.old) (λ _. IfOk result
@@ -49,7 +48,6 @@ impl Store {
 /// Reads the store on a disk. It writes nothing.
 pub(crate) fn read_store<D: Disk>(alloc: Global, disk: &mut D) -> Result<Store, StoreFault>
     ensures held { IfSome (D.seen disk.old) (λ file. Opens result (held file)) }
-    ensures root { IfOk result (λ store. GoesBy (D.seen disk.new) store) }
     ensures sound { IfOk result (λ store. (store.broken ≡ false) × IsValid store.setting.state) }
     ensures place { IfOk result (λ store. Bears (D.seen disk.new) store) }
     ensures quiet { IsQuiet D.seen D.image D.moment D.image_since disk.old disk.new }

@@ -16,7 +16,7 @@ use Rattle.hac_model.specs.declared.replies.Reply.{Reply}
 use Rattle.hac_model.specs.declared.states.State.{State}
 use Rattle.hac_model.proofs.PlayLemmas.{apply_all-append, stored-all}
 use Rattle.hac_outside.specs.Seen.{SinkSeen}
-use Rattle.hac_store.specs.Stores.{Bears, Seen, Stands, store_after}
+use Rattle.hac_store.specs.Stores.{Bears, Seen, Stands}
 use Rattle.hac_store.proofs.PutLemmas.{stands-each}
 use Rattle.hac_top.specs.Asking.{given_by}
 use Rattle.hac_top.specs.Crashes.{Holds, IsTreeAfter, IsTreeOfAnswered}
@@ -145,7 +145,8 @@ module _ {D : Type 0} {seen : D → Option (List ℕ)} {image : D → List ℕ �
     steps-end (Ok done) went =
         record {
           replies = told;
-          store = went.ok.store;
+          setting = went.ok.setting;
+          intact = went.ok.intact;
           place = went.ok.place;
           stands = went.ok.stands;
           stores = stores-same old new store.setting (steps_behind tick store.setting) (all_events (told_turn tick store.setting reply ∷ [])) false (sym (told-events tick store.setting reply)) went.stores;
@@ -197,10 +198,10 @@ module _ {D : Type 0} {seen : D → Option (List ℕ)} {image : D → List ℕ �
   module _ (old mid new : D) (before store after : Seen) (turn : Turn) (reply : Reply) (sink sink_after : SinkSeen) (tick : ℕ) (went : StoresTurn seen image moment image_since attached faults old mid before store turn (Ok reply))
       (own : all_events (turn ∷ []) ≡ turn.events) (led : stored turn.after.state ≡ apply_all (stored before.setting.state) turn.events) where
     led-on : stored store.setting.state ≡ apply_all (stored before.setting.state) turn.events
-    led-on = ap (λ (z : Seen). stored z.setting.state) went.ok.store ∙ led
+    led-on = ap (λ (z : Setting). stored z.state) went.ok.setting ∙ led
 
     all-events : turn.events ++ all_events (told_turn tick store.setting reply ∷ []) ≡ all_events (ticked tick turn ∷ [])
-    all-events = ap (λ (es : List Event). turn.events ++ es) (told-events tick store.setting reply ∙ ap (λ (z : Seen). steps_behind tick z.setting) went.ok.store) ∙ sym (ticked-events tick turn)
+    all-events = ap (λ (es : List Event). turn.events ++ es) (told-events tick store.setting reply ∙ ap (steps_behind tick) went.ok.setting) ∙ sym (ticked-events tick turn)
 
     stores-on : (more : List Event) (failed : Bool) → Stores seen image moment image_since attached faults mid new store.setting more failed → Stores seen image moment image_since attached faults old new before.setting (turn.events ++ more) failed
     stores-on more failed stores =
@@ -211,7 +212,8 @@ module _ {D : Type 0} {seen : D → Option (List ℕ)} {image : D → List ℕ �
     then-told answers =
         record {
           replies = subst (λ (r : Reply). WritesAll sink sink_after (text (r ∷ []))) went.ok.reply_is answers.replies;
-          store = answers.store ∙ ap (λ (z : Seen). store_after z (steps_behind tick z.setting)) went.ok.store;
+          setting = answers.setting ∙ ap (λ (z : Setting). after_events z (steps_behind tick z)) went.ok.setting;
+          intact = answers.intact ∙ went.ok.intact;
           place = answers.place;
           stands = λ stands. answers.stands (went.ok.stands stands);
           stores =
@@ -344,7 +346,8 @@ module _ {D : Type 0} {seen : D → Option (List ℕ)} {image : D → List ℕ �
         refused = sym (or-none was);
         ok = record {
           replies = record { written = appends-nothing sink.written; passed = λ none. none; faults = refl };
-          store = refl;
+          setting = refl;
+          intact = refl;
           place = place;
           stands = λ stands. stands;
           stores = stores-nothing only_now disk store.setting [];

@@ -1,15 +1,15 @@
 -- The turn of a line is the one that was decided on.
 use Rattle.std.proofs.Common.{◌≡◌, true, false, Bool, List, [], ◌∷◌, refl, ap, sym, subst, ◌∙◌, ℕ, zero, suc}
-use Rattle.std.specs.Prelude.{Option, None, Some, IfErr, IfOk, Result, Ok, Err, filter, if◌then◌else◌, replicate}
+use Rattle.std.specs.Prelude.{Option, None, Some, IfErr, IfOk, Result, Ok, Err, filter, if◌then◌else◌, is_some, replicate}
 use Rattle.std.specs.Option.{option_map, option_map_or}
-use Rattle.hac_core.specs.Drafts.{CanSettle, DraftSeen, IsDraftFor, Knows, Settles, Shows, is_reading, reads, settled_events, is_indexing}
+use Rattle.hac_core.specs.Drafts.{CanSettle, DraftSeen, IsDraftFor, Knows, Settles, Shows, is_area, is_reading, reads, settled_events, is_indexing}
 use Rattle.hac_core.specs.declared.drafts.Known.{Known}
-use Rattle.hac_core.specs.declared.drafts.Known.TheVariants.{Reads, Changes, Indexes}
+use Rattle.hac_core.specs.declared.drafts.Known.TheVariants.{Reads, Changes, Indexes, Saves}
 use Rattle.hac_core.specs.declared.drafts.Settled.{Settled}
 use Rattle.hac_core.specs.declared.drafts.Settled.TheVariants as settled
 use Rattle.hac_model.specs.Run.Answers.{Refuses, first_cause}
 use Rattle.hac_model.specs.Run.Asks.{asks}
-use Rattle.hac_model.specs.Run.Play.{Setting, Turn, absent_cause, answered_turn, command_turn, data_lines, end_behind, full_cause, given_spaces, have_room, no_answers, nothing_given, refused_turn, space_answers, stored_events, turn_cause}
+use Rattle.hac_model.specs.Run.Play.{Setting, Turn, absent_cause, answered_turn, carried_out, checkpointed, command_turn, data_lines, end_behind, fits_store, full_cause, given_spaces, happened, have_room, is_checkpoint, next_place, no_answers, nothing_given, refused_turn, space_answers, stored_events, turn_cause}
 use Rattle.hac_model.specs.Run.Refusals.{cause, cause_against, early_cause, event_of, events_of, late_cause}
 use Rattle.hac_model.specs.declared.spaces.Asks.{Asks}
 use Rattle.hac_model.specs.Spaces.Answering.{Attached, answers_of, asked_spaces, first_absent}
@@ -26,10 +26,11 @@ use Rattle.hac_model.specs.declared.replies.Refusal.TheVariants.{Limit, NoSpace}
 use Rattle.hac_model.specs.declared.replies.Reply.{Reply}
 use Rattle.hac_model.specs.declared.replies.Reply.TheVariants.{Lines}
 use Rattle.hac_model.specs.declared.resolved.Resolved.{Resolved}
-use Rattle.hac_model.specs.declared.resolved.Resolved.TheVariants.{Cat, Ls, Pwd, Readlink, Query, Sls, Find, Counts, Index, Tick}
+use Rattle.hac_model.specs.declared.resolved.Resolved.TheVariants.{Cat, Ls, Pwd, Readlink, Query, Sls, Find, Counts, Index, Tick, Checkpoint}
 use Rattle.hac_model.specs.declared.spaces.Answers.{Answers}
 use Rattle.hac_model.specs.declared.states.State.{State}
-use Rattle.hac_top.specs.Deciding.{CanHappen, Decides, IsDenial, settled_turn, standing_turn, storing_turn, turn_with}
+use Rattle.hac_model.proofs.PlayLemmas.{saves-nothing}
+use Rattle.hac_top.specs.Deciding.{CanHappen, Decides, IsDenial, saved_turn, saving_turn, settled_turn, standing_turn, storing_turn, turn_with}
 use Rattle.hac_top.specs.declared.deciding.Decision.{Decision}
 use Rattle.hac_top.specs.declared.deciding.Decision.TheVariants.{Answer}
 
@@ -38,6 +39,16 @@ indexing-changes : (command : Resolved) → is_indexing command ≡ true → is_
 indexing-changes Index indexes = refl
 indexing-changes (Tick steps) indexes = refl
 indexing-changes other indexes = absurd cc
+
+-- nor does a checkpoint
+saving-changes : (command : Resolved) → is_checkpoint command ≡ true → is_reading command ≡ false
+saving-changes Checkpoint saves = refl
+saving-changes other saves = absurd cc
+
+-- what reads is no checkpoint
+reading-apart : (command : Resolved) → is_reading command ≡ true → is_checkpoint command ≡ false
+reading-apart Checkpoint reading = absurd cc
+reading-apart other reading = refl
 
 -- a draft reads where its command does
 reading-is : (s : State) (command : Resolved) (draft : DraftSeen) → IsDraftFor s command draft → is_reading command ≡ reads draft
@@ -58,6 +69,7 @@ reading-is s command draft for = of draft.known for.known.known
     of (Reads shown) knows = knows.1
     of (Changes change) knows = by command change.event knows.0
     of (Indexes count) knows = indexing-changes command knows.0
+    of Saves knows = saving-changes command knows
 
 -- a command that changes the tree has no data lines
 no-lines : (answers : Answers) (s : State) (command : Resolved) → is_reading command ≡ false → data_lines answers s command ≡ []
@@ -119,6 +131,22 @@ turn_by setting lines events = record {
   after = record setting { state = apply_all setting.state events; end = end_behind setting.end (filter is_stored events) };
 }
 
+-- the turn of a command that nothing else refuses, if the store has room for what it writes, given whether that is a new
+-- area
+abbrev carried_by : Setting → Resolved → Answers → Bool → Turn
+carried_by setting command answers saves =
+    if (if saves then is_some (next_place setting) else have_room setting (stored_events answers setting.state command))
+    then record {
+      reply = Lines (data_lines answers setting.state command);
+      events = stored_events answers setting.state command;
+      steps = [];
+      after = if saves then option_map_or (checkpointed setting) (next_place setting) setting else happened answers setting command;
+    }
+    else refused_turn nothing_given setting (Limit Store)
+
+abbrev carried_turn : Setting → Resolved → Answers → Turn
+carried_turn setting command answers = carried_by setting command answers (is_checkpoint command)
+
 -- the turn in which these events happen, if there is room for those that are stored
 abbrev turn_from : Setting → List (List ℕ) → List Event → Turn
 turn_from setting lines events =
@@ -145,26 +173,58 @@ told-turn spaces setting command answers told =
 
 -- which nothing refuses
 free-turn : (spaces : List Attached) (setting : Setting) (command : Resolved) (answers : Answers) → AreAnswered spaces setting.state command answers → cause answers setting.state command ≡ None →
-    command_turn (given_spaces spaces) setting (Ok command) ≡ turn_from setting (data_lines answers setting.state command) (events_of answers setting.state command)
+    command_turn (given_spaces spaces) setting (Ok command) ≡ carried_turn setting command answers
 free-turn spaces setting command answers told free =
     let early = early_cause setting.state command in
     let late = late_cause answers setting.state command in
-    let full = full_cause setting (stored_events answers setting.state command) in
+    let full = full_cause answers setting command in
     told-turn spaces setting command answers told
     ∙ ap (turn_for spaces setting command answers) (first-full early (absent_cause (given_spaces spaces) setting.state command) late full (none-absent spaces setting.state command answers told) free)
-    ∙ by (have_room setting (stored_events answers setting.state command))
+    ∙ by (fits_store answers setting command)
   where
     by : (room : Bool) → turn_for spaces setting command answers (first_cause ((if room then None else Some (Limit Store)) ∷ []))
-        ≡ (if room then turn_by setting (data_lines answers setting.state command) (events_of answers setting.state command) else refused_turn nothing_given setting (Limit Store))
+        ≡ (if room then answered_turn nothing_given setting command answers else refused_turn nothing_given setting (Limit Store))
     by true = refl
     by false = refl
+
+-- the events of one that is no checkpoint happen
+plain-turn : (setting : Setting) (command : Resolved) (answers : Answers) → is_checkpoint command ≡ false →
+    carried_turn setting command answers ≡ turn_from setting (data_lines answers setting.state command) (events_of answers setting.state command)
+plain-turn setting command answers plain = ap (carried_by setting command answers) plain
+
+-- and a checkpoint begins a new area
+saving-turn : (setting : Setting) (command : Resolved) (answers : Answers) → is_checkpoint command ≡ true → carried_turn setting command answers ≡ saving_turn setting
+saving-turn setting command answers saves =
+    let s = setting.state in
+    ap (carried_by setting command answers) saves
+    ∙ (λ i. telling (no-lines answers s command (saving-changes command saves) i) (filter is_stored (saves-nothing answers s command saves i)))
+    ∙ by (next_place setting)
+  where
+    telling : List (List ℕ) → List Event → Turn
+    telling lines events =
+        if is_some (next_place setting)
+        then record {
+          reply = Lines lines;
+          events = events;
+          steps = [];
+          after = option_map_or (checkpointed setting) (next_place setting) setting;
+        }
+        else refused_turn nothing_given setting (Limit Store)
+
+    by : (place : Option ℕ) →
+        (if is_some place then record { reply = Lines []; events = []; steps = []; after = option_map_or (checkpointed setting) place setting } else refused_turn nothing_given setting (Limit Store))
+        ≡ option_map_or (saved_turn setting) place (refused_turn nothing_given setting (Limit Store))
+    by None = refl
+    by (Some at) = refl
 
 -- a command that reads is answered by its lines
 pub shown-turn : (spaces : List Attached) (setting : Setting) (command : Resolved) (draft : DraftSeen) (answers : Answers) → AreAnswered spaces setting.state command answers → IsDraftFor setting.state command draft → reads draft ≡ true →
     (reply : Reply) → Shows setting.state answers command reply → command_turn (given_spaces spaces) setting (Ok command) ≡ turn_with setting reply []
 shown-turn spaces setting command draft answers told for reads_it reply shows =
+    let reading = reading-is setting.state command draft for ∙ reads_it in
     free-turn spaces setting command answers told shows.cause
-    ∙ ap (turn_from setting (data_lines answers setting.state command)) (reads-nothing answers setting.state command (reading-is setting.state command draft for ∙ reads_it))
+    ∙ plain-turn setting command answers (reading-apart command reading)
+    ∙ ap (turn_from setting (data_lines answers setting.state command)) (reads-nothing answers setting.state command reading)
     ∙ ap (λ (r : Reply). turn_with setting r []) (sym shows.lines)
 
 -- the turn of what is refused
@@ -173,7 +233,7 @@ pub refused-turn : (spaces : List Attached) (setting : Setting) (command : Resol
 refused-turn spaces setting command answers told refusal is =
     told-turn spaces setting command answers told
     ∙ ap (turn_for spaces setting command answers)
-    (first-late (early_cause setting.state command) (absent_cause (given_spaces spaces) setting.state command) (late_cause answers setting.state command) (full_cause setting (stored_events answers setting.state command)) refusal
+    (first-late (early_cause setting.state command) (absent_cause (given_spaces spaces) setting.state command) (late_cause answers setting.state command) (full_cause answers setting command) refusal
     (none-absent spaces setting.state command answers told) is)
 
 -- the turn of a command that is refused early, or by its paths
@@ -183,7 +243,7 @@ early-turn spaces setting (Err other) refusal is = let same : other ≡ refusal 
 early-turn spaces setting (Ok command) refusal is =
     let answers = space_answers (given_spaces spaces) setting.state command in
     ap (turn_for spaces setting command answers)
-    (first-early (early_cause setting.state command) (absent_cause (given_spaces spaces) setting.state command) (late_cause answers setting.state command) (full_cause setting (stored_events answers setting.state command)) refusal is)
+    (first-early (early_cause setting.state command) (absent_cause (given_spaces spaces) setting.state command) (late_cause answers setting.state command) (full_cause answers setting command) refusal is)
 
 -- the turn of a command that asks a space which isn't attached
 pub absent-turn : (spaces : List Attached) (setting : Setting) (command : Resolved) (space : List ℕ) → early_cause setting.state command ≡ None → first_absent spaces (asked_spaces (asks setting.state command)) ≡ Some space →
@@ -191,7 +251,7 @@ pub absent-turn : (spaces : List Attached) (setting : Setting) (command : Resolv
 absent-turn spaces setting command space free absent =
     let answers = space_answers (given_spaces spaces) setting.state command in
     ap (turn_for spaces setting command answers)
-    (first-absent (early_cause setting.state command) (absent_cause (given_spaces spaces) setting.state command) (late_cause answers setting.state command) (full_cause setting (stored_events answers setting.state command)) (NoSpace space) free
+    (first-absent (early_cause setting.state command) (absent_cause (given_spaces spaces) setting.state command) (late_cause answers setting.state command) (full_cause answers setting command) (NoSpace space) free
     (ap (option_map NoSpace) absent))
 
 -- Drafts of a state, at a setting that has it.
@@ -268,19 +328,30 @@ one-event setting event false is =
     else refused_turn nothing_given setting (Limit Store)) (ap (λ (b : Bool). if b then event ∷ [] else []) is)
 
 -- the turn of an outcome, by its events
-outcome-turn : (setting : Setting) (s : State) (outcome : Settled) → CanSettle s outcome → turn_from setting [] (settled_events outcome) ≡ settled_turn setting outcome
-outcome-turn setting s (settled.Change change) can = one-event setting change.event true can.2
-outcome-turn setting s (settled.Steps count) can = all-kept setting (replicate count Step) (steps-kept count)
-outcome-turn setting s (settled.Session event) can = one-event setting event false can.1
+outcome-turn : (setting : Setting) (s : State) (outcome : Settled) → CanSettle s outcome → is_area outcome ≡ false → turn_from setting [] (settled_events outcome) ≡ settled_turn setting outcome
+outcome-turn setting s (settled.Change change) can plain = one-event setting change.event true can.2
+outcome-turn setting s (settled.Steps count) can plain = all-kept setting (replicate count Step) (steps-kept count)
+outcome-turn setting s (settled.Session event) can plain = one-event setting event false can.1
+outcome-turn setting s settled.Checkpoint can plain = absurd cc
 
--- a command that changes the tree stores its events, if there is room for them
+-- a new area is the outcome of a checkpoint
+area-turn : (setting : Setting) (outcome : Settled) → is_area outcome ≡ true → saving_turn setting ≡ settled_turn setting outcome
+area-turn setting settled.Checkpoint area = refl
+area-turn setting other area = absurd cc
+
+-- a command that changes the tree, or the store alone, does so if there is room for what it writes
 pub storing-turn-is : (spaces : List Attached) (setting : Setting) (command : Resolved) (draft : DraftSeen) (answers : Answers) → AreAnswered spaces setting.state command answers → IsDraftFor setting.state command draft → reads draft ≡ false →
     (outcome : Settled) → Settles setting.state answers command outcome → command_turn (given_spaces spaces) setting (Ok command) ≡ settled_turn setting outcome
 storing-turn-is spaces setting command draft answers told for changes outcome settles =
-    free-turn spaces setting command answers told settles.cause
-    ∙ ap (λ (lines : List (List ℕ)). turn_from setting lines (events_of answers setting.state command)) (no-lines answers setting.state command (reading-is setting.state command draft for ∙ changes))
-    ∙ ap (turn_from setting []) (sym settles.events)
-    ∙ outcome-turn setting setting.state outcome settles.can
+    free-turn spaces setting command answers told settles.cause ∙ by (is_area outcome) refl
+  where
+    by : (area : Bool) → is_area outcome ≡ area → carried_turn setting command answers ≡ settled_turn setting outcome
+    by true area = saving-turn setting command answers (sym settles.area ∙ area) ∙ area-turn setting outcome area
+    by false plain =
+        plain-turn setting command answers (sym settles.area ∙ plain)
+        ∙ ap (λ (lines : List (List ℕ)). turn_from setting lines (events_of answers setting.state command)) (no-lines answers setting.state command (reading-is setting.state command draft for ∙ changes))
+        ∙ ap (turn_from setting []) (sym settles.events)
+        ∙ outcome-turn setting setting.state outcome settles.can plain
 
 -- it changes the tree
 pub settled-draft : (spaces : List Attached) (setting : Setting) (s : State) (command : Resolved) (draft : DraftSeen) (answers : Answers) → setting.state ≡ s → IsDraftFor s command draft → answers ≡ answers_of spaces draft.asks →

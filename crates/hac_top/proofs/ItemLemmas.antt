@@ -1,16 +1,18 @@
 -- A line is decided on, and its turn is stored.
 use Rattle.std.proofs.Common.{◌≡◌, ℕ, Bool, true, false, List, [], ◌∷◌, ◌++◌, refl, ap, subst, sym, ◌∙◌, append-nil, rules}
 use Rattle.std.specs.Prelude.{if◌then◌else◌, filter, replicate, IfOk, Option, None, Some, Result, Ok, Err}
-use Rattle.std.specs.Option.{IfSome}
+use Rattle.std.specs.Option.{IfSome, option_map_or}
 use Rattle.hac_core.specs.declared.drafts.Settled.{Settled}
 use Rattle.hac_core.specs.declared.drafts.Settled.TheVariants as settled
-use Rattle.hac_model.specs.Run.Play.{MayFail, Setting, Turn, all_events, have_room, item_turn}
+use Rattle.hac_model.specs.Run.Play.{MayFail, Setting, Turn, all_events, have_room, item_turn, next_place, nothing_given, refused_turn}
 use Rattle.hac_model.specs.Script.Lines.{Item}
 use Rattle.hac_model.specs.Tree.Events.{apply_all}
 use Rattle.hac_model.specs.Tree.Sessions.{is_stored, stored}
 use Rattle.hac_model.specs.declared.events.Event.{Event}
 use Rattle.hac_model.specs.declared.events.Event.TheVariants.{Step}
+use Rattle.hac_model.specs.declared.limits.LimitWord.TheVariants.{Store}
 use Rattle.hac_model.specs.declared.memory.Memory.{Memory}
+use Rattle.hac_model.specs.declared.replies.Refusal.TheVariants.{Limit}
 use Rattle.hac_model.specs.declared.replies.Reply.{Reply}
 use Rattle.hac_model.specs.declared.replies.Reply.TheVariants.{Lines}
 use Rattle.hac_model.specs.declared.states.State.{State}
@@ -19,7 +21,7 @@ use Rattle.hac_store.specs.Stores.{Seen}
 use Rattle.hac_store.proofs.StoredLemmas.{unstored-same}
 use Rattle.sem_mounts.specs.Seen.{Contents, SpacesSeen}
 use Rattle.hac_top.specs.Asking.{given_by}
-use Rattle.hac_top.specs.Deciding.{CanHappen, Decides, DecidesItem, decided_turn, settled_turn, storing_turn, turn_with}
+use Rattle.hac_top.specs.Deciding.{CanHappen, Decides, DecidesItem, decided_turn, saved_turn, settled_turn, storing_turn, turn_with}
 use Rattle.hac_top.specs.Storing.{IsBare, IsTurnOf, StoresItem, StoresTurn}
 use Rattle.hac_top.specs.declared.deciding.Decision.{Decision}
 use Rattle.hac_top.specs.declared.deciding.Decision.TheVariants.{Answer, Change}
@@ -39,6 +41,11 @@ storing-bare setting events kept false room = subst (IsBare setting) (sym (stori
 settled-bare : (setting : Setting) (outcome : Settled) → CanHappen setting.state (Change outcome) → IsBare setting (settled_turn setting outcome)
 settled-bare setting (settled.Session event) can = record { own = refl; leads = unstored-same setting.state event can.1 }
 settled-bare setting (settled.Change change) can = storing-bare setting (change.event ∷ []) (ap (λ (b : Bool). if b then change.event ∷ [] else []) can.2) (have_room setting (change.event ∷ [])) refl
+settled-bare setting settled.Checkpoint can =
+    elim (next_place setting) as (λ o. IsBare setting (option_map_or (saved_turn setting) o (refused_turn nothing_given setting (Limit Store)))) [
+      | None ↦ record { own = refl; leads = refl }
+      | Some at ↦ record { own = refl; leads = refl }
+    ]
 settled-bare setting (settled.Steps count) can = storing-bare setting (replicate count Step) (steps-kept count) (have_room setting (replicate count Step)) refl
 
 decided-bare : (setting : Setting) (decision : Decision) → CanHappen setting.state decision → IsBare setting (decided_turn setting decision)

@@ -269,14 +269,14 @@ module _ {D : Type 0} {seen : D → Option (List ℕ)} {image : D → List ℕ �
             asked = all-asked;
             answered = was.answered ++ here;
             leads =
-                ap (λ (z : Seen). stored z.setting.state) answers.store ∙ leads ∙ ap (λ (s : State). apply_all s (all_events here)) was.leads ∙ sym (apply_all-append (all_events was.answered) (all_events here) (stored first.state))
+                ap (λ (z : Setting). stored z.state) answers.setting ∙ leads ∙ ap (λ (s : State). apply_all s (all_events here)) was.leads ∙ sym (apply_all-append (all_events was.answered) (all_events here) (stored first.state))
                 ∙ ap (apply_all (stored first.state)) (sym (all_events-append was.answered here));
             goes = goes_by spaces.contents was.goes (subst (λ (o : Option Contents). IfSome o (λ c. AreTurns c more tick store.setting (items_of_taken line) here)) was.asked.stay.contents told);
             reads = takes.reader;
             source = leaves-then false fresh_reader reader next before.source now.source source was.source takes.source;
             passed = λ none. answers.replies.passed (was.passed none);
             wrote = answers.replies.faults ∙ was.wrote;
-            intact = ap (λ (z : Seen). z.broken) answers.store ∙ was.intact;
+            intact = answers.intact ∙ was.intact;
             place = answers.place;
             stands = λ stands. answers.stands (was.stands stands);
             moments = line-moments new answers.stores.moments;
@@ -293,7 +293,7 @@ module _ {D : Type 0} {seen : D → Option (List ℕ)} {image : D → List ℕ �
               (λ s q. IsPlayed c (was.met ++ more) tick first s q next.ended after.setting refused_now before.sink sink (was.answered ++ here))
               before.source.left (pending reader now.source.left) (pending next source.left)
               (λ s p q played gives.
-              subst (λ (z : Seen). IsPlayed c (was.met ++ more) tick first s q next.ended z.setting refused_now before.sink sink (was.answered ++ here)) (sym answers.store)
+              subst (λ (z : Setting). IsPlayed c (was.met ++ more) tick first s q next.ended z refused_now before.sink sink (was.answered ++ here)) (sym answers.setting)
               (subst (λ (b : Bool). IsPlayed c (was.met ++ more) tick first s q next.ended (left_by store.setting here) b before.sink sink (was.answered ++ here)) (sym is)
               (played-next c tick first was.met more s p q store.setting refused before.sink now.sink was.answered here (open-played c tick first was.met s p reader.ended store.setting refused before.sink now.sink was.answered played line next.ended q gives)
               line next.ended gives are sink answers.replies.written)))

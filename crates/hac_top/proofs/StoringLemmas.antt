@@ -1,11 +1,12 @@
 -- What becomes of the store and its disk as turns are stored, one call after another.
 use Rattle.std.proofs.Common.{◌≡◌, ℕ, true, false, Bool, List, [], ◌∷◌, ◌++◌, length, refl, ap, sym, subst, ◌∙◌, append-nil, arith, inl, inr, zero, suc, ◌+◌, ◌*◌, ◌<◌, ◌≤◌}
 use Rattle.std.specs.Prelude.{if◌then◌else◌, filter, Option, None, Some, Result, Ok, Err, ◌==◌, replicate}
+use Rattle.std.specs.Option.{option_map_or}
 use Rattle.std.proofs.Math.Seq.{take-length}
 use Rattle.hac_disk.specs.Images.{LeavesOnly}
 use Rattle.hac_disk.proofs.Moments.{started, weaken, then_run}
 use Rattle.hac_model.specs.Tree.Events.{apply_all, apply}
-use Rattle.hac_model.specs.Run.Play.{Setting, Turn, after_events, all_events, end_behind, have_room, nothing_given, refused_turn, stored_setting}
+use Rattle.hac_model.specs.Run.Play.{Setting, Turn, after_events, all_events, end_behind, have_room, next_place, nothing_given, refused_turn, stored_setting}
 use Rattle.hac_model.specs.Tree.Sessions.{is_stored, stored}
 use Rattle.hac_model.specs.declared.events.Event.{Event}
 use Rattle.hac_model.specs.declared.limits.LimitWord.TheVariants.{Store}
@@ -20,7 +21,8 @@ use Rattle.hac_store.specs.declared.fault.StoreFault.{StoreFault}
 use Rattle.hac_store.specs.declared.fault.StoreFault.TheVariants as fault
 use Rattle.hac_store.proofs.PutLemmas.{stands-each}
 use Rattle.hac_top.specs.Crashes.{Holds, IsTreeAfter}
-use Rattle.hac_top.specs.Deciding.{standing_turn, storing_turn, turn_with}
+use Rattle.hac_store.specs.Checkpointing.{Checkpoints, HoldsState}
+use Rattle.hac_top.specs.Deciding.{saved_turn, saving_turn, standing_turn, storing_turn, turn_with}
 use Rattle.hac_top.specs.Ends.{store_status}
 use Rattle.hac_top.specs.Storing.{Stores, StoresSteps, StoresTurn, storing_reply}
 use Rattle.hac_top.specs.declared.status.Status.TheVariants.{Memory}
@@ -48,6 +50,10 @@ held-between setting events c (inr after) =
 pub storing-turn : (setting : Setting) (events : List Event) (room : Bool) → have_room setting events ≡ room → storing_turn setting events ≡ (if room then turn_with setting (Lines []) events else refused_turn nothing_given setting (Limit Store))
 storing-turn setting events room is = ap (λ (b : Bool). if b then turn_with setting (Lines []) events else refused_turn nothing_given setting (Limit Store)) is
 
+-- the turn that begins a new area, by the place of that
+saving-turn : (setting : Setting) (place : Option ℕ) → next_place setting ≡ place → saving_turn setting ≡ option_map_or (saved_turn setting) place (refused_turn nothing_given setting (Limit Store))
+saving-turn setting place is = ap (λ (o : Option ℕ). option_map_or (saved_turn setting) o (refused_turn nothing_given setting (Limit Store))) is
+
 pub turn-events : (setting : Setting) (events : List Event) → have_room setting events ≡ true → all_events (storing_turn setting events ∷ []) ≡ events
 turn-events setting events room = ap (λ (turn : Turn). all_events (turn ∷ [])) (storing-turn setting events true room) ∙ append-nil (events ++ []) ∙ append-nil events
 
@@ -71,7 +77,7 @@ module _ {D : Type 0} {seen : D → Option (List ℕ)} {image : D → List ℕ �
   -- a reply without events
   pub answers-only : (disk : D) (store : Seen) (reply : Reply) → Bears (seen disk) store → StoresTurn seen image moment image_since attached faults disk disk store store (turn_with store.setting reply []) (Ok reply)
   answers-only disk store reply place =
-      record { ok = record { reply_is = refl; store = refl; place = place; stands = λ stands. stands }; err = tt; stores = stores-nothing disk store.setting [] }
+      record { ok = record { reply_is = refl; setting = refl; intact = refl; place = place; stands = λ stands. stands }; err = tt; stores = stores-nothing disk store.setting [] }
 
   -- a session moves, and what is stored stays
   pub moves-session : (disk : D) (store now : Seen) (event : Event) → is_stored event ≡ false → now ≡ record store { setting = unstored_after store.setting event } → Bears (seen disk) store →
@@ -81,7 +87,8 @@ module _ {D : Type 0} {seen : D → Option (List ℕ)} {image : D → List ℕ �
       record {
         ok = record {
           reply_is = refl;
-          store = is;
+          setting = ap (λ (z : Seen). z.setting) is;
+          intact = ap (λ (z : Seen). z.broken) is;
           place = subst (λ (z : Seen). Bears (seen disk) z) (sym is) place;
           stands = λ stands.
               subst (λ (z : Seen). Stands (seen disk) (image disk) z.setting) (sym is) (stands-same (seen disk) (image disk) store.setting (unstored_after store.setting event) kept stands);
@@ -121,7 +128,8 @@ module _ {D : Type 0} {seen : D → Option (List ℕ)} {image : D → List ℕ �
         record {
           ok = record {
             reply_is = ap (λ (t : Turn). t.reply) (sym turn);
-            store = went.ends.store ∙ ap (λ (t : Turn). record before { setting = t.after }) (sym turn);
+            setting = ap (λ (z : Seen). z.setting) went.ends.store ∙ ap (λ (t : Turn). t.after) (sym turn);
+            intact = ap (λ (z : Seen). z.broken) went.ends.store;
             place = went.ends.place;
             stands = went.stands;
           };
@@ -139,6 +147,51 @@ module _ {D : Type 0} {seen : D → Option (List ℕ)} {image : D → List ℕ �
     stores-once (Err fault.Disk) place went = record { ok = tt; err = tt; stores = once old new before events true went.ends.0 went.moments went.names went.reported }
     stores-once (Err (fault.NotStore at)) place went = absurd went.ends
     stores-once (Err fault.AlreadyStore) place went = absurd went.ends
+
+  -- A new area that is begun with the whole state.
+
+  module _ {old new : D} where
+    -- a crash at each moment leaves what was held, which is the tree before any event
+    holding : (before : Seen) (events : List Event) (failed : Bool) → (Stands (seen old) (image old) before.setting → LeavesOnly moment image_since old new (HoldsState before.setting.state)) → attached new ≡ attached old →
+        ReportsFault failed (faults old) (faults new) → Stores seen image moment image_since attached faults old new before.setting events failed
+    holding before events failed moments names told =
+        record {
+          moments = λ stands.
+              weaken moment image_since old new (HoldsState before.setting.state) (Holds (IsTreeAfter (stored before.setting.state) events))
+              (λ c holds. record { kept = holds.0; is = holds.1; state = record { count = 0; within = omega arith; is = holds.2 } }) (moments stands);
+          names = names;
+          reported = told;
+        }
+
+    pub stores-saved : {before after : Seen} (result : Result (Unit {0}) StoreFault) → Bears (seen old) before → Checkpoints seen image moment image_since attached faults old new before after result →
+        StoresTurn seen image moment image_since attached faults old new before after (saving_turn before.setting) (storing_reply result)
+    stores-saved {before} {after} (Ok done) place went =
+        let made = went.ends.1 in
+        let turn = saving-turn before.setting (Some went.ends.0) made.free in
+        record {
+          ok = record {
+            reply_is = ap (λ (t : Turn). t.reply) (sym turn);
+            setting = ap (λ (z : Seen). z.setting) made.store ∙ ap (λ (t : Turn). t.after) (sym turn);
+            intact = ap (λ (z : Seen). z.broken) made.store;
+            place = made.place;
+            stands = went.stands;
+          };
+          err = tt;
+          stores = holding before (all_events (saving_turn before.setting ∷ [])) false went.moments went.names went.reported;
+        }
+    stores-saved {before} {after} (Err fault.Full) place went =
+        subst (λ (store : Seen). StoresTurn seen image moment image_since attached faults old new before store (saving_turn before.setting) (Ok (Refused (Limit Store)))) (sym went.ends.1.0)
+        (subst (λ (disk : D). StoresTurn seen image moment image_since attached faults old disk before before (saving_turn before.setting) (Ok (Refused (Limit Store)))) (sym went.ends.1.1)
+        (subst (λ (turn : Turn). StoresTurn seen image moment image_since attached faults old old before before turn (Ok (Refused (Limit Store)))) (sym (saving-turn before.setting None went.ends.0))
+        (answers-only old before (Refused (Limit Store)) place)))
+    stores-saved {before} {after} (Err fault.Memory) place went =
+        subst (λ (store : Seen). StoresTurn seen image moment image_since attached faults old new before store (saving_turn before.setting) (Err Memory)) (sym went.ends.0)
+        (subst (λ (disk : D). StoresTurn seen image moment image_since attached faults old disk before before (saving_turn before.setting) (Err Memory)) (sym went.ends.1)
+        (stops-first old before (saving_turn before.setting)))
+    stores-saved {before} {after} (Err fault.Disk) place went =
+        record { ok = tt; err = tt; stores = holding before (all_events (saving_turn before.setting ∷ [])) true went.moments went.names went.reported }
+    stores-saved {before} {after} (Err (fault.NotStore at)) place went = absurd went.ends
+    stores-saved {before} {after} (Err fault.AlreadyStore) place went = absurd went.ends
 
 -- a count that rose since a later moment rose since an earlier one
 pub told-since : (failed : Bool) (a b c : ℕ) → b ≡ a → ReportsFault failed b c → ReportsFault failed a c
@@ -243,7 +296,8 @@ module _ {D : Type 0} {seen : D → Option (List ℕ)} {image : D → List ℕ �
         record {
           ok = record {
             reply_is = ap (λ (t : Turn). t.reply) (sym turn);
-            store = was.store_is ∙ ap (λ (n : ℕ). store_after first (steps n)) all ∙ ap (λ (t : Turn). record first { setting = t.after }) (sym turn);
+            setting = ap (λ (z : Seen). z.setting) was.store_is ∙ ap (λ (n : ℕ). after_events first.setting (steps n)) all ∙ ap (λ (t : Turn). t.after) (sym turn);
+            intact = ap (λ (z : Seen). z.broken) was.store_is;
             place = was.place;
             stands = was.stands;
           };
@@ -306,7 +360,8 @@ module _ {D : Type 0} {seen : D → Option (List ℕ)} {image : D → List ℕ �
       let turn = storing-turn before.setting (steps count) true room in
       record {
         ok = record {
-          store = went.ok.store ∙ ap (λ (t : Turn). record before { setting = t.after }) turn ∙ ap (store_after before) (sym is);
+          setting = went.ok.setting ∙ ap (λ (t : Turn). t.after) turn ∙ ap (after_events before.setting) (sym is);
+          intact = went.ok.intact;
           place = went.ok.place;
           stands = went.ok.stands;
         };

@@ -4,7 +4,7 @@ use Rattle.std.specs.Option.{IfSome, option_map_or}
 use Rattle.hac_core.specs.Drafts.{CanSettle, DraftSeen, IsDraftFor}
 use Rattle.hac_core.specs.declared.drafts.Settled.{Settled}
 use Rattle.hac_core.specs.declared.drafts.Settled.TheVariants as settled
-use Rattle.hac_model.specs.Run.Play.{MayFail, Setting, Turn, after_events, askable, command_turn, given_spaces, have_room, item_turn, nothing_given, refused_turn}
+use Rattle.hac_model.specs.Run.Play.{MayFail, Setting, Turn, after_events, askable, checkpointed, command_turn, given_spaces, have_room, item_turn, next_place, nothing_given, refused_turn}
 use Rattle.hac_model.specs.Script.Lines.{Item}
 use Rattle.hac_model.specs.Spaces.Answering.{Attached}
 use Rattle.hac_model.specs.Tree.Mounting.{is_among}
@@ -39,11 +39,20 @@ storing_turn setting events = if have_room setting events then turn_with setting
 abbrev pub standing_turn : Setting → Event → Turn
 standing_turn setting event = record { reply = Lines []; events = []; steps = []; after = unstored_after setting event }
 
+-- the turn that begins a new area at this place
+abbrev pub saved_turn : Setting → ℕ → Turn
+saved_turn setting at = record { reply = Lines []; events = []; steps = []; after = checkpointed setting at }
+
+-- the turn that begins a new area with the whole state, or is refused where the store has no place for one
+abbrev pub saving_turn : Setting → Turn
+saving_turn setting = option_map_or (saved_turn setting) (next_place setting) (refused_turn nothing_given setting (Limit Store))
+
 -- the turn of an outcome
 abbrev pub settled_turn : Setting → Settled → Turn
 settled_turn setting (settled.Session event) = standing_turn setting event
 settled_turn setting (settled.Change change) = storing_turn setting (change.event ∷ [])
 settled_turn setting (settled.Steps count) = storing_turn setting (replicate count Step)
+settled_turn setting settled.Checkpoint = saving_turn setting
 
 -- the turn that a decision leads to
 abbrev pub decided_turn : Setting → Decision → Turn

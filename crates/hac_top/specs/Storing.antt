@@ -4,7 +4,7 @@ use Rattle.std.specs.Option.{IfSome}
 use Rattle.hac_disk.specs.Images.{LeavesOnly}
 use Rattle.hac_outside.specs.Causes.{ReportsFault}
 use Rattle.hac_outside.specs.Seen.{SinkSeen}
-use Rattle.hac_model.specs.Run.Play.{AreAskable, MayFail, Setting, Turn, all_events, has_refusal, item_turn, left_by, turns, turns_text}
+use Rattle.hac_model.specs.Run.Play.{AreAskable, MayFail, Setting, Turn, after_events, all_events, has_refusal, item_turn, left_by, turns, turns_text}
 use Rattle.hac_model.specs.Script.Lines.{Item}
 use Rattle.sem_mounts.specs.Seen.{Contents, SpacesSeen}
 use Rattle.hac_top.specs.Asking.{HaveAsked, given_by}
@@ -15,7 +15,7 @@ use Rattle.hac_model.specs.declared.limits.LimitWord.TheVariants.{Store}
 use Rattle.hac_model.specs.declared.replies.Refusal.TheVariants.{Limit}
 use Rattle.hac_model.specs.declared.replies.Reply.{Reply}
 use Rattle.hac_model.specs.declared.replies.Reply.TheVariants.{Lines, Refused}
-use Rattle.hac_store.specs.Stores.{Bears, Seen, Stands, store_after}
+use Rattle.hac_store.specs.Stores.{Bears, Seen, Stands}
 use Rattle.hac_store.specs.declared.fault.StoreFault.{StoreFault}
 use Rattle.hac_store.specs.declared.fault.StoreFault.TheVariants.{Full}
 use Rattle.hac_top.specs.Crashes.{Holds, IsTreeAfter, IsTreeOfAnswered}
@@ -51,7 +51,8 @@ StopsCommand other = ⊥
 -- the store has gone on by these events, which are stored
 pub record HasGoneOn {D : Type 0} (seen : D → Option (List ℕ)) (image : D → List ℕ → Type 0) (old new : D)
     (before after : Seen) (events : List Event) : Type 0 where
-  pub store : after ≡ store_after before events
+  pub setting : after.setting ≡ after_events before.setting events
+  pub intact : after.broken ≡ before.broken
   pub place : Bears (seen new) after
   pub stands : Stands (seen old) (image old) before.setting → Stands (seen new) (image new) after.setting
 
@@ -59,7 +60,8 @@ pub record HasGoneOn {D : Type 0} (seen : D → Option (List ℕ)) (image : D �
 pub record HasStored {D : Type 0} (seen : D → Option (List ℕ)) (image : D → List ℕ → Type 0) (old new : D)
     (before after : Seen) (turn : Turn) (reply : Reply) : Type 0 where
   pub reply_is : reply ≡ turn.reply
-  pub store : after ≡ record before { setting = turn.after }
+  pub setting : after.setting ≡ turn.after
+  pub intact : after.broken ≡ before.broken
   pub place : Bears (seen new) after
   pub stands : Stands (seen old) (image old) before.setting → Stands (seen new) (image new) after.setting
 
@@ -78,7 +80,8 @@ pub record AnswersLine {D : Type 0} (seen : D → Option (List ℕ)) (image : D 
     (attached : D → Option (List (List ℕ × Bool))) (faults : D → ℕ) (old new : D)
     (before after : Seen) (sink sink_after : SinkSeen) (answered : List Turn) : Type 0 where
   pub replies : WritesAll sink sink_after (turns_text answered)
-  pub store : after ≡ record before { setting = left_by before.setting answered }
+  pub setting : after.setting ≡ left_by before.setting answered
+  pub intact : after.broken ≡ before.broken
   pub place : Bears (seen new) after
   pub stands : Stands (seen old) (image old) before.setting → Stands (seen new) (image new) after.setting
   pub stores : Stores seen image moment image_since attached faults old new before.setting (all_events answered) false

@@ -22,7 +22,7 @@ use std::alloc::Global;
 pub enum Decision {
     /// To give this reply. The tree stays as it is.
     Answer(Reply),
-    /// To let these events happen, if there is room for those that are stored.
+    /// To let these events happen, or to begin a new area, if the store has room for it.
     Change(Settled),
 }
 

@@ -45,7 +45,7 @@ pub fn store_line<D: Disk, P: Spaces>(
     }
 }
 
-// The reply to a command whose events were to be stored.
+// The reply to a command whose events, or whose area, were to be stored.
 fn storing_reply(alloc: Global, stored: Result<(), StoreFault>) -> Result<Reply, Status>
     ensures { result ≡ storing_reply stored }
 {
@@ -56,7 +56,8 @@ fn storing_reply(alloc: Global, stored: Result<(), StoreFault>) -> Result<Reply,
     }
 }
 
-// Applies the events of a command, once those are stored that are. `Full` comes before any write.
+// Applies the events of a command, once those are stored that are; or begins a new area. `Full`
+// comes before any write.
 fn store_events<D: Disk>(
     store: &mut Store,
     disk: &mut D,
@@ -72,6 +73,7 @@ fn store_events<D: Disk>(
         Settled::Change(change) => store.command(disk, change),
         Settled::Steps(count) => store_steps(store, disk, count),
         Settled::Session(event) => Ok(store.stand(event)?),
+        Settled::Checkpoint => store.checkpoint(disk),
     }
 }
 

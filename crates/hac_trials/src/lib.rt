@@ -1,6 +1,6 @@
-//! Trials of what no transcript can say: devices and spaces that fail, scripts that come in
-//! pieces, which events of a log can happen, and checkpoints. The trials of the crates below the machine have a
-//! crate of their own. There is nothing here for other crates.
+//! Trials of what no transcript can say: devices and spaces that fail, scripts that come in pieces,
+//! which events of a log can happen, and checkpoints that are stopped. The trials of the crates
+//! below the machine have a crate of their own. There is nothing here for other crates.
 #![tactic(auto)]
 
 #[cfg(test)]

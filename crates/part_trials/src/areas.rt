@@ -1,4 +1,4 @@
-//! Two checkpoints of a store, call by call. The program doesn't make these calls yet.
+//! Two checkpoints of a store, call by call, on a real file.
 ghost use Rattle.hac_disk.specs.Contents.{RangeWithin};
 ghost use Rattle.std.specs.Prelude.{◌≡◌, ◌<◌, ◌-◌, ◌^◌};
 

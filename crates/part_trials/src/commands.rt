@@ -34,6 +34,7 @@ fn prints_commands(rt: HostRuntime) -> Result<(), Fail> {
         ),
         (b"ssync m/.", b"ssync \"./m\"\n"),
         (b"sumount //m", b"sumount \"/m\"\n"),
+        (b"@bob  checkpoint ", b"@bob checkpoint\n"),
     ] {
         expect_printed(&rt, rt.alloc(), line, want)?;
     }

@@ -18,7 +18,7 @@ use Rattle.hac_model.specs.Query.Formula.{Formula}
 use Rattle.hac_model.specs.Query.QueryReading.{read_query}
 use Rattle.hac_model.specs.Script.Texts.{text_of}
 use Rattle.hac_model.specs.declared.commands.Command.{Command}
-use Rattle.hac_model.specs.declared.commands.Command.TheVariants.{Mkdir, Rmdir, Write, Cat, Ls, Cd, Pwd, Mv, Rm, Ln, Readlink, Smkdir, Setq, Unq, Query, Sls, Sln, Srm, Sforget, Find, Smount, Ssync, Sumount, Index, Tick, Counts}
+use Rattle.hac_model.specs.declared.commands.Command.TheVariants.{Mkdir, Rmdir, Write, Cat, Ls, Cd, Pwd, Mv, Rm, Ln, Readlink, Smkdir, Setq, Unq, Query, Sls, Sln, Srm, Sforget, Find, Smount, Ssync, Sumount, Index, Tick, Counts, Checkpoint}
 use Rattle.hac_model.specs.declared.commands.Line.{Line}
 use Rattle.hac_model.specs.declared.limits.LimitWord.TheVariants as limit
 use Rattle.hac_model.specs.declared.limits.TheConstants.{LINE_LIMIT}
@@ -69,7 +69,7 @@ Given (Sumount path) = IsWord path
 Given Index = ⊤
 Given (Tick steps) = ⊤
 Given Counts = ⊤
-Given other = ⊥
+Given Checkpoint = ⊤
 
 -- what is read is a command of such parts, or a refusal
 Gives : Result Command Refusal → Type 0
@@ -216,7 +216,8 @@ gives_named name arguments =
     (λ _. cond_both (bytes_eq name (codes "index")) _ _ P (λ _. gives_alone Index arguments tt)
     (λ _. cond_both (bytes_eq name (codes "tick")) _ _ P (λ _. gives_tick arguments)
     (λ _. cond_both (bytes_eq name (codes "counts")) _ _ P (λ _. gives_alone Counts arguments tt)
-    (λ _. gives_bad_line))))))))))))))))))))))))))
+    (λ _. cond_both (bytes_eq name (codes "checkpoint")) _ _ P (λ _. gives_alone Checkpoint arguments tt)
+    (λ _. gives_bad_line)))))))))))))))))))))))))))
 
 gives_put_at : (word : List ℕ) (taken : Option Taken) → Gives (put_at word taken)
 unfolding Gives

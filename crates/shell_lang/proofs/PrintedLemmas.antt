@@ -24,7 +24,7 @@ use Rattle.hac_model.specs.Script.SessionWords.{main_session, named_session, nam
 use Rattle.hac_model.specs.Script.SpaceNames.{is_space_name}
 use Rattle.hac_model.specs.Tree.Limits.{is_text}
 use Rattle.hac_model.specs.declared.commands.Command.{Command}
-use Rattle.hac_model.specs.declared.commands.Command.TheVariants.{Mkdir, Rmdir, Write, Cat, Ls, Cd, Pwd, Mv, Rm, Ln, Readlink, Smkdir, Setq, Unq, Query, Sls, Sln, Srm, Sforget, Find, Smount, Ssync, Sumount, Index, Tick, Counts}
+use Rattle.hac_model.specs.declared.commands.Command.TheVariants.{Mkdir, Rmdir, Write, Cat, Ls, Cd, Pwd, Mv, Rm, Ln, Readlink, Smkdir, Setq, Unq, Query, Sls, Sln, Srm, Sforget, Find, Smount, Ssync, Sumount, Index, Tick, Counts, Checkpoint}
 use Rattle.hac_model.specs.declared.commands.Line.{Line}
 use Rattle.hac_model.specs.declared.limits.LimitWord.{LimitWord}
 use Rattle.hac_model.specs.declared.limits.LimitWord.TheVariants as limit
@@ -228,7 +228,7 @@ printed (Tick steps) spelled is =
     of_named (Tick steps) refl (number-one_line steps (steps-few steps spelled)) refl refl
     (named 116 (codes "ick") (number_part steps) (Ok (Tick steps)) refl refl refl refl (space-ends (decimal steps)) (tick-read steps spelled))
 printed Counts spelled is = of_named Counts refl refl refl refl (named 99 (codes "ounts") [] (Ok Counts) refl refl refl refl refl (alone-read Counts))
-printed other spelled is = absurd is
+printed Checkpoint spelled is = of_named Checkpoint refl refl refl refl (named 99 (codes "heckpoint") [] (Ok Checkpoint) refl refl refl refl refl (alone-read Checkpoint))
 
 -- The line, with its session.
 

@@ -127,6 +127,8 @@ fn parse_named(alloc: Global, name: &[u8], arguments: &[u8]) -> Result<Command, 
         parse_tick(alloc, arguments)
     } else if name == b"counts".as_slice() {
         alone(arguments, Command::Counts)
+    } else if name == b"checkpoint".as_slice() {
+        alone(arguments, Command::Checkpoint)
     } else {
         Err(Deny::Refused(Refusal::BadLine))
     }

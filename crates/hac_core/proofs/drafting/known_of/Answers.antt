@@ -1,4 +1,4 @@
-use Rattle.hac_core.proofs.DraftLemmas.{known-indexes, known-reads, knows-change, seated-made}
+use Rattle.hac_core.proofs.DraftLemmas.{known-indexes, known-reads, known-saves, knows-change, seated-made}
 use Rattle.hac_core.proofs.drafting.known_of.Goals as goal
 
 pub changing-requires : goal.changing-requires
@@ -17,3 +17,6 @@ returns-in-Steps-clause-known c = known-indexes c.args.kept.now.state c.know_val
 
 pub returns-in-Nothing-clause-known : goal.returns-in-Nothing-clause-known
 returns-in-Nothing-clause-known c = known-reads c.args.kept.now.state c.know_valid.ensures c.args.command c.in-Nothing.command c.requires.stands c.requires.free c.in-Nothing.ensures
+
+pub returns-in-Area-clause-known : goal.returns-in-Area-clause-known
+returns-in-Area-clause-known c = known-saves c.args.kept.now.state c.know_valid.ensures c.args.command c.requires.stands c.in-Area.ensures

@@ -1,4 +1,4 @@
-use Rattle.hac_store.proofs.CreateLemmas.{open-new, opened-place, opened-root, opened-stands}
+use Rattle.hac_store.proofs.CreateLemmas.{open-new, opened-place, opened-stands}
 use Rattle.hac_store.proofs.creating.write_new.Goals as goal
 
 pub returns-clause-stands : goal.returns-clause-stands
@@ -11,12 +11,6 @@ pub returns-clause-place : goal.returns-clause-place
 returns-clause-place g c =
     let disk = g.D.Disk in
     opened-place _ (disk.seen c.args.disk.now) (disk.seen c.write_head.new.disk) (disk.seen c.write_stable.new.disk) c.in_ok-write_head.ensures.ready c.write_stable.ensures.written
-
-pub returns-clause-root : goal.returns-clause-root
-returns-clause-root g c =
-    let disk = g.D.Disk in
-    opened-root _ (disk.seen c.args.disk.now) (disk.seen c.write_head.new.disk) (disk.seen c.write_stable.new.disk)
-    c.in_ok-write_head.ensures.ready c.write_stable.ensures.written
 
 pub returns-clause-any_moment : goal.returns-clause-any_moment
 returns-clause-any_moment g c =

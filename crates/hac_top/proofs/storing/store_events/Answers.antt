@@ -1,7 +1,7 @@
 use Rattle.std.proofs.Common.{Err, ap, ◌∙◌}
 use Rattle.std.proofs.lemmas.Result.{err_from_is_err_and}
 use Rattle.hac_top.specs.Deciding.{standing_turn}
-use Rattle.hac_top.proofs.StoringLemmas.{moves-session, stops-first, stores-once}
+use Rattle.hac_top.proofs.StoringLemmas.{moves-session, stops-first, stores-once, stores-saved}
 use Rattle.hac_top.proofs.storing.store_events.Goals as goal
 
 pub returns-in-Change : goal.returns-in-Change
@@ -16,3 +16,6 @@ pub returns-in_err-stand-in-Session : goal.returns-in_err-stand-in-Session
 returns-in_err-stand-in-Session g c =
     let stop = err_from_is_err_and c.from_residual.result c.from_residual.ensures.1 in
     rw (c.in-Session.is, c.in_err-stand-in-Session.ensures.stayed, stop.1 ∙ ap Err stop.2) (stops-first g.met.D.Disk.only_now c.args.disk.now c.args.store.now (standing_turn c.args.store.now.setting c.in-Session.event))
+
+pub returns-in-Checkpoint : goal.returns-in-Checkpoint
+returns-in-Checkpoint g c = rw c.in-Checkpoint.is (stores-saved g.met.D.Disk.only_now c.checkpoint.result c.requires.place c.checkpoint.ensures)

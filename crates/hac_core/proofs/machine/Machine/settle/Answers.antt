@@ -10,7 +10,7 @@ use Rattle.kept_state.specs.Seen as kept
 use Rattle.hac_core.specs.Drafts.{IsDraft, IsDraftFor, IsKnownOf, Settles}
 use Rattle.hac_core.specs.Seen.{Seen}
 use Rattle.hac_core.specs.declared.drafts.Settled.TheVariants as settled
-use Rattle.hac_core.proofs.DraftLemmas.{asks-made, known-placed, known-seated, settles-changed, settles-steps}
+use Rattle.hac_core.proofs.DraftLemmas.{asks-made, known-placed, known-seated, settles-changed, settles-saved, settles-steps}
 use Rattle.hac_core.proofs.machine.Machine.settle.Goals as goal
 
 pub settled-requires-clause-seated : goal.settled-requires-clause-seated
@@ -58,4 +58,11 @@ returns-in-Indexes-clause-settled c =
     let same = ap (λ (seen : kept.Seen). seen.state) c.kept-kept.ensures ∙ ap (λ (seen : Seen). seen.state) c.self.view_is in
     subst (λ (s : State). (command : Resolved) → IsDraftFor s command c.args.draft → Settles s c.args.answers command (settled.Steps c.in-Indexes.count)) same
     (λ command for. settles-steps c.kept-kept.result.now.state c.know_valid.ensures c.args.answers command c.in-Indexes.count (subst (IsKnownOf c.kept-kept.result.now.state command) (sym c.in-Indexes.ensures) for.known)
+    (subst (λ (asked : Asks). AreAnswersTo asked c.args.answers) for.asks c.requires.answered))
+
+pub returns-in-Saves-clause-settled : goal.returns-in-Saves-clause-settled
+returns-in-Saves-clause-settled c =
+    let same = ap (λ (seen : kept.Seen). seen.state) c.kept-kept.ensures ∙ ap (λ (seen : Seen). seen.state) c.self.view_is in
+    subst (λ (s : State). (command : Resolved) → IsDraftFor s command c.args.draft → Settles s c.args.answers command settled.Checkpoint) same
+    (λ command for. settles-saved c.kept-kept.result.now.state c.know_valid.ensures c.args.answers command (subst (IsKnownOf c.kept-kept.result.now.state command) (sym c.in-Saves.ensures) for.known)
     (subst (λ (asked : Asks). AreAnswersTo asked c.args.answers) for.asks c.requires.answered))

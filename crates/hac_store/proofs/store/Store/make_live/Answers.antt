@@ -6,7 +6,7 @@ pub write_area-requires-clause-place : goal.write_area-requires-clause-place
 write_area-requires-clause-place g c =
     let sound = c.root-live.ensures in
     place-starts c.args.self.now c.args.at sound.order c.requires.free (g.D.Disk.seen c.args.disk.now)
-    c.requires.place c.requires.root
+    c.requires.place
 
 pub close_and_fill-requires-clause-head : goal.close_and_fill-requires-clause-head
 close_and_fill-requires-clause-head g c =
@@ -14,7 +14,7 @@ close_and_fill-requires-clause-head g c =
     let sound = c.root-live.ensures in
     part-head (disk.seen c.args.disk.now) (disk.seen c.write_area.new.disk) _ _ c.write_area.ensures.elsewhere.in_part
     (place-head c.args.self.now c.args.at sound.order c.requires.free (disk.seen c.args.disk.now)
-    c.requires.place c.requires.root)
+    c.requires.place)
 
 pub open_root-requires : goal.open_root-requires
 open_root-requires g c =
@@ -24,7 +24,7 @@ open_root-requires g c =
     c.close_and_fill.ensures.elsewhere.in_part
     (part-head (disk.seen c.args.disk.now) (disk.seen c.write_area.new.disk) _ _ c.write_area.ensures.elsewhere.in_part
     (place-head c.args.self.now c.args.at sound.order c.requires.free (disk.seen c.args.disk.now)
-    c.requires.place c.requires.root))
+    c.requires.place))
 
 pub returns-in_err-end-clause-any_moment : goal.returns-in_err-end-clause-any_moment
 returns-in_err-end-clause-any_moment g c =
@@ -33,7 +33,7 @@ returns-in_err-end-clause-any_moment g c =
     let sound = c.root-live.ensures in
     let elsewhere = rw c.requires.text at c.write_area.ensures.elsewhere in
     writing-moments disk.seen disk.image disk.moment disk.image_since c.args.self.now c.args.at sound.valid sound.order
-    c.requires.free old c.write_area.new.disk (g.met.D.Disk.read_is_image old) c.requires.place c.requires.root
+    c.requires.free old c.write_area.new.disk (g.met.D.Disk.read_is_image old) c.requires.place
     elsewhere
 
 pub returns-in_err-close_and_fill-clause-any_moment : goal.returns-in_err-close_and_fill-clause-any_moment
@@ -46,7 +46,7 @@ returns-in_err-close_and_fill-clause-any_moment g c =
     let fills = rw sound.root at c.close_and_fill.ensures.any_moment in
     let filled = rw sound.root at c.close_and_fill.ensures.elsewhere in
     filling-moments disk.seen disk.image disk.moment disk.image_since c.args.self.now c.args.at sound.valid sound.order
-    c.requires.free old c.write_area.new.disk (g.met.D.Disk.read_is_image old) c.requires.place c.requires.root
+    c.requires.free old c.write_area.new.disk (g.met.D.Disk.read_is_image old) c.requires.place
     elsewhere
     c.close_and_fill.new.disk written c.in_ok-end.ensures.settled fills filled
 
@@ -63,7 +63,7 @@ returns-in_err-open_root-clause-any_moment g c =
     let opens = rw sound.root at c.open_root.ensures.any_moment c.args.at in
     let opened = rw sound.root at c.open_root.ensures.elsewhere in
     opening-moments disk.seen disk.image disk.moment disk.image_since c.args.self.now c.args.at sound.valid sound.order
-    c.requires.free old c.write_area.new.disk (g.met.D.Disk.read_is_image old) c.requires.place c.requires.root
+    c.requires.free old c.write_area.new.disk (g.met.D.Disk.read_is_image old) c.requires.place
     elsewhere
     c.close_and_fill.new.disk written c.in_ok-end.ensures.settled fills filled
     c.open_root.new.disk fill opens opened
@@ -81,7 +81,7 @@ returns-clause-any_moment g c =
     let opens = rw sound.root at c.open_root.ensures.any_moment c.args.at in
     let opened = rw sound.root at c.open_root.ensures.elsewhere in
     opening-moments disk.seen disk.image disk.moment disk.image_since c.args.self.now c.args.at sound.valid sound.order
-    c.requires.free old c.write_area.new.disk (g.met.D.Disk.read_is_image old) c.requires.place c.requires.root
+    c.requires.free old c.write_area.new.disk (g.met.D.Disk.read_is_image old) c.requires.place
     elsewhere
     c.close_and_fill.new.disk written c.in_ok-end.ensures.settled fills filled
     c.open_root.new.disk fill opens opened
@@ -100,7 +100,7 @@ returns-clause-made g c =
     let opened = rw sound.root at c.open_root.ensures.elsewhere in
     let flips = rw sound.root at c.in_ok-open_root.ensures.opened c.args.at in
     flipped-made disk.seen disk.image disk.moment disk.image_since c.args.self.now c.args.at sound.valid sound.order
-    c.requires.free old c.write_area.new.disk (g.met.D.Disk.read_is_image old) c.requires.place c.requires.root
+    c.requires.free old c.write_area.new.disk (g.met.D.Disk.read_is_image old) c.requires.place
     elsewhere
     c.close_and_fill.new.disk written c.in_ok-end.ensures.settled fills filled
     c.open_root.new.disk fill opens opened flips
@@ -120,7 +120,7 @@ returns-clause-stands g c =
     let opened = rw sound.root at c.open_root.ensures.elsewhere in
     let flips = rw sound.root at c.in_ok-open_root.ensures.opened c.args.at in
     flipped-stands disk.seen disk.image disk.moment disk.image_since c.args.self.now c.args.at sound.valid sound.order
-    c.requires.free old c.write_area.new.disk (g.met.D.Disk.read_is_image old) c.requires.place c.requires.root
+    c.requires.free old c.write_area.new.disk (g.met.D.Disk.read_is_image old) c.requires.place
     elsewhere
     c.close_and_fill.new.disk written c.in_ok-end.ensures.settled fills filled
     c.open_root.new.disk fill opens opened flips

@@ -1,15 +1,17 @@
-use Rattle.std.proofs.Common.{◌≡◌, ℕ, List, [], arith, inr, inl, ◌∙◌, Err, ap, refl, subst, sym, true}
+use Rattle.std.proofs.Common.{◌≡◌, ◌≤◌, ℕ, IfSome, List, [], arith, inr, inl, ◌∙◌, Err, ap, refl, subst, sym, true}
 use Rattle.std.proofs.lemmas.Result.{err_from_is_err_and}
 use Rattle.hac_disk.specs.Contents.{Written}
-use Rattle.hac_journal.specs.Records.{log_of}
+use Rattle.hac_journal.specs.Records.{contents_of, log_of}
 use Rattle.hac_model.specs.Laws.{AllHappen}
 use Rattle.hac_model.specs.Tree.Valid.{IsValid}
 use Rattle.hac_model.proofs.EventLemmas.{all-valid}
 use Rattle.hac_core.specs.Seen.{Seen as Kept}
 use Rattle.hac_core.specs.Drafts.{settled_events}
-use Rattle.hac_store.specs.Stores.{Seen, Stands}
+use Rattle.hac_checkpoint.specs.Flips.{HasRoot}
+use Rattle.hac_checkpoint.specs.declared.heads.Root.{Root}
+use Rattle.hac_store.specs.Stores.{Seen, Stands, root_by}
 use Rattle.hac_store.proofs.LogLemmas.{end-grows}
-use Rattle.hac_store.proofs.PutLemmas.{can-happen, none-stored, put-moments, put-seen, put-stands, put-state}
+use Rattle.hac_store.proofs.PutLemmas.{can-happen, none-stored, put-moments, put-root, put-seen, put-stands, put-state}
 use Rattle.hac_store.proofs.StoredLemmas.{all-stored, stored-leads}
 use Rattle.hac_store.proofs.RoomLemmas.{end-is, has-room, no-room}
 use Rattle.hac_store.proofs.store.Store.put.Goals as goal
@@ -58,7 +60,13 @@ returns-in-Ok g c =
             subst (λ (l : List (List ℕ)). Written (g.D.Disk.seen c.args.disk.now) c.args.self.now.setting.end (log_of l) (g.D.Disk.seen c.append.new.disk)) c.requires.texts
             (rw size at c.in-Ok.ensures.written);
         settled = c.in-Ok.ensures.settled;
-        place = c.in-Ok.ensures.gate;
+        place = (
+          c.in-Ok.ensures.gate,
+          subst (λ (root : Root). IfSome (disk.seen new) (HasRoot root)) (ap root_by (sym c.self.view_is))
+              (put-root (disk.seen old) (disk.seen new) c.args.self.now (log_of (contents_of c.args.payloads.now))
+              (subst (λ (x : Seen). x.setting.start ≤ x.setting.end) c.self.view_is c.self.invariant.1) c.requires.place
+              (rw size at c.in-Ok.ensures.written)),
+        );
       };
       stands = λ stands.
           subst (λ (x : Seen). Stands (g.D.Disk.seen c.append.new.disk) (g.D.Disk.image c.append.new.disk) x.setting) (sym is)
