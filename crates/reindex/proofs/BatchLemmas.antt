@@ -1,9 +1,8 @@
 -- What is judged again after steps that are taken in a batch.
-use Rattle.std.proofs.Common.{◌≡◌, ℕ, zero, suc, Bool, true, false, cond, List, [], ◌∷◌, ◌++◌, ap, inl, inr, refl, subst, sym, ◌∙◌, arith}
-use Rattle.std.specs.Prelude.{drop, nat_le, replicate, take, IfOk, OnOk, Result, Ok, Err, Vec}
+use Rattle.std.proofs.Common.{◌≡◌, ℕ, Bool, true, false, cond, List, [], ◌∷◌, ◌++◌, ap, inl, inr, refl, subst, sym, ◌∙◌, arith}
+use Rattle.std.specs.Prelude.{nat_le, replicate, IfOk, OnOk, Result, Ok, Err, Vec}
 use Rattle.std.specs.declared.alloc.Global.{Global}
 use Rattle.std.proofs.lemmas.Bool.Decides.{nat_tests}
-use Rattle.dep_graph.specs.Searches.{EachOnce}
 use Rattle.file_tree.specs.Answers.{is_dirty_at}
 use Rattle.hac_model.specs.Laws.{AllHappen}
 use Rattle.hac_model.specs.Tree.Depends.{Among}
@@ -25,10 +24,10 @@ use Rattle.reeval.specs.declared.verdicts.Change.{Change}
 use Rattle.reeval.proofs.JudgeLemmas.{links-judged}
 use Rattle.reeval.proofs.LeaveLemmas.{IsAlike, leaves-alike}
 use Rattle.reeval.proofs.PlanLemmas.{unmoved}
-use Rattle.reeval.proofs.SettleLemmas.{among-has, has-among}
 use Rattle.reindex.specs.Past.{Lead}
 use Rattle.reindex.specs.Steps.{AreIndexed, AreSettled, indexed_through}
 use Rattle.reindex.proofs.IndexedLemmas.{depends-indexed, document-indexed, item-indexed, kept-indexed, parent-indexed, path_of-indexed, permanent-indexed, prohibited-indexed, query-indexed, shown-indexed, text_of}
+use Rattle.reindex.proofs.SettledLemmas.{settled-leads}
 use Rattle.reindex.proofs.StepLemmas.{clean-shown}
 
 module _ (s : State) (count : ℕ) (files : List ℕ) (last : ℕ) (h : IsValid s) (happen : AllHappen s (replicate count Step)) (known : AreIndexed s count files last) where
@@ -75,12 +74,7 @@ module _ (s : State) (count : ℕ) (files : List ℕ) (last : ℕ) (h : IsValid 
 
   -- once the files are settled, all that is new is known
   pub batch-leads : (delta : List Change) → AreSettled s t files delta → Lead s t delta
-  batch-leads delta settled item dir = elim (has files item) as (λ b. has files item ≡ b → told (news_on item delta) (verdict_of s item) dir ≡ verdict_of t item dir) [
-    | true ↦ (λ is. settled.settled item (has-among files item is) dir)
-    | false ↦ (λ out.
-        let apart : ¬ Among files item = λ inside. let is : has files item ≡ true = among-has files item inside in absurd cc in
-        ap (λ (news : List Change). told news (verdict_of s item) dir) (settled.others item apart) ∙ untouched item apart dir)
-  ] refl
+  batch-leads delta settled = settled-leads s t files delta settled untouched
 
   -- changes that lead to the state with these files indexed lead to that behind the steps
   pub steps-led : (delta : List Change) → Lead s t delta → Lead s (apply_all s (replicate count Step)) delta
@@ -91,12 +85,6 @@ module _ (s : State) (count : ℕ) (files : List ℕ) (last : ℕ) (h : IsValid 
   batch-if (Err memory) settled = tt
 
 -- File by file.
-
-pub settled-none : (s t : State) (delta : List Change) → delta ≡ [] → AreSettled s t [] delta
-settled-none s t delta none = record {
-  settled = λ item inside dir. absurd inside;
-  others = λ item out. ap (news_on item) none;
-}
 
 pub settled-more : (s t : State) (stops : List Stop) (files : List ℕ) (file : ℕ) (old new : List Change) → ¬ Among files file → Covers s t stops file → SettlesAll s t stops (file ∷ []) old new → AreSettled s t files old → AreSettled s t (files ++ file ∷ []) new
 settled-more s t stops files file old new apart covers more h = record {
@@ -121,17 +109,3 @@ pub settled-if : {X E Q : Type 0} (result : Result X E) (s t : State) (stops : L
     OnOk result ((files : List ℕ) → ¬ Among files file → AreSettled s t files old → AreSettled s t (files ++ file ∷ []) new)
 settled-if (Ok x) s t stops file old new given covers more = λ files apart h. settled-more s t stops files file old new apart covers (more given) h
 settled-if (Err e) s t stops file old new given covers more = tt
-
--- a file that comes behind others of which each comes once
-here-among : (files : List ℕ) (i : ℕ) (file : ℕ) (rest : List ℕ) → drop i files ≡ file ∷ rest → Among files file
-here-among files zero file rest is = subst (λ (ns : List ℕ). Among ns file) (sym is) (inl refl)
-here-among [] (suc i) file rest is = absurd cc
-here-among (k ∷ files) (suc i) file rest is = inr (here-among files i file rest is)
-
-pub once-apart : (files : List ℕ) (i : ℕ) (file : ℕ) (rest : List ℕ) → EachOnce files → drop i files ≡ file ∷ rest → ¬ Among (take i files) file
-once-apart files zero file rest once is = λ never. never
-once-apart [] (suc i) file rest once is = absurd cc
-once-apart (first ∷ files) (suc i) file rest once is = λ before. elim before as (λ _. ⊥) [
-  | inl same ↦ once.0 (subst (λ (n : ℕ). Among files n) (sym same) (here-among files i file rest is))
-  | inr more ↦ once-apart files i file rest once.1 is more
-]

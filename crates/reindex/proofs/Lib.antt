@@ -1,8 +1,12 @@
 pub mod WayLemmas
 pub mod LeftLemmas
 pub mod IndexedLemmas
+pub mod SettledLemmas
 pub mod StepLemmas
 pub mod TextLemmas
 pub mod BatchLemmas
 pub mod UnjudgedLemmas
 pub mod AnewLemmas
+pub mod MoveLemmas
+pub mod GoneLemmas
+pub mod EventLemmas

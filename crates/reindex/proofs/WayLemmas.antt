@@ -32,7 +32,7 @@ some-edges (edge ∷ edges) n h = λ none. absurd cc
 
 -- Stops.
 
-dirs-at : (begins : ℕ → Bool) (dirs : List ℕ) → dirs_of (stops_at begins dirs) ≡ dirs
+pub dirs-at : (begins : ℕ → Bool) (dirs : List ℕ) → dirs_of (stops_at begins dirs) ≡ dirs
 dirs-at begins [] = refl
 dirs-at begins (dir ∷ dirs) = ap (λ (more : List ℕ). dir ∷ more) (dirs-at begins dirs)
 
@@ -60,7 +60,7 @@ route-at edges begins dirs ordered all = record {
 -- Everywhere.
 
 -- what has no edges isn't semantic
-unasked : (t : State) (dir : ℕ) → (depends t dir ≢ [] → ⊥) → is_semantic t dir ≡ false
+pub unasked : (t : State) (dir : ℕ) → (depends t dir ≢ [] → ⊥) → is_semantic t dir ≡ false
 unasked t dir none = elim (query_at t dir) as (λ o. (option_map_or (λ (query : Formula ℕ). parent_of t dir ∷ (named_in query ++ lenders t dir)) o [] ≢ [] → ⊥) → is_some o ≡ false) [
   | None ↦ (λ _. refl)
   | Some query ↦ (λ none. absurd (none (λ same. absurd cc)))
@@ -205,7 +205,7 @@ depends-semantic s dir = elim (query_at s dir) as (λ o. option_map_or (λ (quer
 ]
 
 -- what none of the numbers passes, each of them fails
-any-none : (p : ℕ → Bool) (ns : List ℕ) → list_any p ns ≡ false → (n : ℕ) → Among ns n → p n ≡ false
+pub any-none : (p : ℕ → Bool) (ns : List ℕ) → list_any p ns ≡ false → (n : ℕ) → Among ns n → p n ≡ false
 any-none p [] none n among = absurd among
 any-none p (k ∷ ns) none n (inl same) = subst (λ (m : ℕ). p m ≡ false) same (first (p k) (list_any p ns) none)
   where

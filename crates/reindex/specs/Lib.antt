@@ -2,3 +2,4 @@ pub mod Past
 pub mod Ways
 pub mod Steps
 pub mod Anew
+pub mod Moves

@@ -2,7 +2,7 @@ use Rattle.std.proofs.Common.{◌≡◌, ◌++◌, ◌+◌, ◌∷◌, [], ℕ, 
 use Rattle.std.specs.Prelude.{drop, take}
 use Rattle.std.proofs.lemmas.List.{drop_more, take_more}
 use Rattle.reindex.specs.Steps.{AreSettled, indexed_through}
-use Rattle.reindex.proofs.BatchLemmas.{once-apart}
+use Rattle.reindex.proofs.SettledLemmas.{once-apart}
 use Rattle.reindex.proofs.steps.delta_of_files.Goals as goal
 
 pub loop-file-preserved : goal.loop-file-preserved
