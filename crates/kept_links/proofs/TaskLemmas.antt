@@ -28,12 +28,15 @@ use Rattle.reeval.proofs.JudgeLemmas.{links-judged}
 use Rattle.reeval.specs.Routes.{Covers}
 use Rattle.reeval.specs.declared.planning.Task.{Task}
 use Rattle.reeval.specs.declared.settling.Stop.{Stop}
+use Rattle.reeval.specs.declared.verdicts.Change.{Change}
 use Rattle.reeval.proofs.EventsLeave.{event-owes, events-leave}
 use Rattle.reeval.proofs.PlanLemmas.{begins-more, no-item, unmoved, unjudged-said}
 use Rattle.reeval.proofs.SettleLemmas.{has-among}
 use Rattle.kept_links.specs.Items.{is_passed_over, others}
 use Rattle.kept_links.specs.Kept.{is_still}
 use Rattle.kept_links.specs.Tasks.{AreAlong, IsTaskOf, IsWayFrom, begins_touched, only_at}
+use Rattle.reindex.specs.Past.{Lead}
+use Rattle.reindex.specs.Steps.{AreSettled}
 use Rattle.reindex.specs.Ways.{IsWayOver, IsWayOf, with_first, stops_at, stops_everywhere}
 use Rattle.reindex.specs.declared.ways.Way.{Way}
 use Rattle.kept_links.proofs.EdgeLemmas.{edges-still, lends-still}
@@ -41,6 +44,7 @@ use Rattle.kept_links.proofs.ItemLemmas.{in-neither, others-once, others-untouch
 use Rattle.kept_links.proofs.NewDirLemmas.{passed-over}
 use Rattle.kept_links.proofs.SemanticLemmas.{asks-still, semantic-still}
 use Rattle.kept_links.proofs.MarkLemmas.{mark-begins, mark-leaves}
+use Rattle.reindex.proofs.SettledLemmas.{leads-if}
 use Rattle.reindex.proofs.WayLemmas.{covers-at, covers-everywhere, covers-from, depends-semantic, semantic-depends, way-over}
 
 -- an order over the same edges
@@ -168,6 +172,12 @@ module _ (s : State) (event : Event) (valid : IsValid s) (ok : IsTrue (accepted 
       alike = begins-more s t item (begins s event) (λ d. false) (λ d _. never d) (events-leave s event valid ok item untouched);
     }) dir)
   ] refl
+
+  -- where the items that are touched are settled, nothing else is new
+  pub touched-leads : ((dir : ℕ) → begins s event dir ≡ false) → (items : List ℕ) (result : Result (Vec Change Global) Memory) → items ≡ touched s event → IfOk result (λ delta. AreSettled s t items delta.items) →
+      IfOk result (λ delta. Lead s t delta.items)
+  touched-leads never items result are settled =
+      leads-if s t items result settled (λ item out dir. stays never item (λ inside. out (subst (λ (ns : List ℕ). Among ns item) (sym are) inside)) dir)
 
   pub task-from : (task : Task) (first : ℕ) (way : Way) → task.touched.items ≡ touched s event → IsWayOf t way → task.everywhere.items ≡ way.stops.items → ((dir : ℕ) → begins s event dir ≡ (dir == first)) →
       task.others.items ≡ others s event → AreAlong t first task.along.items → IsTaskOf s event task

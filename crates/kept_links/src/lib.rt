@@ -8,6 +8,7 @@ mod lookups;
 mod news;
 mod outlook;
 mod tasks;
+mod touched;
 mod unlinked;
 
 pub use linked::LinkedState;

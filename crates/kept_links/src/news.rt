@@ -10,7 +10,8 @@ ghost use Rattle.reindex.specs.Ways.{IsWayOf};
 
 use crate::items::begin;
 use crate::outlook::Outlook;
-use crate::tasks::{task_from, task_of_touched, way_next};
+use crate::tasks::{task_from, way_next};
+use crate::touched::delta_of_touched;
 use hac_model::{Event, Memory, Number};
 use kept_state::KeptState;
 use link_kinds::Links;
@@ -142,8 +143,6 @@ fn news_of_touched(
         (AreNews kept.now.state (apply kept.now.state event.now) way.now) }
 {
     kept.know_valid();
-    let outlook = Outlook::new(kept, event);
-    let task = task_of_touched(alloc, kept, &outlook, event, way)?;
-    let delta = plan(alloc, &outlook, &outlook, &Past { kept, found }, &task)?;
+    let delta = delta_of_touched(alloc, kept, found, way, event)?;
     Ok(News { delta, way: None })
 }
