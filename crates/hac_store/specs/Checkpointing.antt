@@ -1,5 +1,5 @@
 -- What becomes of a store and of its disk where its state is written as a new area.
-use Rattle.std.specs.Prelude.{◌≡◌, ℕ, ◌+◌, ◌-◌, ◌^◌, ◌&&◌, nat_lt, if◌then◌else◌, Bool, true, List, length}
+use Rattle.std.specs.Prelude.{◌≡◌, ℕ, Bool, true, List}
 use Rattle.std.specs.Prelude.{Option, None, Some, Result, Ok, Err, OnOk}
 use Rattle.hac_checkpoint.specs.Flips.{other_slot}
 use Rattle.hac_disk.specs.Images.{LeavesOnly}

@@ -9,7 +9,7 @@ use Rattle.hac_core.specs.declared.drafts.Settled.{Settled}
 use Rattle.hac_core.specs.declared.drafts.Settled.TheVariants as settled
 use Rattle.hac_model.specs.Run.Answers.{Refuses, first_cause}
 use Rattle.hac_model.specs.Run.Asks.{asks}
-use Rattle.hac_model.specs.Run.Play.{Setting, Turn, absent_cause, answered_turn, carried_out, checkpointed, command_turn, data_lines, end_behind, fits_store, full_cause, given_spaces, happened, have_room, is_checkpoint, next_place, no_answers, nothing_given, refused_turn, space_answers, stored_events, turn_cause}
+use Rattle.hac_model.specs.Run.Play.{Setting, Turn, absent_cause, answered_turn, checkpointed, command_turn, data_lines, end_behind, fits_store, full_cause, given_spaces, happened, have_room, is_checkpoint, next_place, no_answers, nothing_given, refused_turn, space_answers, stored_events, turn_cause}
 use Rattle.hac_model.specs.Run.Refusals.{cause, cause_against, early_cause, event_of, events_of, late_cause}
 use Rattle.hac_model.specs.declared.spaces.Asks.{Asks}
 use Rattle.hac_model.specs.Spaces.Answering.{Attached, answers_of, asked_spaces, first_absent}

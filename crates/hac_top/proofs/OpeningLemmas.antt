@@ -1,5 +1,5 @@
 -- How a store is opened once the file of the store is attached: what is told of each call is told of both.
-use Rattle.std.proofs.Common.{◌≡◌, ℕ, ◌≤◌, true, false, Bool, List, refl, ap, sym, ◌∙◌, subst, arith, rules, inr}
+use Rattle.std.proofs.Common.{◌≡◌, ℕ, true, false, Bool, List, refl, ap, sym, ◌∙◌, subst, arith, rules}
 use Rattle.std.specs.Prelude.{Option, None, Some, Result, Ok, Err, IfErr, IfOk, IsErr, IsOk, OnOk}
 use Rattle.std.specs.Option.{IfSome}
 use Rattle.std.specs.Result.{is_err}

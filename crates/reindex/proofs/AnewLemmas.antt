@@ -24,7 +24,7 @@ use Rattle.reeval.proofs.JudgeLemmas.{links-judged}
 use Rattle.reeval.proofs.LinkedLemmas.{links-told, told-alike, told-nothing}
 use Rattle.reeval.proofs.PlanLemmas.{no-item, unjudged-said}
 use Rattle.reeval.proofs.ToldLemmas.{news-here, news-there}
-use Rattle.reindex.specs.Anew.{AreAllNews, LendsNothing}
+use Rattle.reindex.specs.Anew.{AreAllNews, AreLinksBelow, LendsNothing}
 
 -- One item.
 
@@ -57,10 +57,6 @@ settled-news s t u stops item (Ok news) same none own settled covers = record {
 settled-news s t u stops item (Err memory) same none own settled covers = tt
 
 -- Item by item.
-
--- the links are those of the items below a number, and no others
-abbrev pub AreLinksBelow : State → Known → ℕ → Type 0
-AreLinksBelow s known number = (item dir : ℕ) → verdict_in known item dir ≡ cond (nat_lt item number) (verdict_of s item dir) no_verdict
 
 pub below-none : (s : State) (known : Known) → IsEmpty known → AreLinksBelow s known 0
 below-none s known none item dir =
@@ -104,6 +100,11 @@ module _ (s : State) (number : ℕ) (old room new : Known) (news : List Change) 
         | true ↦ (λ less. grind (arith, nat_tests))
         | false ↦ (λ more. grind (arith, nat_tests))
       ] refl
+
+-- what is no item has none
+pub below-none-more : (s : State) (known : Known) (number : ℕ) → IsValid s → is_item s number ≡ false → AreLinksBelow s known number → AreLinksBelow s known (number + 1)
+below-none-more s known number valid out h =
+    below-more s number known known known [] h (λ dir. refl) (news-of-none s number [] valid refl out) (λ item dir. refl)
 
 -- those of all items are the links of the state
 pub below-all : (s : State) (known : Known) (number : ℕ) → IsValid s → LinkListsRise known → s.next ≤ number → AreLinksBelow s known number → AreLinksOf s known

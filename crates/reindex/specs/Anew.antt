@@ -1,12 +1,14 @@
 -- All links of a state, found from nothing.
-use Rattle.std.specs.Prelude.{◌≡◌, ℕ, true, List, [], map, None}
+use Rattle.std.specs.Prelude.{◌≡◌, ℕ, true, nat_lt, if◌then◌else◌, List, [], map, None}
 use Rattle.std.specs.List.{list_all}
 use Rattle.hac_model.specs.Tree.Events.{edited}
 use Rattle.hac_model.specs.Tree.Links.{lenders}
 use Rattle.hac_model.specs.declared.states.Body.{Body}
 use Rattle.hac_model.specs.declared.states.Body.TheVariants.{File, Document}
 use Rattle.hac_model.specs.declared.states.State.{State}
+use Rattle.link_kinds.specs.Seen.{Known}
 use Rattle.reeval.specs.Judging.{no_verdict, verdict_of}
+use Rattle.reeval.specs.Settled.{verdict_in}
 use Rattle.reeval.specs.Told.{is_on, told}
 use Rattle.reeval.specs.declared.verdicts.Change.{Change}
 use Rattle.reindex.specs.declared.unjudged.Unjudged.TheInside as unjudged
@@ -35,3 +37,8 @@ IsUnlent unjudged = LendsNothing unjudged.kept.now.state
 pub record AreAllNews (s : State) (item : ℕ) (news : List Change) : Type 0 where
   pub own : list_all (is_on item) news ≡ true
   pub told : (dir : ℕ) → told news (λ _. no_verdict) dir ≡ verdict_of s item dir
+
+-- the links are those of the items below a number, and no others
+abbrev pub AreLinksBelow : State → Known → ℕ → Type 0
+AreLinksBelow s known number =
+    (item dir : ℕ) → verdict_in known item dir ≡ (if nat_lt item number then verdict_of s item dir else no_verdict)

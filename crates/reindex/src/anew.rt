@@ -1,9 +1,9 @@
 //! All links of a state, found from nothing.
-ghost use Rattle.std.specs.Prelude.{◌≡◌, IfOk};
+ghost use Rattle.std.specs.Prelude.{◌≡◌, ◌+◌, IfOk, OnOk};
 ghost use Rattle.hac_model.specs.Tree.Links.{has, transient_at};
 ghost use Rattle.reeval.specs.Routes.{Covers};
 ghost use Rattle.reeval.specs.Settled.{AreLinksOf};
-ghost use Rattle.reindex.specs.Anew.{AreAllNews, LendsNothing, unjudged_state};
+ghost use Rattle.reindex.specs.Anew.{AreAllNews, AreLinksBelow, LendsNothing, unjudged_state};
 ghost use Rattle.reindex.specs.Ways.{IsWayOf};
 
 use crate::indexing::{Indexing, shown_of};
@@ -25,12 +25,33 @@ pub fn links_of(alloc: Global, kept: &KeptState, way: &Way) -> Result<Links, Mem
     kept.know_valid();
     let mut found = Links::new(alloc)?;
     for number in 0..next_number(kept).get() {
-        let news = news_of(alloc, kept, way, Number::new(number))?;
-        reserve(&mut found, news.as_slice())?;
-        apply(&mut found, news.as_slice());
+        add_links(alloc, kept, way, &mut found, Number::new(number))?;
     }
     know_lists(&found);
     Ok(found)
+}
+
+/// Adds what the links of a state say of a number: nothing if it isn't that of an item. So it is
+/// passed over quickly, also where many were given and few are left.
+fn add_links(
+    alloc: Global,
+    kept: &KeptState,
+    way: &Way,
+    found: &mut Links,
+    number: Number,
+) -> Result<(), Memory>
+    requires { IsWayOf kept.now.state way.now }
+    ensures { AreLinksBelow kept.now.state found.old number →
+        OnOk result (AreLinksBelow kept.now.state found.new (number + 1)) }
+{
+    kept.know_valid();
+    if !is_item(kept, number) {
+        return Ok(());
+    }
+    let news = news_of(alloc, kept, way, number)?;
+    reserve(found, news.as_slice())?;
+    apply(found, news.as_slice());
+    Ok(())
 }
 
 /// Whether a directory finds an item. No link of another item is looked for.

@@ -1,4 +1,4 @@
-use Rattle.reindex.proofs.AnewLemmas.{AreLinksBelow}
+use Rattle.reindex.specs.Anew.{AreLinksBelow}
 use Rattle.reindex.proofs.anew.links_of.Given as goal
 
 -- the links of the items so far
