@@ -36,7 +36,7 @@ fn checkpoint_is_stopped_at_any_call(rt: HostRuntime) -> Result<(), Fail> {
             b"d a\nok\n",
         )?;
         if status == Status::Done {
-            assert_eq!(rt; replied.as_slice(), b"ok\nok\nok\n");
+            assert_eq!(rt; replied.as_slice(), b"ok\nok\nok\n".as_slice());
             return Ok(());
         }
         assert_eq!(rt; status, Status::DiskFault, "after {calls} calls");
