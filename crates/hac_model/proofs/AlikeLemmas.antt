@@ -327,7 +327,7 @@ counts-bare s = λ i. record {
 
 pub passed-bare : (s : State) → passed_limit (bare s) ≡ passed_limit s
 unfolding passed_limit
-passed-bare s = ap (λ c. first_passed (layout_limits c ++ answer_limits c)) (counts-bare s)
+passed-bare s = ap (λ c. first_passed (layout_limits s.version c ++ answer_limits s.version c)) (counts-bare s)
 
 -- What is in a directory.
 

@@ -22,6 +22,7 @@ use Rattle.hac_model.proofs.ChangeLemmas.{is_kept, touched}
 use Rattle.hac_model.specs.Tree.Asking.{with_told}
 use Rattle.hac_model.proofs.GainLemmas.{bare-told}
 use Rattle.hac_model.proofs.MapLemmas.{child-mapped}
+use Rattle.hac_model.specs.declared.versions.Version.{Version}
 
 -- what is bare stays so
 bare-again : (body : Body) → bare_body (bare_body body) ≡ bare_body body
@@ -142,11 +143,11 @@ reseated-passes : (dir : ℕ) (name : List ℕ) → Passes (reseated dir name)
 reseated-passes dir name e = ap (λ (body : Body). record (reseated dir name e) { body = body }) (sym (bare-again e.body))
 
 -- states with these entries are bare alike
-alike : (next : ℕ) (es fs : List Entry) (s t : State) → map (edited bare_body) es ≡ map (edited bare_body) fs → bare (record { next = next; entries = es; sessions = s.sessions }) ≡ bare (record { next = next; entries = fs; sessions = t.sessions })
-alike next es fs s t same = λ i. record { next = next; entries = same i; sessions = [] }
+alike : (version : Version) (next : ℕ) (es fs : List Entry) (s t : State) → map (edited bare_body) es ≡ map (edited bare_body) fs → bare (record { version = version; next = next; entries = es; sessions = s.sessions }) ≡ bare (record { version = version; next = next; entries = fs; sessions = t.sessions })
+alike version next es fs s t same = λ i. record { version = version; next = next; entries = same i; sessions = [] }
 
 pub added-bare : (s : State) (dir : ℕ) (name : List ℕ) (body : Body) → bare (added s dir name body) ≡ bare (added (bare s) dir name body)
-added-bare s dir name body = alike (s.next + 1) (s.entries ++ new ∷ []) (map (edited bare_body) s.entries ++ new ∷ []) s (bare s) (
+added-bare s dir name body = alike s.version (s.next + 1) (s.entries ++ new ∷ []) (map (edited bare_body) s.entries ++ new ∷ []) s (bare s) (
     map-append (edited bare_body) s.entries (new ∷ [])
     ∙ ap (λ (es : List Entry). es ++ edited bare_body new ∷ []) (sym (entries-again s.entries))
     ∙ sym (map-append (edited bare_body) (map (edited bare_body) s.entries) (new ∷ [])))
@@ -155,17 +156,17 @@ added-bare s dir name body = alike (s.next + 1) (s.entries ++ new ∷ []) (map (
     new = record { number = s.next; parent = dir; name = name; body = body }
 
 pub changed_at-bare : (s : State) (n : ℕ) (change : Entry → Entry) → Passes change → bare (changed_at s n change) ≡ bare (changed_at (bare s) n change)
-changed_at-bare s n change passes = alike s.next (changed_in n change s.entries) (changed_in n change (map (edited bare_body) s.entries)) s (bare s) (changed-bare n change s.entries passes)
+changed_at-bare s n change passes = alike s.version s.next (changed_in n change s.entries) (changed_in n change (map (edited bare_body) s.entries)) s (bare s) (changed-bare n change s.entries passes)
 
 removed-bare : (s : State) (n : ℕ) → bare (removed s n) ≡ bare (removed (bare s) n)
-removed-bare s n = alike s.next (filter (is_kept n) s.entries) (filter (is_kept n) (map (edited bare_body) s.entries)) s (bare s) (kept-bare n s.entries)
+removed-bare s n = alike s.version s.next (filter (is_kept n) s.entries) (filter (is_kept n) (map (edited bare_body) s.entries)) s (bare s) (kept-bare n s.entries)
 
 forgotten-bare : (s : State) (n : ℕ) → bare (forgotten (removed s n) n) ≡ bare (forgotten (removed (bare s) n) n)
-forgotten-bare s n = alike s.next (map (edited (forgetting n)) (filter (is_kept n) s.entries)) (map (edited (forgetting n)) (filter (is_kept n) (map (edited bare_body) s.entries))) s (bare s)
+forgotten-bare s n = alike s.version s.next (map (edited (forgetting n)) (filter (is_kept n) s.entries)) (map (edited (forgetting n)) (filter (is_kept n) (map (edited bare_body) s.entries))) s (bare s)
     (forgotten-entries n (filter (is_kept n) s.entries) ∙ kept-bare n s.entries ∙ sym (forgotten-entries n (filter (is_kept n) (map (edited bare_body) s.entries))))
 
 step-bare : (s : State) (o : Option ℕ) → bare (option_map_or (λ file. changed_at s file (edited indexed)) o s) ≡ bare (option_map_or (λ file. changed_at (bare s) file (edited indexed)) o (bare s))
-step-bare s None = alike s.next s.entries (map (edited bare_body) s.entries) s (bare s) (sym (entries-again s.entries))
+step-bare s None = alike s.version s.next s.entries (map (edited bare_body) s.entries) s (bare s) (sym (entries-again s.entries))
 step-bare s (Some file) = changed_at-bare s file (edited indexed) indexed-passes
 
 -- Mounts come, are synced and go.
@@ -212,7 +213,7 @@ fresh-bare es mount (name ∷ names) = λ i. if is_none (child-mapped bare_body 
 
 pub mounted-bare : (s : State) (dir : ℕ) (name space : List ℕ) (answers others : List Answer) (documents : List (List ℕ)) → bare (mounted s dir name space answers documents) ≡ bare (mounted (bare s) dir name space others documents)
 mounted-bare s dir name space answers others documents =
-    alike (s.next + 1 + length documents) ((s.entries ++ one answers ∷ []) ++ behind) ((map (edited bare_body) s.entries ++ one others ∷ []) ++ behind) s (bare s) (
+    alike s.version (s.next + 1 + length documents) ((s.entries ++ one answers ∷ []) ++ behind) ((map (edited bare_body) s.entries ++ one others ∷ []) ++ behind) s (bare s) (
     map-append (edited bare_body) (s.entries ++ one answers ∷ []) behind
     ∙ ap (λ (es : List Entry). es ++ map (edited bare_body) behind) (
     map-append (edited bare_body) s.entries (one answers ∷ [])
@@ -234,7 +235,7 @@ cleared-bare s test same =
 
 pub synced-bare : (s : State) (mount : ℕ) (answers others : List Answer) (documents : List (List ℕ)) → bare (synced s mount answers documents) ≡ bare (synced (bare s) mount others documents)
 synced-bare s mount answers others documents =
-    (λ i. record { next = s.next + length (names i); entries = entries i; sessions = [] })
+    (λ i. record { version = s.version; next = s.next + length (names i); entries = entries i; sessions = [] })
   where
     test : Entry → Bool
     test = is_gone mount documents
@@ -260,10 +261,10 @@ synced-bare s mount answers others documents =
         ∙ sym (changed-kept mount (keeping others) (bare-left ++ come (fresh (bare s) mount documents)) (keeping-bare others))
 
 unmounted-bare : (s : State) (mount : ℕ) → bare (unmounted s mount) ≡ bare (unmounted (bare s) mount)
-unmounted-bare s mount = alike s.next (unmounted s mount).entries (unmounted (bare s) mount).entries s (bare s) (cleared-bare s (is_of_mount mount) (λ e. refl))
+unmounted-bare s mount = alike s.version s.next (unmounted s mount).entries (unmounted (bare s) mount).entries s (bare s) (cleared-bare s (is_of_mount mount) (λ e. refl))
 
 bare-twice : (s : State) → bare (bare s) ≡ bare s
-bare-twice s = λ i. record { next = s.next; entries = entries-again s.entries i; sessions = [] }
+bare-twice s = λ i. record { version = s.version; next = s.next; entries = entries-again s.entries i; sessions = [] }
 
 pub bare-commutes : (s : State) (event : Event) → bare (apply s event) ≡ bare (apply (bare s) event)
 bare-commutes s (Mkdir dir name) = added-bare s dir name Dir
@@ -289,4 +290,4 @@ bare-commutes s (Smount dir name space documents told) =
 bare-commutes s (Ssync mount documents told) =
     synced-bare s mount (answers_to (terms_to_ask s.entries) told) (answers_to (terms_to_ask (bare s).entries) told) documents
 bare-commutes s (Sumount mount) = unmounted-bare s mount
-bare-commutes s other = alike s.next s.entries (map (edited bare_body) s.entries) s (bare s) (sym (entries-again s.entries))
+bare-commutes s other = alike s.version s.next s.entries (map (edited bare_body) s.entries) s (bare s) (sym (entries-again s.entries))

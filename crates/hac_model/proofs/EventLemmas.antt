@@ -17,7 +17,7 @@ use Rattle.hac_model.specs.Tree.Links.{can_be_added, has, is_item, is_permanent,
 use Rattle.hac_model.specs.Run.Asks.{asks, documents_named, mount_asks, query_asks, space_of, told_for}
 use Rattle.hac_model.specs.Spaces.Answering.{AreAnswersTo, AreRisingNames}
 use Rattle.hac_model.specs.Tree.Asking.{are_all_told, with_told}
-use Rattle.hac_model.specs.Tree.Mounting.{answers_to, are_documents, are_told, do_names_rise, mounted, synced}
+use Rattle.hac_model.specs.Tree.Mounting.{answers_to, are_documents, are_documents_few, are_told, do_names_rise, mounted, synced}
 use Rattle.hac_model.specs.Tree.Mounts.{terms_to_ask}
 use Rattle.hac_model.specs.Tree.Names.{is_name}
 use Rattle.hac_model.specs.declared.limits.TheConstants.{DOCS_LIMIT}
@@ -58,6 +58,7 @@ use Rattle.hac_model.proofs.StandLemmas.{line-stands}
 use Rattle.hac_model.proofs.PassedLemmas.{step-passes}
 use Rattle.hac_model.proofs.TreeLemmas.{is-live, entry_at-above, entry_at-behind, entry_at-first}
 use Rattle.hac_model.specs.Query.Formula.{Formula}
+use Rattle.hac_model.proofs.VersionLemmas.{few-any}
 
 -- The events of a command that isn't refused can happen.
 
@@ -79,15 +80,15 @@ no_limit None h = refl
 no_limit (Some word) h = absurd cc
 
 -- nothing blocks the event, no directory would depend on itself, and the next state exceeds no limit
-pub cause-parts : (answers : Answers) (s : State) (r : Resolved) → cause answers s r ≡ None → (blocking_cause s r ≡ None) × (cycle_cause s r ≡ None) × (passed_limit (led_to answers s r) ≡ None) × (docs_cause answers ≡ None) × (are_answers_few (led_to answers s r).entries ≡ true)
+pub cause-parts : (answers : Answers) (s : State) (r : Resolved) → cause answers s r ≡ None → (blocking_cause s r ≡ None) × (cycle_cause s r ≡ None) × (passed_limit (led_to answers s r) ≡ None) × (docs_cause s answers ≡ None) × (are_answers_few (led_to answers s r).entries ≡ true)
 cause-parts answers s r h =
     let both = no_cause (early_cause s r) (late_cause answers s r ∷ []) h in
     let early = no_cause (blocking_cause s r) (layout_cause s r ∷ cycle_cause s r ∷ []) both.0 in
     let layout = no_cause (layout_cause s r) (cycle_cause s r ∷ []) early.1 in
     let cycle = no_cause (cycle_cause s r) [] layout.1 in
     let late = no_cause (late_cause answers s r) [] both.1 in
-    let gone = no_cause (gone_cause answers s r) (docs_cause answers ∷ answer_cause answers s r ∷ kept_cause answers s r ∷ []) late.0 in
-    let docs = no_cause (docs_cause answers) (answer_cause answers s r ∷ kept_cause answers s r ∷ []) gone.1 in
+    let gone = no_cause (gone_cause answers s r) (docs_cause s answers ∷ answer_cause answers s r ∷ kept_cause answers s r ∷ []) late.0 in
+    let docs = no_cause (docs_cause s answers) (answer_cause answers s r ∷ kept_cause answers s r ∷ []) gone.1 in
     let limits = no_cause (answer_cause answers s r) (kept_cause answers s r ∷ []) docs.1 in
     let kept = no_cause (kept_cause answers s r) [] limits.1 in
     (early.0, cycle.0, no_limit (passed_limit (led_to answers s r)) limits.0, docs.0, no_other (are_answers_few (led_to answers s r).entries) (refusal.Limit Answers-word) kept.0)
@@ -271,12 +272,16 @@ module _ (s : State) (h : IsLayout s) where
   may-be-asked : (query : Formula ℕ) (found : List (List (List ℕ))) → may_ask s query ≡ true → length found ≡ length (query_asks s query).searches → (may_ask s query && are_all_told s query (told_for s query found) s.entries) ≡ true
   may-be-asked query found may even = and_from (may_ask s query) (are_all_told s query (told_for s query found) s.entries) may (query-told s query h.numbers found even)
 
-  -- documents that are not too many
-  pub are-documents : (answers : Answers) → AreRisingNames answers.list → docs_cause answers ≡ None → are_documents answers.list ≡ true
+  -- no more documents than a mount may have
+  pub are-few : (answers : Answers) → docs_cause s answers ≡ None → are_documents_few s.version answers.list ≡ true
+  are-few answers few = no_other (are_documents_few s.version answers.list) (refusal.Limit Docs) few
+
+  -- so they may be those of a space
+  pub are-documents : (answers : Answers) → AreRisingNames answers.list → docs_cause s answers ≡ None → are_documents answers.list ≡ true
   are-documents answers rising few =
       let parts = and_parts (list_all is_name answers.list) (do_names_rise answers.list) (names-rise answers.list rising) in
       and_from (list_all is_name answers.list) (do_names_rise answers.list && nat_le (length answers.list) DOCS_LIMIT) parts.0
-      (and_from (do_names_rise answers.list) (nat_le (length answers.list) DOCS_LIMIT) parts.1 (no_other (nat_le (length answers.list) DOCS_LIMIT) (refusal.Limit Docs) few))
+      (and_from (do_names_rise answers.list) (nat_le (length answers.list) DOCS_LIMIT) parts.1 (few-any s.version (length answers.list) (are-few answers few)))
 
   -- each term in use is asked for
   terms-even : (space : List ℕ) (found : List (List (List ℕ))) → length found ≡ length (mount_asks s space).searches → length found ≡ length (terms_to_ask s.entries)
@@ -285,7 +290,7 @@ module _ (s : State) (h : IsLayout s) where
       question : Term → Search
       question term = record { space = space; term = term }
 
-  pub unblocked-placed : (answers : Answers) (r : Resolved) → AllStand s r → blocking_cause s r ≡ None → AreAnswersTo (asks s r) answers → docs_cause answers ≡ None → IfSome (event_of answers s r) (λ e. IsTrue (is_placed s e))
+  pub unblocked-placed : (answers : Answers) (r : Resolved) → AllStand s r → blocking_cause s r ≡ None → AreAnswersTo (asks s r) answers → docs_cause s answers ≡ None → IfSome (event_of answers s r) (λ e. IsTrue (is_placed s e))
   unblocked-placed answers (Mkdir (There number)) there free told few = tt
   unblocked-placed answers (Mkdir (Free dir name)) there free told few = slot-free true dir name there
   unblocked-placed answers (Rmdir dir) there free told few =
@@ -327,16 +332,22 @@ module _ (s : State) (h : IsLayout s) where
       let told-numbers : List (List ℕ) = map (documents_named (mounted s dir name space [] answers.list) s.next) answers.found in
       let free-name = and_from (is_free s dir name) (is_space_name space) (slot-free true dir name there.0) there.1 in
       let documents = and_from (is_free s dir name && is_space_name space) (are_documents answers.list) free-name (are-documents answers told.rising few) in
-      and_from (is_free s dir name && is_space_name space && are_documents answers.list)
+      and_from (is_free s dir name && is_space_name space && are_documents answers.list && are_told (mounted s dir name space (answers_to (terms_to_ask s.entries) told-numbers) answers.list) s.next (terms_to_ask s.entries) told-numbers)
+      (are_documents_few s.version answers.list)
+      (and_from (is_free s dir name && is_space_name space && are_documents answers.list)
       (are_told (mounted s dir name space (answers_to (terms_to_ask s.entries) told-numbers) answers.list) s.next (terms_to_ask s.entries) told-numbers) documents
-      (mounted-told s h.numbers (terms_to_ask s.entries) answers.found (terms-even space answers.found told.found) dir name space (answers_to (terms_to_ask s.entries) told-numbers) answers.list)
+      (mounted-told s h.numbers (terms_to_ask s.entries) answers.found (terms-even space answers.found told.found) dir name space (answers_to (terms_to_ask s.entries) told-numbers) answers.list))
+      (are-few answers few)
   unblocked-placed answers (Ssync mount) there free told few =
       let told-numbers : List (List ℕ) = map (documents_named (synced s mount [] answers.list) mount) answers.found in
       let is = no_other (is_mount_at s.entries mount) (refusal.NotMount (path_of s mount)) free in
       let documents = and_from (is_mount_at s.entries mount) (are_documents answers.list) is (are-documents answers told.rising few) in
-      and_from (is_mount_at s.entries mount && are_documents answers.list)
+      and_from (is_mount_at s.entries mount && are_documents answers.list && are_told (synced s mount (answers_to (terms_to_ask s.entries) told-numbers) answers.list) mount (terms_to_ask s.entries) told-numbers)
+      (are_documents_few s.version answers.list)
+      (and_from (is_mount_at s.entries mount && are_documents answers.list)
       (are_told (synced s mount (answers_to (terms_to_ask s.entries) told-numbers) answers.list) mount (terms_to_ask s.entries) told-numbers) documents
-      (synced-told s h.numbers (terms_to_ask s.entries) answers.found (terms-even (space_of s mount) answers.found told.found) mount (answers_to (terms_to_ask s.entries) told-numbers) answers.list)
+      (synced-told s h.numbers (terms_to_ask s.entries) answers.found (terms-even (space_of s mount) answers.found told.found) mount (answers_to (terms_to_ask s.entries) told-numbers) answers.list))
+      (are-few answers few)
   unblocked-placed answers (Sumount mount) there free told few =
       no_other (is_mount_at s.entries mount) (refusal.NotMount (path_of s mount)) (no_cause (not_mount_cause s mount) (referenced_cause s mount ∷ busy_cause s mount ∷ []) free).0
   unblocked-placed answers other there free told few = tt
@@ -352,7 +363,7 @@ module _ (s : State) (h : IsLayout s) where
       and_from (is_unreferenced s dir) (not (is_busy s.sessions dir)) (unreferenced s dir named.0) (idle s dir (no_cause (busy_cause s dir) [] named.1).0)
   unblocked-clear answers (Write (There number) text) there free acyclic few = refl
   unblocked-clear answers (Write (Free dir name) text) there free acyclic few = refl
-  unblocked-clear answers (Cd session dir) there free acyclic few = no_other (are_few (sessions_with session dir s.sessions)) (refusal.Limit Sessions) free
+  unblocked-clear answers (Cd session dir) there free acyclic few = no_other (are_few s.version (sessions_with session dir s.sessions)) (refusal.Limit Sessions) free
   unblocked-clear answers (Mv entry (There number)) there free acyclic few = tt
   unblocked-clear answers (Mv entry (Free dir name)) there free acyclic few = ap (λ (o : Option ℕ). is_none o) (no-cycle s (cycle_of_move s entry dir) acyclic)
   unblocked-clear answers (Rm entry) there free acyclic few = refl
@@ -397,7 +408,7 @@ made-happens s (Some e) placed clear limits =
     let possible = and_from (is_clear s e) (is_placed s e) clear placed in
     (and_from (is_possible s e) (is_none (passed_limit (apply s e))) possible (ap (λ (o : Option LimitWord). is_none o) limits), tt)
 
-pub unblocked-happen : (answers : Answers) (s : State) (r : Resolved) → IsValid s → AllStand s r → blocking_cause s r ≡ None → cycle_cause s r ≡ None → AreAnswersTo (asks s r) answers → docs_cause answers ≡ None → passed_limit (led_to answers s r) ≡ None → are_answers_few (led_to answers s r).entries ≡ true → AllHappen s (events_of answers s r)
+pub unblocked-happen : (answers : Answers) (s : State) (r : Resolved) → IsValid s → AllStand s r → blocking_cause s r ≡ None → cycle_cause s r ≡ None → AreAnswersTo (asks s r) answers → docs_cause s answers ≡ None → passed_limit (led_to answers s r) ≡ None → are_answers_few (led_to answers s r).entries ≡ true → AllHappen s (events_of answers s r)
 unblocked-happen answers s Index h there free acyclic told few limits kept = steps-happen (dirty s) s h (omega arith)
 unblocked-happen answers s (Tick steps) h there free acyclic told few limits kept = steps-happen (min steps (dirty s)) s h (omega arith)
 unblocked-happen answers s r h there free acyclic told few limits kept =

@@ -53,7 +53,7 @@ abbrev IsFilled : State → Entry → Type 0
 IsFilled s e = filled_entry (facts_of s) (edited bare_body e) ≡ e
 
 pub rejoined : (s : State) → NumbersRise 0 s.entries s.next → joined (facts_of s) s.sessions (bare s) ≡ s
-rejoined s rise = λ i. record { next = s.next; entries = all s.entries (all-entries (IsFilled s) 0 s.entries s.next rise again) i; sessions = s.sessions }
+rejoined s rise = λ i. record { version = s.version; next = s.next; entries = all s.entries (all-entries (IsFilled s) 0 s.entries s.next rise again) i; sessions = s.sessions }
   where
     again : (e : Entry) → entry_at s.entries e.number ≡ Some e → IsFilled s e
     again e found =
@@ -65,14 +65,14 @@ rejoined s rise = λ i. record { next = s.next; entries = all s.entries (all-ent
     all (e ∷ es) h = λ i. h.0 i ∷ all es h.1 i
 
 pub joined-bare : (facts : ℕ → Facts) (sessions : List Session) (t : State) → joined facts sessions (bare t) ≡ joined facts sessions t
-joined-bare facts sessions t = λ i. record { next = t.next; entries = each t.entries i; sessions = sessions }
+joined-bare facts sessions t = λ i. record { version = t.version; next = t.next; entries = each t.entries i; sessions = sessions }
   where
     each : (es : List Entry) → map (filled_entry facts) (map (edited bare_body) es) ≡ map (filled_entry facts) es
     each [] = refl
     each (e ∷ es) = λ i. record e { body = filled-bare (facts e.number) e.body i } ∷ each es i
 
 pub bare-joined : (facts : ℕ → Facts) (sessions : List Session) (t : State) → bare (joined facts sessions t) ≡ bare t
-bare-joined facts sessions t = λ i. record { next = t.next; entries = each t.entries i; sessions = [] }
+bare-joined facts sessions t = λ i. record { version = t.version; next = t.next; entries = each t.entries i; sessions = [] }
   where
     each : (es : List Entry) → map (edited bare_body) (map (filled_entry facts) es) ≡ map (edited bare_body) es
     each [] = refl
@@ -84,8 +84,8 @@ same-state s t rise grow sessions bares facts = sym (rejoined s rise) ∙ (λ i.
 
 -- the tree after an event is that of the state after it
 pub tree-law : (e : Event) (t : State) → bare (bare_after e t) ≡ bare (apply t e)
-tree-law (Mark mark) t = λ i. record { next = t.next; entries = sym (changed-kept mark.dir (marked mark.item mark.kind) t.entries (marked-bare mark.item mark.kind)) i; sessions = [] }
-tree-law (Rm entry) t = λ i. record { next = t.next; entries = sym (forgotten-entries entry (filter (is_kept entry) t.entries)) i; sessions = [] }
+tree-law (Mark mark) t = λ i. record { version = t.version; next = t.next; entries = sym (changed-kept mark.dir (marked mark.item mark.kind) t.entries (marked-bare mark.item mark.kind)) i; sessions = [] }
+tree-law (Rm entry) t = λ i. record { version = t.version; next = t.next; entries = sym (forgotten-entries entry (filter (is_kept entry) t.entries)) i; sessions = [] }
 tree-law (Smkdir dir name query told) t =
     added-bare t dir name (Semantic query [] [])
     ∙ ap (λ (x : State). bare (added x dir name (Semantic query [] []))) (sym (bare-told t query told))
@@ -96,7 +96,7 @@ tree-law (Setq dir query told) t =
     ∙ sym (changed_at-bare (with_told query told t) dir (edited (asking query)) (asking-passes query))
 tree-law (Smount dir name space documents told) t =
     mounted-bare t dir name space [] [] documents ∙ sym (mounted-bare t dir name space (answers_to (terms_to_ask t.entries) told) [] documents)
-tree-law (Ssync mount documents told) t = λ i. record { next = t.next + length (fresh t mount documents); entries = entries i; sessions = [] }
+tree-law (Ssync mount documents told) t = λ i. record { version = t.version; next = t.next + length (fresh t mount documents); entries = entries i; sessions = [] }
   where
     left : List Entry
     left = (without_such (is_gone mount documents) t).entries
@@ -110,7 +110,7 @@ tree-law (Ssync mount documents told) t = λ i. record { next = t.next + length 
         ∙ ap (λ (es : List Entry). es ++ map (edited bare_body) come) (sym (such-entries (is_such_at (is_gone mount documents) t.entries) left))
         ∙ sym (map-append (edited bare_body) (cleared (is_gone mount documents) t).entries come)
         ∙ sym (changed-kept mount (keeping (answers_to (terms_to_ask t.entries) told)) (redocumented t mount documents).entries (keeping-bare (answers_to (terms_to_ask t.entries) told)))
-tree-law (Sumount mount) t = λ i. record { next = t.next; entries = sym (such-entries (is_such_at (is_of_mount mount) t.entries) (without_such (is_of_mount mount) t).entries) i; sessions = [] }
+tree-law (Sumount mount) t = λ i. record { version = t.version; next = t.next; entries = sym (such-entries (is_such_at (is_of_mount mount) t.entries) (without_such (is_of_mount mount) t).entries) i; sessions = [] }
 tree-law other t = refl
 
 pub tree-sessions : (e : Event) (t : State) → (bare_after e t).sessions ≡ t.sessions

@@ -17,7 +17,7 @@ use Rattle.hac_model.specs.Tree.Mounting.{answers_to, are_told, do_rise_from, is
 use Rattle.hac_model.specs.Tree.Mounts.{in_order, is_kept, terms_in, terms_in_use}
 use Rattle.hac_model.specs.Tree.{answers_in, body_at, entry_at, is_directory, is_directory_at, is_document, is_linkable, is_made_directory, is_mount, is_mount_at, permanent_in}
 use Rattle.hac_model.specs.Tree.Valid.{AsksWell, IsAnswer, IsLayout, IsSoundMount, IsValid, KeepsWell, is_document_of}
-use Rattle.hac_model.specs.declared.limits.TheConstants.{DOCS_LIMIT}
+use Rattle.hac_model.specs.Versions.{docs_limit}
 use Rattle.hac_model.specs.declared.states.Answer.{Answer}
 use Rattle.hac_model.specs.declared.states.Body.{Body}
 use Rattle.hac_model.specs.declared.states.Body.TheVariants.{File, Dir, Symlink, Semantic, Mount, Document}
@@ -145,7 +145,7 @@ module _ (s : State) (query : Formula ℕ) (told : List (List ℕ)) where
   t = with_told query told s
 
   pub bare-told : bare t ≡ bare s
-  bare-told = λ i. record { next = s.next; entries = bare-gains more s.entries i; sessions = [] }
+  bare-told = λ i. record { version = s.version; next = s.next; entries = bare-gains more s.entries i; sessions = [] }
 
   pub counts-told : counts t ≡ counts s
   counts-told = sym (counts-bare t) ∙ ap counts bare-told ∙ counts-bare s
@@ -231,7 +231,7 @@ module _ (s : State) (query : Formula ℕ) (told : List (List ℕ)) where
     mount-keeps : (m : ℕ) (space : List ℕ) (answers : List Answer) → IsToldTo s query m answers (more m) → IsSoundMount s m answers → KeepsWell t m (Mount space (with_answers (more m) answers))
     mount-keeps m space answers gain sound =
         subst (λ (new : List Answer). KeepsWell t m (Mount space (with_answers new answers))) (sym gain.is) (record {
-          few = ap (λ (k : ℕ). nat_le k DOCS_LIMIT) (inside-gains more m s.entries) ∙ sound.few;
+          few = ap (λ (k : ℕ). nat_le k (docs_limit s.version)) (inside-gains more m s.entries) ∙ sound.few;
           rise = told-rise query answers gain.told sound.rise;
           sound = told-sound (IsAnswer t m) query answers gain.told
               (answers-sound t m (unanswered query answers) gain.told askable (all-told gain.told gain.own))
@@ -274,7 +274,7 @@ module _ (s : State) (query : Formula ℕ) (told : List (List ℕ)) where
       answers = answers-told;
       few = few;
       acyclic = subst NeverReturns (sym depends-told) h.acyclic;
-      sessions = sessions-stay s t refl h.sessions (λ d there. directory-told d ∙ there);
+      sessions = sessions-stay s t refl refl h.sessions (λ d there. directory-told d ∙ there);
     }
 
     -- and each mount keeps an answer for each term of the query

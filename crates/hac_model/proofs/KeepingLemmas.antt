@@ -8,7 +8,6 @@ use Rattle.hac_model.specs.Tree.Events.{changed_in, edited}
 use Rattle.hac_model.specs.Tree.Mounts.{is_kept, terms_in, terms_in_use}
 use Rattle.hac_model.specs.Tree.{body_at, entry_at, is_document}
 use Rattle.hac_model.specs.Tree.Valid.{IsAnswer, KeepsWell, has_few, is_document_of}
-use Rattle.hac_model.specs.declared.limits.TheConstants.{DOCS_LIMIT}
 use Rattle.hac_model.specs.declared.states.Answer.{Answer}
 use Rattle.hac_model.specs.declared.states.Body.{Body}
 use Rattle.hac_model.specs.declared.states.Body.TheVariants.{Mount}
@@ -26,7 +25,7 @@ DocumentsStay s t = (m n : ℕ) → is_document_of s m n ≡ true → is_documen
 
 -- a mount with few documents has few
 abbrev pub FewStay : State → State → Type 0
-FewStay s t = (m : ℕ) → has_few s.entries m ≡ true → has_few t.entries m ≡ true
+FewStay s t = (m : ℕ) → has_few s.version s.entries m ≡ true → has_few t.version t.entries m ≡ true
 
 -- each term of these has an answer
 abbrev pub AreKept : List Answer → List Term → Type 0
@@ -43,7 +42,7 @@ answer-stays s t m answer documents h = record {
   documents = all-weaker (λ n. IsTrue (is_document_of s m n)) (λ n. IsTrue (is_document_of t m n)) answer.documents (λ n there. documents m n there) h.documents;
 }
 
-pub keeps-stays : (s t : State) (m : ℕ) (body : Body) → DocumentsStay s t → ((m : ℕ) → has_few s.entries m ≡ true → has_few t.entries m ≡ true) → TermsStay s t → KeepsWell s m body → KeepsWell t m body
+pub keeps-stays : (s t : State) (m : ℕ) (body : Body) → DocumentsStay s t → ((m : ℕ) → has_few s.version s.entries m ≡ true → has_few t.version t.entries m ≡ true) → TermsStay s t → KeepsWell s m body → KeepsWell t m body
 keeps-stays s t m (Mount space answers) documents few terms h = record {
   few = few m h.few;
   rise = h.rise;
@@ -74,8 +73,8 @@ all-kept answers (e ∷ es) h = all-joined (λ term. IsTrue (is_kept answers ter
 abbrev pub inside : ℕ → List Entry → List Entry
 inside m es = filter (λ (e : Entry). e.parent == m) es
 
-pub fewer : (n m : ℕ) → m ≤ n → nat_le n DOCS_LIMIT ≡ true → nat_le m DOCS_LIMIT ≡ true
-fewer n m less few = let within : n ≤ DOCS_LIMIT = leb-true n DOCS_LIMIT few in le-leb m DOCS_LIMIT (omega arith)
+pub fewer : (most n m : ℕ) → m ≤ n → nat_le n most ≡ true → nat_le m most ≡ true
+fewer most n m less few = let within : n ≤ most = leb-true n most few in le-leb m most (omega (arith, less, within))
 
 -- a change that puts no entry into the directory
 pub inside-changed : (m n : ℕ) (change : Entry → Entry) (es : List Entry) → ((e : Entry) → ((change e).parent == m) ≡ true → (e.parent == m) ≡ true) → length (inside m (changed_in n change es)) ≤ length (inside m es)

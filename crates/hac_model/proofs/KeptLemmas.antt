@@ -4,7 +4,6 @@ use Rattle.hac_model.specs.Tree.Asking.{with_told}
 use Rattle.hac_model.proofs.GainLemmas.{mount-told, told-knows, told-valid}
 use Rattle.hac_model.proofs.LayoutLemmas.{apply-layout, smount-parts, ssync-parts, sumount-parts}
 use Rattle.hac_model.proofs.MountKeptLemmas.{mounted-keeps, synced-keeps, unmounted-keeps}
-use Rattle.hac_model.proofs.MountLayoutLemmas.{documents-parts}
 use Rattle.std.proofs.Common.{◌≡◌, ℕ, Bool, true, false, List, [], ◌∷◌, length, refl, ap, sym, ◌∙◌, subst}
 use Rattle.std.specs.Prelude.{◌==◌, ◌&&◌, not, if◌then◌else◌, filter, nat_le, Option, Some, None, IsTrue}
 use Rattle.std.specs.Option.{option_map, option_map_or}
@@ -21,7 +20,7 @@ use Rattle.hac_model.specs.Tree.{entry_at, is_directory, is_directory_at, is_doc
 use Rattle.hac_model.specs.Tree.Valid.{IsAnswer, IsValid, KeepsWell, has_few}
 use Rattle.hac_model.specs.declared.events.Event.{Event}
 use Rattle.hac_model.specs.declared.events.Event.TheVariants.{Mkdir, NewFile, Rewrite, Ln, Mark, Mv, Rm, Rmdir, Setq, Smkdir, Step, Unq, Cd}
-use Rattle.hac_model.specs.declared.limits.TheConstants.{DOCS_LIMIT}
+use Rattle.hac_model.specs.Versions.{docs_limit}
 use Rattle.hac_model.specs.declared.marks.Kind.{Kind}
 use Rattle.hac_model.specs.declared.marks.Kind.TheVariants.{Transient, Permanent, Prohibited, Unlinked}
 use Rattle.hac_model.specs.declared.states.Answer.{Answer}
@@ -69,7 +68,7 @@ module _ (s : State) (dir : ℕ) (name : List ℕ) (body : Body) where
         where
           each : (b : Body) → e.body ≡ b → KeepsWell s e.number b → KeepsWell (added s dir name body) e.number b
           each (Mount space answers) is sound = record {
-            few = ap (λ (es : List Entry). nat_le (length es) DOCS_LIMIT) (inside-added e.number s.entries new-entry (apart is)) ∙ sound.few;
+            few = ap (λ (es : List Entry). nat_le (length es) (docs_limit s.version)) (inside-added e.number s.entries new-entry (apart is)) ∙ sound.few;
             rise = sound.rise;
             sound = all-weaker (IsAnswer s e.number) (IsAnswer (added s dir name body) e.number) answers (λ answer well. answer-stays s (added s dir name body) e.number answer added-documents well) sound.sound;
             all = added-terms answers (known e found.0 space answers is) sound.all;
@@ -100,7 +99,7 @@ changed-keeps s n change numbers documents parents terms keeps h =
       where
         each : (b : Body) → e.body ≡ b → KeepsWell s e.number b → KeepsWell (changed_at s n change) e.number b
         each (Mount space answers) is sound = record {
-          few = fewer (length (inside e.number s.entries)) (length (inside e.number (changed_in n change s.entries)))
+          few = fewer (docs_limit s.version) (length (inside e.number s.entries)) (length (inside e.number (changed_in n change s.entries)))
               (inside-changed e.number n change s.entries (parents e.number (ap (λ (o : Option Entry). option_map_or is_mount (option_map (λ (e : Entry). e.body) o) false) found.0 ∙ ap is_mount is))) sound.few;
           rise = sound.rise;
           sound = all-weaker (IsAnswer s e.number) (IsAnswer (changed_at s n change) e.number) answers (λ answer well. answer-stays s (changed_at s n change) e.number answer documents well) sound.sound;
@@ -305,8 +304,8 @@ removed-documents s n other m k there =
 removed-terms : (answers : List Answer) (n : ℕ) (es : List Entry) → AreKept answers (terms_in_use es) → AreKept answers (terms_in_use (filter (is_left n) es))
 removed-terms answers n es h = all-kept answers (filter (is_left n) es) (all-filter (λ e. AreKept answers (terms_in e.body)) (is_left n) es (each-kept answers es h))
 
-removed-few : (s : State) (n m : ℕ) → has_few s.entries m ≡ true → has_few (removed s n).entries m ≡ true
-removed-few s n m few = fewer (length (inside m s.entries)) (length (inside m (filter (is_left n) s.entries))) (inside-left m n s.entries) few
+removed-few : (s : State) (n m : ℕ) → has_few s.version s.entries m ≡ true → has_few (removed s n).version (removed s n).entries m ≡ true
+removed-few s n m few = fewer (docs_limit s.version) (length (inside m s.entries)) (length (inside m (filter (is_left n) s.entries))) (inside-left m n s.entries) few
 
 removed-keeps : (s : State) (n : ℕ) → is_document_at s.entries n ≡ false → IsValid s → AllByRecursion (λ e. KeepsWell (removed s n) e.number e.body) (removed s n).entries
 removed-keeps s n other h =
@@ -327,8 +326,8 @@ forgotten-keeps s n h =
         ∙ (elim (entry_at s.entries k) as (λ o. document_by m (option_map (edited (forgetting n)) o) ≡ document_by m o) [ None ↦ refl | Some e ↦ ap (λ (b : Bool). b && (e.parent == m)) ((forgetting-leaves n).documents e.body) ])
         ∙ there
 
-    few : (m : ℕ) → has_few s.entries m ≡ true → has_few (forgotten s n).entries m ≡ true
-    few m h = ap (λ (k : ℕ). nat_le k DOCS_LIMIT) (inside-mapped m (forgetting n) s.entries) ∙ h
+    few : (m : ℕ) → has_few s.version s.entries m ≡ true → has_few (forgotten s n).version (forgotten s n).entries m ≡ true
+    few m h = ap (λ (k : ℕ). nat_le k (docs_limit s.version)) (inside-mapped m (forgetting n) s.entries) ∙ h
 
     terms : TermsStay s (forgotten s n)
     terms m answers old = all-kept answers (forgotten s n).entries
@@ -426,12 +425,12 @@ apply-answers s (Smount dir name space documents told) h ok =
     let parts = accepted-parts (is_possible s (Smount dir name space documents told)) (passed_limit (apply s (Smount dir name space documents told))) ok in
     let fits = smount-parts s dir name space documents told parts.0 in
     let layout = apply-layout s (Smount dir name space documents told) h.layout ok in
-    mounted-keeps s dir name space told documents h fits.0 (free-plain s dir name fits.0) fits.3 (documents-parts documents fits.2).2 layout.numbers
+    mounted-keeps s dir name space told documents h fits.0 (free-plain s dir name fits.0) fits.3 fits.5 layout.numbers
 apply-answers s (Ssync mount documents told) h ok =
     let parts = accepted-parts (is_possible s (Ssync mount documents told)) (passed_limit (apply s (Ssync mount documents told))) ok in
     let fits = ssync-parts s mount documents told parts.0 in
     let layout = apply-layout s (Ssync mount documents told) h.layout ok in
-    synced-keeps s mount told documents h fits.0 fits.2 (documents-parts documents fits.1).2 layout.numbers layout.differ
+    synced-keeps s mount told documents h fits.0 fits.2 fits.4 layout.numbers layout.differ
 apply-answers s (Sumount mount) h ok =
     let parts = accepted-parts (is_possible s (Sumount mount)) (passed_limit (apply s (Sumount mount))) ok in
     unmounted-keeps s mount h (sumount-parts s mount parts.0).0 (apply-layout s (Sumount mount) h.layout ok).numbers

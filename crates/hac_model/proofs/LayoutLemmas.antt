@@ -18,7 +18,7 @@ use Rattle.hac_model.proofs.GainLemmas.{free-told, layout-told}
 use Rattle.hac_model.proofs.MapLemmas.{mapped-layout}
 use Rattle.hac_model.specs.Tree.Asking.{with_told}
 use Rattle.hac_model.specs.Tree.Events.{may_mount, may_sync}
-use Rattle.hac_model.specs.Tree.Mounting.{answers_to, are_documents, are_told, mounted, synced}
+use Rattle.hac_model.specs.Tree.Mounting.{answers_to, are_documents, are_documents_few, are_told, mounted, synced}
 use Rattle.hac_model.specs.Tree.Mounts.{terms_to_ask}
 use Rattle.hac_model.specs.Script.SpaceNames.{is_space_name}
 use Rattle.hac_model.specs.declared.events.Event.TheVariants.{Smount, Ssync, Sumount}
@@ -28,23 +28,25 @@ use Rattle.hac_model.proofs.ValidLemmas.{accepted-parts, added-layout, asking-pl
 -- what may be mounted
 pub smount-parts : (s : State) (dir : ℕ) (name space : List ℕ) (documents told : List (List ℕ)) → is_possible s (Smount dir name space documents told) ≡ true →
     (is_free s dir name ≡ true) × (is_space_name space ≡ true) × (are_documents documents ≡ true) × (are_told (mounted s dir name space (answers_to (terms_to_ask s.entries) told) documents) s.next (terms_to_ask s.entries) told ≡ true)
-    × (are_answers_few (mounted s dir name space (answers_to (terms_to_ask s.entries) told) documents).entries ≡ true)
+    × (are_answers_few (mounted s dir name space (answers_to (terms_to_ask s.entries) told) documents).entries ≡ true) × (are_documents_few s.version documents ≡ true)
 smount-parts s dir name space documents told h =
     let few = and_parts (are_answers_few (mounted s dir name space (answers_to (terms_to_ask s.entries) told) documents).entries) (may_mount s dir name space documents told) h in
-    let well = and_parts (is_free s dir name && is_space_name space && are_documents documents) (are_told (mounted s dir name space (answers_to (terms_to_ask s.entries) told) documents) s.next (terms_to_ask s.entries) told) few.1 in
+    let short = and_parts (is_free s dir name && is_space_name space && are_documents documents && are_told (mounted s dir name space (answers_to (terms_to_ask s.entries) told) documents) s.next (terms_to_ask s.entries) told) (are_documents_few s.version documents) few.1 in
+    let well = and_parts (is_free s dir name && is_space_name space && are_documents documents) (are_told (mounted s dir name space (answers_to (terms_to_ask s.entries) told) documents) s.next (terms_to_ask s.entries) told) short.0 in
     let named = and_parts (is_free s dir name && is_space_name space) (are_documents documents) well.0 in
     let free = and_parts (is_free s dir name) (is_space_name space) named.0 in
-    (free.0, free.1, named.1, well.1, few.0)
+    (free.0, free.1, named.1, well.1, few.0, short.1)
 
 -- what a mount may take over
 pub ssync-parts : (s : State) (mount : ℕ) (documents told : List (List ℕ)) → is_possible s (Ssync mount documents told) ≡ true →
     (is_mount_at s.entries mount ≡ true) × (are_documents documents ≡ true) × (are_told (synced s mount (answers_to (terms_to_ask s.entries) told) documents) mount (terms_to_ask s.entries) told ≡ true)
-    × (are_answers_few (synced s mount (answers_to (terms_to_ask s.entries) told) documents).entries ≡ true)
+    × (are_answers_few (synced s mount (answers_to (terms_to_ask s.entries) told) documents).entries ≡ true) × (are_documents_few s.version documents ≡ true)
 ssync-parts s mount documents told h =
     let few = and_parts (are_answers_few (synced s mount (answers_to (terms_to_ask s.entries) told) documents).entries) (may_sync s mount documents told) h in
-    let well = and_parts (is_mount_at s.entries mount && are_documents documents) (are_told (synced s mount (answers_to (terms_to_ask s.entries) told) documents) mount (terms_to_ask s.entries) told) few.1 in
+    let short = and_parts (is_mount_at s.entries mount && are_documents documents && are_told (synced s mount (answers_to (terms_to_ask s.entries) told) documents) mount (terms_to_ask s.entries) told) (are_documents_few s.version documents) few.1 in
+    let well = and_parts (is_mount_at s.entries mount && are_documents documents) (are_told (synced s mount (answers_to (terms_to_ask s.entries) told) documents) mount (terms_to_ask s.entries) told) short.0 in
     let there = and_parts (is_mount_at s.entries mount) (are_documents documents) well.0 in
-    (there.0, there.1, well.1, few.0)
+    (there.0, there.1, well.1, few.0, short.1)
 
 -- a mount that may go
 pub sumount-parts : (s : State) (mount : ℕ) → is_possible s (Sumount mount) ≡ true → (is_mount_at s.entries mount ≡ true) × (is_unreferenced s mount ≡ true) × (is_busy s.sessions mount ≡ false)

@@ -3,6 +3,9 @@ pub mod ChangeLemmas
 pub mod Walks
 pub mod KeptLemmas
 pub mod LimitLemmas
+pub mod VersionLemmas
+pub mod LiveLemmas
+pub mod RaisedLemmas
 pub mod PathLemmas
 pub mod PrefixLemmas
 pub mod QuoteLemmas

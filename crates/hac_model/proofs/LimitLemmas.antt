@@ -1,5 +1,5 @@
 -- A state that exceeds no limit is within each of them.
-use Rattle.std.proofs.Common.{◌≡◌, Bool, true, false, cond, refl, ap, ◌∙◌, List, [], ◌∷◌, ◌++◌}
+use Rattle.std.proofs.Common.{◌≡◌, ℕ, ◌≤◌, arith, Bool, true, false, cond, refl, ap, ◌∙◌, List, [], ◌∷◌, ◌++◌}
 use Rattle.std.specs.Prelude.{nat_lt, Option, Some, None}
 use Rattle.hac_model.specs.Tree.Limits.{answer_limits, are_paths_short, counts, directory_count, first_passed, item_count, layout_limits, long_paths, mount_count, passed_limit, semantic_count, symlink_count, text_size}
 use Rattle.hac_model.specs.declared.limits.Limit.{Limit}
@@ -7,17 +7,21 @@ use Rattle.hac_model.specs.declared.limits.TheConstants.{TEXTS_LIMIT, DIRS_LIMIT
 use Rattle.hac_model.specs.declared.limits.LimitWord.{LimitWord}
 use Rattle.hac_model.specs.declared.states.Entry.{Entry}
 use Rattle.hac_model.specs.declared.states.State.{State}
+use Rattle.std.proofs.lemmas.Bool.{le-ltb, ltb-false}
+use Rattle.hac_model.specs.Versions.{dirs_limit, mounts_limit, numbers_limit, symlinks_limit}
+use Rattle.hac_model.specs.declared.versions.Version.{Version}
+use Rattle.hac_model.specs.declared.versions.Version.TheVariants.{One, Two}
 
 -- the state passes none of the limits
 pub record IsWithinLimits (s : State) : Type 0 where
   pub texts : nat_lt TEXTS_LIMIT (text_size s.entries) ≡ false
-  pub dirs : nat_lt DIRS_LIMIT (directory_count s.entries) ≡ false
+  pub dirs : nat_lt (dirs_limit s.version) (directory_count s.entries) ≡ false
   pub semantics : nat_lt SEMANTICS_LIMIT (semantic_count s.entries) ≡ false
-  pub mounts : nat_lt MOUNTS_LIMIT (mount_count s.entries) ≡ false
-  pub symlinks : nat_lt SYMLINKS_LIMIT (symlink_count s.entries) ≡ false
+  pub mounts : nat_lt (mounts_limit s.version) (mount_count s.entries) ≡ false
+  pub symlinks : nat_lt (symlinks_limit s.version) (symlink_count s.entries) ≡ false
   pub paths : are_paths_short s.entries ≡ true
   pub items : nat_lt ITEMS_LIMIT (item_count s.entries) ≡ false
-  pub numbers : nat_lt NUMBERS_LIMIT s.next ≡ false
+  pub numbers : nat_lt (numbers_limit s.version) s.next ≡ false
 
 -- a limit that isn't passed, and those behind it
 behind : (b : Bool) (word : LimitWord) (rest : Option LimitWord) → cond b (Some word) rest ≡ None → (b ≡ false) × (rest ≡ None)
@@ -68,11 +72,46 @@ limits-none s h =
     (first-before _ _ h.items
     (first-before _ _ h.numbers none-passed)))))))
 
+-- What is within the limit of some version is within the greatest of any.
+
+-- a count within a limit is within a greater one
+smaller_limit : (one two count : ℕ) → one ≤ two → nat_lt one count ≡ false → nat_lt two count ≡ false
+smaller_limit one two count less within = let high : count ≤ one = ltb-false one count within in le-ltb two count (omega (arith, less, high))
+
+module _ (s : State) (within : IsWithinLimits s) where
+  pub most-dirs : nat_lt DIRS_LIMIT (directory_count s.entries) ≡ false
+  most-dirs = most s.version within.dirs
+    where
+      most : (version : Version) → nat_lt (dirs_limit version) (directory_count s.entries) ≡ false → nat_lt DIRS_LIMIT (directory_count s.entries) ≡ false
+      most One h = smaller_limit 10000 DIRS_LIMIT (directory_count s.entries) (omega arith) h
+      most Two h = h
+
+  pub most-mounts : nat_lt MOUNTS_LIMIT (mount_count s.entries) ≡ false
+  most-mounts = most s.version within.mounts
+    where
+      most : (version : Version) → nat_lt (mounts_limit version) (mount_count s.entries) ≡ false → nat_lt MOUNTS_LIMIT (mount_count s.entries) ≡ false
+      most One h = smaller_limit 16 MOUNTS_LIMIT (mount_count s.entries) (omega arith) h
+      most Two h = h
+
+  pub most-symlinks : nat_lt SYMLINKS_LIMIT (symlink_count s.entries) ≡ false
+  most-symlinks = most s.version within.symlinks
+    where
+      most : (version : Version) → nat_lt (symlinks_limit version) (symlink_count s.entries) ≡ false → nat_lt SYMLINKS_LIMIT (symlink_count s.entries) ≡ false
+      most One h = smaller_limit 10000 SYMLINKS_LIMIT (symlink_count s.entries) (omega arith) h
+      most Two h = h
+
+  pub most-numbers : nat_lt NUMBERS_LIMIT s.next ≡ false
+  most-numbers = most s.version within.numbers
+    where
+      most : (version : Version) → nat_lt (numbers_limit version) s.next ≡ false → nat_lt NUMBERS_LIMIT s.next ≡ false
+      most One h = smaller_limit 4294967295 NUMBERS_LIMIT s.next (omega arith) h
+      most Two h = h
+
 -- limits of two lists are passed by none where none of either is
 passed-append : (xs ys : List Limit) → first_passed xs ≡ None → first_passed ys ≡ None → first_passed (xs ++ ys) ≡ None
 passed-append [] ys h k = k
 passed-append (x ∷ xs) ys h k = let parts = first-behind x xs h in first-before x (xs ++ ys) parts.0 (passed-append xs ys parts.1 k)
 
-pub passed-both : (s : State) → first_passed (layout_limits (counts s)) ≡ None → first_passed (answer_limits (counts s)) ≡ None → passed_limit s ≡ None
+pub passed-both : (s : State) → first_passed (layout_limits s.version (counts s)) ≡ None → first_passed (answer_limits s.version (counts s)) ≡ None → passed_limit s ≡ None
 unfolding passed_limit
-passed-both s h k = passed-append (layout_limits (counts s)) (answer_limits (counts s)) h k
+passed-both s h k = passed-append (layout_limits s.version (counts s)) (answer_limits s.version (counts s)) h k

@@ -11,7 +11,7 @@ use Rattle.hac_model.specs.Tree.Names.{is_name}
 use Rattle.hac_model.specs.Tree.{ancestors, body_at, child, entry_at, is_directory, is_directory_at, is_document, is_file, is_linkable, is_mount, is_mount_at, is_symlink, lineage, query_in}
 use Rattle.hac_model.specs.Tree.Valid.{IsLayout, IsSound, NamesDiffer, NumbersRise, is_in_place}
 use Rattle.hac_model.specs.declared.limits.LimitWord.TheVariants.{Texts, Dirs, Semantics, Mounts, Symlinks, Path, Items, Numbers}
-use Rattle.hac_model.specs.declared.limits.TheConstants.{DIRS_LIMIT, ITEMS_LIMIT, MOUNTS_LIMIT, NUMBERS_LIMIT, SEMANTICS_LIMIT, SYMLINKS_LIMIT, TEXTS_LIMIT}
+use Rattle.hac_model.specs.declared.limits.TheConstants.{ITEMS_LIMIT, SEMANTICS_LIMIT, TEXTS_LIMIT}
 use Rattle.hac_model.specs.declared.states.Body.{Body}
 use Rattle.hac_model.specs.declared.states.Entry.{Entry}
 use Rattle.hac_model.specs.declared.states.State.{State}
@@ -19,6 +19,7 @@ use Rattle.hac_model.proofs.ChangeLemmas.{all-weaker}
 use Rattle.hac_model.proofs.CountLemmas.{directory_count-is, is_queried, keeps-linkable, measured, measured-cons, one_if}
 use Rattle.hac_model.proofs.DepthLemmas.{names_of, path-alike}
 use Rattle.hac_model.proofs.PathLemmas.{ancestors_by, limit, lineage-is}
+use Rattle.hac_model.specs.Versions.{dirs_limit, mounts_limit, numbers_limit, symlinks_limit}
 
 pub all-map : {X Y : Type 0} (P : Y → Type 0) (f : X → Y) (xs : List X) → AllByRecursion (λ x. P (f x)) xs → AllByRecursion P (map f xs)
 all-map P f [] h = tt
@@ -103,10 +104,10 @@ measured-mapped f edit (e ∷ es) same =
     omega (arith, measured-cons f (edited edit e) (map (edited edit) es), measured-cons f e es, here, measured-mapped f edit es same)
 
 -- the limits are as before
-counts-mapped : (edit : Body → Body) (s : State) → KeepsMeasures edit → first_passed (layout_limits (counts (mapped edit s)) ++ answer_limits (counts (mapped edit s))) ≡ first_passed (layout_limits (counts s) ++ answer_limits (counts s))
+counts-mapped : (edit : Body → Body) (s : State) → KeepsMeasures edit → first_passed (layout_limits s.version (counts (mapped edit s)) ++ answer_limits s.version (counts (mapped edit s))) ≡ first_passed (layout_limits s.version (counts s) ++ answer_limits s.version (counts s))
 counts-mapped edit s keeps = λ i. first_passed (
-    limits_of.limit (texts i) TEXTS_LIMIT Texts ∷ limits_of.limit (dirs i) DIRS_LIMIT Dirs ∷ limits_of.limit (semantics i) SEMANTICS_LIMIT Semantics
-    ∷ limits_of.limit (mounts i) MOUNTS_LIMIT Mounts ∷ limits_of.limit (symlinks i) SYMLINKS_LIMIT Symlinks ∷ limits_of.limit (paths i) 0 Path ∷ limits_of.limit (items i) ITEMS_LIMIT Items ∷ limits_of.limit s.next NUMBERS_LIMIT Numbers ∷ [])
+    limits_of.limit (texts i) TEXTS_LIMIT Texts ∷ limits_of.limit (dirs i) (dirs_limit s.version) Dirs ∷ limits_of.limit (semantics i) SEMANTICS_LIMIT Semantics
+    ∷ limits_of.limit (mounts i) (mounts_limit s.version) Mounts ∷ limits_of.limit (symlinks i) (symlinks_limit s.version) Symlinks ∷ limits_of.limit (paths i) 0 Path ∷ limits_of.limit (items i) ITEMS_LIMIT Items ∷ limits_of.limit s.next (numbers_limit s.version) Numbers ∷ [])
   where
     es : List Entry
     es = s.entries

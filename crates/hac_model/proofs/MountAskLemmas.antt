@@ -280,7 +280,7 @@ unmounted-queries s mount h here apart = cleared-asks (is_of_mount mount) s h.la
 pub mounted-sessions : (s : State) (dir : ℕ) (name space : List ℕ) (answers : List Answer) (documents : List (List ℕ)) → IsValid s → AreSessions (mounted s dir name space answers documents)
 mounted-sessions s dir name space answers documents h =
     let u : State = with_mount s dir name space answers in
-    sessions-stay s (mounted s dir name space answers documents) refl h.sessions (λ d there.
+    sessions-stay s (mounted s dir name space answers documents) refl refl h.sessions (λ d there.
     extended-directories u (u.next + length documents) (documents_from u.next s.next documents) d
     (extended-directories s u.next (record { number = s.next; parent = dir; name = name; body = Mount space answers } ∷ []) d there))
 
@@ -288,13 +288,13 @@ pub synced-sessions : (s : State) (mount : ℕ) (answers : List Answer) (documen
 synced-sessions s mount answers documents h =
     let u : State = cleared (is_gone mount documents) s in
     let v : State = redocumented s mount documents in
-    sessions-stay s (synced s mount answers documents) refl h.sessions (λ d there.
+    sessions-stay s (synced s mount answers documents) refl refl h.sessions (λ d there.
     keeping-directories v mount answers d
     (extended-directories u v.next (documents_from u.next mount (fresh s mount documents)) d
     (cleared-directory (is_gone mount documents) s h.layout d (gone-directory s mount documents d h.layout there) ∙ there)))
 
 pub unmounted-sessions : (s : State) (mount : ℕ) → IsValid s → is_mount_at s.entries mount ≡ true → is_busy s.sessions mount ≡ false → AreSessions (unmounted s mount)
-unmounted-sessions s mount h here idle = sessions-there s (unmounted s mount) refl h.sessions (each s.sessions idle h.sessions.there)
+unmounted-sessions s mount h here idle = sessions-there s (unmounted s mount) refl refl h.sessions (each s.sessions idle h.sessions.there)
   where
     neither : (a b : Bool) → (a || b) ≡ false → (a ≡ false) × (b ≡ false)
     neither true b h = absurd cc

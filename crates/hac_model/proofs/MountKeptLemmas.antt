@@ -12,8 +12,9 @@ use Rattle.hac_model.specs.Tree.Events.{changed_in, edited, is_free}
 use Rattle.hac_model.specs.Tree.Mounting.{answers_to, are_told, cleared, do_rise_from, documents_from, forgetting_such, fresh, is_among, is_document_of, is_gone, is_of_mount, is_such_at, is_told, keeping, mounted, redocumented, synced, unmounted, without_such}
 use Rattle.hac_model.specs.Tree.Mounts.{terms_in, terms_in_use, terms_to_ask}
 use Rattle.hac_model.specs.Tree.{child, entry_at, is_directory_at, is_document, is_holder_at, is_mount, is_mount_at}
-use Rattle.hac_model.specs.Tree.Valid.{IsAnswer, IsSoundMount, IsValid, KeepsWell, NamesDiffer, NumbersRise, RiseFrom, is_in_place}
-use Rattle.hac_model.specs.declared.limits.TheConstants.{DOCS_LIMIT}
+use Rattle.hac_model.specs.Tree.Valid.{has_few, is_in_place, IsAnswer, IsSoundMount, IsValid, KeepsWell, NamesDiffer, NumbersRise, RiseFrom}
+use Rattle.hac_model.specs.Versions.{docs_limit}
+use Rattle.hac_model.specs.declared.versions.Version.{Version}
 use Rattle.hac_model.specs.declared.states.Answer.{Answer}
 use Rattle.hac_model.specs.declared.states.Body.{Body}
 use Rattle.hac_model.specs.declared.states.Body.TheVariants.{File, Dir, Symlink, Semantic, Mount, Document}
@@ -90,18 +91,18 @@ inside-edited m n edit (e ∷ es) =
       | false ↦ elim (e.parent == m) as (λ b. length (if b then e ∷ inside m (changed_in n (edited edit) es) else inside m (changed_in n (edited edit) es)) ≡ length (if b then e ∷ inside m es else inside m es)) [ true ↦ omega (arith, rest) | false ↦ rest ]
     ]
 
-few-less : (n : ℕ) → n ≤ DOCS_LIMIT → nat_le n DOCS_LIMIT ≡ true
-few-less n less = le-leb n DOCS_LIMIT less
+few-less : (most n : ℕ) → n ≤ most → nat_le n most ≡ true
+few-less most n less = le-leb n most less
 
 -- A mount that keeps what it kept.
 
-keeps-old : (s t : State) (e : Entry) (space : List ℕ) (answers : List Answer) → IsValid s → entry_at s.entries e.number ≡ Some e → e.body ≡ Mount space answers → ((k : ℕ) → is_document_of s e.number k ≡ true → is_document_of t e.number k ≡ true) → length (inside e.number t.entries) ≤ length (inside e.number s.entries)
+keeps-old : (s t : State) → t.version ≡ s.version → (e : Entry) (space : List ℕ) (answers : List Answer) → IsValid s → entry_at s.entries e.number ≡ Some e → e.body ≡ Mount space answers → ((k : ℕ) → is_document_of s e.number k ≡ true → is_document_of t e.number k ≡ true) → length (inside e.number t.entries) ≤ length (inside e.number s.entries)
     → (EachKept answers s.entries → EachKept answers t.entries) → KeepsWell t e.number (Mount space answers)
-keeps-old s t e space answers h found is documents fewer terms =
+keeps-old s t even e space answers h found is documents fewer terms =
     let old : KeepsWell s e.number e.body = entry_at-all (λ e. KeepsWell s e.number e.body) s.entries e.number e h.answers found in
     let sound : IsSoundMount s e.number answers = subst (KeepsWell s e.number) is old in
     record {
-      few = few-less (length (inside e.number t.entries)) (let within : length (inside e.number s.entries) ≤ DOCS_LIMIT = leb-true (length (inside e.number s.entries)) DOCS_LIMIT sound.few in omega (arith, within, fewer));
+      few = ap (λ (v : Version). has_few v t.entries e.number) even ∙ few-less (docs_limit s.version) (length (inside e.number t.entries)) (let within : length (inside e.number s.entries) ≤ docs_limit s.version = leb-true (length (inside e.number s.entries)) (docs_limit s.version) sound.few in omega (arith, within, fewer));
       rise = sound.rise;
       sound = all-weaker (IsAnswer s e.number) (IsAnswer t e.number) answers (λ answer well. record { fits = well.fits; rise = well.rise; documents = all-weaker (λ k. IsTrue (is_document_of s e.number k)) (λ k. IsTrue (is_document_of t e.number k)) answer.documents documents well.documents }) sound.sound;
       all = all-kept answers t.entries (terms (each-kept answers s.entries sound.all));
@@ -123,13 +124,13 @@ answers-sound t m (term ∷ terms) (numbers ∷ told) askable h =
     let own = and_parts (do_rise_from 0 numbers) (list_all (is_document_of t m) numbers) parts.0 in
     (record { fits = askable.0; rise = rise-told 0 numbers own.0; documents = all-tested (is_document_of t m) numbers own.1 }, answers-sound t m terms told askable.1 parts.1)
 
-keeps-told : (s t : State) (m : ℕ) (space : List ℕ) (told : List (List ℕ)) → IsValid s → are_told t m (terms_to_ask s.entries) told ≡ true → length (inside m t.entries) ≤ DOCS_LIMIT → ((answers : List Answer) → EachKept answers s.entries → EachKept answers t.entries) → KeepsWell t m (Mount space (answers_to (terms_to_ask s.entries) told))
+keeps-told : (s t : State) (m : ℕ) (space : List ℕ) (told : List (List ℕ)) → IsValid s → are_told t m (terms_to_ask s.entries) told ≡ true → length (inside m t.entries) ≤ docs_limit t.version → ((answers : List Answer) → EachKept answers s.entries → EachKept answers t.entries) → KeepsWell t m (Mount space (answers_to (terms_to_ask s.entries) told))
 keeps-told s t m space told h well few terms =
     let parts = and_parts (length told == length (terms_to_ask s.entries)) (list_all (is_told t m) told) well in
     let even : length told ≡ length (terms_to_ask s.entries) = eqb-true (length told) (length (terms_to_ask s.entries)) parts.0 in
     let answers : List Answer = answers_to (terms_to_ask s.entries) told in
     record {
-      few = few-less (length (inside m t.entries)) few;
+      few = few-less (docs_limit t.version) (length (inside m t.entries)) few;
       rise = answers-rise None (terms_to_ask s.entries) told (order-chain (terms_in_use s.entries));
       sound = answers-sound t m (terms_to_ask s.entries) told (all-order (λ term. is_askable term ≡ true) (terms_in_use s.entries) (in_use-askable s s.entries h.queries)) parts.1;
       all = all-kept answers t.entries (terms answers (each-kept answers s.entries (asked-kept s.entries told even)));
@@ -192,11 +193,11 @@ module _ (s : State) (dir : ℕ) (name space : List ℕ) (told : List (List ℕ)
           let other : (e.parent == s.next) ≡ false = ne_eqb e.parent s.next (λ same. omega (arith, same, below)) in
           ap (λ (b : Bool). length (if b then e ∷ inside s.next es else inside s.next es)) other ∙ each es places.1
 
-  pub mounted-keeps : are_told with-mount s.next (terms_to_ask s.entries) told ≡ true → nat_le (length documents) DOCS_LIMIT ≡ true → NumbersRise 0 with-mount.entries with-mount.next → AllByRecursion (λ e. KeepsWell with-mount e.number e.body) with-mount.entries
+  pub mounted-keeps : are_told with-mount s.next (terms_to_ask s.entries) told ≡ true → nat_le (length documents) (docs_limit s.version) ≡ true → NumbersRise 0 with-mount.entries with-mount.next → AllByRecursion (λ e. KeepsWell with-mount e.number e.body) with-mount.entries
   mounted-keeps well few rise = all-entries (λ e. KeepsWell with-mount e.number e.body) 0 with-mount.entries with-mount.next rise (λ e found. keeps-none with-mount e.number e.body (λ shown answers is. at e shown answers is (found-joined (s.entries ++ new-mount ∷ []) (documents_from (s.next + 1) s.next documents) e.number e found)))
     where
       old : (e : Entry) (shown : List ℕ) (answers : List Answer) → e.body ≡ Mount shown answers → entry_at s.entries e.number ≡ Some e → KeepsWell with-mount e.number (Mount shown answers)
-      old e shown answers is found = keeps-old s with-mount e shown answers h found is (mounted-documents e.number) fewer (mounted-kept answers)
+      old e shown answers is found = keeps-old s with-mount refl e shown answers h found is (mounted-documents e.number) fewer (mounted-kept answers)
         where
           low : e.number < s.next
           low = entry_at-below 0 s.entries s.next e.number e h.layout.numbers found
@@ -215,7 +216,7 @@ module _ (s : State) (dir : ℕ) (name space : List ℕ) (told : List (List ℕ)
       own : (e : Entry) (shown : List ℕ) (answers : List Answer) → e.body ≡ Mount shown answers → new-mount ≡ e → KeepsWell with-mount e.number (Mount shown answers)
       own e shown answers is same =
           subst (KeepsWell with-mount e.number) is (subst (λ (x : Entry). KeepsWell with-mount x.number x.body) same
-          (keeps-told s with-mount s.next space told h well (let all = mounted-inside s.next apart in let mine = inside-own (s.next + 1) s.next documents in let none = mounted-empty in let within : length documents ≤ DOCS_LIMIT = leb-true (length documents) DOCS_LIMIT few in omega (arith, all, mine, none, within)) mounted-kept))
+          (keeps-told s with-mount s.next space told h well (let all = mounted-inside s.next apart in let mine = inside-own (s.next + 1) s.next documents in let none = mounted-empty in let within : length documents ≤ docs_limit s.version = leb-true (length documents) (docs_limit s.version) few in omega (arith, all, mine, none, within)) mounted-kept))
         where
           apart : (dir == s.next) ≡ false
           apart = ne_eqb dir s.next (λ same. let low : dir < s.next = directory-below s dir h.layout (free-parts s dir name free).0 in omega (arith, same, low))
@@ -396,7 +397,7 @@ module _ (s : State) (mount : ℕ) (h : IsValid s) (there : is_mount_at s.entrie
           let number : g.number ≡ e.number = ap (λ (x : Entry). x.number) was.3 in
           let body : g.body ≡ Mount shown answers = such-mounts (is_such_at (is_of_mount mount) s.entries) g.body shown answers (ap (λ (x : Entry). x.body) was.3 ∙ is) in
           subst (λ (n : ℕ). KeepsWell (unmounted s mount) n (Mount shown answers)) number
-          (keeps-old s (unmounted s mount) g shown answers h (ap (entry_at s.entries) number ∙ was.1) body
+          (keeps-old s (unmounted s mount) refl g shown answers h (ap (entry_at s.entries) number ∙ was.1) body
           (λ k there. unmounted-documents g.number k (of_mount-apart g was.2).0 there)
           (cleared-inside (is_of_mount mount) s h g.number) (cleared-kept (is_of_mount mount) s h answers))
 
@@ -505,11 +506,11 @@ module _ (s : State) (mount : ℕ) (told : List (List ℕ)) (documents : List (L
             | false ↦ (λ holder. let no = (and_parts (is_directory_at s.entries e.parent) (not (is_mount_at s.entries e.parent)) holder).1 in let never : true ≡ false = sym no ∙ ap not mounted-here in absurd cc)
           ] place
 
-  pub synced-keeps : are_told v mount (terms_to_ask s.entries) told ≡ true → nat_le (length documents) DOCS_LIMIT ≡ true → NumbersRise 0 v.entries v.next → NamesDiffer v.entries → AllByRecursion (λ e. KeepsWell v e.number e.body) v.entries
+  pub synced-keeps : are_told v mount (terms_to_ask s.entries) told ≡ true → nat_le (length documents) (docs_limit s.version) ≡ true → NumbersRise 0 v.entries v.next → NamesDiffer v.entries → AllByRecursion (λ e. KeepsWell v e.number e.body) v.entries
   synced-keeps well few rise differ = all-entries (λ e. KeepsWell v e.number e.body) 0 v.entries v.next rise (λ e found. keeps-none v e.number e.body (λ shown answers is. from e shown answers is (entry_at u.entries e.number) refl (sym (synced-at e.number) ∙ found)))
     where
       own : (shown : List ℕ) → KeepsWell v mount (Mount shown synced-answers)
-      own shown = keeps-told s v mount shown told h well (let named = few-named mount documents v.entries differ synced-named in let within : length documents ≤ DOCS_LIMIT = leb-true (length documents) DOCS_LIMIT few in omega (arith, named, within)) synced-kept
+      own shown = keeps-told s v mount shown told h well (let named = few-named mount documents v.entries differ synced-named in let within : length documents ≤ docs_limit s.version = leb-true (length documents) (docs_limit s.version) few in omega (arith, named, within)) synced-kept
 
       -- a mount in the synced state is one of those before
       was-mount : (e f : Entry) (shown : List ℕ) (answers : List Answer) → e.body ≡ Mount shown answers → touched mount (edited (keeping synced-answers)) f ≡ e → (g : Entry) → entry_at s.entries e.number ≡ Some g → edited forget g ≡ f → KeepsWell v e.number (Mount shown answers)
@@ -525,7 +526,7 @@ module _ (s : State) (mount : ℕ) (told : List (List ℕ)) (documents : List (L
                 let apart : (g.number == mount) ≡ false = ap (λ (x : Entry). x.number == mount) left ∙ other in
                 let turned : (mount == g.number) ≡ false = ne_eqb mount g.number (λ eq. let never : true ≡ false = sym (eq-eqb g.number mount (sym eq)) ∙ apart in absurd cc) in
                 subst (λ (n : ℕ). KeepsWell v n (Mount shown answers)) even
-                (keeps-old s v g shown answers h (ap (entry_at s.entries) even ∙ found) body (λ k is. synced-documents g.number k apart is) (synced-inside g.number turned) (synced-kept answers)))
+                (keeps-old s v refl g shown answers h (ap (entry_at s.entries) even ∙ found) body (λ k is. synced-documents g.number k apart is) (synced-inside g.number turned) (synced-kept answers)))
           ] refl same
         where
           told-kept : (b : Body) → keeping synced-answers b ≡ Mount shown answers → Mount shown synced-answers ≡ Mount shown answers

@@ -9,7 +9,7 @@ use Rattle.hac_model.specs.Tree.Limits.{directory_count, passed_limit, text_size
 use Rattle.hac_model.specs.Tree.{is_directory, is_linkable, is_mount, is_symlink}
 use Rattle.hac_model.specs.Tree.Valid.{IsLayout}
 use Rattle.hac_model.specs.declared.events.Event.TheVariants.{Rmdir, Step}
-use Rattle.hac_model.specs.declared.limits.TheConstants.{DIRS_LIMIT, SEMANTICS_LIMIT, MOUNTS_LIMIT, SYMLINKS_LIMIT, ITEMS_LIMIT}
+use Rattle.hac_model.specs.declared.limits.TheConstants.{SEMANTICS_LIMIT, ITEMS_LIMIT}
 use Rattle.hac_model.specs.declared.states.Body.{Body}
 use Rattle.hac_model.specs.declared.states.State.{State}
 use Rattle.hac_model.proofs.ChangeLemmas.{is_kept}
@@ -17,6 +17,7 @@ use Rattle.hac_model.proofs.CountLemmas.{directory_count-edited, directory_count
 use Rattle.hac_model.proofs.DepthLemmas.{paths-edited, paths-removed}
 use Rattle.hac_model.proofs.LimitLemmas.{IsWithinLimits, limits-none, limits-within}
 use Rattle.hac_model.proofs.ValidLemmas.{bare-all}
+use Rattle.hac_model.specs.Versions.{dirs_limit, mounts_limit, symlinks_limit}
 
 -- a smaller count is within the limit too
 smaller : (limit m n : ℕ) → m ≤ n → nat_lt limit n ≡ false → nat_lt limit m ≡ false
@@ -28,10 +29,10 @@ edited-passes s n edit h keeps lighter =
     let old : IsWithinLimits s = limits-within s h.limits in
     limits-none (changed_at s n (edited edit)) (record {
       texts = smaller _ _ _ lighter old.texts;
-      dirs = ap (λ (k : ℕ). nat_lt DIRS_LIMIT k) (directory_count-edited s n edit keeps) ∙ old.dirs;
+      dirs = ap (λ (k : ℕ). nat_lt (dirs_limit s.version) k) (directory_count-edited s n edit keeps) ∙ old.dirs;
       semantics = ap (λ (k : ℕ). nat_lt SEMANTICS_LIMIT k) (semantic_count-edited s n edit keeps) ∙ old.semantics;
-      mounts = ap (λ (k : ℕ). nat_lt MOUNTS_LIMIT k) (mount_count-edited s n edit keeps) ∙ old.mounts;
-      symlinks = ap (λ (k : ℕ). nat_lt SYMLINKS_LIMIT k) (symlink_count-edited s n edit keeps) ∙ old.symlinks;
+      mounts = ap (λ (k : ℕ). nat_lt (mounts_limit s.version) k) (mount_count-edited s n edit keeps) ∙ old.mounts;
+      symlinks = ap (λ (k : ℕ). nat_lt (symlinks_limit s.version) k) (symlink_count-edited s n edit keeps) ∙ old.symlinks;
       paths = paths-edited s.entries n edit keeps.mounts ∙ old.paths;
       items = ap (λ (k : ℕ). nat_lt ITEMS_LIMIT k) (item_count-edited s n edit keeps) ∙ old.items;
       numbers = old.numbers;
@@ -50,7 +51,7 @@ removed-passes s n h bare =
     let old : IsWithinLimits s = limits-within s h.limits in
     limits-none (removed s n) (record {
       texts = smaller _ _ _ (measured-fewer file_bytes n s.entries) old.texts;
-      dirs = smaller DIRS_LIMIT (directory_count (filter (is_kept n) s.entries)) (directory_count s.entries) (omega (arith, measured-fewer (one_if is_directory) n s.entries, directory_count-is s.entries, directory_count-is (filter (is_kept n) s.entries))) old.dirs;
+      dirs = smaller (dirs_limit s.version) (directory_count (filter (is_kept n) s.entries)) (directory_count s.entries) (omega (arith, measured-fewer (one_if is_directory) n s.entries, directory_count-is s.entries, directory_count-is (filter (is_kept n) s.entries))) old.dirs;
       semantics = smaller _ _ _ (measured-fewer (one_if is_queried) n s.entries) old.semantics;
       mounts = smaller _ _ _ (measured-fewer (one_if is_mount) n s.entries) old.mounts;
       symlinks = smaller _ _ _ (measured-fewer (one_if is_symlink) n s.entries) old.symlinks;

@@ -141,8 +141,8 @@ entries-told above (e ∷ es) (f ∷ fs) next h k same = told (cases_order e.num
     told (inr (inl less)) rest = let never : Some e ≡ None = sym (entry_at-first e es) ∙ same e.number ∙ entry_at-low e.number (f ∷ fs) next e.number (less, k.1) (omega arith) in absurd cc
     told (inr (inr more)) rest = let never : None ≡ Some f = sym (entry_at-low f.number (e ∷ es) next f.number (more, h.1) (omega arith)) ∙ same f.number ∙ entry_at-first f fs in absurd cc
 
-pub plain-tells : (s t : State) → IsValid s → IsValid t → s.next ≡ t.next → s.sessions ≡ t.sessions → ((path : List (List ℕ)) → plain s path ≡ plain t path) → s ≡ t
-plain-tells s t h k next sessions same =
+pub plain-tells : (s t : State) → IsValid s → IsValid t → s.version ≡ t.version → s.next ≡ t.next → s.sessions ≡ t.sessions → ((path : List (List ℕ)) → plain s path ≡ plain t path) → s ≡ t
+plain-tells s t h k version next sessions same =
     let rise : NumbersRise 0 t.entries s.next = subst (λ (n : ℕ). NumbersRise 0 t.entries n) (sym next) k.layout.numbers in
     let entries : s.entries ≡ t.entries = entries-told 0 s.entries t.entries s.next h.layout.numbers rise (λ n. same-lookup s t n h.layout k.layout same) in
-    λ i. record { next = next i; entries = entries i; sessions = sessions i }
+    λ i. record { version = version i; next = next i; entries = entries i; sessions = sessions i }

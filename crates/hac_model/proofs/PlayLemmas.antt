@@ -37,6 +37,9 @@ use Rattle.hac_model.specs.declared.states.State.{State}
 use Rattle.hac_model.proofs.AcyclicLemmas.{apply-valid}
 use Rattle.hac_model.proofs.EventLemmas.{all-valid, commands-happen, no_cause, steps-clean-all, steps-due}
 use Rattle.hac_model.proofs.SpellingLemmas.{IsItem, item_of-item}
+use Rattle.hac_model.proofs.VersionLemmas.{apply_all-version}
+use Rattle.hac_model.specs.declared.versions.Version.{Version}
+use Rattle.hac_model.proofs.RaisedLemmas.{raised-valid}
 
 -- what spaces that are in order answer
 pub said-answers : (spaces : List Attached) → AllByRecursion (λ space. AreRisingNames (names space.1)) spaces → (asked : Asks) → AreAnswersTo asked (answers_of spaces asked)
@@ -97,18 +100,18 @@ pub saves-nothing : (answers : Answers) (s : State) (command : Resolved) → is_
 saves-nothing answers s Checkpoint saves = refl
 saves-nothing answers s other saves = absurd cc
 
--- a command that is carried out leaves the state to which its events lead
-carried-state : (answers : Answers) (setting : Setting) (command : Resolved) → (carried_out answers setting command).state ≡ led_to answers setting.state command
-carried-state answers setting command =
+-- a command that is carried out leaves a valid state, where its events lead to one
+carried-valid : (answers : Answers) (setting : Setting) (command : Resolved) → IsValid (led_to answers setting.state command) → IsValid (carried_out answers setting command).state
+carried-valid answers setting command led =
     elim (is_checkpoint command) as (λ b. is_checkpoint command ≡ b →
-    (if b then option_map_or (checkpointed setting) (next_place setting) setting else happened answers setting command).state ≡ led_to answers setting.state command) [
-      | true ↦ (λ saves. saved (next_place setting) ∙ ap (apply_all setting.state) (sym (saves-nothing answers setting.state command saves)))
-      | false ↦ (λ _. refl)
+    IsValid (if b then option_map_or (checkpointed setting) (next_place setting) setting else happened answers setting command).state) [
+      | true ↦ (λ saves. saved (next_place setting) (subst (λ (events : List Event). IsValid (apply_all setting.state events)) (saves-nothing answers setting.state command saves) led))
+      | false ↦ (λ _. led)
     ] refl
   where
-    saved : (place : Option ℕ) → (option_map_or (checkpointed setting) place setting).state ≡ setting.state
-    saved None = refl
-    saved (Some at) = refl
+    saved : (place : Option ℕ) → IsValid setting.state → IsValid (option_map_or (checkpointed setting) place setting).state
+    saved None h = h
+    saved (Some at) h = raised-valid setting.state h
 
 -- what a command leads to is valid
 command-valid : (given : Given) → AreInOrder given → (setting : Setting) (line : Line) (r : Result Resolved Refusal) → IsValid setting.state → IsTrue (is_spelled_line line) → resolve setting.state line ≡ r → IsValid (command_turn given setting r).after.state
@@ -117,7 +120,7 @@ command-valid given rise setting line (Ok command) h spelled leads =
     let answers : Answers = space_answers given setting.state command in
     elim (turn_cause given setting command answers) as (λ o. turn_cause given setting command answers ≡ o → IsValid (option_map_or (refused_turn given setting) o (answered_turn given setting command answers)).after.state) [
       | None ↦ (λ free. steps-valid given.steps (carried_out answers setting command)
-          (subst IsValid (sym (carried-state answers setting command)) (all-valid (events_of answers setting.state command) setting.state h
+          (carried-valid answers setting command (all-valid (events_of answers setting.state command) setting.state h
           (commands-happen setting.state line command answers h spelled leads (said-answers given.spaces rise (asks setting.state command)) (no-cause-of given setting command answers free)))))
       | Some refusal ↦ (λ _. steps-valid given.steps setting h)
     ] refl
@@ -176,16 +179,17 @@ stored-all (e ∷ events) s = stored-all events (apply s e) ∙ ap (λ (t : Stat
     at true = refl
     at false = refl
 
-pub end_behind-append : (xs ys : List Event) (end : ℕ) → end_behind end (xs ++ ys) ≡ end_behind (end_behind end xs) ys
-end_behind-append [] ys end = refl
-end_behind-append (x ∷ xs) ys end = end_behind-append xs ys (end + 5 + length (event_text x))
+pub end_behind-append : (version : Version) (xs ys : List Event) (end : ℕ) → end_behind version end (xs ++ ys) ≡ end_behind version (end_behind version end xs) ys
+end_behind-append version [] ys end = refl
+end_behind-append version (x ∷ xs) ys end = end_behind-append version xs ys (end + 5 + length (event_text version x))
 
 -- A setting goes on by events: they make of what was stored what is stored then, and as long as no new area was begun,
--- the store ends behind their records.
+-- its version stays, and the store ends behind their records.
 record GoesOn (setting next : Setting) (events : List Event) : Type 0 where
   state : stored next.state ≡ apply_all (stored setting.state) events
   later : setting.generation ≤ next.generation
-  end : next.generation ≡ setting.generation → next.end ≡ end_behind setting.end events
+  version : next.generation ≡ setting.generation → next.state.version ≡ setting.state.version
+  end : next.generation ≡ setting.generation → next.end ≡ end_behind setting.state.version setting.end events
 
 -- a turn leaves what its events make of the setting
 abbrev Leads : Setting → Turn → Type 0
@@ -210,11 +214,12 @@ turn_of-leads given setting next reply events on =
           stored-all steps next.state ∙ ap (apply_all (stored next.state)) (steps-stored given.steps next) ∙ ap (λ (s : State). apply_all s steps) on.state
           ∙ sym (apply_all-append events steps (stored setting.state));
       later = on.later;
-      end = λ same. ap (λ (end : ℕ). end_behind end steps) (on.end same) ∙ sym (end_behind-append events steps setting.end);
+      version = λ same. apply_all-version next.state steps ∙ on.version same;
+      end = λ same. (λ i. end_behind (on.version same i) (on.end same i) steps) ∙ sym (end_behind-append setting.state.version events steps setting.end);
     }
 
 refused-leads : (given : Given) (setting : Setting) (refusal : Refusal) → Leads setting (refused_turn given setting refusal)
-refused-leads given setting refusal = turn_of-leads given setting setting (Refused refusal) [] (record { state = refl; later = omega arith; end = λ _. refl })
+refused-leads given setting refusal = turn_of-leads given setting setting (Refused refusal) [] (record { state = refl; later = omega arith; version = λ _. refl; end = λ _. refl })
 
 -- so does a command that is carried out
 carried-on : (answers : Answers) (setting : Setting) (command : Resolved) → GoesOn setting (carried_out answers setting command) (stored_events answers setting.state command)
@@ -224,12 +229,17 @@ carried-on answers setting command =
       | true ↦ (λ saves.
           subst (λ (events : List Event). GoesOn setting (option_map_or (checkpointed setting) (next_place setting) setting) (filter is_stored events))
           (sym (saves-nothing answers setting.state command saves)) (saved (next_place setting)))
-      | false ↦ (λ _. record { state = stored-all (events_of answers setting.state command) setting.state; later = omega arith; end = λ _. refl })
+      | false ↦ (λ _. record {
+        state = stored-all (events_of answers setting.state command) setting.state;
+        later = omega arith;
+        version = λ _. apply_all-version setting.state (events_of answers setting.state command);
+        end = λ _. refl;
+      })
     ] refl
   where
     saved : (place : Option ℕ) → GoesOn setting (option_map_or (checkpointed setting) place setting) []
-    saved None = record { state = refl; later = omega arith; end = λ _. refl }
-    saved (Some at) = record { state = refl; later = omega arith; end = λ same. absurd (omega (arith, same)) }
+    saved None = record { state = refl; later = omega arith; version = λ _. refl; end = λ _. refl }
+    saved (Some at) = record { state = refl; later = omega arith; version = λ same. absurd (omega (arith, same)); end = λ same. absurd (omega (arith, same)) }
 
 command-leads : (given : Given) (setting : Setting) (r : Result Resolved Refusal) → Leads setting (command_turn given setting r)
 command-leads given setting (Err refusal) = refused-leads given setting refusal
@@ -271,7 +281,7 @@ generations-rise given setting (item ∷ items) =
     omega (arith, first, rest)
 
 pub events-end : (given : Given) (setting : Setting) (items : List Item) → (left_by setting (turns given setting items)).generation ≡ setting.generation →
-    (left_by setting (turns given setting items)).end ≡ end_behind setting.end (all_events (turns given setting items))
+    (left_by setting (turns given setting items)).end ≡ end_behind setting.state.version setting.end (all_events (turns given setting items))
 events-end given setting [] same = refl
 events-end given setting (item ∷ items) same =
     let turn = item_turn given setting item in
@@ -280,8 +290,8 @@ events-end given setting (item ∷ items) same =
     let later = generations-rise (given_behind 1 given) turn.after items in
     let here : turn.after.generation ≡ setting.generation = omega (arith, same, first.later, later) in
     events-end (given_behind 1 given) turn.after items (same ∙ sym here)
-    ∙ ap (λ (end : ℕ). end_behind end (all_events rest)) (first.end here)
-    ∙ sym (end_behind-append (events_in turn) (all_events rest) setting.end)
+    ∙ (λ i. end_behind (first.version here i) (first.end here i) (all_events rest))
+    ∙ sym (end_behind-append setting.state.version (events_in turn) (all_events rest) setting.end)
 
 pub index-cleans : (s : State) → IsValid s → dirty (led_to no_answers s Index) ≡ 0
 index-cleans s h = steps-clean-all (dirty s) s h refl

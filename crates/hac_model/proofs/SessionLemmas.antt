@@ -100,13 +100,13 @@ module _ (name : List ℕ) (dir : ℕ) where
       ]
 
 -- what is asked of an event that moves a session
-pub cd-parts : (s : State) (session : List ℕ) (dir : ℕ) → is_possible s (Cd session dir) ≡ true → (is_space_name session ≡ true) × (is_directory_at s.entries dir ≡ true) × (are_few (sessions_with session dir s.sessions) ≡ true)
+pub cd-parts : (s : State) (session : List ℕ) (dir : ℕ) → is_possible s (Cd session dir) ≡ true → (is_space_name session ≡ true) × (is_directory_at s.entries dir ≡ true) × (are_few s.version (sessions_with session dir s.sessions) ≡ true)
 cd-parts s session dir h =
-    let both = and_parts (are_few (sessions_with session dir s.sessions)) (is_space_name session && is_directory_at s.entries dir) h in
+    let both = and_parts (are_few s.version (sessions_with session dir s.sessions)) (is_space_name session && is_directory_at s.entries dir) h in
     let placed = and_parts (is_space_name session) (is_directory_at s.entries dir) both.1 in
     (placed.0, placed.1, both.0)
 
-moved : (s : State) (session : List ℕ) (dir : ℕ) → AreSessions s → is_space_name session ≡ true → is_directory_at s.entries dir ≡ true → are_few (sessions_with session dir s.sessions) ≡ true → AreSessions (apply s (Cd session dir))
+moved : (s : State) (session : List ℕ) (dir : ℕ) → AreSessions s → is_space_name session ≡ true → is_directory_at s.entries dir ≡ true → are_few s.version (sessions_with session dir s.sessions) ≡ true → AreSessions (apply s (Cd session dir))
 moved s session dir h named there few = record {
   names = all-with session dir (λ other. IsTrue (is_space_name other.name)) s.sessions h.names (λ _. named);
   differ = differ-with session dir s.sessions h.differ;
@@ -117,30 +117,30 @@ moved s session dir h named there few = record {
 
 -- sessions stay sound
 pub apply-sessions : (s : State) (event : Event) → IsValid s → IsTrue (accepted s event) → AreSessions (apply s event)
-apply-sessions s (Mkdir dir name) h ok = sessions-stay s (apply s (Mkdir dir name)) refl h.sessions (added-directories s dir name Dir)
-apply-sessions s (NewFile dir name text) h ok = sessions-stay s (apply s (NewFile dir name text)) refl h.sessions (added-directories s dir name (File text true None))
-apply-sessions s (Rewrite file text) h ok = sessions-stay s (apply s (Rewrite file text)) refl h.sessions (edited-directories s file (rewritten text) (rewritten-kind text))
-apply-sessions s (Ln dir name target) h ok = sessions-stay s (apply s (Ln dir name target)) refl h.sessions (added-directories s dir name (Symlink target))
+apply-sessions s (Mkdir dir name) h ok = sessions-stay s (apply s (Mkdir dir name)) refl refl h.sessions (added-directories s dir name Dir)
+apply-sessions s (NewFile dir name text) h ok = sessions-stay s (apply s (NewFile dir name text)) refl refl h.sessions (added-directories s dir name (File text true None))
+apply-sessions s (Rewrite file text) h ok = sessions-stay s (apply s (Rewrite file text)) refl refl h.sessions (edited-directories s file (rewritten text) (rewritten-kind text))
+apply-sessions s (Ln dir name target) h ok = sessions-stay s (apply s (Ln dir name target)) refl refl h.sessions (added-directories s dir name (Symlink target))
 apply-sessions s (Smkdir dir name query told) h ok =
-    sessions-stay s (apply s (Smkdir dir name query told)) refl h.sessions (λ d there. added-directories (with_told query told s) dir name (Semantic query [] []) d (directory-told s query told d ∙ there))
+    sessions-stay s (apply s (Smkdir dir name query told)) refl refl h.sessions (λ d there. added-directories (with_told query told s) dir name (Semantic query [] []) d (directory-told s query told d ∙ there))
 apply-sessions s (Setq dir query told) h ok =
-    sessions-stay s (apply s (Setq dir query told)) refl h.sessions (λ d there. edited-directories (with_told query told s) dir (asking query) (asking-kind query) d (directory-told s query told d ∙ there))
-apply-sessions s (Unq dir) h ok = sessions-stay s (apply s (Unq dir)) refl h.sessions (edited-directories s dir plain_body plain-kind)
-apply-sessions s (Mark mark) h ok = sessions-stay s (apply s (Mark mark)) refl h.sessions (edited-directories s mark.dir (marked mark.item mark.kind) (marked-kind mark.item mark.kind))
+    sessions-stay s (apply s (Setq dir query told)) refl refl h.sessions (λ d there. edited-directories (with_told query told s) dir (asking query) (asking-kind query) d (directory-told s query told d ∙ there))
+apply-sessions s (Unq dir) h ok = sessions-stay s (apply s (Unq dir)) refl refl h.sessions (edited-directories s dir plain_body plain-kind)
+apply-sessions s (Mark mark) h ok = sessions-stay s (apply s (Mark mark)) refl refl h.sessions (edited-directories s mark.dir (marked mark.item mark.kind) (marked-kind mark.item mark.kind))
 apply-sessions s (Mv entry dir name) h ok =
-    sessions-stay s (apply s (Mv entry dir name)) refl h.sessions (λ d there. directory-changed entry (reseated dir name) s.entries d (λ e. refl) (λ e. refl) ∙ there)
+    sessions-stay s (apply s (Mv entry dir name)) refl refl h.sessions (λ d there. directory-changed entry (reseated dir name) s.entries d (λ e. refl) (λ e. refl) ∙ there)
 apply-sessions s (Rm file) h ok =
     let possible = (accepted-parts (is_possible s (Rm file)) (passed_limit (apply s (Rm file))) ok).0 in
-    sessions-stay s (apply s (Rm file)) refl h.sessions (λ d there.
+    sessions-stay s (apply s (Rm file)) refl refl h.sessions (λ d there.
     directory-mapped (forgetting file) (filter (is_kept file) s.entries) d (forgetting-measures file).kind
     ∙ directory-kept file s.entries d (leaf-no_directory s file d h.layout possible there) ∙ there)
 apply-sessions s (Rmdir dir) h ok =
     let possible = (accepted-parts (is_possible s (Rmdir dir)) (passed_limit (apply s (Rmdir dir))) ok).0 in
-    sessions-there s (apply s (Rmdir dir)) refl h.sessions (not-there s dir s.sessions (rmdir-parts s dir possible).3 h.sessions.there)
+    sessions-there s (apply s (Rmdir dir)) refl refl h.sessions (not-there s dir s.sessions (rmdir-parts s dir possible).3 h.sessions.there)
 apply-sessions s Step h ok =
     elim (next_dirty s.entries) as (λ o. AreSessions (option_map_or (λ file. changed_at s file (edited indexed)) o s)) [
       | None ↦ h.sessions
-      | Some file ↦ sessions-stay s (changed_at s file (edited indexed)) refl h.sessions (edited-directories s file indexed indexed-kind)
+      | Some file ↦ sessions-stay s (changed_at s file (edited indexed)) refl refl h.sessions (edited-directories s file indexed indexed-kind)
     ]
 apply-sessions s (Cd session dir) h ok =
     let parts = cd-parts s session dir (accepted-parts (is_possible s (Cd session dir)) (passed_limit (apply s (Cd session dir))) ok).0 in

@@ -1,13 +1,13 @@
--- Which names, numbers and lists have a spelling: numbers of a tree have four bytes, so numbers that rise are no more than
+-- Which names, numbers and lists have a spelling: numbers of a tree have their bytes, those that rise are no more than
 -- four bytes can count, and no more terms are in use than that.
-use Rattle.std.proofs.Common.{◌≡◌, ℕ, suc, ◌+◌, ◌*◌, ◌-◌, ◌<◌, ◌≤◌, Bool, true, false, List, [], ◌∷◌, length, refl, ap, sym, ◌∙◌, subst, arith}
+use Rattle.std.proofs.Common.{[], ap, arith, Bool, false, inr, length, List, refl, subst, suc, sym, true, ℕ, ◌*◌, ◌+◌, ◌<◌, ◌∙◌, ◌∷◌, ◌≡◌, ◌≤◌}
 use Rattle.std.specs.Prelude.{codes, drop, filter, not, take, ◌&&◌, ◌==◌, if◌then◌else◌, nat_lt, nat_le, Option, Some, None}
 use Rattle.std.specs.List.{AllByRecursion, list_all}
 use Rattle.std.specs.Str.{bytes_eq}
-use Rattle.std.proofs.lemmas.Bool.{and_from, and_parts, eqb-true, leb-true}
+use Rattle.std.proofs.lemmas.Bool.{and_from, and_parts, eqb-true, leb-true, ltb-false}
 use Rattle.std.proofs.lemmas.Bool.Decides.{nat_tests}
 use Rattle.std.proofs.lemmas.List.{length-append, take-append-drop}
-use Rattle.hac_model.specs.Payload.Fields.{checked, items_fit, num}
+use Rattle.hac_model.specs.Payload.Fields.{checked, count, items_fit, num}
 use Rattle.hac_model.specs.Payload.Payloads.{docs_field, name_field, nums, rises, space_field, told_field}
 use Rattle.hac_model.specs.Query.Formula.{Formula}
 use Rattle.hac_model.specs.Query.Formula as query
@@ -20,12 +20,12 @@ use Rattle.hac_model.specs.Tree.Asking.{are_all_told, asked_by, unanswered}
 use Rattle.hac_model.specs.Tree.Limits.{mount_count, semantic_count}
 use Rattle.hac_model.specs.Tree.Links.{answers_at, parent_of}
 use Rattle.hac_model.specs.Tree.Listing.{is_before}
-use Rattle.hac_model.specs.Tree.Mounting.{are_documents, are_told, do_names_rise, do_rise_from, is_document_of, is_told}
+use Rattle.hac_model.specs.Tree.Mounting.{are_documents, are_documents_few, are_told, do_names_rise, do_rise_from, is_document_of, is_told}
 use Rattle.hac_model.specs.Tree.Mounts.{in_order, is_kept, put_term, terms_in, terms_in_use, terms_to_ask}
 use Rattle.hac_model.specs.Tree.Names.{is_name, is_name_byte}
 use Rattle.hac_model.specs.Tree.{is_document, is_document_at, is_mount}
 use Rattle.hac_model.specs.Tree.Valid.{AsksWell, IsLayout, IsValid, RiseFrom}
-use Rattle.hac_model.specs.declared.limits.TheConstants.{DOCS_LIMIT, MOUNTS_LIMIT, NAME_LIMIT, NESTING_LIMIT, QUERY_LIMIT, SEMANTICS_LIMIT, TERMS_LIMIT}
+use Rattle.hac_model.specs.declared.limits.TheConstants.{MOUNTS_LIMIT, NAME_LIMIT, NESTING_LIMIT, QUERY_LIMIT, SEMANTICS_LIMIT, TERMS_LIMIT}
 use Rattle.hac_model.specs.declared.states.Body.{Body}
 use Rattle.hac_model.specs.declared.states.Body.TheVariants.{File, Dir, Symlink, Semantic, Mount, Document}
 use Rattle.hac_model.specs.declared.states.Entry.{Entry}
@@ -33,9 +33,14 @@ use Rattle.hac_model.specs.declared.states.State.{State}
 use Rattle.hac_model.specs.declared.terms.Term.{Term}
 use Rattle.hac_model.proofs.ChangeLemmas.{all-joined, all-weaker}
 use Rattle.hac_model.proofs.CountLemmas.{is_queried, measured-cons, one_if}
-use Rattle.hac_model.proofs.LimitLemmas.{IsWithinLimits, limits-within}
+use Rattle.hac_model.proofs.LimitLemmas.{IsWithinLimits, limits-within, most-mounts}
 use Rattle.hac_model.proofs.MountKeptLemmas.{rise-told}
-use Rattle.hac_model.proofs.MountLayoutLemmas.{all-tested, documents-parts, tested-below}
+use Rattle.hac_model.proofs.MountLayoutLemmas.{all-tested, documents-parts}
+use Rattle.hac_model.proofs.VersionLemmas.{count-fits, docs-fits, num-fits}
+use Rattle.hac_model.specs.Versions.{docs_limit, numbers_limit}
+use Rattle.hac_model.specs.declared.versions.Version.{Version}
+use Rattle.hac_model.proofs.LiveLemmas.{live-below, live-few, tested-entry}
+use Rattle.hac_model.proofs.TreeLemmas.{Lives}
 
 -- Names.
 
@@ -64,64 +69,55 @@ names-fit last (name ∷ names) before named rise =
     (names-fit (Some name) names (all-tested (is_before name) names parts.0) named.1 parts.1)
 
 -- names of documents
-pub docs-fit : (names : List (List ℕ)) → are_documents names ≡ true → docs_field.fits names ≡ true
-docs-fit names are =
+pub docs-fit : (version : Version) (names : List (List ℕ)) → are_documents names ≡ true → are_documents_few version names ≡ true → (docs_field version).fits names ≡ true
+docs-fit version names are few =
     let parts = documents-parts names are in
-    let most : length names ≤ DOCS_LIMIT = leb-true (length names) DOCS_LIMIT parts.2 in
-    and_from (num.fits (length names) && nat_le (length names) 10000) _
-    (and_from (num.fits (length names)) (nat_le (length names) 10000) (counted (length names) most) parts.2)
+    let most : length names ≤ docs_limit version = leb-true (length names) (docs_limit version) few in
+    and_from (count.fits (length names) && nat_le (length names) (docs_limit version)) _
+    (and_from (count.fits (length names)) (nat_le (length names) (docs_limit version)) (docs-fits version (length names) most) few)
     (names-fit None names (first names) parts.0 parts.1)
   where
-    counted : (k : ℕ) → k ≤ DOCS_LIMIT → num.fits k ≡ true
-    counted k most = grind (arith, nat_tests, most)
-
     first : (names : List (List ℕ)) → AllByRecursion (λ name. rises is_before None name ≡ true) names
     first [] = tt
     first (name ∷ names) = (refl, first names)
 
 -- Numbers.
 
--- numbers that rise and are below a number are no more than it
-marks-few : (bound : ℕ) (ns : List ℕ) (next : ℕ) → RiseFrom bound ns → AllByRecursion (λ n. n < next) ns → length ns ≤ next - bound
-marks-few bound [] next rise below = omega arith
-marks-few bound (n ∷ ns) next rise below = omega (arith, rise.0, below.0, marks-few (n + 1) ns next rise.1 below.1)
-
 module _ (s : State) (h : IsLayout s) where
-  next-few : s.next < 4294967296
-  next-few =
-      let within : IsWithinLimits s = limits-within s h.limits in
-      grind (arith, nat_tests, within.numbers)
+  next-few : s.next ≤ numbers_limit s.version
+  next-few = ltb-false (numbers_limit s.version) s.next (limits-within s h.limits).numbers
 
-  pub small-fits : (n : ℕ) → n ≤ s.next → num.fits n ≡ true
-  small-fits n below = let small : n < 4294967296 = omega (arith, below, next-few) in grind (arith, nat_tests, small)
+  pub small-fits : (n : ℕ) → n ≤ s.next → (num s.version).fits n ≡ true
+  small-fits n below = num-fits s.version n (omega (arith, below, next-few))
 
   -- numbers fit behind one that is below them all
   rising-fit : (bound : ℕ) (last : Option ℕ) (ns : List ℕ) → ((n : ℕ) → bound ≤ n → rises nat_lt last n ≡ true) → RiseFrom bound ns → AllByRecursion (λ n. n < s.next) ns
-      → items_fit (λ last. checked num (rises nat_lt last)) last ns ≡ true
+      → items_fit (λ last. checked (num s.version) (rises nat_lt last)) last ns ≡ true
   rising-fit bound last [] before rise below = refl
   rising-fit bound last (n ∷ ns) before rise below =
-      and_from (num.fits n && rises nat_lt last n) _
-      (and_from (num.fits n) (rises nat_lt last n) (small-fits n (omega (arith, below.0))) (before n rise.0))
+      and_from ((num s.version).fits n && rises nat_lt last n) _
+      (and_from ((num s.version).fits n) (rises nat_lt last n) (small-fits n (omega (arith, below.0))) (before n rise.0))
       (rising-fit (n + 1) (Some n) ns (λ m le. grind (arith, nat_tests, le)) rise.1 below.1)
 
-  pub nums-fit : (ns : List ℕ) → RiseFrom 0 ns → AllByRecursion (λ n. n < s.next) ns → nums.fits ns ≡ true
-  nums-fit ns rise below =
-      let few = marks-few 0 ns s.next rise below in
-      and_from (num.fits (length ns)) _ (small-fits (length ns) (omega (arith, few))) (rising-fit 0 None ns (λ n le. refl) rise below)
+  pub nums-fit : (ns : List ℕ) → RiseFrom 0 ns → AllByRecursion (Lives s.entries) ns → (nums s.version).fits ns ≡ true
+  nums-fit ns rise live =
+      let few = live-few s ns h rise live in
+      let below = all-weaker (Lives s.entries) (λ n. n < s.next) ns (λ n. live-below s.entries n s.next h.numbers) live in
+      and_from (count.fits (length ns)) _ (count-fits (length ns) (omega (arith, few))) (rising-fit 0 None ns (λ n le. refl) rise below)
 
   -- documents of a mount
-  pub documents-below : (mount : ℕ) (ns : List ℕ) → AllByRecursion (λ n. is_document_of s mount n ≡ true) ns → AllByRecursion (λ n. n < s.next) ns
-  documents-below mount ns are =
-      all-weaker (λ n. is_document_of s mount n ≡ true) (λ n. n < s.next) ns
-      (λ n is. tested-below s is_document n h.numbers (and_parts (is_document_at s.entries n) (parent_of s n == mount) is).0) are
+  pub documents-live : (mount : ℕ) (ns : List ℕ) → AllByRecursion (λ n. is_document_of s mount n ≡ true) ns → AllByRecursion (Lives s.entries) ns
+  documents-live mount ns are =
+      all-weaker (λ n. is_document_of s mount n ≡ true) (Lives s.entries) ns
+      (λ n is. inr (tested-entry s.entries is_document n (and_parts (is_document_at s.entries n) (parent_of s n == mount) is).0)) are
 
   -- what was told of each term
-  lists-fit : (mount : ℕ) (last : Option (List ℕ)) (told : List (List ℕ)) → list_all (is_told s mount) told ≡ true → items_fit (λ last. nums) last told ≡ true
+  lists-fit : (mount : ℕ) (last : Option (List ℕ)) (told : List (List ℕ)) → list_all (is_told s mount) told ≡ true → items_fit (λ last. nums s.version) last told ≡ true
   lists-fit mount last [] are = refl
   lists-fit mount last (ns ∷ told) are =
       let parts = and_parts (is_told s mount ns) (list_all (is_told s mount) told) are in
       let own = and_parts (do_rise_from 0 ns) (list_all (is_document_of s mount) ns) parts.0 in
-      and_from (nums.fits ns) _ (nums-fit ns (rise-told 0 ns own.0) (documents-below mount ns (all-tested (is_document_of s mount) ns own.1))) (lists-fit mount (Some ns) told parts.1)
+      and_from ((nums s.version).fits ns) _ (nums-fit ns (rise-told 0 ns own.0) (documents-live mount ns (all-tested (is_document_of s mount) ns own.1))) (lists-fit mount (Some ns) told parts.1)
 
 -- Terms.
 
@@ -174,7 +170,7 @@ in_use-few s (e ∷ es) asks =
     each Document asks = omega arith
 
 -- so what is told of the terms in use has a spelling, where it is told by documents of a tree
-pub told-fit : (s t : State) (mount : ℕ) (told : List (List ℕ)) → IsValid s → IsLayout t → are_told t mount (terms_to_ask s.entries) told ≡ true → told_field.fits told ≡ true
+pub told-fit : (s t : State) (mount : ℕ) (told : List (List ℕ)) → IsValid s → IsLayout t → are_told t mount (terms_to_ask s.entries) told ≡ true → (told_field t.version).fits told ≡ true
 told-fit s t mount told h tree are =
     let parts = and_parts (length told == length (terms_to_ask s.entries)) (list_all (is_told t mount) told) are in
     let even : length told ≡ length (terms_to_ask s.entries) = eqb-true (length told) (length (terms_to_ask s.entries)) parts.0 in
@@ -182,10 +178,7 @@ told-fit s t mount told h tree are =
     let few : semantic_count s.entries ≤ SEMANTICS_LIMIT = grind (arith, nat_tests, within.semantics) in
     let all : length (terms_in_use s.entries) ≤ 64 * semantic_count s.entries = in_use-few s s.entries h.queries in
     let asked : length (terms_to_ask s.entries) ≤ length (terms_in_use s.entries) = order-few (terms_in_use s.entries) in
-    and_from (num.fits (length told)) _ (counted (length told) (omega (arith, even, few, all, asked))) (lists-fit t tree mount None told parts.1)
-  where
-    counted : (k : ℕ) → k ≤ 64000 → num.fits k ≡ true
-    counted k most = grind (arith, nat_tests, most)
+    and_from (count.fits (length told)) _ (count-fits (length told) (omega (arith, even, few, all, asked))) (lists-fit t tree mount None told parts.1)
 
 -- What mounts are told for a query.
 
@@ -217,33 +210,30 @@ module _ (s : State) (query : Formula ℕ) (h : IsLayout s) (may : may_ask s que
       let rest = told-few es (drop k told) parts.1 in
       omega (arith, even, both, rest, asked-few e, measured-cons (one_if is_mount) e es)
 
-  each-fits : (es : List Entry) (told : List (List ℕ)) → are_all_told s query told es ≡ true → AllByRecursion (λ ns. nums.fits ns ≡ true) told
+  each-fits : (es : List Entry) (told : List (List ℕ)) → are_all_told s query told es ≡ true → AllByRecursion (λ ns. (nums s.version).fits ns ≡ true) told
   each-fits [] [] all = tt
   each-fits [] (ns ∷ told) all = let never : length (ns ∷ told) ≡ 0 = eqb-true (length (ns ∷ told)) 0 all in absurd (omega (arith, never))
   each-fits (e ∷ es) told all =
       let k = length (asked_by (answers_at s) query e) in
       let parts = and_parts (are_told s e.number (asked_by (answers_at s) query e) (take k told)) (are_all_told s query (drop k told) es) all in
       let own = and_parts (length (take k told) == k) (list_all (is_told s e.number) (take k told)) parts.0 in
-      subst (AllByRecursion (λ ns. nums.fits ns ≡ true)) (take-append-drop k told)
-      (all-joined (λ ns. nums.fits ns ≡ true) (take k told) (drop k told) (own-fit e.number (take k told) own.1) (each-fits es (drop k told) parts.1))
+      subst (AllByRecursion (λ ns. (nums s.version).fits ns ≡ true)) (take-append-drop k told)
+      (all-joined (λ ns. (nums s.version).fits ns ≡ true) (take k told) (drop k told) (own-fit e.number (take k told) own.1) (each-fits es (drop k told) parts.1))
     where
-      own-fit : (mount : ℕ) (told : List (List ℕ)) → list_all (is_told s mount) told ≡ true → AllByRecursion (λ ns. nums.fits ns ≡ true) told
+      own-fit : (mount : ℕ) (told : List (List ℕ)) → list_all (is_told s mount) told ≡ true → AllByRecursion (λ ns. (nums s.version).fits ns ≡ true) told
       own-fit mount [] are = tt
       own-fit mount (ns ∷ told) are =
           let parts = and_parts (is_told s mount ns) (list_all (is_told s mount) told) are in
-          ((and_parts (nums.fits ns) (items_fit (λ last. nums) (Some ns) told) (lists-fit s h mount None (ns ∷ told) are)).0, own-fit mount told parts.1)
+          ((and_parts ((nums s.version).fits ns) (items_fit (λ last. nums s.version) (Some ns) told) (lists-fit s h mount None (ns ∷ told) are)).0, own-fit mount told parts.1)
 
-lists-all : (last : Option (List ℕ)) (told : List (List ℕ)) → AllByRecursion (λ ns. nums.fits ns ≡ true) told → items_fit (λ last. nums) last told ≡ true
-lists-all last [] fits = refl
-lists-all last (ns ∷ told) fits = and_from (nums.fits ns) _ fits.0 (lists-all (Some ns) told fits.1)
+lists-all : (version : Version) (last : Option (List ℕ)) (told : List (List ℕ)) → AllByRecursion (λ ns. (nums version).fits ns ≡ true) told → items_fit (λ last. nums version) last told ≡ true
+lists-all version last [] fits = refl
+lists-all version last (ns ∷ told) fits = and_from ((nums version).fits ns) _ fits.0 (lists-all version (Some ns) told fits.1)
 
 -- so what mounts are told for a query has a spelling
-pub all-told-fit : (s : State) (query : Formula ℕ) (told : List (List ℕ)) → IsValid s → may_ask s query ≡ true → are_all_told s query told s.entries ≡ true → told_field.fits told ≡ true
+pub all-told-fit : (s : State) (query : Formula ℕ) (told : List (List ℕ)) → IsValid s → may_ask s query ≡ true → are_all_told s query told s.entries ≡ true → (told_field s.version).fits told ≡ true
 all-told-fit s query told h may all =
     let within : IsWithinLimits s = limits-within s h.layout.limits in
-    let few : mount_count s.entries ≤ MOUNTS_LIMIT = grind (arith, nat_tests, within.mounts) in
+    let few : mount_count s.entries ≤ MOUNTS_LIMIT = grind (arith, nat_tests, most-mounts s within) in
     let told-all : length told ≤ 64 * mount_count s.entries = told-few s query h.layout may s.entries told all in
-    and_from (num.fits (length told)) _ (counted (length told) (omega (arith, few, told-all))) (lists-all None told (each-fits s query h.layout may s.entries told all))
-  where
-    counted : (k : ℕ) → k ≤ 64000 → num.fits k ≡ true
-    counted k most = grind (arith, nat_tests, most)
+    and_from (count.fits (length told)) _ (count-fits (length told) (omega (arith, few, told-all))) (lists-all s.version None told (each-fits s query h.layout may s.entries told all))

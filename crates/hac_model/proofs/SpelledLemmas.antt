@@ -1,4 +1,4 @@
--- Each event that can happen to a valid state, and is stored, has a spelling: its numbers have four bytes, its names, texts and
+-- Each event that can happen to a valid state, and is stored, has a spelling: its numbers have their bytes, its names, texts and
 -- queries are no longer than such may be, and what it tells of a space's documents is no more than four bytes can count.
 use Rattle.std.proofs.Common.{inl, inr, ◌≡◌, ℕ, zero, suc, ◌<◌, Bool, true, false, List, [], ◌∷◌, ◌++◌, length, refl, ap, sym, ◌∙◌, arith}
 use Rattle.std.specs.Prelude.{not, option_and_then, ◌&&◌, ◌||◌, if◌then◌else◌, nat_le, Option, Some, None, IsTrue, is_some, is_none}
@@ -19,7 +19,7 @@ use Rattle.hac_model.specs.Tree.Mounts.{terms_to_ask}
 use Rattle.hac_model.specs.Payload.Payloads.{docs_field, is_spellable, mark_field, name_field, space_field, target_field, text_field, told_field}
 use Rattle.hac_model.specs.Query.Queries.{is_query}
 use Rattle.hac_model.specs.Payload.QueryFields.{are_nums, query_field}
-use Rattle.hac_model.specs.Tree.Sessions.{is_busy, is_stored, stored}
+use Rattle.hac_model.specs.Tree.Sessions.{is_busy, is_stored, sessionless}
 use Rattle.hac_model.specs.Tree.{body_at, entry_at, is_directory, is_directory_at, is_file, is_file_at, is_leaf, path_of, query_in, is_linkable, is_mount}
 use Rattle.hac_model.specs.Tree.Valid.{AsksWell, IsLayout, IsValid, KeepsWell}
 use Rattle.hac_model.specs.declared.events.Event.{Event}
@@ -39,39 +39,40 @@ use Rattle.hac_model.proofs.SpellableLemmas.{docs-fit, name-fits, small-fits, sp
 use Rattle.hac_model.proofs.TreeLemmas.{Lives, directory-lives, entry_at-below}
 use Rattle.hac_model.proofs.ValidLemmas.{accepted-parts, free-parts, mark-parts, move-parts, rmdir-parts, setq-parts, smkdir-parts}
 use Rattle.hac_model.proofs.KeepingLemmas.{keeps-stays}
+use Rattle.hac_model.proofs.VersionLemmas.{none-few, root-fits}
 
 module _ (s : State) (h : IsValid s) where
-  -- the numbers of a valid state have four bytes
-  pub number-fits : (n : ℕ) → Lives s.entries n → num.fits n ≡ true
-  number-fits n (inl root) = ap (λ (m : ℕ). num.fits m) root
+  -- the numbers of a valid state have their bytes
+  pub number-fits : (n : ℕ) → Lives s.entries n → (num s.version).fits n ≡ true
+  number-fits n (inl root) = ap (λ (m : ℕ). (num s.version).fits m) root ∙ root-fits s.version
   number-fits n (inr found) =
       let below : n < s.next = entry_at-below 0 s.entries s.next n found.0 h.layout.numbers found.1 in
       small-fits s h.layout n (omega (arith, below))
 
-  directory-fits : (d : ℕ) → is_directory_at s.entries d ≡ true → num.fits d ≡ true
+  directory-fits : (d : ℕ) → is_directory_at s.entries d ≡ true → (num s.version).fits d ≡ true
   directory-fits d is = number-fits d (directory-lives s.entries d is)
 
   -- a number at which a test of its entry passes
-  tested-fits : (n : ℕ) (p : Body → Bool) → option_map_or p (body_at s.entries n) false ≡ true → num.fits n ≡ true
+  tested-fits : (n : ℕ) (p : Body → Bool) → option_map_or p (body_at s.entries n) false ≡ true → (num s.version).fits n ≡ true
   tested-fits n p passes =
-      elim (entry_at s.entries n) as (λ o. entry_at s.entries n ≡ o → option_map_or p (option_map (λ (e : Entry). e.body) o) false ≡ true → num.fits n ≡ true) [
+      elim (entry_at s.entries n) as (λ o. entry_at s.entries n ≡ o → option_map_or p (option_map (λ (e : Entry). e.body) o) false ≡ true → (num s.version).fits n ≡ true) [
         | None ↦ (λ found passes. absurd cc)
         | Some e ↦ (λ found passes. number-fits n (inr (e, found)))
       ] refl passes
 
   -- a query that may be asked
-  pub query-fits : (q : Formula ℕ) → may_ask s q ≡ true → query_field.fits q ≡ true
+  pub query-fits : (q : Formula ℕ) → may_ask s q ≡ true → (query_field s.version).fits q ≡ true
   query-fits q may =
       let asks = and_parts (is_query q) (are_directories s (named_in q)) may in
-      and_from (is_query q) (are_nums q) asks.0 (nums-fit q asks.1)
+      and_from (is_query q) (are_nums s.version q) asks.0 (nums-fit q asks.1)
     where
-      both-fit : (left right : Formula ℕ) → (are_directories s (named_in left) ≡ true → are_nums left ≡ true) → (are_directories s (named_in right) ≡ true → are_nums right ≡ true)
-          → are_directories s (named_in left ++ named_in right) ≡ true → (are_nums left && are_nums right) ≡ true
+      both-fit : (left right : Formula ℕ) → (are_directories s (named_in left) ≡ true → are_nums s.version left ≡ true) → (are_directories s (named_in right) ≡ true → are_nums s.version right ≡ true)
+          → are_directories s (named_in left ++ named_in right) ≡ true → (are_nums s.version left && are_nums s.version right) ≡ true
       both-fit left right one other named =
           let dirs = and_parts (are_directories s (named_in left)) (are_directories s (named_in right)) (sym (list_all-append (λ d. is_directory_at s.entries d) (named_in left) (named_in right)) ∙ named) in
-          and_from (are_nums left) (are_nums right) (one dirs.0) (other dirs.1)
+          and_from (are_nums s.version left) (are_nums s.version right) (one dirs.0) (other dirs.1)
 
-      nums-fit : (q : Formula ℕ) → are_directories s (named_in q) ≡ true → are_nums q ≡ true
+      nums-fit : (q : Formula ℕ) → are_directories s (named_in q) ≡ true → are_nums s.version q ≡ true
       nums-fit (formula.Term term) named = refl
       nums-fit (formula.Dir dir) named = directory-fits dir (and_parts (is_directory_at s.entries dir) true named).0
       nums-fit (formula.Not q) named = nums-fit q named
@@ -82,7 +83,7 @@ module _ (s : State) (h : IsValid s) where
   text-fits text is = and_from (nat_le (length text) TEXT_LIMIT) true is refl
 
   -- a place that is free
-  place-fits : (dir : ℕ) (name : List ℕ) → is_free s dir name ≡ true → (num.fits dir ≡ true) × (name_field.fits name ≡ true)
+  place-fits : (dir : ℕ) (name : List ℕ) → is_free s dir name ≡ true → ((num s.version).fits dir ≡ true) × (name_field.fits name ≡ true)
   place-fits dir name free = let parts = free-parts s dir name free in (directory-fits dir parts.0, name-fits name parts.1)
 
   mark-fits : (dir item : ℕ) (kind : Kind) → may_mark s dir item kind ≡ true → mark_field.fits kind ≡ true
@@ -91,16 +92,16 @@ module _ (s : State) (h : IsValid s) where
   mark-fits dir item Prohibited may = refl
   mark-fits dir item Unlinked may = refl
 
-  there-fits : (n : ℕ) → is_some (entry_at s.entries n) ≡ true → num.fits n ≡ true
+  there-fits : (n : ℕ) → is_some (entry_at s.entries n) ≡ true → (num s.version).fits n ≡ true
   there-fits n there =
-      elim (entry_at s.entries n) as (λ o. entry_at s.entries n ≡ o → is_some o ≡ true → num.fits n ≡ true) [
+      elim (entry_at s.entries n) as (λ o. entry_at s.entries n ≡ o → is_some o ≡ true → (num s.version).fits n ≡ true) [
         | None ↦ (λ found there. absurd cc)
         | Some e ↦ (λ found there. number-fits n (inr (e, found)))
       ] refl there
 
-  semantic-fits : (n : ℕ) → is_semantic s n ≡ true → num.fits n ≡ true
+  semantic-fits : (n : ℕ) → is_semantic s n ≡ true → (num s.version).fits n ≡ true
   semantic-fits n is =
-      elim (entry_at s.entries n) as (λ o. entry_at s.entries n ≡ o → is_some (query_of o) ≡ true → num.fits n ≡ true) [
+      elim (entry_at s.entries n) as (λ o. entry_at s.entries n ≡ o → is_some (query_of o) ≡ true → (num s.version).fits n ≡ true) [
         | None ↦ (λ found is. absurd cc)
         | Some e ↦ (λ found is. number-fits n (inr (e, found)))
       ] refl is
@@ -109,47 +110,47 @@ module _ (s : State) (h : IsValid s) where
       query_of o = option_and_then query_in (option_map (λ (e : Entry). e.body) o)
 
   -- what can have a mark has a number that fits
-  added-fits : (n : ℕ) → can_be_added s n ≡ true → num.fits n ≡ true
+  added-fits : (n : ℕ) → can_be_added s n ≡ true → (num s.version).fits n ≡ true
   added-fits n can = elim (or-cases (is_item s n) (is_directory_at s.entries n) can) [
     | inl item ↦ tested-fits n is_linkable item
     | inr dir ↦ number-fits n (directory-lives s.entries n dir)
   ]
 
-  marked-fits : (n : ℕ) (kind : Kind) → can_have_mark s n kind ≡ true → num.fits n ≡ true
+  marked-fits : (n : ℕ) (kind : Kind) → can_have_mark s n kind ≡ true → (num s.version).fits n ≡ true
   marked-fits n Prohibited can = tested-fits n is_linkable can
   marked-fits n Permanent can = added-fits n can
   marked-fits n Transient can = added-fits n can
   marked-fits n Unlinked can = added-fits n can
 
-  possible-spelled : (e : Event) → is_stored e ≡ true → is_possible s e ≡ true → passed_limit (apply s e) ≡ None → is_spellable e ≡ true
+  possible-spelled : (e : Event) → is_stored e ≡ true → is_possible s e ≡ true → passed_limit (apply s e) ≡ None → is_spellable s.version e ≡ true
   unfolding is_spellable
-  possible-spelled (Mkdir dir name) kept is limits = let place = place-fits dir name is in and_from (num.fits dir) (name_field.fits name) place.0 place.1
+  possible-spelled (Mkdir dir name) kept is limits = let place = place-fits dir name is in and_from ((num s.version).fits dir) (name_field.fits name) place.0 place.1
   possible-spelled (NewFile dir name text) kept is limits =
       let parts = and_parts (is_free s dir name) (is_text text) is in
       let place = place-fits dir name parts.0 in
-      and_from (num.fits dir) _ place.0 (and_from (name_field.fits name) (text_field.fits text) place.1 (text-fits text parts.1))
+      and_from ((num s.version).fits dir) _ place.0 (and_from (name_field.fits name) (text_field.fits text) place.1 (text-fits text parts.1))
   possible-spelled (Ln dir name target) kept is limits =
       let parts = and_parts (is_free s dir name) (is_target target) is in
       let place = place-fits dir name parts.0 in
-      and_from (num.fits dir) _ place.0 (and_from (name_field.fits name) (target_field.fits target) place.1 parts.1)
+      and_from ((num s.version).fits dir) _ place.0 (and_from (name_field.fits name) (target_field.fits target) place.1 parts.1)
   possible-spelled (Rewrite file text) kept is limits =
       let parts = and_parts (is_file_at s.entries file) (is_text text) is in
-      and_from (num.fits file) (text_field.fits text) (tested-fits file is_file parts.0) (text-fits text parts.1)
+      and_from ((num s.version).fits file) (text_field.fits text) (tested-fits file is_file parts.0) (text-fits text parts.1)
   possible-spelled (Smkdir dir name query told) kept is limits =
       let parts = smkdir-parts s dir name query told is in
       let place = place-fits dir name parts.0 in
-      and_from (num.fits dir) _ place.0 (and_from (name_field.fits name) _ place.1 (and_from (query_field.fits query) (told_field.fits told) (query-fits query parts.1) (all-told-fit s query told h parts.1 parts.2)))
+      and_from ((num s.version).fits dir) _ place.0 (and_from (name_field.fits name) _ place.1 (and_from ((query_field s.version).fits query) ((told_field s.version).fits told) (query-fits query parts.1) (all-told-fit s query told h parts.1 parts.2)))
   possible-spelled (Setq dir query told) kept is limits =
       let parts = setq-parts s dir query told is in
-      and_from (num.fits dir) _ (tested-fits dir is_directory parts.0) (and_from (query_field.fits query) (told_field.fits told) (query-fits query parts.1) (all-told-fit s query told h parts.1 parts.3))
+      and_from ((num s.version).fits dir) _ (tested-fits dir is_directory parts.0) (and_from ((query_field s.version).fits query) ((told_field s.version).fits told) (query-fits query parts.1) (all-told-fit s query told h parts.1 parts.3))
   possible-spelled (Unq dir) kept is limits = semantic-fits dir is
   possible-spelled (Mark set) kept is limits =
       let parts = mark-parts s set.dir set.item set.kind is in
-      and_from (num.fits set.dir) _ (semantic-fits set.dir parts.1) (and_from (num.fits set.item) (mark_field.fits set.kind) (marked-fits set.item set.kind parts.0) (mark-fits set.dir set.item set.kind parts.2))
+      and_from ((num s.version).fits set.dir) _ (semantic-fits set.dir parts.1) (and_from ((num s.version).fits set.item) (mark_field.fits set.kind) (marked-fits set.item set.kind parts.0) (mark-fits set.dir set.item set.kind parts.2))
   possible-spelled (Mv entry dir name) kept is limits =
       let parts = move-parts s entry dir name is in
       let place = place-fits dir name parts.1 in
-      and_from (num.fits entry) _ (there-fits entry parts.0) (and_from (num.fits dir) (name_field.fits name) place.0 place.1)
+      and_from ((num s.version).fits entry) _ (there-fits entry parts.0) (and_from ((num s.version).fits dir) (name_field.fits name) place.0 place.1)
   possible-spelled (Rm entry) kept is limits = tested-fits entry is_leaf is
   possible-spelled (Rmdir dir) kept is limits = tested-fits dir is_directory (rmdir-parts s dir is).0
   possible-spelled Step kept is limits = refl
@@ -158,19 +159,19 @@ module _ (s : State) (h : IsValid s) where
       let place = place-fits dir name parts.0 in
       let t : State = apply s (Smount dir name space docs told) in
       let tree : IsLayout t = mounted-layout s dir name space (answers_to (terms_to_ask s.entries) told) docs h.layout parts.0 parts.1 parts.2 limits in
-      and_from (num.fits dir) _ place.0
+      and_from ((num s.version).fits dir) _ place.0
       (and_from (name_field.fits name) _ place.1
-      (and_from (space_field.fits space) _ (space-fits space parts.1) (and_from (docs_field.fits docs) (told_field.fits told) (docs-fit docs parts.2) (told-fit s t s.next told h tree parts.3))))
+      (and_from (space_field.fits space) _ (space-fits space parts.1) (and_from ((docs_field s.version).fits docs) ((told_field s.version).fits told) (docs-fit s.version docs parts.2 parts.5) (told-fit s t s.next told h tree parts.3))))
   possible-spelled (Ssync mount docs told) kept is limits =
       let parts = ssync-parts s mount docs told is in
       let t : State = apply s (Ssync mount docs told) in
       let tree : IsLayout t = synced-layout s mount (answers_to (terms_to_ask s.entries) told) docs h.layout parts.0 parts.1 limits in
-      and_from (num.fits mount) _ (tested-fits mount is_mount parts.0)
-      (and_from (docs_field.fits docs) (told_field.fits told) (docs-fit docs parts.1) (told-fit s t mount told h tree parts.2))
+      and_from ((num s.version).fits mount) _ (tested-fits mount is_mount parts.0)
+      (and_from ((docs_field s.version).fits docs) ((told_field s.version).fits told) (docs-fit s.version docs parts.1 parts.4) (told-fit s t mount told h tree parts.2))
   possible-spelled (Sumount mount) kept is limits = tested-fits mount is_mount (sumount-parts s mount is).0
   possible-spelled (Cd session dir) kept is limits = absurd cc
 
-pub accepted-spelled : (s : State) (e : Event) → IsValid s → IsTrue (is_stored e) → IsTrue (accepted s e) → IsTrue (is_spellable e)
+pub accepted-spelled : (s : State) (e : Event) → IsValid s → IsTrue (is_stored e) → IsTrue (accepted s e) → IsTrue (is_spellable s.version e)
 accepted-spelled s e h kept is =
     let parts = accepted-parts (is_possible s e) (passed_limit (apply s e)) is in
     possible-spelled s h e kept parts.0 parts.1
@@ -178,9 +179,9 @@ accepted-spelled s e h kept is =
 -- Where sessions stand plays no part in what is stored.
 
 -- what is stored of a valid state is valid
-pub stored-valid : (s : State) → IsValid s → IsValid (stored s)
+pub sessionless-valid : (s : State) → IsValid s → IsValid (sessionless s)
 unfolding passed_limit
-stored-valid s h = record {
+sessionless-valid s h = record {
   layout = record {
     numbers = h.layout.numbers;
     names = h.layout.names;
@@ -189,45 +190,45 @@ stored-valid s h = record {
     bodies = h.layout.bodies;
     limits = h.layout.limits;
   };
-  queries = all-weaker (λ e. AsksWell s e.body) (λ e. AsksWell (stored s) e.body) s.entries (λ e asks. asks-stays s (stored s) e.body (λ d there. there) (λ n there. there) asks) h.queries;
+  queries = all-weaker (λ e. AsksWell s e.body) (λ e. AsksWell (sessionless s) e.body) s.entries (λ e asks. asks-stays s (sessionless s) e.body (λ d there. there) (λ n there. there) asks) h.queries;
   few = h.few;
-  answers = all-weaker (λ e. KeepsWell s e.number e.body) (λ e. KeepsWell (stored s) e.number e.body) s.entries (λ e keeps. keeps-stays s (stored s) e.number e.body (λ m n document. document) (λ m few. few) (λ m answers terms. terms) keeps) h.answers;
+  answers = all-weaker (λ e. KeepsWell s e.number e.body) (λ e. KeepsWell (sessionless s) e.number e.body) s.entries (λ e keeps. keeps-stays s (sessionless s) e.number e.body (λ m n document. document) (λ m few. few) (λ m answers terms. terms) keeps) h.answers;
   acyclic = h.acyclic;
-  sessions = record { names = tt; differ = tt; there = tt; elsewhere = tt; few = refl };
+  sessions = record { names = tt; differ = tt; there = tt; elsewhere = tt; few = none-few s.version };
 }
 
 module _ (s : State) where
-  reaching-stored : (dir : ℕ) (others : List ℕ) → first_reaching (stored s) dir others ≡ first_reaching s dir others
+  reaching-stored : (dir : ℕ) (others : List ℕ) → first_reaching (sessionless s) dir others ≡ first_reaching s dir others
   unfolding first_reaching reaches
   reaching-stored dir [] = refl
   reaching-stored dir (other ∷ others) = ap (λ (o : Option ℕ). if reaches s other dir then Some other else o) (reaching-stored dir others)
 
-  moving-stored : (entry dir : ℕ) (o : Option (Formula ℕ)) → option_and_then (cycle_over (stored s) entry dir) o ≡ option_and_then (cycle_over s entry dir) o
+  moving-stored : (entry dir : ℕ) (o : Option (Formula ℕ)) → option_and_then (cycle_over (sessionless s) entry dir) o ≡ option_and_then (cycle_over s entry dir) o
   moving-stored entry dir None = refl
   moving-stored entry dir (Some query) = reaching-stored entry (dir ∷ named_in query)
 
-  linking-stored : (dir item : ℕ) (kind : Kind) → cycle_of_mark (stored s) dir item kind ≡ cycle_of_mark s dir item kind
+  linking-stored : (dir item : ℕ) (kind : Kind) → cycle_of_mark (sessionless s) dir item kind ≡ cycle_of_mark s dir item kind
   linking-stored dir item Permanent = ap (λ (o : Option ℕ). if is_directory_at s.entries item then o else None) (reaching-stored dir (item ∷ []))
   linking-stored dir item Prohibited = refl
   linking-stored dir item Unlinked = refl
   linking-stored dir item Transient = refl
 
-  rounds-stored : (n : ℕ) → rounds n (stored s) ≡ rounds n s
+  rounds-stored : (n : ℕ) → rounds n (sessionless s) ≡ rounds n s
   unfolding path_of
   rounds-stored zero = refl
   rounds-stored (suc n) = ap (round s) (rounds-stored n)
 
-  links-stored : links (stored s) ≡ links s
+  links-stored : links (sessionless s) ≡ links s
   unfolding links
   links-stored = rounds-stored (semantic_count s.entries)
 
-  marking-stored : (dir item : ℕ) (kind : Kind) → may_mark (stored s) dir item kind ≡ may_mark s dir item kind
+  marking-stored : (dir item : ℕ) (kind : Kind) → may_mark (sessionless s) dir item kind ≡ may_mark s dir item kind
   marking-stored dir item Permanent = refl
   marking-stored dir item Prohibited = ap (λ (known : ℕ → DirLinks). is_permanent s dir item || has (known dir).found item) links-stored
   marking-stored dir item Unlinked = refl
   marking-stored dir item Transient = refl
 
-  placed-stored : (e : Event) → is_placed (stored s) e ≡ is_placed s e
+  placed-stored : (e : Event) → is_placed (sessionless s) e ≡ is_placed s e
   unfolding path_of
   placed-stored (Mkdir dir name) = refl
   placed-stored (NewFile dir name text) = refl
@@ -243,7 +244,7 @@ module _ (s : State) where
   placed-stored other = refl
 
   -- what is clear with sessions is clear without
-  clear-stored : (e : Event) → is_stored e ≡ true → is_clear s e ≡ true → is_clear (stored s) e ≡ true
+  clear-stored : (e : Event) → is_stored e ≡ true → is_clear s e ≡ true → is_clear (sessionless s) e ≡ true
   clear-stored (Smkdir dir name query told) kept clear = clear
   clear-stored (Setq dir query told) kept clear = ap (λ (o : Option ℕ). is_none o && are_answers_few (with_told query told s).entries) (reaching-stored dir (parent_of s dir ∷ named_in query)) ∙ clear
   clear-stored (Mark mark) kept clear = (λ i. marking-stored mark.dir mark.item mark.kind i && is_none (linking-stored mark.dir mark.item mark.kind i)) ∙ clear
@@ -255,23 +256,23 @@ module _ (s : State) where
   clear-stored (Cd session dir) kept clear = absurd cc
   clear-stored other kept clear = refl
 
-  passed-stored : (e : Event) → is_stored e ≡ true → passed_limit (apply (stored s) e) ≡ passed_limit (apply s e)
+  passed-stored : (e : Event) → is_stored e ≡ true → passed_limit (apply (sessionless s) e) ≡ passed_limit (apply s e)
   unfolding passed_limit
-  passed-stored Step kept = elim (next_dirty s.entries) as (λ o. passed_limit (option_map_or (λ file. changed_at (stored s) file (edited indexed)) o (stored s)) ≡ passed_limit (option_map_or (λ file. changed_at s file (edited indexed)) o s)) [ None ↦ refl | Some file ↦ refl ]
+  passed-stored Step kept = elim (next_dirty s.entries) as (λ o. passed_limit (option_map_or (λ file. changed_at (sessionless s) file (edited indexed)) o (sessionless s)) ≡ passed_limit (option_map_or (λ file. changed_at s file (edited indexed)) o s)) [ None ↦ refl | Some file ↦ refl ]
   passed-stored (Cd session dir) kept = absurd cc
   passed-stored other kept = refl
 
-  applied-stored : (e : Event) → is_stored e ≡ true → stored (apply s e) ≡ apply (stored s) e
-  applied-stored Step kept = elim (next_dirty s.entries) as (λ o. stored (option_map_or (λ file. changed_at s file (edited indexed)) o s) ≡ option_map_or (λ file. changed_at (stored s) file (edited indexed)) o (stored s)) [ None ↦ refl | Some file ↦ refl ]
+  applied-stored : (e : Event) → is_stored e ≡ true → sessionless (apply s e) ≡ apply (sessionless s) e
+  applied-stored Step kept = elim (next_dirty s.entries) as (λ o. sessionless (option_map_or (λ file. changed_at s file (edited indexed)) o s) ≡ option_map_or (λ file. changed_at (sessionless s) file (edited indexed)) o (sessionless s)) [ None ↦ refl | Some file ↦ refl ]
   applied-stored (Cd session dir) kept = absurd cc
   applied-stored other kept = refl
 
-pub not-stored : (s : State) (e : Event) → IsValid s → IsTrue (is_stored e) → IsTrue (accepted s e) → IsTrue (accepted (stored s) e) × (stored (apply s e) ≡ apply (stored s) e)
+pub not-stored : (s : State) (e : Event) → IsValid s → IsTrue (is_stored e) → IsTrue (accepted s e) → IsTrue (accepted (sessionless s) e) × (sessionless (apply s e) ≡ apply (sessionless s) e)
 not-stored s e h kept is =
     let parts = accepted-parts (is_possible s e) (passed_limit (apply s e)) is in
     let possible = and_parts (is_clear s e) (is_placed s e) parts.0 in (
-      and_from (is_possible (stored s) e) (is_none (passed_limit (apply (stored s) e)))
-          (and_from (is_clear (stored s) e) (is_placed (stored s) e) (clear-stored s e kept possible.0) (placed-stored s e ∙ possible.1))
+      and_from (is_possible (sessionless s) e) (is_none (passed_limit (apply (sessionless s) e)))
+          (and_from (is_clear (sessionless s) e) (is_placed (sessionless s) e) (clear-stored s e kept possible.0) (placed-stored s e ∙ possible.1))
           (ap (λ (o : Option LimitWord). is_none o) (passed-stored s e kept ∙ parts.1)),
       applied-stored s e kept,
     )

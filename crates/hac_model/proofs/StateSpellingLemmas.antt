@@ -1,7 +1,7 @@
--- What is stored of a valid state has a spelling: its numbers have four bytes, so its entries, marks and kept answers are no
+-- What is stored of a valid state has a spelling: its numbers have their bytes, its entries, marks and kept answers are no
 -- more than four bytes can count; its names, texts, queries and terms are no longer than such may be; and
 -- the names of a mount's documents rise.
-use Rattle.std.proofs.Common.{inl, inr, ◌≡◌, ℕ, suc, ◌+◌, ◌<◌, ◌≤◌, Bool, true, false, cond, List, [], ◌∷◌, length, subst, refl, ap, sym, ◌∙◌, arith}
+use Rattle.std.proofs.Common.{inl, inr, ◌≡◌, ℕ, suc, ◌<◌, ◌≤◌, Bool, true, false, cond, List, [], ◌∷◌, length, subst, refl, ap, sym, ◌∙◌, arith}
 use Rattle.std.specs.Prelude.{not, ◌&&◌, ◌==◌, if◌then◌else◌, nat_lt, nat_le, map, filter, Option, Some, None, IsTrue}
 use Rattle.std.specs.Cmp.Lexicographic.{slice_cmp, nat_list_cmp_total, nat_list_eq_equiv, texts_ties}
 use Rattle.std.specs.List.{AllByRecursion, list_all}
@@ -10,10 +10,10 @@ use Rattle.std.specs.Ordering.{nat_cmp, is_eq, is_lt, ordering_reverse}
 use Rattle.std.specs.Str.{bytes_eq}
 use Rattle.std.specs.declared.cmp.Ordering.{Ordering}
 use Rattle.std.specs.declared.cmp.Ordering.TheVariants.{Less, Equal, Greater}
-use Rattle.std.proofs.lemmas.Bool.{and_from, and_parts, eqb-true, leb-true}
+use Rattle.std.proofs.lemmas.Bool.{and_from, and_parts, eqb-true, le-leb, leb-true}
 use Rattle.std.proofs.lemmas.Bool.Decides.{nat_tests}
 use Rattle.std.proofs.lemmas.List.{length-map}
-use Rattle.hac_model.specs.Payload.Fields.{items_fit, num}
+use Rattle.hac_model.specs.Payload.Fields.{count, items_fit, num}
 use Rattle.hac_model.specs.Payload.Payloads.{name_field, nums, rises, space_field, text_field}
 use Rattle.hac_model.specs.Payload.QueryFields.{query_field}
 use Rattle.hac_model.specs.Payload.States.{answer_field, document_field, documents_field, entry_field, is_spellable_snapshot, listed_document, no_documents, shown_field, shown_part, snapshot_of, stored_entry, stored_field, term_field}
@@ -25,7 +25,7 @@ use Rattle.hac_model.specs.Tree.Listing.{children, in_order, is_before, put_in_o
 use Rattle.hac_model.specs.Tree.Names.{is_name}
 use Rattle.hac_model.specs.Tree.{answers_in, child, entry_at, is_directory_at, is_document, is_holder_at, is_linkable, is_mount, is_mount_at}
 use Rattle.hac_model.specs.Tree.Valid.{AreMarks, AsksWell, IsAnswer, IsSound, IsValid, KeepsWell, NamesDiffer, NumbersRise, TermsRise, has_few, is_in_place}
-use Rattle.hac_model.specs.declared.limits.TheConstants.{ANSWERS_LIMIT, DOCS_LIMIT, PAIRS_LIMIT, QUERY_LIMIT}
+use Rattle.hac_model.specs.declared.limits.TheConstants.{ANSWERS_LIMIT, PAIRS_LIMIT, QUERY_LIMIT}
 use Rattle.hac_model.specs.declared.snapshots.Document as listed
 use Rattle.hac_model.specs.declared.snapshots.StoredEntry.{StoredEntry}
 use Rattle.hac_model.specs.declared.states.Answer.{Answer}
@@ -37,11 +37,14 @@ use Rattle.hac_model.specs.declared.terms.Term.{Term}
 use Rattle.hac_model.specs.declared.terms.Term.TheVariants.{Word, Prefix}
 use Rattle.hac_model.proofs.ChangeLemmas.{all-filter, all-weaker, or-cases}
 use Rattle.hac_model.proofs.CountLemmas.{measured, measured-removed}
-use Rattle.hac_model.proofs.MountLayoutLemmas.{tested-below}
-use Rattle.hac_model.proofs.SpellableLemmas.{documents-below, name-fits, nums-fit, small-fits, space-fits}
+use Rattle.hac_model.proofs.SpellableLemmas.{documents-live, name-fits, nums-fit, small-fits, space-fits}
 use Rattle.hac_model.proofs.SpelledLemmas.{number-fits, query-fits, text-fits}
-use Rattle.hac_model.proofs.TreeLemmas.{all-entries, directory-lives, entry_at-all, place-directory}
-use Rattle.hac_model.proofs.ValidLemmas.{directory-below}
+use Rattle.hac_model.proofs.TreeLemmas.{all-entries, directory-lives, entry_at-all, Lives, place-directory}
+use Rattle.hac_model.proofs.VersionLemmas.{count-fits, docs-fits}
+use Rattle.hac_model.specs.Versions.{docs_limit}
+use Rattle.hac_model.specs.declared.versions.Version.{Version}
+use Rattle.hac_model.specs.declared.versions.Version.TheVariants.{One, Two}
+use Rattle.hac_model.proofs.LiveLemmas.{all-few, tested-entry}
 
 -- ---- names in order
 
@@ -164,11 +167,6 @@ length-order p dir (e ∷ es) =
     passed xs ys true same = same
     passed xs ys false same = same
 
--- entries whose numbers rise are fewer than the next number
-entries-few : (above : ℕ) (es : List Entry) (next : ℕ) → NumbersRise above es next → above + length es < next
-entries-few above [] next rise = omega (arith, rise)
-entries-few above (e ∷ es) next rise = omega (arith, rise.0, entries-few e.number es next rise.1)
-
 -- what is kept of a list is no longer
 filter-few : (p : Entry → Bool) (es : List Entry) → length (filter p es) ≤ length es
 filter-few p [] = omega arith
@@ -201,42 +199,46 @@ term-fits (Word letters) is = let parts = and_parts (is_term (Word letters)) (na
 term-fits (Prefix letters) is = let parts = and_parts (is_term (Prefix letters)) (nat_le (length letters) QUERY_LIMIT) is in and_from (nat_le (length letters) QUERY_LIMIT) (is_term (Prefix letters)) parts.1 parts.0
 
 -- the number and the name of an entry have their bytes
-abbrev IsListable : Entry → Type 0
-IsListable e = (num.fits e.number ≡ true) × (name_field.fits e.name ≡ true)
+abbrev IsListable : Version → Entry → Type 0
+IsListable version e = ((num version).fits e.number ≡ true) × (name_field.fits e.name ≡ true)
 
-items-listed : (last : Option listed.Document) (es : List Entry) → AllByRecursion (λ e. rises is_before (option_map (λ (d : listed.Document). d.name) last) e.name ≡ true) es
-    → NamesRise es → AllByRecursion IsListable es → items_fit document_field last (map listed_document es) ≡ true
-items-listed last [] before rise fit = refl
-items-listed last (e ∷ es) before rise fit =
+items-listed : (version : Version) (last : Option listed.Document) (es : List Entry) → AllByRecursion (λ e. rises is_before (option_map (λ (d : listed.Document). d.name) last) e.name ≡ true) es
+    → NamesRise es → AllByRecursion (IsListable version) es → items_fit (document_field version) last (map listed_document es) ≡ true
+items-listed version last [] before rise fit = refl
+items-listed version last (e ∷ es) before rise fit =
     and_from _ _
-    (and_from (num.fits e.number) _ fit.0.0 (and_from (name_field.fits e.name) _ fit.0.1 before.0))
-    (items-listed (Some (listed_document e)) es rise.0 rise.1 fit.1)
+    (and_from ((num version).fits e.number) _ fit.0.0 (and_from (name_field.fits e.name) _ fit.0.1 before.0))
+    (items-listed version (Some (listed_document e)) es rise.0 rise.1 fit.1)
 
 all-first : (es : List Entry) → AllByRecursion (λ e. rises is_before None e.name ≡ true) es
 all-first [] = tt
 all-first (e ∷ es) = (refl, all-first es)
 
+nothing-fits : (version : Version) → (documents_field version).fits [] ≡ true
+nothing-fits One = refl
+nothing-fits Two = refl
+
 module _ (s : State) (h : IsValid s) where
   -- ---- numbers and marks
 
-  item-below : (n : ℕ) → is_item s n ≡ true → n < s.next
-  item-below n is = tested-below s is_linkable n h.layout.numbers is
+  item-live : (n : ℕ) → is_item s n ≡ true → Lives s.entries n
+  item-live n is = inr (tested-entry s.entries is_linkable n is)
 
-  added-below : (n : ℕ) → can_be_added s n ≡ true → n < s.next
-  added-below n can = elim (or-cases (is_item s n) (is_directory_at s.entries n) can) [ inl item ↦ item-below n item | inr dir ↦ directory-below s n h.layout dir ]
+  added-live : (n : ℕ) → can_be_added s n ≡ true → Lives s.entries n
+  added-live n can = elim (or-cases (is_item s n) (is_directory_at s.entries n) can) [ inl item ↦ item-live n item | inr dir ↦ directory-lives s.entries n dir ]
 
-  marks-fit : (test : ℕ → Bool) → ((n : ℕ) → test n ≡ true → n < s.next) → (ns : List ℕ) → AreMarks test ns → nums.fits ns ≡ true
-  marks-fit test below ns are = nums-fit s h.layout ns are.rise (all-weaker (λ n. test n ≡ true) (λ n. n < s.next) ns below are.there)
+  marks-fit : (test : ℕ → Bool) → ((n : ℕ) → test n ≡ true → Lives s.entries n) → (ns : List ℕ) → AreMarks test ns → (nums s.version).fits ns ≡ true
+  marks-fit test live ns are = nums-fit s h.layout ns are.rise (all-weaker (λ n. test n ≡ true) (Lives s.entries) ns live are.there)
 
   -- ---- answers
 
   answers-fit : (mount : ℕ) (last : Option Answer) (answers : List Answer) → TermsRise (option_map (λ (a : Answer). a.term) last) answers → AllByRecursion (IsAnswer s mount) answers
-      → items_fit answer_field last answers ≡ true
+      → items_fit (answer_field s.version) last answers ≡ true
   answers-fit mount last [] rise are = refl
   answers-fit mount last (a ∷ answers) rise are =
       and_from _ _
-      (and_from (term_field.fits a.term && rises is_term_before (option_map (λ (a : Answer). a.term) last) a.term) (nums.fits a.documents)
-      (and_from (term_field.fits a.term) _ (term-fits a.term are.0.fits) rise.0) (nums-fit s h.layout a.documents are.0.rise (documents-below s h.layout mount a.documents are.0.documents)))
+      (and_from (term_field.fits a.term && rises is_term_before (option_map (λ (a : Answer). a.term) last) a.term) ((nums s.version).fits a.documents)
+      (and_from (term_field.fits a.term) _ (term-fits a.term are.0.fits) rise.0) (nums-fit s h.layout a.documents are.0.rise (documents-live s h.layout mount a.documents are.0.documents)))
       (answers-fit mount (Some a) answers rise.1 are.1)
 
   -- ---- documents
@@ -258,7 +260,7 @@ module _ (s : State) (h : IsValid s) where
         | false ↦ (λ other. there es)
       ] refl
 
-  entry-listable : (e : Entry) → entry_at s.entries e.number ≡ Some e → IsListable e
+  entry-listable : (e : Entry) → entry_at s.entries e.number ≡ Some e → IsListable s.version e
   entry-listable e found = (number-fits s h e.number (inr (e, found)), name-fits e.name (entry_at-all (λ e. IsTrue (is_name e.name)) s.entries e.number e h.layout.names found))
 
   -- the documents that are listed with an entry
@@ -277,19 +279,19 @@ module _ (s : State) (h : IsValid s) where
       one false true rest = omega (arith, rest)
       one false false rest = rest
 
-  documents-fit : (n : ℕ) → has_few s.entries n ≡ true → documents_field.fits (map listed_document (documents_at n)) ≡ true
+  documents-fit : (n : ℕ) → has_few s.version s.entries n ≡ true → (documents_field s.version).fits (map listed_document (documents_at n)) ≡ true
   documents-fit n few =
       let docs = documents_at n in
       let count : length (map listed_document docs) ≡ length (filter (λ (e : Entry). is_document e.body && (e.parent == n)) s.entries) = length-map docs listed_document ∙ length-order (λ (e : Entry). is_document e.body) n s.entries in
-      let inside : length (filter (λ (e : Entry). e.parent == n) s.entries) ≤ DOCS_LIMIT = leb-true (length (filter (λ (e : Entry). e.parent == n) s.entries)) DOCS_LIMIT few in
-      let most : length (map listed_document docs) ≤ DOCS_LIMIT = omega (arith, count, documents-fewer n s.entries, inside) in
-      let listable = all-filter IsListable (λ (e : Entry). is_document e.body) (children s n) (all-children IsListable n (all-weaker (λ e. entry_at s.entries e.number ≡ Some e) IsListable s.entries entry-listable found-all)) in
+      let inside : length (filter (λ (e : Entry). e.parent == n) s.entries) ≤ docs_limit s.version = leb-true (length (filter (λ (e : Entry). e.parent == n) s.entries)) (docs_limit s.version) few in
+      let most : length (map listed_document docs) ≤ docs_limit s.version = omega (arith, count, documents-fewer n s.entries, inside) in
+      let listable = all-filter (IsListable s.version) (λ (e : Entry). is_document e.body) (children s n) (all-children (IsListable s.version) n (all-weaker (λ e. entry_at s.entries e.number ≡ Some e) (IsListable s.version) s.entries entry-listable found-all)) in
       and_from _ _
       (counted (length (map listed_document docs)) most)
-      (items-listed None docs (all-first docs) (rises-filter (λ (e : Entry). is_document e.body) (children s n) (order-rises n s.entries h.layout.differ)) listable)
+      (items-listed s.version None docs (all-first docs) (rises-filter (λ (e : Entry). is_document e.body) (children s n) (order-rises n s.entries h.layout.differ)) listable)
     where
-      counted : (k : ℕ) → k ≤ DOCS_LIMIT → (num.fits k && nat_le k DOCS_LIMIT) ≡ true
-      counted k most = and_from (num.fits k) (nat_le k DOCS_LIMIT) (grind (arith, nat_tests, most)) (grind (arith, nat_tests, most))
+      counted : (k : ℕ) → k ≤ docs_limit s.version → (count.fits k && nat_le k (docs_limit s.version)) ≡ true
+      counted k most = and_from (count.fits k) (nat_le k (docs_limit s.version)) (docs-fits s.version k most) (le-leb k (docs_limit s.version) most)
 
   -- nothing but a mount has documents
   none-listed : (e : Entry) → entry_at s.entries e.number ≡ Some e → is_mount e.body ≡ false → documents_at e.number ≡ []
@@ -311,50 +313,50 @@ module _ (s : State) (h : IsValid s) where
   -- ---- entries
 
   stored-fits : (n : ℕ) (body : Body) (docs : List listed.Document) → IsSound body → AsksWell s body → KeepsWell s n body → is_document body ≡ false
-      → (is_mount body ≡ false → docs ≡ []) → documents_field.fits docs ≡ true → num.fits (length (answers_in body)) ≡ true → stored_field.fits (body, docs) ≡ true
+      → (is_mount body ≡ false → docs ≡ []) → (documents_field s.version).fits docs ≡ true → count.fits (length (answers_in body)) ≡ true → (stored_field s.version).fits (body, docs) ≡ true
   stored-fits n (File text dirty shown) docs sound asks keeps other alone fit few =
       let none : no_documents.fits docs ≡ true = ap (λ (ds : List listed.Document). length ds == 0) (alone refl) in
       let texts = and_from (text_field.fits text) ((shown_field text).fits shown) (text-fits s h text sound.fits) (shown-fits s h text shown sound.shown_fits) in
       let behind = and_from _ (no_documents.fits docs) texts none in
-      elim dirty as (λ b. stored_field.fits (File text b shown, docs) ≡ true) [ true ↦ behind | false ↦ behind ]
+      elim dirty as (λ b. (stored_field s.version).fits (File text b shown, docs) ≡ true) [ true ↦ behind | false ↦ behind ]
   stored-fits n Dir docs sound asks keeps other alone fit few = ap (λ (ds : List listed.Document). length ds == 0) (alone refl)
   stored-fits n (Symlink target) docs sound asks keeps other alone fit few =
       and_from _ (no_documents.fits docs) sound (ap (λ (ds : List listed.Document). length ds == 0) (alone refl))
   stored-fits n (Semantic query permanent prohibited) docs sound asks keeps other alone fit few =
-      and_from (query_field.fits query) _ (query-fits s h query asks.fits)
-      (and_from (nums.fits permanent) _ (marks-fit (can_be_added s) added-below permanent asks.added)
-      (and_from (nums.fits prohibited) (no_documents.fits docs) (marks-fit (is_item s) item-below prohibited asks.removed) (ap (λ (ds : List listed.Document). length ds == 0) (alone refl))))
+      and_from ((query_field s.version).fits query) _ (query-fits s h query asks.fits)
+      (and_from ((nums s.version).fits permanent) _ (marks-fit (can_be_added s) added-live permanent asks.added)
+      (and_from ((nums s.version).fits prohibited) (no_documents.fits docs) (marks-fit (is_item s) item-live prohibited asks.removed) (ap (λ (ds : List listed.Document). length ds == 0) (alone refl))))
   stored-fits n (Mount space answers) docs sound asks keeps other alone fit few =
       and_from (space_field.fits space) _ (space-fits space sound)
-      (and_from (documents_field.fits docs) _ fit (and_from (num.fits (length answers)) _ few (answers-fit n None answers keeps.rise keeps.sound)))
+      (and_from ((documents_field s.version).fits docs) _ fit (and_from (count.fits (length answers)) _ few (answers-fit n None answers keeps.rise keeps.sound)))
   stored-fits n Document docs sound asks keeps other alone fit few = absurd cc
 
   -- a mount keeps no more answers than all of them
-  answers-few : (e : Entry) → entry_at s.entries e.number ≡ Some e → num.fits (length (answers_in e.body)) ≡ true
+  answers-few : (e : Entry) → entry_at s.entries e.number ≡ Some e → count.fits (length (answers_in e.body)) ≡ true
   answers-few e found =
       let parts = and_parts (nat_le (measured documents_kept s.entries) ANSWERS_LIMIT) (nat_le (measured answers_kept s.entries) PAIRS_LIMIT) h.few in
       let all : measured answers_kept s.entries ≤ PAIRS_LIMIT = leb-true (measured answers_kept s.entries) PAIRS_LIMIT parts.1 in
       small (length (answers_in e.body)) (omega (arith, all, measured-removed answers_kept e.number 0 s.entries s.next e h.layout.numbers found))
     where
-      small : (k : ℕ) → k ≤ PAIRS_LIMIT → num.fits k ≡ true
-      small k most = grind (arith, nat_tests, most)
+      small : (k : ℕ) → k ≤ PAIRS_LIMIT → count.fits k ≡ true
+      small k most = count-fits k (omega (arith, most))
 
   -- each entry but a document fits behind one whose number is below
   entry-fits : (e : Entry) (last : Option StoredEntry) → entry_at s.entries e.number ≡ Some e → is_document e.body ≡ false
-      → rises nat_lt (option_map (λ (stored : StoredEntry). stored.entry.number) last) e.number ≡ true → (entry_field last).fits (stored_entry s e) ≡ true
+      → rises nat_lt (option_map (λ (stored : StoredEntry). stored.entry.number) last) e.number ≡ true → (entry_field s.version last).fits (stored_entry s e) ≡ true
   entry-fits e last found other before =
       let all : (P : Entry → Type 0) → AllByRecursion P s.entries → P e = λ P each. entry_at-all P s.entries e.number e each found in
       let place = all (λ e. IsTrue (is_in_place s.entries e)) h.layout.places in
-      let parent : num.fits e.parent ≡ true = number-fits s h e.parent (directory-lives s.entries e.parent (place-directory s.entries e place)) in
+      let parent : (num s.version).fits e.parent ≡ true = number-fits s h e.parent (directory-lives s.entries e.parent (place-directory s.entries e place)) in
       let listable = entry-listable e found in
       and_from _ _
-      (and_from (num.fits e.number) _ listable.0 before)
-      (and_from (num.fits e.parent) _ parent
-      (and_from (name_field.fits e.name) (stored_field.fits (e.body, map listed_document (documents_at e.number))) listable.1
+      (and_from ((num s.version).fits e.number) _ listable.0 before)
+      (and_from ((num s.version).fits e.parent) _ parent
+      (and_from (name_field.fits e.name) ((stored_field s.version).fits (e.body, map listed_document (documents_at e.number))) listable.1
       (stored-fits e.number e.body (map listed_document (documents_at e.number)) (all (λ e. IsSound e.body) h.layout.bodies) (all (λ e. AsksWell s e.body) h.queries) (all (λ e. KeepsWell s e.number e.body) h.answers) other
       (λ plain. ap (map listed_document) (none-listed e found plain)) (fit (is_mount e.body) refl) (answers-few e found))))
     where
-      mount : (n : ℕ) (body : Body) → KeepsWell s n body → is_mount body ≡ true → documents_field.fits (map listed_document (documents_at n)) ≡ true
+      mount : (n : ℕ) (body : Body) → KeepsWell s n body → is_mount body ≡ true → (documents_field s.version).fits (map listed_document (documents_at n)) ≡ true
       mount n (Mount space answers) keeps is = documents-fit n keeps.few
       mount n (File text dirty shown) keeps is = absurd cc
       mount n Dir keeps is = absurd cc
@@ -362,16 +364,16 @@ module _ (s : State) (h : IsValid s) where
       mount n (Semantic query permanent prohibited) keeps is = absurd cc
       mount n Document keeps is = absurd cc
 
-      fit : (b : Bool) → is_mount e.body ≡ b → documents_field.fits (map listed_document (documents_at e.number)) ≡ true
+      fit : (b : Bool) → is_mount e.body ≡ b → (documents_field s.version).fits (map listed_document (documents_at e.number)) ≡ true
       fit true is = mount e.number e.body (entry_at-all (λ e. KeepsWell s e.number e.body) s.entries e.number e h.answers found) is
-      fit false is = ap (λ (docs : List Entry). documents_field.fits (map listed_document docs)) (none-listed e found is)
+      fit false is = ap (λ (docs : List Entry). (documents_field s.version).fits (map listed_document docs)) (none-listed e found is) ∙ nothing-fits s.version
 
   entries-fit : (above : ℕ) (last : Option StoredEntry) (es : List Entry) → ((n : ℕ) → above < n → rises nat_lt (option_map (λ (stored : StoredEntry). stored.entry.number) last) n ≡ true)
       → NumbersRise above es s.next → AllByRecursion (λ e. entry_at s.entries e.number ≡ Some e) es
-      → items_fit entry_field last (map (stored_entry s) (filter (λ (e : Entry). not (is_document e.body)) es)) ≡ true
+      → items_fit (entry_field s.version) last (map (stored_entry s) (filter (λ (e : Entry). not (is_document e.body)) es)) ≡ true
   entries-fit above last [] before rise found = refl
   entries-fit above last (e ∷ es) before rise found =
-      elim (is_document e.body) as (λ b. is_document e.body ≡ b → items_fit entry_field last (map (stored_entry s) (cond (not b) (e ∷ filter (λ (e : Entry). not (is_document e.body)) es) (filter (λ (e : Entry). not (is_document e.body)) es))) ≡ true) [
+      elim (is_document e.body) as (λ b. is_document e.body ≡ b → items_fit (entry_field s.version) last (map (stored_entry s) (cond (not b) (e ∷ filter (λ (e : Entry). not (is_document e.body)) es) (filter (λ (e : Entry). not (is_document e.body)) es))) ≡ true) [
         | true ↦ (λ document. let above_e : above < e.number = rise.0 in entries-fit e.number last es (λ n lt. before n (omega (arith, above_e, lt))) rise.1 found.1)
         | false ↦ (λ other. and_from _ _ (entry-fits e last found.0 other (before e.number rise.0)) (entries-fit e.number (Some (stored_entry s e)) es (λ n lt. grind (arith, nat_tests, lt)) rise.1 found.1))
       ] refl
@@ -380,11 +382,11 @@ module _ (s : State) (h : IsValid s) where
   unfolding is_spellable_snapshot snapshot_of
   valid-spelled =
       let kept = filter (λ (e : Entry). not (is_document e.body)) s.entries in
-      let few = entries-few 0 s.entries s.next h.layout.numbers in
+      let few = all-few s h.layout in
       let fewer = filter-few (λ (e : Entry). not (is_document e.body)) s.entries in
-      let count : length (map (stored_entry s) kept) ≡ length kept = length-map kept (stored_entry s) in
-      and_from (num.fits s.next) _ (small-fits s h.layout s.next (omega arith))
-      (and_from (num.fits (length (map (stored_entry s) kept))) _ (small-fits s h.layout (length (map (stored_entry s) kept)) (omega (arith, few, fewer, count))) (entries-fit 0 None s.entries (λ n lt. refl) h.layout.numbers found-all))
+      let same : length (map (stored_entry s) kept) ≡ length kept = length-map kept (stored_entry s) in
+      and_from ((num s.version).fits s.next) _ (small-fits s h.layout s.next (omega arith))
+      (and_from (count.fits (length (map (stored_entry s) kept))) _ (count-fits (length (map (stored_entry s) kept)) (omega (arith, few, fewer, same))) (entries-fit 0 None s.entries (λ n lt. refl) h.layout.numbers found-all))
 
 pub valid-states-spelled : (s : State) → IsValid s → IsTrue (is_spellable_snapshot (snapshot_of s))
 valid-states-spelled s h = valid-spelled s h

@@ -67,7 +67,7 @@ all-stay s t dirs items h = all-weaker (λ e. AsksWell s e.body) (λ e. AsksWell
 
 -- The same sessions, in a state with the same directories.
 
-module _ (s t : State) (same : t.sessions ≡ s.sessions) (h : AreSessions s) where
+module _ (s t : State) (same : t.sessions ≡ s.sessions) (even : t.version ≡ s.version) (h : AreSessions s) where
   -- sessions stay sound that stand in directories
   pub sessions-there : AllByRecursion (λ session. IsTrue (is_directory_at t.entries session.dir)) s.sessions → AreSessions t
   sessions-there there = record {
@@ -75,7 +75,7 @@ module _ (s t : State) (same : t.sessions ≡ s.sessions) (h : AreSessions s) wh
     differ = subst SessionsDiffer (sym same) h.differ;
     there = subst (λ (ss : List Session). AllByRecursion (λ session. IsTrue (is_directory_at t.entries session.dir)) ss) (sym same) there;
     elsewhere = subst (λ (ss : List Session). AllByRecursion (λ session. (session.dir == 0) ≡ false) ss) (sym same) h.elsewhere;
-    few = ap are_few same ∙ h.few;
+    few = (λ i. are_few (even i) (same i)) ∙ h.few;
   }
 
   pub sessions-stay : DirectoriesStay s t → AreSessions t

@@ -151,7 +151,7 @@ mount-Decides s mount answers =
     Decides-like (is_sound_mount s mount answers)
     (λ h. record { few = h.0.0.0; rise = h.0.0.1; sound = h.0.1; all = h.1 })
     (λ h. (((h.few, h.rise), h.sound), h.all))
-    (Decides-and _ _ (Decides-and _ _ (Decides-and _ _ (Decides-test (has_few s.entries mount)) (terms-Decides None answers))
+    (Decides-and _ _ (Decides-and _ _ (Decides-and _ _ (Decides-test (has_few s.version s.entries mount)) (terms-Decides None answers))
     (Decides-all (is_answer s mount) (IsAnswer s mount) (answer-Decides s mount) answers))
     (Decides-all (λ term. is_kept answers term) (λ term. IsTrue (is_kept answers term)) (λ term. Decides-test (is_kept answers term)) (terms_in_use s.entries)))
 
@@ -230,7 +230,7 @@ sessions-Decides s =
     (sessions_differ-Decides s.sessions))
     (Decides-all (λ session. is_directory_at s.entries session.dir) (λ session. IsTrue (is_directory_at s.entries session.dir)) (λ session. Decides-test (is_directory_at s.entries session.dir)) s.sessions))
     (Decides-all (λ session. not (session.dir == 0)) (λ session. (session.dir == 0) ≡ false) (λ session. Decides-false (session.dir == 0)) s.sessions))
-    (Decides-test (are_few s.sessions)))
+    (Decides-test (are_few s.version s.sessions)))
 
 -- All together.
 

@@ -9,11 +9,13 @@ use Rattle.hac_model.specs.Run.Play.{given_spaces, new_setting, nothing_given, p
 use Rattle.hac_model.specs.Tree.ValidTest.{is_valid}
 use Rattle.hac_model.specs.declared.states.Body.TheVariants.{Document, Mount, Semantic}
 use Rattle.hac_model.specs.declared.states.State.{State}
+use Rattle.hac_model.specs.declared.versions.Version.TheVariants.{Two}
 use Rattle.hac_model.specs.declared.terms.Term.TheVariants.{Word}
 
 -- `/s` asks for apple, and of the documents of `/lib` the first and the last had the word
 abbrev pub small_library : State
 small_library = record {
+  version = Two;
   next = 6;
   entries =
       record { number = 1; parent = 0; name = codes "s"; body = Semantic (query.Term (Word (codes "apple"))) [] [] }
@@ -28,6 +30,7 @@ small_library = record {
 -- the same before the space was mounted
 abbrev pub without_library : State
 without_library = record {
+  version = Two;
   next = 2;
   entries = record { number = 1; parent = 0; name = codes "s"; body = Semantic (query.Term (Word (codes "apple"))) [] [] } ∷ [];
   sessions = [];
@@ -48,6 +51,7 @@ marked_library = record small_library {
 -- the space has lost one of them and got another
 abbrev pub synced_library : State
 synced_library = record {
+  version = Two;
   next = 7;
   entries =
       record { number = 1; parent = 0; name = codes "s"; body = Semantic (query.Term (Word (codes "apple"))) [] (3 ∷ []) }

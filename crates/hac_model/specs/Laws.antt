@@ -20,12 +20,12 @@ use Rattle.hac_model.specs.Spaces.Catalogue.{names}
 use Rattle.hac_model.specs.declared.spaces.Answers.{Answers}
 use Rattle.hac_model.specs.Run.Resolving.{resolve}
 use Rattle.hac_model.specs.Script.{due, whole}
-use Rattle.hac_model.specs.Tree.Sessions.{is_stored, sessions_after, stored}
+use Rattle.hac_model.specs.Tree.Sessions.{is_stored, sessionless, sessions_after, stored}
 use Rattle.hac_model.specs.Payload.Payloads.{is_spellable}
 use Rattle.hac_model.specs.Payload.States.{is_spellable_snapshot, snapshot_of}
 use Rattle.hac_model.specs.Run.Play.{Given, Setting, all_events, end_after, given_behind, left_by, new_setting, no_answers, nothing_given, play, ticking, turns, turns_text}
 use Rattle.hac_model.specs.Script.Texts.{escaped_text, text_of}
-use Rattle.hac_model.specs.Tree.{empty, entry_at, is_symlink_at, path_of}
+use Rattle.hac_model.specs.Tree.{empty, entry_at, is_symlink_at, path_of, raised, root_alone}
 use Rattle.hac_model.specs.Tree.Valid.{IsValid}
 use Rattle.hac_model.specs.Tree.ValidTest.{is_valid}
 use Rattle.hac_model.specs.declared.commands.Line.{Line}
@@ -37,6 +37,8 @@ use Rattle.hac_model.specs.declared.places.Place.TheVariants.{There}
 use Rattle.hac_model.specs.declared.resolved.Resolved.{Resolved}
 use Rattle.hac_model.specs.declared.resolved.Resolved.TheVariants.{Index}
 use Rattle.hac_model.specs.declared.states.State.{State}
+use Rattle.hac_model.specs.declared.versions.Version.{Version}
+use Rattle.hac_model.specs.declared.versions.Version.TheVariants.{One, Two}
 
 -- two joined scripts are played one after the other, where the first one consists of whole lines
 abbrev pub ScriptsJoin : Type 0
@@ -144,7 +146,7 @@ EventsEnd =
 
 -- each event that a valid state accepts and that is stored has a spelling
 abbrev pub AcceptedAreSpelled : Type 0
-AcceptedAreSpelled = (s : State) (event : Event) → IsValid s → IsTrue (is_stored event) → IsTrue (accepted s event) → IsTrue (is_spellable event)
+AcceptedAreSpelled = (s : State) (event : Event) → IsValid s → IsTrue (is_stored event) → IsTrue (accepted s event) → IsTrue (is_spellable s.version event)
 
 -- what is stored of a valid state has a spelling
 abbrev pub ValidAreSpelled : Type 0
@@ -155,7 +157,15 @@ ValidAreSpelled = (s : State) → IsValid s → IsTrue (is_spellable_snapshot (s
 abbrev pub SessionsAreNotStored : Type 0
 SessionsAreNotStored =
     (s : State) (event : Event) → IsValid s → IsTrue (is_stored event) → IsTrue (accepted s event) →
-    IsTrue (accepted (stored s) event) × (stored (apply s event) ≡ apply (stored s) event)
+    IsTrue (accepted (sessionless s) event) × (sessionless (apply s event) ≡ apply (sessionless s) event)
+
+-- a state that a store of some version may hold is one that a store of version 2 may hold
+abbrev pub RaisedIsValid : Type 0
+RaisedIsValid = (s : State) → IsValid s → IsValid (raised s)
+
+-- with the same links
+abbrev pub RaisedLinks : Type 0
+RaisedLinks = (s : State) → links (raised s) ≡ links s
 
 -- where no directory depends on itself, the links don't change when they are found anew
 abbrev pub LinksStay : Type 0
@@ -226,10 +236,10 @@ RemovedAreNotProvided =
     (s : State) (dir item : ℕ) → IsValid s → is_prohibited s dir item ≡ true →
     provide s (column (links s) item) dir item ≡ (is_below s dir item || has (links s dir).lent item)
 
--- valid states that show the same tree, and would go on with the same number, are equal
+-- valid states of one version that show the same tree, and would go on with the same number, are equal
 abbrev pub PlainTellsState : Type 0
 PlainTellsState =
-    (s t : State) → IsValid s → IsValid t → s.next ≡ t.next → s.sessions ≡ t.sessions →
+    (s t : State) → IsValid s → IsValid t → s.version ≡ t.version → s.next ≡ t.next → s.sessions ≡ t.sessions →
     ((path : List (List ℕ)) → plain s path ≡ plain t path) → s ≡ t
 
 -- looking up the path of an entry finds the entry, even if it is a symbolic link, which isn't followed then
@@ -340,15 +350,27 @@ FirstSteps =
 -- has room again
 abbrev pub FullStore : Type 0
 FullStore =
-    turns_text (play nothing_given (record new_setting { start = 4294967290; end = 4294967290 }) (lines_text (
+    turns_text (play nothing_given (record new_setting { start = 1099511627770; end = 1099511627770 }) (lines_text (
     codes "mkdir /a" ∷ codes "ls" ∷ codes "checkpoint" ∷ codes "mkdir /a" ∷ codes "ls" ∷ [])))
     ≡ lines_text (codes "no limit store" ∷ codes "ok" ∷ codes "ok" ∷ codes "ok" ∷ codes "d a" ∷ codes "ok" ∷ [])
 
 -- no new area is begun without room for it, nor without a generation left for its root
 abbrev pub NoRoot : Type 0
 NoRoot =
-    (turns_text (play nothing_given (record new_setting { end = 4294967281 }) (lines_text (codes "checkpoint" ∷ []))) ≡ lines_text (codes "no limit store" ∷ []))
+    (turns_text (play nothing_given (record new_setting { end = 1099511627757 }) (lines_text (codes "checkpoint" ∷ []))) ≡ lines_text (codes "no limit store" ∷ []))
     × (turns_text (play nothing_given (record new_setting { generation = 18446744073709551615 }) (lines_text (codes "checkpoint" ∷ []))) ≡ lines_text (codes "no limit store" ∷ []))
+
+-- what a store without entries replies to a command, where its version and its next number are these
+abbrev pub reply_at : Version → ℕ → List ℕ → List ℕ
+reply_at version next line =
+    turns_text (play nothing_given (record new_setting { state = record (root_alone version) { next = next } }) (lines_text (line ∷ [])))
+
+-- the last number of a store of version 1, and that of any store
+abbrev pub LastNumbers : Type 0
+LastNumbers =
+    (reply_at One 4294967295 (codes "mkdir /x") ≡ lines_text (codes "no limit numbers" ∷ []))
+    × (reply_at Two 4294967295 (codes "mkdir /x") ≡ lines_text (codes "ok" ∷ []))
+    × (reply_at Two 4611686018427387903 (codes "mkdir /x") ≡ lines_text (codes "no limit numbers" ∷ []))
 
 -- where the live area of a new store with a directory begins behind some checkpoints: behind the old area, or before it
 abbrev pub start_behind : ℕ → ℕ
@@ -356,11 +378,11 @@ start_behind checkpoints = (left_by new_setting (play nothing_given new_setting 
 
 -- the third area lies where the first one was
 abbrev pub FirstAreas : Type 0
-FirstAreas = (start_behind 1 ≡ 78) × (start_behind 2 ≡ 104) × (start_behind 3 ≡ 64)
+FirstAreas = (start_behind 1 ≡ 82) × (start_behind 2 ≡ 120) × (start_behind 3 ≡ 64)
 
--- the record of a new directory is 12 bytes longer than its name: 13 bytes for `a`
+-- the record of a new directory is 16 bytes longer than its name: 17 bytes for `a`
 abbrev pub FirstEnd : Type 0
-FirstEnd = (left_by new_setting (play nothing_given new_setting (lines_text (codes "mkdir /a" ∷ [])))).end ≡ 64 + 13
+FirstEnd = (left_by new_setting (play nothing_given new_setting (lines_text (codes "mkdir /a" ∷ [])))).end ≡ 64 + 17
 
 -- a new store, an existing one, one whose name begins like an option, and both options, before the name or behind it;
 -- then spaces: the first name is the store's whatever it looks like, a file may hold `=`, options stand between spaces

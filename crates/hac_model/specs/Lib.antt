@@ -7,3 +7,4 @@ pub mod Query
 pub mod Payload
 pub mod Run
 pub mod Spaces
+pub mod Versions

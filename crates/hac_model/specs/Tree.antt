@@ -28,10 +28,20 @@ use Rattle.hac_model.specs.declared.states.Body.{Body}
 use Rattle.hac_model.specs.declared.states.Body.TheVariants.{File, Dir, Symlink, Semantic, Mount, Document}
 use Rattle.hac_model.specs.declared.states.Entry.{Entry}
 use Rattle.hac_model.specs.declared.states.State.{State}
+use Rattle.hac_model.specs.declared.versions.Version.{Version}
+use Rattle.hac_model.specs.declared.versions.Version.TheVariants.{Two}
 
--- the root alone: the first entry will take the number 1
+-- the root alone in a store of a version: the first entry will take the number 1
+abbrev pub root_alone : Version → State
+root_alone version = record { version = version; next = 1; entries = []; sessions = [] }
+
+-- the state in a store of version 2
+abbrev pub raised : State → State
+raised s = record s { version = Two }
+
+-- what a new store holds
 abbrev pub empty : State
-empty = record { next = 1; entries = []; sessions = [] }
+empty = root_alone Two
 
 -- the entry of a number. The root has none.
 abbrev pub entry_at : List Entry → ℕ → Option Entry

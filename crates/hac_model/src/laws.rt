@@ -17,7 +17,8 @@ ghost use Rattle.hac_model.specs.FirstMounts.{AttachedMounts, FalseIsNotTold, Fi
 ghost use Rattle.hac_model.specs.FirstMounts.{LibraryIsValid};
 ghost use Rattle.hac_model.specs.FirstMounts.{MountsCome, MountsGo, MountsRefuse, SyncsKeepNumbers};
 ghost use Rattle.hac_model.specs.Laws.{MovedListings, LentListings, FirstLinks, FirstSteps};
-ghost use Rattle.hac_model.specs.Laws.{FirstEnd, NoRoot, ValidityIsTested};
+ghost use Rattle.hac_model.specs.Laws.{FirstEnd, LastNumbers, NoRoot, ValidityIsTested};
+ghost use Rattle.hac_model.specs.Laws.{RaisedIsValid, RaisedLinks};
 
 /// Two joined scripts are played one after the other, where the first one consists of whole lines,
 /// each with its end and the bytes that belong to it. No line looks further ahead, and none looks
@@ -106,6 +107,12 @@ pub fn sessions_are_not_stored()
     ensures { SessionsAreNotStored }
 {}
 
+/// What a store of version 1 may hold, one of version 2 may hold too, and it shows the same links.
+pub fn raised_states_are_valid()
+    ensures valid { RaisedIsValid }
+    ensures links { RaisedLinks }
+{}
+
 /// Where no directory depends on itself, as in every valid state, the links are the only ones that
 /// one more round leaves as they are.
 pub fn links_are_fixed()
@@ -134,7 +141,7 @@ pub fn links_respect_marks()
     ensures removed { RemovedAreNotProvided }
 {}
 
-/// A valid state is determined by its plain tree and its next number.
+/// A valid state is determined by its version, its plain tree and its next number.
 pub fn plain_tells_state()
     ensures { PlainTellsState }
 {}
@@ -205,12 +212,14 @@ pub fn first_steps()
     ensures { FirstSteps }
 {}
 
-/// A run over a full store, where the store of a small run ends, and where checkpoints write.
+/// A run over a full store, where the store of a small run ends, where checkpoints write, and the last
+/// numbers.
 pub fn stores_end()
     ensures full { FullStore }
     ensures root { NoRoot }
     ensures first { FirstEnd }
     ensures areas { FirstAreas }
+    ensures numbers { LastNumbers }
 {}
 
 /// What some command lines of the program ask for, and some that are faulty.

@@ -23,6 +23,7 @@ mod spaces;
 mod states;
 mod taken;
 mod terms;
+mod versions;
 
 pub use bytes::{Name, Pile, Seq, Text};
 pub use commands::{Command, Line};
@@ -49,3 +50,4 @@ pub use spaces::{Answers, Asks, Fetch, Search};
 pub use states::{Answer, Body, Entry, Session, State};
 pub use taken::Taken;
 pub use terms::{Term, Words};
+pub use versions::Version;

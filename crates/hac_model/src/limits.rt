@@ -1,8 +1,10 @@
-//! The limits of a store, each with the word by which a refusal names it.
+//! The limits of a store, each with the word by which a refusal names it. Where a limit depends on the
+//! version of a store, what stands here is the greatest of any version.
 ghost use Rattle.std.specs.Prelude.{◌≡◌};
 ghost use Rattle.hac_model.specs.Tree.Limits.{answer_limits, first_passed, layout_limits};
 
 use crate::counts::Counts;
+use crate::versions::Version;
 
 /// The most bytes of a line, its end left out.
 pub const LINE_LIMIT: usize = 65_536;
@@ -39,16 +41,16 @@ pub const SCRIPT_LIMIT: u64 = 268_435_456;
 pub const TEXTS_LIMIT: u64 = 67_108_864;
 
 /// The most directories of any kind, with the root.
-pub const DIRS_LIMIT: u64 = 10_000;
+pub const DIRS_LIMIT: u64 = 65_536;
 
 /// The most semantic directories.
 pub const SEMANTICS_LIMIT: u64 = 1_000;
 
 /// The most mounts.
-pub const MOUNTS_LIMIT: u64 = 16;
+pub const MOUNTS_LIMIT: u64 = 64;
 
 /// The most symbolic links.
-pub const SYMLINKS_LIMIT: u64 = 10_000;
+pub const SYMLINKS_LIMIT: u64 = 65_536;
 
 /// The most symbolic links that a path follows.
 pub const FOLLOW_LIMIT: u64 = 16;
@@ -57,10 +59,10 @@ pub const FOLLOW_LIMIT: u64 = 16;
 pub const PATH_LIMIT: u64 = 64;
 
 /// The most sessions that are in a directory other than the root.
-pub const SESSIONS_LIMIT: u64 = 64;
+pub const SESSIONS_LIMIT: u64 = 1_024;
 
 /// The most documents of one mount.
-pub const DOCS_LIMIT: u64 = 10_000;
+pub const DOCS_LIMIT: u64 = 65_536;
 
 /// The most documents in all kept answers together, each counted once for each answer that names it.
 pub const ANSWERS_LIMIT: u64 = 4_194_304;
@@ -72,10 +74,10 @@ pub const PAIRS_LIMIT: u64 = 65_536;
 pub const ITEMS_LIMIT: u64 = 65_536;
 
 /// The greatest number that the next entry may take.
-pub const NUMBERS_LIMIT: u64 = 4_294_967_295;
+pub const NUMBERS_LIMIT: u64 = 4_611_686_018_427_387_903;
 
 /// The most bytes of a store, up to the closed gate behind its log.
-pub const STORE_LIMIT: u64 = 4_294_967_296;
+pub const STORE_LIMIT: u64 = 1_099_511_627_776;
 
 /// The most bytes of a catalogue.
 pub const CATALOGUE_LIMIT: usize = 67_108_864;
@@ -149,9 +151,10 @@ pub fn first_passed(limits: &[Limit]) -> Option<LimitWord>
 }
 
 impl Counts {
-    /// The limits on the tree itself, in the order in which they are tested.
-    pub fn layout_limits(self) -> [Limit; 6]
-        ensures { result ≡ layout_limits self }
+    /// The limits on the tree itself, in the order in which they are tested, in a store of this
+    /// version.
+    pub fn layout_limits(self, version: Version) -> [Limit; 6]
+        ensures { result ≡ layout_limits version self }
     {
         [
             Limit {
@@ -161,7 +164,7 @@ impl Counts {
             },
             Limit {
                 count: self.directories,
-                most: DIRS_LIMIT,
+                most: version.dirs_limit(),
                 word: LimitWord::Dirs,
             },
             Limit {
@@ -171,12 +174,12 @@ impl Counts {
             },
             Limit {
                 count: self.mounts,
-                most: MOUNTS_LIMIT,
+                most: version.mounts_limit(),
                 word: LimitWord::Mounts,
             },
             Limit {
                 count: self.symlinks,
-                most: SYMLINKS_LIMIT,
+                most: version.symlinks_limit(),
                 word: LimitWord::Symlinks,
             },
             Limit {
@@ -187,9 +190,9 @@ impl Counts {
         ]
     }
 
-    /// The limits that depend on what spaces answer too.
-    pub fn answer_limits(self) -> [Limit; 2]
-        ensures { result ≡ answer_limits self }
+    /// The limits that depend on what spaces answer too, in a store of this version.
+    pub fn answer_limits(self, version: Version) -> [Limit; 2]
+        ensures { result ≡ answer_limits version self }
     {
         [
             Limit {
@@ -199,7 +202,7 @@ impl Counts {
             },
             Limit {
                 count: self.next,
-                most: NUMBERS_LIMIT,
+                most: version.numbers_limit(),
                 word: LimitWord::Numbers,
             },
         ]

@@ -2,10 +2,13 @@
 use crate::bytes::{Name, Seq};
 use crate::numbers::Number;
 use crate::states::Entry;
+use crate::versions::Version;
 
 /// A state as it is stored, as `snapshot_of` of the specs says. Where sessions stand is left out.
 #[derive(Debug, Drop)]
 pub struct Snapshot {
+    /// The version of the store.
+    pub version: Version,
     /// The number that the next entry takes.
     pub next: Number,
     /// The entries but the documents, their numbers rising.

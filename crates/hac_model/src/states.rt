@@ -3,10 +3,13 @@ use crate::bytes::{Name, Seq, Text};
 use crate::numbers::Number;
 use crate::queries::Query;
 use crate::terms::Term;
+use crate::versions::Version;
 
 /// The whole tree, and the directories of sessions. The root has the number 0 and no entry.
 #[derive(Debug, Drop)]
 pub struct State {
+    /// The version of the store, which tells how much there may be.
+    pub version: Version,
     /// The number that the next entry takes.
     pub next: Number,
     /// The entries, their numbers rising.

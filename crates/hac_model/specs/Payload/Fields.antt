@@ -1,7 +1,10 @@
 -- Fields: how the values of a payload are spelled as bytes, and how bytes are read from the left.
 use Rattle.std.specs.Prelude.{ℕ, zero, suc, Bool, true, ◌+◌, ◌^◌, ◌==◌, ◌&&◌, if◌then◌else◌, nat_lt, nat_le, List, [], ◌∷◌, ◌++◌, length, take, drop, Option, Some, None, Result, Ok, Err}
-use Rattle.std.specs.Int.{Width, w32, byte_len, from_le_bytes, to_le_bytes}
+use Rattle.std.specs.Int.{Width, w32, w64, byte_len, from_le_bytes, to_le_bytes}
 use Rattle.hac_model.specs.Run.Answers.{◌>>=◌}
+use Rattle.hac_model.specs.declared.limits.TheConstants.{NUMBERS_LIMIT}
+use Rattle.hac_model.specs.declared.versions.Version.{Version}
+use Rattle.hac_model.specs.declared.versions.Version.TheVariants.{One, Two}
 
 -- A field of a payload: which values it has bytes for, the bytes of each, and what any bytes say: the value at their
 -- front and the bytes behind it, or how many bytes are left where the first field begins that has no allowed value.
@@ -20,10 +23,6 @@ number_at width bytes =
 -- a number of this many bytes, the lowest first
 abbrev pub number : Width → Field ℕ
 number width = record { fits = λ n. nat_lt n (256 ^ byte_len width); text = λ n. to_le_bytes width n; read = λ bytes. number_at width bytes }
-
--- a number of four bytes
-abbrev pub num : Field ℕ
-num = number w32
 
 unfoldable pub run_at : Width → ℕ → (List ℕ → Bool) → List ℕ → Result (List ℕ × List ℕ) ℕ
 run_at width most test bytes =
@@ -92,6 +91,17 @@ list count item = record {
   text = λ xs. count.text (length xs) ++ items_text item None xs;
   read = λ bytes. count.read bytes >>= λ n. items_at item n.0 None n.1;
 }
+
+-- how many there are of something: a number of four bytes
+abbrev pub count : Field ℕ
+count = number w32
+
+-- ---- numbers of entries
+
+-- the number of an entry: of four bytes, or of eight that are no greater than such a number may be
+abbrev pub num : Version → Field ℕ
+num One = number w32
+num Two = checked (number w64) (λ n. nat_le n NUMBERS_LIMIT)
 
 -- ---- fields of several kinds
 

@@ -11,6 +11,7 @@ use Rattle.hac_model.specs.Query.Words.{is_word}
 use Rattle.hac_model.specs.declared.limits.TheConstants.{NESTING_LIMIT, QUERY_LIMIT, TERMS_LIMIT}
 use Rattle.hac_model.specs.declared.terms.Term as asked
 use Rattle.hac_model.specs.declared.terms.Term.TheVariants.{Word, Prefix}
+use Rattle.hac_model.specs.declared.versions.Version.{Version}
 
 -- the letters of a term
 abbrev pub word_field : Field (List ℕ)
@@ -24,35 +25,35 @@ pub data Token : Type 0 where
   And : Token
   Or : Token
 
-abbrev pub token_part : Token → Part
-token_part (Term (Word letters)) = part 1 word_field letters
-token_part (Term (Prefix letters)) = part 2 word_field letters
-token_part (Dir dir) = part 3 num dir
-token_part Not = part 4 nothing tt
-token_part And = part 5 nothing tt
-token_part Or = part 6 nothing tt
+abbrev pub token_part : Version → Token → Part
+token_part version (Term (Word letters)) = part 1 word_field letters
+token_part version (Term (Prefix letters)) = part 2 word_field letters
+token_part version (Dir dir) = part 3 (num version) dir
+token_part version Not = part 4 nothing tt
+token_part version And = part 5 nothing tt
+token_part version Or = part 6 nothing tt
 
 -- a term fails as one with its kind byte
-abbrev pub token_ways : List (Way Token)
-token_ways =
+abbrev pub token_ways : Version → List (Way Token)
+token_ways version =
     whole_way 1 word_field (λ letters. Term (Word letters))
     ∷ whole_way 2 word_field (λ letters. Term (Prefix letters))
-    ∷ way 3 num (λ dir. Dir dir)
+    ∷ way 3 (num version) (λ dir. Dir dir)
     ∷ way 4 nothing (λ x. Not)
     ∷ way 5 nothing (λ x. And)
     ∷ way 6 nothing (λ x. Or)
     ∷ []
 
-abbrev pub token_field : Field Token
-token_field = choice token_part token_ways
+abbrev pub token_field : Version → Field Token
+token_field version = choice (token_part version) (token_ways version)
 
 -- the bytes of a query
-abbrev pub query_bytes : Formula ℕ → List ℕ
-query_bytes (query.Term term) = token_field.text (Term term)
-query_bytes (query.Dir dir) = token_field.text (Dir dir)
-query_bytes (query.Not q) = token_field.text Not ++ query_bytes q
-query_bytes (query.And left right) = token_field.text And ++ (query_bytes left ++ query_bytes right)
-query_bytes (query.Or left right) = token_field.text Or ++ (query_bytes left ++ query_bytes right)
+abbrev pub query_bytes : Version → Formula ℕ → List ℕ
+query_bytes version (query.Term term) = (token_field version).text (Term term)
+query_bytes version (query.Dir dir) = (token_field version).text (Dir dir)
+query_bytes version (query.Not q) = (token_field version).text Not ++ query_bytes version q
+query_bytes version (query.And left right) = (token_field version).text And ++ (query_bytes version left ++ query_bytes version right)
+query_bytes version (query.Or left right) = (token_field version).text Or ++ (query_bytes version left ++ query_bytes version right)
 
 -- ---- how a query is read
 
@@ -78,17 +79,17 @@ is_barred terms [] = false
 is_barred terms (kind ∷ bytes) = kind == 3 && terms == 0
 
 -- the part at the front, unless it is barred
-abbrev pub token_at : ℕ → List ℕ → Result (Token × List ℕ) ℕ
-token_at terms bytes = if is_barred terms bytes then Err (length bytes) else token_field.read bytes
+abbrev pub token_at : Version → ℕ → List ℕ → Result (Token × List ℕ) ℕ
+token_at version terms bytes = if is_barred terms bytes then Err (length bytes) else (token_field version).read bytes
 
 -- the parts of the queries that are wanted, at most this many parts. One that is too many fails where it begins.
-unfoldable pub tokens_at : ℕ → List ℕ → ℕ → ℕ → List ℕ → Result (List Token × List ℕ) ℕ
-tokens_at k [] terms letters bytes = Ok ([], bytes)
-tokens_at zero (nots ∷ wanted) terms letters bytes = Err 0
-tokens_at (suc k) (nots ∷ wanted) terms letters bytes =
-    token_at terms bytes >>= λ first.
+unfoldable pub tokens_at : Version → ℕ → List ℕ → ℕ → ℕ → List ℕ → Result (List Token × List ℕ) ℕ
+tokens_at version k [] terms letters bytes = Ok ([], bytes)
+tokens_at version zero (nots ∷ wanted) terms letters bytes = Err 0
+tokens_at version (suc k) (nots ∷ wanted) terms letters bytes =
+    token_at version terms bytes >>= λ first.
     ok_or (room_after nots wanted terms letters first.0) (length bytes) >>= λ room.
-    tokens_at k room.wanted room.terms room.letters first.1 >>= λ others.
+    tokens_at version k room.wanted room.terms room.letters first.1 >>= λ others.
     Ok (first.0 ∷ others.0, others.1)
 
 -- the first two queries joined
@@ -116,17 +117,17 @@ first_built [] bytes = Err (length bytes)
 first_built (q ∷ queries) bytes = Ok (q, bytes)
 
 -- one query, which holds no more than a query may
-unfoldable pub query_read : List ℕ → Result (Formula ℕ × List ℕ) ℕ
-query_read bytes = tokens_at (length bytes) (NESTING_LIMIT ∷ []) TERMS_LIMIT QUERY_LIMIT bytes >>= λ tokens. first_built (built tokens.0 []) tokens.1
+unfoldable pub query_read : Version → List ℕ → Result (Formula ℕ × List ℕ) ℕ
+query_read version bytes = tokens_at version (length bytes) (NESTING_LIMIT ∷ []) TERMS_LIMIT QUERY_LIMIT bytes >>= λ tokens. first_built (built tokens.0 []) tokens.1
 
--- the directories of a query are numbers of four bytes
-abbrev pub are_nums : Formula ℕ → Bool
-are_nums q = all_leaves (λ term. true) (λ dir. num.fits dir) q
+-- the directories of a query are numbers that have bytes
+abbrev pub are_nums : Version → Formula ℕ → Bool
+are_nums version q = all_leaves (λ term. true) (λ dir. (num version).fits dir) q
 
 -- the query holds no more than a query may, and its numbers have bytes
-abbrev pub query_fits : Formula ℕ → Bool
-query_fits q = is_query q && are_nums q
+abbrev pub query_fits : Version → Formula ℕ → Bool
+query_fits version q = is_query q && are_nums version q
 
 -- a query
-abbrev pub query_field : Field (Formula ℕ)
-query_field = record { fits = λ q. query_fits q; text = λ q. query_bytes q; read = λ bytes. query_read bytes }
+abbrev pub query_field : Version → Field (Formula ℕ)
+query_field version = record { fits = λ q. query_fits version q; text = λ q. query_bytes version q; read = λ bytes. query_read version bytes }

@@ -4,10 +4,11 @@ use Rattle.std.specs.Prelude.{ℕ, Bool, true, false, ◌==◌, ◌&&◌, not, i
 use Rattle.std.specs.Option.{option_map}
 use Rattle.std.specs.Str.{bytes_eq}
 use Rattle.hac_model.specs.Run.Answers.{◌>>=◌}
-use Rattle.hac_model.specs.Payload.Fields.{Field, Part, Way, num, nothing, ◌&◌, checked, list, seen, part, way, whole_way, choice}
+use Rattle.hac_model.specs.Payload.Fields.{checked, choice, count, Field, list, nothing, num, Part, part, seen, Way, way, whole_way, ◌&◌}
 use Rattle.hac_model.specs.Payload.Payloads.{all_of, name_field, nums, placed, rises, space_field, target_field, text_field}
 use Rattle.hac_model.specs.Payload.QueryFields.{query_field, word_field}
 use Rattle.hac_model.specs.Query.Terms.{is_term_before}
+use Rattle.hac_model.specs.Versions.{docs_limit}
 use Rattle.hac_model.specs.Tree.Listing.{children, is_before}
 use Rattle.hac_model.specs.Tree.{is_document}
 use Rattle.hac_model.specs.declared.states.Answer.{Answer}
@@ -21,7 +22,8 @@ use Rattle.hac_model.specs.declared.states.Entry.{Entry}
 use Rattle.hac_model.specs.declared.states.State.{State}
 use Rattle.hac_model.specs.declared.terms.Term.{Term}
 use Rattle.hac_model.specs.declared.terms.Term.TheVariants.{Word, Prefix}
-use Rattle.hac_model.specs.declared.limits.TheConstants.{DOCS_LIMIT}
+use Rattle.hac_model.specs.declared.versions.Version.{Version}
+use Rattle.hac_model.specs.declared.versions.Version.TheVariants.{One, Two}
 
 -- ---- files
 
@@ -60,14 +62,14 @@ texts_field = record {
 -- ---- mounts
 
 -- documents of a mount, whose names rise
-abbrev pub document_field : Option Document → Field Document
-document_field last =
+abbrev pub document_field : Version → Option Document → Field Document
+document_field version last =
     seen (λ document. (document.number, document.name)) (λ x. record { number = x.0; name = x.1 })
-    (num & checked name_field (rises is_before (option_map (λ document. document.name) last)))
+    (num version & checked name_field (rises is_before (option_map (λ document. document.name) last)))
 
 -- no more of them than a mount may have
-abbrev pub documents_field : Field (List Document)
-documents_field = list (checked num (λ n. nat_le n DOCS_LIMIT)) document_field
+abbrev pub documents_field : Version → Field (List Document)
+documents_field version = list (checked count (λ n. nat_le n (docs_limit version))) (document_field version)
 
 abbrev pub term_part : Term → Part
 term_part (Word letters) = part 1 word_field letters
@@ -78,10 +80,10 @@ abbrev pub term_field : Field Term
 term_field = choice term_part (whole_way 1 word_field (λ letters. Word letters) ∷ whole_way 2 word_field (λ letters. Prefix letters) ∷ [])
 
 -- what a space answered, whose terms rise
-abbrev pub answer_field : Option Answer → Field Answer
-answer_field last =
+abbrev pub answer_field : Version → Option Answer → Field Answer
+answer_field version last =
     seen (λ answer. (answer.term, answer.documents)) (λ x. record { term = x.0; documents = x.1 })
-    (checked term_field (rises is_term_before (option_map (λ answer. answer.term) last)) & nums)
+    (checked term_field (rises is_term_before (option_map (λ answer. answer.term) last)) & nums version)
 
 -- ---- states
 
@@ -94,46 +96,57 @@ abbrev pub no_part : Part
 no_part = record { fits = false; text = [] }
 
 -- what an entry is, and the documents that are listed with it. Only a mount has any, and a document is listed there alone.
-abbrev pub stored_part : Body × List Document → Part
-stored_part stored = part_of stored.0
+abbrev pub stored_part : Version → Body × List Document → Part
+stored_part version stored = part_of stored.0
   where
     part_of : Body → Part
     part_of (File text dirty shown) = part 1 (flag_field & texts_field & no_documents) (dirty, ((text, shown), stored.1))
     part_of Dir = part 2 no_documents stored.1
     part_of (Symlink target) = part 3 (target_field & no_documents) (target, stored.1)
     part_of (Semantic query permanent prohibited) =
-        part 4 (query_field & nums & nums & no_documents) (query, (permanent, (prohibited, stored.1)))
-    part_of (Mount space answers) = part 5 (space_field & documents_field & list num answer_field) (space, (stored.1, answers))
+        part 4 (query_field version & nums version & nums version & no_documents) (query, (permanent, (prohibited, stored.1)))
+    part_of (Mount space answers) = part 5 (space_field & documents_field version & list count (answer_field version)) (space, (stored.1, answers))
     part_of other = no_part
 
-abbrev pub stored_ways : List (Way (Body × List Document))
-stored_ways =
+abbrev pub stored_ways : Version → List (Way (Body × List Document))
+stored_ways version =
     way 1 (flag_field & texts_field) (λ x. (File x.1.0 x.0 x.1.1, []))
     ∷ way 2 nothing (λ x. (Dir, []))
     ∷ way 3 target_field (λ target. (Symlink target, []))
-    ∷ way 4 (query_field & nums & nums) (λ x. (Semantic x.0 x.1.0 x.1.1, []))
-    ∷ way 5 (space_field & documents_field & list num answer_field) (λ x. (Mount x.0 x.1.1, x.1.0))
+    ∷ way 4 (query_field version & nums version & nums version) (λ x. (Semantic x.0 x.1.0 x.1.1, []))
+    ∷ way 5 (space_field & documents_field version & list count (answer_field version)) (λ x. (Mount x.0 x.1.1, x.1.0))
     ∷ []
 
-abbrev pub stored_field : Field (Body × List Document)
-stored_field = choice stored_part stored_ways
+abbrev pub stored_field : Version → Field (Body × List Document)
+stored_field version = choice (stored_part version) (stored_ways version)
 
 -- entries, whose numbers rise
-abbrev pub entry_field : Option StoredEntry → Field StoredEntry
-entry_field last =
+abbrev pub entry_field : Version → Option StoredEntry → Field StoredEntry
+entry_field version last =
     seen (λ stored. (stored.entry.number, (stored.entry.parent, (stored.entry.name, (stored.entry.body, stored.documents)))))
     (λ x. record { entry = record { number = x.0; parent = x.1.0; name = x.1.1.0; body = x.1.1.1.0 }; documents = x.1.1.1.1 })
-    (checked num (rises nat_lt (option_map (λ stored. stored.entry.number) last)) & num & name_field & stored_field)
+    (checked (num version) (rises nat_lt (option_map (λ stored. stored.entry.number) last)) & num version & name_field & stored_field version)
 
 -- the number that the next entry takes, and the entries
-abbrev pub snapshot_field : Field Snapshot
-snapshot_field = seen (λ s. (s.next, s.entries)) (λ x. record { next = x.0; entries = x.1 }) (num & list num entry_field)
+abbrev pub snapshot_field : Version → Field Snapshot
+snapshot_field version =
+    seen (λ s. (s.next, s.entries)) (λ x. record { version = version; next = x.0; entries = x.1 })
+    (num version & list count (entry_field version))
 
 -- ---- payloads
 
--- a payload that holds a state: the byte of its kind, and the state
+-- the kind of a payload that holds a state
+abbrev pub state_kind : Version → ℕ
+state_kind One = 2
+state_kind Two = 3
+
+-- how a state of a version is read
+abbrev pub state_way : Version → Way Snapshot
+state_way version = way (state_kind version) (snapshot_field version) (λ s. s)
+
+-- a payload that holds a state: the byte of its kind, which tells its version, and the state
 abbrev pub snapshot_payload : Field Snapshot
-snapshot_payload = choice (λ s. part 2 snapshot_field s) (way 2 snapshot_field (λ s. s) ∷ [])
+snapshot_payload = choice (λ s. part (state_kind s.version) (snapshot_field s.version) s) (state_way One ∷ state_way Two ∷ [])
 
 -- what is stored of a state has a spelling: its parts are as they may be spelled
 unfoldable pub is_spellable_snapshot : Snapshot → Bool
@@ -163,6 +176,7 @@ stored_entry s entry = record {
 -- the entries, the documents left out, which are listed with their mounts; where sessions stand is left out too
 unfoldable pub snapshot_of : State → Snapshot
 snapshot_of s = record {
+  version = s.version;
   next = s.next;
   entries = map (stored_entry s) (filter (λ entry. not (is_document entry.body)) s.entries);
 }
@@ -190,4 +204,4 @@ by_number (entry ∷ entries) = put_by_number entry (by_number entries)
 
 -- the state that is told: the documents are among the entries again, and no session is anywhere but in the root
 unfoldable pub restored : Snapshot → State
-restored s = record { next = s.next; entries = by_number (flat_map entries_in s.entries); sessions = [] }
+restored s = record { version = s.version; next = s.next; entries = by_number (flat_map entries_in s.entries); sessions = [] }

@@ -1,12 +1,12 @@
 -- Why a state refuses a command: the first cause of the one order.
-use Rattle.std.specs.Prelude.{ℕ, ◌==◌, ◌||◌, if◌then◌else◌, List, [], ◌∷◌, length, map, min, nat_le, replicate, Option, None, Some, Result, Ok, Err, option_and_then}
+use Rattle.std.specs.Prelude.{ℕ, ◌==◌, ◌||◌, if◌then◌else◌, List, [], ◌∷◌, map, min, replicate, Option, None, Some, Result, Ok, Err, option_and_then}
 use Rattle.std.specs.Option.{option_map, option_map_or}
 use Rattle.hac_model.specs.Run.Answers.{first_cause}
 use Rattle.hac_model.specs.Run.Given.{no_answers}
 use Rattle.hac_model.specs.Tree.Depends.{cycle_of_mark, cycle_of_move, cycle_over, referrers}
 use Rattle.hac_model.specs.Tree.Events.{apply_all, dirty, is_bare, is_inside}
 use Rattle.hac_model.specs.Tree.Limits.{are_answers_few, counts, first_passed, layout_limits, passed_limit}
-use Rattle.hac_model.specs.Tree.Mounting.{mounted, synced}
+use Rattle.hac_model.specs.Tree.Mounting.{are_documents_few, mounted, synced}
 use Rattle.hac_model.specs.Tree.Links.{has, is_permanent, is_prohibited, is_semantic, parent_of, transient_at}
 use Rattle.hac_model.specs.Tree.Listing.{is_before}
 use Rattle.hac_model.specs.Tree.Paths.{path_text}
@@ -18,7 +18,6 @@ use Rattle.hac_model.specs.declared.commands.Line.{Line}
 use Rattle.hac_model.specs.declared.events.Event.{Event}
 use Rattle.hac_model.specs.declared.events.Event.TheVariants as event
 use Rattle.hac_model.specs.declared.limits.LimitWord.TheVariants.{Answers as AnswersWord, Docs, Sessions}
-use Rattle.hac_model.specs.declared.limits.TheConstants.{DOCS_LIMIT}
 use Rattle.hac_model.specs.declared.marks.Kind.{Kind}
 use Rattle.hac_model.specs.declared.marks.Kind.TheVariants.{Permanent, Prohibited, Unlinked}
 use Rattle.hac_model.specs.declared.places.Place.{Place}
@@ -88,7 +87,7 @@ busy_cause s dir = option_map Busy (least_name (visitors s.sessions dir))
 
 -- too many sessions would stand elsewhere than in the root
 abbrev pub session_cause : State → List ℕ → ℕ → Option Refusal
-session_cause s session dir = if are_few (sessions_with session dir s.sessions) then None else Some (Limit Sessions)
+session_cause s session dir = if are_few s.version (sessions_with session dir s.sessions) then None else Some (Limit Sessions)
 
 -- what is to be added is already a permanent link
 abbrev pub already_cause : State → ℕ → ℕ → Option Refusal
@@ -189,7 +188,7 @@ led_to answers s command = apply_all s (events_of answers s command)
 -- the first limit on the tree that the next state would exceed, whatever spaces answer
 abbrev pub layout_cause : State → Resolved → Option Refusal
 layout_cause s command =
-    option_map Limit (first_passed (layout_limits (counts (led_to no_answers s command))))
+    option_map Limit (first_passed (layout_limits s.version (counts (led_to no_answers s command))))
 
 -- the first limit of all that it would exceed
 abbrev pub answer_cause : Answers → State → Resolved → Option Refusal
@@ -222,8 +221,8 @@ gone_cause answers s (Cat entry) =
 gone_cause answers s other = None
 
 -- a space has more documents than a mount may have
-abbrev pub docs_cause : Answers → Option Refusal
-docs_cause answers = if nat_le (length answers.list) DOCS_LIMIT then None else Some (Limit Docs)
+abbrev pub docs_cause : State → Answers → Option Refusal
+docs_cause s answers = if are_documents_few s.version answers.list then None else Some (Limit Docs)
 
 -- mounts would come to keep more answers than they may
 abbrev pub kept_cause : Answers → State → Resolved → Option Refusal
@@ -232,7 +231,7 @@ kept_cause answers s command = if are_answers_few (led_to answers s command).ent
 -- the causes that depend on what spaces answer
 abbrev pub late_cause : Answers → State → Resolved → Option Refusal
 late_cause answers s command =
-    first_cause (gone_cause answers s command ∷ docs_cause answers ∷ answer_cause answers s command ∷ kept_cause answers s command ∷ [])
+    first_cause (gone_cause answers s command ∷ docs_cause s answers ∷ answer_cause answers s command ∷ kept_cause answers s command ∷ [])
 
 -- the first cause of all, where the spaces answer so
 abbrev pub cause : Answers → State → Resolved → Option Refusal

@@ -13,4 +13,4 @@ bare_body other = other
 
 -- the tree alone
 abbrev pub bare : State → State
-bare s = record { next = s.next; entries = map (edited bare_body) s.entries; sessions = [] }
+bare s = record { version = s.version; next = s.next; entries = map (edited bare_body) s.entries; sessions = [] }

@@ -13,7 +13,7 @@ use Rattle.hac_model.specs.Script.PathWords.{is_target}
 use Rattle.hac_model.specs.Script.SpaceNames.{is_space_name}
 use Rattle.hac_model.specs.Query.Queries.{is_query}
 use Rattle.hac_model.specs.Tree.Asking.{are_all_told, with_told}
-use Rattle.hac_model.specs.Tree.Mounting.{answers_to, are_documents, are_told, mounted, synced, unmounted}
+use Rattle.hac_model.specs.Tree.Mounting.{answers_to, are_documents, are_documents_few, are_told, mounted, synced, unmounted}
 use Rattle.hac_model.specs.Tree.Mounts.{terms_to_ask}
 use Rattle.hac_model.specs.Tree.{child, entry_at, extends, is_directory_at, is_dirty, is_document_at, is_file_at, is_leaf_at, is_made_directory, is_mount_at, path_of}
 use Rattle.hac_model.specs.declared.events.Event.{Event}
@@ -83,12 +83,14 @@ abbrev pub may_mount : State → ℕ → List ℕ → List ℕ → List (List �
 may_mount s dir name space documents told =
     is_free s dir name && is_space_name space && are_documents documents
     && are_told (mounted s dir name space (answers_to (terms_to_ask s.entries) told) documents) s.next (terms_to_ask s.entries) told
+    && are_documents_few s.version documents
 
 -- a mount can take over these documents, and what was told of each term in use are some of them
 abbrev pub may_sync : State → ℕ → List (List ℕ) → List (List ℕ) → Bool
 may_sync s mount documents told =
     is_mount_at s.entries mount && are_documents documents
     && are_told (synced s mount (answers_to (terms_to_ask s.entries) told) documents) mount (terms_to_ask s.entries) told
+    && are_documents_few s.version documents
 
 -- what the event refers to is in the tree. Marks, links, the queries of other directories, how much mounts keep and where
 -- sessions stand are left out.
@@ -125,7 +127,7 @@ is_clear s (Smount dir name space documents told) =
 is_clear s (Ssync mount documents told) =
     are_answers_few (synced s mount (answers_to (terms_to_ask s.entries) told) documents).entries
 is_clear s (Sumount mount) = is_unreferenced s mount && not (is_busy s.sessions mount)
-is_clear s (Cd session dir) = are_few (sessions_with session dir s.sessions)
+is_clear s (Cd session dir) = are_few s.version (sessions_with session dir s.sessions)
 is_clear s other = true
 
 -- nothing stands against the event, and what it refers to is there, limits aside

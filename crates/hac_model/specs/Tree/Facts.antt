@@ -74,7 +74,12 @@ filled_entry facts entry = edited (filled (facts entry.number)) entry
 
 -- the state that has this tree, these facts and these sessions
 abbrev pub joined : (ℕ → Facts) → List Session → State → State
-joined facts sessions tree = record { next = tree.next; entries = map (filled_entry facts) tree.entries; sessions = sessions }
+joined facts sessions tree = record {
+  version = tree.version;
+  next = tree.next;
+  entries = map (filled_entry facts) tree.entries;
+  sessions = sessions;
+}
 
 -- one number has another value
 abbrev pub put_at : {X : Type 0} → (ℕ → X) → ℕ → X → ℕ → X

@@ -3,15 +3,17 @@ use Rattle.std.specs.Prelude.{ℕ, Bool, ◌+◌, ◌&&◌, if◌then◌else◌,
 use Rattle.std.specs.List.{list_all}
 use Rattle.std.specs.Option.{option_map_or}
 use Rattle.hac_model.specs.Tree.{answers_in, is_directory, is_dirty, is_file, is_linkable, is_mount, is_plain, is_symlink, lineage, query_in}
+use Rattle.hac_model.specs.Versions.{dirs_limit, mounts_limit, numbers_limit, symlinks_limit}
 use Rattle.hac_model.specs.declared.counts.Counts.{Counts}
 use Rattle.hac_model.specs.declared.limits.Limit.{Limit}
 use Rattle.hac_model.specs.declared.limits.LimitWord.{LimitWord}
 use Rattle.hac_model.specs.declared.limits.LimitWord.TheVariants.{Texts, Dirs, Semantics, Mounts, Symlinks, Path, Items, Numbers}
-use Rattle.hac_model.specs.declared.limits.TheConstants.{ANSWERS_LIMIT, PAIRS_LIMIT, PATH_LIMIT, TEXT_LIMIT, TEXTS_LIMIT, DIRS_LIMIT, SEMANTICS_LIMIT, MOUNTS_LIMIT, SYMLINKS_LIMIT, ITEMS_LIMIT, NUMBERS_LIMIT}
+use Rattle.hac_model.specs.declared.limits.TheConstants.{ANSWERS_LIMIT, PAIRS_LIMIT, PATH_LIMIT, TEXT_LIMIT, TEXTS_LIMIT, SEMANTICS_LIMIT, ITEMS_LIMIT}
 use Rattle.hac_model.specs.declared.states.Body.{Body}
 use Rattle.hac_model.specs.declared.states.Body.TheVariants.{File}
 use Rattle.hac_model.specs.declared.states.Entry.{Entry}
 use Rattle.hac_model.specs.declared.states.State.{State}
+use Rattle.hac_model.specs.declared.versions.Version.{Version}
 
 -- the bytes may be a file's text
 abbrev pub is_text : List ℕ → Bool
@@ -103,22 +105,22 @@ are_answers_few entries =
 abbrev pub limit : ℕ → ℕ → LimitWord → Limit
 limit count most word = record { count = count; most = most; word = word }
 
--- the limits on the tree itself, in the order in which they are tested
-abbrev pub layout_limits : Counts → List Limit
-layout_limits counts =
+-- the limits on the tree itself, in the order in which they are tested, in a store of a version
+abbrev pub layout_limits : Version → Counts → List Limit
+layout_limits version counts =
     limit counts.bytes TEXTS_LIMIT Texts
-    ∷ limit counts.directories DIRS_LIMIT Dirs
+    ∷ limit counts.directories (dirs_limit version) Dirs
     ∷ limit counts.semantics SEMANTICS_LIMIT Semantics
-    ∷ limit counts.mounts MOUNTS_LIMIT Mounts
-    ∷ limit counts.symlinks SYMLINKS_LIMIT Symlinks
+    ∷ limit counts.mounts (mounts_limit version) Mounts
+    ∷ limit counts.symlinks (symlinks_limit version) Symlinks
     ∷ limit counts.long_paths 0 Path
     ∷ []
 
 -- those that depend on what spaces answer too, which are tested after all else
-abbrev pub answer_limits : Counts → List Limit
-answer_limits counts =
+abbrev pub answer_limits : Version → Counts → List Limit
+answer_limits version counts =
     limit counts.items ITEMS_LIMIT Items
-    ∷ limit counts.next NUMBERS_LIMIT Numbers
+    ∷ limit counts.next (numbers_limit version) Numbers
     ∷ []
 
 -- the word of the first limit that is exceeded
@@ -128,4 +130,4 @@ first_passed (limit ∷ limits) = if nat_lt limit.most limit.count then Some lim
 
 -- the first limit that the state exceeds
 unfoldable pub passed_limit : State → Option LimitWord
-passed_limit s = first_passed (layout_limits (counts s) ++ answer_limits (counts s))
+passed_limit s = first_passed (layout_limits s.version (counts s) ++ answer_limits s.version (counts s))

@@ -9,12 +9,14 @@ use Rattle.hac_model.specs.Tree.Listing.{is_before}
 use Rattle.hac_model.specs.Tree.Names.{is_name}
 use Rattle.hac_model.specs.Tree.{child, entry_at, is_document, is_document_at}
 use Rattle.hac_model.specs.declared.limits.TheConstants.{DOCS_LIMIT}
+use Rattle.hac_model.specs.Versions.{docs_limit}
 use Rattle.hac_model.specs.declared.states.Answer.{Answer}
 use Rattle.hac_model.specs.declared.states.Body.{Body}
 use Rattle.hac_model.specs.declared.states.Body.TheVariants.{Semantic, Mount, Document}
 use Rattle.hac_model.specs.declared.states.Entry.{Entry}
 use Rattle.hac_model.specs.declared.states.State.{State}
 use Rattle.hac_model.specs.declared.terms.Term.{Term}
+use Rattle.hac_model.specs.declared.versions.Version.{Version}
 
 -- What a space tells.
 
@@ -26,6 +28,10 @@ do_names_rise (name ∷ names) = list_all (is_before name) names && do_names_ris
 -- the names may be those of a space's documents
 abbrev pub are_documents : List (List ℕ) → Bool
 are_documents names = list_all is_name names && (do_names_rise names && nat_le (length names) DOCS_LIMIT)
+
+-- a mount may have so many documents in a store of a version
+abbrev pub are_documents_few : Version → List (List ℕ) → Bool
+are_documents_few version names = nat_le (length names) (docs_limit version)
 
 -- what was told of terms, one list for each in their order
 abbrev pub answers_to : List Term → List (List ℕ) → List Answer

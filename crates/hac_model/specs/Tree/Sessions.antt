@@ -4,11 +4,13 @@ use Rattle.std.specs.List.{list_any}
 use Rattle.std.specs.Option.{option_map_or}
 use Rattle.std.specs.Str.{bytes_eq}
 use Rattle.hac_model.specs.Tree.Listing.{is_before}
+use Rattle.hac_model.specs.Versions.{sessions_limit}
 use Rattle.hac_model.specs.declared.events.Event.{Event}
 use Rattle.hac_model.specs.declared.events.Event.TheVariants.{Cd}
-use Rattle.hac_model.specs.declared.limits.TheConstants.{SESSIONS_LIMIT}
 use Rattle.hac_model.specs.declared.states.Session.{Session}
 use Rattle.hac_model.specs.declared.states.State.{State}
+use Rattle.hac_model.specs.declared.versions.Version.{Version}
+use Rattle.hac_model.specs.declared.versions.Version.TheVariants.{Two}
 
 -- the directory in which a session stands: the root, unless it was sent elsewhere
 abbrev pub stands_in : List Session → List ℕ → ℕ
@@ -33,8 +35,8 @@ sessions_after (Cd session dir) sessions = sessions_with session dir sessions
 sessions_after other sessions = sessions
 
 -- no more sessions stand elsewhere than in the root than may
-abbrev pub are_few : List Session → Bool
-are_few sessions = nat_le (length sessions) SESSIONS_LIMIT
+abbrev pub are_few : Version → List Session → Bool
+are_few version sessions = nat_le (length sessions) (sessions_limit version)
 
 -- a session stands in the directory
 abbrev pub is_busy : List Session → ℕ → Bool
@@ -53,9 +55,13 @@ abbrev pub least_name : List (List ℕ) → Option (List ℕ)
 least_name [] = None
 least_name (name ∷ names) = Some (option_map_or (lesser_name name) (least_name names) name)
 
--- what is stored of a state: each run begins with its sessions anew
+-- the state as a run begins with it: no session stands anywhere but in the root
+abbrev pub sessionless : State → State
+sessionless s = record s { sessions = [] }
+
+-- what is stored of a state, whatever its version: each run begins with its sessions anew
 abbrev pub stored : State → State
-stored s = record s { sessions = [] }
+stored s = record s { version = Two; sessions = [] }
 
 -- so an event that moves a session isn't stored either
 abbrev pub is_stored : Event → Bool

@@ -17,6 +17,7 @@ use Rattle.hac_model.specs.Query.Queries.{is_askable}
 use Rattle.hac_model.specs.Query.Terms.{is_term_before}
 use Rattle.hac_model.specs.Tree.Links.{can_be_added, has, is_item}
 use Rattle.hac_model.specs.Tree.{child, is_directory_at, is_document, is_holder_at, is_mount_at}
+use Rattle.hac_model.specs.Versions.{docs_limit}
 use Rattle.hac_model.specs.declared.states.Answer.{Answer}
 use Rattle.hac_model.specs.declared.states.Body.{Body}
 use Rattle.hac_model.specs.declared.states.Body.TheVariants.{File, Dir, Symlink, Semantic, Mount, Document}
@@ -24,7 +25,7 @@ use Rattle.hac_model.specs.declared.states.Entry.{Entry}
 use Rattle.hac_model.specs.declared.states.Session.{Session}
 use Rattle.hac_model.specs.declared.states.State.{State}
 use Rattle.hac_model.specs.declared.terms.Term.{Term}
-use Rattle.hac_model.specs.declared.limits.TheConstants.{DOCS_LIMIT}
+use Rattle.hac_model.specs.declared.versions.Version.{Version}
 
 -- the numbers of the entries rise, above one number and below another
 abbrev pub NumbersRise : ℕ → List Entry → ℕ → Type 0
@@ -99,12 +100,12 @@ pub record IsAnswer (s : State) (mount : ℕ) (answer : Answer) : Type 0 where
   pub documents : AllByRecursion (λ number. IsTrue (is_document_of s mount number)) answer.documents
 
 -- the directory has no more entries than a mount may have documents
-abbrev pub has_few : List Entry → ℕ → Bool
-has_few entries dir = nat_le (length (filter (λ entry. entry.parent == dir) entries)) DOCS_LIMIT
+abbrev pub has_few : Version → List Entry → ℕ → Bool
+has_few version entries dir = nat_le (length (filter (λ entry. entry.parent == dir) entries)) (docs_limit version)
 
 -- a mount has no more documents than it may, and keeps one answer for a term at most, and one for each term in use
 pub record IsSoundMount (s : State) (mount : ℕ) (answers : List Answer) : Type 0 where
-  pub few : IsTrue (has_few s.entries mount)
+  pub few : IsTrue (has_few s.version s.entries mount)
   pub rise : TermsRise None answers
   pub sound : AllByRecursion (IsAnswer s mount) answers
   pub all : AllByRecursion (λ term. IsTrue (is_kept answers term)) (terms_in_use s.entries)
@@ -125,7 +126,7 @@ pub record AreSessions (s : State) : Type 0 where
   pub differ : SessionsDiffer s.sessions
   pub there : AllByRecursion (λ session. IsTrue (is_directory_at s.entries session.dir)) s.sessions
   pub elsewhere : AllByRecursion (λ session. (session.dir == 0) ≡ false) s.sessions
-  pub few : IsTrue (are_few s.sessions)
+  pub few : IsTrue (are_few s.version s.sessions)
 
 -- a tree whose queries, marks, kept answers and sessions are sound too
 pub record IsValid (s : State) : Type 0 where

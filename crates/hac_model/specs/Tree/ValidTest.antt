@@ -89,7 +89,7 @@ is_answer s mount answer =
 -- a mount has no more documents than it may, and keeps one answer for a term at most, and one for each term in use
 abbrev pub is_sound_mount : State → ℕ → List Answer → Bool
 is_sound_mount s mount answers =
-    has_few s.entries mount && do_terms_rise None answers && list_all (is_answer s mount) answers
+    has_few s.version s.entries mount && do_terms_rise None answers && list_all (is_answer s mount) answers
     && list_all (λ term. is_kept answers term) (terms_in_use s.entries)
 
 abbrev pub keeps_well : State → ℕ → Body → Bool
@@ -117,7 +117,7 @@ are_sessions s =
     && do_sessions_differ s.sessions
     && list_all (λ session. is_directory_at s.entries session.dir) s.sessions
     && list_all (λ session. not (session.dir == 0)) s.sessions
-    && are_few s.sessions
+    && are_few s.version s.sessions
 
 -- the state is valid
 unfoldable pub is_valid : State → Bool

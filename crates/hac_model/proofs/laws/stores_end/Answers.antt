@@ -30,3 +30,7 @@ returns-clause-root c = (refl, refl)
 pub returns-clause-areas : goal.returns-clause-areas
 unfolding after_run alone digits escaped_byte event_text first_passed has_term is_path_short is_word_byte kind_of lineage links look destination next_path maybe_path of_two_paths one_path passed_limit path_and_query path_of quoted read_on read_query script text_of word_of words write_of kind snapshot_text snapshot_of
 returns-clause-areas c = (refl, refl, refl)
+
+pub returns-clause-numbers : goal.returns-clause-numbers
+unfolding after_run alone digits escaped_byte event_text first_passed has_term is_path_short is_word_byte kind_of lineage links look destination next_path maybe_path of_two_paths one_path passed_limit path_and_query path_of quoted read_on read_query script text_of word_of words write_of kind snapshot_text snapshot_of
+returns-clause-numbers c = (refl, refl, refl)
